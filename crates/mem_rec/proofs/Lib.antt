@@ -1,0 +1,3 @@
+pub mod Bases
+pub mod Valid
+pub mod Layouts

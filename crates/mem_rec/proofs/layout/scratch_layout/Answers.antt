@@ -1,0 +1,62 @@
+use Rattle.std.proofs.Common.{ap, arith, ◌∙◌, sym, get_or}
+use Rattle.mem_rec.specs.declared.MemRec.{MemRec}
+use Rattle.mem_rec.specs.declared.Space.TheVariants.{Daram}
+use Rattle.mem_rec.specs.declared.Attr.TheVariants.{Scratch}
+use Rattle.mem_rec.proofs.Layouts.{scratch_in, scratch_out, offsets_in, end_in, align_in, laid_out, behind_object, next_multiple_of_bound}
+use Rattle.mem_rec.proofs.layout.scratch_layout.Goals as goal
+use Rattle.mem_rec.proofs.layout.scratch_layout.Goals.{then-is_scratch_of, else-is_scratch_of}
+
+-- what a read past the end would give
+abbrev blank : MemRec
+blank = record { size = 0; align = 0; space = Daram; attr = Scratch; base = 0 }
+
+pub next_multiple_of-offset-requires-clause-fits : goal.next_multiple_of-offset-requires-clause-fits
+next_multiple_of-offset-requires-clause-fits c =
+    let items = c.records-r-items.result.now in
+    let k = c.loop-r.r-index in
+    let at = laid_out c.args.table.now items k blank c.records-r-items.ensures.value c.records-r-items.ensures.table c.loop-r-test.true in
+    let bound = next_multiple_of_bound c.loop-r.end (get_or items k blank).align (omega arith) in
+    omega arith
+
+pub overflow_add-end : goal.overflow_add-end
+overflow_add-end c =
+    let items = c.records-r-items.result.now in
+    let k = c.loop-r.r-index in
+    let at = laid_out c.args.table.now items k blank c.records-r-items.ensures.value c.records-r-items.ensures.table c.loop-r-test.true in
+    let bound = next_multiple_of_bound c.loop-r.end (get_or items k blank).align (omega arith) in
+    omega (arith, c.next_multiple_of-offset.ensures.value)
+
+pub loop-r-preserved : goal.loop-r-preserved
+loop-r-preserved c =
+    let i = c.loop-r.invariant in
+    let table = c.args.table.now in
+    let items = c.records-r-items.result.now in
+    let k = c.loop-r.r-index in
+    let valid = c.records-r-items.ensures.table in
+    let at = laid_out table items k blank c.records-r-items.ensures.value valid c.loop-r-test.true in
+    let r = get_or items k blank in
+    elim c.if-is_scratch_of.branch [
+      | then-is_scratch_of w ↦
+          let test = sym c.is_scratch_of.ensures ∙ w.if-is_scratch_of.true in
+          let all = scratch_in table k blank r c.args.space at.inside at.is test in
+          let o = w.next_multiple_of-offset.ensures.value in
+          let pushed = ap (λ v. v.items) w.offsets-is ∙ w.push.ensures.items in
+          let behind = behind_object table k blank r _ valid at.is test in
+          let bound = next_multiple_of_bound c.loop-r.end r.align (omega arith) in
+          record {
+            offsets = offsets_in _ _ _ _ _ _ _ _ _ all o pushed w.end-is i.offsets;
+            end = end_in _ _ _ _ _ _ _ all o w.end-is i.end;
+            align = align_in _ _ _ _ _ _ all (w.align-is ∙ w.max-align.ensures) i.align;
+            few = rw w.offsets-is (omega (arith, w.push.ensures.len));
+            low = rw w.end-is (omega (arith, o));
+          }
+      | else-is_scratch_of w ↦
+          let all = scratch_out table k blank r c.args.space at.inside at.is (sym c.is_scratch_of.ensures ∙ w.if-is_scratch_of.false) in
+          record {
+            offsets = rw (w.offsets-is, w.end-is, ← all) i.offsets;
+            end = rw (w.end-is, ← all) i.end;
+            align = rw (w.align-is, ← all) i.align;
+            few = rw w.offsets-is (omega arith);
+            low = omega arith;
+          }
+    ]
