@@ -1,0 +1,16 @@
+// One space's raw words, as pieces that are owned. docs/RAW_MEMORY.md says how pointers, owners and safe types fit together.
+#![tactic(auto)]
+
+mod block;
+mod loose;
+mod piece;
+mod places;
+mod region;
+mod rest;
+#[cfg(test)]
+mod tests;
+mod words;
+
+pub use piece::Piece;
+pub use region::Region;
+pub use rest::Rest;

@@ -1,0 +1,76 @@
+// The words of a region that no piece holds.
+ghost use Rattle.std.specs.Prelude.{◌≡◌, ◌<◌, ℕ, ℤ, ◌+◌, ◌≤◌, List, [], Option, Some, map, length};
+ghost use Rattle.std.specs.Borrow.{sem};
+ghost use denote.RawPtr.{Ptr};
+ghost use Rattle.space_raw.specs.Ownership.{word_limit};
+ghost use Rattle.space_raw.specs.Loose.{loose_owns, loose_lent};
+ghost use Rattle.space_raw.specs.Slots.{run_of, IsRun, without, with_run};
+
+use crate::words::{Base, Words};
+use std::marker::Model;
+use std::slice;
+
+// The owner of the words that no piece holds: `None` stands for a word that is away. It takes no space.
+#[derive(Drop)]
+pub(crate) struct Loose {
+    ghost base: { Ptr },
+    ghost slots: { List (Option ℤ) },
+}
+
+impl Model for Loose {
+    ghost also_owns = { λ r. loose_owns r.base r.slots };
+
+    ghost also_shares = { λ r _ κ. loose_lent r.base r.slots κ };
+}
+
+impl Loose {
+    ghost use Rattle.space_raw.specs.LooseLends.{lends_run};
+
+    // It stands for an owner that was moved out of its place.
+    pub(crate) fn nowhere() -> Loose
+        ensures none { result.slots ≡ [] }
+    {
+        Loose {}
+    }
+
+    pub(crate) fn of(words: Words) -> Loose
+        requires start { words.place ≡ 0 }
+        ensures words { (result.base ≡ words.base) × (result.slots ≡ map Some words.items) }
+    {
+        let Words {} = words;
+        Loose {}
+    }
+
+    pub(crate) fn run(&self, base: Base, place: usize, len: usize) -> &[i16]
+        requires there { (base.ptr ≡ self.now.base) × IsRun self.now.slots place len × (place + len < word_limit) }
+        ensures value { result.now ≡ run_of self.now.slots place len }
+    {
+        unsafe { slice::from_raw_parts(base.ptr.add(place), len) }
+    }
+
+    pub(crate) fn run_mut(&mut self, base: Base, place: usize, len: usize) -> &mut [i16]
+        requires there { (base.ptr ≡ self.old.base) × IsRun self.old.slots place len × (place + len < word_limit) }
+        ensures* writes_back { sem 𝓛 (lends_run self.entry place len result) }
+        ensures value { result.now ≡ run_of self.old.slots place len }
+    {
+        unsafe { slice::from_raw_parts_mut(base.ptr.add(place), len) }
+    }
+
+    pub(crate) fn carve(self, place: usize, len: usize) -> (Words, Loose)
+        requires there { IsRun self.slots place len }
+        ensures words { (result.0.base ≡ self.base) × (result.0.place ≡ place) × (result.0.items ≡ run_of self.slots place len) }
+        ensures loose { (result.1.base ≡ self.base) × (result.1.slots ≡ without self.slots place len) }
+    {
+        let Loose {} = self;
+        (Words {}, Loose {})
+    }
+
+    pub(crate) fn absorb(self, words: Words) -> Loose
+        requires inside { (words.base ≡ self.base) × (words.place + length words.items ≤ length self.slots) }
+        ensures words { (result.base ≡ self.base) × (result.slots ≡ with_run self.slots words.place words.items) }
+    {
+        let Loose {} = self;
+        let Words {} = words;
+        Loose {}
+    }
+}
