@@ -3,7 +3,7 @@ use Rattle.std.proofs.Common.{◌≡◌, ℕ, ℤ, ◌<◌, ◌≤◌, List, [],
 use Rattle.std.specs.List.{All}
 use Rattle.std.specs.Int.{w16}
 use Rattle.mem_rec.specs.declared.MemRec.{MemRec}
-use Rattle.ialg.specs.History.{History, Control, Set, Reset, Get, with_samples, word_at, words_in_force, IsWordHistory}
+use Rattle.ialg.specs.History.{History, Control, Set, Reset, with_samples, word_at, words_in_force, IsWordHistory}
 use Rattle.ialg.specs.Records.{words_of, lasting}
 use Rattle.ialg.proofs.Histories.{IsWordHistory-with_samples, take_is}
 use Rattle.ialg.proofs.Tables.{lasting_at}
@@ -14,7 +14,8 @@ use Rattle.alg_fir.specs.Keeps.{fir_kind, records_of, KeepsCoefficients, KeepsPa
 
 module _ (p : List ℤ) (rs : List MemRec) (h : History) where
   -- the same words of r0 and r1, and a history with the same coefficients in force
-  both_later : (wss wss' : List (List ℤ)) (h' : History) → KeepsBoth p rs wss h → words_of wss' 0 ≡ words_of wss 0 → words_of wss' 1 ≡ words_of wss 1
+  both_later : (wss wss' : List (List ℤ)) (h' : History) → KeepsBoth p rs wss h
+      → words_of wss' 0 ≡ words_of wss 0 → words_of wss' 1 ≡ words_of wss 1
       → IsWordHistory h' → words_in_force p h' ≡ words_in_force p h → KeepsBoth p rs wss' h'
   both_later wss wss' h' both e0 e1 history in_force = record {
     few = both.few;
@@ -27,7 +28,8 @@ module _ (p : List ℤ) (rs : List MemRec) (h : History) where
     });
   }
 
-  both_same : (wss wss' : List (List ℤ)) → KeepsBoth p rs wss h → words_of wss' 0 ≡ words_of wss 0 → words_of wss' 1 ≡ words_of wss 1 → KeepsBoth p rs wss' h
+  both_same : (wss wss' : List (List ℤ)) → KeepsBoth p rs wss h
+      → words_of wss' 0 ≡ words_of wss 0 → words_of wss' 1 ≡ words_of wss 1 → KeepsBoth p rs wss' h
   both_same wss wss' both e0 e1 = both_later wss wss' h both e0 e1 both.history refl
 
   -- what an idle instance keeps, it keeps whatever the scratch words are
@@ -106,14 +108,9 @@ module _ (p : List ℤ) (rs : List MemRec) (h : History) where
               rw (w.others 2 (λ e. omega arith)) (record { size = old.size; samples = old.samples });
         }
 
-  pub was_asked : (wss : List (List ℤ)) → KeepsActive p rs wss h → KeepsActive p rs wss (Control Get ∷ h)
-  was_asked wss keeps = record {
-    both = both_later wss wss (Control Get ∷ h) keeps.both refl refl (tt, keeps.both.history) refl;
-    line = record { size = keeps.line.size; samples = keeps.line.samples };
-  }
-
 -- the object was written, and then the coefficients and past samples of 0
-pub started : (p : List ℤ) (rs : List MemRec) (wss wss' : List (List ℤ)) (kept : List ℤ) → Rewritten 1 kept wss wss' → length p ≤ MOST_COEFFICIENTS
+pub started : (p : List ℤ) (rs : List MemRec) (wss wss' : List (List ℤ)) (kept : List ℤ)
+    → Rewritten 1 kept wss wss' → length p ≤ MOST_COEFFICIENTS
     → Names fir_kind (records_of (length p)) rs (words_of wss 0) → KeepsCoefficients p [] kept × KeepsPast p [] kept → KeepsIdle p rs wss' []
 started p rs wss wss' kept w few names fresh = record {
   both = record {

@@ -9,7 +9,8 @@ use Rattle.alg_fir.specs.Keeps.{KeepsCoefficients, KeepsPast, KeepsLine}
 -- the past samples that stand behind the coefficients
 pub line_of_past : (p : List ℤ) (h : History) (kept new : List ℤ) (from : ℕ) → from ≡ length p
     → length new ≡ length p - 1 + BLOCK_SAMPLES → KeepsCoefficients p h kept → KeepsPast p h kept
-    → ((k : ℕ) → k < length (take (length kept - from) (drop from kept)) → word_at new (0 + k) ≡ word_at (take (length kept - from) (drop from kept)) k)
+    → ((k : ℕ) → k < length (take (length kept - from) (drop from kept))
+    → word_at new (0 + k) ≡ word_at (take (length kept - from) (drop from kept)) k)
     → KeepsLine p h new
 line_of_past p h kept new from e long coefficients past copied =
     let some = coefficients.some in

@@ -10,7 +10,7 @@ use Rattle.ialg.specs.declared.TheConstants.{BLOCK_SAMPLES}
 use Rattle.ialg.specs.History.{History, word_at, past, words_in_force, with_samples, IsWordHistory}
 use Rattle.ialg.specs.Records.{words_of}
 use Rattle.ialg.specs.Objects.{Names, object_memory}
-use Rattle.alg_fir.specs.declared.TheConstants.{MOST_COEFFICIENTS}
+use Rattle.alg_fir.specs.declared.TheConstants.{LINE_ALIGNMENT, MOST_COEFFICIENTS}
 use Rattle.alg_fir.specs.Equation.{fir_outputs}
 
 -- the kind word of a filter's object
@@ -23,7 +23,7 @@ abbrev pub records_of : ℕ → List MemRec
 records_of n =
     object_memory
     ∷ record { size = 2 * n - 1; align = LEAST_ALIGNMENT; space = Saram; attr = Persist; base = 0 }
-    ∷ record { size = n - 1 + BLOCK_SAMPLES; align = 16; space = Daram; attr = Scratch; base = 0 }
+    ∷ record { size = n - 1 + BLOCK_SAMPLES; align = LINE_ALIGNMENT; space = Daram; attr = Scratch; base = 0 }
     ∷ []
 
 -- the words begin with the coefficients in force

@@ -10,7 +10,7 @@ ghost use Rattle.alg_fir.specs.Keeps.{fir_kind, records_of, KeepsCoefficients, K
 ghost use Rattle.alg_fir.specs.Meaning.{fir_meaning};
 
 use crate::state::{coefficients, forget, overwrite, restore, run, save, start};
-use crate::{FIR_KIND, MOST_COEFFICIENTS};
+use crate::{FIR_KIND, LINE_ALIGNMENT, MOST_COEFFICIENTS, RECORDS};
 use ialg::{BLOCK_SAMPLES, Block, Ctl, Ialg, Lent, Params, Record, Status, Words, object_record};
 use mem_rec::{Attr, LEAST_ALIGNMENT, MemRec, MemTab, Space};
 
@@ -27,7 +27,7 @@ impl Ialg for Fir {
     ghost active_keeps = { λ _ p rs wss h. KeepsActive p rs wss h };
 
     fn alg_num_alloc(&self) -> usize {
-        3
+        RECORDS
     }
 
     fn alg_alloc(&self, p: &Params) -> Option<MemTab> {
@@ -129,7 +129,7 @@ pub fn fir_is_lawful()
 {}
 
 /// The records of a filter of `n` coefficients.
-fn records(n: u32) -> [MemRec; 3]
+fn records(n: u32) -> [MemRec; RECORDS]
     requires low { 1 ≤ n }
     requires high { n ≤ MOST_COEFFICIENTS }
     ensures { result ≡ records_of n }
@@ -145,7 +145,7 @@ fn records(n: u32) -> [MemRec; 3]
         },
         MemRec {
             size: n - 1 + BLOCK_SAMPLES as u32,
-            align: 16,
+            align: LINE_ALIGNMENT,
             space: Space::Daram,
             attr: Attr::Scratch,
             base: 0,
@@ -166,7 +166,8 @@ fn restore_from(mem: &Lent<'_>, line: &mut [i16])
 
 /// Copies the past samples from the line that `mem` has.
 fn save_from(mem: &Lent<'_>, kept: &mut [i16])
-    ensures coefficients { (p : List ℤ) (h : History) → KeepsCoefficients p h kept.old → KeepsCoefficients p h kept.new }
+    ensures coefficients { (p : List ℤ) (h : History) → KeepsCoefficients p h kept.old
+        → KeepsCoefficients p h kept.new }
     ensures past { (p : List ℤ) (h : History) → NamedAt mem.now Daram 2 fir_kind (records_of (length p))
         → KeepsCoefficients p h kept.old → KeepsLine p h mem.now.r2.now → KeepsPast p h kept.new }
 {
@@ -181,7 +182,8 @@ fn run_with(mem: &Lent<'_>, line: &mut [i16], input: &[i16], out: &mut Block)
     requires empty { out.old.items ≡ [] }
     ensures bounded { length out.new.items ≤ length input.now }
     ensures law { (p : List ℤ) (h : History) → NamedAt mem.now Saram 1 fir_kind (records_of (length p))
-        → KeepsCoefficients p h mem.now.r1.now → KeepsLine p h line.old → Runs p h input.now line.new out.new.items }
+        → KeepsCoefficients p h mem.now.r1.now → KeepsLine p h line.old
+        → Runs p h input.now line.new out.new.items }
 {
     if let Some(kept) = mem.read_named(Space::Saram, 1) {
         run(kept, line, input, out);

@@ -51,7 +51,8 @@ pub(crate) fn restore(kept: &[i16], line: &mut [i16])
 
 /// Copies the past samples from the line, where the sizes fit.
 pub(crate) fn save(kept: &mut [i16], line: &[i16])
-    ensures coefficients { (p : List ℤ) (h : History) → KeepsCoefficients p h kept.old → KeepsCoefficients p h kept.new }
+    ensures coefficients { (p : List ℤ) (h : History) → KeepsCoefficients p h kept.old
+        → KeepsCoefficients p h kept.new }
     ensures past { (p : List ℤ) (h : History) → KeepsCoefficients p h kept.old → KeepsLine p h line.now
         → KeepsPast p h kept.new }
 {
@@ -103,7 +104,8 @@ fn run_block(coefficients: &[i16], line: &mut [i16], input: &[i16], out: &mut Bl
     requires empty { out.old.items ≡ [] }
     ensures bounded { length out.new.items ≡ length input.now }
     ensures law { (p : List ℤ) (h : History) → coefficients.now ≡ words_in_force p h
-        → length coefficients.now ≡ length p → KeepsLine p h line.old → Runs p h input.now line.new out.new.items }
+        → length coefficients.now ≡ length p → KeepsLine p h line.old
+        → Runs p h input.now line.new out.new.items }
 {
     let past = coefficients.len() - 1;
     place(line, past, input);

@@ -28,7 +28,9 @@ returns-clause-law c p h in_force taps line =
     let block : (k : ℕ) → k < length xs → word_at run (d + k) ≡ word_at xs k =
     λ k b. at (d + k) (omega arith) ∙ c.place.ensures.copied k b in
     let back : (k : ℕ) → k < d → word_at moved k ≡ word_at run (length xs + k) =
-    λ k b. c.copy_within.ensures.by_index.0 k (pos 0) (omega arith) (omega arith) ∙ ap (word_at placed) (omega arith) ∙ sym (at (length xs + k) (omega arith)) in
+    λ k b.
+    c.copy_within.ensures.by_index.0 k (pos 0) (omega arith) (omega arith)
+    ∙ ap (word_at placed) (omega arith) ∙ sym (at (length xs + k) (omega arith)) in
     let P : List ℤ → Type 0 = λ zs. Runs p h xs moved zs in
     subst P (sym (first_is ys room many))
     (runs p h xs cs run d size count in_force before block ys (many ∙ long) (λ i b. c.filter.ensures i (omega arith)) moved c.place.ensures.read

@@ -1,0 +1,15 @@
+pub mod ConsoleLemmas
+pub mod Ends
+pub mod Feeds
+pub mod KindLemmas
+pub mod LineAnswers
+pub mod Lines
+pub mod Ports
+pub mod ReplyLemmas
+pub mod SampleLemmas
+pub mod RowLemmas
+pub mod Scripts
+pub mod SlotLemmas
+pub mod Steps
+pub mod WordLemmas
+pub mod Writes

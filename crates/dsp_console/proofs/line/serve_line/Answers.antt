@@ -1,0 +1,39 @@
+use Rattle.std.proofs.Common.{refl}
+use Rattle.std.proofs.lemmas.Result.{IfOk-weaker}
+use Rattle.dsp_console.specs.Keeps.{Keeps}
+use Rattle.dsp_console.specs.Console.{machine_of}
+use Rattle.dsp_console.proofs.LineAnswers.{served_long, cut_long, served_asked, cut_asked, served_reply, cut_reply, served_nothing}
+use Rattle.dsp_console.proofs.line.serve_line.Goals as goal
+
+pub returns-in-Ok-clause-served : goal.returns-in-Ok-clause-served
+returns-in-Ok-clause-served g c = λ octets s line k h.
+    served_long (Keeps g.M.Ialg.meaning g.M.Ialg.idle_keeps c.args.console.now) (machine_of g.M.Ialg.meaning g.M.Named.named) s _ _ (rw c.if-long.true at line) k h (c.in-Ok.ensures.ok refl)
+
+pub returns-in-Err-clause-cut : goal.returns-in-Err-clause-cut
+returns-in-Err-clause-cut g c = λ is octets s line k h.
+    cut_long (machine_of g.M.Ialg.meaning g.M.Named.named) s _ _ (rw c.if-long.true at line) (c.in-Err.ensures.fault refl)
+
+pub returns-in-Nothing-clause-served : goal.returns-in-Nothing-clause-served
+returns-in-Nothing-clause-served g c = λ octets s line k h.
+    served_asked (Keeps g.M.Ialg.meaning g.M.Ialg.idle_keeps c.ask.new.self) (machine_of g.M.Ialg.meaning g.M.Named.named) s _ (rw c.if-long.false at line) (c.in-Nothing.ensures.asked s k)
+    (served_nothing (Keeps g.M.Ialg.meaning g.M.Ialg.idle_keeps c.ask.new.self) _ _ _ _ (c.ask.ensures.after s k) h)
+
+pub returns-in-Ok-tell-clause-served : goal.returns-in-Ok-tell-clause-served
+returns-in-Ok-tell-clause-served g c = λ octets s line k h.
+    served_asked (Keeps g.M.Ialg.meaning g.M.Ialg.idle_keeps c.ask.new.self) (machine_of g.M.Ialg.meaning g.M.Named.named) s _ (rw c.if-long.false at line) (c.in-Tell.ensures.asked s k)
+    (rw c.is_refusal.ensures (served_reply (Keeps g.M.Ialg.meaning g.M.Ialg.idle_keeps c.ask.new.self) _ _ _ _ _ (c.ask.ensures.after s k) h (c.in-Ok-tell.ensures.ok refl)))
+
+pub returns-in-Err-tell-clause-cut : goal.returns-in-Err-tell-clause-cut
+returns-in-Err-tell-clause-cut g c = λ is octets s line k h.
+    cut_asked (machine_of g.M.Ialg.meaning g.M.Named.named) s _ (rw c.if-long.false at line) (c.in-Tell.ensures.asked s k)
+    (cut_reply _ _ _ _ _ (c.in-Err-tell.ensures.fault refl))
+
+pub returns-in-Feed-clause-served : goal.returns-in-Feed-clause-served
+returns-in-Feed-clause-served g c = IfOk-weaker c.serve_feed.result _ _ (λ refused fed octets s line k h.
+    served_asked (Keeps g.M.Ialg.meaning g.M.Ialg.idle_keeps c.serve_feed.new.console) (machine_of g.M.Ialg.meaning g.M.Named.named) s _ (rw c.if-long.false at line) (c.in-Feed.ensures.asked s k)
+    (fed ((machine_of g.M.Ialg.meaning g.M.Named.named).after s c.args.line.now) (c.ask.ensures.after s k) h)) c.serve_feed.ensures.served
+
+pub returns-in-Feed-clause-cut : goal.returns-in-Feed-clause-cut
+returns-in-Feed-clause-cut g c = λ is octets s line k h.
+    cut_asked (machine_of g.M.Ialg.meaning g.M.Named.named) s _ (rw c.if-long.false at line) (c.in-Feed.ensures.asked s k)
+    (c.serve_feed.ensures.cut is ((machine_of g.M.Ialg.meaning g.M.Named.named).after s c.args.line.now) (c.ask.ensures.after s k) h)

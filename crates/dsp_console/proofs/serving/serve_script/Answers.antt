@@ -1,0 +1,77 @@
+use Rattle.std.proofs.Common.{rules, ◌≡◌, arith, ◌+◌, refl, ap, Err, ◌≤◌, length, ◌++◌, ◌∷◌, [], if◌then◌else◌}
+use Rattle.std.proofs.lemmas.Grind.{common_steps}
+use Rattle.dsp_console.proofs.Ports.{gives_none}
+use Rattle.dsp_console.proofs.Scripts.{served_none, consumes_more}
+use Rattle.dsp_console.proofs.Ends.{served_more, served_all, script_cut, stops_in_script, stops_in_feed, consumes_within, consumes_then}
+use Rattle.dsp_console.specs.declared.serving.Fault.TheVariants.{Read, Write}
+use Rattle.dsp_console.specs.Keeps.{Keeps}
+use Rattle.dsp_console.specs.Console.{machine_of}
+use Rattle.dsp_console.proofs.serving.serve_script.Goals as goal
+use Rattle.dsp_console.proofs.serving.serve_script.Goals.{then-is_refused, else-is_refused}
+
+pub lines-init : goal.lines-init
+lines-init g c = record {
+  script = search rules;
+  one = search rules;
+  pairs = search rules;
+  ready = search rules;
+  few = search rules;
+  came = record { octets = _; gives = gives_none _; used = refl };
+  served = λ s k h. served_none (machine_of g.M.Ialg.meaning g.M.Named.named) (Keeps g.M.Ialg.meaning g.M.Ialg.idle_keeps c.args.console.now) s _ _ _ _ k h;
+}
+
+pub returns-in-Err-clause-stopped : goal.returns-in-Err-clause-stopped
+returns-in-Err-clause-stopped g c = λ is s k h. stops_in_script (machine_of g.M.Ialg.meaning g.M.Named.named) _ (c.lines.invariant.served s k h) c.in-Err.field-0 c.in-Err.ensures.err
+
+pub returns-in-Err-serve_line-clause-cut : goal.returns-in-Err-serve_line-clause-cut
+returns-in-Err-serve_line-clause-cut g c = λ is s k honest h.
+    let served = c.lines.invariant.served s k h in
+    let came = c.in-Ok.ensures.ok in
+    script_cut (machine_of g.M.Ialg.meaning g.M.Named.named) _ honest served came
+    (c.in-Err-serve_line.ensures.cut (let e : c.in-Err-serve_line.fault ≡ Write = cc in ap Err e) came.octets _ (rw (c.as_slice.ensures.value) came.line) served.kept served.honest)
+
+pub returns-in-Err-serve_line-clause-stopped : goal.returns-in-Err-serve_line-clause-stopped
+returns-in-Err-serve_line-clause-stopped g c = λ is s k h.
+    let served = c.lines.invariant.served s k h in
+    let came = c.in-Ok.ensures.ok in
+    stops_in_feed (machine_of g.M.Ialg.meaning g.M.Named.named) _ served came
+    (c.in-Err-serve_line.ensures.unfed (let e : c.in-Err-serve_line.fault ≡ Read = cc in ap Err e) came.octets _ (rw (c.as_slice.ensures.value) came.line) served.kept)
+
+pub returns-then-line-clause-served : goal.returns-then-line-clause-served
+returns-then-line-clause-served g c = λ s k honest h.
+    let served = c.lines.invariant.served s k h in
+    let came = rw c.if-line.true at c.in-Ok.ensures.ok in
+    let count : c.if-is_refused.refused ≡ c.lines.refused + (if c.in-Ok-serve_line.is_refused then 1 else 0) =
+    elim c.if-is_refused.branch [ then-is_refused w ↦ rw w.if-is_refused.true w.refused-is | else-is_refused w ↦ rw w.if-is_refused.false (omega (arith, w.refused-is)) ] in
+    served_all (machine_of g.M.Ialg.meaning g.M.Named.named) _ honest served came
+    (c.in-Ok-serve_line.ensures.served came.octets _ (rw (c.as_slice.ensures.value) came.line) served.kept served.honest) count
+
+pub lines-preserved : goal.lines-preserved
+lines-preserved g c =
+    let came = rw c.if-line.false at c.in-Ok.ensures.ok in
+    let count : c.if-is_refused.refused ≡ c.lines.refused + (if c.in-Ok-serve_line.is_refused then 1 else 0) =
+    elim c.if-is_refused.branch [ then-is_refused w ↦ rw w.if-is_refused.true w.refused-is | else-is_refused w ↦ rw w.if-is_refused.false (omega (arith, w.refused-is)) ] in
+    let one : c.if-is_refused.refused ≤ c.lines.refused + 1 =
+    elim c.if-is_refused.branch [ then-is_refused w ↦ omega arith | else-is_refused w ↦ omega arith ] in
+    let used : c.lines.left ≡ length (came.octets ++ 10 ∷ []) + c.read_line.new.left = came.used in
+    record {
+      script = search rules;
+      one = search rules;
+      pairs = search rules;
+      ready = search rules;
+      few = let f = c.lines.invariant.few in grind (arith, common_steps);
+      came = consumes_more c.lines.invariant.came came;
+      served = λ s k h.
+          let served = c.lines.invariant.served s k h in
+          served_more (machine_of g.M.Ialg.meaning g.M.Named.named) _ served came
+          (c.in-Ok-serve_line.ensures.served came.octets _ (rw (c.as_slice.ensures.value) came.line) served.kept served.honest) count;
+    }
+
+pub returns-in-Err-clause-few : goal.returns-in-Err-clause-few
+returns-in-Err-clause-few g c = consumes_then c.in-Err.field-0 c.lines.invariant.came c.in-Err.ensures.err
+
+pub returns-in-Err-serve_line-clause-few : goal.returns-in-Err-serve_line-clause-few
+returns-in-Err-serve_line-clause-few g c = consumes_within (consumes_more c.lines.invariant.came c.in-Ok.ensures.ok)
+
+pub returns-then-line-clause-few : goal.returns-then-line-clause-few
+returns-then-line-clause-few g c = consumes_within (consumes_more c.lines.invariant.came c.in-Ok.ensures.ok)

@@ -1,0 +1,199 @@
+//! Serves one line.
+ghost use Rattle.std.specs.Prelude.{◌≡◌, ◌<◌, ◌≤◌, ◌*◌, ◌⊎◌, List, ℕ, [], true, false, map, length, Ok, All, Any, IfOk, IsOk, IsErrOf};
+ghost use Rattle.std.specs.Result.{is_err};
+ghost use Rattle.dsp_console.specs.Ports.{Sink, Gives, GivesWithin, Takes, TakesFirst, EndsWithin};
+ghost use Rattle.dsp_console.specs.Lines.{IsLine};
+ghost use Rattle.dsp_console.specs.Channels.{Channels};
+ghost use Rattle.dsp_console.specs.Keeps.{Keeps};
+ghost use Rattle.dsp_console.specs.Answers.{IsServable};
+ghost use Rattle.dsp_console.specs.Asks.{IsReady};
+ghost use Rattle.dsp_console.specs.Console.{machine_of};
+ghost use Rattle.dsp_console.specs.Replies.{reply_text};
+ghost use Rattle.dsp_console.specs.ReplyViews.{reply_of};
+ghost use Rattle.dsp_console.specs.Served.{feed_answer, line_answer};
+ghost use Rattle.dsp_console.specs.Runs.{StepsAt, no_source, no_sink, IsHonest, IsReadyIn, IsReadyOut, HasFailedIn, HasFailedOut, AreReady, Writes, FailsWithin, IsServed, IsCut, IsUnfed, run_of};
+
+use crate::console::{Ask, BLOCK_OCTETS, Console};
+use crate::octets::{LINE_OCTETS, read_octets, write_octets};
+use crate::port::{PortFault, PortIn, PortOut};
+use crate::reply::Reply;
+use crate::samples::{FeedSamples, SAMPLE_OCTETS};
+use crate::serving::Fault;
+use ialg::{Ialg, Named, Refusal};
+
+/// Reads from the input of this number.
+fn read_from<I: PortIn>(
+    inputs: &mut Vec<I>,
+    channel: usize,
+    octets: &mut [u8],
+) -> Result<bool, PortFault>
+    requires there { channel < length inputs.old.items }
+    requires ready { All IsReadyIn (map I.source inputs.old.items) }
+    ensures filled { result ≡ Ok true → StepsAt (Gives octets.new) channel no_source (map I.source inputs.old.items) (map I.source inputs.new.items) }
+    ensures short { result ≡ Ok false → StepsAt (EndsWithin (length octets.old)) channel no_source (map I.source inputs.old.items) (map I.source inputs.new.items) }
+    ensures ready { IsOk result → All IsReadyIn (map I.source inputs.new.items) }
+    ensures fault { is_err result ≡ true → StepsAt (FailsWithin (length octets.old)) channel no_source (map I.source inputs.old.items) (map I.source inputs.new.items) }
+    ensures failed { is_err result ≡ true → Any HasFailedIn (map I.source inputs.new.items) }
+{
+    read_octets(&mut inputs[channel], octets)
+}
+
+/// Writes to the output of this number.
+fn write_to<O: PortOut>(
+    outputs: &mut Vec<O>,
+    channel: usize,
+    octets: &[u8],
+) -> Result<(), PortFault>
+    requires there { channel < length outputs.old.items }
+    requires ready { All IsReadyOut (map O.sink outputs.old.items) }
+    ensures ok { IsOk result → StepsAt (Takes octets.now) channel no_sink (map O.sink outputs.old.items) (map O.sink outputs.new.items) }
+    ensures fault { is_err result ≡ true → StepsAt (TakesFirst octets.now) channel no_sink (map O.sink outputs.old.items) (map O.sink outputs.new.items) }
+    ensures ready { IsOk result → All IsReadyOut (map O.sink outputs.new.items) }
+    ensures failed { is_err result ≡ true → Any HasFailedOut (map O.sink outputs.new.items) }
+{
+    write_octets(&mut outputs[channel], octets)
+}
+
+/// Writes a reply.
+fn tell<P: PortOut>(replies: &mut P, reply: Reply) -> Result<(), Fault>
+    requires { (P.sink replies.old).failed ≡ false }
+    ensures ok { IsOk result → Takes (reply_text (reply_of reply)) (P.sink replies.old) (P.sink replies.new) }
+    ensures fault { is_err result ≡ true → TakesFirst (reply_text (reply_of reply)) (P.sink replies.old) (P.sink replies.new) }
+    ensures failed { (P.sink replies.new).failed ≡ is_err result }
+    ensures write { is_err result ≡ true → IsErrOf result Fault.Write }
+{
+    let text = reply.text();
+    if write_octets(replies, text.as_slice()).is_err() {
+        return Err(Fault::Write);
+    }
+    Ok(())
+}
+
+/// Serves a feed of a channel that is ready: reads its samples, writes what the channel gives, then the reply. It answers
+/// whether it was refused.
+fn serve_feed<M: Ialg + Named, I: PortIn, O: PortOut, P: PortOut>(
+    console: &mut Console<M>,
+    channel: u8,
+    samples: FeedSamples,
+    inputs: &mut Vec<I>,
+    outputs: &mut Vec<O>,
+    replies: &mut P,
+) -> Result<bool, Fault>
+    requires servable { IsServable M.meaning }
+    requires channel { IsReady console.old channel }
+    requires one { length inputs.old.items ≡ 1 }
+    requires pairs { length outputs.old.items ≡ 1 }
+    requires ready { AreReady (map I.source inputs.old.items) (map O.sink outputs.old.items) (P.sink replies.old) }
+    ensures inputs { IsOk result → length inputs.new.items ≡ 1 }
+    ensures outputs { IsOk result → length outputs.new.items ≡ 1 }
+    ensures ready { IsOk result → AreReady (map I.source inputs.new.items) (map O.sink outputs.new.items) (P.sink replies.new) }
+    ensures fault { is_err result ≡ true → IsErrOf result Fault.Read ⊎ IsErrOf result Fault.Write }
+    ensures read { IsErrOf result Fault.Read → Any HasFailedIn (map I.source inputs.new.items) }
+    ensures write { IsErrOf result Fault.Write → Any HasFailedOut (map O.sink outputs.new.items) ⊎ HasFailedOut (P.sink replies.new) }
+    ensures served { IfOk result (λ refused. (s : Channels M) → Keeps M.meaning M.idle_keeps console.old s → All IsHonest (map I.source inputs.old.items)
+        → IsServed (Keeps M.meaning M.idle_keeps console.new) (feed_answer (machine_of M.meaning M.named) (run_of s (map I.source inputs.old.items)) channel (2 * samples.number)) refused
+        (map I.source inputs.new.items) (map O.sink outputs.old.items) (map O.sink outputs.new.items) (P.sink replies.old) (P.sink replies.new)) }
+    ensures cut { IsErrOf result Fault.Write → (s : Channels M) → Keeps M.meaning M.idle_keeps console.old s → All IsHonest (map I.source inputs.old.items)
+        → IsCut (feed_answer (machine_of M.meaning M.named) (run_of s (map I.source inputs.old.items)) channel (2 * samples.number))
+        (map I.source inputs.new.items) (map O.sink outputs.old.items) (map O.sink outputs.new.items) (P.sink replies.old) (P.sink replies.new) }
+    ensures unread { IsErrOf result Fault.Read → StepsAt (FailsWithin (2 * samples.number)) channel no_source (map I.source inputs.old.items) (map I.source inputs.new.items) }
+    ensures unfed { IsErrOf result Fault.Read → Writes [] (map O.sink outputs.old.items) (map O.sink outputs.new.items) (P.sink replies.old) (P.sink replies.new) }
+{
+    let c = usize::from(channel);
+    let mut block = [0; BLOCK_OCTETS];
+    let octets = &mut block[..SAMPLE_OCTETS * usize::from(samples.number())];
+    let whole = match read_from(inputs, c, octets) {
+        Ok(whole) => whole,
+        Err(_) => return Err(Fault::Read),
+    };
+    if !whole {
+        return match tell(replies, Reply::No(Refusal::Short)) {
+            Ok(()) => Ok(true),
+            Err(fault) => Err(fault),
+        };
+    }
+    let mut output = [0; BLOCK_OCTETS];
+    let count = console.feed(channel, samples, octets, &mut output);
+    if write_to(outputs, c, &output[..SAMPLE_OCTETS * count]).is_err() {
+        return Err(Fault::Write);
+    }
+    match tell(replies, Reply::Count(count as u16)) {
+        Ok(()) => Ok(false),
+        Err(fault) => Err(fault),
+    }
+}
+
+/// Serves a line, and answers whether it was refused.
+pub(crate) fn serve_line<M: Ialg + Named, I: PortIn, O: PortOut, P: PortOut>(
+    console: &mut Console<M>,
+    line: &[u8],
+    long: bool,
+    inputs: &mut Vec<I>,
+    outputs: &mut Vec<O>,
+    replies: &mut P,
+) -> Result<bool, Fault>
+    requires servable { IsServable M.meaning }
+    requires short { length line.now ≤ LINE_OCTETS }
+    requires one { length inputs.old.items ≡ 1 }
+    requires pairs { length outputs.old.items ≡ 1 }
+    requires ready { AreReady (map I.source inputs.old.items) (map O.sink outputs.old.items) (P.sink replies.old) }
+    ensures inputs { IsOk result → length inputs.new.items ≡ 1 }
+    ensures outputs { IsOk result → length outputs.new.items ≡ 1 }
+    ensures ready { IsOk result → AreReady (map I.source inputs.new.items) (map O.sink outputs.new.items) (P.sink replies.new) }
+    ensures fault { is_err result ≡ true → IsErrOf result Fault.Read ⊎ IsErrOf result Fault.Write }
+    ensures read { IsErrOf result Fault.Read → Any HasFailedIn (map I.source inputs.new.items) }
+    ensures write { IsErrOf result Fault.Write → Any HasFailedOut (map O.sink outputs.new.items) ⊎ HasFailedOut (P.sink replies.new) }
+    ensures served { IfOk result (λ refused. (octets : List ℕ) (s : Channels M) → IsLine LINE_OCTETS line.now long octets → Keeps M.meaning M.idle_keeps console.old s → All IsHonest (map I.source inputs.old.items)
+        → IsServed (Keeps M.meaning M.idle_keeps console.new) (line_answer (machine_of M.meaning M.named) (run_of s (map I.source inputs.old.items)) octets) refused
+        (map I.source inputs.new.items) (map O.sink outputs.old.items) (map O.sink outputs.new.items) (P.sink replies.old) (P.sink replies.new)) }
+    ensures cut { IsErrOf result Fault.Write → (octets : List ℕ) (s : Channels M) → IsLine LINE_OCTETS line.now long octets → Keeps M.meaning M.idle_keeps console.old s → All IsHonest (map I.source inputs.old.items)
+        → IsCut (line_answer (machine_of M.meaning M.named) (run_of s (map I.source inputs.old.items)) octets)
+        (map I.source inputs.new.items) (map O.sink outputs.old.items) (map O.sink outputs.new.items) (P.sink replies.old) (P.sink replies.new) }
+    ensures unfed { IsErrOf result Fault.Read → (octets : List ℕ) (s : Channels M) → IsLine LINE_OCTETS line.now long octets → Keeps M.meaning M.idle_keeps console.old s
+        → IsUnfed (machine_of M.meaning M.named) s octets (map I.source inputs.old.items) (map I.source inputs.new.items)
+        (map O.sink outputs.old.items) (map O.sink outputs.new.items) (P.sink replies.old) (P.sink replies.new) }
+{
+    if long {
+        return match tell(replies, Reply::No(Refusal::Long)) {
+            Ok(()) => Ok(true),
+            Err(fault) => Err(fault),
+        };
+    }
+    match console.ask(line) {
+        Ask::Nothing => Ok(false),
+        Ask::Tell(reply) => match tell(replies, reply) {
+            Ok(()) => Ok(reply.is_refusal()),
+            Err(fault) => Err(fault),
+        },
+        Ask::Feed { channel, samples } => {
+            serve_feed(console, channel, samples, inputs, outputs, replies)
+        }
+    }
+}
+
+/// Passes on what the output of this number holds back.
+fn flush_at<O: PortOut>(outputs: &mut Vec<O>, channel: usize) -> Result<(), PortFault>
+    requires there { channel < length outputs.old.items }
+    requires ready { All IsReadyOut (map O.sink outputs.old.items) }
+    ensures took { StepsAt (Takes []) channel no_sink (map O.sink outputs.old.items) (map O.sink outputs.new.items) }
+    ensures count { length outputs.new.items ≡ length outputs.old.items }
+    ensures ready { IsOk result → All IsReadyOut (map O.sink outputs.new.items) }
+    ensures failed { is_err result ≡ true → Any HasFailedOut (map O.sink outputs.new.items) }
+{
+    outputs[channel].flush()
+}
+
+/// Passes on what the outputs hold back, in ascending number.
+pub(crate) fn flush_outputs<O: PortOut>(outputs: &mut Vec<O>) -> Result<(), PortFault>
+    requires ready { All IsReadyOut (map O.sink outputs.old.items) }
+    ensures took { (replies : Sink) → Writes [] (map O.sink outputs.old.items) (map O.sink outputs.new.items) replies replies }
+    ensures ready { IsOk result → All IsReadyOut (map O.sink outputs.new.items) }
+    ensures failed { is_err result ≡ true → Any HasFailedOut (map O.sink outputs.new.items) }
+{
+    for channel in 0..outputs.len() {
+        if flush_at(outputs, channel).is_err() {
+            return Err(PortFault);
+        }
+    }
+    Ok(())
+}

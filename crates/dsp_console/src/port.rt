@@ -1,0 +1,50 @@
+//! Ports: what octets come from and go to.
+ghost use Rattle.std.specs.Prelude.{◌≡◌, ◌<◌, ◌≤◌, false, [], length, take, IfOk, IfErr};
+ghost use Rattle.std.specs.Result.{is_err};
+ghost use Rattle.dsp_console.specs.Ports.{Source, Sink, Gives, Takes, TakesFirst, IsAtEnd};
+
+/// A device failed.
+#[derive(Clone, Copy, Debug, PartialEq, Eq)]
+pub struct PortFault;
+
+/// What octets come from.
+pub trait PortIn {
+    ghost source: { Self → Source };
+
+    /// Reads some octets to the front of the buffer: none only at the end, or where the buffer is empty.
+    fn get(&mut self, buffer: &mut [u8]) -> Result<usize, PortFault>
+        requires { (source self.old).failed ≡ false }
+        ensures count { IfOk result (λ n. n ≤ length buffer.old) }
+        ensures octets { IfOk result (λ n. Gives (take n buffer.new) (source self.old) (source self.new)) }
+        ensures end { IfOk result (λ n. n ≡ 0 → 0 < length buffer.old → IsAtEnd (source self.new)) }
+        ensures fault { IfErr result (λ _. Gives [] (source self.old) (source self.new)) }
+        ensures failed { (source self.new).failed ≡ is_err result };
+
+    /// Whether the device has failed.
+    fn failed(&self) -> bool
+        ensures { result ≡ (source self.now).failed };
+}
+
+/// What octets go to.
+pub trait PortOut {
+    ghost sink: { Self → Sink };
+
+    /// Writes some of the octets, from the first on: none only where there are none.
+    fn put(&mut self, octets: &[u8]) -> Result<usize, PortFault>
+        requires { (sink self.old).failed ≡ false }
+        ensures count { IfOk result (λ n. n ≤ length octets.now) }
+        ensures some { IfOk result (λ n. 0 < length octets.now → 0 < n) }
+        ensures octets { IfOk result (λ n. Takes (take n octets.now) (sink self.old) (sink self.new)) }
+        ensures fault { IfErr result (λ _. TakesFirst octets.now (sink self.old) (sink self.new)) }
+        ensures failed { (sink self.new).failed ≡ is_err result };
+
+    /// Passes on what is held back.
+    fn flush(&mut self) -> Result<(), PortFault>
+        requires { (sink self.old).failed ≡ false }
+        ensures octets { Takes [] (sink self.old) (sink self.new) }
+        ensures failed { (sink self.new).failed ≡ is_err result };
+
+    /// Whether the device has failed.
+    fn failed(&self) -> bool
+        ensures { result ≡ (sink self.now).failed };
+}

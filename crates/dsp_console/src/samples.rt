@@ -1,0 +1,50 @@
+//! Samples as octets.
+ghost use Rattle.std.specs.Prelude.{◌≡◌, ◌≤◌, ◌*◌, length};
+ghost use Rattle.dsp_console.specs.Samples.{samples_of, octets_of};
+
+use byteorder::{ByteOrder, LittleEndian};
+
+/// The octets of a sample.
+pub(crate) const SAMPLE_OCTETS: usize = 2;
+
+/// Reads the samples of the octets.
+pub(crate) fn read_samples(octets: &[u8], samples: &mut [i16])
+    requires { length octets.now ≡ 2 * length samples.old }
+    ensures { samples.new ≡ samples_of octets.now }
+{
+    LittleEndian::read_i16_into(octets, samples);
+}
+
+/// Writes the octets of the samples.
+pub(crate) fn write_samples(samples: &[i16], octets: &mut [u8])
+    requires { length octets.old ≡ 2 * length samples.now }
+    ensures { octets.new ≡ octets_of samples.now }
+{
+    LittleEndian::write_i16_into(samples, octets);
+}
+
+/// How many samples a feed takes, 1 to 256.
+#[derive(Clone, Copy, PartialEq, Eq, Debug)]
+pub(crate) struct FeedSamples {
+    number: u16,
+    ghost some: { 1 ≤ number },
+    ghost few: { number ≤ 256 },
+}
+
+impl FeedSamples {
+    pub(crate) fn new(number: u16) -> FeedSamples
+        requires some { 1 ≤ number }
+        requires few { number ≤ 256 }
+        ensures { result.number ≡ number }
+    {
+        FeedSamples { number }
+    }
+
+    pub(crate) fn number(self) -> u16
+        ensures value { result ≡ self.number }
+        ensures some { 1 ≤ result }
+        ensures few { result ≤ 256 }
+    {
+        self.number
+    }
+}
