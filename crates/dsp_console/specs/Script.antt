@@ -2,8 +2,10 @@
 use Rattle.std.specs.Prelude.{ℕ, ◌+◌, ◌-◌, ◌*◌, Bool, true, false, ◌&&◌, ◌||◌, not, List, [], ◌∷◌, map, filter, fold, length, ℤ, pos, neg_ℤ, unsigned_abs, int_le, Option, Some, None, Result, Ok, Err, nat_le, ◌==◌, if◌then◌else◌, bytes_eq, codes}
 use Rattle.std.specs.List.{list_all, slice_split}
 use Rattle.std.specs.Char.{is_ascii_digit}
+use Rattle.ialg.specs.declared.TheConstants.{PARAMETER_WORDS}
 use Rattle.ialg.specs.declared.refusal.Refusal.{Refusal}
 use Rattle.ialg.specs.declared.refusal.Refusal.TheVariants.{Syntax, Range}
+use Rattle.dsp_console.specs.declared.samples.TheConstants.{FEED_SAMPLES}
 
 -- a command, by the numbers of instances, groups and channels
 pub data Command (M : Type 0) : Type 0 where
@@ -58,13 +60,13 @@ abbrev pub fits_byte : List ℕ → Bool
 fits_byte w = is_between (pos 0) (pos 255) (value_of w)
 
 abbrev pub fits_samples : List ℕ → Bool
-fits_samples w = is_between (pos 1) (pos 256) (value_of w)
+fits_samples w = is_between (pos 1) (pos FEED_SAMPLES) (value_of w)
 
 abbrev pub fits_word : List ℕ → Bool
 fits_word w = is_between (neg_ℤ (pos 32768)) (pos 32767) (value_of w)
 
 abbrev pub fit_words : List (List ℕ) → Bool
-fit_words ws = nat_le (length ws) 72 && list_all fits_word ws
+fit_words ws = nat_le (length ws) PARAMETER_WORDS && list_all fits_word ws
 
 abbrev pub natural : List ℕ → ℕ
 natural w = unsigned_abs (value_of w)

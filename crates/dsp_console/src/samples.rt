@@ -1,11 +1,16 @@
 //! Samples as octets.
 ghost use Rattle.std.specs.Prelude.{◌≡◌, ◌≤◌, ◌*◌, length};
 ghost use Rattle.dsp_console.specs.Samples.{samples_of, octets_of};
+ghost use Rattle.dsp_console.specs.declared.samples.TheConstants.{FEED_SAMPLES};
 
 use byteorder::{ByteOrder, LittleEndian};
+use ialg::BLOCK_SAMPLES;
 
 /// The octets of a sample.
 pub(crate) const SAMPLE_OCTETS: usize = 2;
+
+/// A feed takes as many samples as a block has, at most.
+pub(crate) const FEED_SAMPLES: u16 = BLOCK_SAMPLES as u16;
 
 /// Reads the samples of the octets.
 pub(crate) fn read_samples(octets: &[u8], samples: &mut [i16])
@@ -23,18 +28,18 @@ pub(crate) fn write_samples(samples: &[i16], octets: &mut [u8])
     LittleEndian::write_i16_into(samples, octets);
 }
 
-/// How many samples a feed takes, 1 to 256.
+/// How many samples a feed takes, one at least.
 #[derive(Clone, Copy, PartialEq, Eq, Debug)]
 pub(crate) struct FeedSamples {
     number: u16,
     ghost some: { 1 ≤ number },
-    ghost few: { number ≤ 256 },
+    ghost few: { number ≤ FEED_SAMPLES },
 }
 
 impl FeedSamples {
     pub(crate) fn new(number: u16) -> FeedSamples
         requires some { 1 ≤ number }
-        requires few { number ≤ 256 }
+        requires few { number ≤ FEED_SAMPLES }
         ensures { result.number ≡ number }
     {
         FeedSamples { number }
@@ -43,7 +48,7 @@ impl FeedSamples {
     pub(crate) fn number(self) -> u16
         ensures value { result ≡ self.number }
         ensures some { 1 ≤ result }
-        ensures few { result ≤ 256 }
+        ensures few { result ≤ FEED_SAMPLES }
     {
         self.number
     }

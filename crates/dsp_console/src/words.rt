@@ -6,7 +6,7 @@ ghost use Rattle.dsp_console.specs.Script.{without_return, is_blank, words_of, i
 ghost use Rattle.dsp_console.specs.Commands.{texts, Limits, IsNoBlank, PartsAtBlank};
 
 use crate::octets::LINE_OCTETS;
-use crate::samples::FeedSamples;
+use crate::samples::{FEED_SAMPLES, FeedSamples};
 use arrayvec::ArrayVec;
 
 /// As many words as a line of 1,024 octets has.
@@ -130,7 +130,7 @@ pub(crate) fn samples_of(word: &[u8]) -> Option<FeedSamples>
     ensures value { IfSome result (λ n. n.number ≡ natural word.now) }
 {
     let value = value_of(word);
-    if 1 <= value && value <= 256 {
+    if 1 <= value && value <= i32::from(FEED_SAMPLES) {
         Some(FeedSamples::new(value as u16))
     } else {
         None

@@ -1,0 +1,89 @@
+-- How many words are free, and how many are taken.
+use Rattle.std.proofs.Common.{◌≡◌, ℕ, zero, suc, ◌+◌, ◌-◌, ◌≤◌, max, Bool, true, false, cond, ◌||◌, not, List, [], ◌∷◌, map, length, refl, ap, sym, ◌∙◌, arith}
+use Rattle.std.specs.Prelude.{sum_by, count_by}
+use Rattle.std.proofs.lemmas.Bool.{cases_lt}
+use Rattle.std.proofs.lemmas.List.Sums.{sum_by-cons}
+use Rattle.space_raw.specs.Span.{Extent, Span}
+use Rattle.space_heap.specs.Places.{Range, end_of, covers, is_covered, count_from}
+use Rattle.space_heap.specs.Pictures.{range_of, AreBlocks, free_beside}
+use Rattle.space_heap.specs.Holes.{in_hole, hole_words, hole_marks, hole_end, Chain}
+use Rattle.space_heap.proofs.RangeTests.{either, true_or_false, clash, when_not, is_in, in_range}
+use Rattle.space_heap.proofs.Chains.{to_free, words_from, chain_low}
+use Rattle.space_heap.proofs.PictureLemmas.{uncovered}
+
+-- how many of n numbers pass
+Count : (ℕ → Bool) → ℕ → ℕ → ℕ
+Count f first n = count_by f (count_from first n)
+
+no_numbers : (f : ℕ → Bool) (first : ℕ) → Count f first 0 ≡ 0
+unfolding Count
+no_numbers f first = refl
+
+one_more : (f : ℕ → Bool) (first n : ℕ) → Count f first (suc n) ≡ cond (f first) 1 0 + Count f (suc first) n
+unfolding Count
+one_more f first n = sum_by-cons (λ k. cond (f k) 1 0) first (count_from (suc first) n)
+
+of_marks : (f : ℕ → Bool) (first n : ℕ) → count_by (λ mark. mark) (map f (count_from first n)) ≡ Count f first n
+of_marks f first zero = sym (no_numbers f first)
+of_marks f first (suc n) =
+    sum_by-cons (λ mark. cond mark 1 0) (f first) (map f (count_from (suc first) n)) ∙ ap (λ m. cond (f first) 1 0 + m) (of_marks f (suc first) n) ∙ sym (one_more f first n)
+
+none_count : (first n : ℕ) → Count (λ _. false) first n ≡ 0
+none_count first zero = no_numbers (λ _. false) first
+none_count first (suc n) = let step = one_more (λ _. false) first n in let rest = none_count (suc first) n in omega arith
+
+rest_count : (f : ℕ → Bool) (first n : ℕ) → Count f first n + Count (λ k. not (f k)) first n ≡ n
+rest_count f first zero = let a = no_numbers f first in let b = no_numbers (λ k. not (f k)) first in omega arith
+rest_count f first (suc n) = let a = one_more f first n in let b = one_more (λ k. not (f k)) first n in let rest = rest_count f (suc first) n in let one = one_or_other (f first) in omega arith
+  where
+    one_or_other : (b : Bool) → cond b 1 0 + cond (not b) 1 0 ≡ 1
+    one_or_other true = refl
+    one_or_other false = refl
+
+both_count : (f g : ℕ → Bool) (first n : ℕ) → ((k : ℕ) → f k ≡ true → g k ≡ false) → Count (λ k. f k || g k) first n ≡ Count f first n + Count g first n
+both_count f g first zero apart = let a = no_numbers f first in let b = no_numbers g first in let c = no_numbers (λ k. f k || g k) first in omega arith
+both_count f g first (suc n) apart = let a = one_more f first n in let b = one_more g first n in let c = one_more (λ k. f k || g k) first n in let rest = both_count f g (suc first) n apart in let one = sum_of (f first) (g first) (apart first) in omega arith
+  where
+    sum_of : (a b : Bool) → (a ≡ true → b ≡ false) → cond (a || b) 1 0 ≡ cond a 1 0 + cond b 1 0
+    sum_of true b e = let none : b ≡ false = e refl in ap (λ c. 1 + cond c 1 0) (sym none)
+    sum_of false b e = let same : cond b 1 0 ≡ 0 + cond b 1 0 = omega arith in same
+
+range_count : (r : Range) (first n : ℕ) → end_of r ≤ first + n → Count (covers r) first n ≡ end_of r - max r.place first
+range_count r first zero inside = let e = no_numbers (covers r) first in omega arith
+range_count r first (suc n) inside =
+    let step = one_more (covers r) first n in
+    let rest = range_count r (suc first) n (omega arith) in
+    either (true_or_false (covers r first))
+    (λ has. let both = is_in r first has in let low = both.0 in let to = both.1 in
+    let one : cond (covers r first) 1 0 ≡ 1 = ap {A = Bool} {B = ℕ} (λ b. cond b 1 0) has in omega (arith, step, rest, one))
+    (λ hasnt. let none : cond (covers r first) 1 0 ≡ 0 = ap {A = Bool} {B = ℕ} (λ b. cond b 1 0) hasnt in
+    either (cases_lt first r.place)
+    (λ before. omega arith)
+    (λ from. either (cases_lt first (end_of r)) (λ to. clash (covers r first) (in_range r first from to) hasnt) (λ past. omega arith)))
+
+whole_range : (r : Range) (n : ℕ) → end_of r ≤ n → Count (covers r) 0 n ≡ r.size
+whole_range r n inside = let known = range_count r 0 n (omega arith) in omega arith
+
+covered_words : (words : ℕ) (taken : List Range) → AreBlocks words taken → Count (is_covered taken) 0 words ≡ sum_by (λ r. r.size) taken
+covered_words words [] blocks = none_count 0 words
+covered_words words (r ∷ rs) blocks =
+    let rest = covered_words words rs blocks.2 in let its = whole_range r words blocks.0.inside in
+    let both : Count (is_covered (r ∷ rs)) 0 words ≡ Count (covers r) 0 words + Count (is_covered rs) 0 words = both_count (covers r) (is_covered rs) 0 words (uncovered r rs blocks.1) in
+    let more = sum_by-cons (λ (s : Range). s.size) r rs in omega arith
+
+words_in_holes : (g : Extent) (low : ℕ) (holes : List Span) (high words : ℕ) → high ≤ words + 1 → Chain g low holes high → Count (in_hole holes) 0 words ≡ hole_words holes
+words_in_holes g low [] high words le c = none_count 0 words
+words_in_holes g low (h ∷ hs) high words le c =
+    let end : hole_end h + 1 ≤ high = chain_low g (hole_end h + 1) hs high c.2 in
+    let rest = words_in_holes g (hole_end h + 1) hs high words le c.2 in let its = whole_range (range_of h) words (omega arith) in
+    let more = sum_by-cons (λ (s : Span). length s.words) h hs in
+    let both : Count (in_hole (h ∷ hs)) 0 words ≡ Count (covers (range_of h)) 0 words + Count (in_hole hs) 0 words = both_count (covers (range_of h)) (in_hole hs) 0 words
+    (λ k has. when_not (in_hole hs k) (λ also. let from : hole_end h + 1 ≤ k = words_from g (hole_end h + 1) hs high c.2 k (to_free hs k also) in let to = (is_in (range_of h) k has).1 in omega arith)) in omega arith
+
+-- the free marks are as many as the words of the holes
+pub free_marks : (g : Extent) (holes : List Span) → Chain g 0 holes (g.size + 1) → count_by (λ mark. mark) (hole_marks g.size holes) ≡ hole_words holes
+free_marks g holes c = of_marks (in_hole holes) 0 g.size ∙ words_in_holes g 0 holes (g.size + 1) g.size (omega arith) c
+
+pub free_and_taken : (words : ℕ) (taken : List Range) → AreBlocks words taken → count_by (λ mark. mark) (free_beside words taken) + sum_by (λ r. r.size) taken ≡ words
+free_and_taken words taken blocks =
+    let marks = of_marks (λ k. not (is_covered taken k)) 0 words in let all = rest_count (is_covered taken) 0 words in let its = covered_words words taken blocks in omega arith

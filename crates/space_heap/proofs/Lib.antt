@@ -1,0 +1,9 @@
+pub mod RangeTests
+pub mod Chains
+pub mod Cuts
+pub mod Joins
+pub mod Gaps
+pub mod Finds
+pub mod Counts
+pub mod PictureLemmas
+pub mod PlaceLemmas

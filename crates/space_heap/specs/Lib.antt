@@ -1,0 +1,3 @@
+pub mod Places
+pub mod Pictures
+pub mod Holes

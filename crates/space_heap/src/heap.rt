@@ -1,0 +1,175 @@
+// The heap of one space.
+ghost use Rattle.std.specs.Prelude.{◌≡◌, ◌==◌, ◌+◌, ◌/◌, ◌<◌, ◌≤◌, ◌^◌, ◌-◌, ◌++◌, [], ◌∷◌, List, length, min, sum_by, count_by, if◌then◌else◌, IfOk, IfErr, IsErrOf, IfSome, IfNone};
+ghost use Rattle.std.specs.Vec.{vec_capacity};
+ghost use Rattle.std.specs.Option.{option_map};
+ghost use Rattle.space_heap.specs.Places.{Range, least_place, lower_place, placed_size};
+ghost use Rattle.space_heap.specs.Pictures.{Holds, IsAlignment, IsBlock, IsSpaceSize, range_of};
+
+use crate::find::{Fit, find};
+use crate::holes::{carve, gap_before, put_back, room_for};
+use crate::limits::{GREATEST_NEED, SPACE_WORDS, UNIT};
+use space_raw::{Piece, Region};
+use std::alloc::Global;
+use std::marker::Model;
+use thiserror::Error;
+
+/// Why a heap isn't made. Nothing is held then.
+#[derive(Debug, Drop, Error)]
+pub enum HeapError {
+    /// The number of words isn't a multiple of 4 up to 65,536.
+    #[error("a space is 0 to 65536 words, a multiple of 4")]
+    BadSize,
+    /// A request for memory was refused.
+    #[error("out of memory")]
+    Memory,
+}
+
+/// The heap of one space of 16-bit words. Blocks are pieces of the space that are taken at their least aligned place, given back, and
+/// moved down. It can't be copied, and must be given back by `close`.
+pub struct Heap {
+    region: Region,
+    size: u32,
+    holes: Vec<Piece>,
+    free: u32,
+    slid: u64,
+}
+
+impl Model for Heap {
+    ghost use Rattle.std.specs.Prelude.{◌≡◌, ◌/◌, ◌<◌};
+    ghost use Rattle.std.specs.Vec.{vec_capacity};
+    ghost use Rattle.space_heap.specs.Pictures.{HeapState};
+    ghost use Rattle.space_heap.specs.Holes.{AreHoles, hole_marks, hole_words};
+
+    ghost Value = { HeapState };
+
+    ghost view = { λ h. record { region = h.region; free = hole_marks h.region.size h.holes.items; slid = h.slid } };
+
+    ghost invariant = { λ h. (h.size ≡ h.region.size) × AreHoles h.region h.holes.items × (h.region.size / 8 < vec_capacity h.holes) × (h.free ≡ hole_words h.holes.items) };
+}
+
+impl Heap {
+    /// A heap of that many words, all of them free. The only requests for memory of its life are made here.
+    pub fn new(alloc: Global, words: u32) -> Result<Heap, HeapError>
+        ensures bad_size { ¬ IsSpaceSize words → IsErrOf result HeapError.BadSize }
+        ensures memory { IsSpaceSize words → IfErr result (λ e. e ≡ HeapError.Memory) }
+        ensures heap { IfOk result (λ h. (h.region.size ≡ words) × Holds h [] × (h.slid ≡ 0)) }
+    {
+        if words > SPACE_WORDS || words % UNIT != 0 {
+            return Err(HeapError::BadSize);
+        }
+        let (region, all) = match Region::make(alloc, words) {
+            Ok(made) => made,
+            Err(_refused) => return Err(HeapError::Memory),
+        };
+        let mut holes = match Vec::with_capacity(alloc, room_for(words)) {
+            Ok(holes) => holes,
+            Err(_refused) => {
+                region.close(all);
+                return Err(HeapError::Memory);
+            }
+        };
+        holes.push_reserved(all);
+        Ok(Heap {
+            region,
+            size: words,
+            holes,
+            free: words,
+            slid: 0,
+        })
+    }
+
+    /// A block of `words` words, rounded up to a multiple of 4, at the least multiple of `align` at which it lies within the space and
+    /// meets no block that is taken. `None` exactly where there is no such place. The block's words are unknown.
+    pub fn take(&mut self, words: u32, align: u32) -> Option<Piece>
+        requires words { (0 < words) × (words ≤ GREATEST_NEED) }
+        requires align { IsAlignment align }
+        ensures place { (taken : List Range) → Holds self.old taken → option_map (λ p. p.place) result ≡ least_place self.old.region.size taken (placed_size words) align }
+        ensures block { IfSome result (λ p. (p.region ≡ self.old.region) × (length p.words ≡ placed_size words)) }
+        ensures taken { IfSome result (λ p. (before after : List Range) → Holds self.old (before ++ after) → Holds self.new (before ++ range_of p ∷ after)) }
+        ensures none { IfNone result (self.new ≡ self.old) }
+        ensures stays { (self.new.region ≡ self.old.region) × (self.new.slid ≡ self.old.slid) }
+    {
+        let size = words.next_multiple_of(UNIT);
+        let Fit { hole, place } = find(self.holes.as_slice(), size, align)?;
+        let block = carve(&mut self.holes, hole, place, size);
+        self.free -= size;
+        Some(block)
+    }
+
+    /// The block is free from now on. It is one that `take` of this heap gave.
+    pub fn give(&mut self, piece: Piece)
+        requires region { piece.region ≡ self.old.region }
+        requires block { IsBlock self.old.region.size (range_of piece) }
+        ensures taken { (before after : List Range) → Holds self.old (before ++ range_of piece ∷ after) → Holds self.new (before ++ after) }
+        ensures stays { (self.new.region ≡ self.old.region) × (self.new.slid ≡ self.old.slid) }
+    {
+        let len = piece.len();
+        put_back(&mut self.holes, piece);
+        self.free += len;
+    }
+
+    /// The block at the least multiple of `align` in the free range that ends where it begins, with its words. It stays where it is if
+    /// that range has no such multiple. It is one that `take` of this heap gave.
+    pub fn lower(&mut self, piece: Piece, align: u32) -> Piece
+        requires region { piece.region ≡ self.old.region }
+        requires block { IsBlock self.old.region.size (range_of piece) }
+        requires align { IsAlignment align }
+        ensures place { (before after : List Range) → Holds self.old (before ++ range_of piece ∷ after) → result.place ≡ lower_place (before ++ after) piece.place align }
+        ensures words { (result.words ≡ piece.words) × (result.region ≡ piece.region) }
+        ensures taken { (before after : List Range) → Holds self.old (before ++ range_of piece ∷ after) → Holds self.new (before ++ range_of result ∷ after) }
+        ensures slid { self.new.slid ≡ min (self.old.slid + (if result.place == piece.place then 0 else length piece.words)) (2 ^ 64 - 1) }
+        ensures stays { self.new.region ≡ self.old.region }
+    {
+        let mut piece = piece;
+        let Some(Fit { hole, place }) = gap_before(&mut self.holes, &mut piece, align) else {
+            return piece;
+        };
+        let len = piece.len();
+        let gap = carve(&mut self.holes, hole, place, piece.place() - place);
+        let (block, behind) = Piece::slide(gap, piece);
+        put_back(&mut self.holes, behind);
+        self.slid = self.slid.saturating_add(u64::from(len));
+        block
+    }
+
+    /// The words of the space.
+    pub fn size(&self) -> u32
+        ensures value { result ≡ self.now.region.size }
+    {
+        self.size
+    }
+
+    /// The words of the space that no block has.
+    pub fn free(&self) -> u32
+        ensures marks { result ≡ count_by (λ mark. mark) self.now.free }
+        ensures taken { (taken : List Range) → Holds self.now taken → result + sum_by (λ r. r.size) taken ≡ self.now.region.size }
+    {
+        self.free
+    }
+
+    /// The words that `lower` has moved, again for each move. It stays at the greatest `u64`.
+    pub fn slid(&self) -> u64
+        ensures value { result ≡ self.now.slid }
+    {
+        self.slid
+    }
+
+    /// The space goes back to the allocator. All blocks are back.
+    pub fn close(self)
+        requires back { Holds self [] }
+    {
+        let Heap {
+            region,
+            size: _,
+            mut holes,
+            free: _,
+            slid: _,
+        } = self;
+        let all = match holes.pop() {
+            Some(all) => all,
+            None => unreachable!(),
+        };
+        holes.destroy_empty();
+        region.close(all);
+    }
+}

@@ -1,0 +1,12 @@
+//! The free words of one space, out of which blocks are taken at their least aligned place.
+#![tactic(auto)]
+
+mod find;
+mod heap;
+mod holes;
+mod limits;
+#[cfg(test)]
+mod tests;
+
+pub use heap::{Heap, HeapError};
+pub use limits::{GREATEST_ALIGN, GREATEST_NEED, SPACE_WORDS, UNIT};
