@@ -15,6 +15,7 @@ use Rattle.dsp_console.specs.Slots.{lasting_in}
 use Rattle.dsp_console.specs.Keeps.{chained, Keeps, KeepsSlot, KeepsInstance}
 use Rattle.dsp_console.specs.declared.console.Instance.{Instance}
 use Rattle.dsp_console.specs.declared.console.Console.{Console}
+use Rattle.dsp_console.specs.declared.limits.TheConstants.{INSTANCES, GROUPS, CHANNELS}
 
 pub at_number-same : {X : Type 0} (es : Numbered X) (i : ℕ) (x : X) → at_number (with_number es i x) i ≡ Some x
 at_number-same [] i x = let e : eqb i i ≡ true = grind (arith, nat_tests) in rw e refl
@@ -37,8 +38,8 @@ at_number-other (e ∷ es) i j x n =
       ] refl
     ]
 
--- what stands at i in a list of 64, at another default
-pub item_at : {X : Type 0} (xs : List X) (i : ℕ) (x d : X) → length xs ≡ 64 → i < 64 → x ≡ slice_index_or xs i x → slice_index_or xs i d ≡ x
+-- what stands at i in a list of so many, at another default
+pub item_at : {X : Type 0} (xs : List X) (i : ℕ) (x d : X) → length xs ≡ INSTANCES → i < INSTANCES → x ≡ slice_index_or xs i x → slice_index_or xs i d ≡ x
 item_at xs i x d l h e = get_or_default xs i d x (omega arith) ∙ sym e
 
 -- what a block gives, by what was given out before it and after it
@@ -57,11 +58,11 @@ module _ {M : Type 0} (kinds : Meaning M) (idle : M → List ℤ → List MemRec
 
   -- one slot is kept anew, and the others are as they were
   pub slots_set : (old new : List (Option (Instance M))) (external saram : List (List ℤ)) (living : instances.Living M) (i : ℕ) (e r : List ℤ) (x : instances.Instance M)
-      → length external ≡ 64 → length saram ≡ 64 → i < 64
+      → length external ≡ INSTANCES → length saram ≡ INSTANCES → i < INSTANCES
       → ((j : ℕ) → j ≢ i → slice_index_or new j None ≡ slice_index_or old j None)
-      → ((j : ℕ) → j < 64 → KeepsSlot kinds idle (slice_index_or old j None) (slice_index_or external j []) (slice_index_or saram j []) (at_number living j))
+      → ((j : ℕ) → j < INSTANCES → KeepsSlot kinds idle (slice_index_or old j None) (slice_index_or external j []) (slice_index_or saram j []) (at_number living j))
       → KeepsSlot kinds idle (slice_index_or new i None) e r (Some x)
-      → (j : ℕ) → j < 64 → KeepsSlot kinds idle (slice_index_or new j None) (slice_index_or (slice_set external i e) j []) (slice_index_or (slice_set saram i r) j []) (at_number (with_number living i x) j)
+      → (j : ℕ) → j < INSTANCES → KeepsSlot kinds idle (slice_index_or new j None) (slice_index_or (slice_set external i e) j []) (slice_index_or (slice_set saram i r) j []) (at_number (with_number living i x) j)
   slots_set old new external saram living i e r x le lr h others k here j b =
       elim (eqb j i) as (λ t. eqb j i ≡ t → KeepsSlot kinds idle (slice_index_or new j None) (slice_index_or (slice_set external i e) j []) (slice_index_or (slice_set saram i r) j []) (at_number (with_number living i x) j)) [
         | true ↦ λ same. (let is : j ≡ i = grind (arith, nat_tests) in
@@ -71,15 +72,15 @@ module _ {M : Type 0} (kinds : Meaning M) (idle : M → List ℤ → List MemRec
       ] refl
 
   -- a creation that is granted
-  pub after_create-granted : (living : instances.Living M) (i g : ℕ) (kind : M) (p : List ℤ) (t : List MemRec) → i < 64 → g < 8 → at_number living i ≡ None → kinds.table kind p ≡ Some t
+  pub after_create-granted : (living : instances.Living M) (i g : ℕ) (kind : M) (p : List ℤ) (t : List MemRec) → i < INSTANCES → g < GROUPS → at_number living i ≡ None → kinds.table kind p ≡ Some t
       → after_create kinds living i kind g p ≡ Ok (with_number living i (record { kind = kind; params = p; group = g; history = [] }))
   after_create-granted living i g kind p t hi hg free its =
-      let ei : nat_lt i 64 ≡ true = grind (arith, nat_tests) in
-      let eg : nat_lt g 8 ≡ true = grind (arith, nat_tests) in
+      let ei : nat_lt i INSTANCES ≡ true = grind (arith, nat_tests) in
+      let eg : nat_lt g GROUPS ≡ true = grind (arith, nat_tests) in
       rw (ei, eg, free, its) refl
 
   pub keeps_created : (old new : Console M) (s : Channels M) (i g : ℕ) (kind : M) (p : List ℤ) (y : Instance M) (e r : List ℤ)
-      → Keeps kinds idle old s → i < 64 → g < 8 → is_some (slice_index_or old.instances.items i None) ≡ false
+      → Keeps kinds idle old s → i < INSTANCES → g < GROUPS → is_some (slice_index_or old.instances.items i None) ≡ false
       → y.kind ≡ kind → kinds.table y.kind p ≡ Some (unplaced y.table) → idle y.kind p y.table (lasting_in y.table e r) []
       → new.instances.items ≡ slice_set old.instances.items i (Some y) → new.external.items ≡ slice_set old.external.items i e → new.saram.items ≡ slice_set old.saram.items i r → new.member ≡ old.member
       → Keeps kinds idle new (record s { living = with_number s.living i (record { kind = kind; params = p; group = g; history = [] }) })
@@ -110,7 +111,7 @@ module _ {M : Type 0} (kinds : Meaning M) (idle : M → List ℤ → List MemRec
       rw at is
 
   given_at : (old new : Console M) (s : Channels M) (i : ℕ) (y : Instance M) (x : instances.Instance M) (block e r : List ℤ)
-      → Keeps kinds idle old s → i < 64 → slice_index_or old.instances.items i None ≡ Some y → at_number s.living i ≡ Some x
+      → Keeps kinds idle old s → i < INSTANCES → slice_index_or old.instances.items i None ≡ Some y → at_number s.living i ≡ Some x
       → KeepsInstance kinds idle y (slice_index_or old.external.items i []) (slice_index_or old.saram.items i []) x
       → idle y.kind x.params y.table (lasting_in y.table e r) (with_samples x.history block)
       → new.instances.items ≡ old.instances.items → new.external.items ≡ slice_set old.external.items i e → new.saram.items ≡ slice_set old.saram.items i r → new.member ≡ old.member
@@ -125,7 +126,7 @@ module _ {M : Type 0} (kinds : Meaning M) (idle : M → List ℤ → List MemRec
       })
 
   pub keeps_given : (old new : Console M) (s : Channels M) (i : ℕ) (y : Instance M) (block out e r : List ℤ)
-      → Keeps kinds idle old s → i < 64 → slice_index_or old.instances.items i None ≡ Some y
+      → Keeps kinds idle old s → i < INSTANCES → slice_index_or old.instances.items i None ≡ Some y
       → ((p : List ℤ) (h : History) → idle y.kind p y.table (lasting_in y.table (slice_index_or old.external.items i []) (slice_index_or old.saram.items i [])) h
       → idle y.kind p y.table (lasting_in y.table e r) (with_samples h block) × (outputs_of kinds y.kind p (with_samples h block) ≡ outputs_of kinds y.kind p h ++ out))
       → new.instances.items ≡ old.instances.items → new.external.items ≡ slice_set old.external.items i e → new.saram.items ≡ slice_set old.saram.items i r → new.member ≡ old.member
@@ -135,7 +136,7 @@ module _ {M : Type 0} (kinds : Meaning M) (idle : M → List ℤ → List MemRec
       given_at old new s i y found.0 block e r k h full found.1 found.2 (law found.0.params found.0.history found.2.idle).0 ei ee er em
 
   pub out_given : (old : Console M) (s : Channels M) (i : ℕ) (y : Instance M) (block out e r : List ℤ)
-      → Keeps kinds idle old s → i < 64 → slice_index_or old.instances.items i None ≡ Some y
+      → Keeps kinds idle old s → i < INSTANCES → slice_index_or old.instances.items i None ≡ Some y
       → ((p : List ℤ) (h : History) → idle y.kind p y.table (lasting_in y.table (slice_index_or old.external.items i []) (slice_index_or old.saram.items i [])) h
       → idle y.kind p y.table (lasting_in y.table e r) (with_samples h block) × (outputs_of kinds y.kind p (with_samples h block) ≡ outputs_of kinds y.kind p h ++ out))
       → out ≡ instances.output_block kinds s.living i block
@@ -144,5 +145,5 @@ module _ {M : Type 0} (kinds : Meaning M) (idle : M → List ℤ → List MemRec
       out_at s i y found.0 block out found.1 found.2.kind (law found.0.params found.0.history found.2.idle).1
 
   -- the channel's one member
-  pub members_at-chained : (s : Channels M) (chosen : Option ℕ) (i c : ℕ) → s.members ≡ chained chosen → chosen ≡ Some i → c < 1 → members_at s c ≡ i ∷ []
+  pub members_at-chained : (s : Channels M) (chosen : Option ℕ) (i c : ℕ) → s.members ≡ chained chosen → chosen ≡ Some i → c < CHANNELS → members_at s c ≡ i ∷ []
   members_at-chained s chosen i c m e h = let z : c ≡ 0 = omega arith in rw (z, m, e) refl

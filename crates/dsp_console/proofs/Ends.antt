@@ -10,7 +10,8 @@ use Rattle.dsp_console.specs.declared.octets.LineFault.TheVariants.{Port, Limit}
 use Rattle.dsp_console.proofs.Ports.{gives_more}
 use Rattle.dsp_console.specs.Served.{Machine, Run, line_answer, lines_answer, order_of, ended}
 use Rattle.dsp_console.specs.Script.{lines_of}
-use Rattle.dsp_console.specs.Runs.{IsHonest, IsServed, IsCut, IsUnfed, Consumes, Served, ServedAll, ServedFirst, ServedUpTo, InScript, AtLimit, InFeed, Writes, longest_script, run_of}
+use Rattle.dsp_console.specs.Runs.{IsHonest, IsServed, IsCut, IsUnfed, Consumes, Served, ServedAll, ServedFirst, ServedUpTo, InScript, AtLimit, InFeed, Writes, run_of}
+use Rattle.dsp_console.specs.declared.limits.TheConstants.{LINE_OCTETS, SCRIPT_OCTETS}
 use Rattle.dsp_console.proofs.Writes.{writes_more, first_more, first_of_all}
 use Rattle.dsp_console.proofs.Scripts.{ended_more, order_more, run_more, refusals_more, first_lines, next_line, last_line, ended_lines_of}
 
@@ -18,7 +19,7 @@ module _ {S : Type 0} (m : Machine S) (start : Run S) where
   pub served_more : {keeps new_keeps : S → Type 0} {refused new_refused left new_left : ℕ} {is_refused : Bool} {script a b : Source} {sources new_sources : List Source}
       {outputs mid_outputs new_outputs : List Sink} {replies mid_replies new_replies : Sink} {text : List ℕ} {long : Bool}
       → (served : Served m keeps start refused left script a sources outputs mid_outputs replies mid_replies)
-      → (came : LineCame 1024 text long false left new_left a b)
+      → (came : LineCame LINE_OCTETS text long false left new_left a b)
       → IsServed new_keeps (line_answer m (run_of (lines_answer m start served.lines).run.state sources) came.octets) is_refused new_sources mid_outputs new_outputs mid_replies new_replies
       → new_refused ≡ refused + (if is_refused then 1 else 0)
       → Served m new_keeps start new_refused new_left script b new_sources outputs new_outputs replies new_replies
@@ -31,7 +32,7 @@ module _ {S : Type 0} (m : Machine S) (start : Run S) where
         no_feeds = All-push (λ line. All IsNoFeed line) lines octets served.no_feeds came.line.no_feed;
         gives = rw (ended_more lines octets) (gives_more served.gives came.gives);
         used =
-            let u : longest_script ≡ length (flat_map ended lines) + left = served.used in
+            let u : SCRIPT_OCTETS ≡ length (flat_map ended lines) + left = served.used in
             let v : left ≡ length (octets ++ 10 ∷ []) + new_left = came.used in
             let l : length (flat_map ended lines ++ (octets ++ 10 ∷ [])) ≡ length (flat_map ended lines) + length (octets ++ 10 ∷ []) = length-append (flat_map ended lines) (octets ++ 10 ∷ []) in
             rw (ended_more lines octets) (omega arith);
@@ -46,7 +47,7 @@ module _ {S : Type 0} (m : Machine S) (start : Run S) where
       {outputs mid_outputs new_outputs : List Sink} {replies mid_replies new_replies : Sink} {text : List ℕ} {long : Bool}
       → IsHonest script
       → (served : Served m keeps start refused left script a sources outputs mid_outputs replies mid_replies)
-      → (came : LineCame 1024 text long true left new_left a b)
+      → (came : LineCame LINE_OCTETS text long true left new_left a b)
       → IsServed new_keeps (line_answer m (run_of (lines_answer m start served.lines).run.state sources) came.octets) is_refused new_sources mid_outputs new_outputs mid_replies new_replies
       → new_refused ≡ refused + (if is_refused then 1 else 0)
       → ServedAll m start script.coming new_refused new_sources outputs new_outputs replies new_replies
@@ -65,7 +66,7 @@ module _ {S : Type 0} (m : Machine S) (start : Run S) where
       {outputs mid_outputs new_outputs : List Sink} {replies mid_replies new_replies : Sink} {text : List ℕ} {long last : Bool}
       → IsHonest script
       → (served : Served m keeps start refused left script a sources outputs mid_outputs replies mid_replies)
-      → (came : LineCame 1024 text long last left new_left a b)
+      → (came : LineCame LINE_OCTETS text long last left new_left a b)
       → IsCut (line_answer m (run_of (lines_answer m start served.lines).run.state sources) came.octets) new_sources mid_outputs new_outputs mid_replies new_replies
       → ServedFirst m start script.coming new_sources outputs new_outputs replies new_replies
   script_cut {script = script} {a = a} {b = b} {sources = sources} {last = last} h served came w =
@@ -97,7 +98,7 @@ module _ {S : Type 0} (m : Machine S) (start : Run S) where
   stops_in_script {left = left} {sources = sources} served Limit f =
       let lines = served.lines in
       let rest : List ℕ = f.1.0 in
-      let u : longest_script ≡ length (flat_map ended lines) + left = served.used in
+      let u : SCRIPT_OCTETS ≡ length (flat_map ended lines) + left = served.used in
       let v : left ≡ length rest = f.1.4 in
       let l : length (flat_map ended lines ++ rest) ≡ length (flat_map ended lines) + length rest = length-append (flat_map ended lines) rest in
       record {
@@ -113,7 +114,7 @@ module _ {S : Type 0} (m : Machine S) (start : Run S) where
   pub stops_in_feed : {keeps : S → Type 0} {refused left new_left : ℕ} {script a b : Source} {sources new_sources : List Source}
       {outputs mid_outputs new_outputs : List Sink} {replies mid_replies new_replies : Sink} {text : List ℕ} {long last : Bool}
       → (served : Served m keeps start refused left script a sources outputs mid_outputs replies mid_replies)
-      → (came : LineCame 1024 text long last left new_left a b)
+      → (came : LineCame LINE_OCTETS text long last left new_left a b)
       → IsUnfed m (lines_answer m start served.lines).run.state came.octets sources new_sources mid_outputs new_outputs mid_replies new_replies
       → ServedUpTo m start script b new_sources outputs new_outputs replies new_replies
   stops_in_feed {sources = sources} {last = last} served came unfed = record {
@@ -129,20 +130,20 @@ module _ {S : Type 0} (m : Machine S) (start : Run S) where
 -- ---- how much of a script is read
 
 pub consumes_within : {left : ℕ} {script new_script : Source} → Consumes left script new_script → GivesWithin 1000000001 script new_script
-consumes_within c = record { octets = c.octets; few = let u : longest_script ≡ _ = c.used in omega arith; gives = c.gives }
+consumes_within c = record { octets = c.octets; few = let u : SCRIPT_OCTETS ≡ _ = c.used in omega arith; gives = c.gives }
 
 pub consumes_then : {left : ℕ} {script a b : Source} (fault : LineFault) → Consumes left script a → LineFails fault left a b → GivesWithin 1000000001 script b
 consumes_then {left = left} Port c f =
     let octets : List ℕ = f.1.0 in
     let few : length octets ≤ left = f.1.1.few in
-    let u : longest_script ≡ length c.octets + left = c.used in
+    let u : SCRIPT_OCTETS ≡ length c.octets + left = c.used in
     let l : length (c.octets ++ octets) ≡ length c.octets + length octets = length-append c.octets octets in
     record { octets = c.octets ++ octets; few = omega arith; gives = gives_more c.gives f.1.1.gives }
 consumes_then {left = left} Limit c f =
     let rest : List ℕ = f.1.0 in
     let next : ℕ = f.1.1 in
     let v : left ≡ length rest = f.1.4 in
-    let u : longest_script ≡ length c.octets + left = c.used in
+    let u : SCRIPT_OCTETS ≡ length c.octets + left = c.used in
     let l : length (c.octets ++ (rest ++ next ∷ [])) ≡ length c.octets + length (rest ++ next ∷ []) = length-append c.octets (rest ++ next ∷ []) in
     let k : length (rest ++ next ∷ []) ≡ length rest + 1 = length-append rest (next ∷ []) in
     record { octets = c.octets ++ (rest ++ next ∷ []); few = omega arith; gives = gives_more c.gives f.1.3 }

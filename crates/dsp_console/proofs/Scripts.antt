@@ -11,7 +11,8 @@ use Rattle.dsp_console.specs.Lines.{IsNoFeed, LineCame, ending}
 use Rattle.dsp_console.proofs.Ports.{gives_none, gives_more}
 use Rattle.dsp_console.specs.Served.{Machine, Run, Written, line_answer, lines_answer, then_answer, order_of, refusals, ended, ended_lines}
 use Rattle.dsp_console.specs.Script.{lines_of}
-use Rattle.dsp_console.specs.Runs.{IsHonest, Served, Consumes, WritesFirst, longest_script, run_of}
+use Rattle.dsp_console.specs.Runs.{IsHonest, Served, Consumes, WritesFirst, run_of}
+use Rattle.dsp_console.specs.declared.limits.TheConstants.{LINE_OCTETS, SCRIPT_OCTETS}
 use Rattle.dsp_console.proofs.Writes.{writes_none, first_longer, order_of-append}
 
 -- ---- answers
@@ -65,7 +66,7 @@ lines_of_ended (line ∷ lines) rest n =
 -- ---- a run's lines
 
 pub served_none : {S : Type 0} (m : Machine S) (keeps : S → Type 0) (state : S) (script : Source) (sources : List Source) (outputs : List Sink) (replies : Sink)
-    → keeps state → All IsHonest sources → Served m keeps (run_of state sources) 0 longest_script script script sources outputs outputs replies replies
+    → keeps state → All IsHonest sources → Served m keeps (run_of state sources) 0 SCRIPT_OCTETS script script sources outputs outputs replies replies
 unfolding lines_answer order_of refusals
 served_none m keeps state script sources outputs replies k h = record {
   lines = [];
@@ -79,12 +80,12 @@ served_none m keeps state script sources outputs replies k h = record {
   counted = refl;
 }
 
-pub consumes_more : {left new_left : ℕ} {script a b : Source} {text : List ℕ} {long last : Bool} → Consumes left script a → LineCame 1024 text long last left new_left a b → Consumes new_left script b
+pub consumes_more : {left new_left : ℕ} {script a b : Source} {text : List ℕ} {long last : Bool} → Consumes left script a → LineCame LINE_OCTETS text long last left new_left a b → Consumes new_left script b
 consumes_more {left = left} {new_left = new_left} {last = last} c line = record {
   octets = c.octets ++ (line.octets ++ ending last);
   gives = gives_more c.gives line.gives;
   used =
-      let u : longest_script ≡ length c.octets + left = c.used in
+      let u : SCRIPT_OCTETS ≡ length c.octets + left = c.used in
       let v : left ≡ length (line.octets ++ ending last) + new_left = line.used in
       let l : length (c.octets ++ (line.octets ++ ending last)) ≡ length c.octets + length (line.octets ++ ending last) = length-append c.octets (line.octets ++ ending last) in
       omega arith;

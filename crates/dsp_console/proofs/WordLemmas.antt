@@ -7,6 +7,7 @@ use Rattle.std.proofs.lemmas.List.{map-append}
 use Rattle.std.proofs.lemmas.List.Splits.{slice_split_at, slice_split_none}
 use Rattle.std.specs.Borrow.{Bor}
 use Rattle.std.proofs.lemmas.List.Folds.{list_all-map, list_all_at}
+use Rattle.ialg.specs.declared.TheConstants.{PARAMETER_WORDS}
 use Rattle.dsp_console.specs.Script.{is_empty, without_return, is_blank, words_of, fits_word, fit_words}
 use Rattle.dsp_console.specs.Commands.{texts, IsNoBlank, PartsAtBlank}
 
@@ -52,7 +53,7 @@ texts-push words word = map-append (λ w. w.now) words (word ∷ [])
 pub fit_words-unfit : (words : List (Bor (List ℕ))) (k : ℕ) (d : Bor (List ℕ)) → k < length words → fits_word (get_or words k d).now ≡ false → fit_words (texts words) ≡ false
 fit_words-unfit words k d h f =
     let e : list_all fits_word (texts words) ≡ false = list_all-map fits_word (λ w. w.now) words ∙ list_all_at (λ w. fits_word w.now) words k d h f in
-    rw e (elim (nat_le (length (texts words)) 72) as (λ t. (t && false) ≡ false) [ true ↦ refl | false ↦ refl ])
+    rw e (elim (nat_le (length (texts words)) PARAMETER_WORDS) as (λ t. (t && false) ≡ false) [ true ↦ refl | false ↦ refl ])
 
 -- one word more
 pub words_of-push : (line word after : List ℕ) (words : List (Bor (List ℕ))) (all : List (List ℕ)) (w : Bor (List ℕ)) → PartsAtBlank line word after → is_empty word ≡ false → w.now ≡ word

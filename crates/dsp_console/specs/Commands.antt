@@ -3,6 +3,7 @@ use Rattle.std.specs.Prelude.{◌≡◌, ℕ, true, false, List, [], ◌∷◌, 
 use Rattle.std.specs.Borrow.{Bor}
 use Rattle.ialg.specs.declared.refusal.Refusal.{Refusal}
 use Rattle.dsp_console.specs.Script as script
+use Rattle.dsp_console.specs.declared.limits.TheConstants.{GREATEST_MAGNITUDE}
 use Rattle.dsp_console.specs.declared.script.Command.{Command}
 use Rattle.dsp_console.specs.declared.script.Command.TheVariants.{Create, Chain, Feed}
 
@@ -21,9 +22,9 @@ pub record PartsAtBlank (line word after : List ℕ) : Type 0 where
 
 -- as far as 16 bits and more, a number itself, and beyond it the limit
 pub record Limits (z n : ℤ) : Type 0 where
-  pub within : neg_ℤ (pos 100000) ≤ℤ z → z ≤ℤ pos 100000 → n ≡ z
-  pub below : z <ℤ neg_ℤ (pos 100000) → n ≡ neg_ℤ (pos 100000)
-  pub above : pos 100000 <ℤ z → n ≡ pos 100000
+  pub within : neg_ℤ (pos GREATEST_MAGNITUDE) ≤ℤ z → z ≤ℤ pos GREATEST_MAGNITUDE → n ≡ z
+  pub below : z <ℤ neg_ℤ (pos GREATEST_MAGNITUDE) → n ≡ neg_ℤ (pos GREATEST_MAGNITUDE)
+  pub above : pos GREATEST_MAGNITUDE <ℤ z → n ≡ pos GREATEST_MAGNITUDE
 
 abbrev pub command_of : {M : Type 0} → Command M → script.Command M
 command_of (Create instance kind group parameters) = script.Create instance kind group parameters.items

@@ -9,6 +9,7 @@ use Rattle.dsp_console.specs.Replies.{Reply, Done, Count, No, is_refusal, reply_
 use Rattle.dsp_console.specs.Samples.{octets_of, samples_of}
 use Rattle.dsp_console.specs.Served.{Asked, Nothing, Tell, Machine, Run, Answer, lines_answer}
 use Rattle.dsp_console.specs.Served as asks
+use Rattle.dsp_console.specs.declared.limits.TheConstants.{SAMPLE_OCTETS}
 
 -- what a line did, and what it asks
 pub record Did (M : Type 0) : Type 0 where
@@ -20,7 +21,7 @@ tells reply = Tell (reply_text reply) (is_refusal reply)
 
 -- a channel that is ready asks for its samples' octets
 abbrev pub feed_asked : Option Refusal → ℕ → ℕ → Asked
-feed_asked None c n = asks.Feed c (2 * n)
+feed_asked None c n = asks.Feed c (SAMPLE_OCTETS * n)
 feed_asked (Some refusal) c n = tells (No refusal)
 
 module _ {M : Type 0} where

@@ -5,6 +5,7 @@ use Rattle.ialg.specs.declared.refusal.Refusal.TheVariants.{Range, Taken, Params
 use Rattle.ialg.specs.Refusals.{first_refusal}
 use Rattle.ialg.specs.History.{History, with_samples, block_output}
 use Rattle.ialg.specs.Meaning.{Meaning}
+use Rattle.dsp_console.specs.declared.limits.TheConstants.{INSTANCES, GROUPS}
 use Rattle.dsp_console.specs.Numbered.{Numbered, at_number, has_number, with_number}
 
 pub record Instance (M : Type 0) : Type 0 where
@@ -17,10 +18,10 @@ abbrev pub Living : Type 0 → Type 0
 Living M = Numbered (Instance M)
 
 abbrev pub is_instance_number : ℕ → Bool
-is_instance_number i = nat_lt i 64
+is_instance_number i = nat_lt i INSTANCES
 
 abbrev pub is_group_number : ℕ → Bool
-is_group_number g = nat_lt g 8
+is_group_number g = nat_lt g GROUPS
 
 abbrev pub on_instance : {M A : Type 0} → A → (Instance M → A) → Option (Instance M) → A
 on_instance none f None = none

@@ -8,6 +8,7 @@ use Rattle.dsp_console.specs.Numbered.{Numbered, at_number}
 use Rattle.dsp_console.specs.Instances as instances
 use Rattle.dsp_console.specs.Channels.{Channels}
 use Rattle.dsp_console.specs.Slots.{lasting_in}
+use Rattle.dsp_console.specs.declared.limits.TheConstants.{INSTANCES, CHANNELS}
 use Rattle.dsp_console.specs.declared.console.Instance.{Instance}
 use Rattle.dsp_console.specs.declared.console.Console.{Console}
 
@@ -30,7 +31,7 @@ module _ {M : Type 0} (kinds : Meaning M) (idle_keeps : M → List ℤ → List 
   KeepsSlot (Some living) external saram (Some x) = KeepsInstance living external saram x
 
   pub record Keeps (console : Console M) (channels : Channels M) : Type 0 where
-    pub one : channels.count ≡ 1
+    pub one : channels.count ≡ CHANNELS
     pub members : channels.members ≡ chained console.member
-    pub slots : (i : ℕ) → i < 64 → KeepsSlot (slice_index_or console.instances.items i None)
+    pub slots : (i : ℕ) → i < INSTANCES → KeepsSlot (slice_index_or console.instances.items i None)
         (slice_index_or console.external.items i []) (slice_index_or console.saram.items i []) (at_number channels.living i)

@@ -3,8 +3,9 @@ use Rattle.std.specs.Prelude.{◌≡◌, ℕ, ◌+◌, ◌<◌, ◌≤◌, Bool,
 use Rattle.std.specs.List.{flat_map}
 use Rattle.dsp_console.specs.Ports.{Source, Sink, Gives, GivesWithin, Takes, IsAtEnd}
 use Rattle.dsp_console.specs.Lines.{IsNoFeed, ending}
-use Rattle.dsp_console.specs.Served.{Machine, Run, Answer, Octet, held_by, order_of, refusals, lines_answer, ended, ended_lines, longest_line, Feed}
+use Rattle.dsp_console.specs.Served.{Machine, Run, Answer, Octet, held_by, order_of, refusals, lines_answer, ended, ended_lines, Feed}
 use Rattle.dsp_console.specs.Script.{lines_of}
+use Rattle.dsp_console.specs.declared.limits.TheConstants.{LINE_OCTETS, SCRIPT_OCTETS}
 
 abbrev pub no_source : Source
 no_source = record { honest = false; coming = []; failed = false }
@@ -75,7 +76,7 @@ pub record FailsWithin (most : ℕ) (old new : Source) : Type 0 where
 -- a line's feed was not given, since its channel's input failed, and nothing was written
 pub record IsUnfed {S : Type 0} (machine : Machine S) (state : S) (line : List ℕ) (sources new_sources : List Source)
     (outputs new_outputs : List Sink) (replies new_replies : Sink) : Type 0 where
-  pub fits : length line ≤ longest_line
+  pub fits : length line ≤ LINE_OCTETS
   pub channel : ℕ
   pub count : ℕ
   pub asked : machine.asked state line ≡ Feed channel count
@@ -88,17 +89,13 @@ pub record AreReady (sources : List Source) (outputs : List Sink) (replies : Sin
   pub outs : All IsReadyOut outputs
   pub reply : IsReadyOut replies
 
--- so many octets of a script are served at most
-abbrev pub longest_script : ℕ
-longest_script = 1000000000
-
 -- these lines were served whole, and so many octets may still come
 pub record Served {S : Type 0} (machine : Machine S) (keeps : S → Type 0) (start : Run S) (refused left : ℕ) (script new_script : Source)
     (sources : List Source) (outputs new_outputs : List Sink) (replies new_replies : Sink) : Type 0 where
   pub lines : List (List ℕ)
   pub no_feeds : All (λ line. All IsNoFeed line) lines
   pub gives : Gives (flat_map ended lines) script new_script
-  pub used : longest_script ≡ length (flat_map ended lines) + left
+  pub used : SCRIPT_OCTETS ≡ length (flat_map ended lines) + left
   pub kept : keeps (lines_answer machine start lines).run.state
   pub honest : All IsHonest sources
   pub inputs : (lines_answer machine start lines).run.inputs ≡ map (λ s. s.coming) sources
@@ -129,11 +126,11 @@ pub data Stops {S : Type 0} (machine : Machine S) (start : Run S) (script new_sc
   InScript : (rest : List ℕ) → All IsNoFeed rest → Gives (flat_map ended lines ++ rest) script new_script → HasFailedIn new_script
       → new_sources ≡ sources → Stops machine start script new_script lines sources new_sources
   -- the script goes on after so many octets
-  AtLimit : (rest : List ℕ) (next : ℕ) → All IsNoFeed rest → length (flat_map ended lines ++ rest) ≡ longest_script
+  AtLimit : (rest : List ℕ) (next : ℕ) → All IsNoFeed rest → length (flat_map ended lines ++ rest) ≡ SCRIPT_OCTETS
       → Gives ((flat_map ended lines ++ rest) ++ next ∷ []) script new_script
       → new_sources ≡ sources → Stops machine start script new_script lines sources new_sources
   -- the input of the next line's feed failed
-  InFeed : (line : List ℕ) (last : Bool) (channel count : ℕ) → All IsNoFeed line → length line ≤ longest_line
+  InFeed : (line : List ℕ) (last : Bool) (channel count : ℕ) → All IsNoFeed line → length line ≤ LINE_OCTETS
       → machine.asked (lines_answer machine start lines).run.state line ≡ Feed channel count
       → Gives (flat_map ended lines ++ (line ++ ending last)) script new_script → (last ≡ true → IsAtEnd new_script)
       → StepsAt (FailsWithin count) channel no_source sources new_sources → Stops machine start script new_script lines sources new_sources
@@ -155,11 +152,11 @@ pub record ServedUpTo {S : Type 0} (machine : Machine S) (start : Run S) (script
 pub record Consumes (left : ℕ) (script new_script : Source) : Type 0 where
   pub octets : List ℕ
   pub gives : Gives octets script new_script
-  pub used : longest_script ≡ length octets + left
+  pub used : SCRIPT_OCTETS ≡ length octets + left
 
 -- an honest script goes on after the limit
 abbrev pub GoesOn : Source → Type 0
-GoesOn script = IsHonest script → longest_script < length script.coming
+GoesOn script = IsHonest script → SCRIPT_OCTETS < length script.coming
 
 -- no port was used
 pub record IsUnused {S I O P : Type 0} (old_script new_script : S) (old_inputs new_inputs : I) (old_outputs new_outputs : O) (old_replies new_replies : P) : Type 0 where

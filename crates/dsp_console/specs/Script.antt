@@ -5,7 +5,7 @@ use Rattle.std.specs.Char.{is_ascii_digit}
 use Rattle.ialg.specs.declared.TheConstants.{PARAMETER_WORDS}
 use Rattle.ialg.specs.declared.refusal.Refusal.{Refusal}
 use Rattle.ialg.specs.declared.refusal.Refusal.TheVariants.{Syntax, Range}
-use Rattle.dsp_console.specs.declared.samples.TheConstants.{FEED_SAMPLES}
+use Rattle.dsp_console.specs.declared.limits.TheConstants.{FEED_SAMPLES}
 
 -- a command, by the numbers of instances, groups and channels
 pub data Command (M : Type 0) : Type 0 where

@@ -2,6 +2,7 @@
 use Rattle.std.specs.Prelude.{ℕ, ◌-◌, Bool, true, false, List, [], ◌∷◌, ◌++◌, map, filter, length, drop, take, Option, Some, None, nat_lt, ◌==◌, if◌then◌else◌, slice_index_or, slice_set}
 use Rattle.std.specs.List.{flat_map, count_by}
 use Rattle.ialg.specs.declared.refusal.Refusal.TheVariants.{Long, Short}
+use Rattle.dsp_console.specs.declared.limits.TheConstants.{LINE_OCTETS}
 use Rattle.dsp_console.specs.Script.{lines_of}
 use Rattle.dsp_console.specs.Replies.{No, reply_text}
 
@@ -41,9 +42,6 @@ long_text = reply_text (No Long)
 abbrev pub short_text : List ℕ
 short_text = reply_text (No Short)
 
-abbrev pub longest_line : ℕ
-longest_line = 1024
-
 module _ {S : Type 0} where
   abbrev pub replies : Run S → List ℕ → Bool → Answer S
   replies run text refused = record { run = run; written = Replied text refused ∷ [] }
@@ -78,7 +76,7 @@ module _ {S : Type 0} (machine : Machine S) where
   -- a long line asks for nothing
   unfoldable pub line_answer : Run S → List ℕ → Answer S
   line_answer run line =
-      if nat_lt longest_line (length line) then replies run long_text true
+      if nat_lt LINE_OCTETS (length line) then replies run long_text true
       else asked_answer (record run { state = machine.after run.state line }) (machine.asked run.state line)
 
   abbrev pub then_answer : List Written → Answer S → Answer S

@@ -1,10 +1,8 @@
 //! What a command line asks of the program.
+use crate::limits::PORT_PAIRS;
 use crate::serving::Sizes;
 use arrayvec::ArrayVec;
 use clap::Error;
-
-/// The most pairs of ports of a command line.
-pub const PORT_PAIRS: usize = 16;
 
 /// What a command line asks: the paths of the script and of the ports, and the options.
 #[derive(Drop)]

@@ -1,10 +1,12 @@
 //! The words of the command line.
-ghost use Rattle.std.specs.Prelude.{◌≡◌, length, map, is_some, nat_eq, IfOk, IfSome};
+ghost use Rattle.std.specs.Prelude.{◌≡◌, ◌*◌, length, map, is_some, nat_eq, IfOk, IfSome};
 
-use crate::asked::{ArgFault, Arguments, PORT_PAIRS};
-use crate::serving::{SPACE_WORDS, Sizes};
+use crate::asked::{ArgFault, Arguments};
+use crate::limits::{CHANNELS, PORT_PAIRS};
+use crate::serving::Sizes;
 use arrayvec::ArrayVec;
 use clap::{Arg, ArgAction, ArgMatches, Command, Error};
+use space_heap::SPACE_WORDS;
 use std::alloc::Global;
 
 /// An option for the size of a space.
@@ -49,8 +51,8 @@ fn size_of(matches: &ArgMatches<'_>, space: &str) -> u32 {
 
 /// The words in pairs, where they are one pair.
 fn pairs<'a>(words: &[&'a str]) -> Option<ArrayVec<(&'a str, &'a str), PORT_PAIRS>>
-    ensures fits { is_some result ≡ nat_eq (length words.now) 2 }
-    ensures one { IfSome result (λ ports. length ports.items ≡ 1) }
+    ensures fits { is_some result ≡ nat_eq (length words.now) (2 * CHANNELS) }
+    ensures one { IfSome result (λ ports. length ports.items ≡ CHANNELS) }
 {
     let [input, output] = words else {
         return None;
@@ -62,7 +64,7 @@ fn pairs<'a>(words: &[&'a str]) -> Option<ArrayVec<(&'a str, &'a str), PORT_PAIR
 
 /// Parses the words of a command line, the program's name not among them.
 pub fn arguments<'a>(alloc: Global, words: &'a [&'a str]) -> Result<Arguments<'a>, ArgFault>
-    ensures { IfOk result (λ a. length a.ports.items ≡ 1) }
+    ensures { IfOk result (λ a. length a.ports.items ≡ CHANNELS) }
 {
     let matches = match matches(alloc, words) {
         Ok(matches) => matches,

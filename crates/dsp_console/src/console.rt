@@ -1,31 +1,22 @@
 //! The console: instances in their slots, and the channel through one of them.
 ghost use Rattle.std.specs.Prelude.{◌≡◌, ◌≤◌, ◌<◌, ◌*◌, ℕ, ℤ, [], ◌∷◌, List, length, take, None, Some, OnErr, IsOk, IfOk, IfSome, IsTrue};
 ghost use Rattle.std.specs.Option.{ForSome};
-ghost use Rattle.dsp_console.specs.declared.console.TheConstants.{INSTANCES};
+ghost use Rattle.dsp_console.specs.declared.limits.TheConstants.{INSTANCES};
 ghost use Rattle.ialg.specs.Records.{record_at, unplaced};
 ghost use Rattle.dsp_console.specs.Slots.{FitsSlots};
 
-use crate::octets::LINE_OCTETS;
+use crate::limits::{
+    BLOCK_OCTETS, CHANNELS, DARAM_SLOT, EXTERNAL_SLOT, GROUPS, INSTANCES, LINE_OCTETS,
+    SAMPLE_OCTETS, SARAM_SLOT,
+};
 use crate::reply::Reply;
-use crate::samples::{FeedSamples, SAMPLE_OCTETS, read_samples, write_samples};
+use crate::samples::{FeedSamples, read_samples, write_samples};
 use crate::script::{Command, parse};
-use crate::slots::{DARAM_SLOT, EXTERNAL_SLOT, SARAM_SLOT, feed_slots, start_slots};
+use crate::slots::{feed_slots, start_slots};
 use arrayvec::ArrayVec;
 use ialg::{BLOCK_SAMPLES, Block, Ialg, Named, Params, Refusal};
 use mem_rec::MemTab;
 use std::alloc::{AllocError, Global};
-
-/// Instances have the numbers below this.
-pub(crate) const INSTANCES: usize = 64;
-
-/// Groups have the numbers below this.
-const GROUPS: u8 = 8;
-
-/// Channels have the numbers below this.
-const CHANNELS: u8 = 1;
-
-/// The most octets of a feed.
-pub(crate) const BLOCK_OCTETS: usize = SAMPLE_OCTETS * BLOCK_SAMPLES;
 
 /// A living instance: its kind, and its table with bases.
 #[derive(Drop)]
@@ -263,10 +254,10 @@ impl<M: Ialg + Named> Console<M> {
     ) -> usize
         requires servable { IsServable M.meaning }
         requires ready { IsReady self.old channel }
-        requires whole { length octets.now ≡ 2 * samples.number }
+        requires whole { length octets.now ≡ SAMPLE_OCTETS * samples.number }
         ensures bounded { result ≤ BLOCK_SAMPLES }
         ensures output { (s : Channels M) → Keeps M.meaning M.idle_keeps self.old s
-            → take (2 * result) output.new ≡ (machine_of M.meaning M.named).output s channel octets.now }
+            → take (SAMPLE_OCTETS * result) output.new ≡ (machine_of M.meaning M.named).output s channel octets.now }
         ensures count { (s : Channels M) → Keeps M.meaning M.idle_keeps self.old s
             → result ≡ length (output_of M.meaning s channel octets.now) }
         ensures after { (s : Channels M) → Keeps M.meaning M.idle_keeps self.old s

@@ -13,11 +13,12 @@ ghost use Rattle.dsp_console.specs.ReplyViews.{reply_of};
 ghost use Rattle.dsp_console.specs.Served.{feed_answer, line_answer};
 ghost use Rattle.dsp_console.specs.Runs.{StepsAt, no_source, no_sink, IsHonest, IsReadyIn, IsReadyOut, HasFailedIn, HasFailedOut, AreReady, Writes, FailsWithin, IsServed, IsCut, IsUnfed, run_of};
 
-use crate::console::{Ask, BLOCK_OCTETS, Console};
-use crate::octets::{LINE_OCTETS, read_octets, write_octets};
+use crate::console::{Ask, Console};
+use crate::limits::{BLOCK_OCTETS, CHANNELS, LINE_OCTETS, SAMPLE_OCTETS};
+use crate::octets::{read_octets, write_octets};
 use crate::port::{PortFault, PortIn, PortOut};
 use crate::reply::Reply;
-use crate::samples::{FeedSamples, SAMPLE_OCTETS};
+use crate::samples::FeedSamples;
 use crate::serving::Fault;
 use ialg::{Ialg, Named, Refusal};
 
@@ -81,22 +82,22 @@ fn serve_feed<M: Ialg + Named, I: PortIn, O: PortOut, P: PortOut>(
 ) -> Result<bool, Fault>
     requires servable { IsServable M.meaning }
     requires channel { IsReady console.old channel }
-    requires one { length inputs.old.items ≡ 1 }
-    requires pairs { length outputs.old.items ≡ 1 }
+    requires one { length inputs.old.items ≡ CHANNELS }
+    requires pairs { length outputs.old.items ≡ CHANNELS }
     requires ready { AreReady (map I.source inputs.old.items) (map O.sink outputs.old.items) (P.sink replies.old) }
-    ensures inputs { IsOk result → length inputs.new.items ≡ 1 }
-    ensures outputs { IsOk result → length outputs.new.items ≡ 1 }
+    ensures inputs { IsOk result → length inputs.new.items ≡ CHANNELS }
+    ensures outputs { IsOk result → length outputs.new.items ≡ CHANNELS }
     ensures ready { IsOk result → AreReady (map I.source inputs.new.items) (map O.sink outputs.new.items) (P.sink replies.new) }
     ensures fault { is_err result ≡ true → IsErrOf result Fault.Read ⊎ IsErrOf result Fault.Write }
     ensures read { IsErrOf result Fault.Read → Any HasFailedIn (map I.source inputs.new.items) }
     ensures write { IsErrOf result Fault.Write → Any HasFailedOut (map O.sink outputs.new.items) ⊎ HasFailedOut (P.sink replies.new) }
     ensures served { IfOk result (λ refused. (s : Channels M) → Keeps M.meaning M.idle_keeps console.old s → All IsHonest (map I.source inputs.old.items)
-        → IsServed (Keeps M.meaning M.idle_keeps console.new) (feed_answer (machine_of M.meaning M.named) (run_of s (map I.source inputs.old.items)) channel (2 * samples.number)) refused
+        → IsServed (Keeps M.meaning M.idle_keeps console.new) (feed_answer (machine_of M.meaning M.named) (run_of s (map I.source inputs.old.items)) channel (SAMPLE_OCTETS * samples.number)) refused
         (map I.source inputs.new.items) (map O.sink outputs.old.items) (map O.sink outputs.new.items) (P.sink replies.old) (P.sink replies.new)) }
     ensures cut { IsErrOf result Fault.Write → (s : Channels M) → Keeps M.meaning M.idle_keeps console.old s → All IsHonest (map I.source inputs.old.items)
-        → IsCut (feed_answer (machine_of M.meaning M.named) (run_of s (map I.source inputs.old.items)) channel (2 * samples.number))
+        → IsCut (feed_answer (machine_of M.meaning M.named) (run_of s (map I.source inputs.old.items)) channel (SAMPLE_OCTETS * samples.number))
         (map I.source inputs.new.items) (map O.sink outputs.old.items) (map O.sink outputs.new.items) (P.sink replies.old) (P.sink replies.new) }
-    ensures unread { IsErrOf result Fault.Read → StepsAt (FailsWithin (2 * samples.number)) channel no_source (map I.source inputs.old.items) (map I.source inputs.new.items) }
+    ensures unread { IsErrOf result Fault.Read → StepsAt (FailsWithin (SAMPLE_OCTETS * samples.number)) channel no_source (map I.source inputs.old.items) (map I.source inputs.new.items) }
     ensures unfed { IsErrOf result Fault.Read → Writes [] (map O.sink outputs.old.items) (map O.sink outputs.new.items) (P.sink replies.old) (P.sink replies.new) }
 {
     let c = usize::from(channel);
@@ -134,11 +135,11 @@ pub(crate) fn serve_line<M: Ialg + Named, I: PortIn, O: PortOut, P: PortOut>(
 ) -> Result<bool, Fault>
     requires servable { IsServable M.meaning }
     requires short { length line.now ≤ LINE_OCTETS }
-    requires one { length inputs.old.items ≡ 1 }
-    requires pairs { length outputs.old.items ≡ 1 }
+    requires one { length inputs.old.items ≡ CHANNELS }
+    requires pairs { length outputs.old.items ≡ CHANNELS }
     requires ready { AreReady (map I.source inputs.old.items) (map O.sink outputs.old.items) (P.sink replies.old) }
-    ensures inputs { IsOk result → length inputs.new.items ≡ 1 }
-    ensures outputs { IsOk result → length outputs.new.items ≡ 1 }
+    ensures inputs { IsOk result → length inputs.new.items ≡ CHANNELS }
+    ensures outputs { IsOk result → length outputs.new.items ≡ CHANNELS }
     ensures ready { IsOk result → AreReady (map I.source inputs.new.items) (map O.sink outputs.new.items) (P.sink replies.new) }
     ensures fault { is_err result ≡ true → IsErrOf result Fault.Read ⊎ IsErrOf result Fault.Write }
     ensures read { IsErrOf result Fault.Read → Any HasFailedIn (map I.source inputs.new.items) }

@@ -4,11 +4,9 @@ ghost use Rattle.std.specs.Result.{is_err};
 ghost use Rattle.dsp_console.specs.Ports.{Gives, GivesWithin, Takes, TakesFirst, EndsWithin};
 ghost use Rattle.dsp_console.specs.Lines.{LineCame, LineFails};
 
+use crate::limits::LINE_OCTETS;
 use crate::port::{PortFault, PortIn, PortOut};
 use arrayvec::ArrayVec;
-
-/// A line's octets, without the line feed.
-pub const LINE_OCTETS: usize = 1024;
 
 /// Writes all octets.
 pub fn write_octets<O: PortOut>(output: &mut O, octets: &[u8]) -> Result<(), PortFault>
@@ -46,7 +44,7 @@ pub fn read_octets<I: PortIn>(input: &mut I, buffer: &mut [u8]) -> Result<bool, 
 /// How a line was read.
 #[derive(Clone, Copy, Debug, PartialEq, Eq)]
 pub struct ReadLine {
-    /// It has more than `LINE_OCTETS` octets, which aren't kept.
+    /// It has more than [`LINE_OCTETS`] octets, which aren't kept.
     pub long: bool,
     /// The script's end ended it.
     pub last: bool,

@@ -3,11 +3,9 @@ ghost use Rattle.std.specs.Prelude.{◌≡◌, ◌≤◌, ◌+◌, ◌++◌, ◌
 ghost use Rattle.arrayvec.specs.ArrayVec.{array_vec_len};
 ghost use Rattle.dsp_console.specs.Replies.{line_text, reply_text, is_refusal};
 
+use crate::limits::{NUMBER_DIGITS, REPLY_OCTETS};
 use arrayvec::ArrayVec;
 use ialg::Refusal;
-
-/// The most octets of a reply, the line feed counted.
-pub(crate) const REPLY_OCTETS: usize = 24;
 
 pub(crate) type ReplyText = ArrayVec<u8, REPLY_OCTETS>;
 
@@ -42,9 +40,9 @@ fn push_digits(text: &mut ReplyText, number: u16)
 }
 
 fn push_number(text: &mut ReplyText, number: u16)
-    requires { array_vec_len text.old + 5 ≤ REPLY_OCTETS }
+    requires { array_vec_len text.old + NUMBER_DIGITS ≤ REPLY_OCTETS }
     ensures text { text.new.items ≡ text.old.items ++ decimal number }
-    ensures few { length (decimal number) ≤ 5 }
+    ensures few { length (decimal number) ≤ NUMBER_DIGITS }
 {
     push_digits(text, number);
 }

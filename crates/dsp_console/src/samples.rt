@@ -1,20 +1,14 @@
 //! Samples as octets.
 ghost use Rattle.std.specs.Prelude.{◌≡◌, ◌≤◌, ◌*◌, length};
 ghost use Rattle.dsp_console.specs.Samples.{samples_of, octets_of};
-ghost use Rattle.dsp_console.specs.declared.samples.TheConstants.{FEED_SAMPLES};
+ghost use Rattle.dsp_console.specs.declared.limits.TheConstants.{FEED_SAMPLES};
 
+use crate::limits::{FEED_SAMPLES, SAMPLE_OCTETS};
 use byteorder::{ByteOrder, LittleEndian};
-use ialg::BLOCK_SAMPLES;
-
-/// The octets of a sample.
-pub(crate) const SAMPLE_OCTETS: usize = 2;
-
-/// A feed takes as many samples as a block has, at most.
-pub(crate) const FEED_SAMPLES: u16 = BLOCK_SAMPLES as u16;
 
 /// Reads the samples of the octets.
 pub(crate) fn read_samples(octets: &[u8], samples: &mut [i16])
-    requires { length octets.now ≡ 2 * length samples.old }
+    requires { length octets.now ≡ SAMPLE_OCTETS * length samples.old }
     ensures { samples.new ≡ samples_of octets.now }
 {
     LittleEndian::read_i16_into(octets, samples);
@@ -22,7 +16,7 @@ pub(crate) fn read_samples(octets: &[u8], samples: &mut [i16])
 
 /// Writes the octets of the samples.
 pub(crate) fn write_samples(samples: &[i16], octets: &mut [u8])
-    requires { length octets.old ≡ 2 * length samples.now }
+    requires { length octets.old ≡ SAMPLE_OCTETS * length samples.now }
     ensures { octets.new ≡ octets_of samples.now }
 {
     LittleEndian::write_i16_into(samples, octets);

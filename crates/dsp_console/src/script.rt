@@ -3,7 +3,7 @@ ghost use Rattle.std.specs.Prelude.{◌≡◌, ◌≤◌, length, map, is_some, 
 ghost use Rattle.dsp_console.specs.Script.{chain_row, feed_row, create_row, kind_row, command_of, parsed, fit_words, value_of};
 ghost use Rattle.dsp_console.specs.Commands.{texts, row_of, line_of};
 
-use crate::octets::LINE_OCTETS;
+use crate::limits::LINE_OCTETS;
 use crate::samples::FeedSamples;
 use crate::words::{
     are_numbers, byte_of, is_number, sample_of, samples_of, without_return, words_of,

@@ -1,8 +1,8 @@
 //! Serves a script.
-ghost use Rattle.std.specs.Prelude.{◌≡◌, ◌+◌, ◌≢◌, ◌⊎◌, ◌↔◌, true, false, [], map, length, Any, All, IfOk, IsOk, IsErrOf};
+ghost use Rattle.std.specs.Prelude.{◌≡◌, ◌+◌, ◌≢◌, ◌⊎◌, ◌↔◌, IsTrue, true, false, [], map, length, Any, All, IfOk, IsOk, IsErrOf};
 ghost use Rattle.std.specs.Result.{is_err};
 ghost use Rattle.dsp_console.specs.Ports.{GivesWithin};
-ghost use Rattle.dsp_console.specs.Sizes.{are_sizes};
+ghost use Rattle.dsp_console.specs.Sizes.{AreSpaceSizes};
 ghost use Rattle.dsp_console.specs.Channels.{Channels, new_channels};
 ghost use Rattle.dsp_console.specs.Keeps.{Keeps};
 ghost use Rattle.dsp_console.specs.Answers.{IsServable};
@@ -10,22 +10,15 @@ ghost use Rattle.dsp_console.specs.Console.{machine_of, start};
 ghost use Rattle.dsp_console.specs.Runs.{IsHonest, HasFailedIn, HasFailedOut, AreReady, ServedAll, ServedFirst, ServedUpTo, GoesOn, IsUnused, octets_to_come, run_of};
 
 use crate::console::Console;
+use crate::limits::{CHANNELS, SCRIPT_OCTETS};
 use crate::line::{flush_outputs, serve_line};
 use crate::octets::read_line;
 use crate::port::{PortIn, PortOut};
 use arrayvec::ArrayVec;
 use ialg::{Ialg, Named};
+use space_heap::is_space_size;
 use std::alloc::Global;
 use thiserror::Error;
-
-/// The most octets of a script.
-pub const SCRIPT_OCTETS: u32 = 1_000_000_000;
-
-/// The most words of a space.
-pub const SPACE_WORDS: u32 = 65_536;
-
-/// What the size of a space is a multiple of.
-pub const SIZE_STEP: u32 = 4;
 
 /// How many words each space has.
 #[derive(Clone, Copy, PartialEq, Eq, Debug)]
@@ -36,13 +29,11 @@ pub struct Sizes {
 }
 
 impl Sizes {
-    /// Whether each space is 0 to [`SPACE_WORDS`] words, a multiple of [`SIZE_STEP`].
+    /// Whether each space may have its words.
     fn are_valid(&self) -> bool
-        ensures { result ≡ are_sizes self.now }
+        ensures { IsTrue result ↔ AreSpaceSizes self.now }
     {
-        [self.daram, self.saram, self.external]
-            .iter()
-            .all(|words| *words <= SPACE_WORDS && *words % SIZE_STEP == 0)
+        is_space_size(self.daram) && is_space_size(self.saram) && is_space_size(self.external)
     }
 }
 
@@ -89,8 +80,8 @@ fn serve_script<M: Ialg + Named, S: PortIn, I: PortIn, O: PortOut, P: PortOut>(
 ) -> Result<u64, Fault>
     requires servable { IsServable M.meaning }
     requires script { (S.source script.old).failed ≡ false }
-    requires one { length inputs.old.items ≡ 1 }
-    requires pairs { length outputs.old.items ≡ 1 }
+    requires one { length inputs.old.items ≡ CHANNELS }
+    requires pairs { length outputs.old.items ≡ CHANNELS }
     requires ready { AreReady (map I.source inputs.old.items) (map O.sink outputs.old.items) (P.sink replies.old) }
     ensures script { IsOk result → (S.source script.new).failed ≡ false }
     ensures ready { IsOk result → AreReady (map I.source inputs.new.items) (map O.sink outputs.new.items) (P.sink replies.new) }
@@ -146,8 +137,8 @@ fn serve<M: Ialg + Named, S: PortIn, I: PortIn, O: PortOut, P: PortOut>(
 ) -> Result<Summary, Fault>
     requires servable { IsServable M.meaning }
     requires script { (S.source script.old).failed ≡ false }
-    requires one { length inputs.old.items ≡ 1 }
-    requires pairs { length outputs.old.items ≡ 1 }
+    requires one { length inputs.old.items ≡ CHANNELS }
+    requires pairs { length outputs.old.items ≡ CHANNELS }
     requires ready { AreReady (map I.source inputs.old.items) (map O.sink outputs.old.items) (P.sink replies.old) }
     ensures script { IsOk result → (S.source script.new).failed ≡ false }
     ensures ready { IsOk result → AreReady (map I.source inputs.new.items) (map O.sink outputs.new.items) (P.sink replies.new) }
@@ -196,12 +187,13 @@ pub fn run<M: Ialg + Named, S: PortIn, I: PortIn, O: PortOut, P: PortOut>(
 ) -> Result<Summary, Fault>
     requires servable { IsServable M.meaning }
     requires script { (S.source script.old).failed ≡ false }
-    requires one { length inputs.old.items ≡ 1 }
-    requires pairs { length outputs.old.items ≡ 1 }
+    requires one { length inputs.old.items ≡ CHANNELS }
+    requires pairs { length outputs.old.items ≡ CHANNELS }
     requires ready { AreReady (map I.source inputs.old.items) (map O.sink outputs.old.items) (P.sink replies.old) }
 
     // Before any device is used.
-    ensures size { IsErrOf result Fault.Size ↔ (are_sizes config.sizes ≡ false) }
+    ensures size { IsErrOf result Fault.Size ↔ (¬ AreSpaceSizes config.sizes) }
+    ensures sizes { IsErrOf result Fault.Size ⊎ AreSpaceSizes config.sizes }
     ensures unused { IsErrOf result Fault.Size ⊎ IsErrOf result Fault.Memory
         → IsUnused script.old script.new inputs.old inputs.new outputs.old outputs.new replies.old replies.new }
 
@@ -211,7 +203,7 @@ pub fn run<M: Ialg + Named, S: PortIn, I: PortIn, O: PortOut, P: PortOut>(
     ensures read { IsErrOf result Fault.Read → HasFailedIn (S.source script.new) ⊎ (Any HasFailedIn (map I.source inputs.new.items) ⊎ GoesOn (S.source script.old)) }
     ensures write { IsErrOf result Fault.Write → Any HasFailedOut (map O.sink outputs.new.items) ⊎ HasFailedOut (P.sink replies.new) }
 
-    // Of the script come 1,000,000,001 octets at most. Of the inputs come those that the served feeds ask for.
+    // Of the script come SCRIPT_OCTETS + 1 octets at most. Of the inputs come those that the served feeds ask for.
     ensures few { GivesWithin (SCRIPT_OCTETS + 1) (S.source script.old) (S.source script.new) }
 
     // Between honest ports, what is served is written: whole, or the first octets of its one order, or what the lines ask

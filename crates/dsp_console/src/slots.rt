@@ -5,17 +5,9 @@ ghost use Rattle.ialg.specs.Meaning.{outputs_of};
 ghost use Rattle.ialg.specs.Records.{AllLent, LastingLent, lasting, unplaced};
 ghost use Rattle.dsp_console.specs.Slots.{FitsSlots, lasting_in};
 
+use crate::limits::{DARAM_SLOT, EXTERNAL_SLOT, SARAM_SLOT};
 use ialg::{BLOCK_SAMPLES, Block, Ialg, Lent, Params};
 use mem_rec::MemTab;
-
-/// The words of `external` that an instance has: its object, and from word 8 on room for a write-once record.
-pub(crate) const EXTERNAL_SLOT: usize = 264;
-
-/// The words of `saram` that an instance has.
-pub(crate) const SARAM_SLOT: usize = 128;
-
-/// The words of `daram` that an instance has.
-pub(crate) const DARAM_SLOT: usize = 320;
 
 /// Starts an instance whose object and kept record are lent.
 fn start_records<M: Ialg>(

@@ -5,15 +5,9 @@ ghost use Rattle.std.specs.Char.{is_ascii_digit};
 ghost use Rattle.dsp_console.specs.Script.{without_return, is_blank, words_of, is_digits, digits_value, is_number, value_of, is_between, fits_byte, fits_samples, fits_word, natural};
 ghost use Rattle.dsp_console.specs.Commands.{texts, Limits, IsNoBlank, PartsAtBlank};
 
-use crate::octets::LINE_OCTETS;
-use crate::samples::{FEED_SAMPLES, FeedSamples};
+use crate::limits::{FEED_SAMPLES, GREATEST_MAGNITUDE, LINE_OCTETS, LINE_WORDS};
+use crate::samples::FeedSamples;
 use arrayvec::ArrayVec;
-
-/// As many words as a line of 1,024 octets has.
-pub(crate) const LINE_WORDS: usize = LINE_OCTETS / 2;
-
-/// No number is told from others beyond this magnitude, which no range reaches.
-const GREATEST_MAGNITUDE: u32 = 100_000;
 
 /// The line less one carriage return at its end.
 pub(crate) fn without_return(line: &[u8]) -> &[u8]

@@ -1,6 +1,7 @@
 // A heap and the blocks that are taken of it, in the order of their taking.
 
-use space_heap::{GREATEST_ALIGN, GREATEST_NEED, Heap, UNIT};
+use mem_rec::{GREATEST_ALIGNMENT, LEAST_ALIGNMENT};
+use space_heap::{GREATEST_NEED, Heap};
 use space_raw::Piece;
 use std::alloc::Global;
 use std::marker::Model;
@@ -48,8 +49,8 @@ impl Desk {
         if words == 0
             || words > GREATEST_NEED
             || align == 0
-            || align > GREATEST_ALIGN
-            || align % UNIT != 0
+            || align > GREATEST_ALIGNMENT
+            || align % LEAST_ALIGNMENT != 0
         {
             return None;
         }
@@ -72,7 +73,7 @@ impl Desk {
 
     /// The place of the i-th block after it was moved down.
     pub fn lower(&mut self, i: usize, align: u32) -> Option<u32> {
-        if i >= self.held.len() || align == 0 || align > GREATEST_ALIGN || align % UNIT != 0 {
+        if i >= self.held.len() || align == 0 || align > GREATEST_ALIGNMENT || align % LEAST_ALIGNMENT != 0 {
             return None;
         }
         let block = self.held.remove(i);

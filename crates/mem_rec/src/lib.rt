@@ -24,11 +24,24 @@ pub const SCRATCH_RECORDS: usize = 3;
 /// The most words of a record.
 pub const RECORD_WORDS: u32 = 65_536;
 
-/// The alignments that a record may ask for.
-pub const ALIGNMENTS: [u32; 9] = [4, 8, 16, 32, 64, 128, 256, 512, 1_024];
-
-/// The least of the alignments, which divides each placed size too.
+/// The least alignment. It divides each other one, each placed size and each space's size.
 pub const LEAST_ALIGNMENT: u32 = 4;
+
+/// The greatest alignment.
+pub const GREATEST_ALIGNMENT: u32 = 1_024;
+
+/// The alignments that a record may ask for.
+pub const ALIGNMENTS: [u32; 9] = [
+    LEAST_ALIGNMENT,
+    8,
+    16,
+    32,
+    64,
+    128,
+    256,
+    512,
+    GREATEST_ALIGNMENT,
+];
 
 /// The spaces of memory (SPRU360, `IALG_MemSpace`), in the order in which the framework serves them.
 #[derive(Clone, Copy, PartialEq, Eq, Debug, Default)]

@@ -3,7 +3,7 @@ use Rattle.std.specs.Prelude.{◌≡◌, ℕ, ◌+◌, ◌%◌, ◌<◌, ◌≤�
 use Rattle.std.specs.Option.{option_to_list}
 use Rattle.std.specs.List.{list_any}
 use Rattle.space_raw.specs.Span.{Extent, Span, Adjoins}
-use Rattle.space_heap.specs.declared.limits.TheConstants.{UNIT}
+use Rattle.mem_rec.specs.declared.TheConstants.{LEAST_ALIGNMENT}
 use Rattle.space_heap.specs.Places.{Range, covers, numbers_below}
 use Rattle.space_heap.specs.Pictures.{range_of, IsSpaceSize}
 
@@ -24,9 +24,9 @@ hole_words holes = sum_by (λ h. length h.words) holes
 -- a hole of the region. It has words, unless the region has none
 pub record IsHole (region : Extent) (h : Span) : Type 0 where
   pub home : h.region ≡ region
-  pub place : h.place % UNIT ≡ 0
-  pub size : length h.words % UNIT ≡ 0
-  pub some : min region.size UNIT ≤ length h.words
+  pub place : h.place % LEAST_ALIGNMENT ≡ 0
+  pub size : length h.words % LEAST_ALIGNMENT ≡ 0
+  pub some : min region.size LEAST_ALIGNMENT ≤ length h.words
 
 -- holes in place order, the first from low on, each behind the word that follows the one before, and that word below high
 abbrev pub Chain : Extent → ℕ → List Span → ℕ → Type 0
@@ -81,6 +81,6 @@ pub record IsFreeFrom (holes : List Span) (place start : ℕ) : Type 0 where
 -- the words from p to q are some, and are the last of the i-th hole
 pub record IsGap (holes : List Span) (i p q : ℕ) : Type 0 where
   pub some : p < q
-  pub unit : p % UNIT ≡ 0
+  pub unit : p % LEAST_ALIGNMENT ≡ 0
   pub hole : i < length holes
   pub within : (d : Span) → ((slice_index_or holes i d).place ≤ p) × (q ≡ hole_end (slice_index_or holes i d))

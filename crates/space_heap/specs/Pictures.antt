@@ -2,7 +2,8 @@
 use Rattle.std.specs.Prelude.{◌≡◌, ℕ, ◌%◌, ◌<◌, ◌≤◌, Bool, false, not, List, [], ◌∷◌, map, length}
 use Rattle.std.specs.List.{list_any}
 use Rattle.space_raw.specs.Span.{Extent, Span}
-use Rattle.space_heap.specs.declared.limits.TheConstants.{UNIT, SPACE_WORDS, GREATEST_ALIGN}
+use Rattle.mem_rec.specs.declared.TheConstants.{LEAST_ALIGNMENT, GREATEST_ALIGNMENT}
+use Rattle.space_heap.specs.declared.limits.TheConstants.{SPACE_WORDS}
 use Rattle.space_heap.specs.Places.{Range, end_of, meets, is_covered, numbers_below}
 
 -- the space; for each word of it, in order, whether it is free; and how many words were moved
@@ -13,11 +14,11 @@ pub record HeapState : Type 0 where
 
 -- a space may have so many words
 abbrev pub IsSpaceSize : ℕ → Type 0
-IsSpaceSize words = (words ≤ SPACE_WORDS) × (words % UNIT ≡ 0)
+IsSpaceSize words = (words ≤ SPACE_WORDS) × (words % LEAST_ALIGNMENT ≡ 0)
 
 -- every power of two from 4 to 1,024 is one
 abbrev pub IsAlignment : ℕ → Type 0
-IsAlignment align = (0 < align) × (align ≤ GREATEST_ALIGN) × (align % UNIT ≡ 0)
+IsAlignment align = (0 < align) × (align ≤ GREATEST_ALIGNMENT) × (align % LEAST_ALIGNMENT ≡ 0)
 
 -- where a piece lies
 abbrev pub range_of : Span → Range
@@ -26,8 +27,8 @@ range_of s = record { place = s.place; size = length s.words }
 -- the range may be a block of a space of so many words
 pub record IsBlock (words : ℕ) (r : Range) : Type 0 where
   pub some : 0 < r.size
-  pub place : r.place % UNIT ≡ 0
-  pub size : r.size % UNIT ≡ 0
+  pub place : r.place % LEAST_ALIGNMENT ≡ 0
+  pub size : r.size % LEAST_ALIGNMENT ≡ 0
   pub inside : end_of r ≤ words
 
 -- all of them may be, and no two meet

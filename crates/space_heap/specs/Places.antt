@@ -2,7 +2,7 @@
 use Rattle.std.specs.Prelude.{ℕ, zero, suc, ◌+◌, ◌*◌, ◌/◌, Bool, ◌&&◌, not, List, [], ◌∷◌, map, Option, find, fold, max, min, nat_lt, nat_le, if◌then◌else◌}
 use Rattle.std.specs.List.{list_any}
 use Rattle.std.specs.Int.{next_multiple_of}
-use Rattle.space_heap.specs.declared.limits.TheConstants.{UNIT}
+use Rattle.mem_rec.specs.declared.TheConstants.{LEAST_ALIGNMENT}
 
 -- so many words of a space, from a place on
 pub record Range : Type 0 where
@@ -26,7 +26,7 @@ meets r s = nat_lt r.place (end_of s) && nat_lt s.place (end_of r)
 
 -- the wanted size, rounded up
 abbrev pub placed_size : ℕ → ℕ
-placed_size size = next_multiple_of size UNIT
+placed_size size = next_multiple_of size LEAST_ALIGNMENT
 
 -- whether the range lies within the space and meets none of those that are taken
 abbrev pub is_free : ℕ → List Range → Range → Bool

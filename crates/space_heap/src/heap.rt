@@ -7,7 +7,8 @@ ghost use Rattle.space_heap.specs.Pictures.{Holds, IsAlignment, IsBlock, IsSpace
 
 use crate::find::{Fit, find};
 use crate::holes::{carve, gap_before, put_back, room_for};
-use crate::limits::{GREATEST_NEED, SPACE_WORDS, UNIT};
+use crate::limits::{GREATEST_NEED, is_space_size};
+use mem_rec::LEAST_ALIGNMENT;
 use space_raw::{Piece, Region};
 use std::alloc::Global;
 use std::marker::Model;
@@ -54,7 +55,7 @@ impl Heap {
         ensures memory { IsSpaceSize words → IfErr result (λ e. e ≡ HeapError.Memory) }
         ensures heap { IfOk result (λ h. (h.region.size ≡ words) × Holds h [] × (h.slid ≡ 0)) }
     {
-        if words > SPACE_WORDS || words % UNIT != 0 {
+        if !is_space_size(words) {
             return Err(HeapError::BadSize);
         }
         let (region, all) = match Region::make(alloc, words) {
@@ -89,7 +90,7 @@ impl Heap {
         ensures none { IfNone result (self.new ≡ self.old) }
         ensures stays { (self.new.region ≡ self.old.region) × (self.new.slid ≡ self.old.slid) }
     {
-        let size = words.next_multiple_of(UNIT);
+        let size = words.next_multiple_of(LEAST_ALIGNMENT);
         let Fit { hole, place } = find(self.holes.as_slice(), size, align)?;
         let block = carve(&mut self.holes, hole, place, size);
         self.free -= size;

@@ -8,14 +8,14 @@ ghost use Rattle.space_heap.specs.Pictures.{IsAlignment, IsBlock, IsSpaceSize, r
 ghost use Rattle.space_heap.specs.Holes.{AreHoles, AreNeighbours, AreParts, IsCut, IsGap, IsFreeFrom, hole_end, hole_words};
 
 use crate::find::Fit;
-use crate::limits::UNIT;
+use mem_rec::LEAST_ALIGNMENT;
 use space_raw::Piece;
 
 // The greatest number of holes in a space of so many words: each has a unit at least, and a unit of a block stands between two.
 pub(crate) fn room_for(words: u32) -> usize
     ensures { result ≡ words / 8 + 1 }
 {
-    (words / (2 * UNIT)) as usize + 1
+    (words / (2 * LEAST_ALIGNMENT)) as usize + 1
 }
 
 // What lies before a block and behind it, and the block.
@@ -88,7 +88,7 @@ pub(crate) fn carve(holes: &mut Vec<Piece>, i: usize, place: u32, words: u32) ->
     requires holes { (region : Extent) × AreHoles region holes.old.items × (region.size / 8 < vec_capacity holes.old) }
     requires hole { i < vec_len holes.old }
     requires within { (d : Span) → ((slice_index_or holes.old.items i d).place ≤ place) × (place + words ≤ hole_end (slice_index_or holes.old.items i d)) }
-    requires units { (0 < words) × (words % UNIT ≡ 0) × (place % UNIT ≡ 0) }
+    requires units { (0 < words) × (words % LEAST_ALIGNMENT ≡ 0) × (place % LEAST_ALIGNMENT ≡ 0) }
     ensures block { (result.place ≡ place) × (length result.words ≡ words) }
     ensures holes { (region : Extent) → AreHoles region holes.old.items → (result.region ≡ region) × AreHoles region holes.new.items }
     ensures parts { AreParts holes.old.items (range_of result) holes.new.items }

@@ -9,4 +9,4 @@ mod limits;
 mod tests;
 
 pub use heap::{Heap, HeapError};
-pub use limits::{GREATEST_ALIGN, GREATEST_NEED, SPACE_WORDS, UNIT};
+pub use limits::{GREATEST_NEED, SPACE_WORDS, is_space_size};

@@ -1,13 +1,18 @@
 // The limits of spaces and blocks, in words of 16 bits.
+ghost use Rattle.std.specs.Prelude.{IsTrue, ◌↔◌};
+ghost use Rattle.space_heap.specs.Pictures.{IsSpaceSize};
 
-/// The greatest number of words of a space.
-pub const SPACE_WORDS: u32 = 65_536;
+use mem_rec::{LEAST_ALIGNMENT, RECORD_WORDS, SCRATCH_RECORDS};
 
-/// Sizes of spaces and of blocks, and alignments, are multiples of this.
-pub const UNIT: u32 = 4;
+/// The greatest number of words of a space, which the greatest record fills.
+pub const SPACE_WORDS: u32 = RECORD_WORDS;
 
-/// The greatest alignment. The least is `UNIT`.
-pub const GREATEST_ALIGN: u32 = 1_024;
+/// The greatest number of words that are asked for in one block: the scratch records of a table.
+pub const GREATEST_NEED: u32 = SCRATCH_RECORDS as u32 * RECORD_WORDS;
 
-/// The greatest number of words that are asked for in one block: three records of 65,536 words.
-pub const GREATEST_NEED: u32 = 196_608;
+/// Whether a space may have so many words: up to [`SPACE_WORDS`], a multiple of [`LEAST_ALIGNMENT`].
+pub fn is_space_size(words: u32) -> bool
+    ensures { IsTrue result ↔ IsSpaceSize words }
+{
+    words <= SPACE_WORDS && words % LEAST_ALIGNMENT == 0
+}

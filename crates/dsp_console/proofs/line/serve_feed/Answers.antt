@@ -4,6 +4,7 @@ use Rattle.std.proofs.lemmas.List.{length-map}
 use Rattle.dsp_console.specs.Replies.{reply_text, Count}
 use Rattle.dsp_console.specs.Keeps.{Keeps}
 use Rattle.dsp_console.specs.Console.{machine_of}
+use Rattle.dsp_console.specs.declared.limits.TheConstants.{SAMPLE_OCTETS}
 use Rattle.dsp_console.proofs.Writes.{writes_none}
 use Rattle.dsp_console.proofs.Feeds.{served_short, cut_short, served_whole, cut_output, cut_told}
 use Rattle.dsp_console.proofs.line.serve_feed.Goals as goal
@@ -16,7 +17,7 @@ returns-in-Ok-tell-clause-served g c = λ s k h.
     let number = c.from-c.ensures in
     let there : c.args.channel < length (map g.I.PortIn.source c.args.inputs.now.items) = simp length-map (omega (arith, c.requires.channel.there, c.requires.one)) in
     let answer : c.read_from.result ≡ Ok false = cc in
-    let count : length c.read_from.new.octets ≡ 2 * c.args.samples.number = grind (arith, common_steps, c.read_from.auto.octets) in
+    let count : length c.read_from.new.octets ≡ SAMPLE_OCTETS * c.args.samples.number = grind (arith, common_steps, c.read_from.auto.octets) in
     let same = c.read_from.auto.octets in
     served_short (Keeps g.M.Ialg.meaning g.M.Ialg.idle_keeps c.args.console.now) (machine_of g.M.Ialg.meaning g.M.Named.named) s _ k there h
     (rw (number, sym same ∙ count) at (c.read_from.ensures.short answer)) (c.in-Ok-tell.ensures.ok refl)
@@ -26,7 +27,7 @@ returns-in-Err-tell-clause-cut g c = λ is s k h.
     let number = c.from-c.ensures in
     let there : c.args.channel < length (map g.I.PortIn.source c.args.inputs.now.items) = simp length-map (omega (arith, c.requires.channel.there, c.requires.one)) in
     let answer : c.read_from.result ≡ Ok false = cc in
-    let count : length c.read_from.new.octets ≡ 2 * c.args.samples.number = grind (arith, common_steps, c.read_from.auto.octets) in
+    let count : length c.read_from.new.octets ≡ SAMPLE_OCTETS * c.args.samples.number = grind (arith, common_steps, c.read_from.auto.octets) in
     let same = c.read_from.auto.octets in
     cut_short (machine_of g.M.Ialg.meaning g.M.Named.named) s _ there h (rw (number, sym same ∙ count) at (c.read_from.ensures.short answer)) (c.in-Err-tell.ensures.fault refl)
 
@@ -36,7 +37,7 @@ returns-then-is_err-clause-cut g c = λ is s k h.
     let there : c.args.channel < length (map g.I.PortIn.source c.args.inputs.now.items) = simp length-map (omega (arith, c.requires.channel.there, c.requires.one)) in
     let pairs : length (map g.O.PortOut.sink c.args.outputs.now.items) ≡ length (map g.I.PortIn.source c.args.inputs.now.items) = simp length-map (c.requires.pairs ∙ sym c.requires.one) in
     let answer : c.read_from.result ≡ Ok true = cc in
-    let count : length c.read_from.new.octets ≡ 2 * c.args.samples.number = grind (arith, common_steps, c.read_from.auto.octets) in
+    let count : length c.read_from.new.octets ≡ SAMPLE_OCTETS * c.args.samples.number = grind (arith, common_steps, c.read_from.auto.octets) in
     cut_output (machine_of g.M.Ialg.meaning g.M.Named.named) s _ there pairs h count (rw number at (c.read_from.ensures.filled answer)) (c.feed-count.ensures.output s k)
     (rw number at (c.write_to.ensures.fault (sym c.is_err.ensures.value ∙ c.if-is_err.true)))
 
@@ -46,7 +47,7 @@ returns-in-Ok-tell-2-clause-served g c = λ s k h.
     let there : c.args.channel < length (map g.I.PortIn.source c.args.inputs.now.items) = simp length-map (omega (arith, c.requires.channel.there, c.requires.one)) in
     let pairs : length (map g.O.PortOut.sink c.args.outputs.now.items) ≡ length (map g.I.PortIn.source c.args.inputs.now.items) = simp length-map (c.requires.pairs ∙ sym c.requires.one) in
     let answer : c.read_from.result ≡ Ok true = cc in
-    let count : length c.read_from.new.octets ≡ 2 * c.args.samples.number = grind (arith, common_steps, c.read_from.auto.octets) in
+    let count : length c.read_from.new.octets ≡ SAMPLE_OCTETS * c.args.samples.number = grind (arith, common_steps, c.read_from.auto.octets) in
     served_whole (Keeps g.M.Ialg.meaning g.M.Ialg.idle_keeps c.feed-count.new.self) (machine_of g.M.Ialg.meaning g.M.Named.named) s (c.feed-count.ensures.after s k) there pairs h count
     (rw number at (c.read_from.ensures.filled answer)) (c.feed-count.ensures.output s k) (ap (λ n. reply_text (Count n)) (c.feed-count.ensures.count s k))
     (rw number at (c.write_to.ensures.ok c.if-is_err.ensures.negation)) (c.in-Ok-tell-2.ensures.ok refl)
@@ -57,6 +58,6 @@ returns-in-Err-tell-2-clause-cut g c = λ is s k h.
     let there : c.args.channel < length (map g.I.PortIn.source c.args.inputs.now.items) = simp length-map (omega (arith, c.requires.channel.there, c.requires.one)) in
     let pairs : length (map g.O.PortOut.sink c.args.outputs.now.items) ≡ length (map g.I.PortIn.source c.args.inputs.now.items) = simp length-map (c.requires.pairs ∙ sym c.requires.one) in
     let answer : c.read_from.result ≡ Ok true = cc in
-    let count : length c.read_from.new.octets ≡ 2 * c.args.samples.number = grind (arith, common_steps, c.read_from.auto.octets) in
+    let count : length c.read_from.new.octets ≡ SAMPLE_OCTETS * c.args.samples.number = grind (arith, common_steps, c.read_from.auto.octets) in
     cut_told (machine_of g.M.Ialg.meaning g.M.Named.named) s there pairs h count (rw number at (c.read_from.ensures.filled answer)) (c.feed-count.ensures.output s k)
     (ap (λ n. reply_text (Count n)) (c.feed-count.ensures.count s k)) (rw number at (c.write_to.ensures.ok c.if-is_err.ensures.negation)) (c.in-Err-tell-2.ensures.fault refl)

@@ -1,6 +1,7 @@
 use Rattle.std.proofs.Common.{rules, ◌≡◌, ◌≤◌, length, get_or, arith}
 use Rattle.std.proofs.lemmas.Grind.{common_steps}
 use Rattle.std.proofs.lemmas.Bool.Decides.{nat_tests}
+use Rattle.dsp_console.specs.declared.limits.TheConstants.{LINE_OCTETS}
 use Rattle.dsp_console.proofs.Ports.{gives_more}
 use Rattle.dsp_console.proofs.Lines.{one_octet, is_line_more, is_line_long, so_far_more}
 use Rattle.dsp_console.proofs.octets.read_line.Goals as goal
@@ -25,7 +26,7 @@ octets-preserved-then-is_full g c =
     let came = c.octets.invariant.came in
     let buffer = c.get.new.buffer in
     let one = one_octet c.in-Ok.field-0 buffer (grind (arith, common_steps)) (search rules) c.in-Ok.field-0-test.1 in
-    let full : length c.octets.text.items ≡ 1024 = grind (arith, nat_tests) in
+    let full : length c.octets.text.items ≡ LINE_OCTETS = grind (arith, nat_tests) in
     record {
       ready = search rules;
       came = so_far_more (get_or buffer 0 0) came (is_line_long c.octets.long (get_or buffer 0 0) came.line c.if-octet-eq10.false full) (rw one at c.in-Ok.ensures.octets) c.if-left-eq0.false;
@@ -36,8 +37,8 @@ octets-preserved g c =
     let came = c.octets.invariant.came in
     let buffer = c.get.new.buffer in
     let one = one_octet c.in-Ok.field-0 buffer (grind (arith, common_steps)) (search rules) c.in-Ok.field-0-test.1 in
-    let room : length c.octets.text.items ≡ 1024 → ⊥ = grind (arith, nat_tests) in
-    let fits : length c.octets.text.items ≤ 1024 = search rules in
+    let room : length c.octets.text.items ≡ LINE_OCTETS → ⊥ = grind (arith, nat_tests) in
+    let fits : length c.octets.text.items ≤ LINE_OCTETS = search rules in
     record {
       ready = search rules;
       came = rw c.push.ensures.items (so_far_more (get_or buffer 0 0) came (is_line_more c.octets.long (get_or buffer 0 0) came.line c.if-octet-eq10.false room fits) (rw one at c.in-Ok.ensures.octets) c.if-left-eq0.false);

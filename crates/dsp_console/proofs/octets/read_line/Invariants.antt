@@ -1,11 +1,12 @@
 use Rattle.std.proofs.Common.{◌≡◌, false}
 use Rattle.dsp_console.specs.Lines.{LineSoFar}
+use Rattle.dsp_console.specs.declared.limits.TheConstants.{LINE_OCTETS}
 use Rattle.dsp_console.proofs.octets.read_line.Given as goal
 
 abbrev pub invariant-octets : goal.invariant-octets
 invariant-octets g l = record {
   ready : (g.S.PortIn.source l.script).failed ≡ false;
-  came : LineSoFar 1024 l.text.items l.long l.initial.left l.left (g.S.PortIn.source l.initial.script) (g.S.PortIn.source l.script);
+  came : LineSoFar LINE_OCTETS l.text.items l.long l.initial.left l.left (g.S.PortIn.source l.initial.script) (g.S.PortIn.source l.script);
 }
 
 abbrev pub decreases-octets : goal.decreases-octets

@@ -2,16 +2,17 @@ use Rattle.std.proofs.Common.{◌≡◌, ◌+◌, ◌≤◌, false, length, map,
 use Rattle.dsp_console.specs.Channels.{Channels}
 use Rattle.dsp_console.specs.Keeps.{Keeps}
 use Rattle.dsp_console.specs.Console.{machine_of}
-use Rattle.dsp_console.specs.Runs.{AreReady, IsHonest, Served, Consumes, longest_script, run_of}
+use Rattle.dsp_console.specs.Runs.{AreReady, IsHonest, Served, Consumes, run_of}
+use Rattle.dsp_console.specs.declared.limits.TheConstants.{CHANNELS, SCRIPT_OCTETS}
 use Rattle.dsp_console.proofs.serving.serve_script.Given as goal
 
 abbrev pub invariant-lines : goal.invariant-lines
 invariant-lines g l = record {
   script : (g.S.PortIn.source l.script).failed ≡ false;
-  one : length l.inputs.items ≡ 1;
-  pairs : length l.outputs.items ≡ 1;
+  one : length l.inputs.items ≡ CHANNELS;
+  pairs : length l.outputs.items ≡ CHANNELS;
   ready : AreReady (map g.I.PortIn.source l.inputs.items) (map g.O.PortOut.sink l.outputs.items) (g.P.PortOut.sink l.replies);
-  few : l.refused + l.left ≤ longest_script;
+  few : l.refused + l.left ≤ SCRIPT_OCTETS;
   came : Consumes l.left (g.S.PortIn.source l.initial.script) (g.S.PortIn.source l.script);
   served : (s : Channels g.row.M.Denot) → Keeps g.M.Ialg.meaning g.M.Ialg.idle_keeps l.initial.console s → All IsHonest (map g.I.PortIn.source l.initial.inputs.items)
       → Served (machine_of g.M.Ialg.meaning g.M.Named.named) (Keeps g.M.Ialg.meaning g.M.Ialg.idle_keeps l.console) (run_of s (map g.I.PortIn.source l.initial.inputs.items)) l.refused l.left

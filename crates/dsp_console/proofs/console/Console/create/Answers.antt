@@ -1,6 +1,7 @@
 use Rattle.std.proofs.Common.{◌≡◌, ◌<◌, None, Some, false, is_some, sym, ap, ◌∙◌, refl, slice_index_or, arith}
 use Rattle.ialg.specs.Records.{unplaced}
 use Rattle.dsp_console.specs.Numbered.{at_number}
+use Rattle.dsp_console.specs.declared.limits.TheConstants.{INSTANCES, GROUPS}
 use Rattle.dsp_console.proofs.ConsoleLemmas.{item_at, free_slot, after_create-granted, keeps_created}
 use Rattle.dsp_console.proofs.console.Console.create.Goals as goal
 
@@ -16,8 +17,8 @@ returns-clause-after g c s k =
     let old = c.args.self.now in
     let i = c.from-i.result in
     let number : i ≡ c.args.instance = c.from-i.ensures in
-    let within : i < 64 = omega arith in
-    let group : c.args.group < 8 = omega arith in
+    let within : i < INSTANCES = omega arith in
+    let group : c.args.group < GROUPS = omega arith in
     let lawful = c.requires.servable.lawful kind p in
     let bare : g.M.Ialg.meaning.table kind p ≡ Some c.in-Some.table = sym (c.in-Some.ensures.law None lawful) in
     let its : g.M.Ialg.meaning.table kind p ≡ Some (unplaced c.place-table.result) =

@@ -1,4 +1,5 @@
 use Rattle.std.proofs.Common.{◌≡◌, ◌<◌, [], None, Some, ◌∙◌, refl, slice_index_or, arith}
+use Rattle.dsp_console.specs.declared.limits.TheConstants.{INSTANCES}
 use Rattle.dsp_console.proofs.ConsoleLemmas.{item_at, keeps_given, out_given}
 use Rattle.dsp_console.proofs.console.Console.give.Goals as goal
 
@@ -7,7 +8,7 @@ returns-in-Some-clause-out g c s k =
     let old = c.args.self.now in
     let i = c.from-i.result in
     let number : i ≡ c.args.member = c.from-i.ensures in
-    let within : i < 64 = omega arith in
+    let within : i < INSTANCES = omega arith in
     let full : slice_index_or old.instances.items i None ≡ Some c.in-Some.instance = item_at old.instances.items i c.index.result.now None old.numbered within c.index.ensures ∙ c.in-Some.is in
     let ext : slice_index_or old.external.items i [] ≡ c.index_mut.result.now = item_at old.external.items i c.index_mut.result.now [] old.in_external within c.index_mut.ensures.value in
     let sar : slice_index_or old.saram.items i [] ≡ c.index_mut-in-Some.result.now = item_at old.saram.items i c.index_mut-in-Some.result.now [] old.in_saram within c.index_mut-in-Some.ensures.value in
@@ -19,7 +20,7 @@ returns-in-Some-clause-after g c s k =
     let old = c.args.self.now in
     let i = c.from-i.result in
     let number : i ≡ c.args.member = c.from-i.ensures in
-    let within : i < 64 = omega arith in
+    let within : i < INSTANCES = omega arith in
     let full : slice_index_or old.instances.items i None ≡ Some c.in-Some.instance = item_at old.instances.items i c.index.result.now None old.numbered within c.index.ensures ∙ c.in-Some.is in
     let ext : slice_index_or old.external.items i [] ≡ c.index_mut.result.now = item_at old.external.items i c.index_mut.result.now [] old.in_external within c.index_mut.ensures.value in
     let sar : slice_index_or old.saram.items i [] ≡ c.index_mut-in-Some.result.now = item_at old.saram.items i c.index_mut-in-Some.result.now [] old.in_saram within c.index_mut-in-Some.ensures.value in
