@@ -1,33 +1,33 @@
 // A trace over heaps of several sizes. Each line is a step, and for each it prints the block's place, the free words and the words that
-// were moved. The stored answers are those of a model that was written apart from this code, in another language.
+// were moved. The line ends in `differs` where the heap's earlier body shows other numbers. The stored answers are those of a model
+// that was written apart from this code, in another language.
 #![tactic(auto)]
 
 mod desk;
 mod step;
+mod vector_heap;
 
-use desk::Desk;
+use desk::{Both, Desk};
 use std::io;
 use step::{Step, parse};
 
-fn print(rt: &impl Print, desk: &Option<Desk>, place: Option<u32>) -> io::Result<()> {
-    let Some(desk) = desk else {
+fn print(rt: &impl Print, seen: Option<Both>) -> io::Result<()> {
+    let Some(Both { heap, vector }) = seen else {
         return println!(rt; "no heap");
     };
-    match place {
-        Some(place) => println!(rt; "{place} {} {}", desk.free(), desk.slid()),
-        None => println!(rt; "- {} {}", desk.free(), desk.slid()),
+    let note = if heap == vector { "" } else { " differs" };
+    match heap.place {
+        Some(place) => println!(rt; "{place} {} {}{note}", heap.free, heap.slid),
+        None => println!(rt; "- {} {}{note}", heap.free, heap.slid),
     }
 }
 
-// The place of the block that the step takes or lowers.
-fn act(desk: &mut Desk, step: Step) -> Option<u32> {
+// The step over an open heap.
+fn act(desk: &mut Desk, step: Step) -> Both {
     match step {
-        Step::New(_words) => None,
+        Step::New(_words) => desk.seen(),
         Step::Take(words, align) => desk.take(words, align),
-        Step::Give(block) => {
-            desk.give(block as usize);
-            None
-        }
+        Step::Give(block) => desk.give(block as usize),
         Step::Lower(block, align) => desk.lower(block as usize, align),
     }
 }
@@ -49,14 +49,15 @@ fn main(rt: HostRuntime) -> io::Result<()> {
     let mut desk = None;
     let mut outcome = Ok(());
     for step in &steps {
-        let mut place = None;
         if let Step::New(words) = *step {
             close(desk);
             desk = Desk::open(rt.alloc(), words);
-        } else if let Some(open) = &mut desk {
-            place = act(open, *step);
         }
-        outcome = print(&rt, &desk, place);
+        let seen = match &mut desk {
+            Some(open) => Some(act(open, *step)),
+            None => None,
+        };
+        outcome = print(&rt, seen);
     }
     close(desk);
     outcome

@@ -1,14 +1,13 @@
 -- How many words are free, and how many are taken.
-use Rattle.std.proofs.Common.{◌≡◌, ℕ, zero, suc, ◌+◌, ◌-◌, ◌≤◌, max, Bool, true, false, cond, ◌||◌, not, List, [], ◌∷◌, map, length, refl, ap, sym, ◌∙◌, arith}
-use Rattle.std.specs.Prelude.{sum_by, count_by}
+use Rattle.std.proofs.Common.{◌≡◌, ℕ, zero, suc, ◌+◌, ◌-◌, ◌<◌, ◌≤◌, max, Bool, true, false, cond, ◌||◌, not, List, [], ◌∷◌, map, length, refl, ap, sym, ◌∙◌, arith}
+use Rattle.std.specs.Prelude.{ℤ, Option, is_some, sum_by, count_by}
 use Rattle.std.proofs.lemmas.Bool.{cases_lt}
 use Rattle.std.proofs.lemmas.List.Sums.{sum_by-cons}
-use Rattle.space_raw.specs.Span.{Extent, Span}
 use Rattle.space_heap.specs.Places.{Range, end_of, covers, is_covered, count_from}
-use Rattle.space_heap.specs.Pictures.{range_of, AreBlocks, free_beside}
-use Rattle.space_heap.specs.Holes.{in_hole, hole_words, hole_marks, hole_end, Chain}
-use Rattle.space_heap.proofs.RangeTests.{either, true_or_false, clash, when_not, is_in, in_range}
-use Rattle.space_heap.proofs.Chains.{to_free, words_from, chain_low}
+use Rattle.space_heap.specs.Pictures.{AreBlocks, free_beside}
+use Rattle.space_heap.specs.Holes.{in_rest, AreParts}
+use Rattle.space_heap.proofs.RangeTests.{either, true_or_false, clash, is_in, in_range}
+use Rattle.space_heap.proofs.Words.{marks}
 use Rattle.space_heap.proofs.PictureLemmas.{uncovered}
 
 -- how many of n numbers pass
@@ -71,18 +70,35 @@ covered_words words (r ∷ rs) blocks =
     let both : Count (is_covered (r ∷ rs)) 0 words ≡ Count (covers r) 0 words + Count (is_covered rs) 0 words = both_count (covers r) (is_covered rs) 0 words (uncovered r rs blocks.1) in
     let more = sum_by-cons (λ (s : Range). s.size) r rs in omega arith
 
-words_in_holes : (g : Extent) (low : ℕ) (holes : List Span) (high words : ℕ) → high ≤ words + 1 → Chain g low holes high → Count (in_hole holes) 0 words ≡ hole_words holes
-words_in_holes g low [] high words le c = none_count 0 words
-words_in_holes g low (h ∷ hs) high words le c =
-    let end : hole_end h + 1 ≤ high = chain_low g (hole_end h + 1) hs high c.2 in
-    let rest = words_in_holes g (hole_end h + 1) hs high words le c.2 in let its = whole_range (range_of h) words (omega arith) in
-    let more = sum_by-cons (λ (s : Span). length s.words) h hs in
-    let both : Count (in_hole (h ∷ hs)) 0 words ≡ Count (covers (range_of h)) 0 words + Count (in_hole hs) 0 words = both_count (covers (range_of h)) (in_hole hs) 0 words
-    (λ k has. when_not (in_hole hs k) (λ also. let from : hole_end h + 1 ≤ k = words_from g (hole_end h + 1) hs high c.2 k (to_free hs k also) in let to = (is_in (range_of h) k has).1 in omega arith)) in omega arith
+same_count : (f g : ℕ → Bool) (first n : ℕ) → ((k : ℕ) → k < first + n → f k ≡ g k) → Count f first n ≡ Count g first n
+same_count f g first zero same = no_numbers f first ∙ sym (no_numbers g first)
+same_count f g first (suc n) same =
+    one_more f first n ∙ ap (λ b. cond b 1 0 + Count f (suc first) n) (same first (omega arith))
+    ∙ ap (λ m. cond (g first) 1 0 + m) (same_count f g (suc first) n (λ k lt. same k (omega arith))) ∙ sym (one_more g first n)
 
--- the free marks are as many as the words of the holes
-pub free_marks : (g : Extent) (holes : List Span) → Chain g 0 holes (g.size + 1) → count_by (λ mark. mark) (hole_marks g.size holes) ≡ hole_words holes
-free_marks g holes c = of_marks (in_hole holes) 0 g.size ∙ words_in_holes g 0 holes (g.size + 1) g.size (omega arith) c
+-- how many words are there
+abbrev pub there : List (Option ℤ) → ℕ
+there rest = count_by (λ mark. mark) (map is_some rest)
+
+count_there : (rest : List (Option ℤ)) → there rest ≡ Count (in_rest rest) 0 (length rest)
+count_there rest = ap (λ ms. count_by (λ mark. mark) ms) (marks rest) ∙ of_marks (in_rest rest) 0 (length rest)
+
+pub there_few : (rest : List (Option ℤ)) → there rest ≤ length rest
+there_few rest = let counted = count_there rest in let all = rest_count (in_rest rest) 0 (length rest) in omega arith
+
+pub all_there : (rest : List (Option ℤ)) → ((k : ℕ) → k < length rest → in_rest rest k ≡ true) → there rest ≡ length rest
+all_there rest all =
+    let counted = count_there rest in let same = same_count (in_rest rest) (λ _. true) 0 (length rest) (λ k lt. all k (omega arith)) in
+    let both = rest_count (λ _. true) 0 (length rest) in let none = none_count 0 (length rest) in omega arith
+
+-- a range goes, and as many words as it has
+pub there_less : (whole rest : List (Option ℤ)) (r : Range) → length rest ≡ length whole → end_of r ≤ length whole → AreParts (in_rest whole) r (in_rest rest)
+    → there whole ≡ r.size + there rest
+there_less whole rest r long inside parts =
+    let counted = count_there whole in let left = count_there rest in
+    let same = same_count (in_rest whole) (λ k. covers r k || in_rest rest k) 0 (length whole) (λ k lt. parts.all k) in
+    let both = both_count (covers r) (in_rest rest) 0 (length whole) parts.apart in let its = whole_range r (length whole) inside in
+    let end : Count (in_rest rest) 0 (length rest) ≡ Count (in_rest rest) 0 (length whole) = ap (λ n. Count (in_rest rest) 0 n) long in omega arith
 
 pub free_and_taken : (words : ℕ) (taken : List Range) → AreBlocks words taken → count_by (λ mark. mark) (free_beside words taken) + sum_by (λ r. r.size) taken ≡ words
 free_and_taken words taken blocks =

@@ -1,25 +1,30 @@
--- The first hole in which an aligned block fits holds its least place.
-use Rattle.std.proofs.Common.{◌≡◌, ℕ, zero, suc, ◌+◌, ◌*◌, ◌/◌, ◌%◌, ◌-◌, ◌<◌, ◌≤◌, ◌⊎◌, true, List, [], ◌∷◌, length, get_or, inl, inr, refl, subst, arith}
+-- The first hole in which an aligned block fits holds its least place; and the free range that ends at a place.
+use Rattle.std.proofs.Common.{◌≡◌, ℕ, suc, ◌+◌, ◌*◌, ◌/◌, ◌%◌, ◌-◌, ◌<◌, ◌≤◌, ◌⊎◌, Bool, true, false, List, [], ◌∷◌, ◌++◌, inl, inr, ap, sym, ◌∙◌, arith, Option, None, length}
+use Rattle.std.specs.Prelude.{ℤ}
 use Rattle.std.specs.Int.{next_multiple_of}
 use Rattle.std.proofs.Math.Nat.{mod-le, mod-add-div, mul-le-mul_left, mul-suc}
+use Rattle.std.proofs.lemmas.Nat.{mul-mod}
 use Rattle.std.proofs.lemmas.Bool.{cases_lt}
-use Rattle.space_raw.specs.Span.{Extent, Span}
-use Rattle.space_heap.specs.Holes.{hole_end, in_hole, Chain, IsPlace, IsLeastPlace, HasNoPlace}
-use Rattle.space_heap.proofs.RangeTests.{either}
-use Rattle.space_heap.proofs.Chains.{to_free, from_free, words_from}
-
-pub any_default : {X : Type 0} (xs : List X) (i : ℕ) (d e : X) → i < length xs → get_or xs i d ≡ get_or xs i e
-any_default [] i d e lt = let bad : i < 0 = lt in absurd (omega arith)
-any_default (x ∷ xs) zero d e lt = refl
-any_default (x ∷ xs) (suc i) d e lt = any_default xs i d e (let l : suc i < suc (length xs) = lt in omega arith)
+use Rattle.space_heap.specs.Places.{Range, covers, end_of, is_covered}
+use Rattle.space_heap.specs.Holes.{in_rest, Chain, AreHoles, IsPlace, IsLeastPlace, HasNoPlace, IsFreeFrom, IsFromOn, first_place}
+use Rattle.space_heap.proofs.RangeTests.{either, one_true, left_true, right_true, when_not, or_false, is_in, in_range}
+use Rattle.space_heap.proofs.Chains.{covered_append, words_from, around, none_below, none_above}
 
 -- p is the least multiple of a from x on
 abbrev pub IsNext : ℕ → ℕ → ℕ → Type 0
 IsNext x a p = (x ≤ p) × (p < x + a) × (p % a ≡ 0)
 
 -- n words do not fit into h at a multiple of a
-abbrev pub Misses : Span → ℕ → ℕ → Type 0
-Misses h n a = (p : ℕ) × (IsNext h.place a p × (hole_end h < p + n))
+abbrev pub Misses : Range → ℕ → ℕ → Type 0
+Misses h n a = (p : ℕ) × (IsNext h.place a p × (end_of h < p + n))
+
+abbrev pub AllMiss : List Range → ℕ → ℕ → Type 0
+AllMiss [] n a = Unit {0}
+AllMiss (h ∷ hs) n a = Misses h n a × AllMiss hs n a
+
+pub one_more_misses : (hs : List Range) (h : Range) (n a : ℕ) → AllMiss hs n a → Misses h n a → AllMiss (hs ++ h ∷ []) n a
+one_more_misses [] h n a all misses = (misses, tt)
+one_more_misses (x ∷ xs) h n a all misses = (all.0, one_more_misses xs h n a all.1 misses)
 
 pub next_least : (x a p q : ℕ) → IsNext x a p → x ≤ q → q % a ≡ 0 → p ≤ q
 next_least x a p q next le whole =
@@ -29,73 +34,112 @@ next_least x a p q next le whole =
     let far = next.1 in let flat = next.2 in absurd (omega (arith)))
     (λ ge. let below : a * j ≤ a * k = mul-le-mul_left a ge in let flat = next.2 in omega arith)
 
-abbrev AreFree : List Span → ℕ → ℕ → Type 0
-AreFree hs n q = (k : ℕ) → q ≤ k → k < q + n → in_hole hs k ≡ true
+abbrev AreFree : List Range → ℕ → ℕ → Type 0
+AreFree hs n q = (k : ℕ) → q ≤ k → k < q + n → is_covered hs k ≡ true
 
-abbrev Within : Span → ℕ → ℕ → Type 0
-Within h n q = (h.place ≤ q) × (q + n ≤ hole_end h)
+abbrev Within : Range → ℕ → ℕ → Type 0
+Within h n q = (h.place ≤ q) × (q + n ≤ end_of h)
 
-module _ (g : Extent) (high : ℕ) where
+module _ (size high : ℕ) where
   -- free words side by side are in the first hole, or all in the others
-  inside : (low : ℕ) (h : Span) (hs : List Span) (n q : ℕ) → Chain g low (h ∷ hs) high → 0 < n → AreFree (h ∷ hs) n q → Within h n q ⊎ ((hole_end h < q) × AreFree hs n q)
+  inside : (low : ℕ) (h : Range) (hs : List Range) (n q : ℕ) → Chain size low (h ∷ hs) high → 0 < n → AreFree (h ∷ hs) n q → Within h n q ⊎ ((end_of h < q) × AreFree hs n q)
   inside low h hs n q c some free =
       let first : q < q + n = omega arith in let start : q ≤ q = omega arith in
-      either (to_free (h ∷ hs) q (free q start first))
-      (λ has. either (cases_lt (hole_end h) (q + n))
-      (λ over. let reach : q ≤ hole_end h = let to = has.1 in omega arith in
-      either (to_free (h ∷ hs) (hole_end h) (free (hole_end h) reach over))
-      (λ bad. let to = bad.1 in absurd (omega arith))
-      (λ rest. let past : hole_end h + 1 ≤ hole_end h = words_from g (hole_end h + 1) hs high c.2 (hole_end h) rest in absurd (omega arith)))
-      (λ fits. inl (has.0, fits)))
-      (λ rest. let past : hole_end h + 1 ≤ q = words_from g (hole_end h + 1) hs high c.2 q rest in
-      inr (omega arith, λ k from to. either (to_free (h ∷ hs) k (free k from to)) (λ has. let last = has.1 in absurd (omega arith)) (λ in_rest. from_free hs k in_rest)))
+      either (one_true (covers h q) (is_covered hs q) (free q start first))
+      (λ has. let at = is_in h q has in let from = at.0 in let to = at.1 in
+      either (cases_lt (end_of h) (q + n))
+      (λ over. let reach : q ≤ end_of h = omega arith in
+      either (one_true (covers h (end_of h)) (is_covered hs (end_of h)) (free (end_of h) reach over))
+      (λ bad. let end = (is_in h (end_of h) bad).1 in absurd (omega arith))
+      (λ rest. let past : end_of h + 1 ≤ end_of h = words_from size (end_of h + 1) hs high c.2 (end_of h) rest in absurd (omega arith)))
+      (λ fits. inl (from, fits)))
+      (λ rest. let past : end_of h + 1 ≤ q = words_from size (end_of h + 1) hs high c.2 q rest in
+      inr (omega arith, λ k from to. either (one_true (covers h k) (is_covered hs k) (free k from to)) (λ has. let last = (is_in h k has).1 in absurd (omega arith)) (λ others. others)))
 
-  not_in : (h : Span) (n a q : ℕ) → Misses h n a → q % a ≡ 0 → Within h n q → ⊥
+  not_in : (h : Range) (n a q : ℕ) → Misses h n a → q % a ≡ 0 → Within h n q → ⊥
   not_in h n a q misses whole within =
       let p = misses.0 in let least : p ≤ q = next_least h.place a p q misses.1.0 within.0 whole in let over = misses.1.1 in let ends = within.1 in omega arith
 
-  pub none_fits : (low : ℕ) (hs : List Span) (n a : ℕ) → Chain g low hs high → 0 < n → ((k : ℕ) (d : Span) → k < length hs → Misses (get_or hs k d) n a) → HasNoPlace hs n a
-  none_fits low [] n a c some misses q place = let first : q < q + n = omega arith in let start : q ≤ q = omega arith in to_free [] q (place.1 q start first)
+  pub none_fits : (low : ℕ) (hs : List Range) (n a : ℕ) → Chain size low hs high → 0 < n → AllMiss hs n a → HasNoPlace (is_covered hs) n a
+  none_fits low [] n a c some misses q place = let first : q < q + n = omega arith in let start : q ≤ q = omega arith in let bad : false ≡ true = place.1 q start first in cc
   none_fits low (h ∷ hs) n a c some misses q place =
-      let zeroth : 0 < suc (length hs) = omega arith in
       either (inside low h hs n q c some place.1)
-      (λ within. not_in h n a q (misses 0 h zeroth) place.0 within)
-      (λ rest. none_fits (hole_end h + 1) hs n a c.2 some (λ k d lt. let next : suc k < suc (length hs) = omega arith in misses (suc k) d next) q (place.0, rest.1))
+      (λ within. not_in h n a q misses.0 place.0 within)
+      (λ rest. none_fits (end_of h + 1) hs n a c.2 some misses.1 q (place.0, rest.1))
 
-  abbrev Least : List Span → ℕ → ℕ → ℕ → Type 0
-  Least hs n a p = IsPlace hs n a p × ((q : ℕ) → IsPlace hs n a q → p ≤ q)
+  abbrev Least : List Range → ℕ → ℕ → ℕ → Type 0
+  Least hs n a p = IsPlace (is_covered hs) n a p × ((q : ℕ) → IsPlace (is_covered hs) n a q → p ≤ q)
 
-  first_least : (low : ℕ) (hs : List Span) (i : ℕ) (d : Span) (n a p : ℕ) → Chain g low hs high → 0 < n → i < length hs → ((k : ℕ) (d : Span) → k < i → Misses (get_or hs k d) n a)
-      → IsNext (get_or hs i d).place a p → p + n ≤ hole_end (get_or hs i d) → Least hs n a p
-  first_least low [] i d n a p c some lt misses next fits = let bad : i < 0 = lt in absurd (omega arith)
-  first_least low (h ∷ hs) zero d n a p c some lt misses next fits =
+  pub first_fits : (low : ℕ) (hs : List Range) (h : Range) (others : List Range) (n a p : ℕ) → Chain size low (hs ++ h ∷ others) high → 0 < n → AllMiss hs n a
+      → IsNext h.place a p → p + n ≤ end_of h → Least (hs ++ h ∷ others) n a p
+  first_fits low [] h others n a p c some misses next fits =
       let from = next.0 in (
-        (next.2, λ k low high. from_free (h ∷ hs) k (inl (omega arith, omega arith))),
-        λ q place. either (inside low h hs n q c some place.1)
+        (next.2, λ k low high. left_true (covers h k) (is_covered others k) (in_range h k (omega arith) (omega arith))),
+        λ q place. either (inside low h others n q c some place.1)
             (λ within. next_least h.place a p q next within.0 place.0)
             (λ rest. let past = rest.0 in omega arith),
       )
-  first_least low (h ∷ hs) (suc i) d n a p c some lt misses next fits =
-      let shorter : i < length hs = let l : suc i < suc (length hs) = lt in omega arith in let zeroth : 0 < suc i = omega arith in
-      let rest = first_least (hole_end h + 1) hs i d n a p c.2 some shorter (λ k e le. let more : suc k < suc i = omega arith in misses (suc k) e more) next fits in (
-        (rest.0.0, λ k from to. from_free (h ∷ hs) k (inr (to_free hs k (rest.0.1 k from to)))),
-        λ q place. either (inside low h hs n q c some place.1)
-            (λ within. absurd (not_in h n a q (misses 0 h zeroth) place.0 within))
+  first_fits low (x ∷ xs) h others n a p c some misses next fits =
+      let hs = xs ++ h ∷ others in let rest = first_fits (end_of x + 1) xs h others n a p c.2 some misses.1 next fits in (
+        (rest.0.0, λ k from to. right_true (covers x k) (is_covered hs k) (rest.0.1 k from to)),
+        λ q place. either (inside low x hs n q c some place.1)
+            (λ within. absurd (not_in x n a q misses.0 place.0 within))
             (λ others. rest.1 q (place.0, others.1)),
       )
 
-  pub first_fits : (low : ℕ) (hs : List Span) (i : ℕ) (d : Span) (n a p : ℕ) → Chain g low hs high → 0 < n → i < length hs → ((k : ℕ) (d : Span) → k < i → Misses (get_or hs k d) n a)
-      → IsNext (get_or hs i d).place a p → p + n ≤ hole_end (get_or hs i d) → IsLeastPlace hs n a i p
-  first_fits low hs i d n a p c some lt misses next fits =
-      let least = first_least low hs i d n a p c some lt misses next fits in record {
-        place = least.0;
-        least = least.1;
-        hole = lt;
-        within = λ e. subst (λ (s : Span). (s.place ≤ p) × (p + n ≤ hole_end s)) (any_default hs i d e lt) (next.0, fits);
-      }
+-- what holds of one test of words holds of another that agrees with it
+module _ (f g : ℕ → Bool) (same : (k : ℕ) → f k ≡ g k) (n a : ℕ) where
+  place_too : (p : ℕ) → IsPlace f n a p → IsPlace g n a p
+  place_too p place = (place.0, λ k from to. sym (same k) ∙ place.1 k from to)
+
+pub no_place : (f g : ℕ → Bool) (n a : ℕ) → ((k : ℕ) → f k ≡ g k) → HasNoPlace g n a → HasNoPlace f n a
+no_place f g n a same none q place = none q (place_too f g same n a q place)
+
+pub least_place : (f g : ℕ → Bool) (n a p : ℕ) → ((k : ℕ) → f k ≡ g k) → IsPlace g n a p → ((q : ℕ) → IsPlace g n a q → p ≤ q) → IsLeastPlace f n a p
+least_place f g n a p same place least = record {
+  place = place_too g f (λ k. sym (same k)) n a p place;
+  least = λ q its. least q (place_too f g same n a q its);
+}
 
 pub next_small : (x a : ℕ) → next_multiple_of x a ≤ x + a
 next_small x a = let le = mod-le (a - x % a) a in omega arith
 
-pub one_more : (i k : ℕ) (P : ℕ → Type 0) → k < i + 1 → (k < i → P k) → P i → P k
-one_more i k P lt before at = either (cases_lt k i) before (λ ge. let same : i ≡ k = omega arith in subst P same at)
+-- a multiple of an alignment is a multiple of the unit
+pub unit_multiple : (p a : ℕ) → p % a ≡ 0 → a % 4 ≡ 0 → p % 4 ≡ 0
+unit_multiple p a multiple unit =
+    let is : p ≡ a * (p / a) = (let all = mod-add-div p a in omega arith) in
+    ap (λ n. n % 4) is ∙ mul-mod a (p / a) 4 ∙ ap (λ r. (r * (p / a % 4)) % 4) unit ∙ ap (λ n. n % 4) (let none : 0 * (p / a % 4) ≡ 0 = omega arith in none)
+
+pub not_lower : (x a : ℕ) → x ≤ next_multiple_of x a
+not_lower x a = omega arith
+
+-- no hole from `next` on begins before the place
+pub chain_from : (size low : ℕ) (hs : List Range) (high place : ℕ) → Chain size low hs high → place ≤ high → IsFromOn place (first_place hs None) → Chain size place hs high
+chain_from size low [] high place c le from = le
+chain_from size low (h ∷ hs) high place c le from = (c.0, from, c.2)
+
+module _ (words : List (Option ℤ)) (first : Option ℕ) (left right : List Range) (holes : AreHoles words first (left ++ right)) (place : ℕ) where
+  -- no hole reaches the place, so nothing is free directly before it
+  pub nothing_before : Chain (length words) 0 left place → Chain (length words) place right (length words + 1) → IsFreeFrom (in_rest words) place place
+  nothing_before before after = record {
+    low = omega arith;
+    free = λ k from to. absurd (omega arith);
+    first = λ k next. holes.all k ∙ covered_append left right k ∙ or_false (is_covered left k) (is_covered right k)
+        (none_above (length words) 0 left place before k (omega arith))
+        (none_below (length words) place right (length words + 1) after k (omega arith));
+  }
+
+-- the hole that ends at the place is the free range before it
+pub hole_before : (words : List (Option ℤ)) (first : Option ℕ) (left : List Range) (h : Range) (right : List Range) → AreHoles words first (left ++ h ∷ right)
+    → IsFreeFrom (in_rest words) (end_of h) h.place
+hole_before words first left h right holes =
+    let size = length words in let parts = around size 0 left h right (size + 1) holes.chain in record {
+      low = omega arith;
+      free = λ k from to. holes.all k ∙ covered_append left (h ∷ right) k
+          ∙ right_true (is_covered left k) (is_covered (h ∷ right) k) (left_true (covers h k) (is_covered right k) (in_range h k from to));
+      first = λ k next. holes.all k ∙ covered_append left (h ∷ right) k ∙ or_false (is_covered left k) (is_covered (h ∷ right) k)
+          (none_above size 0 left h.place parts.0 k (omega arith))
+          (or_false (covers h k) (is_covered right k)
+          (when_not (covers h k) (λ has. let from = (is_in h k has).0 in omega arith))
+          (none_below size (end_of h + 1) right (size + 1) parts.2 k (omega arith)));
+    }

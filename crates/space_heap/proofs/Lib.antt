@@ -1,9 +1,11 @@
 pub mod RangeTests
+pub mod Words
 pub mod Chains
-pub mod Cuts
-pub mod Joins
-pub mod Gaps
+pub mod Links
 pub mod Finds
+pub mod Ends
+pub mod Mends
+pub mod Returns
 pub mod Counts
 pub mod PictureLemmas
 pub mod PlaceLemmas

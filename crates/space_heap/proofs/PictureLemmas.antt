@@ -1,12 +1,13 @@
 -- What a taken, a given and a moved block do to the blocks and to the free words.
-use Rattle.std.proofs.Common.{◌≡◌, ℕ, zero, suc, ◌+◌, ◌<◌, ◌≤◌, ◌⊎◌, max, Bool, true, false, ◌||◌, not, List, [], ◌∷◌, ◌++◌, map, inl, inr, refl, subst, sym, ◌∙◌, ap, arith}
+use Rattle.std.proofs.Common.{◌≡◌, ℕ, zero, suc, ◌+◌, ◌<◌, ◌≤◌, ◌⊎◌, max, Bool, true, false, ◌||◌, not, List, [], ◌∷◌, ◌++◌, map, length, Option, inl, inr, refl, subst, sym, ◌∙◌, ap, arith}
+use Rattle.std.specs.Prelude.{ℤ, is_some}
 use Rattle.std.specs.List.{list_any}
 use Rattle.std.proofs.lemmas.Bool.{cases_lt}
-use Rattle.space_raw.specs.Span.{Span}
 use Rattle.space_heap.specs.Places.{Range, end_of, covers, is_covered, meets, count_from}
 use Rattle.space_heap.specs.Pictures.{IsBlock, AreBlocks, free_beside}
-use Rattle.space_heap.specs.Holes.{in_hole, hole_marks, AreParts}
+use Rattle.space_heap.specs.Holes.{in_rest, AreParts}
 use Rattle.space_heap.proofs.RangeTests.{either, true_or_false, clash, when_not, both_false, or_false, left_true, false_left, not_false, is_in, in_range, meet_if, if_meet, meet_sym, covered_between}
+use Rattle.space_heap.proofs.Words.{marks}
 
 marks_tell : (f g : ℕ → Bool) (first n : ℕ) → map f (count_from first n) ≡ map g (count_from first n) → (k : ℕ) → first ≤ k → k < first + n → f k ≡ g k
 marks_tell f g first zero e k from to = absurd (omega arith)
@@ -22,15 +23,19 @@ told_marks f g first (suc n) same =
     let head : f first ≡ g first = (let from : first ≤ first = omega arith in let to : first < first + suc n = omega arith in same first from to) in
     let tail : map f (count_from (suc first) n) ≡ map g (count_from (suc first) n) = told_marks f g (suc first) n (λ k from to. same k (omega arith) (omega arith)) in cc
 
--- a word of the space is in a hole exactly where no block covers it
-abbrev pub Agree : ℕ → List Span → List Range → Type 0
-Agree words holes taken = (k : ℕ) → k < words → in_hole holes k ≡ not (is_covered taken k)
+-- a word of the space is free exactly where no block covers it
+abbrev pub Agree : ℕ → (ℕ → Bool) → List Range → Type 0
+Agree words free taken = (k : ℕ) → k < words → free k ≡ not (is_covered taken k)
 
-pub agree : (words : ℕ) (holes : List Span) (taken : List Range) → hole_marks words holes ≡ free_beside words taken → Agree words holes taken
-agree words holes taken e k lt = marks_tell (in_hole holes) (λ j. not (is_covered taken j)) 0 words e k (omega arith) (omega arith)
+pub agree : (words : ℕ) (rest : List (Option ℤ)) (taken : List Range) → length rest ≡ words → map is_some rest ≡ free_beside words taken → Agree words (in_rest rest) taken
+agree words rest taken long e k lt =
+    let marked : map (in_rest rest) (count_from 0 words) ≡ free_beside words taken = ap (λ n. map (in_rest rest) (count_from 0 n)) (sym long) ∙ sym (marks rest) ∙ e in
+    marks_tell (in_rest rest) (λ j. not (is_covered taken j)) 0 words marked k (omega arith) (omega arith)
 
-pub same_marks : (words : ℕ) (holes : List Span) (taken : List Range) → Agree words holes taken → hole_marks words holes ≡ free_beside words taken
-same_marks words holes taken a = told_marks (in_hole holes) (λ j. not (is_covered taken j)) 0 words (λ k from to. a k (omega arith))
+pub same_marks : (words : ℕ) (rest : List (Option ℤ)) (taken : List Range) → length rest ≡ words → Agree words (in_rest rest) taken → map is_some rest ≡ free_beside words taken
+same_marks words rest taken long a =
+    marks rest ∙ ap (λ n. map (in_rest rest) (count_from 0 n)) long
+    ∙ told_marks (in_rest rest) (λ j. not (is_covered taken j)) 0 words (λ k from to. a k (omega arith))
 
 -- a range that meets none of the blocks has no word of one
 pub uncovered : (r : Range) (xs : List Range) → list_any (meets r) xs ≡ false → (k : ℕ) → covers r k ≡ true → is_covered xs k ≡ false
@@ -82,11 +87,11 @@ module _ (words : ℕ) where
     between r k = covered_between xs r ys k
 
     -- a block of free words is taken
-    module _ (old new : List Span) (r : Range) (parts : AreParts old r new) (block : IsBlock words r) (blocks : AreBlocks words (xs ++ ys)) (before : Agree words old (xs ++ ys)) where
+    module _ (old new : ℕ → Bool) (r : Range) (parts : AreParts old r new) (block : IsBlock words r) (blocks : AreBlocks words (xs ++ ys)) (before : Agree words old (xs ++ ys)) where
       free_there : (k : ℕ) → covers r k ≡ true → U k ≡ false
       free_there k has =
           let inside = block.inside in let lt : k < words = (let to = (is_in r k has).1 in omega arith) in
-          not_false (U k) (sym (before k lt) ∙ parts.all k ∙ left_true (covers r k) (in_hole new k) has)
+          not_false (U k) (sym (before k lt) ∙ parts.all k ∙ left_true (covers r k) (new k) has)
 
       pub taken_blocks : AreBlocks words (xs ++ r ∷ ys)
       taken_blocks = block_in xs r ys block (no_meeting words r (xs ++ ys) block.some blocks free_there) blocks
@@ -95,21 +100,21 @@ module _ (words : ℕ) where
       taken_agrees k lt =
           either (true_or_false (covers r k))
           (λ has. parts.apart k has ∙ sym (ap not (between r k ∙ left_true (covers r k) (U k) has)))
-          (λ hasnt. sym (false_left (covers r k) (in_hole new k) hasnt) ∙ sym (parts.all k) ∙ before k lt ∙ sym (ap not (between r k ∙ false_left (covers r k) (U k) hasnt)))
+          (λ hasnt. sym (false_left (covers r k) (new k) hasnt) ∙ sym (parts.all k) ∙ before k lt ∙ sym (ap not (between r k ∙ false_left (covers r k) (U k) hasnt)))
 
     -- a block is given back
-    module _ (old new : List Span) (r : Range) (parts : AreParts new r old) (blocks : AreBlocks words (xs ++ r ∷ ys)) (before : Agree words old (xs ++ r ∷ ys)) where
+    module _ (old new : ℕ → Bool) (r : Range) (parts : AreParts new r old) (blocks : AreBlocks words (xs ++ r ∷ ys)) (before : Agree words old (xs ++ r ∷ ys)) where
       pub given_blocks : AreBlocks words (xs ++ ys)
       given_blocks = (block_out xs r ys blocks).2
 
       pub given_agrees : Agree words new (xs ++ ys)
       given_agrees k lt =
           either (true_or_false (covers r k))
-          (λ has. parts.all k ∙ left_true (covers r k) (in_hole old k) has ∙ sym (ap not (uncovered r (xs ++ ys) (block_out xs r ys blocks).1 k has)))
-          (λ hasnt. parts.all k ∙ false_left (covers r k) (in_hole old k) hasnt ∙ before k lt ∙ ap not (between r k ∙ false_left (covers r k) (U k) hasnt))
+          (λ has. parts.all k ∙ left_true (covers r k) (old k) has ∙ sym (ap not (uncovered r (xs ++ ys) (block_out xs r ys blocks).1 k has)))
+          (λ hasnt. parts.all k ∙ false_left (covers r k) (old k) hasnt ∙ before k lt ∙ ap not (between r k ∙ false_left (covers r k) (U k) hasnt))
 
     -- a block is moved down, and the words that it leaves are free
-    module _ (old rest new : List Span) (gap behind r s : Range) (out : AreParts old gap rest) (back : AreParts new behind rest)
+    module _ (old rest new : ℕ → Bool) (gap behind r s : Range) (out : AreParts old gap rest) (back : AreParts new behind rest)
         (start : gap.place ≡ s.place) (meeting : end_of gap ≡ r.place) (size : s.size ≡ r.size) (next : behind.place ≡ end_of s) (end : end_of behind ≡ end_of r)
         (blocks : AreBlocks words (xs ++ r ∷ ys)) (before : Agree words old (xs ++ r ∷ ys)) (block : IsBlock words s) where
       its_blocks : IsBlock words r × (list_any (meets r) (xs ++ ys) ≡ false) × AreBlocks words (xs ++ ys)
@@ -124,14 +129,14 @@ module _ (words : ℕ) where
 
       no_other : (k : ℕ) → k < words → InRun k → U k ≡ false
       no_other k lt (inl has) =
-          let free : not (is_covered (xs ++ r ∷ ys) k) ≡ true = sym (before k lt) ∙ out.all k ∙ left_true (covers gap k) (in_hole rest k) has in
+          let free : not (is_covered (xs ++ r ∷ ys) k) ≡ true = sym (before k lt) ∙ out.all k ∙ left_true (covers gap k) (rest k) has in
           (both_false (covers r k) (U k) (sym (between r k) ∙ not_false (is_covered (xs ++ r ∷ ys) k) free)).1
       no_other k lt (inr has) = uncovered r (xs ++ ys) its_blocks.1 k has
 
-      not_left : (k : ℕ) → k < words → InRun k → in_hole rest k ≡ false
+      not_left : (k : ℕ) → k < words → InRun k → rest k ≡ false
       not_left k lt (inl has) = out.apart k has
       not_left k lt (inr has) =
-          (both_false (covers gap k) (in_hole rest k) (sym (out.all k) ∙ before k lt ∙ ap not (between r k ∙ left_true (covers r k) (U k) has))).1
+          (both_false (covers gap k) (rest k) (sym (out.all k) ∙ before k lt ∙ ap not (between r k ∙ left_true (covers r k) (U k) has))).1
 
       end_inside : end_of r ≤ words
       end_inside = its_blocks.0.inside
@@ -145,26 +150,26 @@ module _ (words : ℕ) where
           let last : k < end_of r = omega arith in no_other k (in_space k last) (in_run k from last)))
           its_blocks.2
 
-      in_block : (k : ℕ) → k < words → covers s k ≡ true → in_hole new k ≡ not (is_covered (xs ++ s ∷ ys) k)
+      in_block : (k : ℕ) → k < words → covers s k ≡ true → new k ≡ not (is_covered (xs ++ s ∷ ys) k)
       in_block k lt has =
           let both = is_in s k has in let from = both.0 in let to = both.1 in let last : k < end_of r = omega arith in
           let out_of_behind : covers behind k ≡ false = when_not (covers behind k) (λ there. let low = (is_in behind k there).0 in omega arith) in
-          back.all k ∙ or_false (covers behind k) (in_hole rest k) out_of_behind (not_left k lt (in_run k from last)) ∙ sym (ap not (between s k ∙ left_true (covers s k) (U k) has))
+          back.all k ∙ or_false (covers behind k) (rest k) out_of_behind (not_left k lt (in_run k from last)) ∙ sym (ap not (between s k ∙ left_true (covers s k) (U k) has))
 
-      in_behind : (k : ℕ) → k < words → covers s k ≡ false → covers behind k ≡ true → in_hole new k ≡ not (is_covered (xs ++ s ∷ ys) k)
+      in_behind : (k : ℕ) → k < words → covers s k ≡ false → covers behind k ≡ true → new k ≡ not (is_covered (xs ++ s ∷ ys) k)
       in_behind k lt hasnt has =
           let both = is_in behind k has in let from = both.0 in let to = both.1 in let low : s.place ≤ k = omega arith in let last : k < end_of r = omega arith in
-          back.all k ∙ left_true (covers behind k) (in_hole rest k) has ∙ sym (ap not (between s k ∙ or_false (covers s k) (U k) hasnt (no_other k lt (in_run k low last))))
+          back.all k ∙ left_true (covers behind k) (rest k) has ∙ sym (ap not (between s k ∙ or_false (covers s k) (U k) hasnt (no_other k lt (in_run k low last))))
 
-      elsewhere : (k : ℕ) → k < words → covers s k ≡ false → covers behind k ≡ false → in_hole new k ≡ not (is_covered (xs ++ s ∷ ys) k)
+      elsewhere : (k : ℕ) → k < words → covers s k ≡ false → covers behind k ≡ false → new k ≡ not (is_covered (xs ++ s ∷ ys) k)
       elsewhere k lt no_block no_behind =
           let outside : s.place ≤ k → k < end_of r → ⊥ = λ low last. either (cases_lt k (end_of s))
           (λ in_s. clash (covers s k) (in_range s k low in_s) no_block)
           (λ past. clash (covers behind k) (in_range behind k (omega arith) (omega arith)) no_behind) in
           let no_gap : covers gap k ≡ false = when_not (covers gap k) (λ there. let both = is_in gap k there in let low = both.0 in let to = both.1 in outside (omega arith) (omega arith)) in
           let no_old : covers r k ≡ false = when_not (covers r k) (λ there. let both = is_in r k there in let low = both.0 in let to = both.1 in outside (omega arith) to) in
-          back.all k ∙ false_left (covers behind k) (in_hole rest k) no_behind
-          ∙ sym (false_left (covers gap k) (in_hole rest k) no_gap) ∙ sym (out.all k) ∙ before k lt
+          back.all k ∙ false_left (covers behind k) (rest k) no_behind
+          ∙ sym (false_left (covers gap k) (rest k) no_gap) ∙ sym (out.all k) ∙ before k lt
           ∙ ap not (between r k ∙ false_left (covers r k) (U k) no_old ∙ sym (false_left (covers s k) (U k) no_block) ∙ sym (between s k))
 
       pub moved_agrees : Agree words new (xs ++ s ∷ ys)

@@ -5,12 +5,10 @@ use Rattle.std.proofs.Math.Nat.{mul-le-mul_right, mod-add-div, mul-mod_left}
 use Rattle.std.specs.Prelude.{find, fold, nat_le, if◌then◌else◌}
 use Rattle.std.specs.List.{list_any}
 use Rattle.std.specs.Int.{next_multiple_of}
-use Rattle.space_raw.specs.Span.{Extent, Span}
 use Rattle.space_heap.specs.Places.{Range, end_of, covers, is_covered, meets, is_free, count_from, least_place, free_from, lower_place}
 use Rattle.space_heap.specs.Pictures.{AreBlocks, IsBlock}
-use Rattle.space_heap.specs.Holes.{in_hole, AreHoles, IsLeastPlace as IsLeastInHoles, HasNoPlace as HasNoneInHoles, IsFreeFrom}
+use Rattle.space_heap.specs.Holes.{IsLeastPlace as IsLeastInHoles, HasNoPlace as HasNoneInHoles, IsFreeFrom}
 use Rattle.space_heap.proofs.RangeTests.{either, clash, when_not, both_true, and_true, both_false, one_true, not_false, not_true, is_in, in_range, covered_between}
-use Rattle.space_heap.proofs.Chains.{to_free, words_to}
 use Rattle.space_heap.proofs.PictureLemmas.{Agree, uncovered, no_meeting, block_out}
 
 module _ (test : ℕ → Bool) (align : ℕ) where
@@ -114,20 +112,19 @@ module _ (words : ℕ) (taken : List Range) (size align : ℕ) where
   is_nowhere None none all = refl
   is_nowhere (Some q) is all = clash (free_at q) is.free (subst (λ r. free_at r ≡ false) (sym is.multiple) (all is.k))
 
-  module _ (g : Extent) (of : words ≡ g.size) (holes : List Span) (good : AreHoles g holes) (blocks : AreBlocks words taken) (same : Agree words holes taken) (some : 0 < size) (aligned : 0 < align) where
+  module _ (free : ℕ → Bool) (inside : (k : ℕ) → free k ≡ true → k < words) (blocks : AreBlocks words taken) (same : Agree words free taken) (some : 0 < size) (aligned : 0 < align) where
     abbrev at : ℕ → Range
     at q = record { place = q; size = size }
 
-    free_words : (q : ℕ) → free_at q ≡ true → (k : ℕ) → q ≤ k → k < q + size → in_hole holes k ≡ true
+    free_words : (q : ℕ) → free_at q ≡ true → (k : ℕ) → q ≤ k → k < q + size → free k ≡ true
     free_words q free k from to =
         let both = both_true (nat_le (end_of (at q)) words) (not (list_any (meets (at q)) taken)) free in
         let inside : q + size ≤ words = leb-true (q + size) words both.0 in let lt : k < words = omega arith in
         same k lt ∙ ap not (uncovered (at q) taken (not_false (list_any (meets (at q)) taken) both.1) k (in_range (at q) k from to))
 
-    words_free : (q : ℕ) → ((k : ℕ) → q ≤ k → k < q + size → in_hole holes k ≡ true) → free_at q ≡ true
+    words_free : (q : ℕ) → ((k : ℕ) → q ≤ k → k < q + size → free k ≡ true) → free_at q ≡ true
     words_free q free =
-        let within : (k : ℕ) → q ≤ k → k < q + size → k < words =
-        (λ k from to. let lt : k + 1 < g.size + 1 = words_to g 0 holes (g.size + 1) good.chain k (to_free holes k (free k from to)) in omega arith) in
+        let within : (k : ℕ) → q ≤ k → k < q + size → k < words = (λ k from to. inside k (free k from to)) in
         let last = q + size - 1 in let end : last < words = within last (omega arith) (omega arith) in let inside : q + size ≤ words = omega arith in
         let none : list_any (meets (at q)) taken ≡ false =
         no_meeting words (at q) taken some blocks (λ k has. let both = is_in (at q) k has in not_false (is_covered taken k) (sym (same k (within k both.0 both.1)) ∙ free k both.0 both.1)) in
@@ -140,8 +137,8 @@ module _ (words : ℕ) (taken : List Range) (size align : ℕ) where
     multiple_of k = mul-mod_left k align
 
     -- the least place in the holes is the one among the blocks
-    pub is_least_place : (i p : ℕ) → IsLeastInHoles holes size align i p → Some p ≡ least_place words taken size align
-    is_least_place i p is =
+    pub is_least_place : (p : ℕ) → IsLeastInHoles free size align p → Some p ≡ least_place words taken size align
+    is_least_place p is =
         is_found (least_place words taken size align) p (place_is_least some aligned) (record {
           k = p / align;
           multiple = times p is.place.0;
@@ -149,7 +146,7 @@ module _ (words : ℕ) (taken : List Range) (size align : ℕ) where
           least = λ j lt. when_not (free_at (j * align)) (λ free. let le : p ≤ j * align = is.least (j * align) (multiple_of j, free_words (j * align) free) in omega arith);
         })
 
-    pub is_no_place : HasNoneInHoles holes size align → None ≡ least_place words taken size align
+    pub is_no_place : HasNoneInHoles free size align → None ≡ least_place words taken size align
     is_no_place none =
         is_nowhere (least_place words taken size align) (place_is_least some aligned) (λ k. when_not (free_at (k * align)) (λ free. none (k * align) (multiple_of k, free_words (k * align) free)))
 
@@ -198,8 +195,8 @@ reaches_to place k start (r ∷ rs) has hasnt le =
     let e = reaches place start r (omega arith) in let rest = grows place (further place start r) rs in omega arith)
     (λ there. reaches_to place k (further place start r) rs there both.1 le)
 
-module _ (words : ℕ) (before after : List Range) (r : Range) (holes : List Span) (start : ℕ)
-    (blocks : AreBlocks words (before ++ r ∷ after)) (same : Agree words holes (before ++ r ∷ after)) (is : IsFreeFrom holes r.place start) where
+module _ (words : ℕ) (before after : List Range) (r : Range) (free : ℕ → Bool) (start : ℕ)
+    (blocks : AreBlocks words (before ++ r ∷ after)) (same : Agree words free (before ++ r ∷ after)) (is : IsFreeFrom free r.place start) where
   abbrev others : List Range
   others = before ++ after
 

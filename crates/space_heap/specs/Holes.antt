@@ -1,86 +1,181 @@
--- The holes of a heap: its free words as pieces in place order, no two of which touch. No public contract speaks of them.
-use Rattle.std.specs.Prelude.{◌≡◌, ℕ, ◌+◌, ◌%◌, ◌<◌, ◌≤◌, Bool, true, false, ◌||◌, slice_index_or, List, [], ◌∷◌, ◌++◌, map, length, min, sum_by, take, drop, Option, MatchOption}
-use Rattle.std.specs.Option.{option_to_list}
-use Rattle.std.specs.List.{list_any}
-use Rattle.space_raw.specs.Span.{Extent, Span, Adjoins}
+-- The holes of a heap: its free words as ranges in place order, no two of which touch. Each says in its own first two words how long it
+-- is and where the next one begins. No public contract speaks of them.
+use Rattle.std.specs.Prelude.{◌≡◌, ℕ, zero, suc, ◌+◌, ◌-◌, ◌/◌, ◌%◌, ◌<◌, ◌≤◌, ◌⊎◌, Bool, true, false, ◌||◌, ℤ, pos, negsuc, List, [], ◌∷◌, ◌++◌, map, length, count_by, Option, Some, None, is_some, MatchOption, nat_lt, if◌then◌else◌}
 use Rattle.mem_rec.specs.declared.TheConstants.{LEAST_ALIGNMENT}
-use Rattle.space_heap.specs.Places.{Range, covers, numbers_below}
-use Rattle.space_heap.specs.Pictures.{range_of, IsSpaceSize}
+use Rattle.space_raw.specs.Span.{Extent, Scattered}
+use Rattle.space_heap.specs.declared.limits.TheConstants.{SPACE_WORDS}
+use Rattle.space_heap.specs.declared.hole.Hole.{Hole}
+use Rattle.space_heap.specs.declared.find.Found.{Found}
+use Rattle.space_heap.specs.declared.find.Fit.{Fit}
+use Rattle.space_heap.specs.declared.holes.Front.{Front}
+use Rattle.space_heap.specs.declared.holes.Back.{Back}
+use Rattle.space_heap.specs.Places.{Range, covers, end_of, is_covered}
+use Rattle.space_heap.specs.Pictures.{IsBlock, IsSpaceSize}
 
-abbrev pub hole_end : Span → ℕ
-hole_end h = h.place + length h.words
+-- the word at place k, if no piece has it
+abbrev pub word_at : List (Option ℤ) → ℕ → Option ℤ
+word_at [] k = None
+word_at (w ∷ ws) zero = w
+word_at (w ∷ ws) (suc k) = word_at ws k
 
--- whether word k is in a hole
-abbrev pub in_hole : List Span → ℕ → Bool
-in_hole holes k = list_any (λ h. covers (range_of h) k) holes
+-- whether word k is free
+abbrev pub in_rest : List (Option ℤ) → ℕ → Bool
+in_rest words k = is_some (word_at words k)
 
--- the same for each word of a space
-abbrev pub hole_marks : ℕ → List Span → List Bool
-hole_marks words holes = map (in_hole holes) (numbers_below words)
+abbrev pub hole_end : Hole → ℕ
+hole_end h = h.place + h.len
 
-abbrev pub hole_words : List Span → ℕ
-hole_words holes = sum_by (λ h. length h.words) holes
+abbrev pub hole_range : Hole → Range
+hole_range h = record { place = h.place; size = h.len }
 
--- a hole of the region. It has words, unless the region has none
-pub record IsHole (region : Extent) (h : Span) : Type 0 where
-  pub home : h.region ≡ region
-  pub place : h.place % LEAST_ALIGNMENT ≡ 0
-  pub size : length h.words % LEAST_ALIGNMENT ≡ 0
-  pub some : min region.size LEAST_ALIGNMENT ≤ length h.words
+-- what stands for a place, and for none
+abbrev pub link : Option ℕ → ℤ
+link None = negsuc 0
+link (Some place) = pos (place / LEAST_ALIGNMENT)
 
--- holes in place order, the first from low on, each behind the word that follows the one before, and that word below high
-abbrev pub Chain : Extent → ℕ → List Span → ℕ → Type 0
-Chain region low [] high = low ≤ high
-Chain region low (h ∷ hs) high = IsHole region h × (low ≤ h.place) × Chain region (hole_end h + 1) hs high
+-- a place at which a hole can begin
+abbrev pub IsHolePlace : ℕ → Type 0
+IsHolePlace place = (place % LEAST_ALIGNMENT ≡ 0) × (place < SPACE_WORDS)
 
--- a heap's holes. A region without words has one hole without words
-pub record AreHoles (region : Extent) (holes : List Span) : Type 0 where
-  pub size : IsSpaceSize region.size
-  pub chain : Chain region 0 holes (region.size + 1)
-  pub empty : region.size ≡ 0 → 0 < length holes
+abbrev pub IsLink : Option ℕ → Type 0
+IsLink next = MatchOption next (Unit {0}) IsHolePlace
 
--- the hole is what lies before a block, the block, and what lies behind it
-pub record IsCut (hole : Span) (before : Option Span) (block : Span) (behind : Option Span) : Type 0 where
-  pub home : block.region ≡ hole.region
-  pub front : MatchOption before (block.place ≡ hole.place) (λ b. (b.region ≡ hole.region) × (b.place ≡ hole.place) × (hole_end b ≡ block.place) × (0 < length b.words))
-  pub back : MatchOption behind (hole_end block ≡ hole_end hole) (λ b. (b.region ≡ hole.region) × (b.place ≡ hole_end block) × (hole_end b ≡ hole_end hole) × (0 < length b.words))
+-- a hole that can be written
+pub record IsHole (h : Hole) : Type 0 where
+  pub block : IsBlock SPACE_WORDS (hole_range h)
+  pub next : IsLink h.next
 
--- the hole that ends where the piece begins and the one that begins where it ends were taken out, if there are such, and it has
--- its place between the others
-pub record AreNeighbours (old : List Span) (piece : Span) (at : ℕ) (before behind : Option Span) (others : List Span) : Type 0 where
-  pub index : at ≤ length others
-  pub items : old ≡ take at others ++ (option_to_list before ++ (option_to_list behind ++ drop at others))
-  pub front : MatchOption before (Chain piece.region 0 (take at others) piece.place) (λ b. Adjoins b piece × (0 < length b.words))
-  pub back : MatchOption behind (Chain piece.region (hole_end piece + 1) (drop at others) (piece.region.size + 1)) (λ b. Adjoins piece b × (0 < length b.words))
+-- it stands in its first two words: its length, and the place of the next one
+pub record IsWritten (words : List (Option ℤ)) (h : Hole) : Type 0 where
+  pub len : word_at words h.place ≡ Some (pos (h.len / LEAST_ALIGNMENT))
+  pub next : word_at words (h.place + 1) ≡ Some (link h.next)
 
--- a range and the rest make up the whole, and have no word in common
-pub record AreParts (whole : List Span) (r : Range) (rest : List Span) : Type 0 where
-  pub all : (k : ℕ) → in_hole whole k ≡ (covers r k || in_hole rest k)
-  pub apart : (k : ℕ) → covers r k ≡ true → in_hole rest k ≡ false
+-- all words but the n from p on are what they were
+abbrev pub IsSameBut : List (Option ℤ) → ℕ → ℕ → List (Option ℤ) → Type 0
+IsSameBut old p n new = (k : ℕ) → (k < p) ⊎ (p + n ≤ k) → word_at new k ≡ word_at old k
+
+-- only the n words from p on are written
+pub record Rewrites (old : List (Option ℤ)) (p n : ℕ) (new : List (Option ℤ)) : Type 0 where
+  pub long : length new ≡ length old
+  pub there : (k : ℕ) → in_rest new k ≡ in_rest old k
+  pub others : IsSameBut old p n new
+
+-- where the first of the holes begins. Behind them stands `behind`
+abbrev pub first_place : List Range → Option ℕ → Option ℕ
+first_place [] behind = behind
+first_place (h ∷ hs) behind = Some h.place
+
+-- where the last of them begins. Before them stands `before`
+abbrev pub last_place : Option ℕ → List Range → Option ℕ
+last_place before [] = before
+last_place before (h ∷ hs) = last_place (Some h.place) hs
+
+-- each of the holes leads to the next one, and the last to `behind`
+abbrev pub AreWritten : List (Option ℤ) → List Range → Option ℕ → Type 0
+AreWritten words [] behind = Unit {0}
+AreWritten words (h ∷ hs) behind = IsWritten words (record { place = h.place; len = h.size; next = first_place hs behind }) × AreWritten words hs behind
+
+-- ranges of a space in place order, the first from low on, each behind the word that follows the one before, and that word below high
+abbrev pub Chain : ℕ → ℕ → List Range → ℕ → Type 0
+Chain size low [] high = low ≤ high
+Chain size low (h ∷ hs) high = IsBlock size h × (low ≤ h.place) × Chain size (end_of h + 1) hs high
+
+-- these are the holes, and the first of them is at `first`
+pub record AreHoles (words : List (Option ℤ)) (first : Option ℕ) (holes : List Range) : Type 0 where
+  pub size : IsSpaceSize (length words)
+  pub chain : Chain (length words) 0 holes (length words + 1)
+  pub all : (k : ℕ) → in_rest words k ≡ is_covered holes k
+  pub start : first ≡ first_place holes None
+  pub written : AreWritten words holes None
+
+abbrev pub HasHoles : List (Option ℤ) → Option ℕ → Type 0
+HasHoles words first = (holes : List Range) × AreHoles words first holes
+
+-- what a heap keeps of its fields
+pub record IsHeap (region : Extent) (rest : Scattered) (size : ℕ) (first : Option ℕ) (free : ℕ) : Type 0 where
+  pub home : rest.region ≡ region
+  pub same_size : size ≡ region.size
+  pub long : length rest.slots ≡ region.size
+  pub holes : HasHoles rest.slots first
+  pub counted : free ≡ count_by (λ mark. mark) (map is_some rest.slots)
+
+-- it is one of the holes
+pub record IsFound (words : List (Option ℤ)) (first : Option ℕ) (found : Found) : Type 0 where
+  pub left : List Range
+  pub right : List Range
+  pub holes : AreHoles words first (left ++ hole_range found.hole ∷ right)
+  pub before : found.before ≡ last_place None left
+  pub next : found.hole.next ≡ first_place right None
+
+-- no hole from `next` on begins before the place
+abbrev pub IsFromOn : ℕ → Option ℕ → Type 0
+IsFromOn place next = MatchOption next (Unit {0}) (λ p. place ≤ p)
+
+-- len words from the place on are in a hole that was found
+pub record IsFit (words : List (Option ℤ)) (first : Option ℕ) (len : ℕ) (fit : Fit) : Type 0 where
+  pub found : IsFound words first fit.found
+  pub low : fit.found.hole.place ≤ fit.place
+  pub high : fit.place + len ≤ hole_end fit.found.hole
+  pub unit : fit.place % LEAST_ALIGNMENT ≡ 0
+
+-- the words from one place up to another as a hole, if there are some
+abbrev pub between : ℕ → ℕ → List Range
+between from to = if nat_lt from to then record { place = from; size = to - from } ∷ [] else []
+
+-- where the hole at `before` leads to, or without it the heap, is now `next`
+abbrev pub IsRelinked : List (Option ℤ) → Option ℕ → Option ℕ → Option ℕ → List (Option ℤ) → Option ℕ → Type 0
+IsRelinked old old_first before next new new_first = MatchOption before ((new ≡ old) × (new_first ≡ next))
+    (λ p. Rewrites old (p + 1) 1 new × (word_at new (p + 1) ≡ Some (link next)) × (new_first ≡ old_first))
+
+-- the free words before a block with those of a hole that ends at its place begin at `from`, and behind `before` and before `next`
+pub record IsFront (words : List (Option ℤ)) (first : Option ℕ) (place : ℕ) (front : Front) : Type 0 where
+  pub left : List Range
+  pub mid : List Range
+  pub right : List Range
+  pub holes : AreHoles words first (left ++ (mid ++ right))
+  pub before : front.before ≡ last_place None left
+  pub next : front.next ≡ first_place right None
+  pub chain : Chain (length words) 0 left front.from
+  pub low : front.from ≤ place
+  pub unit : front.from % LEAST_ALIGNMENT ≡ 0
+  pub behind : IsFromOn place front.next
+  pub all : (k : ℕ) → covers (record { place = front.from; size = place - front.from }) k ≡ is_covered mid k
+
+-- `next` leads to the holes that are `right`
+abbrev pub LeadsTo : List (Option ℤ) → Option ℕ → List Range → Type 0
+LeadsTo words next right = (first : Option ℕ) × (left : List Range) × AreHoles words first (left ++ right) × (next ≡ first_place right None)
+
+-- the free words behind a block with those of a hole that begins at its end, the first of `right`, end at `to`, and before `behind`
+pub record IsBack (words : List (Option ℤ)) (right : List Range) (end : ℕ) (back : Back) : Type 0 where
+  pub mid : List Range
+  pub others : List Range
+  pub holes : right ≡ mid ++ others
+  pub behind : back.behind ≡ first_place others None
+  pub chain : Chain (length words) (back.to + 1) others (length words + 1)
+  pub high : end ≤ back.to
+  pub inside : back.to ≤ length words
+  pub unit : back.to % LEAST_ALIGNMENT ≡ 0
+  pub all : (k : ℕ) → covers (record { place = end; size = back.to - end }) k ≡ is_covered mid k
+
+-- the range and the free words afterwards make up those before, and have no word in common
+pub record AreParts (whole : ℕ → Bool) (r : Range) (rest : ℕ → Bool) : Type 0 where
+  pub all : (k : ℕ) → whole k ≡ (covers r k || rest k)
+  pub apart : (k : ℕ) → covers r k ≡ true → rest k ≡ false
 
 -- n words are free from p on, a multiple of a
-abbrev pub IsPlace : List Span → ℕ → ℕ → ℕ → Type 0
-IsPlace holes n a p = (p % a ≡ 0) × ((k : ℕ) → p ≤ k → k < p + n → in_hole holes k ≡ true)
+abbrev pub IsPlace : (ℕ → Bool) → ℕ → ℕ → ℕ → Type 0
+IsPlace free n a p = (p % a ≡ 0) × ((k : ℕ) → p ≤ k → k < p + n → free k ≡ true)
 
--- p is the least such place, and the words are in the i-th hole
-pub record IsLeastPlace (holes : List Span) (n a i p : ℕ) : Type 0 where
-  pub place : IsPlace holes n a p
-  pub least : (q : ℕ) → IsPlace holes n a q → p ≤ q
-  pub hole : i < length holes
-  pub within : (d : Span) → ((slice_index_or holes i d).place ≤ p) × (p + n ≤ hole_end (slice_index_or holes i d))
+-- p is the least such place
+pub record IsLeastPlace (free : ℕ → Bool) (n a p : ℕ) : Type 0 where
+  pub place : IsPlace free n a p
+  pub least : (q : ℕ) → IsPlace free n a q → p ≤ q
 
-abbrev pub HasNoPlace : List Span → ℕ → ℕ → Type 0
-HasNoPlace holes n a = (q : ℕ) → IsPlace holes n a q → ⊥
+abbrev pub HasNoPlace : (ℕ → Bool) → ℕ → ℕ → Type 0
+HasNoPlace free n a = (q : ℕ) → IsPlace free n a q → ⊥
 
 -- the free range that ends at the place begins at start. It may be empty
-pub record IsFreeFrom (holes : List Span) (place start : ℕ) : Type 0 where
+pub record IsFreeFrom (is_free : ℕ → Bool) (place start : ℕ) : Type 0 where
   pub low : start ≤ place
-  pub free : (k : ℕ) → start ≤ k → k < place → in_hole holes k ≡ true
-  pub first : (k : ℕ) → k + 1 ≡ start → in_hole holes k ≡ false
-
--- the words from p to q are some, and are the last of the i-th hole
-pub record IsGap (holes : List Span) (i p q : ℕ) : Type 0 where
-  pub some : p < q
-  pub unit : p % LEAST_ALIGNMENT ≡ 0
-  pub hole : i < length holes
-  pub within : (d : Span) → ((slice_index_or holes i d).place ≤ p) × (q ≡ hole_end (slice_index_or holes i d))
+  pub free : (k : ℕ) → start ≤ k → k < place → is_free k ≡ true
+  pub first : (k : ℕ) → k + 1 ≡ start → is_free k ≡ false

@@ -1,15 +1,18 @@
 // The heap of one space.
 ghost use Rattle.std.specs.Prelude.{◌≡◌, ◌==◌, ◌+◌, ◌/◌, ◌<◌, ◌≤◌, ◌^◌, ◌-◌, ◌++◌, [], ◌∷◌, List, length, min, sum_by, count_by, if◌then◌else◌, IfOk, IfErr, IsErrOf, IfSome, IfNone};
-ghost use Rattle.std.specs.Vec.{vec_capacity};
 ghost use Rattle.std.specs.Option.{option_map};
+ghost use Rattle.space_raw.specs.Span.{IsWhole};
 ghost use Rattle.space_heap.specs.Places.{Range, least_place, lower_place, placed_size};
 ghost use Rattle.space_heap.specs.Pictures.{Holds, IsAlignment, IsBlock, IsSpaceSize, range_of};
 
-use crate::find::{Fit, find};
-use crate::holes::{carve, gap_before, put_back, room_for};
+#[cfg(test)]
+mod tests;
+
+use crate::find::find;
+use crate::holes::{carve, gap_before, leave_hole, put_back};
 use crate::limits::{GREATEST_NEED, is_space_size};
 use mem_rec::LEAST_ALIGNMENT;
-use space_raw::{Piece, Region};
+use space_raw::{Piece, Region, Rest};
 use std::alloc::Global;
 use std::marker::Model;
 use thiserror::Error;
@@ -29,23 +32,23 @@ pub enum HeapError {
 /// moved down. It can't be copied, and must be given back by `close`.
 pub struct Heap {
     region: Region,
+    rest: Rest,
     size: u32,
-    holes: Vec<Piece>,
+    first: Option<u32>,
     free: u32,
     slid: u64,
 }
 
 impl Model for Heap {
-    ghost use Rattle.std.specs.Prelude.{◌≡◌, ◌/◌, ◌<◌};
-    ghost use Rattle.std.specs.Vec.{vec_capacity};
+    ghost use Rattle.std.specs.Prelude.{is_some, map};
     ghost use Rattle.space_heap.specs.Pictures.{HeapState};
-    ghost use Rattle.space_heap.specs.Holes.{AreHoles, hole_marks, hole_words};
+    ghost use Rattle.space_heap.specs.Holes.{IsHeap};
 
     ghost Value = { HeapState };
 
-    ghost view = { λ h. record { region = h.region; free = hole_marks h.region.size h.holes.items; slid = h.slid } };
+    ghost view = { λ h. record { region = h.region; free = map is_some h.rest.slots; slid = h.slid } };
 
-    ghost invariant = { λ h. (h.size ≡ h.region.size) × AreHoles h.region h.holes.items × (h.region.size / 8 < vec_capacity h.holes) × (h.free ≡ hole_words h.holes.items) };
+    ghost invariant = { λ h. IsHeap h.region h.rest h.size h.first h.free };
 }
 
 impl Heap {
@@ -58,25 +61,29 @@ impl Heap {
         if !is_space_size(words) {
             return Err(HeapError::BadSize);
         }
-        let (region, all) = match Region::make(alloc, words) {
-            Ok(made) => made,
-            Err(_refused) => return Err(HeapError::Memory),
-        };
-        let mut holes = match Vec::with_capacity(alloc, room_for(words)) {
-            Ok(holes) => holes,
-            Err(_refused) => {
-                region.close(all);
-                return Err(HeapError::Memory);
-            }
-        };
-        holes.push_reserved(all);
-        Ok(Heap {
+        match Region::make(alloc, words) {
+            Ok((region, all)) => Ok(Heap::over(region, all)),
+            Err(_refused) => Err(HeapError::Memory),
+        }
+    }
+
+    // The heap of a region of which no piece is away. It asks for no memory.
+    fn over(region: Region, all: Piece) -> Heap
+        requires whole { (all.region ≡ region) × IsWhole all × IsSpaceSize region.size }
+        ensures region { (result.region ≡ region) × (result.slid ≡ 0) }
+        ensures taken { Holds result [] }
+    {
+        let size = all.len();
+        let mut rest = Rest::of(all);
+        let first = leave_hole(&mut rest, 0, size, None);
+        Heap {
             region,
-            size: words,
-            holes,
-            free: words,
+            rest,
+            size,
+            first,
+            free: size,
             slid: 0,
-        })
+        }
     }
 
     /// A block of `words` words, rounded up to a multiple of 4, at the least multiple of `align` at which it lies within the space and
@@ -91,8 +98,8 @@ impl Heap {
         ensures stays { (self.new.region ≡ self.old.region) × (self.new.slid ≡ self.old.slid) }
     {
         let size = words.next_multiple_of(LEAST_ALIGNMENT);
-        let Fit { hole, place } = find(self.holes.as_slice(), size, align)?;
-        let block = carve(&mut self.holes, hole, place, size);
+        let fit = find(&self.rest, self.first, size, align)?;
+        let block = carve(&mut self.rest, &mut self.first, fit, size);
         self.free -= size;
         Some(block)
     }
@@ -105,7 +112,7 @@ impl Heap {
         ensures stays { (self.new.region ≡ self.old.region) × (self.new.slid ≡ self.old.slid) }
     {
         let len = piece.len();
-        put_back(&mut self.holes, piece);
+        put_back(&mut self.rest, &mut self.first, piece);
         self.free += len;
     }
 
@@ -122,13 +129,18 @@ impl Heap {
         ensures stays { self.new.region ≡ self.old.region }
     {
         let mut piece = piece;
-        let Some(Fit { hole, place }) = gap_before(&mut self.holes, &mut piece, align) else {
+        let Some(fit) = gap_before(&mut self.rest, self.first, &mut piece, align) else {
             return piece;
         };
         let len = piece.len();
-        let gap = carve(&mut self.holes, hole, place, piece.place() - place);
+        let gap = carve(
+            &mut self.rest,
+            &mut self.first,
+            fit,
+            piece.place() - fit.place,
+        );
         let (block, behind) = Piece::slide(gap, piece);
-        put_back(&mut self.holes, behind);
+        put_back(&mut self.rest, &mut self.first, behind);
         self.slid = self.slid.saturating_add(u64::from(len));
         block
     }
@@ -161,16 +173,12 @@ impl Heap {
     {
         let Heap {
             region,
+            rest,
             size: _,
-            mut holes,
+            first: _,
             free: _,
             slid: _,
         } = self;
-        let all = match holes.pop() {
-            Some(all) => all,
-            None => unreachable!(),
-        };
-        holes.destroy_empty();
-        region.close(all);
+        region.close(rest.whole());
     }
 }

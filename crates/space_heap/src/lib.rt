@@ -3,10 +3,9 @@
 
 mod find;
 mod heap;
+mod hole;
 mod holes;
 mod limits;
-#[cfg(test)]
-mod tests;
 
 pub use heap::{Heap, HeapError};
 pub use limits::{GREATEST_NEED, SPACE_WORDS, is_space_size};

@@ -1,11 +1,12 @@
--- No hole before the i-th has a place.
-use Rattle.std.proofs.Common.{length, ◌-◌, ◌<◌, ◌≤◌, ℕ, get_or}
-use Rattle.space_raw.specs.Span.{Span}
-use Rattle.space_heap.proofs.Finds.{Misses}
+-- No hole before the next one has a place.
+use Rattle.std.proofs.Common.{List, length}
+use Rattle.space_heap.specs.Places.{Range}
+use Rattle.space_heap.proofs.Finds.{AllMiss}
+use Rattle.space_heap.proofs.Links.{IsAt, left_from}
 use Rattle.space_heap.proofs.find.find.Given as goal
 
-abbrev pub invariant-loop-i : goal.invariant-loop-i
-invariant-loop-i l = (l.i ≤ length l.holes) × ((k : ℕ) (d : Span) → k < l.i → Misses (get_or l.holes k d) l.words l.align)
+abbrev pub invariant-loop-next : goal.invariant-loop-next
+invariant-loop-next l = (left : List Range) × IsAt l.rest.slots l.fn.first left l.before l.next × AllMiss left l.words l.align
 
-abbrev pub decreases-loop-i : goal.decreases-loop-i
-decreases-loop-i l = length l.holes - l.i
+abbrev pub decreases-loop-next : goal.decreases-loop-next
+decreases-loop-next l = left_from (length l.rest.slots) l.next

@@ -9,7 +9,7 @@ use Rattle.heap_trace.proofs.desk.Desk.take.Goals as goal
 
 pub invariant_of-self-2 : goal.invariant_of-self-2
 invariant_of-self-2 c =
-    let xs = c.self.inside.held.items in let heap = c.self.inside.heap in let block = c.in_ok-block.block in let told = c.in_ok-block.ensures in
+    let xs = c.self.inside.held.items in let heap = c.self.inside.heap in let block = c.in-Some.block in let told = c.in-Some.ensures in
     let items = c.push_reserved.ensures.items in let stays = told.stays.0 in
     let before : Holds heap (ranges xs ++ []) = subst (λ rs. Holds heap rs) (sym (append-nil (ranges xs))) c.self.invariant.0 in
     let all : AreOf c.take.new.self.region (xs ++ []) = subst (λ (ys : List Span). AreOf c.take.new.self.region ys) (sym (append-nil xs)) (subst (λ (g : Extent). AreOf g xs) (sym stays) c.self.invariant.1) in (

@@ -1,22 +1,16 @@
--- The free words are those of the holes, and all others are taken.
+-- The free words are those of the rest, and all others are taken.
 use Rattle.std.proofs.Common.{◌≡◌, ◌+◌, sym, subst, ap, ◌∙◌}
 use Rattle.std.specs.Prelude.{count_by, sum_by}
 use Rattle.space_heap.specs.Places.{Range}
 use Rattle.space_heap.specs.Pictures.{HeapState, Holds, free_beside}
-use Rattle.space_heap.proofs.Counts.{free_marks, free_and_taken}
+use Rattle.space_heap.proofs.Counts.{free_and_taken}
 use Rattle.space_heap.proofs.heap.Heap.free.Goals as goal
-
-pub returns-clause-marks : goal.returns-clause-marks
-returns-clause-marks c =
-    let heap = c.self.inside in
-    subst (λ (v : HeapState). heap.free ≡ count_by (λ mark. mark) v.free) c.self.view_is (c.self.invariant.3 ∙ sym (free_marks heap.region heap.holes.items c.self.invariant.1.chain))
 
 pub returns-clause-taken : goal.returns-clause-taken
 returns-clause-taken c =
     let heap = c.self.inside in
     λ taken holds.
     let picture = subst (λ (v : HeapState). Holds v taken) (sym c.self.view_is) holds in
-    let counted : heap.free ≡ count_by (λ mark. mark) (free_beside heap.region.size taken) =
-    c.self.invariant.3 ∙ sym (free_marks heap.region heap.holes.items c.self.invariant.1.chain) ∙ ap (λ marks. count_by (λ mark. mark) marks) picture.free in
+    let counted : heap.free ≡ count_by (λ mark. mark) (free_beside heap.region.size taken) = c.self.invariant.counted ∙ ap (λ marks. count_by (λ mark. mark) marks) picture.free in
     subst (λ (v : HeapState). heap.free + sum_by (λ (r : Range). r.size) taken ≡ v.region.size) c.self.view_is
     (ap (λ n. n + sum_by (λ (r : Range). r.size) taken) counted ∙ free_and_taken heap.region.size taken picture.placed)

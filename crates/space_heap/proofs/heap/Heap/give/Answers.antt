@@ -1,23 +1,39 @@
 -- The block goes out of the picture.
-use Rattle.std.proofs.Common.{◌+◌, ◌++◌, ◌∷◌, sym, subst, arith}
+use Rattle.std.proofs.Common.{◌++◌, ◌∷◌, sym, subst, ap, ◌∙◌, arith}
 use Rattle.space_heap.specs.Pictures.{HeapState, Holds, range_of}
-use Rattle.space_heap.proofs.Chains.{few_words}
+use Rattle.space_heap.specs.Holes.{in_rest}
+use Rattle.space_heap.proofs.Counts.{there_few, there_less}
 use Rattle.space_heap.proofs.PictureLemmas.{agree, same_marks, given_blocks, given_agrees}
 use Rattle.space_heap.proofs.heap.Heap.give.Goals as goal
 
 pub overflow_add-self : goal.overflow_add-self
 overflow_add-self c =
-    let heap = c.self.inside in let ys = c.put_back.new.holes.items in let g = c.args.piece.region in
-    let few = few_words g 0 ys (g.size + 1) c.put_back.ensures.holes.chain in let most = c.put_back.ensures.holes.size.0 in
-    let free = c.self.invariant.3 in let more = c.put_back.ensures.words in let len = c.len-len.ensures.value in record { fits = omega arith }
+    let heap = c.self.inside in let old = heap.rest.slots in let new = c.put_back.new.rest.slots in let kept = c.put_back.ensures.rest in
+    let long = c.self.invariant.long in let home = ap (λ (v : HeapState). v.region.size) c.self.view_is in let inside = c.requires.block.inside in
+    let more = there_less new old (range_of c.args.piece) (sym kept.1) (omega arith) c.put_back.ensures.parts in
+    let few = there_few new in let counted = c.self.invariant.counted in let len = c.len-len.ensures.value in let most = c.self.invariant.holes.1.size.0 in record { fits = omega arith }
+
+pub invariant_of-self : goal.invariant_of-self
+invariant_of-self c =
+    let heap = c.self.inside in let old = heap.rest.slots in let new = c.put_back.new.rest.slots in let kept = c.put_back.ensures.rest in
+    let long = c.self.invariant.long in let home = ap (λ (v : HeapState). v.region.size) c.self.view_is in let inside = c.requires.block.inside in
+    let more = there_less new old (range_of c.args.piece) (sym kept.1) (omega arith) c.put_back.ensures.parts in
+    let counted = c.self.invariant.counted in let len = c.len-len.ensures.value in record {
+      home = kept.0 ∙ c.self.invariant.home;
+      same_size = c.self.invariant.same_size;
+      long = kept.1 ∙ long;
+      holes = c.put_back.ensures.holes;
+      counted = omega arith;
+    }
 
 pub returns-clause-taken : goal.returns-clause-taken
 returns-clause-taken c =
-    let heap = c.self.inside in let xs = heap.holes.items in let ys = c.put_back.new.holes.items in let r = range_of c.args.piece in let words = heap.region.size in
+    let heap = c.self.inside in let old = heap.rest.slots in let new = c.put_back.new.rest.slots in let r = range_of c.args.piece in let words = heap.region.size in
     λ before after holds.
     let picture = subst (λ (v : HeapState). Holds v (before ++ r ∷ after)) (sym c.self.view_is) holds in
-    let old = agree words xs (before ++ r ∷ after) picture.free in
+    let same = agree words old (before ++ r ∷ after) c.self.invariant.long picture.free in
     record {
-      placed = given_blocks words before after xs ys r c.put_back.ensures.parts picture.placed old;
-      free = same_marks words ys (before ++ after) (given_agrees words before after xs ys r c.put_back.ensures.parts picture.placed old);
+      placed = given_blocks words before after (in_rest old) (in_rest new) r c.put_back.ensures.parts picture.placed same;
+      free = same_marks words new (before ++ after) (c.put_back.ensures.rest.1 ∙ c.self.invariant.long)
+          (given_agrees words before after (in_rest old) (in_rest new) r c.put_back.ensures.parts picture.placed same);
     }

@@ -1,62 +1,131 @@
 -- The block goes to the start of the free range before it, and the words that it leaves are free.
-use Rattle.std.proofs.Common.{◌≡◌, ◌+◌, ◌%◌, ◌++◌, ◌∷◌, List, length, sym, subst, ap, arith, ◌∙◌}
-use Rattle.space_raw.specs.Span.{Span}
+use Rattle.std.proofs.Common.{◌≡◌, ◌+◌, ◌%◌, ◌≤◌, ◌++◌, ◌∷◌, List, length, Option, sym, subst, ap, arith, ◌∙◌}
+use Rattle.space_raw.specs.Span.{Scattered, Span}
+use Rattle.std.specs.Prelude.{ℤ}
+use Rattle.space_heap.specs.Places.{Range}
 use Rattle.space_heap.specs.Pictures.{HeapState, Holds, IsBlock, range_of}
-use Rattle.space_heap.specs.Holes.{AreParts}
+use Rattle.space_heap.specs.Holes.{AreParts, in_rest}
+use Rattle.space_heap.proofs.Counts.{there, there_less}
 use Rattle.space_heap.proofs.PictureLemmas.{agree, same_marks, moved_blocks, moved_agrees}
 use Rattle.space_heap.proofs.PlaceLemmas.{lowered, not_lowered}
 use Rattle.space_heap.proofs.heap.Heap.lower.Goals as goal
 
 pub returns-in_default-clause-place : goal.returns-in_default-clause-place
 returns-in_default-clause-place c =
-    let heap = c.self.inside in let xs = heap.holes.items in let words = heap.region.size in let r = range_of c.args.piece in
+    let heap = c.self.inside in let slots = heap.rest.slots in let words = heap.region.size in let r = range_of c.args.piece in
     λ before after holds.
     let picture = subst (λ (v : HeapState). Holds v (before ++ r ∷ after)) (sym c.self.view_is) holds in
-    let same = agree words xs (before ++ r ∷ after) picture.free in
+    let same = agree words slots (before ++ r ∷ after) c.self.invariant.long picture.free in
     let place = c.in_default.ensures.place in
-    ap (λ (s : Span). s.place) c.gap_before.ensures.same.0 ∙ not_lowered words before after r xs place.0 picture.placed same place.1 c.args.align place.2
+    ap (λ (s : Span). s.place) c.gap_before.ensures.same.1 ∙ not_lowered words before after r (in_rest slots) place.0 picture.placed same place.1 c.args.align place.2
+
+-- the gap that is taken out, the block in its place, and what is behind it
+module _ (c : goal.After-self-1) where
+  abbrev old : List (Option ℤ)
+  old = c.self.inside.rest.slots
+
+  abbrev rest : List (Option ℤ)
+  rest = c.carve-gap.new.rest.slots
+
+  abbrev new : List (Option ℤ)
+  new = c.put_back.new.rest.slots
+
+  abbrev gap : Range
+  gap = range_of c.carve-gap.result
+
+  abbrev r : Range
+  r = range_of c.args.piece
+
+  abbrev s : Range
+  s = range_of c.slide-block.result.0
+
+  abbrev behind : Range
+  behind = range_of c.slide-block.result.1
+
+  kept : c.gap_before.new.rest.slots ≡ old
+  kept = ap (λ (t : Scattered). t.slots) c.gap_before.ensures.same.0
+
+  here : c.gap_before.new.piece.place ≡ r.place
+  here = ap (λ (t : Span). t.place) c.gap_before.ensures.same.1
+
+  as_long : length c.gap_before.new.piece.words ≡ r.size
+  as_long = ap (λ (t : Span). length t.words) c.gap_before.ensures.same.1
+
+  start : gap.place ≡ s.place
+  start = sym c.slide-block.ensures.block.1
+
+  meeting : gap.place + gap.size ≡ r.place
+  meeting = let at = c.carve-gap.ensures.block.1 in let long = c.carve-gap.ensures.block.2 in let asked = c.place.ensures.value in let same = here in let less = c.in-Some.ensures.found.0 in omega arith
+
+  size : s.size ≡ r.size
+  size = ap length c.slide-block.ensures.block.2 ∙ as_long
+
+  next : behind.place ≡ s.place + s.size
+  next = let at = c.slide-block.ensures.hole.1 in let same = as_long in let long = size in let from = start in omega arith
+
+  left : behind.size ≡ gap.size
+  left = c.slide-block.ensures.hole.2
+
+  end : behind.place + behind.size ≡ r.place + r.size
+  end = let from = start in let meet = meeting in let long = size in let at = next in let same = left in omega arith
+
+  out : AreParts (in_rest old) gap (in_rest rest)
+  out = subst (λ (ws : List (Option ℤ)). AreParts (in_rest ws) gap (in_rest rest)) kept c.carve-gap.ensures.parts
+
+  back : AreParts (in_rest new) behind (in_rest rest)
+  back = c.put_back.ensures.parts
+
+  inside : r.place + r.size ≤ length old
+  inside = let last = c.requires.block.inside in let long = c.self.invariant.long in let home = ap (λ (v : HeapState). v.region.size) c.self.view_is in omega arith
+
+  rest_long : length rest ≡ length old
+  rest_long = c.carve-gap.ensures.rest.1 ∙ ap length kept
+
+  new_long : length new ≡ length old
+  new_long = c.put_back.ensures.rest.1 ∙ rest_long
+
+  as_many : there new ≡ there old
+  as_many =
+      let last = inside in let meet = meeting in let stop = end in let long = new_long in let same = left in let short = rest_long in let some = c.requires.block.some in
+      let without_gap = there_less old rest gap rest_long (omega arith) out in
+      let with_behind = there_less new rest behind (rest_long ∙ sym new_long) (omega arith) back in omega arith
+
+  is_block : IsBlock (length old) s
+  is_block = let block = c.requires.block in let some = block.some in let long = size in let last = inside in let from = start in let meet = meeting in record {
+    some = omega arith;
+    place = ap (λ n. n % 4) (sym start ∙ c.carve-gap.ensures.block.1) ∙ c.in-Some.ensures.found.1.unit;
+    size = ap (λ n. n % 4) size ∙ block.size;
+    inside = omega arith;
+  }
+
+pub invariant_of-self-2 : goal.invariant_of-self-2
+invariant_of-self-2 c = record {
+  home = c.put_back.ensures.rest.0 ∙ c.carve-gap.ensures.rest.0 ∙ ap (λ (t : Scattered). t.region) c.gap_before.ensures.same.0 ∙ c.self.invariant.home;
+  same_size = c.self.invariant.same_size;
+  long = new_long c ∙ c.self.invariant.long;
+  holes = c.put_back.ensures.holes;
+  counted = c.self.invariant.counted ∙ sym (as_many c);
+}
 
 pub returns-clause-place : goal.returns-clause-place
 returns-clause-place c =
-    let heap = c.self.inside in let xs = heap.holes.items in let words = heap.region.size in let r = range_of c.args.piece in
+    let heap = c.self.inside in let slots = heap.rest.slots in let words = heap.region.size in let r = range_of c.args.piece in
     λ before after holds.
     let picture = subst (λ (v : HeapState). Holds v (before ++ r ∷ after)) (sym c.self.view_is) holds in
-    let same = agree words xs (before ++ r ∷ after) picture.free in
+    let same = agree words slots (before ++ r ∷ after) c.self.invariant.long picture.free in
     let place = c.in-Some.ensures.place in let found = c.in-Some.ensures.found in
-    c.slide-block.ensures.block.1 ∙ c.carve-gap.ensures.block.0
-    ∙ lowered words before after r xs place.0 picture.placed same place.1 c.args.align c.in-Some.field-0.place place.2 found.some
+    c.slide-block.ensures.block.1 ∙ c.carve-gap.ensures.block.1
+    ∙ lowered words before after r (in_rest slots) place.0 picture.placed same place.1 c.args.align c.in-Some.fit.place place.2 found.0
 
 pub returns-clause-taken : goal.returns-clause-taken
 returns-clause-taken c =
-    let heap = c.self.inside in let xs = heap.holes.items in let words = heap.region.size in let piece = c.args.piece in let r = range_of piece in
-    let gap = c.carve-gap.result in let block = c.slide-block.result.0 in let behind = c.slide-block.result.1 in let rest = c.carve-gap.new.holes.items in let ys = c.put_back.new.holes.items in
-    let to = c.in-Some.field-0.place in let found = c.in-Some.ensures.found in let kept = c.gap_before.ensures.same in
-    let slid = c.slide-block.ensures in let cut = c.carve-gap.ensures in
-    let at : gap.place ≡ to = cut.block.0 in
-    let long : length block.words ≡ length piece.words = ap length slid.block.2 ∙ ap (λ (s : Span). length s.words) kept.0 in
-    let here : c.gap_before.new.piece.place ≡ piece.place = ap (λ (s : Span). s.place) kept.0 in
-    let gap_long = cut.block.1 in let asked = c.place.ensures.value in let less = found.some in
-    let start : gap.place ≡ block.place = sym slid.block.1 in
-    let meeting : gap.place + length gap.words ≡ piece.place = omega arith in
-    let kept_long : length c.gap_before.new.piece.words ≡ length piece.words = ap (λ (s : Span). length s.words) kept.0 in
-    let left = slid.hole.2 in let left_at = slid.hole.1 in
-    let next : behind.place ≡ block.place + length block.words = omega arith in
-    let end : behind.place + length behind.words ≡ piece.place + length piece.words = omega arith in
-    let out : AreParts xs (range_of gap) rest = subst (λ (zs : List Span). AreParts zs (range_of gap) rest) kept.1 cut.parts in
-    let back = c.put_back.ensures.parts in
-    let asked_block = c.requires.block in let home = ap (λ (v : HeapState). v.region.size) c.self.view_is in
-    let some = asked_block.some in let inside = asked_block.inside in
-    let is_block : IsBlock words (range_of block) = record {
-      some = omega arith;
-      place = ap (λ n. n % 4) (sym start ∙ at) ∙ found.unit;
-      size = ap (λ n. n % 4) long ∙ asked_block.size;
-      inside = omega arith;
-    } in
+    let words = c.self.inside.region.size in let long = c.self.invariant.long in
+    let block = subst (λ n. IsBlock n (s c)) long (is_block c) in
     λ before after holds.
-    let picture = subst (λ (v : HeapState). Holds v (before ++ r ∷ after)) (sym c.self.view_is) holds in
-    let same = agree words xs (before ++ r ∷ after) picture.free in
+    let picture = subst (λ (v : HeapState). Holds v (before ++ r c ∷ after)) (sym c.self.view_is) holds in
+    let same = agree words (old c) (before ++ r c ∷ after) long picture.free in
     record {
-      placed = moved_blocks words before after xs rest ys (range_of gap) (range_of behind) r (range_of block) out back start meeting long next end picture.placed same is_block;
-      free = same_marks words ys (before ++ range_of block ∷ after)
-          (moved_agrees words before after xs rest ys (range_of gap) (range_of behind) r (range_of block) out back start meeting long next end picture.placed same is_block);
+      placed = moved_blocks words before after (in_rest (old c)) (in_rest (rest c)) (in_rest (new c)) (gap c) (behind c) (r c) (s c) (out c) (back c) (start c) (meeting c) (size c) (next c) (end c) picture.placed same block;
+      free = same_marks words (new c) (before ++ s c ∷ after) (new_long c ∙ long)
+          (moved_agrees words before after (in_rest (old c)) (in_rest (rest c)) (in_rest (new c)) (gap c) (behind c) (r c) (s c) (out c) (back c) (start c) (meeting c) (size c) (next c) (end c) picture.placed same block);
     }
