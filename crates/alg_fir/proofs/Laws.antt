@@ -1,123 +1,61 @@
--- The laws of a filter, from what its calls do to the words of one record.
-use Rattle.std.proofs.Common.{◌≡◌, ℕ, ℤ, ◌<◌, ◌≤◌, List, [], ◌∷◌, length, FitsSigned, refl, sym, ◌∙◌, arith}
+-- What a filter asks for, and what its words keep after a control or a block.
+use Rattle.std.proofs.Common.{◌≡◌, ℕ, ℤ, ◌+◌, ◌-◌, ◌*◌, ◌≤◌, ◌&&◌, ◌==◌, nat_le, true, IsTrue, List, ◌∷◌, length, take, Some, FitsSigned, sym, ◌∙◌, arith}
+use Rattle.std.proofs.lemmas.Bool.Decides.{nat_tests}
 use Rattle.std.specs.List.{All}
 use Rattle.std.specs.Int.{w16}
-use Rattle.mem_rec.specs.declared.MemRec.{MemRec}
-use Rattle.ialg.specs.History.{History, Control, Set, Reset, with_samples, word_at, words_in_force, IsWordHistory}
-use Rattle.ialg.specs.Records.{words_of, lasting}
-use Rattle.ialg.proofs.Histories.{IsWordHistory-with_samples, take_is}
-use Rattle.ialg.proofs.Tables.{lasting_at}
-use Rattle.ialg.proofs.Taking.{Rewritten}
-use Rattle.ialg.specs.Objects.{Names}
-use Rattle.alg_fir.specs.declared.TheConstants.{MOST_COEFFICIENTS}
-use Rattle.alg_fir.specs.Keeps.{fir_kind, records_of, KeepsCoefficients, KeepsPast, KeepsLine, Runs, KeepsBoth, KeepsIdle, KeepsActive}
+use Rattle.ialg.specs.declared.filter.FilterMemory.{FilterMemory}
+use Rattle.ialg.specs.declared.TheConstants.{BLOCK_SAMPLES}
+use Rattle.ialg.specs.History.{History, Control, Set, with_samples}
+use Rattle.ialg.proofs.Tables.{chosen}
+use Rattle.ialg.proofs.Histories.{IsWordHistory-with_samples}
+use Rattle.fir_kernel.specs.declared.TheConstants.{MOST_COEFFICIENTS}
+use Rattle.alg_fir.specs.declared.TheConstants.{LINE_ALIGNMENT}
+use Rattle.alg_fir.specs.Keeps.{Ran, Runs}
+use Rattle.alg_fir.specs.Meaning.{fir_memory}
 
-module _ (p : List ℤ) (rs : List MemRec) (h : History) where
-  -- the same words of r0 and r1, and a history with the same coefficients in force
-  both_later : (wss wss' : List (List ℤ)) (h' : History) → KeepsBoth p rs wss h
-      → words_of wss' 0 ≡ words_of wss 0 → words_of wss' 1 ≡ words_of wss 1
-      → IsWordHistory h' → words_in_force p h' ≡ words_in_force p h → KeepsBoth p rs wss' h'
-  both_later wss wss' h' both e0 e1 history in_force = record {
-    few = both.few;
-    history = history;
-    object = rw e0 both.object;
-    coefficients = rw e1 (record {
-      some = both.coefficients.some;
-      size = both.coefficients.size;
-      coefficients = both.coefficients.coefficients ∙ sym in_force;
-    });
-  }
+-- which parameters are taken, and what is asked for then
+pub record IsAsked (n : ℕ) (m : FilterMemory) : Type 0 where
+  pub some : 1 ≤ n
+  pub few : n ≤ MOST_COEFFICIENTS
+  pub memory : m ≡ record { kept = 2 * n - 1; running = n - 1 + BLOCK_SAMPLES; align = LINE_ALIGNMENT }
 
-  both_same : (wss wss' : List (List ℤ)) → KeepsBoth p rs wss h
-      → words_of wss' 0 ≡ words_of wss 0 → words_of wss' 1 ≡ words_of wss 1 → KeepsBoth p rs wss' h
-  both_same wss wss' both e0 e1 = both_later wss wss' h both e0 e1 both.history refl
+within : (n : ℕ) → (nat_le 1 n && nat_le n MOST_COEFFICIENTS) ≡ true → (1 ≤ n) × (n ≤ MOST_COEFFICIENTS)
+within n e = grind (arith, nat_tests)
 
-  -- what an idle instance keeps, it keeps whatever the scratch words are
-  pub awake : (wss : List (List ℤ)) → KeepsIdle p rs (lasting rs wss) h → KeepsIdle p rs wss h
-  awake wss keeps =
-      let at = lasting_at rs (records_of (length p)) keeps.both.object.on_table wss in
-      record {
-        both = both_same (lasting rs wss) wss keeps.both (sym (at 0)) (sym (at 1));
-        past = rw (← at 1) keeps.past;
-      }
+pub memory_some : (p : List ℤ) (m : FilterMemory) → fir_memory p ≡ Some m → IsAsked (length p) m
+memory_some p m e =
+    let n = length p in
+    let c = chosen (nat_le 1 n && nat_le n MOST_COEFFICIENTS) (record { kept = 2 * n - 1; running = n - 1 + BLOCK_SAMPLES; align = LINE_ALIGNMENT }) m e in
+    let b = within n c.0 in
+    record { some = b.0; few = b.1; memory = c.1 }
 
-  pub asleep : (wss : List (List ℤ)) → KeepsIdle p rs wss h → KeepsIdle p rs (lasting rs wss) h
-  asleep wss keeps =
-      let at = lasting_at rs (records_of (length p)) keeps.both.object.on_table wss in
-      record {
-        both = both_same wss (lasting rs wss) keeps.both (at 0) (at 1);
-        past = rw (at 1) keeps.past;
-      }
-
-  module _ (wss wss' : List (List ℤ)) where
-    -- the line was written
-    pub activated : (line : List ℤ) → Rewritten 2 line wss wss' → KeepsIdle p rs wss h → KeepsLine p h line → KeepsActive p rs wss' h
-    activated line w keeps new = record {
-      both = both_same wss wss' keeps.both (w.others 0 (λ e. omega arith)) (w.others 1 (λ e. omega arith));
-      line = rw w.written new;
+-- these coefficients were put in place of those before
+pub was_set : (p : List ℤ) (h : History) (cs old new running : List ℤ) → Runs p h old running → IsTrue (length cs == length p)
+    → length new ≡ length old → (length cs ≤ length old → take (length cs) new ≡ cs) → (length cs ≤ length old → All (FitsSigned w16) cs)
+    → Runs p (Control (Set cs) ∷ h) new running
+was_set p h cs old new running runs accepted long written fit =
+    let many : length cs ≡ length p = grind (arith, nat_tests, accepted) in
+    let some = runs.coefficients.some in
+    let size = runs.coefficients.size in
+    let room : length cs ≤ length old = omega arith in
+    record {
+      history = (fit room, runs.history);
+      coefficients = record { some = some; few = runs.coefficients.few; size = long ∙ size; coefficients = rw (← many) (written room) };
+      ring =
+          let ring = runs.ring in
+          record { size = ring.size; place = ring.place; last = ring.last; ring = record { within = ring.ring.within; samples = ring.ring.samples } };
     }
 
-    pub processed : (line xs ys : List ℤ) → Rewritten 2 line wss wss' → KeepsActive p rs wss h → Runs p h xs line ys
-        → KeepsActive p rs wss' (with_samples h xs)
-    processed line xs ys w keeps ran = record {
-      both = both_later wss wss' (with_samples h xs) keeps.both (w.others 0 (λ e. omega arith)) (w.others 1 (λ e. omega arith))
-          (IsWordHistory-with_samples h xs keeps.both.history ran.samples) ran.coefficients;
-      line = rw w.written ran.line;
-    }
-
-    pub was_reset : (line : List ℤ) → Rewritten 2 line wss wss' → KeepsActive p rs wss h → KeepsLine p (Control Reset ∷ h) line
-        → KeepsActive p rs wss' (Control Reset ∷ h)
-    was_reset line w keeps new = record {
-      both = both_later wss wss' (Control Reset ∷ h) keeps.both (w.others 0 (λ e. omega arith)) (w.others 1 (λ e. omega arith))
-          (tt, keeps.both.history) refl;
-      line = rw w.written new;
-    }
-
-    -- the coefficients and the past samples were written
-    pub deactivated : (kept : List ℤ) → Rewritten 1 kept wss wss' → KeepsActive p rs wss h → KeepsCoefficients p h kept → KeepsPast p h kept
-        → KeepsIdle p rs wss' h
-    deactivated kept w keeps coefficients past = record {
-      both = record {
-        few = keeps.both.few;
-        history = keeps.both.history;
-        object = rw (w.others 0 (λ e. omega arith)) keeps.both.object;
-        coefficients = rw w.written coefficients;
-      };
-      past = rw w.written past;
-    }
-
-    pub was_set : (kept cs : List ℤ) → Rewritten 1 kept wss wss' → KeepsActive p rs wss h → All (FitsSigned w16) cs → length cs ≡ length p
-        → length kept ≡ length (words_of wss 1) → ((k : ℕ) → k < length cs → word_at kept k ≡ word_at cs k)
-        → KeepsActive p rs wss' (Control (Set cs) ∷ h)
-    was_set kept cs w keeps fit many long written =
-        let some = keeps.both.coefficients.some in
-        let size = long ∙ keeps.both.coefficients.size in
-        record {
-          both = record {
-            few = keeps.both.few;
-            history = (fit, keeps.both.history);
-            object = rw (w.others 0 (λ e. omega arith)) keeps.both.object;
-            coefficients = rw w.written (record {
-              some = some;
-              size = size;
-              coefficients = rw (← many) (take_is kept cs (omega arith) written);
-            });
-          };
-          line =
-              let old : KeepsLine p h (words_of wss 2) = keeps.line in
-              rw (w.others 2 (λ e. omega arith)) (record { size = old.size; samples = old.samples });
-        }
-
--- the object was written, and then the coefficients and past samples of 0
-pub started : (p : List ℤ) (rs : List MemRec) (wss wss' : List (List ℤ)) (kept : List ℤ)
-    → Rewritten 1 kept wss wss' → length p ≤ MOST_COEFFICIENTS
-    → Names fir_kind (records_of (length p)) rs (words_of wss 0) → KeepsCoefficients p [] kept × KeepsPast p [] kept → KeepsIdle p rs wss' []
-started p rs wss wss' kept w few names fresh = record {
-  both = record {
-    few = few;
-    history = tt;
-    object = rw (w.others 0 (λ e. omega arith)) names;
-    coefficients = rw w.written fresh.0;
+-- a block was run
+pub was_run : (p : List ℤ) (h : History) (xs kept running new ys : List ℤ) → Runs p h kept running → Ran p h xs new ys
+    → Runs p (with_samples h xs) kept new
+was_run p h xs kept running new ys runs ran = record {
+  history = IsWordHistory-with_samples h xs runs.history ran.samples;
+  coefficients = record {
+    some = runs.coefficients.some;
+    few = runs.coefficients.few;
+    size = runs.coefficients.size;
+    coefficients = runs.coefficients.coefficients ∙ sym ran.coefficients;
   };
-  past = rw w.written fresh.1;
+  ring = ran.ring;
 }

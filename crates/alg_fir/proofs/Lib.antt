@@ -1,4 +1,4 @@
+pub mod Laws
+pub mod Rings
 pub mod Steps
 pub mod Words
-pub mod Places
-pub mod Laws

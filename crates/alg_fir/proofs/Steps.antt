@@ -4,11 +4,11 @@ use Rattle.std.specs.List.{All}
 use Rattle.std.specs.Int.{w16}
 use Rattle.std.proofs.Math.Seq.{take-suc, take-length}
 use Rattle.basic_op.specs.Operators.{round_of}
-use Rattle.ialg.specs.declared.TheConstants.{BLOCK_SAMPLES}
 use Rattle.ialg.specs.History.{History, with_samples, word_at, past, words_in_force}
 use Rattle.ialg.proofs.Histories.{with_samples-take, with_samples-whole}
-use Rattle.alg_fir.specs.Equation.{l_mac_sum, fir_output, fir_outputs, filtered_at}
-use Rattle.alg_fir.specs.Keeps.{Runs}
+use Rattle.fir_kernel.specs.Sums.{l_mac_sum, filtered_at}
+use Rattle.alg_fir.specs.Equation.{fir_output, fir_outputs}
+use Rattle.alg_fir.specs.Keeps.{KeepsRing, Ran}
 
 mac_sum_same : (c c' x x' : ℕ → ℤ) (n : ℕ) → ((k : ℕ) → k < n → c k ≡ c' k) → ((k : ℕ) → k < n → x k ≡ x' k)
     → l_mac_sum c x n ≡ l_mac_sum c' x' n
@@ -65,17 +65,10 @@ module _ (p : List ℤ) (h : History) (xs cs line : List ℤ) (d : ℕ)
     whole : upto h xs (length xs) ≡ with_samples h xs
     whole = with_samples-whole h xs
 
-    -- the words behind the block, moved to the beginning
-    pub runs : (new : List ℤ) → All (FitsSigned w16) xs → length new ≡ length p - 1 + BLOCK_SAMPLES
-        → ((k : ℕ) → k < d → word_at new k ≡ word_at line (length xs + k))
-        → Runs p h xs new ys
-    runs new fit long moved = record {
+    pub runs : (new : List ℤ) → All (FitsSigned w16) xs → KeepsRing (length p) (with_samples h xs) new → Ran p h xs new ys
+    runs new fit keeps = record {
       samples = fit;
-      line = record {
-        size = long;
-        samples = λ j k e.
-            moved j (omega arith) ∙ past_at (length xs) (omega arith) (length xs + j) k (omega arith) (omega arith) ∙ ap (λ t. past t k) whole;
-      };
+      ring = keeps;
       coefficients = ap (words_in_force p) (sym whole) ∙ in_force_at (length xs) (omega arith);
       outputs =
           let all : take (length xs) ys ≡ ys = rw (← many) (take-length ys) in

@@ -2,20 +2,13 @@
 #![tactic(auto)]
 
 mod filter;
-mod kernel;
-mod state;
 #[cfg(test)]
 mod tests;
 
-pub use filter::{Fir, fir_is_lawful};
+pub use filter::Fir;
+pub use fir_kernel::MOST_COEFFICIENTS;
 
-/// The most coefficients of a filter.
-pub const MOST_COEFFICIENTS: usize = 64;
-
-/// The records of a filter: the object, the coefficients with the past samples, and the delay line.
-pub const RECORDS: usize = 3;
-
-/// The alignment of the delay line.
+/// The alignment of the delay line, which is a ring.
 pub const LINE_ALIGNMENT: u32 = 16;
 
 /// The kind word of a filter's instance object.

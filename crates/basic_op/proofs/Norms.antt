@@ -8,10 +8,11 @@ use Rattle.std.proofs.lemmas.Int.{to_z_pos}
 use Rattle.std.proofs.Math.Nat.{pow-suc}
 use Rattle.std.proofs.lemmas.Bool.{cases_eq, cases_lt}
 use Rattle.std.proofs.lemmas.Bool.Decides.{nat_tests}
-use Rattle.basic_op.specs.Operators.{is_normal, norm_of, numbers_from}
+use Rattle.std.specs.List.{range_with_len}
+use Rattle.basic_op.specs.Operators.{is_normal, norm_of}
 
 -- the first number that passes a test
-find_first : (p : ℕ → Bool) (first count r : ℕ) → first ≤ r → r < first + count → p r ≡ true → ((k : ℕ) → first ≤ k → k < r → p k ≡ false) → find p (numbers_from first count) ≡ Some r
+find_first : (p : ℕ → Bool) (first count r : ℕ) → first ≤ r → r < first + count → p r ≡ true → ((k : ℕ) → first ≤ k → k < r → p k ≡ false) → find p (range_with_len first count) ≡ Some r
 find_first p first zero r low high here before = absurd (omega arith)
 find_first p first (suc count) r low high here before = elim (cases_eq first r) [
   | inl e ↦
@@ -19,7 +20,7 @@ find_first p first (suc count) r low high here before = elim (cases_eq first r) 
       rw test (ap Some e)
   | inr ne ↦
       let test : p first ≡ false = before first (omega arith) (omega arith) in
-      rw test (find_first p (suc first) count r (omega arith) (omega arith) here (λ k q s. before k (omega arith) s))
+      rw test (find_first p (first + 1) count r (omega arith) (omega arith) here (λ k q s. before k (omega arith) s))
 ]
 
 passes : (low n high : ℕ) {m : ℕ} → low ≤ n → m < high → (nat_le low n && nat_lt m high) ≡ true

@@ -1,7 +1,8 @@
 -- The basic operators of ITU-T G.191 as functions of whole numbers, which have no bound.
 -- A Word16 is a number from -32768 to 32767, a Word32 one from -2147483648 to 2147483647.
-use Rattle.std.specs.Prelude.{ℕ, zero, suc, ◌*◌, ◌/◌, ◌^◌, min, Bool, ◌&&◌, nat_le, nat_lt, List, [], ◌∷◌, ℤ, pos, negsuc, ◌+ℤ◌, ◌-ℤ◌, ◌*ℤ◌, neg_ℤ, unsigned_abs, int_lt, unwrap_or, find, if◌then◌else◌}
+use Rattle.std.specs.Prelude.{ℕ, suc, ◌*◌, ◌/◌, ◌^◌, min, Bool, ◌&&◌, nat_le, nat_lt, ℤ, pos, negsuc, ◌+ℤ◌, ◌-ℤ◌, ◌*ℤ◌, neg_ℤ, unsigned_abs, int_lt, unwrap_or, find, if◌then◌else◌}
 use Rattle.std.specs.Int.{saturate_to_bits, int_rem_euclid}
+use Rattle.std.specs.List.{range_with_len}
 
 -- the nearest Word16, and the nearest Word32
 abbrev pub saturate16 : ℤ → ℤ
@@ -106,14 +107,9 @@ abbrev pub is_normal : ℕ → ℤ → Bool
 is_normal bits (pos n) = nat_le (2 ^ bits) (2 * n) && nat_lt n (2 ^ bits)
 is_normal bits (negsuc n) = nat_le (2 ^ bits) (2 * n) && nat_lt n (2 ^ bits)
 
--- `count` numbers in a row, from the first one
-abbrev pub numbers_from : ℕ → ℕ → List ℕ
-numbers_from first zero = []
-numbers_from first (suc count) = first ∷ numbers_from (suc first) count
-
 -- the first count of doublings that makes z normal: for 0, which none makes normal, it is 0
 abbrev pub norm_of : ℕ → ℤ → ℕ
-norm_of bits z = unwrap_or (find (λ n. is_normal bits (z *ℤ pos (2 ^ n))) (numbers_from 0 (suc bits))) 0
+norm_of bits z = unwrap_or (find (λ n. is_normal bits (z *ℤ pos (2 ^ n))) (range_with_len 0 (suc bits))) 0
 
 abbrev pub norm_s_of : ℤ → ℤ
 norm_s_of a = pos (norm_of 15 a)

@@ -1,4 +1,4 @@
-// Operators on Word32, and between the two widths.
+//! Operators on Word32, and between the two widths.
 ghost use Rattle.std.specs.Prelude.{◌≡◌};
 ghost use Rattle.basic_op.specs.Operators.{extract_h_of, extract_l_of, l_abs_of, l_add_of, l_deposit_h_of, l_deposit_l_of, l_mac_of, l_msu_of, l_mult_of, l_negate_of, l_sub_of, round_of};
 

@@ -1,15 +1,15 @@
-// Norms, and the quotient of fractions.
+//! Norms, and the quotient of fractions.
 ghost use Rattle.std.specs.Prelude.{◌≡◌, ◌≤ℤ◌, ◌<ℤ◌, pos};
 ghost use Rattle.std.specs.Int.Signed.{mag};
 ghost use Rattle.basic_op.specs.Operators.{div_s_of, norm_l_of, norm_s_of};
 
 /// `v`, or `-1 - v` where `v` is negative: as many leading zeros as `v` has bits that equal its sign.
 #[inline]
-fn magnitude(v: i32) -> u32
+fn sign_folded(v: i32) -> u32
     ensures { result ≡ mag v }
 {
-    let ones_complement = if v < 0 { !v } else { v };
-    ones_complement.cast_unsigned()
+    let folded = if v < 0 { !v } else { v };
+    folded.cast_unsigned()
 }
 
 /// The count of left shifts that brings `a` into 16384..=32767 or -32768..=-16385; 0 for 0 (G.191 `norm_s`).
@@ -20,8 +20,8 @@ pub fn norm_s(a: i16) -> i16
     if a == 0 {
         0
     } else {
-        // The magnitude has 17 bits more than the word has below its sign.
-        (magnitude(i32::from(a)).leading_zeros() - 17) as i16
+        // Its 32 bits are 17 more than the word has below its sign.
+        (sign_folded(i32::from(a)).leading_zeros() - 17) as i16
     }
 }
 
@@ -33,7 +33,7 @@ pub fn norm_l(v: i32) -> i16
     if v == 0 {
         0
     } else {
-        (magnitude(v).leading_zeros() - 1) as i16
+        (sign_folded(v).leading_zeros() - 1) as i16
     }
 }
 

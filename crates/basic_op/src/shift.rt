@@ -1,4 +1,4 @@
-// Shifts by any count: a negative count shifts the other way.
+//! Shifts by any count: a negative count shifts the other way.
 ghost use Rattle.std.specs.Prelude.{◌≡◌, ◌^◌, ◌≤◌, pos, unsigned_abs};
 ghost use Rattle.basic_op.specs.Operators.{l_shl_of, l_shr_of, shl_of, shr_of};
 

@@ -1,4 +1,4 @@
-// Operators on Word16 alone.
+//! Operators on Word16 alone.
 ghost use Rattle.std.specs.Prelude.{◌≡◌};
 ghost use Rattle.basic_op.specs.Operators.{abs_s_of, add_of, mult_of, mult_r_of, negate_of, sub_of};
 

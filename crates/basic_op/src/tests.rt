@@ -1,5 +1,5 @@
-// Each operator at its limits and at the values that its rounding or saturation turns on. The expected values are
-// worked by hand from the standard's definitions.
+//! Each operator at its limits and at the values that its rounding or saturation turns on. The expected values are
+//! worked by hand from the standard's definitions.
 use crate::{
     abs_s, add, div_s, extract_h, extract_l, l_abs, l_add, l_deposit_h, l_deposit_l, l_mac, l_msu,
     l_mult, l_negate, l_shl, l_shr, l_sub, mult, mult_r, negate, norm_l, norm_s, round, shl, shr,

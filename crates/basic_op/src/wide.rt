@@ -1,4 +1,4 @@
-// What is computed in a wider type, and the nearest word of it.
+//! What is computed in a wider type, and the nearest word of it.
 ghost use Rattle.std.specs.Prelude.{◌≡◌, ◌≤◌, ◌^◌, ◌*ℤ◌, unsigned_abs};
 ghost use Rattle.basic_op.specs.Operators.{saturate16, saturate32};
 

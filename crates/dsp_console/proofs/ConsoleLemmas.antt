@@ -11,7 +11,7 @@ use Rattle.dsp_console.specs.Numbered.{Numbered, at_number, with_number}
 use Rattle.dsp_console.specs.Instances as instances
 use Rattle.dsp_console.specs.Instances.{after_create}
 use Rattle.dsp_console.specs.Channels.{Channels, members_at}
-use Rattle.dsp_console.specs.Slots.{lasting_in}
+use Rattle.dsp_console.specs.SlotWords.{lasting_in}
 use Rattle.dsp_console.specs.Keeps.{chained, Keeps, KeepsSlot, KeepsInstance}
 use Rattle.dsp_console.specs.declared.console.Instance.{Instance}
 use Rattle.dsp_console.specs.declared.console.Console.{Console}

@@ -4,10 +4,12 @@ use Rattle.std.proofs.lemmas.List.{map-set, get_or-map}
 use Rattle.std.proofs.lemmas.List.Elements.{All-set, All-get_or}
 use Rattle.std.proofs.lemmas.Grind.{common_steps}
 use Rattle.std.proofs.lemmas.Bool.Decides.{nat_tests}
-use Rattle.dsp_console.specs.Ports.{Source, Sink, Gives, EndsWithin, Takes, TakesFirst}
+use Rattle.dsp_console.specs.Ports.{Source, Sink, Gives, Takes, TakesFirst}
+use Rattle.dsp_console.specs.Lines.{EndsWithin}
 use Rattle.dsp_console.specs.Served.{Machine, Answer, feed_answer, fed_answer, replies, short_text, refusals}
-use Rattle.dsp_console.specs.Runs.{StepsAt, IsHonest, IsServed, IsCut, no_source, no_sink, run_of}
-use Rattle.dsp_console.proofs.Writes.{writes_more, writes_reply, writes_output, first_more, first_longer, first_reply, first_output, order_of_reply, order_of_feed, octets_to}
+use Rattle.dsp_console.specs.Runs.{StepsAt, IsHonest, no_source, no_sink}
+use Rattle.dsp_console.specs.LineRuns.{IsServed, IsCut, run_of}
+use Rattle.dsp_console.proofs.Writes.{writes_more, writes_reply, writes_output, step_holds, first_more, first_longer, first_reply, first_output, order_of_reply, order_of_feed, octets_to}
 
 abbrev pub coming_of : Source → List ℕ
 coming_of s = s.coming
@@ -74,7 +76,7 @@ served_short {S = S} keeps m state {count} {c} {sources} {new_sources} outputs {
       kept = k;
       honest = honest_short there h s;
       inputs = refl;
-      writes = rw (order_of_reply short_text true) (writes_reply outputs t);
+      writes = rw (order_of_reply short_text true) (writes_reply outputs t.holds);
       counted = refl;
     })
 
@@ -100,7 +102,7 @@ served_whole {S = S} keeps m state {octets} {output} {told} {count} {c} {sources
       honest = honest_whole there h s;
       inputs = refl;
       writes = rw (order_of_feed c (m.output state c octets) (m.told state c octets) false, ← is_output, ← is_told)
-          (writes_more (writes_output reply (rw pairs there) o) (writes_reply new_outputs t));
+          (writes_more (writes_output reply (rw pairs there) (step_holds o)) (writes_reply new_outputs t.holds));
       counted = refl;
     })
 
@@ -125,5 +127,5 @@ cut_told {S = S} m state {octets} {output} {told} {count} {c} {sources} {new_sou
     subst (λ (a : Answer S). IsCut a new_sources outputs new_outputs reply new_reply) (sym (feed_whole m state there h l s)) (record {
       inputs = refl;
       writes = rw (order_of_feed c (m.output state c octets) (m.told state c octets) false, ← is_output, ← is_told)
-          (first_more (writes_output reply (rw pairs there) o) (first_reply new_outputs t));
+          (first_more (writes_output reply (rw pairs there) (step_holds o)) (first_reply new_outputs t));
     })

@@ -5,11 +5,10 @@ pub mod KindLemmas
 pub mod LineAnswers
 pub mod Lines
 pub mod Ports
-pub mod ReplyLemmas
 pub mod SampleLemmas
 pub mod RowLemmas
 pub mod Scripts
 pub mod SlotLemmas
+pub mod SoFar
 pub mod Steps
-pub mod WordLemmas
 pub mod Writes

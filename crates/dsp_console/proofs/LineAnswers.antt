@@ -3,8 +3,9 @@ use Rattle.std.proofs.Common.{◌≡◌, ℕ, Bool, true, false, List, [], cond,
 use Rattle.dsp_console.specs.Ports.{Source, Sink, Takes, TakesFirst}
 use Rattle.dsp_console.specs.Lines.{IsLine}
 use Rattle.dsp_console.specs.Served.{Machine, Run, Answer, Asked, line_answer, asked_answer, replies, long_text, order_of, refusals}
-use Rattle.dsp_console.specs.Runs.{IsHonest, IsServed, IsCut, run_of}
-use Rattle.dsp_console.specs.declared.limits.TheConstants.{LINE_OCTETS}
+use Rattle.dsp_console.specs.Runs.{IsHonest}
+use Rattle.dsp_console.specs.LineRuns.{IsServed, IsCut, run_of}
+use Rattle.voice_script.specs.declared.limits.TheConstants.{LINE_OCTETS}
 use Rattle.std.specs.List.{All}
 use Rattle.dsp_console.proofs.Writes.{writes_none, writes_reply, first_reply, order_of_reply}
 
@@ -26,9 +27,9 @@ pub served_reply : {S : Type 0} (keeps : S → Type 0) (state : S) (sources : Li
     → IsServed keeps (replies (run_of state sources) text refused) refused sources outputs outputs reply new_reply
 unfolding refusals
 served_reply keeps state sources text true outputs k h t =
-    record { kept = k; honest = h; inputs = refl; writes = rw (order_of_reply text true) (writes_reply outputs t); counted = refl }
+    record { kept = k; honest = h; inputs = refl; writes = rw (order_of_reply text true) (writes_reply outputs t.holds); counted = refl }
 served_reply keeps state sources text false outputs k h t =
-    record { kept = k; honest = h; inputs = refl; writes = rw (order_of_reply text false) (writes_reply outputs t); counted = refl }
+    record { kept = k; honest = h; inputs = refl; writes = rw (order_of_reply text false) (writes_reply outputs t.holds); counted = refl }
 
 pub served_nothing : {S : Type 0} (keeps : S → Type 0) (state : S) (sources : List Source) (outputs : List Sink) (reply : Sink)
     → keeps state → All IsHonest sources

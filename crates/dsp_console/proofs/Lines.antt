@@ -5,7 +5,9 @@ use Rattle.std.proofs.lemmas.List.Elements.{All-push}
 use Rattle.std.proofs.lemmas.Grind.{common_steps}
 use Rattle.std.proofs.lemmas.Bool.Decides.{nat_tests}
 use Rattle.dsp_console.specs.Ports.{Source, Gives}
-use Rattle.dsp_console.specs.Lines.{IsNoFeed, IsLine, LineSoFar}
+use Rattle.dsp_console.specs.Served.{IsNoFeed}
+use Rattle.dsp_console.specs.Lines.{IsLine}
+use Rattle.dsp_console.proofs.SoFar.{LineSoFar}
 use Rattle.dsp_console.proofs.Ports.{gives_more}
 
 pub one_octet : (n : ℕ) (xs : List ℕ) → n ≤ length xs → length xs ≡ 1 → (n ≡ 0 → ⊥) → take n xs ≡ get_or xs 0 0 ∷ []

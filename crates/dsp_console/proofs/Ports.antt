@@ -4,13 +4,19 @@ use Rattle.std.proofs.Math.Seq.{take-append-add}
 use Rattle.std.proofs.lemmas.List.{take-append-le}
 use borrow.Rule.Slice.PartMut.{put_mid, post_of}
 use Rattle.std.proofs.lemmas.Grind.{common_steps}
-use Rattle.dsp_console.specs.Ports.{Source, Sink, Gives, Takes, TakesFirst}
+use Rattle.dsp_console.specs.Ports.{Source, Sink, Gives, Holds, Waits, Takes, TakesFirst}
 
 pub gives_none : (s : Source) → Gives [] s s
 gives_none s = record { stays = λ h. h; given = λ h. refl }
 
+pub holds_none : (s : Sink) → Holds [] s s
+holds_none s = record { stays = λ h. h; taken = λ h. grind (arith, common_steps) }
+
+pub waits_none : (s : Sink) → Waits s s
+waits_none s = record { stays = λ h. h; passed = λ h. refl }
+
 pub takes_none : (s : Sink) → Takes [] s s
-takes_none s = record { stays = λ h. h; taken = λ h. grind (arith, common_steps) }
+takes_none s = record { holds = holds_none s; waits = waits_none s }
 
 pub gives_more : {xs ys : List ℕ} {a b c : Source} → Gives xs a b → Gives ys b c → Gives (xs ++ ys) a c
 gives_more {xs} {ys} {a} {b} {c} g h = record {
@@ -18,11 +24,17 @@ gives_more {xs} {ys} {a} {b} {c} g h = record {
   given = λ e. g.given e ∙ ap (λ r. xs ++ r) (h.given (g.stays e)) ∙ sym (append_assoc xs ys c.coming);
 }
 
-pub takes_more : {xs ys : List ℕ} {a b c : Sink} → Takes xs a b → Takes ys b c → Takes (xs ++ ys) a c
-takes_more {xs} {ys} {a} {b} {c} g h = record {
+pub holds_more : {xs ys : List ℕ} {a b c : Sink} → Holds xs a b → Holds ys b c → Holds (xs ++ ys) a c
+holds_more {xs} {ys} {a} {b} {c} g h = record {
   stays = λ e. h.stays (g.stays e);
   taken = λ e. h.taken (g.stays e) ∙ ap (λ r. r ++ ys) (g.taken e) ∙ append_assoc a.held xs ys;
 }
+
+pub waits_more : {a b c : Sink} → Waits a b → Waits b c → Waits a c
+waits_more g h = record { stays = λ e. h.stays (g.stays e); passed = λ e. h.passed (g.stays e) ∙ g.passed e }
+
+pub takes_more : {xs ys : List ℕ} {a b c : Sink} → Takes xs a b → Takes ys b c → Takes (xs ++ ys) a c
+takes_more g h = record { holds = holds_more g.holds h.holds; waits = waits_more g.waits h.waits }
 
 pub takes_some : {xs ys : List ℕ} {a b c : Sink} → Takes xs a b → TakesFirst ys b c → TakesFirst (xs ++ ys) a c
 takes_some {xs} {ys} {a} {b} {c} g h = record {

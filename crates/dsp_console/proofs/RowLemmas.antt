@@ -23,6 +23,9 @@ worked_rows = record {
   numbers = record { replies = refl; output = refl; inputs = refl; counted = refl };
   creations = record { replies = refl; output = refl; inputs = refl; counted = refl };
   chains = record { replies = refl; output = refl; inputs = refl; counted = refl };
+  instances = record { replies = refl; output = refl; inputs = refl; counted = refl };
+  coefficients = record { replies = refl; output = refl; inputs = refl; counted = refl };
+  longest_feed = record { replies = refl; output = refl; inputs = refl; counted = refl };
 }
 
 pub feed_order : FeedOrder

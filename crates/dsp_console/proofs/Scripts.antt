@@ -3,17 +3,20 @@ use Rattle.std.proofs.Common.{◌≡◌, ◌≢◌, ℕ, suc, slice_index_or, �
 use Rattle.std.specs.List.{All, flat_map}
 use Rattle.std.proofs.lemmas.List.{append-nil}
 use Rattle.std.proofs.lemmas.List.Elements.{All-nil, All-weaker}
-use Rattle.std.proofs.lemmas.List.Splits.{slice_split_none, slice_split_at}
+use Rattle.std.proofs.lemmas.List.Splits.{slice_split_none, slice_split_at, length-slice_split}
 use Rattle.std.proofs.lemmas.Grind.{common_steps}
 use Rattle.std.proofs.lemmas.Bool.Decides.{nat_tests}
 use Rattle.dsp_console.specs.Ports.{Source, Sink, Gives, IsAtEnd}
-use Rattle.dsp_console.specs.Lines.{IsNoFeed, LineCame, ending}
+use Rattle.dsp_console.specs.Lines.{LineCame}
 use Rattle.dsp_console.proofs.Ports.{gives_none, gives_more}
-use Rattle.dsp_console.specs.Served.{Machine, Run, Written, line_answer, lines_answer, then_answer, order_of, refusals, ended, ended_lines}
-use Rattle.dsp_console.specs.Script.{lines_of}
-use Rattle.dsp_console.specs.Runs.{IsHonest, Served, Consumes, WritesFirst, run_of}
-use Rattle.dsp_console.specs.declared.limits.TheConstants.{LINE_OCTETS, SCRIPT_OCTETS}
-use Rattle.dsp_console.proofs.Writes.{writes_none, first_longer, order_of-append}
+use Rattle.dsp_console.specs.Served.{Machine, Run, Written, line_answer, lines_answer, then_answer, order_of, refusals, IsNoFeed, ending, ended, ended_lines}
+use Rattle.voice_script.specs.Script.{lines_of}
+use Rattle.dsp_console.specs.Runs.{IsHonest}
+use Rattle.dsp_console.specs.LineRuns.{run_of}
+use Rattle.dsp_console.proofs.SoFar.{ServedSoFar, Consumes}
+use Rattle.voice_script.specs.declared.limits.TheConstants.{LINE_OCTETS}
+use Rattle.dsp_console.specs.declared.limits.TheConstants.{SCRIPT_OCTETS}
+use Rattle.dsp_console.proofs.Writes.{writes_none, order_of-append}
 
 -- ---- answers
 
@@ -66,7 +69,7 @@ lines_of_ended (line ∷ lines) rest n =
 -- ---- a run's lines
 
 pub served_none : {S : Type 0} (m : Machine S) (keeps : S → Type 0) (state : S) (script : Source) (sources : List Source) (outputs : List Sink) (replies : Sink)
-    → keeps state → All IsHonest sources → Served m keeps (run_of state sources) 0 SCRIPT_OCTETS script script sources outputs outputs replies replies
+    → keeps state → All IsHonest sources → ServedSoFar m keeps (run_of state sources) 0 SCRIPT_OCTETS script script sources outputs outputs replies replies
 unfolding lines_answer order_of refusals
 served_none m keeps state script sources outputs replies k h = record {
   lines = [];
@@ -91,8 +94,16 @@ consumes_more {left = left} {new_left = new_left} {last = last} c line = record 
       omega arith;
 }
 
+-- what lines and one more write
+pub order_push : {S : Type 0} (m : Machine S) (start : Run S) (lines : List (List ℕ)) (octets : List ℕ)
+    → order_of (lines_answer m start (lines ++ octets ∷ [])).written
+    ≡ order_of (lines_answer m start lines).written ++ order_of (line_answer m (lines_answer m start lines).run octets).written
+order_push m start lines octets =
+    ap (λ a. order_of a.written) (lines_answer-push m start lines octets)
+    ∙ order_of-append (lines_answer m start lines).written (line_answer m (lines_answer m start lines).run octets).written
+
 module _ {S : Type 0} (m : Machine S) (start : Run S) where
-  run_is : (run : Run S) (sources : List Source) → run.inputs ≡ map (λ s. s.coming) sources → run ≡ run_of run.state sources
+  pub run_is : (run : Run S) (sources : List Source) → run.inputs ≡ map (λ s. s.coming) sources → run ≡ run_of run.state sources
   run_is run sources e = ap (λ i. record { state = run.state; inputs = i }) e
 
   -- what the lines so far and one more write
@@ -100,8 +111,7 @@ module _ {S : Type 0} (m : Machine S) (start : Run S) where
       → order_of (lines_answer m start (lines ++ octets ∷ [])).written
       ≡ order_of (lines_answer m start lines).written ++ order_of (line_answer m (run_of (lines_answer m start lines).run.state sources) octets).written
   order_more lines sources octets e =
-      ap (λ a. order_of a.written) (lines_answer-push m start lines octets)
-      ∙ order_of-append (lines_answer m start lines).written (line_answer m (lines_answer m start lines).run octets).written
+      order_push m start lines octets
       ∙ ap (λ r. order_of (lines_answer m start lines).written ++ order_of (line_answer m r octets).written) (run_is (lines_answer m start lines).run sources e)
 
   pub run_more : (lines : List (List ℕ)) (sources : List Source) (octets : List ℕ) → (lines_answer m start lines).run.inputs ≡ map (λ s. s.coming) sources
@@ -117,14 +127,14 @@ module _ {S : Type 0} (m : Machine S) (start : Run S) where
       ∙ refusals-append (lines_answer m start lines).written (line_answer m (lines_answer m start lines).run octets).written
       ∙ ap (λ r. refusals (lines_answer m start lines).written + refusals (line_answer m r octets).written) (run_is (lines_answer m start lines).run sources e)
 
-  -- the order of the lines so far and one more is first of the order of them and others
-  pub first_lines : (lines more : List (List ℕ)) (octets : List ℕ) {a b : List Sink} {x y : Sink} → WritesFirst (order_of (lines_answer m start (lines ++ octets ∷ [])).written) a b x y
-      → WritesFirst (order_of (lines_answer m start (lines ++ octets ∷ more)).written) a b x y
-  first_lines lines more octets w =
-      let run = (lines_answer m start (lines ++ octets ∷ [])).run in
-      let whole : (lines ++ octets ∷ []) ++ more ≡ lines ++ octets ∷ more = grind (arith, common_steps) in
-      rw (← whole, lines_answer-append m start (lines ++ octets ∷ []) more, order_of-append (lines_answer m start (lines ++ octets ∷ [])).written (lines_answer m run more).written)
-      (first_longer (order_of (lines_answer m run more).written) w)
+-- a script has a last line
+pub last_of : {A : Type 0} (xs : List A) → 0 < length xs → (front : List A) × (last : A) × (xs ≡ front ++ last ∷ [])
+last_of [] h = absurd (omega arith)
+last_of (x ∷ []) h = ([], x, refl)
+last_of (x ∷ y ∷ xs) h = let rest = last_of (y ∷ xs) (omega arith) in (x ∷ rest.0, rest.1, ap (λ r. x ∷ r) rest.2)
+
+pub last_line_of : (script : List ℕ) → (front : List (List ℕ)) × (last : List ℕ) × (lines_of script ≡ front ++ last ∷ [])
+last_line_of script = last_of (lines_of script) (omega (arith, length-slice_split (λ b. eqb b 10) script))
 
 pub ended_more : (lines : List (List ℕ)) (octets : List ℕ) → flat_map ended (lines ++ octets ∷ []) ≡ flat_map ended lines ++ (octets ++ 10 ∷ [])
 ended_more lines octets = grind (arith, common_steps)

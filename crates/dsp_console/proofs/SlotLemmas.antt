@@ -5,13 +5,8 @@ use Rattle.mem_rec.specs.declared.MemRec.{MemRec}
 use Rattle.mem_rec.specs.declared.Space.TheVariants.{Daram, Saram, External}
 use Rattle.mem_rec.specs.declared.Attr.TheVariants.{Scratch}
 use Rattle.ialg.specs.Records.{record_at, words_of, lasting, idle_size, AreApart, AllLent, LastingLent}
-use Rattle.dsp_console.specs.Slots.{FitsSlots, lasting_in}
-
--- what is kept of a `Lent` is kept of the slices that it ends as
-pub kept_back : (Keeps : List MemRec → List (List ℤ) → Type 0) (t' t : List MemRec) (n0 n1 n2 n3 x0 x1 x2 : List ℤ)
-    → t' ≡ t → x0 ≡ n0 → x1 ≡ n1 → x2 ≡ n2 → n3 ≡ []
-    → Keeps t' (lasting t' (n0 ∷ n1 ∷ n2 ∷ n3 ∷ [])) → Keeps t (lasting t (x0 ∷ x1 ∷ x2 ∷ [] ∷ []))
-kept_back Keeps t' t n0 n1 n2 n3 x0 x1 x2 et e0 e1 e2 e3 k = rw (← et, e0, e1, e2, ← e3) k
+use Rattle.dsp_console.specs.Slots.{FitsSlots}
+use Rattle.dsp_console.specs.SlotWords.{lasting_in}
 
 -- records of three spaces begin apart
 pub apart_in_slots : (t : List MemRec) → FitsSlots t → AreApart t

@@ -1,8 +1,8 @@
--- What a contract sees of what a line asks.
+-- For private clauses alone: what a line asks of the ports.
 use Rattle.std.specs.Prelude.{◌≡◌, ℕ, ◌*◌, ◌<◌, true, is_some}
 use Rattle.dsp_console.specs.Served as served
 use Rattle.dsp_console.specs.Console.{tells}
-use Rattle.dsp_console.specs.ReplyViews.{reply_of}
+use Rattle.voice_script.specs.ReplyViews.{reply_of}
 use Rattle.dsp_console.specs.declared.limits.TheConstants.{CHANNELS, SAMPLE_OCTETS}
 use Rattle.dsp_console.specs.declared.console.Ask.{Ask}
 use Rattle.dsp_console.specs.declared.console.Ask.TheVariants.{Nothing, Tell, Feed}

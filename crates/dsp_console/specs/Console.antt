@@ -4,8 +4,8 @@ use Rattle.ialg.specs.declared.refusal.Refusal.{Refusal}
 use Rattle.ialg.specs.Meaning.{Meaning}
 use Rattle.dsp_console.specs.Instances.{Living, after_create, feed_output, fed}
 use Rattle.dsp_console.specs.Channels.{Channels, after_chain, feed_refusal, members_at, new_channels}
-use Rattle.dsp_console.specs.Script.{Command, Create, Chain, Feed, parsed, lines_of}
-use Rattle.dsp_console.specs.Replies.{Reply, Done, Count, No, is_refusal, reply_text}
+use Rattle.voice_script.specs.Script.{Command, Create, Chain, Feed, parsed, lines_of}
+use Rattle.voice_script.specs.Replies.{Reply, Done, Count, No, is_refusal, reply_text}
 use Rattle.dsp_console.specs.Samples.{octets_of, samples_of}
 use Rattle.dsp_console.specs.Served.{Asked, Nothing, Tell, Machine, Run, Answer, lines_answer}
 use Rattle.dsp_console.specs.Served as asks

@@ -1,4 +1,4 @@
--- How the console's memory keeps what its instances and channels are.
+-- For private clauses alone: how the console's memory keeps what its instances and channels are.
 use Rattle.std.specs.Prelude.{◌≡◌, ℕ, ◌<◌, ℤ, List, [], ◌∷◌, Option, Some, None, slice_index_or}
 use Rattle.mem_rec.specs.declared.MemRec.{MemRec}
 use Rattle.ialg.specs.History.{History}
@@ -7,7 +7,7 @@ use Rattle.ialg.specs.Records.{unplaced}
 use Rattle.dsp_console.specs.Numbered.{Numbered, at_number}
 use Rattle.dsp_console.specs.Instances as instances
 use Rattle.dsp_console.specs.Channels.{Channels}
-use Rattle.dsp_console.specs.Slots.{lasting_in}
+use Rattle.dsp_console.specs.SlotWords.{lasting_in}
 use Rattle.dsp_console.specs.declared.limits.TheConstants.{INSTANCES, CHANNELS}
 use Rattle.dsp_console.specs.declared.console.Instance.{Instance}
 use Rattle.dsp_console.specs.declared.console.Console.{Console}

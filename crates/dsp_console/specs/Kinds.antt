@@ -17,6 +17,7 @@ abbrev pub kind_meaning : Meaning Kind
 kind_meaning = record {
   bound = λ _. fir_meaning.bound fir;
   table = λ _ p. fir_meaning.table fir p;
+  fill = λ _ p k. fir_meaning.fill fir p k;
   gives = λ _ p h. fir_meaning.gives fir p h;
   accepts = λ _ p c. fir_meaning.accepts fir p c;
   got = λ _ p h. fir_meaning.got fir p h;

@@ -1,16 +1,9 @@
--- Lines as they come from an input.
-use Rattle.std.specs.Prelude.{◌≡◌, ◌≢◌, ℕ, ◌+◌, ◌≤◌, Bool, true, false, nat_lt, List, [], ◌∷◌, ◌++◌, length, All}
+-- For private clauses alone: what comes from an input, lines and the octets of a feed.
+use Rattle.std.specs.Prelude.{◌≡◌, ℕ, ◌+◌, ◌<◌, ◌≤◌, Bool, true, false, nat_lt, List, [], ◌∷◌, ◌++◌, length, All}
 use Rattle.dsp_console.specs.Ports.{Source, Gives, IsAtEnd}
+use Rattle.dsp_console.specs.Served.{IsNoFeed, ending}
 use Rattle.dsp_console.specs.declared.octets.LineFault.{LineFault}
 use Rattle.dsp_console.specs.declared.octets.LineFault.TheVariants.{Port, Limit}
-
--- what ends a line: nothing ends the last one
-abbrev pub ending : Bool → List ℕ
-ending true = []
-ending false = 10 ∷ []
-
-abbrev pub IsNoFeed : ℕ → Type 0
-IsNoFeed b = b ≢ 10
 
 -- a line's octets as they are kept: the text, where it isn't long
 pub record IsLine (most : ℕ) (text : List ℕ) (long : Bool) (octets : List ℕ) : Type 0 where
@@ -38,9 +31,8 @@ LineFails Port limit old new = (new.failed ≡ true) × ((octets : List ℕ) × 
 LineFails Limit limit old new =
     (new.failed ≡ false) × ((octets : List ℕ) × (next : ℕ) × All IsNoFeed octets × Gives (octets ++ next ∷ []) old new × (limit ≡ length octets))
 
--- as much of a line as has come, of so many octets that may
-pub record LineSoFar (most : ℕ) (text : List ℕ) (long : Bool) (limit left : ℕ) (old new : Source) : Type 0 where
-  pub octets : List ℕ
-  pub line : IsLine most text long octets
-  pub gives : Gives octets old new
-  pub used : limit ≡ length octets + left
+-- an honest input ended before so many octets came
+pub record EndsWithin (count : ℕ) (old new : Source) : Type 0 where
+  pub stays : old.honest ≡ true → new.honest ≡ true
+  pub few : old.honest ≡ true → length old.coming < count
+  pub at_end : IsAtEnd new

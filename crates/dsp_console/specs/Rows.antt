@@ -1,5 +1,6 @@
 -- Worked rows: what is served for a script and the samples of an input.
 use Rattle.std.specs.Prelude.{◌≡◌, ℕ, Some, None, List, [], ◌∷◌, ◌++◌, map, replicate, pos, negsuc, codes, ◌==◌, if◌then◌else◌}
+use Rattle.std.specs.List.{flat_map}
 use Prim.Native.String.{String}
 use Rattle.dsp_console.specs.Samples.{octets_of}
 use Rattle.dsp_console.specs.Served.{held_by, order_of, refusals}
@@ -13,6 +14,10 @@ script_of text = map (λ b. if b == 59 then 10 else b) (codes text)
 -- replies are parted by `/`
 abbrev pub replies_of : String → List ℕ
 replies_of text = map (λ b. if b == 47 then 10 else b) (codes text)
+
+-- so many coefficients, each 1
+abbrev pub ones : ℕ → List ℕ
+ones n = flat_map (λ digit. 32 ∷ digit ∷ []) (replicate n 49)
 
 -- what is told, given and refused for a script and the octets of one input, and what is left of the input
 pub record Serves (script input told given left : List ℕ) (refused : ℕ) : Type 0 where
@@ -48,6 +53,14 @@ pub record WorkedRows : Type 0 where
       (replies_of "no 3 range/no 3 range/no 3 range/ok/no 4 taken/no 6 params/no 2 syntax/no 3 range/no 2 syntax/") [] [] 8
   pub chains : Serves (script_of "chain 0 1;chain 0 64;chain 1 0;create 0 fir 0 1;chain 0 0;chain 0 5;chain 0 0 0;feed 1 1") []
       (replies_of "no 5 missing/no 3 range/no 3 range/ok/ok/no 4 taken/no 2 syntax/no 3 range/") [] [] 6
+  -- instances 63 and 64, and a group that isn't one before an instance that is taken; groups 7 and 8
+  pub instances : Serves (script_of "create 63 fir 0 1;create 64 fir 0 1;create 63 fir 8 1;create 63 fir 0 1;create 62 fir 7 1;create 61 fir 8 1") []
+      (replies_of "ok/no 3 range/no 3 range/no 4 taken/ok/no 3 range/") [] [] 4
+  -- 72 coefficients are read, 73 aren't; 64 are a filter, 65 aren't
+  pub coefficients : Serves (codes "create 0 fir 0" ++ ones 72 ++ 10 ∷ codes "create 0 fir 0" ++ ones 73 ++ 10 ∷ codes "create 0 fir 0" ++ ones 65 ++ 10 ∷ codes "create 0 fir 0" ++ ones 64) []
+      (replies_of "no 6 params/no 3 range/no 6 params/ok/") [] [] 3
+  pub longest_feed : Serves (script_of "create 0 fir 0 16384;chain 0 0;feed 0 256;feed 0 257") (octets_of (replicate 256 (pos 2)))
+      (replies_of "ok/ok/ok 256/no 3 range/") (octets_of (replicate 256 (pos 1))) [] 1
 
 -- of a feed the output's octets come before its reply
 pub record FeedOrder : Type 0 where

@@ -1,10 +1,10 @@
 -- What is served for a script's lines and the octets of the inputs, by what a machine does with a line.
-use Rattle.std.specs.Prelude.{ℕ, ◌-◌, Bool, true, false, List, [], ◌∷◌, ◌++◌, map, filter, length, drop, take, Option, Some, None, nat_lt, ◌==◌, if◌then◌else◌, slice_index_or, slice_set}
+use Rattle.std.specs.Prelude.{◌≢◌, ℕ, ◌-◌, Bool, true, false, List, [], ◌∷◌, ◌++◌, map, filter, length, drop, take, Option, Some, None, nat_lt, ◌==◌, if◌then◌else◌, slice_index_or, slice_set}
 use Rattle.std.specs.List.{flat_map, count_by}
 use Rattle.ialg.specs.declared.refusal.Refusal.TheVariants.{Long, Short}
-use Rattle.dsp_console.specs.declared.limits.TheConstants.{LINE_OCTETS}
-use Rattle.dsp_console.specs.Script.{lines_of}
-use Rattle.dsp_console.specs.Replies.{No, reply_text}
+use Rattle.voice_script.specs.declared.limits.TheConstants.{LINE_OCTETS}
+use Rattle.voice_script.specs.Script.{lines_of}
+use Rattle.voice_script.specs.Replies.{No, reply_text}
 
 -- what a line asks: nothing, a reply, or so many octets of a channel's input
 pub data Asked : Type 0 where
@@ -88,6 +88,14 @@ module _ {S : Type 0} (machine : Machine S) where
       then_answer (line_answer run line).written (lines_answer (line_answer run line).run lines)
 
 -- ---- the script
+
+-- what ends a line: nothing ends the last one
+abbrev pub ending : Bool → List ℕ
+ending true = []
+ending false = 10 ∷ []
+
+abbrev pub IsNoFeed : ℕ → Type 0
+IsNoFeed b = b ≢ 10
 
 abbrev pub ended : List ℕ → List ℕ
 ended line = line ++ 10 ∷ []

@@ -1,11 +1,11 @@
 -- How an instance's records stand in its slots.
-use Rattle.std.specs.Prelude.{◌≡◌, ℕ, ◌≤◌, ℤ, List, [], ◌∷◌, length, take}
+use Rattle.std.specs.Prelude.{◌≡◌, ℕ, ◌≤◌, List, length}
 use Rattle.mem_rec.specs.declared.MemRec.{MemRec}
 use Rattle.mem_rec.specs.declared.Space.{Space}
 use Rattle.mem_rec.specs.declared.Space.TheVariants.{Daram, Saram, External}
 use Rattle.mem_rec.specs.declared.Attr.{Attr}
 use Rattle.mem_rec.specs.declared.Attr.TheVariants.{Scratch, Persist}
-use Rattle.ialg.specs.Records.{record_at, lasting}
+use Rattle.ialg.specs.Records.{record_at}
 use Rattle.dsp_console.specs.declared.limits.TheConstants.{OBJECT_SLOT, SARAM_SLOT, DARAM_SLOT}
 
 -- a record of this space and this attribute, of so many words at most
@@ -20,8 +20,3 @@ pub record FitsSlots (table : List MemRec) : Type 0 where
   pub object : FitsSlot (record_at table 0) External Persist OBJECT_SLOT
   pub kept : FitsSlot (record_at table 1) Saram Persist SARAM_SLOT
   pub scratch : FitsSlot (record_at table 2) Daram Scratch DARAM_SLOT
-
--- the words of the records that last, from the beginnings of the slots
-abbrev pub lasting_in : List MemRec → List ℤ → List ℤ → List (List ℤ)
-lasting_in table external saram =
-    lasting table (take (record_at table 0).size external ∷ take (record_at table 1).size saram ∷ [] ∷ [] ∷ [])

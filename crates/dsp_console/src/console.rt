@@ -6,17 +6,15 @@ ghost use Rattle.ialg.specs.Records.{record_at, unplaced};
 ghost use Rattle.dsp_console.specs.Slots.{FitsSlots};
 
 use crate::limits::{
-    BLOCK_OCTETS, CHANNELS, DARAM_SLOT, EXTERNAL_SLOT, GROUPS, INSTANCES, LINE_OCTETS,
-    SAMPLE_OCTETS, SARAM_SLOT,
+    BLOCK_OCTETS, CHANNELS, DARAM_SLOT, EXTERNAL_SLOT, GROUPS, INSTANCES, SAMPLE_OCTETS, SARAM_SLOT,
 };
-use crate::reply::Reply;
-use crate::samples::{FeedSamples, read_samples, write_samples};
-use crate::script::{Command, parse};
+use crate::samples::{read_samples, write_samples};
 use crate::slots::{feed_slots, start_slots};
 use arrayvec::ArrayVec;
 use ialg::{BLOCK_SAMPLES, Block, Ialg, Named, Params, Refusal};
 use mem_rec::MemTab;
 use std::alloc::{AllocError, Global};
+use voice_script::{Command, FeedSamples, LINE_OCTETS, Reply, parse};
 
 /// A living instance: its kind, and its table with bases.
 #[derive(Drop)]
@@ -42,7 +40,7 @@ pub(crate) struct Console<M> {
 }
 
 /// What a line asks of the ports.
-#[derive(Clone, Copy, PartialEq, Eq, Debug)]
+#[derive(Clone, Copy)]
 pub(crate) enum Ask {
     /// Nothing.
     Nothing,
@@ -69,7 +67,7 @@ fn place(table: MemTab, instance: u8) -> MemTab
         .with_base(2, DARAM_SLOT as u16 * number)
 }
 
-ghost use Rattle.dsp_console.specs.ReplyViews.{reply_of, told_for};
+ghost use Rattle.voice_script.specs.ReplyViews.{reply_of, told_for};
 
 /// The reply to a command that gives nothing.
 fn reply_to(answer: Result<(), Refusal>) -> Reply
@@ -85,10 +83,11 @@ impl<M: Ialg + Named> Console<M> {
     ghost use Rattle.dsp_console.specs.Keeps.{Keeps};
     ghost use Rattle.dsp_console.specs.Channels.{Channels, new_channels, after_chain, feed_refusal};
     ghost use Rattle.dsp_console.specs.Instances.{after_create, output_block, given};
-    ghost use Rattle.dsp_console.specs.Commands.{command_of};
+    ghost use Rattle.voice_script.specs.Commands.{command_of};
     ghost use Rattle.dsp_console.specs.Asks.{asked_of, IsReady, AskIsReady};
     ghost use Rattle.dsp_console.specs.Console.{with_living, command_did, output_of, machine_of};
-    ghost use Rattle.dsp_console.specs.Answers.{IsServable, Answers, refusal_of};
+    ghost use Rattle.dsp_console.specs.Answers.{Answers, refusal_of};
+    ghost use Rattle.dsp_console.specs.Servable.{IsServable};
 
     /// No instance lives, and no channel is chained.
     pub(crate) fn new(alloc: Global) -> Result<Console<M>, AllocError>

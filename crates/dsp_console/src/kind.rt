@@ -1,6 +1,8 @@
 //! The kinds of algorithms that the program knows.
-ghost use Rattle.alg_fir.specs.Keeps.{KeepsIdle, KeepsActive};
-ghost use Rattle.dsp_console.specs.Answers.{IsServable};
+ghost use Rattle.ialg.specs.Filters.{IsIdle, IsActive};
+ghost use Rattle.alg_fir.specs.Keeps.{fir_kind, Rests, Runs};
+ghost use Rattle.alg_fir.specs.Meaning.{fir_memory};
+ghost use Rattle.dsp_console.specs.Servable.{IsServable};
 ghost use Rattle.dsp_console.specs.Kinds.{kind_meaning, kind_named};
 
 use alg_fir::Fir;
@@ -29,9 +31,9 @@ impl Named for Kind {
 impl Ialg for Kind {
     ghost meaning = { kind_meaning };
 
-    ghost idle_keeps = { λ _ p rs wss h. KeepsIdle p rs wss h };
+    ghost idle_keeps = { λ _ p rs wss h. IsIdle fir_kind (fir_memory p) (Rests p h) rs wss };
 
-    ghost active_keeps = { λ _ p rs wss h. KeepsActive p rs wss h };
+    ghost active_keeps = { λ _ p rs wss h. IsActive fir_kind (fir_memory p) (Runs p h) rs wss };
 
     fn alg_num_alloc(&self) -> usize {
         Fir.alg_num_alloc()
@@ -73,9 +75,13 @@ impl Ialg for Kind {
         Fir.alg_free(mem)
     }
 
-    ghost idle_words = { λ _ p rs wss h keeps. keeps.both.history };
+    ghost idle_words = { λ _ p rs wss h keeps. keeps.keeps.history };
 
-    ghost active_words = { λ _ p rs wss h keeps. keeps.both.history };
+    ghost active_words = { λ _ p rs wss h keeps. keeps.keeps.history };
+
+    ghost idle_fill = { λ _ p rs wss h keeps k once. absurd (keeps.placed.none_once k once) };
+
+    ghost active_fill = { λ _ p rs wss h keeps k once. absurd (keeps.placed.none_once k once) };
 }
 
 /// The law that the program's kinds can be served: each keeps IALG's laws for all parameters, and its tables fit the

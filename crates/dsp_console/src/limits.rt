@@ -10,32 +10,11 @@ pub(crate) const GROUPS: u8 = 8;
 /// Channels have the numbers below this: for the time being there is one.
 pub const CHANNELS: u8 = 1;
 
-/// The most pairs of ports of a command line.
-pub const PORT_PAIRS: usize = 16;
-
 /// The most octets of a script.
 pub const SCRIPT_OCTETS: u32 = 1_000_000_000;
 
-/// The most octets of a line, without the line feed.
-pub(crate) const LINE_OCTETS: usize = 1_024;
-
-/// The most words of a line.
-pub(crate) const LINE_WORDS: usize = LINE_OCTETS / 2;
-
-/// The most octets of a reply, the line feed counted.
-pub(crate) const REPLY_OCTETS: usize = 24;
-
-/// The most digits of a number of 16 bits.
-pub(crate) const NUMBER_DIGITS: usize = 5;
-
-/// No number is told from others beyond this magnitude, which no range reaches.
-pub(crate) const GREATEST_MAGNITUDE: u32 = 100_000;
-
 /// The octets of a sample.
 pub(crate) const SAMPLE_OCTETS: usize = 2;
-
-/// A feed takes as many samples as a block has, at most.
-pub(crate) const FEED_SAMPLES: u16 = BLOCK_SAMPLES as u16;
 
 /// The most octets of a feed.
 pub(crate) const BLOCK_OCTETS: usize = SAMPLE_OCTETS * BLOCK_SAMPLES;
@@ -54,3 +33,8 @@ pub(crate) const SARAM_SLOT: usize = 128;
 
 /// The words of `daram` that an instance has.
 pub(crate) const DARAM_SLOT: usize = 320;
+
+// The limits that a reader is told, said once more: no slip of one passes.
+const _: () = prove!(INSTANCES == 8 * 8 && GROUPS == 8 && CHANNELS == 1);
+
+const _: () = prove!(SCRIPT_OCTETS == 1_000 * 1_000 * 1_000 && BLOCK_OCTETS == 512);

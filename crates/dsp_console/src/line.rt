@@ -1,26 +1,26 @@
 //! Serves one line.
 ghost use Rattle.std.specs.Prelude.{◌≡◌, ◌<◌, ◌≤◌, ◌*◌, ◌⊎◌, List, ℕ, [], true, false, map, length, Ok, All, Any, IfOk, IsOk, IsErrOf};
 ghost use Rattle.std.specs.Result.{is_err};
-ghost use Rattle.dsp_console.specs.Ports.{Sink, Gives, GivesWithin, Takes, TakesFirst, EndsWithin};
-ghost use Rattle.dsp_console.specs.Lines.{IsLine};
+ghost use Rattle.dsp_console.specs.Ports.{Sink, Gives, Holds, Takes, TakesFirst, HasPassedAll};
+ghost use Rattle.dsp_console.specs.Lines.{IsLine, EndsWithin};
 ghost use Rattle.dsp_console.specs.Channels.{Channels};
 ghost use Rattle.dsp_console.specs.Keeps.{Keeps};
-ghost use Rattle.dsp_console.specs.Answers.{IsServable};
+ghost use Rattle.dsp_console.specs.Servable.{IsServable};
 ghost use Rattle.dsp_console.specs.Asks.{IsReady};
 ghost use Rattle.dsp_console.specs.Console.{machine_of};
-ghost use Rattle.dsp_console.specs.Replies.{reply_text};
-ghost use Rattle.dsp_console.specs.ReplyViews.{reply_of};
+ghost use Rattle.voice_script.specs.Replies.{reply_text};
+ghost use Rattle.voice_script.specs.ReplyViews.{reply_of};
 ghost use Rattle.dsp_console.specs.Served.{feed_answer, line_answer};
-ghost use Rattle.dsp_console.specs.Runs.{StepsAt, no_source, no_sink, IsHonest, IsReadyIn, IsReadyOut, HasFailedIn, HasFailedOut, AreReady, Writes, FailsWithin, IsServed, IsCut, IsUnfed, run_of};
+ghost use Rattle.dsp_console.specs.Runs.{StepsAt, no_source, no_sink, IsHonest, IsReadyIn, IsReadyOut, HasFailedIn, HasFailedOut, AreReady, Writes, AllWait, FailsWithin};
+ghost use Rattle.dsp_console.specs.LineRuns.{IsServed, IsCut, IsUnfed, run_of};
 
 use crate::console::{Ask, Console};
-use crate::limits::{BLOCK_OCTETS, CHANNELS, LINE_OCTETS, SAMPLE_OCTETS};
+use crate::limits::{BLOCK_OCTETS, CHANNELS, SAMPLE_OCTETS};
 use crate::octets::{read_octets, write_octets};
 use crate::port::{PortFault, PortIn, PortOut};
-use crate::reply::Reply;
-use crate::samples::FeedSamples;
 use crate::serving::Fault;
 use ialg::{Ialg, Named, Refusal};
+use voice_script::{FeedSamples, LINE_OCTETS, Reply, reply_text};
 
 /// Reads from the input of this number.
 fn read_from<I: PortIn>(
@@ -56,14 +56,14 @@ fn write_to<O: PortOut>(
 }
 
 /// Writes a reply.
-fn tell<P: PortOut>(replies: &mut P, reply: Reply) -> Result<(), Fault>
+fn tell<P: PortOut>(replies: &mut P, reply: &Reply) -> Result<(), Fault>
     requires { (P.sink replies.old).failed ≡ false }
-    ensures ok { IsOk result → Takes (reply_text (reply_of reply)) (P.sink replies.old) (P.sink replies.new) }
-    ensures fault { is_err result ≡ true → TakesFirst (reply_text (reply_of reply)) (P.sink replies.old) (P.sink replies.new) }
+    ensures ok { IsOk result → Takes (reply_text (reply_of reply.now)) (P.sink replies.old) (P.sink replies.new) }
+    ensures fault { is_err result ≡ true → TakesFirst (reply_text (reply_of reply.now)) (P.sink replies.old) (P.sink replies.new) }
     ensures failed { (P.sink replies.new).failed ≡ is_err result }
     ensures write { is_err result ≡ true → IsErrOf result Fault.Write }
 {
-    let text = reply.text();
+    let text = reply_text(reply);
     if write_octets(replies, text.as_slice()).is_err() {
         return Err(Fault::Write);
     }
@@ -91,6 +91,7 @@ fn serve_feed<M: Ialg + Named, I: PortIn, O: PortOut, P: PortOut>(
     ensures fault { is_err result ≡ true → IsErrOf result Fault.Read ⊎ IsErrOf result Fault.Write }
     ensures read { IsErrOf result Fault.Read → Any HasFailedIn (map I.source inputs.new.items) }
     ensures write { IsErrOf result Fault.Write → Any HasFailedOut (map O.sink outputs.new.items) ⊎ HasFailedOut (P.sink replies.new) }
+    ensures waits { AllWait (map O.sink outputs.old.items) (map O.sink outputs.new.items) (P.sink replies.old) (P.sink replies.new) }
     ensures served { IfOk result (λ refused. (s : Channels M) → Keeps M.meaning M.idle_keeps console.old s → All IsHonest (map I.source inputs.old.items)
         → IsServed (Keeps M.meaning M.idle_keeps console.new) (feed_answer (machine_of M.meaning M.named) (run_of s (map I.source inputs.old.items)) channel (SAMPLE_OCTETS * samples.number)) refused
         (map I.source inputs.new.items) (map O.sink outputs.old.items) (map O.sink outputs.new.items) (P.sink replies.old) (P.sink replies.new)) }
@@ -108,7 +109,7 @@ fn serve_feed<M: Ialg + Named, I: PortIn, O: PortOut, P: PortOut>(
         Err(_) => return Err(Fault::Read),
     };
     if !whole {
-        return match tell(replies, Reply::No(Refusal::Short)) {
+        return match tell(replies, &Reply::No(Refusal::Short)) {
             Ok(()) => Ok(true),
             Err(fault) => Err(fault),
         };
@@ -118,7 +119,7 @@ fn serve_feed<M: Ialg + Named, I: PortIn, O: PortOut, P: PortOut>(
     if write_to(outputs, c, &output[..SAMPLE_OCTETS * count]).is_err() {
         return Err(Fault::Write);
     }
-    match tell(replies, Reply::Count(count as u16)) {
+    match tell(replies, &Reply::Count(count as u32)) {
         Ok(()) => Ok(false),
         Err(fault) => Err(fault),
     }
@@ -144,6 +145,7 @@ pub(crate) fn serve_line<M: Ialg + Named, I: PortIn, O: PortOut, P: PortOut>(
     ensures fault { is_err result ≡ true → IsErrOf result Fault.Read ⊎ IsErrOf result Fault.Write }
     ensures read { IsErrOf result Fault.Read → Any HasFailedIn (map I.source inputs.new.items) }
     ensures write { IsErrOf result Fault.Write → Any HasFailedOut (map O.sink outputs.new.items) ⊎ HasFailedOut (P.sink replies.new) }
+    ensures waits { AllWait (map O.sink outputs.old.items) (map O.sink outputs.new.items) (P.sink replies.old) (P.sink replies.new) }
     ensures served { IfOk result (λ refused. (octets : List ℕ) (s : Channels M) → IsLine LINE_OCTETS line.now long octets → Keeps M.meaning M.idle_keeps console.old s → All IsHonest (map I.source inputs.old.items)
         → IsServed (Keeps M.meaning M.idle_keeps console.new) (line_answer (machine_of M.meaning M.named) (run_of s (map I.source inputs.old.items)) octets) refused
         (map I.source inputs.new.items) (map O.sink outputs.old.items) (map O.sink outputs.new.items) (P.sink replies.old) (P.sink replies.new)) }
@@ -155,14 +157,14 @@ pub(crate) fn serve_line<M: Ialg + Named, I: PortIn, O: PortOut, P: PortOut>(
         (map O.sink outputs.old.items) (map O.sink outputs.new.items) (P.sink replies.old) (P.sink replies.new) }
 {
     if long {
-        return match tell(replies, Reply::No(Refusal::Long)) {
+        return match tell(replies, &Reply::No(Refusal::Long)) {
             Ok(()) => Ok(true),
             Err(fault) => Err(fault),
         };
     }
     match console.ask(line) {
         Ask::Nothing => Ok(false),
-        Ask::Tell(reply) => match tell(replies, reply) {
+        Ask::Tell(reply) => match tell(replies, &reply) {
             Ok(()) => Ok(reply.is_refusal()),
             Err(fault) => Err(fault),
         },
@@ -176,7 +178,8 @@ pub(crate) fn serve_line<M: Ialg + Named, I: PortIn, O: PortOut, P: PortOut>(
 fn flush_at<O: PortOut>(outputs: &mut Vec<O>, channel: usize) -> Result<(), PortFault>
     requires there { channel < length outputs.old.items }
     requires ready { All IsReadyOut (map O.sink outputs.old.items) }
-    ensures took { StepsAt (Takes []) channel no_sink (map O.sink outputs.old.items) (map O.sink outputs.new.items) }
+    ensures holds { StepsAt (Holds []) channel no_sink (map O.sink outputs.old.items) (map O.sink outputs.new.items) }
+    ensures passed { IsOk result → StepsAt (λ _ new. HasPassedAll new) channel no_sink (map O.sink outputs.old.items) (map O.sink outputs.new.items) }
     ensures count { length outputs.new.items ≡ length outputs.old.items }
     ensures ready { IsOk result → All IsReadyOut (map O.sink outputs.new.items) }
     ensures failed { is_err result ≡ true → Any HasFailedOut (map O.sink outputs.new.items) }
@@ -187,7 +190,8 @@ fn flush_at<O: PortOut>(outputs: &mut Vec<O>, channel: usize) -> Result<(), Port
 /// Passes on what the outputs hold back, in ascending number.
 pub(crate) fn flush_outputs<O: PortOut>(outputs: &mut Vec<O>) -> Result<(), PortFault>
     requires ready { All IsReadyOut (map O.sink outputs.old.items) }
-    ensures took { (replies : Sink) → Writes [] (map O.sink outputs.old.items) (map O.sink outputs.new.items) replies replies }
+    ensures holds { (replies : Sink) → Writes [] (map O.sink outputs.old.items) (map O.sink outputs.new.items) replies replies }
+    ensures passed { IsOk result → All HasPassedAll (map O.sink outputs.new.items) }
     ensures ready { IsOk result → All IsReadyOut (map O.sink outputs.new.items) }
     ensures failed { is_err result ≡ true → Any HasFailedOut (map O.sink outputs.new.items) }
 {

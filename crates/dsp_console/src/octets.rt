@@ -1,12 +1,12 @@
 //! Lines and octets through ports.
 ghost use Rattle.std.specs.Prelude.{◌≡◌, true, false, [], length, IfOk, IfErr, IsOk};
 ghost use Rattle.std.specs.Result.{is_err};
-ghost use Rattle.dsp_console.specs.Ports.{Gives, GivesWithin, Takes, TakesFirst, EndsWithin};
-ghost use Rattle.dsp_console.specs.Lines.{LineCame, LineFails};
+ghost use Rattle.dsp_console.specs.Ports.{Gives, GivesWithin, Takes, TakesFirst};
+ghost use Rattle.dsp_console.specs.Lines.{LineCame, LineFails, EndsWithin};
 
-use crate::limits::LINE_OCTETS;
 use crate::port::{PortFault, PortIn, PortOut};
 use arrayvec::ArrayVec;
+use voice_script::LINE_OCTETS;
 
 /// Writes all octets.
 pub fn write_octets<O: PortOut>(output: &mut O, octets: &[u8]) -> Result<(), PortFault>
@@ -42,7 +42,7 @@ pub fn read_octets<I: PortIn>(input: &mut I, buffer: &mut [u8]) -> Result<bool, 
 }
 
 /// How a line was read.
-#[derive(Clone, Copy, Debug, PartialEq, Eq)]
+#[derive(Clone, Copy)]
 pub struct ReadLine {
     /// It has more than [`LINE_OCTETS`] octets, which aren't kept.
     pub long: bool,
@@ -51,7 +51,7 @@ pub struct ReadLine {
 }
 
 /// Why a line wasn't read.
-#[derive(Clone, Copy, Debug, PartialEq, Eq)]
+#[derive(Clone, Copy)]
 pub enum LineFault {
     /// The device failed.
     Port,

@@ -1,9 +1,8 @@
 //! Samples as octets.
 ghost use Rattle.std.specs.Prelude.{◌≡◌, ◌≤◌, ◌*◌, length};
 ghost use Rattle.dsp_console.specs.Samples.{samples_of, octets_of};
-ghost use Rattle.dsp_console.specs.declared.limits.TheConstants.{FEED_SAMPLES};
 
-use crate::limits::{FEED_SAMPLES, SAMPLE_OCTETS};
+use crate::limits::SAMPLE_OCTETS;
 use byteorder::{ByteOrder, LittleEndian};
 
 /// Reads the samples of the octets.
@@ -20,30 +19,4 @@ pub(crate) fn write_samples(samples: &[i16], octets: &mut [u8])
     ensures { octets.new ≡ octets_of samples.now }
 {
     LittleEndian::write_i16_into(samples, octets);
-}
-
-/// How many samples a feed takes, one at least.
-#[derive(Clone, Copy, PartialEq, Eq, Debug)]
-pub(crate) struct FeedSamples {
-    number: u16,
-    ghost some: { 1 ≤ number },
-    ghost few: { number ≤ FEED_SAMPLES },
-}
-
-impl FeedSamples {
-    pub(crate) fn new(number: u16) -> FeedSamples
-        requires some { 1 ≤ number }
-        requires few { number ≤ FEED_SAMPLES }
-        ensures { result.number ≡ number }
-    {
-        FeedSamples { number }
-    }
-
-    pub(crate) fn number(self) -> u16
-        ensures value { result ≡ self.number }
-        ensures some { 1 ≤ result }
-        ensures few { result ≤ FEED_SAMPLES }
-    {
-        self.number
-    }
 }

@@ -1,13 +1,14 @@
 //! Serves a script.
-ghost use Rattle.std.specs.Prelude.{◌≡◌, ◌+◌, ◌≢◌, ◌⊎◌, ◌↔◌, IsTrue, true, false, [], map, length, Any, All, IfOk, IsOk, IsErrOf};
+ghost use Rattle.std.specs.Prelude.{◌≡◌, ◌+◌, ◌⊎◌, ◌↔◌, IsTrue, true, false, map, length, IfOk, IsErrOf};
 ghost use Rattle.std.specs.Result.{is_err};
 ghost use Rattle.dsp_console.specs.Ports.{GivesWithin};
 ghost use Rattle.dsp_console.specs.Sizes.{AreSpaceSizes};
-ghost use Rattle.dsp_console.specs.Channels.{Channels, new_channels};
+ghost use Rattle.dsp_console.specs.Channels.{Channels};
 ghost use Rattle.dsp_console.specs.Keeps.{Keeps};
-ghost use Rattle.dsp_console.specs.Answers.{IsServable};
+ghost use Rattle.dsp_console.specs.Servable.{IsServable};
 ghost use Rattle.dsp_console.specs.Console.{machine_of, start};
-ghost use Rattle.dsp_console.specs.Runs.{IsHonest, HasFailedIn, HasFailedOut, AreReady, ServedAll, ServedFirst, ServedUpTo, GoesOn, IsUnused, octets_to_come, run_of};
+ghost use Rattle.dsp_console.specs.Runs.{AreReady, AllWait, ServesAll, EndsWell, EndsByRead, EndsByWrite, IsUnused, known_of, octets_to_come};
+ghost use Rattle.dsp_console.specs.LineRuns.{run_of};
 
 use crate::console::Console;
 use crate::limits::{CHANNELS, SCRIPT_OCTETS};
@@ -78,31 +79,31 @@ fn serve_script<M: Ialg + Named, S: PortIn, I: PortIn, O: PortOut, P: PortOut>(
     outputs: &mut Vec<O>,
     replies: &mut P,
 ) -> Result<u64, Fault>
+    ghost state: { Channels M }
     requires servable { IsServable M.meaning }
+    requires kept { Keeps M.meaning M.idle_keeps console.old state }
     requires script { (S.source script.old).failed ≡ false }
     requires one { length inputs.old.items ≡ CHANNELS }
     requires pairs { length outputs.old.items ≡ CHANNELS }
     requires ready { AreReady (map I.source inputs.old.items) (map O.sink outputs.old.items) (P.sink replies.old) }
-    ensures script { IsOk result → (S.source script.new).failed ≡ false }
-    ensures ready { IsOk result → AreReady (map I.source inputs.new.items) (map O.sink outputs.new.items) (P.sink replies.new) }
-    ensures fault { is_err result ≡ true → IsErrOf result Fault.Read ⊎ IsErrOf result Fault.Write }
     ensures few { GivesWithin (SCRIPT_OCTETS + 1) (S.source script.old) (S.source script.new) }
-    ensures read { IsErrOf result Fault.Read → HasFailedIn (S.source script.new) ⊎ (Any HasFailedIn (map I.source inputs.new.items) ⊎ GoesOn (S.source script.old)) }
-    ensures write { IsErrOf result Fault.Write → Any HasFailedOut (map O.sink outputs.new.items) ⊎ HasFailedOut (P.sink replies.new) }
-    ensures served { IfOk result (λ refused. (s : Channels M) → Keeps M.meaning M.idle_keeps console.old s → IsHonest (S.source script.old) → All IsHonest (map I.source inputs.old.items)
-        → ServedAll (machine_of M.meaning M.named) (run_of s (map I.source inputs.old.items)) (S.source script.old).coming refused
-        (map I.source inputs.new.items) (map O.sink outputs.old.items) (map O.sink outputs.new.items) (P.sink replies.old) (P.sink replies.new)) }
-    ensures cut { IsErrOf result Fault.Write → (s : Channels M) → Keeps M.meaning M.idle_keeps console.old s → IsHonest (S.source script.old) → All IsHonest (map I.source inputs.old.items)
-        → ServedFirst (machine_of M.meaning M.named) (run_of s (map I.source inputs.old.items)) (S.source script.old).coming
-        (map I.source inputs.new.items) (map O.sink outputs.old.items) (map O.sink outputs.new.items) (P.sink replies.old) (P.sink replies.new) }
-    ensures stopped { IsErrOf result Fault.Read → (s : Channels M) → Keeps M.meaning M.idle_keeps console.old s → All IsHonest (map I.source inputs.old.items)
-        → ServedUpTo (machine_of M.meaning M.named) (run_of s (map I.source inputs.old.items)) (S.source script.old) (S.source script.new) (map I.source inputs.new.items)
-        (map O.sink outputs.old.items) (map O.sink outputs.new.items) (P.sink replies.old) (P.sink replies.new) }
+    ensures fault { is_err result ≡ true → IsErrOf result Fault.Read ⊎ IsErrOf result Fault.Write }
+    ensures waits { AllWait (map O.sink outputs.old.items) (map O.sink outputs.new.items) (P.sink replies.old) (P.sink replies.new) }
+    ensures ok { IfOk result (λ refused. ServesAll (machine_of M.meaning M.named) (run_of state (map I.source inputs.old.items)) refused
+        (known_of S.source I.source O.sink P.sink script.old inputs.old.items outputs.old.items replies.old)
+        (known_of S.source I.source O.sink P.sink script.new inputs.new.items outputs.new.items replies.new)) }
+    ensures read { IsErrOf result Fault.Read → EndsByRead (machine_of M.meaning M.named) (run_of state (map I.source inputs.old.items))
+        (known_of S.source I.source O.sink P.sink script.old inputs.old.items outputs.old.items replies.old)
+        (known_of S.source I.source O.sink P.sink script.new inputs.new.items outputs.new.items replies.new) }
+    ensures write { IsErrOf result Fault.Write → EndsByWrite (machine_of M.meaning M.named) (run_of state (map I.source inputs.old.items))
+        (known_of S.source I.source O.sink P.sink script.old inputs.old.items outputs.old.items replies.old)
+        (known_of S.source I.source O.sink P.sink script.new inputs.new.items outputs.new.items replies.new) }
 {
     let mut left = SCRIPT_OCTETS;
     let mut refused: u64 = 0;
+    let mut text = ArrayVec::new();
     'lines: loop {
-        let mut text = ArrayVec::new();
+        text.clear();
         let line = match read_line(script, &mut text, &mut left) {
             Ok(line) => line,
             Err(_) => return Err(Fault::Read),
@@ -135,26 +136,24 @@ fn serve<M: Ialg + Named, S: PortIn, I: PortIn, O: PortOut, P: PortOut>(
     outputs: &mut Vec<O>,
     replies: &mut P,
 ) -> Result<Summary, Fault>
+    ghost state: { Channels M }
     requires servable { IsServable M.meaning }
+    requires kept { Keeps M.meaning M.idle_keeps console.old state }
     requires script { (S.source script.old).failed ≡ false }
     requires one { length inputs.old.items ≡ CHANNELS }
     requires pairs { length outputs.old.items ≡ CHANNELS }
     requires ready { AreReady (map I.source inputs.old.items) (map O.sink outputs.old.items) (P.sink replies.old) }
-    ensures script { IsOk result → (S.source script.new).failed ≡ false }
-    ensures ready { IsOk result → AreReady (map I.source inputs.new.items) (map O.sink outputs.new.items) (P.sink replies.new) }
-    ensures fault { is_err result ≡ true → IsErrOf result Fault.Read ⊎ IsErrOf result Fault.Write }
     ensures few { GivesWithin (SCRIPT_OCTETS + 1) (S.source script.old) (S.source script.new) }
-    ensures read { IsErrOf result Fault.Read → HasFailedIn (S.source script.new) ⊎ (Any HasFailedIn (map I.source inputs.new.items) ⊎ GoesOn (S.source script.old)) }
-    ensures write { IsErrOf result Fault.Write → Any HasFailedOut (map O.sink outputs.new.items) ⊎ HasFailedOut (P.sink replies.new) }
-    ensures served { IfOk result (λ summary. (s : Channels M) → Keeps M.meaning M.idle_keeps console.old s → IsHonest (S.source script.old) → All IsHonest (map I.source inputs.old.items)
-        → ServedAll (machine_of M.meaning M.named) (run_of s (map I.source inputs.old.items)) (S.source script.old).coming summary.refused
-        (map I.source inputs.new.items) (map O.sink outputs.old.items) (map O.sink outputs.new.items) (P.sink replies.old) (P.sink replies.new)) }
-    ensures cut { IsErrOf result Fault.Write → (s : Channels M) → Keeps M.meaning M.idle_keeps console.old s → IsHonest (S.source script.old) → All IsHonest (map I.source inputs.old.items)
-        → ServedFirst (machine_of M.meaning M.named) (run_of s (map I.source inputs.old.items)) (S.source script.old).coming
-        (map I.source inputs.new.items) (map O.sink outputs.old.items) (map O.sink outputs.new.items) (P.sink replies.old) (P.sink replies.new) }
-    ensures stopped { IsErrOf result Fault.Read → (s : Channels M) → Keeps M.meaning M.idle_keeps console.old s → All IsHonest (map I.source inputs.old.items)
-        → ServedUpTo (machine_of M.meaning M.named) (run_of s (map I.source inputs.old.items)) (S.source script.old) (S.source script.new) (map I.source inputs.new.items)
-        (map O.sink outputs.old.items) (map O.sink outputs.new.items) (P.sink replies.old) (P.sink replies.new) }
+    ensures fault { is_err result ≡ true → IsErrOf result Fault.Read ⊎ IsErrOf result Fault.Write }
+    ensures ok { IfOk result (λ summary. EndsWell (machine_of M.meaning M.named) (run_of state (map I.source inputs.old.items)) summary.refused
+        (known_of S.source I.source O.sink P.sink script.old inputs.old.items outputs.old.items replies.old)
+        (known_of S.source I.source O.sink P.sink script.new inputs.new.items outputs.new.items replies.new)) }
+    ensures read { IsErrOf result Fault.Read → EndsByRead (machine_of M.meaning M.named) (run_of state (map I.source inputs.old.items))
+        (known_of S.source I.source O.sink P.sink script.old inputs.old.items outputs.old.items replies.old)
+        (known_of S.source I.source O.sink P.sink script.new inputs.new.items outputs.new.items replies.new) }
+    ensures write { IsErrOf result Fault.Write → EndsByWrite (machine_of M.meaning M.named) (run_of state (map I.source inputs.old.items))
+        (known_of S.source I.source O.sink P.sink script.old inputs.old.items outputs.old.items replies.old)
+        (known_of S.source I.source O.sink P.sink script.new inputs.new.items outputs.new.items replies.new) }
 {
     let refused = match serve_script(console, script, inputs, outputs, replies) {
         Ok(refused) => refused,
@@ -177,6 +176,8 @@ fn serve<M: Ialg + Named, S: PortIn, I: PortIn, O: PortOut, P: PortOut>(
 ///
 /// The three sizes are checked first, and memory is asked for next; no device is used before both. Each kind has to keep
 /// the laws of `Ialg` for all parameters, and its tables have to fit an instance's slots.
+///
+/// After `Read` or `Write` what was served before stands in the outputs and the replies, and the port that failed says so.
 pub fn run<M: Ialg + Named, S: PortIn, I: PortIn, O: PortOut, P: PortOut>(
     alloc: Global,
     config: Config,
@@ -197,26 +198,19 @@ pub fn run<M: Ialg + Named, S: PortIn, I: PortIn, O: PortOut, P: PortOut>(
     ensures unused { IsErrOf result Fault.Size ⊎ IsErrOf result Fault.Memory
         → IsUnused script.old script.new inputs.old inputs.new outputs.old outputs.new replies.old replies.new }
 
-    // After Ok no device has failed. A fault comes only of a device, or of a script that is too long.
-    ensures script { IsOk result → (S.source script.new).failed ≡ false }
-    ensures ready { IsOk result → AreReady (map I.source inputs.new.items) (map O.sink outputs.new.items) (P.sink replies.new) }
-    ensures read { IsErrOf result Fault.Read → HasFailedIn (S.source script.new) ⊎ (Any HasFailedIn (map I.source inputs.new.items) ⊎ GoesOn (S.source script.old)) }
-    ensures write { IsErrOf result Fault.Write → Any HasFailedOut (map O.sink outputs.new.items) ⊎ HasFailedOut (P.sink replies.new) }
-
-    // Of the script come SCRIPT_OCTETS + 1 octets at most. Of the inputs come those that the served feeds ask for.
+    // Of an honest script come SCRIPT_OCTETS + 1 octets at most.
     ensures few { GivesWithin (SCRIPT_OCTETS + 1) (S.source script.old) (S.source script.new) }
 
-    // Between honest ports, what is served is written: whole, or the first octets of its one order, or what the lines ask
-    // up to where reading stopped.
-    ensures served { IfOk result (λ summary. IsHonest (S.source script.old) → All IsHonest (map I.source inputs.old.items)
-        → ServedAll (machine_of M.meaning M.named) (start (octets_to_come (map I.source inputs.old.items))) (S.source script.old).coming summary.refused
-        (map I.source inputs.new.items) (map O.sink outputs.old.items) (map O.sink outputs.new.items) (P.sink replies.old) (P.sink replies.new)) }
-    ensures cut { IsErrOf result Fault.Write → IsHonest (S.source script.old) → All IsHonest (map I.source inputs.old.items)
-        → ServedFirst (machine_of M.meaning M.named) (start (octets_to_come (map I.source inputs.old.items))) (S.source script.old).coming
-        (map I.source inputs.new.items) (map O.sink outputs.old.items) (map O.sink outputs.new.items) (P.sink replies.old) (P.sink replies.new) }
-    ensures stopped { IsErrOf result Fault.Read → All IsHonest (map I.source inputs.old.items)
-        → ServedUpTo (machine_of M.meaning M.named) (start (octets_to_come (map I.source inputs.old.items))) (S.source script.old) (S.source script.new) (map I.source inputs.new.items)
-        (map O.sink outputs.old.items) (map O.sink outputs.new.items) (P.sink replies.old) (P.sink replies.new) }
+    // Between honest ports what is served is written: all of it, or that of exactly the lines that were begun.
+    ensures ok { IfOk result (λ summary. EndsWell (machine_of M.meaning M.named) (start (octets_to_come (map I.source inputs.old.items))) summary.refused
+        (known_of S.source I.source O.sink P.sink script.old inputs.old.items outputs.old.items replies.old)
+        (known_of S.source I.source O.sink P.sink script.new inputs.new.items outputs.new.items replies.new)) }
+    ensures read { IsErrOf result Fault.Read → EndsByRead (machine_of M.meaning M.named) (start (octets_to_come (map I.source inputs.old.items)))
+        (known_of S.source I.source O.sink P.sink script.old inputs.old.items outputs.old.items replies.old)
+        (known_of S.source I.source O.sink P.sink script.new inputs.new.items outputs.new.items replies.new) }
+    ensures write { IsErrOf result Fault.Write → EndsByWrite (machine_of M.meaning M.named) (start (octets_to_come (map I.source inputs.old.items)))
+        (known_of S.source I.source O.sink P.sink script.old inputs.old.items outputs.old.items replies.old)
+        (known_of S.source I.source O.sink P.sink script.new inputs.new.items outputs.new.items replies.new) }
 {
     if !config.sizes.are_valid() {
         return Err(Fault::Size);

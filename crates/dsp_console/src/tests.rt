@@ -1,9 +1,18 @@
-//! Runs over tapes, and the command line.
-ghost use Rattle.std.specs.Prelude.{◌<◌};
+//! Runs over tapes and over devices that fail, and a caller that is proved from the contracts alone.
+ghost use Rattle.std.specs.Prelude.{◌≡◌, ◌<◌, ◌∷◌, [], None, Some, IfOk};
+ghost use Rattle.dsp_console.specs.Served.{held_by, order_of, refusals};
+ghost use Rattle.dsp_console.specs.Console.{served};
+ghost use Rattle.dsp_console.specs.Kinds.{kind_meaning, kind_named};
 
+use crate::octets::write_octets;
 use crate::{
-    ArgFault, Config, Fault, Kind, Sizes, Summary, TapeIn, TapeOut, arguments, outcome, run,
+    Config, Fault, Kind, PortIn, PortOut, Reading, Sizes, Summary, TAPE_OCTETS, TapeIn, TapeOut,
+    Writing, kinds_are_servable, outcome, run,
 };
+use arrayvec::ArrayVec;
+use std::alloc::{AllocError, Global};
+use std::io;
+use std::io::{ErrorKind, Read, Write};
 use std::process::Abort;
 use std::test::Fail;
 
@@ -34,6 +43,22 @@ const UNBROKEN: Fuses = Fuses {
     replies: NEVER,
 };
 
+/// How a run is made: over tapes that take and give so many octets at a time.
+#[derive(Clone, Copy)]
+struct Setting {
+    sizes: Sizes,
+    poison: Option<i16>,
+    step: u32,
+    fuses: Fuses,
+}
+
+const PLAIN: Setting = Setting {
+    sizes: FULL,
+    poison: None,
+    step: WIDE,
+    fuses: UNBROKEN,
+};
+
 /// What a run answers, and what it wrote.
 #[derive(Drop)]
 struct Wanted<'a> {
@@ -42,29 +67,29 @@ struct Wanted<'a> {
     replies: &'a [u8],
 }
 
-/// Runs a script over tapes that take and give so many octets at a time, and compares.
+/// Runs a script and compares. After Ok all is passed on, and the replies pass nothing on after a fault.
 fn compare<R: Abort + AllocGlobal>(
     rt: &R,
-    sizes: Sizes,
+    setting: Setting,
     script: &[u8],
     input: &[u8],
-    step: u32,
-    fuses: Fuses,
     wanted: &Wanted<'_>,
 ) -> Result<(), Fail>
-    requires { 0 < step }
+    requires { 0 < setting.step }
 {
+    let Setting {
+        sizes,
+        poison,
+        step,
+        fuses,
+    } = setting;
     let mut script = TapeIn::new(script, step, fuses.script);
     let mut inputs = vec![in rt.alloc(); TapeIn::new(input, step, fuses.input)]?;
     let mut outputs = vec![in rt.alloc(); TapeOut::new(step, fuses.output)]?;
     let mut replies = TapeOut::new(step, fuses.replies);
-    let config = Config {
-        sizes,
-        poison: Some(21_845),
-    };
     let answer = run::<Kind, _, _, _, _>(
         rt.alloc(),
-        config,
+        Config { sizes, poison },
         &mut script,
         &mut inputs,
         &mut outputs,
@@ -74,6 +99,13 @@ fn compare<R: Abort + AllocGlobal>(
     assert_eq!(rt; outputs.len(), 1);
     assert_eq!(rt; outputs[0].held(), wanted.output);
     assert_eq!(rt; replies.held(), wanted.replies);
+    let told = if answer.is_ok() {
+        wanted.replies.len()
+    } else {
+        0
+    };
+    assert_eq!(rt; replies.passed(), told);
+    assert!(rt; answer.is_err() || outputs[0].passed() == wanted.output.len());
     Ok(())
 }
 
@@ -161,7 +193,12 @@ fn rows() -> [Row; 9] {
 #[test]
 fn serves_rows(rt: HostRuntime) -> Result<(), Fail> {
     for row in &rows() {
-        for step in [1, 3, WIDE] {
+        for (step, poison) in [
+            (1, None),
+            (3, Some(0)),
+            (WIDE, Some(-1)),
+            (WIDE, Some(21_845)),
+        ] {
             let wanted = Wanted {
                 answer: Ok(Summary {
                     refused: row.refused,
@@ -169,7 +206,12 @@ fn serves_rows(rt: HostRuntime) -> Result<(), Fail> {
                 output: row.output,
                 replies: row.replies,
             };
-            compare(&rt, FULL, row.script, row.input, step, UNBROKEN, &wanted)?;
+            let setting = Setting {
+                step,
+                poison,
+                ..PLAIN
+            };
+            compare(&rt, setting, row.script, row.input, &wanted)?;
         }
     }
     Ok(())
@@ -184,7 +226,7 @@ fn passes_over_a_long_line(rt: HostRuntime) -> Result<(), Fail> {
         output: b"",
         replies: b"no 1 long\n",
     };
-    compare(&rt, FULL, &script, b"", WIDE, UNBROKEN, &wanted)?;
+    compare(&rt, PLAIN, &script, b"", &wanted)?;
     let mut fitting = [b' '; 1024];
     fitting[..8].copy_from_slice(b"feed 0 1");
     let wanted = Wanted {
@@ -192,7 +234,7 @@ fn passes_over_a_long_line(rt: HostRuntime) -> Result<(), Fail> {
         output: b"",
         replies: b"no 5 missing\n",
     };
-    compare(&rt, FULL, &fitting, b"", WIDE, UNBROKEN, &wanted)
+    compare(&rt, PLAIN, &fitting, b"", &wanted)
 }
 
 #[test]
@@ -208,12 +250,37 @@ fn refuses_sizes(rt: HostRuntime) -> Result<(), Fail> {
             saram: 0,
             external: 4,
         };
-        compare(&rt, sizes, rows()[0].script, b"", WIDE, UNBROKEN, &wanted)?;
+        let setting = Setting { sizes, ..PLAIN };
+        compare(&rt, setting, rows()[0].script, b"", &wanted)?;
     }
     Ok(())
 }
 
-/// Runs row 0 with a fault, before which so many octets of the output and of the replies are written.
+/// A run with refused lines before and behind its feed.
+const REFUSING: Row = Row {
+    script: b"create 0 fir 0 16384\nflute\nchain 0 0\nfeed 0 2\nfeed 0 9\n",
+    input: b"\x01\x00\xff\xff",
+    output: b"\x01\x00\x00\x00",
+    replies: b"ok\nno 2 syntax\nok\nok 2\nno 10 short\n",
+    refused: 2,
+};
+
+/// What a run of that script is to answer and to write: so many octets of the output and of the replies.
+fn wanted_first<R: Abort>(
+    rt: &R,
+    answer: Result<Summary, Fault>,
+    outputs: usize,
+    replies: usize,
+) -> Wanted<'static> {
+    assert!(rt; outputs <= REFUSING.output.len() && replies <= REFUSING.replies.len());
+    Wanted {
+        answer,
+        output: &REFUSING.output[..outputs],
+        replies: &REFUSING.replies[..replies],
+    }
+}
+
+/// Runs that script with a fault, before which so many octets of the output and of the replies are written.
 fn compare_fault<R: Abort + AllocGlobal>(
     rt: &R,
     step: u32,
@@ -224,30 +291,35 @@ fn compare_fault<R: Abort + AllocGlobal>(
 ) -> Result<(), Fail>
     requires { 0 < step }
 {
-    let row = &rows()[0];
-    assert!(rt; outputs <= row.output.len() && replies <= row.replies.len());
-    let wanted = Wanted {
-        answer: Err(fault),
-        output: &row.output[..outputs],
-        replies: &row.replies[..replies],
+    let wanted = wanted_first(rt, Err(fault), outputs, replies);
+    let setting = Setting {
+        step,
+        fuses,
+        ..PLAIN
     };
-    compare(rt, FULL, row.script, row.input, step, fuses, &wanted)
+    compare(rt, setting, REFUSING.script, REFUSING.input, &wanted)
 }
 
-/// The lines of row 0 end behind so many octets of its script and of its replies.
-const LINES: [(u64, usize); 3] = [(21, 3), (31, 6), (40, 11)];
+/// The script's lines end behind so many octets of it, of the output and of the replies.
+const LINES: [(u64, usize, usize); 6] = [
+    (0, 0, 0),
+    (21, 0, 3),
+    (27, 0, 15),
+    (37, 0, 18),
+    (46, 4, 23),
+    (55, 4, 35),
+];
 
 #[test]
 fn stops_where_the_script_fails(rt: HostRuntime) -> Result<(), Fail> {
     for step in [1, WIDE] {
-        for script in 0..41 {
-            let mut replies = 0;
-            for (end, told) in LINES {
+        for script in 0..56 {
+            let (mut outputs, mut replies) = (0, 0);
+            for (end, written, told) in LINES {
                 if script >= end {
-                    replies = told;
+                    (outputs, replies) = (written, told);
                 }
             }
-            let outputs = if replies == 11 { 4 } else { 0 };
             let fuses = Fuses { script, ..UNBROKEN };
             compare_fault(&rt, step, fuses, Fault::Read, outputs, replies)?;
         }
@@ -257,10 +329,12 @@ fn stops_where_the_script_fails(rt: HostRuntime) -> Result<(), Fail> {
 
 #[test]
 fn stops_where_the_input_fails(rt: HostRuntime) -> Result<(), Fail> {
-    for (step, gets) in [(1, 4), (3, 2), (WIDE, 1)] {
-        for input in 0..gets {
+    // In the first feed, and then in the one that the input's end would have cut short.
+    for (step, first, all) in [(1, 4, 5), (3, 2, 3), (WIDE, 1, 2)] {
+        for input in 0..all {
+            let (outputs, replies) = if input < first { (0, 18) } else { (4, 23) };
             let fuses = Fuses { input, ..UNBROKEN };
-            compare_fault(&rt, step, fuses, Fault::Read, 0, 6)?;
+            compare_fault(&rt, step, fuses, Fault::Read, outputs, replies)?;
         }
     }
     Ok(())
@@ -269,11 +343,11 @@ fn stops_where_the_input_fails(rt: HostRuntime) -> Result<(), Fail> {
 #[test]
 fn stops_where_the_output_fails(rt: HostRuntime) -> Result<(), Fail> {
     // A put of each octet, and the flush behind the last reply.
-    for (output, outputs, replies) in [(0, 0, 6), (1, 1, 6), (2, 2, 6), (3, 3, 6), (4, 4, 11)] {
+    for (output, outputs, replies) in [(0, 0, 18), (1, 1, 18), (2, 2, 18), (3, 3, 18), (4, 4, 35)] {
         let fuses = Fuses { output, ..UNBROKEN };
         compare_fault(&rt, 1, fuses, Fault::Write, outputs, replies)?;
     }
-    for (output, outputs, replies) in [(0, 0, 6), (1, 4, 11)] {
+    for (output, outputs, replies) in [(0, 0, 18), (1, 4, 35)] {
         let fuses = Fuses { output, ..UNBROKEN };
         compare_fault(&rt, WIDE, fuses, Fault::Write, outputs, replies)?;
     }
@@ -283,22 +357,23 @@ fn stops_where_the_output_fails(rt: HostRuntime) -> Result<(), Fail> {
 #[test]
 fn stops_where_the_replies_fail(rt: HostRuntime) -> Result<(), Fail> {
     // A put of each octet, and the flush.
-    for replies in 0..12 {
-        let outputs = if replies < 6 { 0 } else { 4 };
+    for replies in 0..36 {
+        let outputs = if replies < 18 { 0 } else { 4 };
         let fuses = Fuses {
             replies,
             ..UNBROKEN
         };
-        compare_fault(
-            &rt,
-            1,
-            fuses,
-            Fault::Write,
-            outputs,
-            (replies as usize).min(11),
-        )?;
+        let held = (replies as usize).min(35);
+        compare_fault(&rt, 1, fuses, Fault::Write, outputs, held)?;
     }
-    for (replies, outputs, held) in [(0, 0, 0), (1, 0, 3), (2, 4, 6), (3, 4, 11)] {
+    for (replies, outputs, held) in [
+        (0, 0, 0),
+        (1, 0, 3),
+        (2, 0, 15),
+        (3, 4, 18),
+        (4, 4, 23),
+        (5, 4, 35),
+    ] {
         let fuses = Fuses {
             replies,
             ..UNBROKEN
@@ -309,66 +384,16 @@ fn stops_where_the_replies_fail(rt: HostRuntime) -> Result<(), Fail> {
 }
 
 #[test]
-fn reads_arguments(rt: HostRuntime) -> Result<(), Fail> {
-    let words = [
-        "--daram",
-        "8",
-        "--saram",
-        "12",
-        "--external",
-        "16",
-        "--poison",
-        "65535",
-        "s",
-        "a",
-        "b",
-    ];
-    let Ok(given) = arguments(rt.alloc(), &words) else {
-        panic!(rt; "refused");
-    };
-    assert_eq!(rt; given.script, "s");
-    let sizes = Sizes {
-        daram: 8,
-        saram: 12,
-        external: 16,
-    };
-    assert_eq!(rt; given.sizes, sizes);
-    assert_eq!(rt; given.poison, Some(-1));
-    assert_eq!(rt; given.ports.len(), 1);
-    assert!(rt; given.ports.as_slice()[0] == ("a", "b"));
-    let Ok(plain) = arguments(rt.alloc(), &["s", "a", "b"]) else {
-        panic!(rt; "refused");
-    };
-    assert_eq!(rt; plain.sizes, FULL);
-    assert_eq!(rt; plain.poison, None);
-    Ok(())
-}
-
-#[test]
-fn refuses_arguments(rt: HostRuntime) -> Result<(), Fail> {
-    let clap: [&[&str]; 6] = [
-        &["--poison", "65536", "s", "a", "b"],
-        &["--poison", "-1", "s", "a", "b"],
-        &["--daram", "4294967296", "s", "a", "b"],
-        &["--daram", "x", "s", "a", "b"],
-        &["--flute", "s", "a", "b"],
-        &[],
-    ];
-    for words in clap {
-        let answer = arguments(rt.alloc(), words);
-        assert!(rt; matches!(answer, Err(ArgFault::Clap(_))));
-    }
-    let ports: [&[&str]; 4] = [
-        &["s"],
-        &["s", "a"],
-        &["s", "a", "b", "c"],
-        &["s", "a", "b", "c", "d"],
-    ];
-    for words in ports {
-        let answer = arguments(rt.alloc(), words);
-        assert!(rt; matches!(answer, Err(ArgFault::Ports)));
-    }
-    Ok(())
+fn a_tape_is_full_at_4096(rt: HostRuntime) {
+    let mut tape = TapeOut::new(1000, NEVER);
+    let answer = write_octets(&mut tape, &[7; TAPE_OCTETS]);
+    assert!(rt; answer.is_ok());
+    assert_eq!(rt; tape.held(), [7u8; 4096].as_slice());
+    let nothing = tape.put(b"");
+    assert_eq!(rt; nothing, Ok(0));
+    let more = tape.put(b"x");
+    assert!(rt; more.is_err() && tape.failed());
+    assert_eq!(rt; tape.held().len(), 4096);
 }
 
 #[test]
@@ -390,5 +415,225 @@ fn ends_runs(rt: HostRuntime) {
         let (given_status, given_line) = outcome(&answer);
         assert_eq!(rt; given_status, status);
         assert!(rt; given_line == line);
+    }
+}
+
+/// A reader or a writer of an octet a call. The call of the number `fuse`, from 0, is interrupted, and the next would go on.
+#[derive(Drop)]
+struct Shaky<'a> {
+    rest: &'a [u8],
+    held: ArrayVec<u8, 64>,
+    fuse: u64,
+    /// How often it was flushed, and how much it held at the last time.
+    flushes: u32,
+    flushed: usize,
+}
+
+impl<'a> Shaky<'a> {
+    fn new(rest: &'a [u8], fuse: u64) -> Self {
+        Shaky {
+            rest,
+            held: ArrayVec::new(),
+            fuse,
+            flushes: 0,
+            flushed: 0,
+        }
+    }
+
+    fn step(&mut self) -> io::Result<()> {
+        let breaks = self.fuse == 0;
+        self.fuse = self.fuse.wrapping_sub(1);
+        if breaks {
+            return Err(io::Error::from(ErrorKind::Interrupted));
+        }
+        Ok(())
+    }
+}
+
+impl Read for Shaky<'_> {
+    fn read(&mut self, buf: &mut [u8]) -> io::Result<usize> {
+        self.step()?;
+        let count = buf.len().min(self.rest.len()).min(1);
+        let (given, rest) = self.rest.split_at(count);
+        buf[..count].copy_from_slice(given);
+        self.rest = rest;
+        Ok(count)
+    }
+}
+
+impl Write for Shaky<'_> {
+    fn write(&mut self, buf: &[u8]) -> io::Result<usize> {
+        self.step()?;
+        let count = buf.len().min(1);
+        let _ = self.held.try_extend_from_slice(&buf[..count]);
+        Ok(count)
+    }
+
+    fn flush(&mut self) -> io::Result<()> {
+        self.step()?;
+        self.flushes = self.flushes.saturating_add(1);
+        self.flushed = self.held.len();
+        Ok(())
+    }
+}
+
+/// What is seen of a run over shaky devices: the script's, the input's, the output's and the replies'.
+#[derive(Drop)]
+struct Seen {
+    answer: Result<Summary, Fault>,
+    failed: (bool, bool, bool, bool),
+    written: ArrayVec<u8, 64>,
+    told: ArrayVec<u8, 64>,
+    /// How often the output and the replies were flushed, and how much they held at the last time.
+    flushes: (u32, u32),
+    flushed: (usize, usize),
+}
+
+/// Runs that script over shaky devices, each with its fuse.
+fn run_shaky(alloc: Global, fuses: Fuses) -> Result<Option<Seen>, AllocError> {
+    let mut script = Reading::new(Shaky::new(REFUSING.script, fuses.script));
+    let mut inputs = vec![in alloc; Reading::new(Shaky::new(REFUSING.input, fuses.input))]?;
+    let mut outputs = vec![in alloc; Writing::new(Shaky::new(b"", fuses.output))]?;
+    let mut replies = Writing::new(Shaky::new(b"", fuses.replies));
+    let config = Config {
+        sizes: FULL,
+        poison: None,
+    };
+    let answer = run::<Kind, _, _, _, _>(
+        alloc,
+        config,
+        &mut script,
+        &mut inputs,
+        &mut outputs,
+        &mut replies,
+    );
+    let (Some(input), Some(output)) = (inputs.pop(), outputs.pop()) else {
+        return Ok(None);
+    };
+    let failed = (
+        script.failed(),
+        input.failed(),
+        output.failed(),
+        replies.failed(),
+    );
+    let (output, replies) = (output.into_inner(), replies.into_inner());
+    Ok(Some(Seen {
+        answer,
+        failed,
+        written: output.held,
+        told: replies.held,
+        flushes: (output.flushes, replies.flushes),
+        flushed: (output.flushed, replies.flushed),
+    }))
+}
+
+/// Compares such a run. The device whose fuse broke stays failed, and no other.
+fn compare_shaky<R: Abort + AllocGlobal>(
+    rt: &R,
+    fuses: Fuses,
+    wanted: &Wanted<'_>,
+) -> Result<(), Fail> {
+    let Some(seen) = run_shaky(rt.alloc(), fuses)? else {
+        return Ok(());
+    };
+    let broken = (
+        fuses.script < NEVER,
+        fuses.input < NEVER,
+        fuses.output < NEVER,
+        fuses.replies < NEVER,
+    );
+    assert_eq!(rt; seen.answer, wanted.answer);
+    assert_eq!(rt; seen.failed, broken);
+    assert_eq!(rt; seen.written.as_slice(), wanted.output);
+    assert_eq!(rt; seen.told.as_slice(), wanted.replies);
+    if seen.answer.is_ok() {
+        assert_eq!(rt; seen.flushes, (1, 1));
+        assert_eq!(rt; seen.flushed, (wanted.output.len(), wanted.replies.len()));
+    } else {
+        assert_eq!(rt; seen.flushes.1, 0);
+    }
+    Ok(())
+}
+
+#[test]
+fn a_device_that_fails_stays_failed(rt: HostRuntime) -> Result<(), Fail> {
+    let all = Ok(Summary { refused: 2 });
+    compare_shaky(&rt, UNBROKEN, &wanted_first(&rt, all, 4, 35))?;
+    let (read, write) = (Err(Fault::Read), Err(Fault::Write));
+    for (script, outputs, replies) in [(0, 0, 0), (30, 0, 15), (54, 4, 23)] {
+        let fuses = Fuses { script, ..UNBROKEN };
+        compare_shaky(&rt, fuses, &wanted_first(&rt, read, outputs, replies))?;
+    }
+    for (input, outputs, replies) in [(0, 0, 18), (3, 0, 18), (4, 4, 23)] {
+        let fuses = Fuses { input, ..UNBROKEN };
+        compare_shaky(&rt, fuses, &wanted_first(&rt, read, outputs, replies))?;
+    }
+    for (output, outputs, replies) in [(0, 0, 18), (3, 3, 18), (4, 4, 35)] {
+        let fuses = Fuses { output, ..UNBROKEN };
+        compare_shaky(&rt, fuses, &wanted_first(&rt, write, outputs, replies))?;
+    }
+    for (replies, outputs) in [(0, 0), (17, 0), (20, 4), (35, 4)] {
+        let fuses = Fuses {
+            replies,
+            ..UNBROKEN
+        };
+        let wanted = wanted_first(&rt, write, outputs, replies as usize);
+        compare_shaky(&rt, fuses, &wanted)?;
+    }
+    Ok(())
+}
+
+/// What a run over octets in memory wrote, and how many lines it refused.
+#[derive(Drop)]
+struct Served {
+    output: Vec<u8>,
+    replies: Vec<u8>,
+    refused: u64,
+}
+
+// Devices over memory: from the contracts alone the vectors hold what is served for the octets.
+fn serve_octets(alloc: Global, script: &[u8], input: &[u8]) -> Result<Served, Fault>
+    ensures output { IfOk result (λ run. run.output.items ≡ held_by (Some 0) (order_of (served kind_meaning kind_named script.now (input.now ∷ [])).written)) }
+    ensures replies { IfOk result (λ run. run.replies.items ≡ held_by None (order_of (served kind_meaning kind_named script.now (input.now ∷ [])).written)) }
+    ensures refused { IfOk result (λ run. refusals (served kind_meaning kind_named script.now (input.now ∷ [])).written ≡ run.refused) }
+{
+    kinds_are_servable();
+    let mut lines = Reading::new(script);
+    let Ok(mut inputs) = vec![in alloc; Reading::new(input)] else {
+        return Err(Fault::Memory);
+    };
+    let Ok(mut outputs) = vec![in alloc; Writing::new(Vec::new(alloc))] else {
+        return Err(Fault::Memory);
+    };
+    let mut replies = Writing::new(Vec::new(alloc));
+    let config = Config {
+        sizes: FULL,
+        poison: None,
+    };
+    let summary = run::<Kind, _, _, _, _>(
+        alloc,
+        config,
+        &mut lines,
+        &mut inputs,
+        &mut outputs,
+        &mut replies,
+    )?;
+    let output = outputs.pop().unwrap();
+    Ok(Served {
+        output: output.into_inner(),
+        replies: replies.into_inner(),
+        refused: summary.refused,
+    })
+}
+
+#[test]
+fn serves_octets(rt: HostRuntime) {
+    let row = &rows()[2];
+    let answer = serve_octets(rt.alloc(), row.script, row.input);
+    assert!(rt; answer.is_ok());
+    if let Ok(run) = answer {
+        assert_eq!(rt; run.output.as_slice(), row.output);
+        assert_eq!(rt; run.replies.as_slice(), row.replies);
+        assert_eq!(rt; run.refused, 0);
     }
 }

@@ -3,10 +3,12 @@
 
 ghost use Rattle.std.specs.Prelude.{◌≡◌, length};
 
+#[cfg(test)]
+mod tests;
+
 use clap::error::ErrorKind;
-use dsp_console::{
-    ArgFault, Arguments, Config, Fault, Kind, Reading, Summary, Writing, arguments, outcome, run,
-};
+use dsp_arguments::{ArgFault, Arguments, arguments};
+use dsp_console::{Config, Fault, Kind, Reading, Summary, Writing, outcome, run};
 use std::env;
 use std::fs::File;
 use std::io::{self, BufReader};

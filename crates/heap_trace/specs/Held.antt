@@ -1,4 +1,4 @@
--- The blocks that are held.
+-- The blocks that are held. No public clause speaks of it.
 use Rattle.std.specs.Prelude.{◌≡◌, List, [], ◌∷◌}
 use Rattle.space_raw.specs.Span.{Extent, Span}
 

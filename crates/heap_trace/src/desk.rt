@@ -1,4 +1,4 @@
-// A heap and the blocks that are taken of it, in the order of their taking. Each step is done by the heap's earlier body too.
+//! A heap and the blocks that are taken of it, in the order of their taking. Each step is done by the heap's earlier body too.
 
 use crate::vector_heap::VectorHeap;
 use mem_rec::{GREATEST_ALIGNMENT, LEAST_ALIGNMENT};
@@ -37,12 +37,13 @@ impl Model for Desk {
     ghost use Rattle.std.specs.Vec.{vec_capacity};
     ghost use Rattle.space_heap.specs.Pictures.{HeapState, Holds, range_of};
     ghost use Rattle.heap_trace.specs.Held.{AreOf};
+    ghost use Rattle.heap_trace.specs.declared.desk.TheConstants.{HELD};
 
     ghost Value = { HeapState };
 
     ghost view = { λ d. d.heap };
 
-    ghost invariant = { λ d. Holds d.heap (map range_of d.held.items) × AreOf d.heap.region d.held.items × (64 ≤ vec_capacity d.held) };
+    ghost invariant = { λ d. Holds d.heap (map range_of d.held.items) × AreOf d.heap.region d.held.items × (HELD ≤ vec_capacity d.held) };
 }
 
 impl Desk {

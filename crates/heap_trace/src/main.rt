@@ -1,6 +1,6 @@
-// A trace over heaps of several sizes. Each line is a step, and for each it prints the block's place, the free words and the words that
-// were moved. The line ends in `differs` where the heap's earlier body shows other numbers. The stored answers are those of a model
-// that was written apart from this code, in another language.
+//! A test program: a trace over heaps of several sizes. Each line that is read is a step, and for each it prints the block's place, the
+//! free words and the words that were moved. At most 64 blocks are held at one time. The line ends in `differs` where the heap's
+//! earlier body shows other numbers. The stored answers are those of a model that was written apart from this code, in another language.
 #![tactic(auto)]
 
 mod desk;
@@ -57,7 +57,11 @@ fn main(rt: HostRuntime) -> io::Result<()> {
             Some(open) => Some(act(open, *step)),
             None => None,
         };
+        // a print that fails ends the run, and the heap is closed all the same
         outcome = print(&rt, seen);
+        if outcome.is_err() {
+            break;
+        }
     }
     close(desk);
     outcome

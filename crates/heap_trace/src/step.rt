@@ -1,4 +1,4 @@
-// One line of a trace.
+//! One line of a trace.
 
 /// A step. A block goes by its number among those that are taken, in the order of their taking.
 #[derive(Clone, Copy, Debug, Drop)]

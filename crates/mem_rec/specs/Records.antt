@@ -1,7 +1,7 @@
 -- The records of an algorithm's memory, and what makes a list of them a table.
-use Rattle.std.specs.Prelude.{ℕ, zero, suc, Bool, true, false, ◌&&◌, ◌==◌, nat_le, List, [], ◌∷◌, length}
+use Rattle.std.specs.Prelude.{ℕ, zero, suc, Bool, true, false, ◌&&◌, ◌==◌, ◌^◌, nat_le, List, [], ◌∷◌, length}
 use Rattle.std.specs.List.{list_all, list_any}
-use Rattle.mem_rec.specs.declared.TheConstants.{ALIGNMENTS, RECORD_WORDS, TABLE_RECORDS}
+use Rattle.mem_rec.specs.declared.TheConstants.{RECORD_WORDS, TABLE_RECORDS}
 use Rattle.mem_rec.specs.declared.MemRec.{MemRec}
 use Rattle.mem_rec.specs.declared.Space.{Space}
 use Rattle.mem_rec.specs.declared.Space.TheVariants.{Daram, Saram, External}
@@ -26,7 +26,7 @@ is_persistent WriteOnce = false
 
 -- a power of two, 4 to 1,024
 abbrev pub is_alignment : ℕ → Bool
-is_alignment a = list_any (λ b. b == a) ALIGNMENTS
+is_alignment a = list_any (λ k. 2 ^ k == a) (2 ∷ 3 ∷ 4 ∷ 5 ∷ 6 ∷ 7 ∷ 8 ∷ 9 ∷ 10 ∷ [])
 
 -- a record within the limits
 abbrev pub is_record : MemRec → Bool

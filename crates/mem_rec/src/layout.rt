@@ -1,4 +1,4 @@
-// Where a table's scratch records stand in the block of their group.
+//! Where a table's scratch records stand in the block of their group.
 ghost use Rattle.std.specs.Prelude.{◌≡◌};
 ghost use Rattle.mem_rec.specs.Layout.{scratch_align, scratch_need, scratch_offsets};
 

@@ -44,6 +44,8 @@ pub const ALIGNMENTS: [u32; 9] = [
 ];
 
 /// The spaces of memory (SPRU360, `IALG_MemSpace`), in the order in which the framework serves them.
+///
+/// Here and below the default only fills the unused places of a vector of fixed capacity, and means nothing.
 #[derive(Clone, Copy, PartialEq, Eq, Debug, Default)]
 pub enum Space {
     /// On the chip, with two accesses a cycle.
@@ -170,10 +172,9 @@ impl MemTab {
     pub fn copied(&self) -> MemTab
         ensures { result ≡ self.now }
     {
-        match MemTab::make(self.records()) {
-            Some(table) => table,
-            None => unreachable!(),
-        }
+        let mut records = ArrayVec::new();
+        let _fits = records.try_extend_from_slice(self.records());
+        MemTab { records }
     }
 
     /// The table with record `k` at `base`.

@@ -1,5 +1,5 @@
-// The tables of the hosted kinds, layouts worked by hand, and each way to be no table.
-use crate::{Attr, MemRec, MemTab, RECORD_WORDS, Space, scratch_layout};
+//! The tables of the hosted kinds, layouts worked by hand, and each way to be no table.
+use crate::{Attr, MemRec, MemTab, Space, scratch_layout};
 use std::process::Abort;
 use std::test::Fail;
 
@@ -75,7 +75,7 @@ fn tables_of_the_kinds(rt: HostRuntime) -> Result<(), Fail> {
 
 #[test]
 fn no_tables(rt: HostRuntime) {
-    let largest = persistent(RECORD_WORDS);
+    let largest = persistent(65_536);
     assert!(rt;
         MemTab::make(&[OBJECT, largest, OBJECT, OBJECT]).is_some(),
         "at the limits"
@@ -98,15 +98,22 @@ fn no_tables(rt: HostRuntime) {
         "no words"
     );
     assert!(rt;
-        MemTab::make(&[OBJECT, persistent(RECORD_WORDS + 1)]).is_none(),
+        MemTab::make(&[OBJECT, persistent(65_537)]).is_none(),
         "too many words"
     );
-    for align in [0, 1, 2, 3, 5, 12, 1_000, 2_048] {
-        let record = scratch(Space::Daram, 4, align);
-        assert!(rt;
-            MemTab::make(&[OBJECT, record]).is_none(),
-            "an alignment of {align}"
-        );
+}
+
+fn is_aligned_table(align: u32) -> bool {
+    MemTab::make(&[OBJECT, scratch(Space::Daram, 4, align)]).is_some()
+}
+
+#[test]
+fn alignments_are_powers_of_two(rt: HostRuntime) {
+    for align in [4, 8, 16, 32, 64, 128, 256, 512, 1_024] {
+        assert!(rt; is_aligned_table(align), "an alignment of {align}");
+    }
+    for align in [0, 1, 2, 3, 5, 12, 36, 1_000, 1_028, 2_048] {
+        assert!(rt; !is_aligned_table(align), "an alignment of {align}");
     }
 }
 
@@ -165,7 +172,7 @@ fn layouts(rt: HostRuntime) -> Result<(), Fail> {
     assert_layout(&rt, &table, saram, &[0], 8, 4);
     assert_layout(&rt, &table, Space::External, &[], 0, 4);
 
-    let largest = scratch(daram, RECORD_WORDS, 1_024);
+    let largest = scratch(daram, 65_536, 1_024);
     let table = MemTab::make(&[OBJECT, largest, largest, largest]).ok_or("a table")?;
     assert_layout(&rt, &table, daram, &[0, 65_536, 131_072], 196_608, 1_024);
     Ok(())

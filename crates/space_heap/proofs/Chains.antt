@@ -77,6 +77,13 @@ module _ (size : ℕ) where
       by_test true e = let lt = ltb-true from to e in (record { some = omega arith; place = start; size = omega arith; inside = omega arith }, omega arith, omega arith)
       by_test false e = omega arith
 
+pub none_between : (from to : ℕ) → to ≤ from → between from to ≡ []
+none_between from to le = by_test (nat_lt from to) refl
+  where
+    by_test : (b : Bool) → nat_lt from to ≡ b → cond {A = List Range} b (record { place = from; size = to - from } ∷ []) [] ≡ []
+    by_test true e = let lt = ltb-true from to e in absurd (omega arith)
+    by_test false e = refl
+
 pub between_covers : (from to k : ℕ) → from ≤ to → is_covered (between from to) k ≡ covers (record { place = from; size = to - from }) k
 between_covers from to k le = by_test (nat_lt from to) refl
   where

@@ -3,7 +3,8 @@ use Rattle.std.proofs.Common.{◌≡◌, ℕ, zero, suc, ◌+◌, ◌-◌, ◌<�
 use Rattle.std.specs.Prelude.{ℤ, Option, is_some, sum_by, count_by}
 use Rattle.std.proofs.lemmas.Bool.{cases_lt}
 use Rattle.std.proofs.lemmas.List.Sums.{sum_by-cons}
-use Rattle.space_heap.specs.Places.{Range, end_of, covers, is_covered, count_from}
+use Rattle.std.specs.List.{range_with_len}
+use Rattle.space_heap.specs.Places.{Range, end_of, covers, is_covered}
 use Rattle.space_heap.specs.Pictures.{AreBlocks, free_beside}
 use Rattle.space_heap.specs.Holes.{in_rest, AreParts}
 use Rattle.space_heap.proofs.RangeTests.{either, true_or_false, clash, is_in, in_range}
@@ -12,28 +13,28 @@ use Rattle.space_heap.proofs.PictureLemmas.{uncovered}
 
 -- how many of n numbers pass
 Count : (ℕ → Bool) → ℕ → ℕ → ℕ
-Count f first n = count_by f (count_from first n)
+Count f first n = count_by f (range_with_len first n)
 
 no_numbers : (f : ℕ → Bool) (first : ℕ) → Count f first 0 ≡ 0
 unfolding Count
 no_numbers f first = refl
 
-one_more : (f : ℕ → Bool) (first n : ℕ) → Count f first (suc n) ≡ cond (f first) 1 0 + Count f (suc first) n
+one_more : (f : ℕ → Bool) (first n : ℕ) → Count f first (suc n) ≡ cond (f first) 1 0 + Count f (first + 1) n
 unfolding Count
-one_more f first n = sum_by-cons (λ k. cond (f k) 1 0) first (count_from (suc first) n)
+one_more f first n = sum_by-cons (λ k. cond (f k) 1 0) first (range_with_len (first + 1) n)
 
-of_marks : (f : ℕ → Bool) (first n : ℕ) → count_by (λ mark. mark) (map f (count_from first n)) ≡ Count f first n
+of_marks : (f : ℕ → Bool) (first n : ℕ) → count_by (λ mark. mark) (map f (range_with_len first n)) ≡ Count f first n
 of_marks f first zero = sym (no_numbers f first)
 of_marks f first (suc n) =
-    sum_by-cons (λ mark. cond mark 1 0) (f first) (map f (count_from (suc first) n)) ∙ ap (λ m. cond (f first) 1 0 + m) (of_marks f (suc first) n) ∙ sym (one_more f first n)
+    sum_by-cons (λ mark. cond mark 1 0) (f first) (map f (range_with_len (first + 1) n)) ∙ ap (λ m. cond (f first) 1 0 + m) (of_marks f (first + 1) n) ∙ sym (one_more f first n)
 
 none_count : (first n : ℕ) → Count (λ _. false) first n ≡ 0
 none_count first zero = no_numbers (λ _. false) first
-none_count first (suc n) = let step = one_more (λ _. false) first n in let rest = none_count (suc first) n in omega arith
+none_count first (suc n) = let step = one_more (λ _. false) first n in let rest = none_count (first + 1) n in omega arith
 
 rest_count : (f : ℕ → Bool) (first n : ℕ) → Count f first n + Count (λ k. not (f k)) first n ≡ n
 rest_count f first zero = let a = no_numbers f first in let b = no_numbers (λ k. not (f k)) first in omega arith
-rest_count f first (suc n) = let a = one_more f first n in let b = one_more (λ k. not (f k)) first n in let rest = rest_count f (suc first) n in let one = one_or_other (f first) in omega arith
+rest_count f first (suc n) = let a = one_more f first n in let b = one_more (λ k. not (f k)) first n in let rest = rest_count f (first + 1) n in let one = one_or_other (f first) in omega arith
   where
     one_or_other : (b : Bool) → cond b 1 0 + cond (not b) 1 0 ≡ 1
     one_or_other true = refl
@@ -41,7 +42,7 @@ rest_count f first (suc n) = let a = one_more f first n in let b = one_more (λ 
 
 both_count : (f g : ℕ → Bool) (first n : ℕ) → ((k : ℕ) → f k ≡ true → g k ≡ false) → Count (λ k. f k || g k) first n ≡ Count f first n + Count g first n
 both_count f g first zero apart = let a = no_numbers f first in let b = no_numbers g first in let c = no_numbers (λ k. f k || g k) first in omega arith
-both_count f g first (suc n) apart = let a = one_more f first n in let b = one_more g first n in let c = one_more (λ k. f k || g k) first n in let rest = both_count f g (suc first) n apart in let one = sum_of (f first) (g first) (apart first) in omega arith
+both_count f g first (suc n) apart = let a = one_more f first n in let b = one_more g first n in let c = one_more (λ k. f k || g k) first n in let rest = both_count f g (first + 1) n apart in let one = sum_of (f first) (g first) (apart first) in omega arith
   where
     sum_of : (a b : Bool) → (a ≡ true → b ≡ false) → cond (a || b) 1 0 ≡ cond a 1 0 + cond b 1 0
     sum_of true b e = let none : b ≡ false = e refl in ap (λ c. 1 + cond c 1 0) (sym none)
@@ -51,7 +52,7 @@ range_count : (r : Range) (first n : ℕ) → end_of r ≤ first + n → Count (
 range_count r first zero inside = let e = no_numbers (covers r) first in omega arith
 range_count r first (suc n) inside =
     let step = one_more (covers r) first n in
-    let rest = range_count r (suc first) n (omega arith) in
+    let rest = range_count r (first + 1) n (omega arith) in
     either (true_or_false (covers r first))
     (λ has. let both = is_in r first has in let low = both.0 in let to = both.1 in
     let one : cond (covers r first) 1 0 ≡ 1 = ap {A = Bool} {B = ℕ} (λ b. cond b 1 0) has in omega (arith, step, rest, one))
@@ -73,8 +74,8 @@ covered_words words (r ∷ rs) blocks =
 same_count : (f g : ℕ → Bool) (first n : ℕ) → ((k : ℕ) → k < first + n → f k ≡ g k) → Count f first n ≡ Count g first n
 same_count f g first zero same = no_numbers f first ∙ sym (no_numbers g first)
 same_count f g first (suc n) same =
-    one_more f first n ∙ ap (λ b. cond b 1 0 + Count f (suc first) n) (same first (omega arith))
-    ∙ ap (λ m. cond (g first) 1 0 + m) (same_count f g (suc first) n (λ k lt. same k (omega arith))) ∙ sym (one_more g first n)
+    one_more f first n ∙ ap (λ b. cond b 1 0 + Count f (first + 1) n) (same first (omega arith))
+    ∙ ap (λ m. cond (g first) 1 0 + m) (same_count f g (first + 1) n (λ k lt. same k (omega arith))) ∙ sym (one_more g first n)
 
 -- how many words are there
 abbrev pub there : List (Option ℤ) → ℕ

@@ -1,15 +1,16 @@
 -- What lies before a place and behind it: a hole that touches it, or holes that don't.
-use Rattle.std.proofs.Common.{◌≡◌, ℕ, ◌+◌, ◌-◌, ◌%◌, ◌<◌, ◌≤◌, true, false, List, [], ◌∷◌, ◌++◌, length, refl, ap, sym, ◌∙◌, subst, arith, Option, Some, None, append_assoc}
+use Rattle.std.proofs.Common.{◌≡◌, ℕ, ◌+◌, ◌-◌, ◌%◌, ◌<◌, ◌≤◌, true, false, List, [], ◌∷◌, ◌++◌, length, refl, ap, sym, ◌∙◌, subst, arith, Option, Some, None, append_assoc, append-nil}
 use Rattle.std.proofs.Math.Dec.{eqb}
 use Rattle.std.proofs.lemmas.Bool.{cases_lt, eqb-true, eq-eqb}
 use Rattle.std.specs.Option.{option_eq}
 use Rattle.std.specs.Prelude.{ℤ}
+use Rattle.space_heap.specs.declared.find.Fit.{Fit}
 use Rattle.space_heap.specs.declared.find.Found.{Found}
 use Rattle.space_heap.specs.Places.{Range, covers, end_of, is_covered}
 use Rattle.space_heap.specs.Pictures.{IsBlock}
-use Rattle.space_heap.specs.Holes.{AreHoles, Chain, HasHoles, IsBack, IsFound, IsFreeFrom, IsFromOn, IsFront, IsLink, first_place, hole_end, hole_range, in_rest}
+use Rattle.space_heap.specs.Holes.{AreHoles, Chain, HasHoles, IsBack, IsCarved, IsFound, IsFreeFrom, IsFromOn, IsFront, IsLink, between, first_place, hole_end, hole_range, in_rest, last_place}
 use Rattle.space_heap.proofs.RangeTests.{either, clash, when_not, left_true, right_true, is_in, in_range}
-use Rattle.space_heap.proofs.Chains.{around, chain_append, chain_parts, covered_append, or_false_right}
+use Rattle.space_heap.proofs.Chains.{around, between_chain, chain_append, chain_parts, covered_append, none_between, or_false_right, to_higher}
 use Rattle.space_heap.proofs.Finds.{chain_from, hole_before, nothing_before}
 use Rattle.space_heap.proofs.Links.{last_append}
 
@@ -44,6 +45,15 @@ is_link size low (h ∷ hs) high most c = let some = c.0.some in let inside = c.
 pub later : (place : ℕ) (next : Option ℕ) → IsFromOn place next → (next ≡ Some place → ⊥) → IsFromOn (place + 1) next
 later place None late ne = tt
 later place (Some p) late ne = either (cases_lt place p) (λ lt. omega arith) (λ le. let same : p ≡ place = (let from : place ≤ p = late in omega arith) in absurd (ne (ap (λ q. Some q) same)))
+
+-- the first of a chain begins from its low end on
+first_from : (size low : ℕ) (hs : List Range) (high : ℕ) → Chain size low hs high → IsFromOn low (first_place hs None)
+first_from size low [] high c = tt
+first_from size low (h ∷ hs) high c = c.1
+
+earlier : (place end : ℕ) (next : Option ℕ) → place ≤ end → IsFromOn end next → IsFromOn place next
+earlier place end None le late = tt
+earlier place end (Some p) le late = let from : end ≤ p = late in omega arith
 
 -- the first hole from a place on begins behind words that are in none
 pub beyond : (words : Slots) (first : Option ℕ) (left right : List Range) (place end : ℕ) → AreHoles words first (left ++ right) → IsFromOn place (first_place right None)
@@ -150,6 +160,14 @@ module _ (words : Slots) (first : Option ℕ) (f : Found) (found : IsFound words
     all = none_in place;
   }
 
+  -- the next hole begins behind words that are taken
+  pub next_behind : (place end : ℕ) → place ≤ end → hole_end f.hole ≤ end → ((k : ℕ) → hole_end f.hole ≤ k → k < end → in_rest words k ≡ false) → IsFromOn place f.hole.next
+  next_behind place end le after taken =
+      let last = hole_end f.hole in
+      subst (IsFromOn place) (sym found.next)
+      (earlier place end (first_place found.right None) le
+      (beyond words first seen found.right last end seen_holes (earlier last (last + 1) (first_place found.right None) (omega arith) (first_from size₁ (last + 1) found.right (size₁ + 1) found_chains.2)) taken))
+
   pub free_before : (place : ℕ) → hole_end f.hole ≡ place → IsFreeFrom (in_rest words) place f.hole.place
   free_before place e = subst (λ p. IsFreeFrom (in_rest words) p f.hole.place) e (hole_before words first found.left h found.right found.holes)
 
@@ -182,6 +200,38 @@ module _ (words : Slots) (first : Option ℕ) (has : HasHoles words first) (plac
   taken_before_all inside =
       nothing_before words first [] has.0 has.1 place (omega arith)
       (chain_from size₂ 0 has.0 (size₂ + 1) place has.1.chain (omega arith) (subst (IsFromOn place) has.1.start late))
+
+-- behind a block that was taken out of the end of a hole
+module _ (words : Slots) (first : Option ℕ) (len : ℕ) (fit : Fit) (is : IsCarved words first len fit) (low : fit.found.hole.place ≤ fit.place) (end : fit.place + len ≡ hole_end fit.found.hole)
+    (unit : fit.found.hole.place % 4 ≡ 0) (at : fit.place % 4 ≡ 0) (inside : fit.place ≤ length words) where
+  abbrev begin : ℕ
+  begin = fit.found.hole.place
+
+  abbrev mid : List Range
+  mid = between begin fit.place
+
+  carved : AreHoles words first ((is.left ++ mid) ++ is.right)
+  carved =
+      subst (AreHoles words first) (sym (append_assoc is.left mid is.right))
+      (subst (λ hs. AreHoles words first (is.left ++ (hs ++ is.right))) (append-nil mid)
+      (subst (λ hs. AreHoles words first (is.left ++ ((mid ++ hs) ++ is.right))) (none_between (fit.place + len) (hole_end fit.found.hole) (omega arith)) is.holes))
+
+  pub front_behind : (place : ℕ) → fit.place < place → place % 4 ≡ 0 → IsFromOn place fit.found.hole.next
+      → IsFront words first place (record { before = last_place fit.found.before mid; from = place; next = fit.found.hole.next })
+  front_behind place lt multiple late = record {
+    left = is.left ++ mid;
+    mid = [];
+    right = is.right;
+    holes = carved;
+    before = ap (λ last. last_place last mid) is.before ∙ sym (last_append None is.left mid);
+    next = is.next;
+    chain = to_higher (length words) 0 (is.left ++ mid) (fit.place + 1) place (omega arith)
+        (chain_append (length words) 0 is.left begin mid (fit.place + 1) is.chain (between_chain (length words) begin fit.place low unit at inside));
+    low = omega arith;
+    unit = multiple;
+    behind = late;
+    all = none_in place;
+  }
 
 -- whether the next hole is at the place
 pub is_next : (next : Option ℕ) (place : ℕ) → option_eq eqb next (Some place) ≡ true → next ≡ Some place

@@ -4,7 +4,7 @@ use Rattle.std.specs.Prelude.{ℤ}
 use Rattle.space_heap.specs.declared.hole.Hole.{Hole}
 use Rattle.space_heap.specs.Places.{Range, end_of}
 use Rattle.space_heap.specs.Pictures.{IsBlock}
-use Rattle.space_heap.specs.Holes.{word_at, in_rest, link, IsLink, IsHole, IsWritten, IsSameBut, Rewrites, first_place, last_place, AreWritten, Chain, AreHoles, IsRelinked}
+use Rattle.space_heap.specs.Holes.{free_word, in_rest, link, IsLink, IsHole, IsWritten, IsSameBut, Rewrites, first_place, last_place, AreWritten, Chain, AreHoles, IsRelinked}
 use Rattle.space_heap.proofs.RangeTests.{either}
 use Rattle.space_heap.proofs.Chains.{chain_low, chain_append, around}
 
@@ -68,10 +68,10 @@ module _ (size : ℕ) where
 
   -- the last of the holes leads elsewhere
   relinked_last : (low : ℕ) (h : Range) (hs : List Range) (high : ℕ) (behind next : Option ℕ) (old new : Slots) (p : ℕ) → Chain size low (h ∷ hs) high → AreWritten old (h ∷ hs) behind
-      → last_place (Some h.place) hs ≡ Some p → IsSameBut old (p + 1) 1 new → word_at new (p + 1) ≡ Some (link next) → AreWritten new (h ∷ hs) next
+      → last_place (Some h.place) hs ≡ Some p → IsSameBut old (p + 1) 1 new → free_word new (p + 1) ≡ Some (link next) → AreWritten new (h ∷ hs) next
   relinked_last low h [] high behind next old new p c a e same now =
       let at : h.place ≡ p = cc in (
-        record { len = same h.place (inl (omega arith)) ∙ a.0.len; next = ap (λ k. word_at new (k + 1)) at ∙ now },
+        record { len = same h.place (inl (omega arith)) ∙ a.0.len; next = ap (λ k. free_word new (k + 1)) at ∙ now },
         tt,
       )
   relinked_last low h (i ∷ is) high behind next old new p c a e same now =
@@ -86,7 +86,7 @@ module _ (size : ℕ) where
 
   -- what a change of the link at the end of `left` does
   at_last : (h : Range) (hs : List Range) (next : Option ℕ) (old new : Slots) (first first' : Option ℕ) → IsRelinked old first (last_place (Some h.place) hs) next new first'
-      → (p : ℕ) × (last_place (Some h.place) hs ≡ Some p) × (Rewrites old (p + 1) 1 new × (word_at new (p + 1) ≡ Some (link next)) × (first' ≡ first))
+      → (p : ℕ) × (last_place (Some h.place) hs ≡ Some p) × (Rewrites old (p + 1) 1 new × (free_word new (p + 1) ≡ Some (link next)) × (first' ≡ first))
   at_last h hs next old new first first' is =
       let last = some_last h.place hs in (last.0, last.1, subst (λ before. IsRelinked old first before next new first') last.1 is)
 
@@ -96,8 +96,8 @@ module _ (size : ℕ) where
   relinked_there (h ∷ hs) next old new first first' is = let last = at_last h hs next old new first first' is in (last.2.0.long, last.2.0.there)
 
   pub relinked_others : (left : List Range) (high : ℕ) (next : Option ℕ) (old new : Slots) (first first' : Option ℕ) → Chain size 0 left high
-      → IsRelinked old first (last_place None left) next new first' → (k : ℕ) → high ≤ k + 1 → word_at new k ≡ word_at old k
-  relinked_others [] high next old new first first' c is k le = ap (λ (ws : Slots). word_at ws k) is.0
+      → IsRelinked old first (last_place None left) next new first' → (k : ℕ) → high ≤ k + 1 → free_word new k ≡ free_word old k
+  relinked_others [] high next old new first first' c is k le = ap (λ (ws : Slots). free_word ws k) is.0
   relinked_others (h ∷ hs) high next old new first first' c is k le =
       let last = at_last h hs next old new first first' is in let four = four_words size h c.0 in
       let end : end_of h + 1 ≤ high = chain_low size (end_of h + 1) hs high c.2 in
@@ -114,7 +114,7 @@ module _ (size : ℕ) where
   module _ (left mid right : List Range) (low high : ℕ) (behind : Option ℕ) (old cut new : Slots) (first first' : Option ℕ)
       (before : Chain size 0 left low) (middle : Chain size low mid (high + 1)) (after : Chain size (high + 1) right (size + 1))
       (left_written : AreWritten old left behind) (right_written : AreWritten old right None) (start : first ≡ first_place left behind)
-      (others : (k : ℕ) → (k < low) ⊎ (high ≤ k) → word_at cut k ≡ word_at old k) (mid_written : AreWritten cut mid (first_place right None))
+      (others : (k : ℕ) → (k < low) ⊎ (high ≤ k) → free_word cut k ≡ free_word old k) (mid_written : AreWritten cut mid (first_place right None))
       (linked : IsRelinked cut first (last_place None left) (first_place mid (first_place right None)) new first') where
     ordered : low ≤ high + 1
     ordered = chain_low size low mid (high + 1) middle

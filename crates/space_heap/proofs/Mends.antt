@@ -8,7 +8,7 @@ use Rattle.space_heap.specs.declared.hole.Hole.{Hole}
 use Rattle.space_heap.specs.declared.find.Fit.{Fit}
 use Rattle.space_heap.specs.Places.{Range, covers, end_of, is_covered}
 use Rattle.space_heap.specs.Pictures.{IsBlock, IsSpaceSize}
-use Rattle.space_heap.specs.Holes.{AreParts, AreWritten, Chain, HasHoles, IsFit, IsLink, IsRelinked, Rewrites, between, first_place, hole_end, hole_range, in_rest, last_place, word_at}
+use Rattle.space_heap.specs.Holes.{AreParts, AreWritten, Chain, IsCarved, IsFit, IsLink, IsRelinked, Rewrites, between, first_place, hole_end, hole_range, in_rest, last_place, free_word}
 use Rattle.space_heap.proofs.RangeTests.{either, true_or_false, clash, when_not, one_true, left_true, right_true, or_false, false_left, same_test, is_in, in_range}
 use Rattle.space_heap.proofs.Words.{carved_outside, carved_within, is_run}
 use Rattle.space_heap.proofs.Chains.{chain_append, chain_low, covered_append, none_above, none_below, between_chain, between_covers, from_lower}
@@ -105,8 +105,8 @@ module _ (words : Slots) (first : Option ℕ) (len : ℕ) (fit : Fit) (is : IsFi
     pub cut_long : length cut ≡ size
     cut_long = ap length carved ∙ without_long words place len fits
 
-    cut_outside : (k : ℕ) → (k < place) ⊎ (end ≤ k) → word_at cut k ≡ word_at words k
-    cut_outside k apart = ap (λ (ws : Slots). word_at ws k) carved ∙ carved_outside words place len fits k apart
+    cut_outside : (k : ℕ) → (k < place) ⊎ (end ≤ k) → free_word cut k ≡ free_word words k
+    cut_outside k apart = ap (λ (ws : Slots). free_word ws k) carved ∙ carved_outside words place len fits k apart
 
     cut_within : (k : ℕ) → place ≤ k → k < end → in_rest cut k ≡ false
     cut_within k low high = ap (λ (ws : Slots). in_rest ws k) carved ∙ carved_within words place len fits k low high
@@ -147,7 +147,7 @@ module _ (words : Slots) (first : Option ℕ) (len : ℕ) (fit : Fit) (is : IsFi
         start_link = let low = is.low in let high = is.high in let in_size = inside in
             subst IsLink (sym front_start) (between_link size hole.place place behind most.0 low (omega arith) units.2 behind_link)
 
-        others : (k : ℕ) → (k < hole.place) ⊎ (hole_end hole ≤ k) → word_at three k ≡ word_at words k
+        others : (k : ℕ) → (k < hole.place) ⊎ (hole_end hole ≤ k) → free_word three k ≡ free_word words k
         others k apart = let low = is.low in let high = is.high in
             front.others k (either apart (λ lt. inl lt) (λ ge. inr (omega arith)))
             ∙ back.others k (either apart (λ lt. inl (omega arith)) (λ ge. inr (omega arith)))
@@ -277,15 +277,19 @@ module _ (words : Slots) (first : Option ℕ) (len : ℕ) (fit : Fit) (is : IsFi
               (λ lt. there k ∙ cut_within k ge lt ∙ sym (no_hole k (in_range block k ge lt)))
               (λ past. still_covered k (inr past)))
 
-          pub carved_holes : HasHoles new first'
-          carved_holes = (
-            holes,
-            record {
+          pub carved_holes : IsCarved new first' len fit
+          carved_holes = record {
+            left = left;
+            right = right;
+            holes = record {
               size = subst IsSpaceSize (sym new_long) most;
               chain = subst (λ n. Chain n 0 holes (n + 1)) (sym new_long)
                   (replaced_chain size left mid right hole.place (hole_end hole) (first_place (h ∷ right) None) words three new first first' chains.0 mid_chain chains.2 old_written.0 old_written.1.1 old_first others mid_written relinked);
               all = covered;
               start = replaced_first size left mid right hole.place (hole_end hole) (first_place (h ∷ right) None) words three new first first' chains.0 mid_chain chains.2 old_written.0 old_written.1.1 old_first others mid_written relinked;
               written = replaced_written size left mid right hole.place (hole_end hole) (first_place (h ∷ right) None) words three new first first' chains.0 mid_chain chains.2 old_written.0 old_written.1.1 old_first others mid_written relinked;
-            },
-          )
+            };
+            before = is.found.before;
+            next = is.found.next;
+            chain = subst (λ n. Chain n 0 left hole.place) (sym new_long) chains.0;
+          }

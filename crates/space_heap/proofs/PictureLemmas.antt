@@ -3,25 +3,27 @@ use Rattle.std.proofs.Common.{◌≡◌, ℕ, zero, suc, ◌+◌, ◌<◌, ◌�
 use Rattle.std.specs.Prelude.{ℤ, is_some}
 use Rattle.std.specs.List.{list_any}
 use Rattle.std.proofs.lemmas.Bool.{cases_lt}
-use Rattle.space_heap.specs.Places.{Range, end_of, covers, is_covered, meets, count_from}
+use Rattle.space_raw.specs.Slots.{IsRun}
+use Rattle.std.specs.List.{range_with_len}
+use Rattle.space_heap.specs.Places.{Range, end_of, covers, is_covered, meets}
 use Rattle.space_heap.specs.Pictures.{IsBlock, AreBlocks, free_beside}
 use Rattle.space_heap.specs.Holes.{in_rest, AreParts}
 use Rattle.space_heap.proofs.RangeTests.{either, true_or_false, clash, when_not, both_false, or_false, left_true, false_left, not_false, is_in, in_range, meet_if, if_meet, meet_sym, covered_between}
-use Rattle.space_heap.proofs.Words.{marks}
+use Rattle.space_heap.proofs.Words.{is_run, marks}
 
-marks_tell : (f g : ℕ → Bool) (first n : ℕ) → map f (count_from first n) ≡ map g (count_from first n) → (k : ℕ) → first ≤ k → k < first + n → f k ≡ g k
+marks_tell : (f g : ℕ → Bool) (first n : ℕ) → map f (range_with_len first n) ≡ map g (range_with_len first n) → (k : ℕ) → first ≤ k → k < first + n → f k ≡ g k
 marks_tell f g first zero e k from to = absurd (omega arith)
 marks_tell f g first (suc n) e k from to =
-    let head : f first ≡ g first = cc in let tail : map f (count_from (suc first) n) ≡ map g (count_from (suc first) n) = cc in
+    let head : f first ≡ g first = cc in let tail : map f (range_with_len (first + 1) n) ≡ map g (range_with_len (first + 1) n) = cc in
     either (cases_lt first k)
-    (λ more. let next : suc first ≤ k = omega arith in let last : k < suc first + n = omega arith in marks_tell f g (suc first) n tail k next last)
+    (λ more. let next : first + 1 ≤ k = omega arith in let last : k < first + 1 + n = omega arith in marks_tell f g (first + 1) n tail k next last)
     (λ at. let same : first ≡ k = omega arith in subst (λ j. f j ≡ g j) same head)
 
-told_marks : (f g : ℕ → Bool) (first n : ℕ) → ((k : ℕ) → first ≤ k → k < first + n → f k ≡ g k) → map f (count_from first n) ≡ map g (count_from first n)
+told_marks : (f g : ℕ → Bool) (first n : ℕ) → ((k : ℕ) → first ≤ k → k < first + n → f k ≡ g k) → map f (range_with_len first n) ≡ map g (range_with_len first n)
 told_marks f g first zero same = refl
 told_marks f g first (suc n) same =
     let head : f first ≡ g first = (let from : first ≤ first = omega arith in let to : first < first + suc n = omega arith in same first from to) in
-    let tail : map f (count_from (suc first) n) ≡ map g (count_from (suc first) n) = told_marks f g (suc first) n (λ k from to. same k (omega arith) (omega arith)) in cc
+    let tail : map f (range_with_len (first + 1) n) ≡ map g (range_with_len (first + 1) n) = told_marks f g (first + 1) n (λ k from to. same k (omega arith) (omega arith)) in cc
 
 -- a word of the space is free exactly where no block covers it
 abbrev pub Agree : ℕ → (ℕ → Bool) → List Range → Type 0
@@ -29,13 +31,17 @@ Agree words free taken = (k : ℕ) → k < words → free k ≡ not (is_covered 
 
 pub agree : (words : ℕ) (rest : List (Option ℤ)) (taken : List Range) → length rest ≡ words → map is_some rest ≡ free_beside words taken → Agree words (in_rest rest) taken
 agree words rest taken long e k lt =
-    let marked : map (in_rest rest) (count_from 0 words) ≡ free_beside words taken = ap (λ n. map (in_rest rest) (count_from 0 n)) (sym long) ∙ sym (marks rest) ∙ e in
+    let marked : map (in_rest rest) (range_with_len 0 words) ≡ free_beside words taken = ap (λ n. map (in_rest rest) (range_with_len 0 n)) (sym long) ∙ sym (marks rest) ∙ e in
     marks_tell (in_rest rest) (λ j. not (is_covered taken j)) 0 words marked k (omega arith) (omega arith)
 
 pub same_marks : (words : ℕ) (rest : List (Option ℤ)) (taken : List Range) → length rest ≡ words → Agree words (in_rest rest) taken → map is_some rest ≡ free_beside words taken
 same_marks words rest taken long a =
-    marks rest ∙ ap (λ n. map (in_rest rest) (count_from 0 n)) long
+    marks rest ∙ ap (λ n. map (in_rest rest) (range_with_len 0 n)) long
     ∙ told_marks (in_rest rest) (λ j. not (is_covered taken j)) 0 words (λ k from to. a k (omega arith))
+
+-- where no block is taken, every word is there
+pub whole_rest : (words : ℕ) (rest : List (Option ℤ)) → length rest ≡ words → map is_some rest ≡ free_beside words [] → IsRun rest 0 (length rest)
+whole_rest words rest long e = is_run rest 0 (length rest) (omega arith) (λ k low lt. agree words rest [] long e k (omega arith))
 
 -- a range that meets none of the blocks has no word of one
 pub uncovered : (r : Range) (xs : List Range) → list_any (meets r) xs ≡ false → (k : ℕ) → covers r k ≡ true → is_covered xs k ≡ false

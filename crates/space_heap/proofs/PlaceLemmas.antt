@@ -5,7 +5,8 @@ use Rattle.std.proofs.Math.Nat.{mul-le-mul_right, mod-add-div, mul-mod_left}
 use Rattle.std.specs.Prelude.{find, fold, nat_le, if◌then◌else◌}
 use Rattle.std.specs.List.{list_any}
 use Rattle.std.specs.Int.{next_multiple_of}
-use Rattle.space_heap.specs.Places.{Range, end_of, covers, is_covered, meets, is_free, count_from, least_place, free_from, lower_place}
+use Rattle.std.specs.List.{range_with_len}
+use Rattle.space_heap.specs.Places.{Range, end_of, covers, is_covered, meets, is_free, least_place, free_from, lower_place}
 use Rattle.space_heap.specs.Pictures.{AreBlocks, IsBlock}
 use Rattle.space_heap.specs.Holes.{IsLeastPlace as IsLeastInHoles, HasNoPlace as HasNoneInHoles, IsFreeFrom}
 use Rattle.space_heap.proofs.RangeTests.{either, clash, when_not, both_true, and_true, both_false, one_true, not_false, not_true, is_in, in_range, covered_between}
@@ -29,29 +30,29 @@ module _ (test : ℕ → Bool) (align : ℕ) where
   fails_at : (from j : ℕ) → test (from * align) ≡ false → (from ≡ j) → test (j * align) ≡ false
   fails_at from j h e = subst (λ m. test (m * align) ≡ false) e h
 
-  fails_from : (from j : ℕ) → test (from * align) ≡ false → (suc from ≤ j → test (j * align) ≡ false) → from ≤ j → test (j * align) ≡ false
+  fails_from : (from j : ℕ) → test (from * align) ≡ false → (from + 1 ≤ j → test (j * align) ≡ false) → from ≤ j → test (j * align) ≡ false
   fails_from from j h later le =
-      let cases : (from ≡ j) ⊎ (suc from ≤ j) = grind arith in
+      let cases : (from ≡ j) ⊎ (from + 1 ≤ j) = grind arith in
       elim cases [ inl e ↦ fails_at from j h e | inr more ↦ later more ]
 
-  skipped : (from n : ℕ) (o : Option ℕ) → test (from * align) ≡ false → FirstOrNone (suc from) n o → FirstOrNone from (suc n) o
+  skipped : (from n : ℕ) (o : Option ℕ) → test (from * align) ≡ false → FirstOrNone (from + 1) n o → FirstOrNone from (suc n) o
   skipped from n None h none = λ j le lt. fails_from from j h (λ more. none j more (omega arith)) le
   skipped from n (Some p) h is = record {
     k = is.k;
-    from_on = let le : suc from ≤ is.k = is.from_on in omega arith;
+    from_on = let le : from + 1 ≤ is.k = is.from_on in omega arith;
     is = is.is;
     passes = is.passes;
     first = λ j le lt. fails_from from j h (λ more. is.first j more lt) le;
   }
 
-  found : (from n : ℕ) (b : Bool) → test (from * align) ≡ b → (o : Option ℕ) → FirstOrNone (suc from) n o → FirstOrNone from (suc n) (cond b (Some (from * align)) o)
+  found : (from n : ℕ) (b : Bool) → test (from * align) ≡ b → (o : Option ℕ) → FirstOrNone (from + 1) n o → FirstOrNone from (suc n) (cond b (Some (from * align)) o)
   found from n true h o later = record { k = from; from_on = omega arith; is = refl; passes = h; first = λ j le lt. absurd (omega arith) }
   found from n false h o later = skipped from n o h later
 
-  first_or_none : (from n : ℕ) → FirstOrNone from n (find test (map (λ k. k * align) (count_from from n)))
+  first_or_none : (from n : ℕ) → FirstOrNone from n (find test (map (λ k. k * align) (range_with_len from n)))
   first_or_none from zero = λ j le lt. absurd (omega arith)
   first_or_none from (suc n) =
-      found from n (test (from * align)) refl (find test (map (λ k. k * align) (count_from (suc from) n))) (first_or_none (suc from) n)
+      found from n (test (from * align)) refl (find test (map (λ k. k * align) (range_with_len (from + 1) n))) (first_or_none (from + 1) n)
 
 module _ (words : ℕ) (taken : List Range) (size align : ℕ) where
   abbrev pub free_at : ℕ → Bool

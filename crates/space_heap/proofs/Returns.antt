@@ -8,7 +8,7 @@ use Rattle.space_heap.specs.declared.holes.Front.{Front}
 use Rattle.space_heap.specs.declared.holes.Back.{Back}
 use Rattle.space_heap.specs.Places.{Range, covers, end_of, is_covered}
 use Rattle.space_heap.specs.Pictures.{IsBlock, IsSpaceSize}
-use Rattle.space_heap.specs.Holes.{AreHoles, AreParts, AreWritten, Chain, HasHoles, IsBack, IsFromOn, IsFront, IsLink, IsRelinked, LeadsTo, Rewrites, between, first_place, in_rest, last_place, word_at}
+use Rattle.space_heap.specs.Holes.{AreHoles, AreParts, AreWritten, Chain, HasHoles, IsBack, IsFromOn, IsFront, IsLink, IsRelinked, IsTaken, LeadsTo, Rewrites, between, first_place, in_rest, last_place, free_word}
 use Rattle.space_heap.proofs.RangeTests.{either, true_or_false, clash, one_true, left_true, right_true, false_left, same_test, is_in, in_range}
 use Rattle.space_heap.proofs.Words.{in_length, written_outside, written_there}
 use Rattle.space_heap.proofs.Chains.{between_chain, between_covers, covered_append, none_above}
@@ -19,7 +19,7 @@ use Rattle.space_heap.proofs.Mends.{between_link, tag_there}
 abbrev Slots : Type 0
 Slots = List (Option ℤ)
 
-module _ (words : Slots) (first : Option ℕ) (b : Range) (block : IsBlock (length words) b) (away : (k : ℕ) → b.place ≤ k → k < end_of b → in_rest words k ≡ false)
+module _ (words : Slots) (first : Option ℕ) (b : Range) (block : IsBlock (length words) b) (away : IsTaken words b)
     (front : Front) (before : IsFront words first b.place front) where
   abbrev size : ℕ
   size = length words
@@ -88,8 +88,8 @@ module _ (words : Slots) (first : Option ℕ) (b : Range) (block : IsBlock (leng
       pub joined_long : length joined ≡ size
       joined_long = ap length absorbed ∙ with_long words b.place ws fits
 
-      joined_outside : (k : ℕ) → (k < b.place) ⊎ (end ≤ k) → word_at joined k ≡ word_at words k
-      joined_outside k apart = ap (λ (xs : Slots). word_at xs k) absorbed ∙ written_outside words b.place ws fits k (either apart (λ lt. inl lt) (λ ge. inr (omega arith)))
+      joined_outside : (k : ℕ) → (k < b.place) ⊎ (end ≤ k) → free_word joined k ≡ free_word words k
+      joined_outside k apart = ap (λ (xs : Slots). free_word xs k) absorbed ∙ written_outside words b.place ws fits k (either apart (λ lt. inl lt) (λ ge. inr (omega arith)))
 
       joined_within : (k : ℕ) → b.place ≤ k → k < end → in_rest joined k ≡ true
       joined_within k low high = ap (λ (xs : Slots). in_rest xs k) absorbed ∙ written_there words b.place ws fits k low (omega arith)
@@ -115,7 +115,7 @@ module _ (words : Slots) (first : Option ℕ) (b : Range) (block : IsBlock (leng
         there : (k : ℕ) → in_rest cut k ≡ in_rest joined k
         there k = rewrites.there k
 
-        untouched : (k : ℕ) → (k < from) ⊎ (to ≤ k) → word_at cut k ≡ word_at words k
+        untouched : (k : ℕ) → (k < from) ⊎ (to ≤ k) → free_word cut k ≡ free_word words k
         untouched k apart = let low = before.low in let high = behind.high in
             rewrites.others k (either apart (λ lt. inl lt) (λ ge. inr (omega arith)))
             ∙ joined_outside k (either apart (λ lt. inl (omega arith)) (λ ge. inr (omega arith)))

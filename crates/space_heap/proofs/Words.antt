@@ -5,38 +5,38 @@ use Rattle.std.proofs.lemmas.List.{length-take-le, length-map, length-replicate,
 use Rattle.std.specs.Prelude.{ℤ, pos, is_some}
 use Rattle.space_raw.specs.Slots.{filled, run_of, IsRun, IsAway, without, with_run}
 use Rattle.space_raw.proofs.Slots.{run_long, with_long}
-use Rattle.space_heap.specs.Places.{count_from}
-use Rattle.space_heap.specs.Holes.{word_at, in_rest, IsSameBut, Rewrites}
+use Rattle.std.specs.List.{range_with_len}
+use Rattle.space_heap.specs.Holes.{free_word, in_rest, IsSameBut, Rewrites}
 use Rattle.space_heap.proofs.RangeTests.{either}
 
 abbrev Slots : Type 0
 Slots = List (Option ℤ)
 
-at_left : (xs ys : Slots) (k : ℕ) → k < length xs → word_at (xs ++ ys) k ≡ word_at xs k
+at_left : (xs ys : Slots) (k : ℕ) → k < length xs → free_word (xs ++ ys) k ≡ free_word xs k
 at_left [] ys k lt = let l : k < 0 = lt in absurd (omega arith)
 at_left (x ∷ xs) ys zero lt = refl
 at_left (x ∷ xs) ys (suc k) lt = let l : suc k < suc (length xs) = lt in at_left xs ys k (omega arith)
 
-at_right : (xs ys : Slots) (k j : ℕ) → k ≡ length xs + j → word_at (xs ++ ys) k ≡ word_at ys j
-at_right [] ys k j e = let same : k ≡ 0 + j = e in ap (word_at ys) (omega arith)
+at_right : (xs ys : Slots) (k j : ℕ) → k ≡ length xs + j → free_word (xs ++ ys) k ≡ free_word ys j
+at_right [] ys k j e = let same : k ≡ 0 + j = e in ap (free_word ys) (omega arith)
 at_right (x ∷ xs) ys zero j e = let long : zero ≡ suc (length xs) + j = e in absurd (omega arith)
 at_right (x ∷ xs) ys (suc k) j e = let long : suc k ≡ suc (length xs) + j = e in at_right xs ys k j (omega arith)
 
-at_take : (n k : ℕ) (xs : Slots) → k < n → word_at (take n xs) k ≡ word_at xs k
+at_take : (n k : ℕ) (xs : Slots) → k < n → free_word (take n xs) k ≡ free_word xs k
 at_take zero k xs lt = absurd (omega arith)
 at_take (suc n) k [] lt = refl
 at_take (suc n) zero (x ∷ xs) lt = refl
 at_take (suc n) (suc k) (x ∷ xs) lt = at_take n k xs (omega arith)
 
-at_drop : (n k : ℕ) (xs : Slots) → word_at (drop n xs) k ≡ word_at xs (n + k)
-at_drop zero k xs = ap (word_at xs) (omega arith)
+at_drop : (n k : ℕ) (xs : Slots) → free_word (drop n xs) k ≡ free_word xs (n + k)
+at_drop zero k xs = ap (free_word xs) (omega arith)
 at_drop (suc n) k [] = refl
 at_drop (suc n) k (x ∷ xs) = at_drop n k xs ∙ moved
   where
-    moved : word_at xs (n + k) ≡ word_at (x ∷ xs) (suc n + k)
-    moved = ap (word_at (x ∷ xs)) {x = suc (n + k)} (omega arith)
+    moved : free_word xs (n + k) ≡ free_word (x ∷ xs) (suc n + k)
+    moved = ap (free_word (x ∷ xs)) {x = suc (n + k)} (omega arith)
 
-at_none : (n k : ℕ) → word_at (replicate n None) k ≡ None
+at_none : (n k : ℕ) → free_word (replicate n None) k ≡ None
 at_none zero k = refl
 at_none (suc n) zero = refl
 at_none (suc n) (suc k) = at_none n k
@@ -52,7 +52,7 @@ in_length [] k e = cc
 in_length (x ∷ xs) zero e = omega arith
 in_length (x ∷ xs) (suc k) e = let rest = in_length xs k e in omega arith
 
-pub is_there : (xs : Slots) (k : ℕ) (w : ℤ) → word_at xs k ≡ Some w → in_rest xs k ≡ true
+pub is_there : (xs : Slots) (k : ℕ) (w : ℤ) → free_word xs k ≡ Some w → in_rest xs k ≡ true
 is_there xs k w e = ap is_some e
 
 -- n words are replaced
@@ -63,14 +63,14 @@ module _ (cs mid : Slots) (p n : ℕ) (long : length mid ≡ n) (inside : p + n 
   front_long : length (take p cs) ≡ p
   front_long = length-take-le p cs (omega arith)
 
-  pub outside : (k : ℕ) → (k < p) ⊎ (p + n ≤ k) → word_at replaced k ≡ word_at cs k
+  pub outside : (k : ℕ) → (k < p) ⊎ (p + n ≤ k) → free_word replaced k ≡ free_word cs k
   outside k (inl lt) = let front = front_long in at_left (take p cs) (mid ++ drop (p + n) cs) k (omega arith) ∙ at_take p k cs lt
   outside k (inr le) =
       let front = front_long in let j = k - p in let i = j - n in
       at_right (take p cs) (mid ++ drop (p + n) cs) k j (omega arith) ∙ at_right mid (drop (p + n) cs) j i (omega arith) ∙ at_drop (p + n) i cs
-      ∙ ap (word_at cs) (omega arith)
+      ∙ ap (free_word cs) (omega arith)
 
-  pub within : (k j : ℕ) → k ≡ p + j → j < n → word_at replaced k ≡ word_at mid j
+  pub within : (k j : ℕ) → k ≡ p + j → j < n → free_word replaced k ≡ free_word mid j
   within k j e lt = let front = front_long in at_right (take p cs) (mid ++ drop (p + n) cs) k j (omega arith) ∙ at_left mid (drop (p + n) cs) j (omega arith)
 
 -- what a carved piece leaves
@@ -95,7 +95,7 @@ module _ (cs : Slots) (p : ℕ) (ws : List ℤ) (inside : p + length ws ≤ leng
   pub written_outside : IsSameBut cs p (length ws) (with_run cs p ws)
   written_outside = outside cs (map Some ws) p (length ws) some_long inside
 
-  pub written_within : (k j : ℕ) → k ≡ p + j → j < length ws → word_at (with_run cs p ws) k ≡ word_at (map Some ws) j
+  pub written_within : (k j : ℕ) → k ≡ p + j → j < length ws → free_word (with_run cs p ws) k ≡ free_word (map Some ws) j
   written_within = within cs (map Some ws) p (length ws) some_long inside
 
   pub written_there : (k : ℕ) → p ≤ k → k < p + length ws → in_rest (with_run cs p ws) k ≡ true
@@ -127,37 +127,37 @@ is_run cs p n inside there =
     )
 
 -- a tag's words
-two_words : (xs : Slots) (a b : ℤ) → word_at xs 0 ≡ Some a → word_at xs 1 ≡ Some b → filled (take 2 xs) ≡ a ∷ b ∷ []
+two_words : (xs : Slots) (a b : ℤ) → free_word xs 0 ≡ Some a → free_word xs 1 ≡ Some b → filled (take 2 xs) ≡ a ∷ b ∷ []
 two_words [] a b e f = cc
 two_words (x ∷ []) a b e f = cc
 two_words (x ∷ y ∷ xs) a b e f =
     subst (λ (z : Option ℤ). filled (z ∷ y ∷ []) ≡ a ∷ b ∷ []) (sym e) (subst (λ (z : Option ℤ). filled (Some a ∷ z ∷ []) ≡ a ∷ b ∷ []) (sym f) refl)
 
-pub tag_words : (cs : Slots) (p : ℕ) (a b : ℤ) → word_at cs p ≡ Some a → word_at cs (p + 1) ≡ Some b → run_of cs p 2 ≡ a ∷ b ∷ []
-tag_words cs p a b e f = two_words (drop p cs) a b (at_drop p 0 cs ∙ ap (word_at cs) (omega arith) ∙ e) (at_drop p 1 cs ∙ f)
+pub tag_words : (cs : Slots) (p : ℕ) (a b : ℤ) → free_word cs p ≡ Some a → free_word cs (p + 1) ≡ Some b → run_of cs p 2 ≡ a ∷ b ∷ []
+tag_words cs p a b e f = two_words (drop p cs) a b (at_drop p 0 cs ∙ ap (free_word cs) (omega arith) ∙ e) (at_drop p 1 cs ∙ f)
 
-pub tag_run : (cs : Slots) (p : ℕ) (a b : ℤ) → word_at cs p ≡ Some a → word_at cs (p + 1) ≡ Some b → IsRun cs p 2
+pub tag_run : (cs : Slots) (p : ℕ) (a b : ℤ) → free_word cs p ≡ Some a → free_word cs (p + 1) ≡ Some b → IsRun cs p 2
 tag_run cs p a b e f =
     let last = in_length cs (p + 1) (is_there cs (p + 1) b f) in
     is_run cs p 2 (omega arith) (λ k low high. either (cases_lt k (p + 1))
-    (λ lt. let at : p ≡ k = omega arith in is_there cs k a (ap (word_at cs) (sym at) ∙ e))
-    (λ ge. let at : p + 1 ≡ k = omega arith in is_there cs k b (ap (word_at cs) (sym at) ∙ f)))
+    (λ lt. let at : p ≡ k = omega arith in is_there cs k a (ap (free_word cs) (sym at) ∙ e))
+    (λ ge. let at : p + 1 ≡ k = omega arith in is_there cs k b (ap (free_word cs) (sym at) ∙ f)))
 
 pub run_there : (cs : Slots) (p n : ℕ) → IsRun cs p n → (k : ℕ) → p ≤ k → k < p + n → in_rest cs k ≡ true
 run_there cs p n is k low high =
     let j = k - p in let long = run_long cs p n is in
-    ap is_some (ap (word_at cs) {y = p + j} (omega arith) ∙ sym (at_drop p j cs) ∙ sym (at_take n j (drop p cs) (omega arith)) ∙ ap (λ (xs : Slots). word_at xs j) is.0)
+    ap is_some (ap (free_word cs) {y = p + j} (omega arith) ∙ sym (at_drop p j cs) ∙ sym (at_take n j (drop p cs) (omega arith)) ∙ ap (λ (xs : Slots). free_word xs j) is.0)
     ∙ at_some (run_of cs p n) j (omega arith)
 
 -- the two words of a run
-pub run_words : (cs : Slots) (p : ℕ) → IsRun cs p 2 → (word_at cs p ≡ Some (get_or (run_of cs p 2) 0 (pos 0))) × (word_at cs (p + 1) ≡ Some (get_or (run_of cs p 2) 1 (pos 0)))
+pub run_words : (cs : Slots) (p : ℕ) → IsRun cs p 2 → (free_word cs p ≡ Some (get_or (run_of cs p 2) 0 (pos 0))) × (free_word cs (p + 1) ≡ Some (get_or (run_of cs p 2) 1 (pos 0)))
 run_words cs p is =
     let long = run_long cs p 2 is in let start : p + 0 ≡ p = omega arith in (
-      sym (ap (word_at cs) start) ∙ sym (at_drop p 0 cs) ∙ sym (at_take 2 0 (drop p cs) (omega arith)) ∙ ap (λ (xs : Slots). word_at xs 0) is.0 ∙ some_word (run_of cs p 2) 0 (omega arith),
-      sym (at_drop p 1 cs) ∙ sym (at_take 2 1 (drop p cs) (omega arith)) ∙ ap (λ (xs : Slots). word_at xs 1) is.0 ∙ some_word (run_of cs p 2) 1 (omega arith),
+      sym (ap (free_word cs) start) ∙ sym (at_drop p 0 cs) ∙ sym (at_take 2 0 (drop p cs) (omega arith)) ∙ ap (λ (xs : Slots). free_word xs 0) is.0 ∙ some_word (run_of cs p 2) 0 (omega arith),
+      sym (at_drop p 1 cs) ∙ sym (at_take 2 1 (drop p cs) (omega arith)) ∙ ap (λ (xs : Slots). free_word xs 1) is.0 ∙ some_word (run_of cs p 2) 1 (omega arith),
     )
   where
-    some_word : (ws : List ℤ) (k : ℕ) → k < length ws → word_at (map Some ws) k ≡ Some (get_or ws k (pos 0))
+    some_word : (ws : List ℤ) (k : ℕ) → k < length ws → free_word (map Some ws) k ≡ Some (get_or ws k (pos 0))
     some_word [] k lt = let l : k < 0 = lt in absurd (omega arith)
     some_word (w ∷ ws) zero lt = refl
     some_word (w ∷ ws) (suc k) lt = let l : suc k < suc (length ws) = lt in some_word ws k (omega arith)
@@ -170,10 +170,10 @@ module _ (cs : Slots) (p : ℕ) (a b : ℤ) (there : IsRun cs p 2) where
   inside : p + 2 ≤ length cs
   inside = there.1
 
-  pub tag_first : word_at tagged p ≡ Some a
+  pub tag_first : free_word tagged p ≡ Some a
   tag_first = written_within cs p (a ∷ b ∷ []) inside p 0 (omega arith) (omega arith)
 
-  pub tag_second : word_at tagged (p + 1) ≡ Some b
+  pub tag_second : free_word tagged (p + 1) ≡ Some b
   tag_second = written_within cs p (a ∷ b ∷ []) inside (p + 1) 1 (omega arith) (omega arith)
 
   pub tag_rewrites : Rewrites cs p 2 tagged
@@ -182,14 +182,14 @@ module _ (cs : Slots) (p : ℕ) (a b : ℤ) (there : IsRun cs p 2) where
 -- words of a piece are away
 pub away_within : (cs : Slots) (p n : ℕ) → IsAway cs p n → (k : ℕ) → p ≤ k → k < p + n → in_rest cs k ≡ false
 away_within cs p n away k low high =
-    let j = k - p in ap is_some (ap (word_at cs) (omega arith) ∙ sym (at_drop p j cs) ∙ sym (at_take n j (drop p cs) (omega arith)) ∙ ap (λ (xs : Slots). word_at xs j) away ∙ at_none n j)
+    let j = k - p in ap is_some (ap (free_word cs) (omega arith) ∙ sym (at_drop p j cs) ∙ sym (at_take n j (drop p cs) (omega arith)) ∙ ap (λ (xs : Slots). free_word xs j) away ∙ at_none n j)
 
 -- the marks of the words that are there
-marks_from : (cs : Slots) (f : ℕ → Bool) (first : ℕ) → ((k : ℕ) → f (first + k) ≡ in_rest cs k) → map is_some cs ≡ map f (count_from first (length cs))
+marks_from : (cs : Slots) (f : ℕ → Bool) (first : ℕ) → ((k : ℕ) → f (first + k) ≡ in_rest cs k) → map is_some cs ≡ map f (range_with_len first (length cs))
 marks_from [] f first same = refl
 marks_from (c ∷ cs) f first same =
     let head : is_some c ≡ f first = sym (same 0) ∙ ap f (omega arith) in
-    let tail : map is_some cs ≡ map f (count_from (suc first) (length cs)) = marks_from cs f (suc first) (λ k. ap f (omega arith) ∙ same (suc k)) in cc
+    let tail : map is_some cs ≡ map f (range_with_len (first + 1) (length cs)) = marks_from cs f (first + 1) (λ k. ap f (omega arith) ∙ same (suc k)) in cc
 
-pub marks : (cs : Slots) → map is_some cs ≡ map (in_rest cs) (count_from 0 (length cs))
+pub marks : (cs : Slots) → map is_some cs ≡ map (in_rest cs) (range_with_len 0 (length cs))
 marks cs = marks_from cs (in_rest cs) 0 (λ k. ap (in_rest cs) (omega arith))

@@ -13,14 +13,14 @@ use Rattle.space_heap.specs.Places.{Range, covers, end_of, is_covered}
 use Rattle.space_heap.specs.Pictures.{IsBlock, IsSpaceSize}
 
 -- the word at place k, if no piece has it
-abbrev pub word_at : List (Option ℤ) → ℕ → Option ℤ
-word_at [] k = None
-word_at (w ∷ ws) zero = w
-word_at (w ∷ ws) (suc k) = word_at ws k
+abbrev pub free_word : List (Option ℤ) → ℕ → Option ℤ
+free_word [] k = None
+free_word (w ∷ ws) zero = w
+free_word (w ∷ ws) (suc k) = free_word ws k
 
 -- whether word k is free
 abbrev pub in_rest : List (Option ℤ) → ℕ → Bool
-in_rest words k = is_some (word_at words k)
+in_rest words k = is_some (free_word words k)
 
 abbrev pub hole_end : Hole → ℕ
 hole_end h = h.place + h.len
@@ -47,12 +47,12 @@ pub record IsHole (h : Hole) : Type 0 where
 
 -- it stands in its first two words: its length, and the place of the next one
 pub record IsWritten (words : List (Option ℤ)) (h : Hole) : Type 0 where
-  pub len : word_at words h.place ≡ Some (pos (h.len / LEAST_ALIGNMENT))
-  pub next : word_at words (h.place + 1) ≡ Some (link h.next)
+  pub len : free_word words h.place ≡ Some (pos (h.len / LEAST_ALIGNMENT))
+  pub next : free_word words (h.place + 1) ≡ Some (link h.next)
 
 -- all words but the n from p on are what they were
 abbrev pub IsSameBut : List (Option ℤ) → ℕ → ℕ → List (Option ℤ) → Type 0
-IsSameBut old p n new = (k : ℕ) → (k < p) ⊎ (p + n ≤ k) → word_at new k ≡ word_at old k
+IsSameBut old p n new = (k : ℕ) → (k < p) ⊎ (p + n ≤ k) → free_word new k ≡ free_word old k
 
 -- only the n words from p on are written
 pub record Rewrites (old : List (Option ℤ)) (p n : ℕ) (new : List (Option ℤ)) : Type 0 where
@@ -118,14 +118,27 @@ pub record IsFit (words : List (Option ℤ)) (first : Option ℕ) (len : ℕ) (f
   pub high : fit.place + len ≤ hole_end fit.found.hole
   pub unit : fit.place % LEAST_ALIGNMENT ≡ 0
 
+-- no word of the range is in a hole
+abbrev pub IsTaken : List (Option ℤ) → Range → Type 0
+IsTaken words r = (k : ℕ) → r.place ≤ k → k < end_of r → in_rest words k ≡ false
+
 -- the words from one place up to another as a hole, if there are some
 abbrev pub between : ℕ → ℕ → List Range
 between from to = if nat_lt from to then record { place = from; size = to - from } ∷ [] else []
 
+-- the holes, once len words from the fit's place on are taken out of its hole
+pub record IsCarved (words : List (Option ℤ)) (first : Option ℕ) (len : ℕ) (fit : Fit) : Type 0 where
+  pub left : List Range
+  pub right : List Range
+  pub holes : AreHoles words first (left ++ ((between fit.found.hole.place fit.place ++ between (fit.place + len) (hole_end fit.found.hole)) ++ right))
+  pub before : fit.found.before ≡ last_place None left
+  pub next : fit.found.hole.next ≡ first_place right None
+  pub chain : Chain (length words) 0 left fit.found.hole.place
+
 -- where the hole at `before` leads to, or without it the heap, is now `next`
 abbrev pub IsRelinked : List (Option ℤ) → Option ℕ → Option ℕ → Option ℕ → List (Option ℤ) → Option ℕ → Type 0
 IsRelinked old old_first before next new new_first = MatchOption before ((new ≡ old) × (new_first ≡ next))
-    (λ p. Rewrites old (p + 1) 1 new × (word_at new (p + 1) ≡ Some (link next)) × (new_first ≡ old_first))
+    (λ p. Rewrites old (p + 1) 1 new × (free_word new (p + 1) ≡ Some (link next)) × (new_first ≡ old_first))
 
 -- the free words before a block with those of a hole that ends at its place begin at `from`, and behind `before` and before `next`
 pub record IsFront (words : List (Option ℤ)) (first : Option ℕ) (place : ℕ) (front : Front) : Type 0 where

@@ -1,6 +1,6 @@
 -- Ranges of a space, and where a block is placed among those that are taken.
-use Rattle.std.specs.Prelude.{ℕ, zero, suc, ◌+◌, ◌*◌, ◌/◌, Bool, ◌&&◌, not, List, [], ◌∷◌, map, Option, find, fold, max, min, nat_lt, nat_le, if◌then◌else◌}
-use Rattle.std.specs.List.{list_any}
+use Rattle.std.specs.Prelude.{ℕ, ◌+◌, ◌*◌, ◌/◌, Bool, ◌&&◌, not, List, map, Option, find, fold, max, min, nat_lt, nat_le, if◌then◌else◌}
+use Rattle.std.specs.List.{list_any, range_with_len}
 use Rattle.std.specs.Int.{next_multiple_of}
 use Rattle.mem_rec.specs.declared.TheConstants.{LEAST_ALIGNMENT}
 
@@ -32,14 +32,9 @@ placed_size size = next_multiple_of size LEAST_ALIGNMENT
 abbrev pub is_free : ℕ → List Range → Range → Bool
 is_free words taken r = nat_le (end_of r) words && not (list_any (meets r) taken)
 
--- n numbers, counted up
-abbrev pub count_from : ℕ → ℕ → List ℕ
-count_from first zero = []
-count_from first (suc n) = first ∷ count_from (suc first) n
-
 -- the numbers below n
 abbrev pub numbers_below : ℕ → List ℕ
-numbers_below n = count_from 0 n
+numbers_below n = range_with_len 0 n
 
 abbrev pub multiples_within : ℕ → ℕ → List ℕ
 multiples_within words align = map (λ k. k * align) (numbers_below (words / align + 1))

@@ -1,4 +1,4 @@
-// The search among the holes, in place order.
+//! The search among the holes, in place order.
 ghost use Rattle.std.specs.Prelude.{◌+◌, ◌<◌, ◌≤◌, IfSome, IfNone};
 ghost use Rattle.space_heap.specs.Pictures.{IsAlignment};
 ghost use Rattle.space_heap.specs.Holes.{HasHoles, HasNoPlace, IsFit, IsFound, IsFromOn, IsLeastPlace, in_rest};

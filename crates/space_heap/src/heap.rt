@@ -1,5 +1,5 @@
-// The heap of one space.
-ghost use Rattle.std.specs.Prelude.{◌≡◌, ◌==◌, ◌+◌, ◌/◌, ◌<◌, ◌≤◌, ◌^◌, ◌-◌, ◌++◌, [], ◌∷◌, List, length, min, sum_by, count_by, if◌then◌else◌, IfOk, IfErr, IsErrOf, IfSome, IfNone};
+//! The heap of one space.
+ghost use Rattle.std.specs.Prelude.{◌≡◌, ◌==◌, ◌+◌, ◌/◌, ◌<◌, ◌≤◌, ◌^◌, ◌-◌, ◌++◌, [], ◌∷◌, List, length, min, sum_by, count_by, if◌then◌else◌, IfOk, IfErr, IsErrOf, IfSome, IfNone, is_some, map};
 ghost use Rattle.std.specs.Option.{option_map};
 ghost use Rattle.space_raw.specs.Span.{IsWhole};
 ghost use Rattle.space_heap.specs.Places.{Range, least_place, lower_place, placed_size};
@@ -9,11 +9,11 @@ ghost use Rattle.space_heap.specs.Pictures.{Holds, IsAlignment, IsBlock, IsSpace
 mod tests;
 
 use crate::find::find;
-use crate::holes::{carve, gap_before, leave_hole, put_back};
+use crate::holes::{Front, carve, gap_before, leave_hole, put_back, put_behind};
 use crate::limits::{GREATEST_NEED, is_space_size};
 use mem_rec::LEAST_ALIGNMENT;
 use space_raw::{Piece, Region, Rest};
-use std::alloc::Global;
+use std::alloc::{Allocator, Global};
 use std::marker::Model;
 use thiserror::Error;
 
@@ -29,9 +29,9 @@ pub enum HeapError {
 }
 
 /// The heap of one space of 16-bit words. Blocks are pieces of the space that are taken at their least aligned place, given back, and
-/// moved down. It can't be copied, and must be given back by `close`.
-pub struct Heap {
-    region: Region,
+/// moved down. Its space is of the allocator `A`, the system's by default. It can't be copied, and must be given back by `close`.
+pub struct Heap<A: Allocator = Global> {
+    region: Region<A>,
     rest: Rest,
     size: u32,
     first: Option<u32>,
@@ -39,7 +39,7 @@ pub struct Heap {
     slid: u64,
 }
 
-impl Model for Heap {
+impl<A: Allocator> Model for Heap<A> {
     ghost use Rattle.std.specs.Prelude.{is_some, map};
     ghost use Rattle.space_heap.specs.Pictures.{HeapState};
     ghost use Rattle.space_heap.specs.Holes.{IsHeap};
@@ -51,9 +51,9 @@ impl Model for Heap {
     ghost invariant = { λ h. IsHeap h.region h.rest h.size h.first h.free };
 }
 
-impl Heap {
-    /// A heap of that many words, all of them free. The only requests for memory of its life are made here.
-    pub fn new(alloc: Global, words: u32) -> Result<Heap, HeapError>
+impl<A: Allocator> Heap<A> {
+    /// A heap of that many words, all of them free. The one request for memory of its life is made here.
+    pub fn new(alloc: A, words: u32) -> Result<Heap<A>, HeapError>
         ensures bad_size { ¬ IsSpaceSize words → IsErrOf result HeapError.BadSize }
         ensures memory { IsSpaceSize words → IfErr result (λ e. e ≡ HeapError.Memory) }
         ensures heap { IfOk result (λ h. (h.region.size ≡ words) × Holds h [] × (h.slid ≡ 0)) }
@@ -68,7 +68,7 @@ impl Heap {
     }
 
     // The heap of a region of which no piece is away. It asks for no memory.
-    fn over(region: Region, all: Piece) -> Heap
+    fn over(region: Region<A>, all: Piece) -> Heap<A>
         requires whole { (all.region ≡ region) × IsWhole all × IsSpaceSize region.size }
         ensures region { (result.region ≡ region) × (result.slid ≡ 0) }
         ensures taken { Holds result [] }
@@ -140,7 +140,8 @@ impl Heap {
             piece.place() - fit.place,
         );
         let (block, behind) = Piece::slide(gap, piece);
-        put_back(&mut self.rest, &mut self.first, behind);
+        let front = Front::behind(fit, behind.place());
+        put_behind(&mut self.rest, &mut self.first, front, behind);
         self.slid = self.slid.saturating_add(u64::from(len));
         block
     }

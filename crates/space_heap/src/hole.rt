@@ -1,4 +1,4 @@
-// A hole, and how it stands in its own first two words.
+//! A hole, and how it stands in its own first two words.
 ghost use Rattle.std.specs.Prelude.{◌≡◌, ◌+◌, ◌*◌, ◌/◌, ◌<◌, ◌^◌, ℕ, Option, pos};
 ghost use Rattle.space_heap.specs.Holes.{IsLink, link};
 

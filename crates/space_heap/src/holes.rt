@@ -1,10 +1,10 @@
-// The holes of a heap, linked in place order through their own first two words. `first` is where the first of them begins.
+//! The holes of a heap, linked in place order through their own first two words. `first` is where the first of them begins.
 ghost use Rattle.std.specs.Prelude.{◌≡◌, ◌+◌, ◌-◌, ◌%◌, ◌<◌, ◌≤◌, ℕ, List, length, true, false, IfSome, MatchOption};
 ghost use Rattle.std.specs.Int.{next_multiple_of};
 ghost use Rattle.space_raw.specs.Slots.{IsRun};
 ghost use Rattle.space_heap.specs.Places.{Range};
 ghost use Rattle.space_heap.specs.Pictures.{IsAlignment, IsBlock, IsSpaceSize, range_of};
-ghost use Rattle.space_heap.specs.Holes.{AreParts, AreWritten, HasHoles, IsBack, IsFit, IsFreeFrom, IsFromOn, IsFront, IsLink, IsRelinked, LeadsTo, Rewrites, between, first_place, in_rest};
+ghost use Rattle.space_heap.specs.Holes.{AreParts, AreWritten, HasHoles, IsBack, IsCarved, IsFit, IsFreeFrom, IsFromOn, IsFront, IsLink, IsRelinked, IsTaken, LeadsTo, Rewrites, between, first_place, hole_end, in_rest, last_place};
 
 use crate::find::{Fit, Found, last_before};
 use crate::hole::{Hole, link_of};
@@ -56,7 +56,7 @@ pub(crate) fn carve(rest: &mut Rest, first: &mut Option<u32>, fit: Fit, words: u
     requires words { (0 < words) × (words % LEAST_ALIGNMENT ≡ 0) }
     ensures block { (result.region ≡ rest.old.region) × (result.place ≡ fit.place) × (length result.words ≡ words) }
     ensures rest { (rest.new.region ≡ rest.old.region) × (length rest.new.slots ≡ length rest.old.slots) }
-    ensures holes { HasHoles rest.new.slots first.new }
+    ensures holes { IsCarved rest.new.slots first.new words fit }
     ensures parts { AreParts (in_rest rest.old.slots) (range_of result) (in_rest rest.new.slots) }
 {
     let Fit { found, place } = fit;
@@ -73,6 +73,25 @@ pub(crate) struct Front {
     pub(crate) before: Option<u32>,
     pub(crate) from: u32,
     pub(crate) next: Option<u32>,
+}
+
+impl Front {
+    // What stands before a place, once the words from the fit's place to its hole's end are a block that ends there.
+    pub(crate) fn behind(fit: Fit, place: u32) -> Front
+        ensures { result ≡ record { before = last_place fit.found.before (between fit.found.hole.place fit.place); from = place; next = fit.found.hole.next } }
+    {
+        let Found { before, hole } = fit.found;
+        let before = if hole.place < fit.place {
+            Some(hole.place)
+        } else {
+            before
+        };
+        Front {
+            before,
+            from: place,
+            next: hole.next,
+        }
+    }
 }
 
 fn join_front(rest: &Rest, first: Option<u32>, place: u32) -> Front
@@ -140,7 +159,21 @@ pub(crate) fn put_back(rest: &mut Rest, first: &mut Option<u32>, piece: Piece)
 {
     let mut piece = piece;
     rest.apart(&mut piece);
-    let Front { before, from, next } = join_front(rest, *first, piece.place());
+    let front = join_front(rest, *first, piece.place());
+    put_behind(rest, first, front, piece);
+}
+
+// The same, where it is known what stands before the piece.
+pub(crate) fn put_behind(rest: &mut Rest, first: &mut Option<u32>, front: Front, piece: Piece)
+    requires region { piece.region ≡ rest.old.region }
+    requires block { IsBlock (length rest.old.slots) (range_of piece) }
+    requires taken { IsTaken rest.old.slots (range_of piece) }
+    requires front { IsFront rest.old.slots first.old piece.place front }
+    ensures rest { (rest.new.region ≡ rest.old.region) × (length rest.new.slots ≡ length rest.old.slots) }
+    ensures holes { HasHoles rest.new.slots first.new }
+    ensures parts { AreParts (in_rest rest.new.slots) (range_of piece) (in_rest rest.old.slots) }
+{
+    let Front { before, from, next } = front;
     let Back { to, behind } = join_back(rest, piece.place() + piece.len(), next);
     rest.absorb(piece);
     let start = leave_hole(rest, from, to, behind);
@@ -148,6 +181,7 @@ pub(crate) fn put_back(rest: &mut Rest, first: &mut Option<u32>, piece: Piece)
 }
 
 // Where a piece can be lowered to: the least multiple of `align` in the hole that ends at its place.
+#[tactic(auto, using(crate::proofs::Words::away_within))]
 pub(crate) fn gap_before(
     rest: &mut Rest,
     first: Option<u32>,
@@ -159,7 +193,8 @@ pub(crate) fn gap_before(
     requires block { IsBlock (length rest.old.slots) (range_of piece.old) }
     requires align { IsAlignment align }
     ensures same { (rest.new ≡ rest.old) × (piece.new ≡ piece.old) }
-    ensures found { IfSome result (λ f. (f.place < piece.old.place) × IsFit rest.old.slots first (piece.old.place - f.place) f) }
+    ensures taken { IsTaken rest.old.slots (range_of piece.old) }
+    ensures found { IfSome result (λ f. (f.place < piece.old.place) × (hole_end f.found.hole ≡ piece.old.place) × IsFit rest.old.slots first (piece.old.place - f.place) f) }
     ensures place { (start : ℕ) × IsFreeFrom (in_rest rest.old.slots) piece.old.place start × MatchOption result (piece.old.place ≤ next_multiple_of start align) (λ f. f.place ≡ next_multiple_of start align) }
 {
     rest.apart(piece);

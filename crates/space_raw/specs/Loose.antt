@@ -1,4 +1,4 @@
--- What the owner of the words that no piece holds owns and lends. None stands where a piece has the word.
+-- What the owner of the words that no piece holds owns and lends. None stands where a piece has the word. No public clause speaks of it.
 use Rattle.std.specs.Prelude.{ℕ, ℤ, ◌+◌, List, [], ◌∷◌, Option, Some, None}
 use base.Fraction.{full_share}
 use base.Fml.{Lft, Fml, ftrue, ffalse, fsep}

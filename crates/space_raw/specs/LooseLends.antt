@@ -1,4 +1,4 @@
--- What the owner of loose words ends as, once a `&mut` to a run of them has ended.
+-- What the owner of loose words ends as, once a `&mut` to a run of them has ended. No public clause speaks of it.
 use Rattle.std.specs.Prelude.{ℕ, ℤ, List}
 use Rattle.std.specs.Borrow.{Fml, MutBor, Array, Lends}
 use Rattle.std.specs.List.{refill}

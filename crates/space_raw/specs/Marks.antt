@@ -1,4 +1,4 @@
--- Which places of a region an owner has, as a mark for each place. There is one token for each place.
+-- Which places of a region an owner has, as a mark for each place. There is one token for each place. No public clause speaks of it.
 use Rattle.std.specs.Prelude.{ℕ, zero, suc, ◌+◌, Bool, true, false, List, [], ◌∷◌, replicate, ⊤}
 use base.Fml.{Fml, ftrue, fsep}
 use types.Keyed.{ticket}

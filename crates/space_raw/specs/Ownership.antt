@@ -1,4 +1,4 @@
--- What the owner of words owns and lends.
+-- What the owner of words owns and lends. No public clause speaks of it.
 use Rattle.std.specs.Prelude.{ℕ, ℤ, ◌*◌, ◌^◌, List, length}
 use base.Fraction.{full_share}
 use base.Fml.{Lft, Fml}

@@ -1,4 +1,4 @@
-// The allocation of a region, as its allocator sees it.
+//! The allocation of a region, as its allocator sees it.
 ghost use Rattle.std.specs.Prelude.{◌≡◌, ℕ, ◌+◌, ◌*◌, ◌<◌, ◌≤◌, List, [], ◌∷◌, ◌++◌, length, IfOk};
 ghost use denote.RawPtr.{Ptr};
 ghost use Rattle.space_raw.specs.Ownership.{blank_owns, deed_owns, word_limit};

@@ -1,4 +1,4 @@
-// One space's raw words, as pieces that are owned. docs/RAW_MEMORY.md says how pointers, owners and safe types fit together.
+//! One space's raw words, as pieces that are owned. `docs/RAW_MEMORY.md` says how pointers, owners and safe types fit together.
 #![tactic(auto)]
 
 mod block;

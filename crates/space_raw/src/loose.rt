@@ -1,4 +1,4 @@
-// The words of a region that no piece holds.
+//! The words of a region that no piece holds.
 ghost use Rattle.std.specs.Prelude.{◌≡◌, ◌<◌, ℕ, ℤ, ◌+◌, ◌≤◌, List, [], Option, Some, map, length};
 ghost use Rattle.std.specs.Borrow.{sem};
 ghost use denote.RawPtr.{Ptr};

@@ -1,4 +1,4 @@
-// A range of a region's words that is owned.
+//! A range of a region's words that is owned.
 ghost use Rattle.std.specs.Prelude.{◌≡◌, ◌+◌, ◌<◌, ◌≤◌, ◌++◌, length, take, drop};
 ghost use Rattle.std.specs.Borrow.{sem};
 ghost use Rattle.space_raw.specs.Span.{Adjoins, Apart};

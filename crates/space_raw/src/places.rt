@@ -1,4 +1,4 @@
-// The right to places of a region. A place has one owner at a time.
+//! The right to places of a region. A place has one owner at a time.
 ghost use Rattle.std.specs.Prelude.{◌≡◌, ℕ, List, Bool, true, length, replicate};
 ghost use Rattle.space_raw.specs.Marks.{marked_own, within, outside, union, Disjoint};
 

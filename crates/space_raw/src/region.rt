@@ -1,4 +1,4 @@
-// One space's allocation. Its words are pieces, and it takes them all to free it.
+//! One space's allocation. Its words are pieces, and it takes them all to free it.
 ghost use Rattle.std.specs.Prelude.{◌≡◌, [], length, replicate, IfOk, pos};
 ghost use Rattle.space_raw.specs.Span.{IsWhole};
 
@@ -10,15 +10,15 @@ use std::alloc::{AllocError, Allocator, Global};
 use std::marker::Model;
 
 /// One space's raw words. It can't be copied, and must be given back by `close`.
-pub struct Region {
+pub struct Region<A: Allocator = Global> {
     base: Base,
     size: u32,
-    deed: Deed<Global>,
-    alloc: Global,
+    deed: Deed<A>,
+    alloc: A,
     places: Places,
 }
 
-impl Model for Region {
+impl<A: Allocator> Model for Region<A> {
     ghost use Rattle.std.specs.Prelude.{◌≡◌, ◌<◌};
     ghost use Rattle.space_raw.specs.Ownership.{word_limit};
     ghost use Rattle.space_raw.specs.Span.{Extent};
@@ -30,10 +30,10 @@ impl Model for Region {
     ghost invariant = { λ r. (r.deed.base ≡ r.base.ptr) × (r.deed.len ≡ r.size) × (r.deed.alloc ≡ r.alloc) × (r.size < word_limit) };
 }
 
-impl Region {
+impl<A: Allocator> Region<A> {
     /// A region of that many words, and all of them as one piece. Each word is 0.
     /// `AllocError` is answered where the allocator refuses the one request, and nothing is held then.
-    pub fn make(alloc: Global, words: u32) -> Result<(Region, Piece), AllocError>
+    pub fn make(alloc: A, words: u32) -> Result<(Region<A>, Piece), AllocError>
         ensures region { IfOk result (λ r. r.0.size ≡ words) }
         ensures whole { IfOk result (λ r. (r.1.region ≡ r.0) × IsWhole r.1) }
         ensures zeros { IfOk result (λ r. r.1.words ≡ replicate words (pos 0)) }
@@ -66,10 +66,7 @@ impl Region {
 }
 
 // All words of a new block as one piece, no place, and the right to free the block. There is one request.
-pub(crate) fn zeroed<A: Allocator>(
-    alloc: &A,
-    words: u32,
-) -> Result<(Piece, Places, Deed<A>), AllocError>
+fn zeroed<A: Allocator>(alloc: &A, words: u32) -> Result<(Piece, Places, Deed<A>), AllocError>
     ensures whole { IfOk result (λ r. IsWhole r.0 × (r.0.region.size ≡ words)) }
     ensures zeros { IfOk result (λ r. r.0.words ≡ replicate words (pos 0)) }
     ensures name { IfOk result (λ r. r.1.name ≡ r.0.region.name) }
@@ -88,7 +85,7 @@ pub(crate) fn zeroed<A: Allocator>(
     Ok((all, outer, deed))
 }
 
-pub(crate) fn give_back<A: Allocator>(deed: Deed<A>, alloc: &A, all: Piece)
+fn give_back<A: Allocator>(deed: Deed<A>, alloc: &A, all: Piece)
     requires block { (deed.base ≡ all.region.base) × (deed.len ≡ all.region.size) × (deed.alloc ≡ alloc.now) }
     requires whole { IsWhole all }
 {

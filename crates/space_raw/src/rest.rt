@@ -1,4 +1,4 @@
-// The words of a region that no piece holds, as a map from places to words.
+//! The words of a region that no piece holds, as a map from places to words.
 ghost use Rattle.std.specs.Prelude.{◌≡◌, ◌+◌, ◌<◌, ◌≤◌, [], ◌∷◌, length, map, Some};
 ghost use Rattle.space_raw.specs.Slots.{run_of, IsRun, IsAway, without, with_run};
 ghost use Rattle.space_raw.specs.Span.{IsWhole};

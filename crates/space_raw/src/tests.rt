@@ -1,12 +1,9 @@
-// Worked cases, and callers that are proved from the contracts alone.
+//! Worked cases, and callers that are proved from the contracts alone.
 ghost use Rattle.std.specs.Prelude.{◌≡◌, ◌+◌, ◌<◌, ◌≤◌, [], ◌∷◌, length, replicate, slice_set, slice_index_or, pos};
 ghost use Rattle.space_raw.specs.Slots.{run_of, with_run, IsRun};
 
-mod allocators;
-
-use crate::region::{give_back, zeroed};
 use crate::{Piece, Region, Rest};
-use allocators::{Counted, Nothing};
+use counting_alloc::{Counted, Refusing};
 use std::alloc::Global;
 use std::test::Fail;
 
@@ -57,7 +54,7 @@ fn leave_and_return(rest: &mut Rest, place: u32, len: u32)
 
 #[test]
 fn a_region_is_one_piece_of_zeros(rt: HostRuntime) -> Result<(), Fail> {
-    for words in [0u32, 4, 12, 65_536] {
+    for words in [0u32, 4, 12, 65_536, 100_000] {
         let (region, all) = Region::make(rt.alloc(), words)?;
         assert_eq!(rt; (all.place(), all.len()), (0, words));
         assert!(rt; all.words().iter().all(|word| *word == 0));
@@ -115,26 +112,46 @@ fn a_piece_leaves_the_rest_and_comes_back(rt: HostRuntime) -> Result<(), Fail> {
     Ok(())
 }
 
-#[test]
-fn memory_is_asked_for_once_and_given_back_once(rt: HostRuntime) -> Result<(), Fail> {
-    for words in [0u32, 4, 65_536] {
-        let heap = Counted::new(rt.alloc());
-        let (all, _places, deed) = zeroed(&heap, words)?;
-        assert_eq!(rt; heap.calls(), 1);
-        give_back(deed, &heap, all);
-        assert_eq!(rt; heap.calls(), 2);
+// What came of asking for a region and closing it again.
+#[derive(Drop)]
+struct Asked {
+    is_made: bool,
+    // how often memory was asked for
+    requests: u64,
+    // how many of the requests were granted, and how many blocks went back
+    calls: u64,
+}
+
+// The request of that number is refused.
+fn ask(alloc: Global, words: u32, refused: u64) -> Asked {
+    let counted = Counted::new(alloc);
+    let refusing = Refusing::new(&counted, refused);
+    let is_made = match Region::make(&refusing, words) {
+        Ok((region, all)) => {
+            region.close(all);
+            true
+        }
+        Err(_refused) => false,
+    };
+    Asked {
+        is_made,
+        requests: refusing.requests(),
+        calls: counted.calls(),
     }
-    Ok(())
 }
 
 #[test]
-fn a_refusal_is_passed_on(rt: HostRuntime) {
-    let heap = Counted::new(Nothing);
-    match zeroed(&heap, 4) {
-        Ok((all, _places, deed)) => {
-            give_back(deed, &heap, all);
-            assert!(rt; false, "memory was granted");
-        }
-        Err(_refused) => assert_eq!(rt; heap.calls(), 1),
+fn memory_is_asked_for_once_and_given_back_once(rt: HostRuntime) {
+    for words in [0u32, 4, 12, 65_536, 100_000] {
+        let granted = ask(rt.alloc(), words, 1);
+        assert_eq!(rt;
+            (granted.is_made, granted.requests, granted.calls),
+            (true, 1, 2)
+        );
+        let refused = ask(rt.alloc(), words, 0);
+        assert_eq!(rt;
+            (refused.is_made, refused.requests, refused.calls),
+            (false, 1, 0)
+        );
     }
 }

@@ -1,4 +1,4 @@
-// The words of a region in memory. All of them are reached from the pointer to the whole allocation.
+//! The words of a region in memory. All of them are reached from the pointer to the whole allocation.
 ghost use Rattle.std.specs.Prelude.{◌≡◌, ◌<◌, ℕ, ℤ, ◌+◌, ◌*◌, ◌≤◌, List, ◌++◌, length, take, drop, ⊤};
 ghost use Rattle.std.specs.Borrow.{sem};
 ghost use denote.RawPtr.{Ptr};
@@ -39,7 +39,7 @@ impl Model for Words {
 }
 
 impl Words {
-    ghost use Rattle.space_raw.specs.Lends.{lends_words};
+    ghost use Rattle.space_raw.specs.Lends.{lends_items};
 
     pub(crate) fn slice(&self, base: Base, place: usize, len: usize) -> &[i16]
         requires range { (base.ptr ≡ self.now.base) × (place ≡ self.now.place) × (len ≡ length self.now.items) × (place + len < word_limit) }
@@ -50,7 +50,7 @@ impl Words {
 
     pub(crate) fn slice_mut(&mut self, base: Base, place: usize, len: usize) -> &mut [i16]
         requires range { (base.ptr ≡ self.old.base) × (place ≡ self.old.place) × (len ≡ length self.old.items) × (place + len < word_limit) }
-        ensures* writes_back { sem 𝓛 (lends_words self.entry result) }
+        ensures* writes_back { sem 𝓛 (lends_items self.entry result) }
         ensures value { result.now ≡ self.old.items }
     {
         unsafe { slice::from_raw_parts_mut(base.ptr.add(place), len) }

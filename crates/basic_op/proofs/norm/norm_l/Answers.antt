@@ -5,9 +5,9 @@ use Rattle.std.proofs.lemmas.Int.{to_z-of_z}
 use Rattle.basic_op.proofs.Norms.{CountsNorm, leading-norm}
 use Rattle.basic_op.proofs.norm.norm_l.Goals as goal
 
-counts : (c : goal.After-magnitude) → CountsNorm 31 1 (count_leading_zeros 32 c.magnitude.result) c.args.v
+counts : (c : goal.After-sign_folded) → CountsNorm 31 1 (count_leading_zeros 32 c.sign_folded.result) c.args.v
 counts c =
-    leading-norm 31 1 c.magnitude.result c.args.v (lit< tt) refl (c.magnitude.ensures ∙ ap mag (to_z-of_z w32 c.args.v c.ranges.v)) c.ranges.v.sfits
+    leading-norm 31 1 c.sign_folded.result c.args.v (lit< tt) refl (c.sign_folded.ensures ∙ ap mag (to_z-of_z w32 c.args.v c.ranges.v)) c.ranges.v.sfits
     (λ e. c.if-v-eq0.false (ap (of_z w32) e))
 
 pub overflow_sub-result : goal.overflow_sub-result

@@ -1,5 +1,5 @@
-use Rattle.std.proofs.Common.{◌≡◌, [], length, map, All}
-use Rattle.dsp_console.specs.Ports.{Sink}
+use Rattle.std.proofs.Common.{◌≡◌, [], length, map, take, All}
+use Rattle.dsp_console.specs.Ports.{Sink, HasPassedAll}
 use Rattle.dsp_console.specs.Runs.{Writes, IsReadyOut}
 use Rattle.dsp_console.proofs.line.flush_outputs.Given as goal
 
@@ -7,5 +7,6 @@ abbrev pub invariant-loop-channel : goal.invariant-loop-channel
 invariant-loop-channel g l = record {
   count : length l.outputs.items ≡ length l.initial.outputs.items;
   ready : All IsReadyOut (map g.O.PortOut.sink l.outputs.items);
-  took : (replies : Sink) → Writes [] (map g.O.PortOut.sink l.initial.outputs.items) (map g.O.PortOut.sink l.outputs.items) replies replies;
+  passed : All HasPassedAll (take l.channel (map g.O.PortOut.sink l.outputs.items));
+  holds : (replies : Sink) → Writes [] (map g.O.PortOut.sink l.initial.outputs.items) (map g.O.PortOut.sink l.outputs.items) replies replies;
 }

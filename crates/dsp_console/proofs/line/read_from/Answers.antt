@@ -1,6 +1,7 @@
 use Rattle.std.proofs.Common.{length, arith, ◌∙◌}
 use Rattle.std.proofs.lemmas.Grind.{common_steps}
-use Rattle.dsp_console.specs.Ports.{Gives, EndsWithin}
+use Rattle.dsp_console.specs.Ports.{Gives}
+use Rattle.dsp_console.specs.Lines.{EndsWithin}
 use Rattle.dsp_console.specs.Runs.{no_source, IsReadyIn, HasFailedIn, FailsWithin}
 use Rattle.dsp_console.proofs.Steps.{steps_at, all_after, any_after, ready_at}
 use Rattle.dsp_console.proofs.line.read_from.Goals as goal

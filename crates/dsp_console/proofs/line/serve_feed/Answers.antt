@@ -1,11 +1,11 @@
 use Rattle.std.proofs.Common.{◌≡◌, ◌<◌, ◌*◌, length, map, true, false, arith, ◌∙◌, Ok, refl, sym, ap}
 use Rattle.std.proofs.lemmas.Grind.{common_steps}
 use Rattle.std.proofs.lemmas.List.{length-map}
-use Rattle.dsp_console.specs.Replies.{reply_text, Count}
+use Rattle.voice_script.specs.Replies.{reply_text, Count}
 use Rattle.dsp_console.specs.Keeps.{Keeps}
 use Rattle.dsp_console.specs.Console.{machine_of}
 use Rattle.dsp_console.specs.declared.limits.TheConstants.{SAMPLE_OCTETS}
-use Rattle.dsp_console.proofs.Writes.{writes_none}
+use Rattle.dsp_console.proofs.Writes.{writes_none, wait_none, wait_more, wait_reply, wait_took, wait_took_first}
 use Rattle.dsp_console.proofs.Feeds.{served_short, cut_short, served_whole, cut_output, cut_told}
 use Rattle.dsp_console.proofs.line.serve_feed.Goals as goal
 
@@ -61,3 +61,29 @@ returns-in-Err-tell-2-clause-cut g c = λ is s k h.
     let count : length c.read_from.new.octets ≡ SAMPLE_OCTETS * c.args.samples.number = grind (arith, common_steps, c.read_from.auto.octets) in
     cut_told (machine_of g.M.Ialg.meaning g.M.Named.named) s there pairs h count (rw number at (c.read_from.ensures.filled answer)) (c.feed-count.ensures.output s k)
     (ap (λ n. reply_text (Count n)) (c.feed-count.ensures.count s k)) (rw number at (c.write_to.ensures.ok c.if-is_err.ensures.negation)) (c.in-Err-tell-2.ensures.fault refl)
+
+-- ---- nothing is passed on
+
+pub returns-in-Err-clause-waits : goal.returns-in-Err-clause-waits
+returns-in-Err-clause-waits g c = wait_none _ _
+
+pub returns-in-Ok-tell-clause-waits : goal.returns-in-Ok-tell-clause-waits
+returns-in-Ok-tell-clause-waits g c = wait_reply _ (c.in-Ok-tell.ensures.ok refl).waits
+
+pub returns-in-Err-tell-clause-waits : goal.returns-in-Err-tell-clause-waits
+returns-in-Err-tell-clause-waits g c = wait_reply _ (c.in-Err-tell.ensures.fault refl).first.waits
+
+pub returns-then-is_err-clause-waits : goal.returns-then-is_err-clause-waits
+returns-then-is_err-clause-waits g c =
+    let there : c.from-c.result < length (map g.O.PortOut.sink c.args.outputs.now.items) = simp length-map (omega (arith, c.requires.channel.there, c.requires.pairs, c.from-c.ensures)) in
+    wait_took_first _ there (c.write_to.ensures.fault (sym c.is_err.ensures.value ∙ c.if-is_err.true))
+
+pub returns-in-Ok-tell-2-clause-waits : goal.returns-in-Ok-tell-2-clause-waits
+returns-in-Ok-tell-2-clause-waits g c =
+    let there : c.from-c.result < length (map g.O.PortOut.sink c.args.outputs.now.items) = simp length-map (omega (arith, c.requires.channel.there, c.requires.pairs, c.from-c.ensures)) in
+    wait_more (wait_took _ there (c.write_to.ensures.ok c.if-is_err.ensures.negation)) (wait_reply _ (c.in-Ok-tell-2.ensures.ok refl).waits)
+
+pub returns-in-Err-tell-2-clause-waits : goal.returns-in-Err-tell-2-clause-waits
+returns-in-Err-tell-2-clause-waits g c =
+    let there : c.from-c.result < length (map g.O.PortOut.sink c.args.outputs.now.items) = simp length-map (omega (arith, c.requires.channel.there, c.requires.pairs, c.from-c.ensures)) in
+    wait_more (wait_took _ there (c.write_to.ensures.ok c.if-is_err.ensures.negation)) (wait_reply _ (c.in-Err-tell-2.ensures.fault refl).first.waits)

@@ -3,6 +3,7 @@ use Rattle.std.proofs.lemmas.Result.{IfOk-weaker}
 use Rattle.dsp_console.specs.Keeps.{Keeps}
 use Rattle.dsp_console.specs.Console.{machine_of}
 use Rattle.dsp_console.proofs.LineAnswers.{served_long, cut_long, served_asked, cut_asked, served_reply, cut_reply, served_nothing}
+use Rattle.dsp_console.proofs.Writes.{wait_none, wait_reply}
 use Rattle.dsp_console.proofs.line.serve_line.Goals as goal
 
 pub returns-in-Ok-clause-served : goal.returns-in-Ok-clause-served
@@ -37,3 +38,20 @@ pub returns-in-Feed-clause-cut : goal.returns-in-Feed-clause-cut
 returns-in-Feed-clause-cut g c = λ is octets s line k h.
     cut_asked (machine_of g.M.Ialg.meaning g.M.Named.named) s _ (rw c.if-long.false at line) (c.in-Feed.ensures.asked s k)
     (c.serve_feed.ensures.cut is ((machine_of g.M.Ialg.meaning g.M.Named.named).after s c.args.line.now) (c.ask.ensures.after s k) h)
+
+-- ---- nothing is passed on
+
+pub returns-in-Ok-clause-waits : goal.returns-in-Ok-clause-waits
+returns-in-Ok-clause-waits g c = wait_reply _ (c.in-Ok.ensures.ok refl).waits
+
+pub returns-in-Err-clause-waits : goal.returns-in-Err-clause-waits
+returns-in-Err-clause-waits g c = wait_reply _ (c.in-Err.ensures.fault refl).first.waits
+
+pub returns-in-Nothing-clause-waits : goal.returns-in-Nothing-clause-waits
+returns-in-Nothing-clause-waits g c = wait_none _ _
+
+pub returns-in-Ok-tell-clause-waits : goal.returns-in-Ok-tell-clause-waits
+returns-in-Ok-tell-clause-waits g c = wait_reply _ (c.in-Ok-tell.ensures.ok refl).waits
+
+pub returns-in-Err-tell-clause-waits : goal.returns-in-Err-tell-clause-waits
+returns-in-Err-tell-clause-waits g c = wait_reply _ (c.in-Err-tell.ensures.fault refl).first.waits

@@ -1,7 +1,7 @@
 use Rattle.std.proofs.Common.{rules, ◌≡◌, ◌≤◌, length, get_or, arith}
 use Rattle.std.proofs.lemmas.Grind.{common_steps}
 use Rattle.std.proofs.lemmas.Bool.Decides.{nat_tests}
-use Rattle.dsp_console.specs.declared.limits.TheConstants.{LINE_OCTETS}
+use Rattle.voice_script.specs.declared.limits.TheConstants.{LINE_OCTETS}
 use Rattle.dsp_console.proofs.Ports.{gives_more}
 use Rattle.dsp_console.proofs.Lines.{one_octet, is_line_more, is_line_long, so_far_more}
 use Rattle.dsp_console.proofs.octets.read_line.Goals as goal

@@ -1,6 +1,6 @@
 use Rattle.std.proofs.Common.{◌≡◌, false}
-use Rattle.dsp_console.specs.Lines.{LineSoFar}
-use Rattle.dsp_console.specs.declared.limits.TheConstants.{LINE_OCTETS}
+use Rattle.dsp_console.proofs.SoFar.{LineSoFar}
+use Rattle.voice_script.specs.declared.limits.TheConstants.{LINE_OCTETS}
 use Rattle.dsp_console.proofs.octets.read_line.Given as goal
 
 abbrev pub invariant-octets : goal.invariant-octets

@@ -1,15 +1,48 @@
+use Rattle.std.proofs.Common.{◌∙◌, refl, sym, inl, inr}
+use Rattle.dsp_console.specs.Console.{machine_of}
 use Rattle.dsp_console.proofs.Writes.{writes_more, writes_reply}
 use Rattle.dsp_console.proofs.Ends.{all_passed_on, all_is_first}
 use Rattle.dsp_console.proofs.serving.serve.Goals as goal
 
-pub returns-then-is_err-clause-cut : goal.returns-then-is_err-clause-cut
-returns-then-is_err-clause-cut g c = λ is s k honest h.
-    all_is_first (all_passed_on (c.in-Ok.ensures.served s k honest h) (c.flush_outputs.ensures.took _))
+-- an output's flush failed
+pub returns-then-is_err-clause-write : goal.returns-then-is_err-clause-write
+returns-then-is_err-clause-write g c = λ is.
+    let m = machine_of g.M.Ialg.meaning g.M.Named.named in
+    let outputs_hold = c.flush_outputs.ensures.holds _ in
+    record {
+      failed = inl (c.flush_outputs.ensures.failed (sym c.is_err.ensures.value ∙ c.if-is_err.true));
+      passed = inl c.serve_script.ensures.waits.reply;
+      served = λ honest h. all_is_first m _ _ _ (all_passed_on m _ _ _ _ (c.in-Ok.ensures.ok.served honest h) refl refl outputs_hold);
+    }
 
-pub returns-then-is_err-2-clause-cut : goal.returns-then-is_err-2-clause-cut
-returns-then-is_err-2-clause-cut g c = λ is s k honest h.
-    all_is_first (all_passed_on (c.in-Ok.ensures.served s k honest h) (writes_more (c.flush_outputs.ensures.took _) (writes_reply _ c.flush.ensures.octets)))
+-- the replies' flush failed
+pub returns-then-is_err-2-clause-write : goal.returns-then-is_err-2-clause-write
+returns-then-is_err-2-clause-write g c = λ is.
+    let m = machine_of g.M.Ialg.meaning g.M.Named.named in
+    let all_hold = writes_more (c.flush_outputs.ensures.holds _) (writes_reply _ c.flush.ensures.octets) in
+    record {
+      failed = inr (c.flush.ensures.failed ∙ sym c.is_err-2.ensures.value ∙ c.if-is_err-2.true);
+      passed = inr (c.flush_outputs.ensures.passed c.if-is_err.ensures.negation);
+      served = λ honest h. all_is_first m _ _ _ (all_passed_on m _ _ _ _ (c.in-Ok.ensures.ok.served honest h) refl refl all_hold);
+    }
 
-pub returns-clause-served : goal.returns-clause-served
-returns-clause-served g c = λ s k honest h.
-    all_passed_on (c.in-Ok.ensures.served s k honest h) (writes_more (c.flush_outputs.ensures.took _) (writes_reply _ c.flush.ensures.octets))
+pub returns-clause-ok : goal.returns-clause-ok
+returns-clause-ok g c =
+    let m = machine_of g.M.Ialg.meaning g.M.Named.named in
+    let serves = c.in-Ok.ensures.ok in
+    let both_hold = writes_more (c.flush_outputs.ensures.holds _) (writes_reply _ c.flush.ensures.octets) in
+    let outputs_passed_on = c.if-is_err.ensures.negation in
+    let replies_passed_on = c.if-is_err-2.ensures.negation in
+    record {
+      serves = record {
+        script = serves.script;
+        ready = record {
+          inputs = serves.ready.inputs;
+          outs = c.flush_outputs.ensures.ready outputs_passed_on;
+          reply = c.flush.ensures.failed ∙ sym c.is_err-2.ensures.value ∙ c.if-is_err-2.false;
+        };
+        served = λ honest h. all_passed_on m _ _ _ _ (serves.served honest h) refl refl both_hold;
+      };
+      outputs_passed = c.flush_outputs.ensures.passed outputs_passed_on;
+      replies_passed = c.flush.ensures.all replies_passed_on;
+    }

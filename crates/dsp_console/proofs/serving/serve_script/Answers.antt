@@ -1,8 +1,9 @@
-use Rattle.std.proofs.Common.{rules, ◌≡◌, arith, ◌+◌, refl, ap, Err, ◌≤◌, length, ◌++◌, ◌∷◌, [], if◌then◌else◌}
+use Rattle.std.proofs.Common.{rules, ◌≡◌, arith, ◌+◌, refl, ap, Err, ◌≤◌, length, ◌++◌, ◌∷◌, [], if◌then◌else◌, inl, inr}
 use Rattle.std.proofs.lemmas.Grind.{common_steps}
 use Rattle.dsp_console.proofs.Ports.{gives_none}
 use Rattle.dsp_console.proofs.Scripts.{served_none, consumes_more}
-use Rattle.dsp_console.proofs.Ends.{served_more, served_all, script_cut, stops_in_script, stops_in_feed, consumes_within, consumes_then}
+use Rattle.dsp_console.proofs.Writes.{wait_none, wait_more}
+use Rattle.dsp_console.proofs.Ends.{served_more, served_all, script_cut, stops_in_script, stops_in_feed, why_failed, consumes_within, consumes_then}
 use Rattle.dsp_console.specs.declared.serving.Fault.TheVariants.{Read, Write}
 use Rattle.dsp_console.specs.Keeps.{Keeps}
 use Rattle.dsp_console.specs.Console.{machine_of}
@@ -17,34 +18,53 @@ lines-init g c = record {
   ready = search rules;
   few = search rules;
   came = record { octets = _; gives = gives_none _; used = refl };
-  served = λ s k h. served_none (machine_of g.M.Ialg.meaning g.M.Named.named) (Keeps g.M.Ialg.meaning g.M.Ialg.idle_keeps c.args.console.now) s _ _ _ _ k h;
+  waits = wait_none _ _;
+  served = λ h. served_none (machine_of g.M.Ialg.meaning g.M.Named.named) (Keeps g.M.Ialg.meaning g.M.Ialg.idle_keeps c.args.console.now) g.state _ _ _ _ (search rules) h;
 }
 
-pub returns-in-Err-clause-stopped : goal.returns-in-Err-clause-stopped
-returns-in-Err-clause-stopped g c = λ is s k h. stops_in_script (machine_of g.M.Ialg.meaning g.M.Named.named) _ (c.lines.invariant.served s k h) c.in-Err.field-0 c.in-Err.ensures.err
+pub returns-in-Err-clause-read : goal.returns-in-Err-clause-read
+returns-in-Err-clause-read g c = λ is. record {
+  failed = why_failed _ c.in-Err.field-0 c.lines.invariant.came c.in-Err.ensures.err;
+  passed = c.lines.invariant.waits;
+  served = λ h. stops_in_script (machine_of g.M.Ialg.meaning g.M.Named.named) _ _ _ (c.lines.invariant.served h) c.in-Err.field-0 c.in-Err.ensures.err;
+}
 
-pub returns-in-Err-serve_line-clause-cut : goal.returns-in-Err-serve_line-clause-cut
-returns-in-Err-serve_line-clause-cut g c = λ is s k honest h.
-    let served = c.lines.invariant.served s k h in
+pub returns-in-Err-serve_line-clause-write : goal.returns-in-Err-serve_line-clause-write
+returns-in-Err-serve_line-clause-write g c = λ is.
+    let e : c.in-Err-serve_line.fault ≡ Write = cc in
     let came = c.in-Ok.ensures.ok in
-    script_cut (machine_of g.M.Ialg.meaning g.M.Named.named) _ honest served came
-    (c.in-Err-serve_line.ensures.cut (let e : c.in-Err-serve_line.fault ≡ Write = cc in ap Err e) came.octets _ (rw (c.as_slice.ensures.value) came.line) served.kept served.honest)
+    record {
+      failed = c.in-Err-serve_line.ensures.write (ap Err e);
+      passed = inl (wait_more c.lines.invariant.waits c.in-Err-serve_line.ensures.waits).reply;
+      served = λ honest h. let served = c.lines.invariant.served h in
+          script_cut (machine_of g.M.Ialg.meaning g.M.Named.named) _ _ _ honest served came
+          (c.in-Err-serve_line.ensures.cut (ap Err e) came.octets _ (rw (c.as_slice.ensures.value) came.line) served.kept served.honest);
+    }
 
-pub returns-in-Err-serve_line-clause-stopped : goal.returns-in-Err-serve_line-clause-stopped
-returns-in-Err-serve_line-clause-stopped g c = λ is s k h.
-    let served = c.lines.invariant.served s k h in
+pub returns-in-Err-serve_line-clause-read : goal.returns-in-Err-serve_line-clause-read
+returns-in-Err-serve_line-clause-read g c = λ is.
+    let e : c.in-Err-serve_line.fault ≡ Read = cc in
     let came = c.in-Ok.ensures.ok in
-    stops_in_feed (machine_of g.M.Ialg.meaning g.M.Named.named) _ served came
-    (c.in-Err-serve_line.ensures.unfed (let e : c.in-Err-serve_line.fault ≡ Read = cc in ap Err e) came.octets _ (rw (c.as_slice.ensures.value) came.line) served.kept)
+    record {
+      failed = inr (inl (c.in-Err-serve_line.ensures.read (ap Err e)));
+      passed = wait_more c.lines.invariant.waits c.in-Err-serve_line.ensures.waits;
+      served = λ h. let served = c.lines.invariant.served h in
+          stops_in_feed (machine_of g.M.Ialg.meaning g.M.Named.named) _ _ _ served came
+          (c.in-Err-serve_line.ensures.unfed (ap Err e) came.octets _ (rw (c.as_slice.ensures.value) came.line) served.kept);
+    }
 
-pub returns-then-line-clause-served : goal.returns-then-line-clause-served
-returns-then-line-clause-served g c = λ s k honest h.
-    let served = c.lines.invariant.served s k h in
+pub returns-then-line-clause-ok : goal.returns-then-line-clause-ok
+returns-then-line-clause-ok g c =
     let came = rw c.if-line.true at c.in-Ok.ensures.ok in
     let count : c.if-is_refused.refused ≡ c.lines.refused + (if c.in-Ok-serve_line.is_refused then 1 else 0) =
     elim c.if-is_refused.branch [ then-is_refused w ↦ rw w.if-is_refused.true w.refused-is | else-is_refused w ↦ rw w.if-is_refused.false (omega (arith, w.refused-is)) ] in
-    served_all (machine_of g.M.Ialg.meaning g.M.Named.named) _ honest served came
-    (c.in-Ok-serve_line.ensures.served came.octets _ (rw (c.as_slice.ensures.value) came.line) served.kept served.honest) count
+    record {
+      script = search rules;
+      ready = search rules;
+      served = λ honest h. let served = c.lines.invariant.served h in
+          served_all (machine_of g.M.Ialg.meaning g.M.Named.named) _ _ _ honest served came
+          (c.in-Ok-serve_line.ensures.served came.octets _ (rw (c.as_slice.ensures.value) came.line) served.kept served.honest) count;
+    }
 
 pub lines-preserved : goal.lines-preserved
 lines-preserved g c =
@@ -61,8 +81,8 @@ lines-preserved g c =
       ready = search rules;
       few = let f = c.lines.invariant.few in grind (arith, common_steps);
       came = consumes_more c.lines.invariant.came came;
-      served = λ s k h.
-          let served = c.lines.invariant.served s k h in
+      waits = wait_more c.lines.invariant.waits c.in-Ok-serve_line.ensures.waits;
+      served = λ h. let served = c.lines.invariant.served h in
           served_more (machine_of g.M.Ialg.meaning g.M.Named.named) _ served came
           (c.in-Ok-serve_line.ensures.served came.octets _ (rw (c.as_slice.ensures.value) came.line) served.kept served.honest) count;
     }

@@ -1,8 +1,9 @@
 use Rattle.std.proofs.Common.{◌≡◌, ◌+◌, ◌≤◌, false, length, map, All}
-use Rattle.dsp_console.specs.Channels.{Channels}
 use Rattle.dsp_console.specs.Keeps.{Keeps}
 use Rattle.dsp_console.specs.Console.{machine_of}
-use Rattle.dsp_console.specs.Runs.{AreReady, IsHonest, Served, Consumes, run_of}
+use Rattle.dsp_console.specs.Runs.{AreReady, AllWait, IsHonest}
+use Rattle.dsp_console.specs.LineRuns.{run_of}
+use Rattle.dsp_console.proofs.SoFar.{ServedSoFar, Consumes}
 use Rattle.dsp_console.specs.declared.limits.TheConstants.{CHANNELS, SCRIPT_OCTETS}
 use Rattle.dsp_console.proofs.serving.serve_script.Given as goal
 
@@ -14,8 +15,9 @@ invariant-lines g l = record {
   ready : AreReady (map g.I.PortIn.source l.inputs.items) (map g.O.PortOut.sink l.outputs.items) (g.P.PortOut.sink l.replies);
   few : l.refused + l.left ≤ SCRIPT_OCTETS;
   came : Consumes l.left (g.S.PortIn.source l.initial.script) (g.S.PortIn.source l.script);
-  served : (s : Channels g.row.M.Denot) → Keeps g.M.Ialg.meaning g.M.Ialg.idle_keeps l.initial.console s → All IsHonest (map g.I.PortIn.source l.initial.inputs.items)
-      → Served (machine_of g.M.Ialg.meaning g.M.Named.named) (Keeps g.M.Ialg.meaning g.M.Ialg.idle_keeps l.console) (run_of s (map g.I.PortIn.source l.initial.inputs.items)) l.refused l.left
+  waits : AllWait (map g.O.PortOut.sink l.initial.outputs.items) (map g.O.PortOut.sink l.outputs.items) (g.P.PortOut.sink l.initial.replies) (g.P.PortOut.sink l.replies);
+  served : All IsHonest (map g.I.PortIn.source l.initial.inputs.items)
+      → ServedSoFar (machine_of g.M.Ialg.meaning g.M.Named.named) (Keeps g.M.Ialg.meaning g.M.Ialg.idle_keeps l.console) (run_of g.state (map g.I.PortIn.source l.initial.inputs.items)) l.refused l.left
       (g.S.PortIn.source l.initial.script) (g.S.PortIn.source l.script) (map g.I.PortIn.source l.inputs.items)
       (map g.O.PortOut.sink l.initial.outputs.items) (map g.O.PortOut.sink l.outputs.items) (g.P.PortOut.sink l.initial.replies) (g.P.PortOut.sink l.replies);
 }

@@ -1,5 +1,6 @@
-use Rattle.std.proofs.Common.{◌≡◌, length, take, ap, ◌∙◌, arith}
+use Rattle.std.proofs.Common.{◌≡◌, length, take, refl, ap, ◌∙◌, arith}
 use Rattle.std.proofs.lemmas.Grind.{common_steps}
+use Rattle.std.proofs.lemmas.List.{nil_from_length}
 use Rattle.ialg.specs.Records.{record_at}
 use Rattle.ialg.specs.History.{with_samples}
 use Rattle.dsp_console.proofs.SlotLemmas.{record_at-get, all_in_slots, kept_by_records, kept_in_slots}
@@ -17,5 +18,6 @@ returns-clause-law g c p h lawful keeps =
     let l1 : length (take c.get-kept.result.size c.args.saram.now) ≡ (record_at t 1).size = grind (arith, common_steps) in
     let l2 : length (take c.get-scratch.result.size c.args.daram.now) ≡ (record_at t 2).size = grind (arith, common_steps) in
     let before = kept_by_records (λ ws. g.M.Ialg.idle_keeps c.args.kind p t ws h) t c.requires.fits _ _ (take c.get-scratch.result.size c.args.daram.now) _ _ s0 s1 keeps in
-    let ran = c.feed_records.ensures.law p h lawful (all_in_slots t c.requires.fits _ _ _ l0 l1 l2) before in
-    (kept_in_slots (λ ws. g.M.Ialg.idle_keeps c.args.kind p t ws (with_samples h c.args.block.now)) t c.requires.fits _ _ _ _ _ (c.feed_records.auto.object ∙ l0) (c.feed_records.auto.kept ∙ l1) ran.0, ran.1)
+    let ran = c.lend.ensures.0 p h lawful refl (all_in_slots t c.requires.fits _ _ _ l0 l1 l2) before in
+    let none = nil_from_length c.lend.new.r3 c.lend.auto.r3 in
+    (kept_in_slots (λ ws. g.M.Ialg.idle_keeps c.args.kind p t ws (with_samples h c.args.block.now)) t c.requires.fits _ _ _ _ _ (c.lend.auto.r0 ∙ l0) (c.lend.auto.r1 ∙ l1) (rw none at ran.0), ran.1)

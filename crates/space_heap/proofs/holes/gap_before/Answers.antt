@@ -31,8 +31,8 @@ module _ (slots : List (Option ℤ)) (first : Option ℕ) (f : Found) (piece : S
   end_small = let end = (found_chains slots first f its).1.inside in let most = its.holes.size.0 in omega arith
 
   lowered : (to align : ℕ) → hole_end f.hole ≡ piece.place → f.hole.place ≤ to → to < piece.place → to % align ≡ 0 → align % 4 ≡ 0
-      → (to < piece.place) × IsFit slots first (piece.place - to) (record { found = f; place = to })
-  lowered to align e low lt multiple unit = (lt, record { found = its; low = low; high = omega arith; unit = unit_multiple to align multiple unit })
+      → (to < piece.place) × (hole_end f.hole ≡ piece.place) × IsFit slots first (piece.place - to) (record { found = f; place = to })
+  lowered to align e low lt multiple unit = (lt, e, record { found = its; low = low; high = omega arith; unit = unit_multiple to align multiple unit })
 
 pub end-requires : goal.end-requires
 end-requires c =

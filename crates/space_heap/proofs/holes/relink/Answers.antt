@@ -4,7 +4,7 @@ use Rattle.std.proofs.lemmas.Bool.{cases_lt}
 use Rattle.std.proofs.lemmas.Int.{to_z-of_z}
 use Rattle.std.specs.Prelude.{ℤ, pos, IfSome}
 use Rattle.space_raw.specs.Slots.{IsRun, with_run}
-use Rattle.space_heap.specs.Holes.{word_at, IsRelinked, IsSameBut}
+use Rattle.space_heap.specs.Holes.{free_word, IsRelinked, IsSameBut}
 use Rattle.space_heap.proofs.RangeTests.{either}
 use Rattle.space_heap.proofs.Words.{tag_first, tag_second, tag_rewrites, run_words}
 use Rattle.space_heap.proofs.holes.relink.Goals as goal
@@ -36,14 +36,14 @@ module _ (c : goal.After-set_tag) where
       ∙ ap (λ a. with_run old place (a ∷ to_z w16 (of_z w16 c.link_of.result) ∷ [])) (to_z-of_z w16 len fits_len)
       ∙ ap (λ b. with_run old place (len ∷ b ∷ [])) (to_z-of_z w16 c.link_of.result fits_next)
 
-  kept : word_at tagged place ≡ word_at old place
+  kept : free_word tagged place ≡ free_word old place
   kept = tag_first old place len c.link_of.result there ∙ sym ((run_words old place there).0 ∙ ap (λ ws. Some (get_or ws 0 (pos 0))) c.tag-len.ensures.words)
 
   others : IsSameBut old (place + 1) 1 tagged
   others k apart =
       let known = (tag_rewrites old place len c.link_of.result there).others in
       either apart
-      (λ lt. either (cases_lt k place) (λ before. known k (inl before)) (λ ge. let at : place ≡ k = omega arith in subst (λ n. word_at tagged n ≡ word_at old n) at kept))
+      (λ lt. either (cases_lt k place) (λ before. known k (inl before)) (λ ge. let at : place ≡ k = omega arith in subst (λ n. free_word tagged n ≡ free_word old n) at kept))
       (λ le. known k (inr (omega arith)))
 
   relinked : IsRelinked old c.args.first.now (Some place) c.args.next tagged c.args.first.now

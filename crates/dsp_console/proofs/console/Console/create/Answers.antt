@@ -22,7 +22,7 @@ returns-clause-after g c s k =
     let lawful = c.requires.servable.lawful kind p in
     let bare : g.M.Ialg.meaning.table kind p ≡ Some c.in-Some.table = sym (c.in-Some.ensures.law None lawful) in
     let its : g.M.Ialg.meaning.table kind p ≡ Some (unplaced c.place-table.result) =
-    bare ∙ ap Some (sym (c.place-table.ensures.same ∙ c.requires.servable.unplaced kind p c.in-Some.table bare)) in
+    bare ∙ ap Some (sym (c.place-table.ensures.same ∙ c.in-Some.ensures.unplaced None lawful)) in
     let slot : slice_index_or old.instances.items i None ≡ c.index.result.now = item_at old.instances.items i c.index.result.now None old.numbered within c.index.ensures in
     let free : is_some (slice_index_or old.instances.items i None) ≡ false = ap is_some slot ∙ sym c.is_some.ensures ∙ c.if-is_some.false in
     let none : at_number s.living i ≡ None = free_slot g.M.Ialg.meaning g.M.Ialg.idle_keeps _ _ _ _ (k.slots i within) free in

@@ -7,7 +7,7 @@ use Rattle.space_heap.proofs.Counts.{free_and_taken}
 use Rattle.space_heap.proofs.heap.Heap.free.Goals as goal
 
 pub returns-clause-taken : goal.returns-clause-taken
-returns-clause-taken c =
+returns-clause-taken g c =
     let heap = c.self.inside in
     λ taken holds.
     let picture = subst (λ (v : HeapState). Holds v taken) (sym c.self.view_is) holds in

@@ -7,14 +7,14 @@ use Rattle.space_heap.proofs.PictureLemmas.{agree, same_marks, given_blocks, giv
 use Rattle.space_heap.proofs.heap.Heap.give.Goals as goal
 
 pub overflow_add-self : goal.overflow_add-self
-overflow_add-self c =
+overflow_add-self g c =
     let heap = c.self.inside in let old = heap.rest.slots in let new = c.put_back.new.rest.slots in let kept = c.put_back.ensures.rest in
     let long = c.self.invariant.long in let home = ap (λ (v : HeapState). v.region.size) c.self.view_is in let inside = c.requires.block.inside in
     let more = there_less new old (range_of c.args.piece) (sym kept.1) (omega arith) c.put_back.ensures.parts in
     let few = there_few new in let counted = c.self.invariant.counted in let len = c.len-len.ensures.value in let most = c.self.invariant.holes.1.size.0 in record { fits = omega arith }
 
 pub invariant_of-self : goal.invariant_of-self
-invariant_of-self c =
+invariant_of-self g c =
     let heap = c.self.inside in let old = heap.rest.slots in let new = c.put_back.new.rest.slots in let kept = c.put_back.ensures.rest in
     let long = c.self.invariant.long in let home = ap (λ (v : HeapState). v.region.size) c.self.view_is in let inside = c.requires.block.inside in
     let more = there_less new old (range_of c.args.piece) (sym kept.1) (omega arith) c.put_back.ensures.parts in
@@ -27,7 +27,7 @@ invariant_of-self c =
     }
 
 pub returns-clause-taken : goal.returns-clause-taken
-returns-clause-taken c =
+returns-clause-taken g c =
     let heap = c.self.inside in let old = heap.rest.slots in let new = c.put_back.new.rest.slots in let r = range_of c.args.piece in let words = heap.region.size in
     λ before after holds.
     let picture = subst (λ (v : HeapState). Holds v (before ++ r ∷ after)) (sym c.self.view_is) holds in

@@ -1,17 +1,21 @@
 -- The block goes to the start of the free range before it, and the words that it leaves are free.
-use Rattle.std.proofs.Common.{◌≡◌, ◌+◌, ◌%◌, ◌≤◌, ◌++◌, ◌∷◌, List, length, Option, sym, subst, ap, arith, ◌∙◌}
+use Rattle.std.proofs.Common.{◌≡◌, ℕ, ◌<◌, ◌-◌, ◌+◌, ◌%◌, ◌≤◌, ◌++◌, ◌∷◌, List, length, Option, sym, subst, ap, arith, ◌∙◌}
 use Rattle.space_raw.specs.Span.{Scattered, Span}
 use Rattle.std.specs.Prelude.{ℤ}
-use Rattle.space_heap.specs.Places.{Range}
+use Rattle.space_heap.specs.Places.{Range, end_of}
 use Rattle.space_heap.specs.Pictures.{HeapState, Holds, IsBlock, range_of}
-use Rattle.space_heap.specs.Holes.{AreParts, in_rest}
+use Rattle.space_heap.specs.declared.find.Fit.{Fit}
+use Rattle.space_heap.specs.declared.holes.Front.{Front}
+use Rattle.space_heap.specs.Holes.{AreParts, IsCarved, IsFit, IsFront, IsTaken, between, hole_end, in_rest, last_place}
+use Rattle.space_heap.proofs.Ends.{found_chains, front_behind, next_behind}
 use Rattle.space_heap.proofs.Counts.{there, there_less}
 use Rattle.space_heap.proofs.PictureLemmas.{agree, same_marks, moved_blocks, moved_agrees}
 use Rattle.space_heap.proofs.PlaceLemmas.{lowered, not_lowered}
+use Rattle.space_heap.proofs.heap.Heap.lower.Given.{Over}
 use Rattle.space_heap.proofs.heap.Heap.lower.Goals as goal
 
 pub returns-in_default-clause-place : goal.returns-in_default-clause-place
-returns-in_default-clause-place c =
+returns-in_default-clause-place g c =
     let heap = c.self.inside in let slots = heap.rest.slots in let words = heap.region.size in let r = range_of c.args.piece in
     λ before after holds.
     let picture = subst (λ (v : HeapState). Holds v (before ++ r ∷ after)) (sym c.self.view_is) holds in
@@ -19,8 +23,34 @@ returns-in_default-clause-place c =
     let place = c.in_default.ensures.place in
     ap (λ (s : Span). s.place) c.gap_before.ensures.same.1 ∙ not_lowered words before after r (in_rest slots) place.0 picture.placed same place.1 c.args.align place.2
 
+-- the words that the block leaves come behind it, and it behind what is left of the hole
+module _ (old new : List (Option ℤ)) (first first' : Option ℕ) (r : Range) (fit : Fit) (n : ℕ) (block : IsBlock (length old) r) (taken : IsTaken old r)
+    (lt : fit.place < r.place) (touching : hole_end fit.found.hole ≡ r.place) (is : IsFit old first (r.place - fit.place) fit)
+    (long : length new ≡ length old) (wide : fit.place + n ≡ r.place) (carved : IsCarved new first' n fit) where
+  abbrev front_from : ℕ → Front
+  front_from place = record { before = last_place fit.found.before (between fit.found.hole.place fit.place); from = place; next = fit.found.hole.next }
+
+  left_front : (place from : ℕ) (front : Front) → place ≡ fit.place + r.size → from ≡ place → front ≡ front_from from → IsFront new first' place front
+  left_front place from front at same is_from =
+      let hole = (found_chains old first fit.found is.found).1 in let low = is.low in let unit = is.unit in let size = block.size in let some = block.some in let inside = block.inside in
+      subst (IsFront new first' place) (sym (is_from ∙ ap front_from same))
+      (front_behind new first' n fit carved low (omega arith) hole.place unit (omega arith) place (omega arith) (omega arith)
+      (next_behind old first fit.found is.found place (end_of r) (omega arith) (omega arith) (λ k low to. taken k (omega arith) to)))
+
+pub put_behind-requires-clause-front : goal.put_behind-requires-clause-front
+put_behind-requires-clause-front g c =
+    let r = range_of c.args.piece in let fit = c.in-Some.fit in let told = c.in-Some.ensures.found in let same = c.gap_before.ensures.same in let moved = c.slide-block.ensures in
+    let block = subst (λ n. IsBlock n r) (sym (c.self.invariant.long ∙ ap (λ (v : HeapState). v.region.size) c.self.view_is)) c.requires.block in
+    let long = c.carve-gap.ensures.rest.1 ∙ ap (λ (t : Scattered). length t.slots) same.0 in
+    let at : c.place.result ≡ r.place = c.place.ensures.value ∙ ap (λ (t : Span). t.place) same.1 in let lt = told.0 in
+    let words : length c.slide-block.result.0.words ≡ r.size = ap length moved.block.2 ∙ ap (λ (t : Span). length t.words) same.1 in
+    let gap = c.carve-gap.ensures.block.1 in let hole = moved.hole.1 in let as_long = ap (λ (t : Span). length t.words) same.1 in
+    left_front c.self.inside.rest.slots c.carve-gap.new.rest.slots c.self.inside.first c.carve-gap.new.first r fit (c.place.result - fit.place)
+    block c.gap_before.ensures.taken told.0 told.1 told.2 long (omega arith) c.carve-gap.ensures.holes
+    c.slide-block.result.1.place c.place-2.result c.behind-front.result (omega arith) c.place-2.ensures.value c.behind-front.ensures
+
 -- the gap that is taken out, the block in its place, and what is behind it
-module _ (c : goal.After-self-1) where
+module _ (g : Over) (c : goal.After-self-1 g) where
   abbrev old : List (Option ℤ)
   old = c.self.inside.rest.slots
 
@@ -28,7 +58,7 @@ module _ (c : goal.After-self-1) where
   rest = c.carve-gap.new.rest.slots
 
   abbrev new : List (Option ℤ)
-  new = c.put_back.new.rest.slots
+  new = c.put_behind.new.rest.slots
 
   abbrev gap : Range
   gap = range_of c.carve-gap.result
@@ -73,7 +103,7 @@ module _ (c : goal.After-self-1) where
   out = subst (λ (ws : List (Option ℤ)). AreParts (in_rest ws) gap (in_rest rest)) kept c.carve-gap.ensures.parts
 
   back : AreParts (in_rest new) behind (in_rest rest)
-  back = c.put_back.ensures.parts
+  back = c.put_behind.ensures.parts
 
   inside : r.place + r.size ≤ length old
   inside = let last = c.requires.block.inside in let long = c.self.invariant.long in let home = ap (λ (v : HeapState). v.region.size) c.self.view_is in omega arith
@@ -82,7 +112,7 @@ module _ (c : goal.After-self-1) where
   rest_long = c.carve-gap.ensures.rest.1 ∙ ap length kept
 
   new_long : length new ≡ length old
-  new_long = c.put_back.ensures.rest.1 ∙ rest_long
+  new_long = c.put_behind.ensures.rest.1 ∙ rest_long
 
   as_many : there new ≡ there old
   as_many =
@@ -93,22 +123,22 @@ module _ (c : goal.After-self-1) where
   is_block : IsBlock (length old) s
   is_block = let block = c.requires.block in let some = block.some in let long = size in let last = inside in let from = start in let meet = meeting in record {
     some = omega arith;
-    place = ap (λ n. n % 4) (sym start ∙ c.carve-gap.ensures.block.1) ∙ c.in-Some.ensures.found.1.unit;
+    place = ap (λ n. n % 4) (sym start ∙ c.carve-gap.ensures.block.1) ∙ c.in-Some.ensures.found.2.unit;
     size = ap (λ n. n % 4) size ∙ block.size;
     inside = omega arith;
   }
 
 pub invariant_of-self-2 : goal.invariant_of-self-2
-invariant_of-self-2 c = record {
-  home = c.put_back.ensures.rest.0 ∙ c.carve-gap.ensures.rest.0 ∙ ap (λ (t : Scattered). t.region) c.gap_before.ensures.same.0 ∙ c.self.invariant.home;
+invariant_of-self-2 g c = record {
+  home = c.put_behind.ensures.rest.0 ∙ c.carve-gap.ensures.rest.0 ∙ ap (λ (t : Scattered). t.region) c.gap_before.ensures.same.0 ∙ c.self.invariant.home;
   same_size = c.self.invariant.same_size;
-  long = new_long c ∙ c.self.invariant.long;
-  holes = c.put_back.ensures.holes;
-  counted = c.self.invariant.counted ∙ sym (as_many c);
+  long = new_long g c ∙ c.self.invariant.long;
+  holes = c.put_behind.ensures.holes;
+  counted = c.self.invariant.counted ∙ sym (as_many g c);
 }
 
 pub returns-clause-place : goal.returns-clause-place
-returns-clause-place c =
+returns-clause-place g c =
     let heap = c.self.inside in let slots = heap.rest.slots in let words = heap.region.size in let r = range_of c.args.piece in
     λ before after holds.
     let picture = subst (λ (v : HeapState). Holds v (before ++ r ∷ after)) (sym c.self.view_is) holds in
@@ -118,14 +148,14 @@ returns-clause-place c =
     ∙ lowered words before after r (in_rest slots) place.0 picture.placed same place.1 c.args.align c.in-Some.fit.place place.2 found.0
 
 pub returns-clause-taken : goal.returns-clause-taken
-returns-clause-taken c =
+returns-clause-taken g c =
     let words = c.self.inside.region.size in let long = c.self.invariant.long in
-    let block = subst (λ n. IsBlock n (s c)) long (is_block c) in
+    let block = subst (λ n. IsBlock n (s g c)) long (is_block g c) in
     λ before after holds.
-    let picture = subst (λ (v : HeapState). Holds v (before ++ r c ∷ after)) (sym c.self.view_is) holds in
-    let same = agree words (old c) (before ++ r c ∷ after) long picture.free in
+    let picture = subst (λ (v : HeapState). Holds v (before ++ r g c ∷ after)) (sym c.self.view_is) holds in
+    let same = agree words (old g c) (before ++ r g c ∷ after) long picture.free in
     record {
-      placed = moved_blocks words before after (in_rest (old c)) (in_rest (rest c)) (in_rest (new c)) (gap c) (behind c) (r c) (s c) (out c) (back c) (start c) (meeting c) (size c) (next c) (end c) picture.placed same block;
-      free = same_marks words (new c) (before ++ s c ∷ after) (new_long c ∙ long)
-          (moved_agrees words before after (in_rest (old c)) (in_rest (rest c)) (in_rest (new c)) (gap c) (behind c) (r c) (s c) (out c) (back c) (start c) (meeting c) (size c) (next c) (end c) picture.placed same block);
+      placed = moved_blocks words before after (in_rest (old g c)) (in_rest (rest g c)) (in_rest (new g c)) (gap g c) (behind g c) (r g c) (s g c) (out g c) (back g c) (start g c) (meeting g c) (size g c) (next g c) (end g c) picture.placed same block;
+      free = same_marks words (new g c) (before ++ s g c ∷ after) (new_long g c ∙ long)
+          (moved_agrees words before after (in_rest (old g c)) (in_rest (rest g c)) (in_rest (new g c)) (gap g c) (behind g c) (r g c) (s g c) (out g c) (back g c) (start g c) (meeting g c) (size g c) (next g c) (end g c) picture.placed same block);
     }

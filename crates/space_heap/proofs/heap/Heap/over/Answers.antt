@@ -9,15 +9,16 @@ use Rattle.space_heap.proofs.Counts.{all_there}
 use Rattle.space_heap.proofs.PictureLemmas.{same_marks}
 use Rattle.space_heap.proofs.Returns.{one_hole}
 use Rattle.space_heap.proofs.Words.{at_some}
+use Rattle.space_heap.proofs.heap.Heap.over.Given.{Over}
 use Rattle.space_heap.proofs.heap.Heap.over.Goals as goal
 
 pub leave_hole-first-requires-clause-there : goal.leave_hole-first-requires-clause-there
-leave_hole-first-requires-clause-there c = λ k low high.
+leave_hole-first-requires-clause-there g c = λ k low high.
     let long = c.len-size.ensures.value in
     ap (λ (ws : List (Option ℤ)). in_rest ws k) c.of-rest.ensures.words ∙ at_some c.args.all.words k (omega arith)
 
 -- the new rest has every word
-module _ (c : goal.After-leave_hole-first) where
+module _ (g : Over) (c : goal.After-leave_hole-first g) where
   abbrev rest : List (Option ℤ)
   rest = c.leave_hole-first.new.rest.slots
 
@@ -33,16 +34,16 @@ module _ (c : goal.After-leave_hole-first) where
       c.leave_hole-first.ensures.others.1.there k ∙ ap (λ (ws : List (Option ℤ)). in_rest ws k) c.of-rest.ensures.words ∙ at_some c.args.all.words k (omega arith)
 
 pub invariant_of-result : goal.invariant_of-result
-invariant_of-result c = let same = long c in record {
+invariant_of-result g c = let same = long g c in record {
   home = c.leave_hole-first.ensures.others.0 ∙ c.of-rest.ensures.region ∙ c.requires.whole.0;
-  same_size = size c;
-  long = long c ∙ size c;
-  holes = one_hole (rest c) c.len-size.result c.leave_hole-first.result (long c) (subst IsSpaceSize (sym (size c)) c.requires.whole.2) (all_free c) c.leave_hole-first.ensures.written c.leave_hole-first.ensures.start;
-  counted = sym (all_there (rest c) (λ k lt. all_free c k (omega arith)) ∙ long c);
+  same_size = size g c;
+  long = long g c ∙ size g c;
+  holes = one_hole (rest g c) c.len-size.result c.leave_hole-first.result (long g c) (subst IsSpaceSize (sym (size g c)) c.requires.whole.2) (all_free g c) c.leave_hole-first.ensures.written c.leave_hole-first.ensures.start;
+  counted = sym (all_there (rest g c) (λ k lt. all_free g c k (omega arith)) ∙ long g c);
 }
 
 pub returns-clause-taken : goal.returns-clause-taken
-returns-clause-taken c = let same = size c in record {
+returns-clause-taken g c = let same = size g c in record {
   placed = tt;
-  free = same_marks c.args.region.size (rest c) [] (long c ∙ size c) (λ k lt. all_free c k (omega arith));
+  free = same_marks c.args.region.size (rest g c) [] (long g c ∙ size g c) (λ k lt. all_free g c k (omega arith));
 }

@@ -13,7 +13,7 @@ use Rattle.space_heap.proofs.Words.{in_length}
 use Rattle.space_heap.proofs.heap.Heap.take.Goals as goal
 
 pub returns-in_err-fit-clause-place : goal.returns-in_err-fit-clause-place
-returns-in_err-fit-clause-place c =
+returns-in_err-fit-clause-place g c =
     let heap = c.self.inside in let slots = heap.rest.slots in let words = heap.region.size in let size = c.next_multiple_of-size.result in let align = c.args.align in
     λ taken holds.
     let picture = subst (λ (v : HeapState). Holds v taken) (sym c.self.view_is) holds in let long = c.self.invariant.long in
@@ -26,7 +26,7 @@ returns-in_err-fit-clause-place c =
     (ap (option_map (λ (p : Span). p.place)) c.from_residual.ensures ∙ nowhere ∙ ap (λ n. least_place words taken n align) told.value)
 
 pub overflow_sub-self : goal.overflow_sub-self
-overflow_sub-self c =
+overflow_sub-self g c =
     let heap = c.self.inside in let old = heap.rest.slots in let new = c.carve-block.new.rest.slots in let size = c.next_multiple_of-size.result in let fit = c.in_ok-fit.fit in let is = c.in_ok-fit.ensures.fit in
     let told = c.next_multiple_of-size.ensures in let wanted = c.requires.words.0 in let bound = told.lower_bound in let some : 0 < size = omega arith in
     let made = c.carve-block.ensures.block in let end = inside old heap.first size fit is some told.multiple in let high = is.high in let kept = c.carve-block.ensures.rest in
@@ -35,7 +35,7 @@ overflow_sub-self c =
     let counted = c.self.invariant.counted in omega arith
 
 pub invariant_of-self : goal.invariant_of-self
-invariant_of-self c =
+invariant_of-self g c =
     let heap = c.self.inside in let old = heap.rest.slots in let new = c.carve-block.new.rest.slots in let size = c.next_multiple_of-size.result in let fit = c.in_ok-fit.fit in let is = c.in_ok-fit.ensures.fit in
     let told = c.next_multiple_of-size.ensures in let wanted = c.requires.words.0 in let bound = told.lower_bound in let some : 0 < size = omega arith in
     let made = c.carve-block.ensures.block in let end = inside old heap.first size fit is some told.multiple in let high = is.high in let kept = c.carve-block.ensures.rest in
@@ -45,12 +45,12 @@ invariant_of-self c =
       home = kept.0 ∙ c.self.invariant.home;
       same_size = c.self.invariant.same_size;
       long = kept.1 ∙ c.self.invariant.long;
-      holes = c.carve-block.ensures.holes;
+      holes = (_, c.carve-block.ensures.holes.holes);
       counted = omega arith;
     }
 
 pub returns-clause-place : goal.returns-clause-place
-returns-clause-place c =
+returns-clause-place g c =
     let heap = c.self.inside in let slots = heap.rest.slots in let words = heap.region.size in let size = c.next_multiple_of-size.result in let align = c.args.align in
     let fit = c.in_ok-fit.fit in
     λ taken holds.
@@ -64,7 +64,7 @@ returns-clause-place c =
     (ap (λ (p : ℕ). Some p) c.carve-block.ensures.block.1 ∙ here ∙ ap (λ n. least_place words taken n align) told.value)
 
 pub returns-clause-taken : goal.returns-clause-taken
-returns-clause-taken c =
+returns-clause-taken g c =
     let heap = c.self.inside in let old = heap.rest.slots in let new = c.carve-block.new.rest.slots in let size = c.next_multiple_of-size.result in let fit = c.in_ok-fit.fit in let is = c.in_ok-fit.ensures.fit in
     let told = c.next_multiple_of-size.ensures in let wanted = c.requires.words.0 in let bound = told.lower_bound in let some : 0 < size = omega arith in
     let made = c.carve-block.ensures.block in let end = inside old heap.first size fit is some told.multiple in let high = is.high in let long = c.self.invariant.long in

@@ -3,7 +3,7 @@ use denote.Memory.{part_of}
 use Rattle.space_raw.proofs.Steps.{◌≡◌, ℕ, ◌+◌, ◌*◌, ◌^◌, ◌<◌, List, [], ◌∷◌, ◌++◌, length, refl, sym, ◌∙◌, arith, MutBor, ℤ, Fn, named, Val, vptr, vint, full_share, SProp, ent, sep, emp, never, id⊢, Lft, GName, Share, Fml, ftrue, fsep, fat, flft, Ura, Env, WpFn, fact, fact_i, tables, Logic, sem, ‵, raw, ◌⊛◌, some, later, await, pick, prop, at_ret, ◌$◌, ◌∵◌, !, qed, by, move, drop, use0, use1, split, split3, join, group, fsplit, fsplit3, fjoin, fpack, regoal, rewrite, done, whole, sub, agg, stop, fld, lit, of_opd, bin, and_then, no_more, first, blocks, exec, returns, enter, alloc_all, pass_all, free_all, look_at, get, get_in, sets, sets_last, take_at, give_at, env, cells, Array, i16, follows, Elements, lends_Elements, whole_in, whole_out, mem, cell_at, layout, owns, Ptr, block_ptr, in_a_block, types_at, plain, MutSlice, slice_val, nothing, opens, heard, alive, Stays, stay_dropped, Goes-dropped, Goes-spent_ref, walk_of, word-Good, proved_at, leaves}
 use Rattle.std.proofs.Common.{w64}
 use Rattle.std.proofs.VecSteps.Shapes.{after}
-use Rattle.space_raw.specs.Lends.{with_words}
+use Rattle.space_raw.specs.Lends.{with_items}
 use Rattle.space_raw.specs.Ownership.{word_limit, words_own}
 use Rattle.space_raw.proofs.Rows.{Row, Whole, apart as apart_row, whole as whole_row, refill-same}
 use Rattle.space_raw.proofs.Walks.{plainly, slot_at, word, word_told}
@@ -22,14 +22,14 @@ module _ {M : Type 1} {𝓤 : Ura M} (𝓛 : Logic 𝓤) (d : R.Denot) (vs : Lis
   Rest = fsep ((plainly []).own_val tt vs) (cell_at full_share R.mir vs rb ro)
 
   back : d.base ≡ block_ptr b o → at ≡ o + d.place * 2 → (ws : List ℤ) → length ws ≡ length d.items
-      → ent 𝓤 (sep 𝓤 (sem 𝓛 (cells (mem i16) ws b at)) (sem 𝓛 Rest)) (sem 𝓛 ((mem R).own_at (with_words d ws) rb ro))
+      → ent 𝓤 (sep 𝓤 (sem 𝓛 (cells (mem i16) ws b at)) (sem 𝓛 Rest)) (sem 𝓛 ((mem R).own_at (with_items d ws) rb ro))
   unfolding part_of
   back e here ws long =
       qed 𝓛 (‵ (cells (mem i16) ws b at) ∷ ‵ Rest ∷ []) ∵ use1 𝓛 (‵ (Row 𝓛 ws b at)) (whole_out 𝓛 i16 ws b at) $ use1 𝓛 (‵ (Whole 𝓛 ws b at)) (whole_row 𝓛 ws b at) $
       rewrite ! 0 (λ (k : ℕ). ‵ (Whole 𝓛 ws b k)) here refl $ rewrite ! 0 (λ (p : Ptr). ‵ (words_own p d.place ws)) (sym e) refl $
       rewrite ! 0 (λ (l : List ℤ). ‵ (words_own d.base d.place l)) (sym (refill-same d.items ws long)) refl $
       move ! (1 ∷ []) $ fsplit ! $ move ! (0 ∷ 2 ∷ []) $ fjoin ! $ move ! (1 ∷ 0 ∷ []) $ fjoin ! $
-      fpack ! (List Val) (λ us. fsep (cell_at full_share R.mir us rb ro) (R.own_val (with_words d ws) us)) vs $ done !
+      fpack ! (List Val) (λ us. fsep (cell_at full_share R.mir us rb ro) (R.own_val (with_items d ws) us)) vs $ done !
 
 pub slice_mut_spec : {M : Type 1} → statement M
 slice_mut_spec 𝓤 𝓛 𝓜 𝓡 wired =
@@ -74,11 +74,11 @@ slice_mut_spec 𝓤 𝓛 𝓜 𝓡 wired =
     use1 𝓛 (‵ (Row 𝓛 xs b (o + d.place * 2))) (apart_row 𝓛 xs b (o + d.place * 2)) $ rewrite ! 0 (λ (k : ℕ). ‵ (Row 𝓛 xs b k)) (sym here) refl $
     use1 𝓛 (‵ (cells (mem i16) xs b at)) (whole_in 𝓛 i16 xs b at) $
     move ! (1 ∷ 2 ∷ []) $ fjoin ! $ move ! (2 ∷ 3 ∷ 4 ∷ 1 ∷ 0 ∷ []) $ group ! 5 $
-    use1 𝓛 (later (some (λ (δ : GName). raw (Elements 𝓛 R i16 (with_words d) (named 0) κ q rb ro b at γ xs (roomy, fitting) (sem 𝓛 (Rest 𝓛 d vs rb ro b o at)) (back 𝓛 d vs rb ro b o at e here) δ))))
-    (lends_Elements 𝓛 R i16 (with_words d) (named 0) κ q rb ro b at γ xs (roomy, fitting) (sem 𝓛 (Rest 𝓛 d vs rb ro b o at)) (back 𝓛 d vs rb ro b o at e here) (R.coded.code d) (R.coded.code d)) $ await ! tt $ pick ! (λ δ.
+    use1 𝓛 (later (some (λ (δ : GName). raw (Elements 𝓛 R i16 (with_items d) (named 0) κ q rb ro b at γ xs (roomy, fitting) (sem 𝓛 (Rest 𝓛 d vs rb ro b o at)) (back 𝓛 d vs rb ro b o at e here) δ))))
+    (lends_Elements 𝓛 R i16 (with_items d) (named 0) κ q rb ro b at γ xs (roomy, fitting) (sem 𝓛 (Rest 𝓛 d vs rb ro b o at)) (back 𝓛 d vs rb ro b o at e here) (R.coded.code d) (R.coded.code d)) $ await ! tt $ pick ! (λ δ.
     returns ! (look_at ! 0 refl) $ free_all ! refl $
     let r : MutBor (List ℤ) = record { ref_ptr = (b, at); ghost_name = δ; now = xs } in
-    use1 𝓛 (‵ ((MutSlice (named 0) κ i16).own_val r (slice_val (b, at) (length xs) ∷ [])) ⊛ ‵ (flft κ q) ⊛ ‵ (follows R (Array i16 0) γ δ (with_words d))) (id⊢ 𝓤 _) $
+    use1 𝓛 (‵ ((MutSlice (named 0) κ i16).own_val r (slice_val (b, at) (length xs) ∷ [])) ⊛ ‵ (flft κ q) ⊛ ‵ (follows R (Array i16 0) γ δ (with_items d))) (id⊢ 𝓤 _) $
     split3 ! $ rewrite ! 0 (λ (k : ℕ). ‵ ((MutSlice (named 0) κ i16).own_val r (slice_val (b, at) k ∷ []))) (sym asked.2) refl $
     -- [the slice; the token of κ; what ties the owner to it; nothing]
     move ! (1 ∷ 3 ∷ []) $ join ! $ move ! (2 ∷ []) $ use0 𝓛 (raw (fact 𝓤 (xs ≡ xs))) (fact_i 𝓤 (xs ≡ xs) (emp 𝓤) refl) $ move ! (1 ∷ 0 ∷ []) $ join ! $

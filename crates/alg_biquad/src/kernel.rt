@@ -1,0 +1,88 @@
+//! The filter over plain words.
+ghost use Rattle.std.specs.Prelude.{◌≡◌, ◌≤◌, ◌∷◌, ℤ, List, [], length};
+ghost use Rattle.ialg.specs.History.{History, word_at, words_in_force};
+ghost use Rattle.alg_biquad.specs.Equation.{biquad_value};
+ghost use Rattle.alg_biquad.specs.Keeps.{state_after, Ran};
+
+use crate::{COEFFICIENTS, STATE_WORDS};
+use basic_op::{l_mac, l_msu, l_mult, l_shl, round};
+use ialg::{BLOCK_SAMPLES, Block};
+
+/// The two newest samples and the two newest outputs.
+#[derive(Clone, Copy)]
+struct State {
+    x1: i16,
+    x2: i16,
+    y1: i16,
+    y2: i16,
+}
+
+impl State {
+    /// The state that these words have.
+    fn read(words: &[i16]) -> State
+        requires { length words.now ≡ STATE_WORDS }
+        ensures x1 { result.x1 ≡ word_at words.now 0 }
+        ensures x2 { result.x2 ≡ word_at words.now 1 }
+        ensures y1 { result.y1 ≡ word_at words.now 2 }
+        ensures y2 { result.y2 ≡ word_at words.now 3 }
+    {
+        State {
+            x1: words[0],
+            x2: words[1],
+            y1: words[2],
+            y2: words[3],
+        }
+    }
+
+    /// Writes the state into the words.
+    fn write(self, words: &mut [i16])
+        requires { length words.old ≡ STATE_WORDS }
+        ensures { words.new ≡ self.x1 ∷ self.x2 ∷ self.y1 ∷ self.y2 ∷ [] }
+    {
+        words.copy_from_slice(&[self.x1, self.x2, self.y1, self.y2]);
+    }
+
+    /// The state after the sample `x` with the output `y`.
+    fn after(self, x: i16, y: i16) -> State
+        ensures x1 { result.x1 ≡ x }
+        ensures x2 { result.x2 ≡ self.x1 }
+        ensures y1 { result.y1 ≡ y }
+        ensures y2 { result.y2 ≡ self.y1 }
+    {
+        State {
+            x1: x,
+            x2: self.x1,
+            y1: y,
+            y2: self.y1,
+        }
+    }
+}
+
+/// The output at the sample `x`. Coefficients are in Q14, so that the sum is in Q30.
+fn output(c: &[i16], state: State, x: i16) -> i16
+    requires { length c.now ≡ COEFFICIENTS }
+    ensures { result ≡ biquad_value (word_at c.now) x state.x1 state.x2 state.y1 state.y2 }
+{
+    let forward = l_mac(l_mac(l_mult(c[0], x), c[1], state.x1), c[2], state.x2);
+    let sum = l_msu(l_msu(forward, c[3], state.y1), c[4], state.y2);
+    round(l_shl(sum, 1))
+}
+
+/// Runs the filter over a block; `state` has the two newest samples and outputs before and after.
+pub(crate) fn filter(coefficients: &[i16], state: &mut [i16], input: &[i16], out: &mut Block)
+    requires five { length coefficients.now ≡ COEFFICIENTS }
+    requires four { length state.old ≡ STATE_WORDS }
+    requires within { length input.now ≤ BLOCK_SAMPLES }
+    requires empty { out.old.items ≡ [] }
+    ensures bounded { length out.new.items ≡ length input.now }
+    ensures law { (p : List ℤ) (h : History) → coefficients.now ≡ words_in_force p h → state.old ≡ state_after p h
+        → Ran p h input.now state.new out.new.items }
+{
+    let mut newest = State::read(state);
+    for x in input {
+        let y = output(coefficients, newest, *x);
+        newest = newest.after(*x, y);
+        out.push(y);
+    }
+    newest.write(state);
+}

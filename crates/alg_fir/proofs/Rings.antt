@@ -1,0 +1,44 @@
+-- The ring of a filter, and the place that is written behind it.
+use Rattle.std.proofs.Common.{◌≡◌, ◌≢◌, ℕ, ℤ, pos, ◌+◌, ◌-◌, ◌<◌, List, length, inl, inr, sym, ap, subst, ◌∙◌, arith, get_or-set_other, get_or-set_same}
+use Rattle.std.proofs.Math.ListN.{set, length-set}
+use Rattle.ialg.specs.declared.TheConstants.{BLOCK_SAMPLES}
+use Rattle.ialg.specs.History.{History, word_at}
+use Rattle.fir_kernel.specs.Rings.{IsRing}
+use Rattle.fir_kernel.proofs.RingLemmas.{by_mod}
+use Rattle.alg_fir.specs.Keeps.{KeepsCoefficients, KeepsPast, KeepsRing}
+
+-- a ring that begins with the past samples of the words behind the coefficients
+pub ring_of_past : (p : List ℤ) (h : History) (kept words : List ℤ) (from : ℕ) → from ≡ length p
+    → length words ≡ length p - 1 + BLOCK_SAMPLES → KeepsCoefficients p h kept → KeepsPast p h kept
+    → ((k : ℕ) → k + 1 < from → word_at words k ≡ word_at kept (from + k)) → IsRing (length p - 1) (length words - 1) words (from - 1) h
+ring_of_past p h kept words from e long coefficients past copied =
+    let some = coefficients.some in
+    record {
+      within = omega arith;
+      samples = λ j k c b m.
+          let near : j + k + 1 ≡ from - 1 =
+          elim (by_mod (j + k + 1) (length words - 1) (from - 1) (omega arith) m) [ inl a ↦ a | inr a ↦ absurd (omega arith) ] in
+          copied j (omega arith) ∙ ap (λ n. word_at kept (n + j)) e ∙ past.samples j k (omega arith);
+    }
+
+-- the place is written behind the ring
+pub placed : (taps : ℕ) (h : History) (words : List ℤ) (next : ℕ) (v : ℤ) → v ≡ pos next → length words ≡ taps - 1 + BLOCK_SAMPLES
+    → IsRing (taps - 1) (length words - 1) words next h → KeepsRing taps h (set words (length words - 1) v)
+placed taps h words next v e long ring =
+    let last = length words - 1 in
+    let inside : last < length words = omega arith in
+    let same : length (set words last v) ≡ length words = length-set words last v in
+    let apart : (j : ℕ) → j < last → j ≢ last = λ j b q. absurd (omega arith) in
+    record {
+      size = same ∙ long;
+      place = next;
+      last = ap (λ n. word_at (set words last v) (n - 1)) same ∙ get_or-set_same words last v (pos 0) inside ∙ e;
+      ring = subst (λ n. IsRing (taps - 1) (n - 1) (set words last v) next h) (sym same) (record {
+        within = ring.within;
+        samples = λ j k c b m. get_or-set_other words last j v (pos 0) (apart j b) ∙ ring.samples j k c b m;
+      });
+    }
+
+pub placed_at : (taps : ℕ) (h : History) (words : List ℤ) (next last : ℕ) (v : ℤ) → last ≡ length words - 1 → v ≡ pos next
+    → length words ≡ taps - 1 + BLOCK_SAMPLES → IsRing (taps - 1) (length words - 1) words next h → KeepsRing taps h (set words last v)
+placed_at taps h words next last v at e long ring = subst (λ n. KeepsRing taps h (set words n v)) (sym at) (placed taps h words next v e long ring)

@@ -1,0 +1,62 @@
+//! How the program ends over real files: its exit status and its line on the standard error, and which file is opened first.
+use crate::answer;
+use std::fs::{self, File};
+use std::io::Write;
+use std::test::Fail;
+
+const READ_FAILED: (u8, &str) = (3, "dsp_console: read failed");
+
+const WRITE_FAILED: (u8, &str) = (4, "dsp_console: write failed");
+
+/// A file that isn't there, and one that can't be made.
+const ABSENT: &str = "absent/file";
+
+fn make_file(rt: &HostRuntime, path: &str, octets: &[u8]) -> Result<(), Fail> {
+    let mut file = File::create(rt, path)?;
+    file.write_all(octets)?;
+    Ok(())
+}
+
+#[test]
+fn ports_come_in_pairs(rt: HostRuntime) {
+    let wanted = (2, "dsp_console: ports come in pairs, 1 to 16");
+    assert!(rt; answer(&rt, &[ABSENT]) == wanted);
+    assert!(rt; answer(&rt, &[ABSENT, ABSENT]) == wanted);
+}
+
+#[test]
+fn files_that_are_absent_end_the_program(rt: HostRuntime) -> Result<(), Fail> {
+    make_file(&rt, "script", b"")?;
+    make_file(&rt, "input", b"")?;
+    assert!(rt; answer(&rt, &[ABSENT, "input", "output"]) == READ_FAILED);
+    assert!(rt; answer(&rt, &["script", ABSENT, ABSENT]) == READ_FAILED);
+    assert!(rt; answer(&rt, &["script", "input", ABSENT]) == WRITE_FAILED);
+    assert!(rt; answer(&rt, &["script", "input", "output"]) == (0, ""));
+    Ok(())
+}
+
+#[test]
+fn a_bad_size_is_found_once_the_files_are_open(rt: HostRuntime) -> Result<(), Fail> {
+    make_file(&rt, "script", b"")?;
+    make_file(&rt, "input", b"")?;
+    let line = "dsp_console: a space is 0 to 65536 words, a multiple of 4";
+    assert!(rt; answer(&rt, &["--daram", "6", "script", "input", "output"]) == (2, line));
+    assert!(rt; answer(&rt, &["--daram", "6", "script", ABSENT, "output"]) == READ_FAILED);
+    Ok(())
+}
+
+#[test]
+fn a_refusal_and_a_full_device_show_in_the_status(rt: HostRuntime) -> Result<(), Fail> {
+    make_file(&rt, "refused", b"feed 0 1\n")?;
+    make_file(
+        &rt,
+        "granted",
+        b"create 0 fir 0 16384\nchain 0 0\nfeed 0 1\n",
+    )?;
+    make_file(&rt, "input", b"\x02\x00")?;
+    assert!(rt; answer(&rt, &["refused", "input", "output"]) == (1, ""));
+    assert!(rt; answer(&rt, &["granted", "input", "output"]) == (0, ""));
+    assert_eq!(rt; fs::read(&rt, "output")?.as_slice(), b"\x01\x00".as_slice());
+    assert!(rt; answer(&rt, &["granted", "input", "/dev/full"]) == WRITE_FAILED);
+    Ok(())
+}

@@ -1,0 +1,4 @@
+pub mod Bounding
+pub mod Parts
+pub mod RingLemmas
+pub mod Sums

@@ -1,0 +1,10 @@
+use Rattle.std.proofs.Common.{◌≡◌, ◌<◌, ◌≤◌, ℕ, negsuc}
+use Rattle.basic_op.specs.Operators.{l_mac_of}
+use Rattle.ialg.specs.History.{word_at}
+use Rattle.fir_kernel.proofs.kernel.add_saturated.Given as goal
+
+abbrev pub invariant-loop-i : goal.invariant-loop-i
+invariant-loop-i l = record {
+  done : (j : ℕ) → j < l.i → word_at l.sums j ≡ l_mac_of (word_at l.fn.sums j) (negsuc 32767) (word_at l.samples j);
+  left : (j : ℕ) → l.i ≤ j → word_at l.sums j ≡ word_at l.fn.sums j;
+}

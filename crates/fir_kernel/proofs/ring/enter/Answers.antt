@@ -1,0 +1,39 @@
+use Rattle.std.proofs.Common.{◌≡◌, ◌<◌, ◌≤◌, ◌+◌, suc, ◌∷◌, length, take, FitsSigned, rules, w16, inl, inr, arith, ap, ◌∙◌}
+use Rattle.std.proofs.lemmas.Int.{to_z-of_z}
+use Rattle.ialg.specs.History.{Sample, with_samples, word_at}
+use Rattle.ialg.proofs.Histories.{with_samples-take, with_samples-whole}
+use Rattle.fir_kernel.proofs.RingLemmas.{Turns, entered}
+use Rattle.fir_kernel.proofs.ring.enter.Goals as goal
+use Rattle.fir_kernel.proofs.ring.enter.Goals.{then-at-size, else-at-size}
+
+pub loop-sample-preserved : goal.loop-sample-preserved
+loop-sample-preserved c =
+    let xs = c.args.samples.now in
+    let i = c.loop-sample.sample-index in
+    let x = word_at xs i in
+    let here = c.loop-sample.invariant.within in
+    let f : FitsSigned w16 (word_at xs i) = search rules in
+    let more : i < length xs = omega arith in
+    let both : (c.if-at-size.at < c.args.size) × Turns c.args.size c.loop-sample.at c.if-at-size.at =
+    elim c.if-at-size.branch [
+      | then-at-size w ↦ (omega arith, inl (omega arith))
+      | else-at-size w ↦ (omega arith, inr (omega arith, omega arith))
+    ] in
+    record {
+      within = both.0;
+      ring = λ count h few old.
+          let step : i + 1 ≡ suc i = omega arith in
+          let e : with_samples h (take (i + 1) xs) ≡ Sample (word_at xs i) ∷ with_samples h (take i xs) =
+          ap (λ n. with_samples h (take n xs)) step ∙ with_samples-take h xs i more in
+          let room : c.args.size ≤ length c.loop-sample.words = omega arith in
+          rw (to_z-of_z w16 x f, e)
+          (entered count c.args.size c.loop-sample.at c.if-at-size.at c.loop-sample.words (with_samples h (take i xs)) x few room both.0 both.1
+          (c.loop-sample.invariant.ring count h few old));
+    }
+
+pub returns-clause-ring : goal.returns-clause-ring
+returns-clause-ring c count h few old =
+    let xs = c.args.samples.now in
+    let all : c.loop-sample.sample-index ≡ length xs = omega arith in
+    let e : with_samples h (take c.loop-sample.sample-index xs) ≡ with_samples h xs = ap (λ n. with_samples h (take n xs)) all ∙ with_samples-whole h xs in
+    rw e at (c.loop-sample.invariant.ring count h few old)

@@ -1,0 +1,149 @@
+//! The filter where no sum can saturate: plain sums, in whatever order the vector registers take the products.
+ghost use Rattle.std.specs.Prelude.{◌≡◌, ◌↔◌, ◌<◌, ◌≤◌, ◌+◌, ◌-◌, ◌%◌, ◌+ℤ◌, ◌*ℤ◌, ℕ, length, take, IsTrue};
+ghost use Rattle.std.specs.Int.{int_wrap, w32};
+ghost use Rattle.basic_op.specs.Operators.{l_add_of, round_of};
+ghost use Rattle.ialg.specs.History.{word_at};
+ghost use Rattle.fir_kernel.specs.Bounded.{product_sum, magnitude_sum, NoneLouder, IsBounded};
+ghost use Rattle.fir_kernel.specs.Sums.{filtered_at};
+
+use crate::MOST_COEFFICIENTS;
+use basic_op::{l_add, round};
+use ialg::BLOCK_SAMPLES;
+
+/// How many products are summed at once: a loop of so many is unrolled into vector products.
+const LANES: usize = 32;
+
+/// Whether no sum of the filter over these samples can saturate.
+pub(crate) fn is_bounded(coefficients: &[i16], samples: &[i16]) -> bool
+    requires { length coefficients.now ≤ MOST_COEFFICIENTS }
+    ensures { IsTrue result ↔ IsBounded coefficients.now samples.now }
+{
+    u64::from(magnitude(coefficients)) * u64::from(loudest(samples)) < 1 << 30
+}
+
+/// The sum of the coefficients' magnitudes.
+fn magnitude(coefficients: &[i16]) -> u32
+    requires { length coefficients.now ≤ MOST_COEFFICIENTS }
+    ensures { result ≡ magnitude_sum (word_at coefficients.now) (length coefficients.now) }
+{
+    let mut sum = 0;
+    for coefficient in coefficients {
+        sum += u32::from(coefficient.unsigned_abs());
+    }
+    sum
+}
+
+/// The greatest magnitude of a sample.
+fn loudest(samples: &[i16]) -> u16
+    ensures bound { NoneLouder samples.now result }
+    ensures least { (bound : ℕ) → NoneLouder samples.now bound → result ≤ bound }
+{
+    let mut loudest = 0;
+    for sample in samples {
+        loudest = sample.unsigned_abs().max(loudest);
+    }
+    loudest
+}
+
+/// Runs the filter over the block in `line`, behind as many past samples as there are coefficients but one, where no
+/// sum can saturate. Behind the block `line` has words of any value, which no coefficient reaches.
+pub(crate) fn filter_bounded(coefficients: &[i16], line: &[i16], out: &mut [i16])
+    requires some { 1 ≤ length coefficients.now }
+    requires few { length coefficients.now ≤ MOST_COEFFICIENTS }
+    requires reach { length out.old + MOST_COEFFICIENTS ≤ length line.now + 1 }
+    requires block { length out.old ≤ BLOCK_SAMPLES }
+    requires bounded { IsBounded coefficients.now (take (length coefficients.now - 1 + length out.old) line.now) }
+    ensures { (i : ℕ) → i < length out.old → word_at out.new i ≡ filtered_at coefficients.now line.now i }
+{
+    let mut taps = [0; MOST_COEFFICIENTS];
+    reverse(coefficients, &mut taps);
+    let runs = if coefficients.len() <= LANES { 1 } else { 2 };
+    let mut block = [0; BLOCK_SAMPLES];
+    let (sums, _unused) = block.split_at_mut(out.len());
+    sum_windows(&taps[..LANES * runs], line, sums);
+    round_doubled(sums, out);
+}
+
+/// Writes the coefficients into the first words of `taps`, the last one first.
+fn reverse(coefficients: &[i16], taps: &mut [i16])
+    requires { length coefficients.now ≤ length taps.old }
+    ensures reversed { (j k : ℕ) → j + k + 1 ≡ length coefficients.now
+        → word_at taps.new j ≡ word_at coefficients.now k }
+    ensures rest { (j : ℕ) → length coefficients.now ≤ j → word_at taps.new j ≡ word_at taps.old j }
+{
+    for (k, coefficient) in coefficients.iter().enumerate() {
+        taps[coefficients.len() - 1 - k] = *coefficient;
+    }
+}
+
+/// The sum of the products of all taps with each window of the line: sum `i` is that of the window that begins at
+/// word `i`.
+fn sum_windows(taps: &[i16], line: &[i16], sums: &mut [i32])
+    requires whole { length taps.now % LANES ≡ 0 }
+    requires reach { length sums.old + length taps.now ≤ length line.now + 1 }
+    ensures { (i : ℕ) → i < length sums.old → word_at sums.new i ≡ int_wrap w32
+        (product_sum (word_at taps.now) (λ j. word_at line.now (i + j)) (length taps.now)) }
+{
+    for (i, sum) in sums.iter_mut().enumerate() {
+        *sum = dot(taps, &line[i..i + taps.len()]);
+    }
+}
+
+/// The sum of the products, wrapped to 32 bits.
+///
+/// A call of its own for each window keeps the taps in vector order: inlined, their loads are drawn out of the loop one
+/// by one.
+#[inline(never)]
+fn dot(taps: &[i16], window: &[i16]) -> i32
+    requires whole { length taps.now % LANES ≡ 0 }
+    requires as_many { length window.now ≡ length taps.now }
+    ensures { result ≡ int_wrap w32 (product_sum (word_at taps.now) (word_at window.now) (length taps.now)) }
+{
+    let mut sum: i32 = 0;
+    for run in 0..taps.len() / LANES {
+        let from = LANES * run;
+        sum = sum.wrapping_add(dot_lanes(&taps[from..from + LANES], &window[from..from + LANES]));
+    }
+    sum
+}
+
+/// The sum of the products of one run, wrapped to 32 bits.
+#[inline(always)]
+fn dot_lanes(taps: &[i16], samples: &[i16]) -> i32
+    requires taps { length taps.now ≡ LANES }
+    requires samples { length samples.now ≡ LANES }
+    ensures { result ≡ int_wrap w32 (product_sum (word_at taps.now) (word_at samples.now) (length taps.now)) }
+{
+    let mut sum: i32 = 0;
+    for j in 0..LANES {
+        sum = add_product(sum, taps[j], samples[j]);
+    }
+    sum
+}
+
+/// The product is added to the sum, wrapped to 32 bits.
+#[inline(always)]
+fn add_product(sum: i32, tap: i16, sample: i16) -> i32
+    ensures { result ≡ int_wrap w32 (sum +ℤ tap *ℤ sample) }
+{
+    sum.wrapping_add(product(tap, sample))
+}
+
+/// The whole product.
+#[inline(always)]
+pub(crate) fn product(a: i16, b: i16) -> i32
+    ensures { result ≡ a *ℤ b }
+{
+    i32::from(a) * i32::from(b)
+}
+
+/// Twice the sums, each rounded to Q15.
+fn round_doubled(sums: &[i32], out: &mut [i16])
+    requires { length sums.now ≡ length out.old }
+    ensures { (i : ℕ) → i < length out.old
+        → word_at out.new i ≡ round_of (l_add_of (word_at sums.now i) (word_at sums.now i)) }
+{
+    for (i, output) in out.iter_mut().enumerate() {
+        *output = round(l_add(sums[i], sums[i]));
+    }
+}

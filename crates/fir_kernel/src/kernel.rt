@@ -1,0 +1,111 @@
+//! The filter over plain words: a line of past samples and a block, the newest sample last.
+ghost use Rattle.std.specs.Prelude.{negsuc, unsigned_abs, ◌≡◌, ◌<◌, ◌≤◌, ◌+◌, ◌-◌, ℕ, length};
+ghost use Rattle.basic_op.specs.Operators.{l_mac_of, l_mult_of, round_of};
+ghost use Rattle.ialg.specs.History.{word_at};
+ghost use Rattle.fir_kernel.specs.Sums.{filtered_at, l_mac_sum};
+
+use crate::MOST_COEFFICIENTS;
+use crate::bounded::{filter_bounded, is_bounded, product};
+use basic_op::{l_add, l_mac, round};
+use ialg::BLOCK_SAMPLES;
+
+/// Runs the filter over the block in `line`, behind as many past samples as there are coefficients but one. Behind the
+/// block `line` has words of any value, so that a run of taps never ends past it. Coefficients are in Q15, and there is
+/// one output for each sample of the block.
+pub fn filter(coefficients: &[i16], line: &[i16], out: &mut [i16])
+    requires some { 1 ≤ length coefficients.now }
+    requires few { length coefficients.now ≤ MOST_COEFFICIENTS }
+    requires reach { length out.old + MOST_COEFFICIENTS ≤ length line.now + 1 }
+    requires block { length out.old ≤ BLOCK_SAMPLES }
+    ensures { (i : ℕ) → i < length out.old → word_at out.new i ≡ filtered_at coefficients.now line.now i }
+{
+    if is_bounded(coefficients, &line[..coefficients.len() - 1 + out.len()]) {
+        filter_bounded(coefficients, line, out);
+    } else {
+        filter_exact(coefficients, line, out);
+    }
+}
+
+/// Runs the filter where a sum may saturate.
+fn filter_exact(coefficients: &[i16], line: &[i16], out: &mut [i16])
+    requires some { 1 ≤ length coefficients.now }
+    requires reach { length coefficients.now + length out.old ≤ length line.now + 1 }
+    requires block { length out.old ≤ BLOCK_SAMPLES }
+    ensures { (i : ℕ) → i < length out.old → word_at out.new i ≡ filtered_at coefficients.now line.now i }
+{
+    let mut block = [0; BLOCK_SAMPLES];
+    let (sums, _unused) = block.split_at_mut(out.len());
+    sum_products(coefficients, line, sums);
+    round_sums(sums, out);
+}
+
+/// The sums of all outputs, in Q31. Taps are outside and outputs inside: each sum takes its products in the filter's
+/// order and saturates after each, while the sums of a block run side by side in vector registers.
+fn sum_products(coefficients: &[i16], line: &[i16], sums: &mut [i32])
+    requires some { 1 ≤ length coefficients.now }
+    requires reach { length coefficients.now + length sums.old ≤ length line.now + 1 }
+    ensures { (i : ℕ) → i < length sums.old → word_at sums.new i ≡ l_mac_sum (word_at coefficients.now)
+        (λ k. word_at line.now (length coefficients.now - 1 + i - k)) (length coefficients.now) }
+{
+    sums.fill(0);
+    for (k, coefficient) in coefficients.iter().enumerate() {
+        let oldest = coefficients.len() - 1 - k;
+        add_products(*coefficient, &line[oldest..oldest + sums.len()], sums);
+    }
+}
+
+/// Adds the product of the coefficient and a sample to each sum.
+fn add_products(coefficient: i16, samples: &[i16], sums: &mut [i32])
+    requires { length samples.now ≡ length sums.old }
+    ensures { (i : ℕ) → i < length sums.old
+        → word_at sums.new i ≡ l_mac_of (word_at sums.old i) coefficient (word_at samples.now i) }
+{
+    if coefficient == i16::MIN {
+        add_saturated(samples, sums);
+    } else {
+        add_doubled(coefficient, samples, sums);
+    }
+}
+
+/// Adds the product of -1 and a sample to each sum. It saturates at -1.
+fn add_saturated(samples: &[i16], sums: &mut [i32])
+    requires { length samples.now ≡ length sums.old }
+    ensures { (i : ℕ) → i < length sums.old
+        → word_at sums.new i ≡ l_mac_of (word_at sums.old i) (negsuc 32767) (word_at samples.now i) }
+{
+    for (i, sum) in sums.iter_mut().enumerate() {
+        *sum = l_mac(*sum, i16::MIN, samples[i]);
+    }
+}
+
+/// Adds the product of the coefficient and a sample to each sum, where no product saturates.
+fn add_doubled(coefficient: i16, samples: &[i16], sums: &mut [i32])
+    requires as_many { length samples.now ≡ length sums.old }
+    requires within { unsigned_abs coefficient ≤ 32767 }
+    ensures { (i : ℕ) → i < length sums.old
+        → word_at sums.new i ≡ l_mac_of (word_at sums.old i) coefficient (word_at samples.now i) }
+{
+    for (i, sum) in sums.iter_mut().enumerate() {
+        *sum = l_add(*sum, doubled(coefficient, samples[i]));
+    }
+}
+
+/// Twice the product, which doesn't saturate.
+#[inline(always)]
+fn doubled(a: i16, b: i16) -> i32
+    requires { unsigned_abs a ≤ 32767 }
+    ensures { result ≡ l_mult_of a b }
+{
+    let product = product(a, b);
+    product + product
+}
+
+/// The sums, each rounded to Q15.
+fn round_sums(sums: &[i32], out: &mut [i16])
+    requires { length sums.now ≡ length out.old }
+    ensures { (i : ℕ) → i < length out.old → word_at out.new i ≡ round_of (word_at sums.now i) }
+{
+    for (i, output) in out.iter_mut().enumerate() {
+        *output = round(sums[i]);
+    }
+}

@@ -1,0 +1,14 @@
+//! The kernels of finite impulse response filters over plain words, and the ring of past samples that they read.
+//!
+//! They know nothing of records or instances. Coefficients are in Q15, that of the newest sample first.
+#![tactic(auto)]
+
+mod bounded;
+mod kernel;
+mod ring;
+
+pub use kernel::filter;
+pub use ring::{enter, named_place, unroll};
+
+/// The most coefficients of a filter.
+pub const MOST_COEFFICIENTS: usize = 64;

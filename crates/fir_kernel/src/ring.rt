@@ -1,0 +1,53 @@
+//! A ring of samples: the first `size` words, in which each sample takes the place of the oldest.
+ghost use Rattle.std.specs.Prelude.{◌≡◌, ◌<◌, ◌≤◌, ◌+◌, ◌-◌, ◌^◌, ℕ, length, pos};
+ghost use Rattle.ialg.specs.History.{History, past, with_samples, word_at};
+ghost use Rattle.fir_kernel.specs.Rings.{IsRing};
+
+use ialg::place;
+
+/// The place that the last word names.
+pub fn named_place(words: &[i16]) -> usize
+    ensures value { (next : ℕ) → 1 ≤ length words.now → word_at words.now (length words.now - 1) ≡ pos next
+        → result ≡ next }
+    ensures small { result ≤ 2 ^ 15 }
+{
+    if words.is_empty() {
+        return 0;
+    }
+    usize::from(words[words.len() - 1].unsigned_abs())
+}
+
+/// Copies the `count` samples before the place `next` into `line`, from word `at` on, the newest last.
+pub fn unroll(words: &[i16], size: usize, next: usize, count: usize, line: &mut [i16], at: usize)
+    requires size { size ≤ length words.now }
+    requires next { next < size }
+    requires count { count ≤ size }
+    requires room { at + count ≤ length line.old }
+    ensures samples { (h : History) → IsRing count size words.now next h
+        → (j k : ℕ) → j + k + 1 ≡ count → word_at line.new (at + j) ≡ past h k }
+    ensures before { (j : ℕ) → j < at → word_at line.new j ≡ word_at line.old j }
+{
+    if count <= next {
+        place(line, at, &words[next - count..next]);
+    } else {
+        let far = count - next;
+        place(line, at, &words[size - far..size]);
+        place(line, at + far, &words[..next]);
+    }
+}
+
+/// Enters the samples one by one, each at the place of the oldest: the place of the next one.
+pub fn enter(words: &mut [i16], size: usize, next: usize, samples: &[i16]) -> usize
+    requires size { size ≤ length words.old }
+    requires next { next < size }
+    ensures within { result < size }
+    ensures ring { (count : ℕ) (h : History) → count ≤ size → IsRing count size words.old next h
+        → IsRing count size words.new result (with_samples h samples.now) }
+{
+    let mut at = next;
+    for sample in samples {
+        words[at] = *sample;
+        at = if at + 1 < size { at + 1 } else { 0 };
+    }
+    at
+}

@@ -1,0 +1,22 @@
+use Rattle.std.proofs.Common.{◌≡◌, sym, subst, ap, ◌∙◌, arith}
+use Rattle.ialg.specs.Records.{unplaced}
+use Rattle.ialg.specs.Loans.{lent_words}
+use Rattle.ialg.specs.Filters.{filter_records, IsPlaced}
+use Rattle.ialg.proofs.Hosting.{none_once}
+use Rattle.ialg.proofs.hosted.AnyIalg.alg_moved.Goals as goal
+
+pub returns-clause-active : goal.returns-clause-active
+returns-clause-active g c p w h before lawful moved table closed lent active =
+    let F = g.K.Filter in
+    let m = c.write_object_of.new.mem in
+    let old = c.args.mem.now in
+    let tab = c.args.tab.now in
+    let asked = F.filter.memory p in
+    let before = active.placed in
+    let records : unplaced tab ≡ filter_records before.memory = sym moved ∙ before.object.on_table in
+    let names = rw records at (c.write_object_of.ensures.names before.object.long) in
+    let first = ap (λ r. r.now) (c.write_object_of.ensures.others.others1 (λ e. omega arith)) in
+    let second = ap (λ r. r.now) (c.write_object_of.ensures.others.others2 (λ e. omega arith)) in
+    let placed : IsPlaced F.KIND asked tab (lent_words m) =
+    record { memory = before.memory; granted = before.granted; valid = before.valid; object = names; none_once = none_once before.memory tab records } in
+    record { placed = placed; keeps = rw (first, second) active.keeps }

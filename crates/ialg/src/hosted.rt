@@ -1,0 +1,253 @@
+//! Each filter is an algorithm: its calls find the records, and leave the words to the filter.
+ghost use Rattle.std.specs.Prelude.{◌≡◌, ◌≤◌, ◌++◌, ◌∷◌, Option, Some, ℤ, [], List, length, IsTrue, false};
+ghost use Rattle.mem_rec.specs.Records.{is_table};
+ghost use Rattle.mem_rec.specs.declared.Space.TheVariants.{Daram, Saram};
+ghost use Rattle.ialg.specs.declared.filter.FilterMemory.{FilterMemory};
+ghost use Rattle.ialg.specs.History.{History, Control, Set, Reset, Get, with_samples, outputs_by};
+ghost use Rattle.ialg.specs.Meaning.{outputs_of};
+ghost use Rattle.ialg.specs.Records.{AllLent, lasting, unplaced};
+ghost use Rattle.ialg.specs.Loans.{lent_words, SameLoans, SameBut};
+ghost use Rattle.ialg.specs.Objects.{NamedAt, Names};
+ghost use Rattle.ialg.specs.Filters.{filter_records, meaning_of, IsIdle, IsActive};
+
+use crate::filter::{Filter, FilterMemory};
+use crate::laws::Ialg;
+use crate::memory::{Lent, Record};
+use crate::object::object_record;
+use crate::{BLOCK_SAMPLES, Block, Ctl, FILTER_RECORDS, OBJECT_WORDS, Params, Status, Words};
+use mem_rec::{Attr, LEAST_ALIGNMENT, MemRec, MemTab, Space};
+
+/// The number of the record of the kept words.
+const KEPT: usize = 1;
+
+/// The number of the record of the running words.
+const RUNNING: usize = 2;
+
+impl<K: Filter> Ialg for K {
+    ghost meaning = { meaning_of K.filter };
+
+    ghost idle_keeps = { λ _ p rs wss h. IsIdle K.KIND (K.filter.memory p) (K.rests p h) rs wss };
+
+    ghost active_keeps = { λ _ p rs wss h. IsActive K.KIND (K.filter.memory p) (K.runs p h) rs wss };
+
+    fn alg_num_alloc(&self) -> usize {
+        FILTER_RECORDS
+    }
+
+    fn alg_alloc(&self, p: &Params) -> Option<MemTab> {
+        match K::memory(p.as_slice()) {
+            Some(memory) => MemTab::make(&records(memory)),
+            None => None,
+        }
+    }
+
+    fn alg_init(&self, tab: &MemTab, p: &Params, mem: &mut Lent<'_>) {
+        write_object_of::<K>(tab, mem);
+        let Some(Record { k, words }) = mem.take_named(Space::Saram, KEPT) else {
+            return;
+        };
+        K::start(p.as_slice(), words);
+        mem.put(k, words);
+    }
+
+    fn alg_activate(&self, mem: &mut Lent<'_>) {
+        let Some(Record { k, words }) = mem.take_named(Space::Daram, RUNNING) else {
+            return;
+        };
+        restore_from::<K>(mem, words);
+        mem.put(k, words);
+    }
+
+    fn process(&self, mem: &mut Lent<'_>, input: &[i16], out: &mut Block)
+        requires empty { out.old.items ≡ [] }
+        requires some { 1 ≤ length input.now }
+        requires within { length input.now ≤ BLOCK_SAMPLES }
+        ensures loans { SameLoans mem.old mem.new }
+        ensures bounded { length out.new.items ≤ length input.now }
+        ensures law { (p : List ℤ) (w : Option ℤ) (h : History) → IsTrue ((meaning_of {M = K} K.filter).lawful self.now p w)
+            → mem.old.writable ≡ false
+            → AllLent mem.old.table.now (lent_words mem.old)
+            → IsActive K.KIND (K.filter.memory p) (K.runs p h) mem.old.table.now (lent_words mem.old)
+            → IsActive K.KIND (K.filter.memory p) (K.runs p (with_samples h input.now)) mem.old.table.now (lent_words mem.new)
+            × (outputs_of (meaning_of {M = K} K.filter) self.now p (with_samples h input.now)
+            ≡ outputs_of (meaning_of {M = K} K.filter) self.now p h ++ out.new.items) }
+
+        // No word changes but those of the scratch record.
+        ensures leaves { (p : List ℤ) (h : History) → AllLent mem.old.table.now (lent_words mem.old)
+            → IsActive K.KIND (K.filter.memory p) (K.runs p h) mem.old.table.now (lent_words mem.old)
+            → lasting mem.old.table.now (lent_words mem.new) ≡ lasting mem.old.table.now (lent_words mem.old) }
+    {
+        let Some(Record { k, words }) = mem.take_named(Space::Daram, RUNNING) else {
+            return;
+        };
+        run_with::<K>(mem, words, input, out);
+        mem.put(k, words);
+    }
+
+    fn alg_deactivate(&self, mem: &mut Lent<'_>) {
+        let Some(Record { k, words }) = mem.take_named(Space::Saram, KEPT) else {
+            return;
+        };
+        save_from::<K>(mem, words);
+        mem.put(k, words);
+    }
+
+    fn alg_moved(&self, tab: &MemTab, mem: &mut Lent<'_>) {
+        write_object_of::<K>(tab, mem);
+    }
+
+    fn accepts(&self, p: &Params, c: &Ctl) -> bool {
+        K::takes(p.as_slice(), c)
+    }
+
+    fn alg_control(&self, mem: &mut Lent<'_>, c: &Ctl) -> Status {
+        match c {
+            Ctl::Set(words) => {
+                set::<K>(mem, words.as_slice());
+                Status::Done
+            }
+            Ctl::Reset => {
+                reset::<K>(mem);
+                Status::Done
+            }
+            Ctl::Get => Status::Words(get::<K>(mem)),
+        }
+    }
+
+    fn alg_free(&self, mem: &Lent<'_>) -> MemTab {
+        mem.table.copied()
+    }
+
+    ghost idle_words = { λ _ p rs wss h keeps. K.rests_words p h _ keeps.keeps };
+
+    ghost active_words = { λ _ p rs wss h keeps. K.runs_words p h _ _ keeps.keeps };
+
+    ghost idle_fill = { λ _ p rs wss h keeps k once. absurd (keeps.placed.none_once k once) };
+
+    ghost active_fill = { λ _ p rs wss h keeps k once. absurd (keeps.placed.none_once k once) };
+}
+
+/// The records of a filter that asks for this memory.
+fn records(memory: FilterMemory) -> [MemRec; FILTER_RECORDS]
+    ensures { result ≡ filter_records memory }
+{
+    [
+        object_record(),
+        MemRec {
+            size: memory.kept,
+            align: LEAST_ALIGNMENT,
+            space: Space::Saram,
+            attr: Attr::Persist,
+            base: 0,
+        },
+        MemRec {
+            size: memory.running,
+            align: memory.align,
+            space: Space::Daram,
+            attr: Attr::Scratch,
+            base: 0,
+        },
+    ]
+}
+
+/// Writes the instance object: the kind word, and the bases of the table.
+fn write_object_of<K: Filter>(tab: &MemTab, mem: &mut Lent<'_>)
+    ensures loans { SameLoans mem.old mem.new }
+    ensures others { SameBut 0 mem.old mem.new }
+    ensures names { length mem.old.r0.now ≡ OBJECT_WORDS → Names K.KIND (unplaced tab.now) tab.now mem.new.r0.now }
+    ensures valid { IsTrue (is_table tab.now) }
+{
+    // a table is valid, as its records say
+    let _records = tab.records();
+    mem.name_records(K::KIND, tab);
+}
+
+/// Makes the running words from the kept words that `mem` has.
+fn restore_from<K: Filter>(mem: &Lent<'_>, running: &mut [i16])
+    ensures { (p : List ℤ) (h : History) (m : FilterMemory) → NamedAt mem.now Saram 1 K.KIND (filter_records m)
+        → K.filter.memory p ≡ Some m → length running.old ≡ m.running → K.rests p h mem.now.r1.now
+        → K.runs p h mem.now.r1.now running.new }
+{
+    if let Some(kept) = mem.read_named(Space::Saram, KEPT) {
+        K::restore(kept, running);
+    }
+}
+
+/// Makes the kept words from the running words that `mem` has.
+fn save_from<K: Filter>(mem: &Lent<'_>, kept: &mut [i16])
+    ensures { (p : List ℤ) (h : History) (m : FilterMemory) → NamedAt mem.now Daram 2 K.KIND (filter_records m)
+        → K.runs p h kept.old mem.now.r2.now → K.rests p h kept.new }
+{
+    if let Some(running) = mem.read_named(Space::Daram, RUNNING) {
+        K::save(kept, running);
+    }
+}
+
+/// Runs the filter with the kept words that `mem` has.
+fn run_with<K: Filter>(mem: &Lent<'_>, running: &mut [i16], input: &[i16], out: &mut Block)
+    requires empty { out.old.items ≡ [] }
+    requires within { length input.now ≤ BLOCK_SAMPLES }
+    ensures bounded { length out.new.items ≤ length input.now }
+    ensures history { (p : List ℤ) (h : History) (m : FilterMemory) → NamedAt mem.now Saram 1 K.KIND (filter_records m)
+        → K.runs p h mem.now.r1.now running.old → K.runs p (with_samples h input.now) mem.now.r1.now running.new }
+    ensures outputs { (p : List ℤ) (h : History) (m : FilterMemory) → NamedAt mem.now Saram 1 K.KIND (filter_records m)
+        → K.runs p h mem.now.r1.now running.old
+        → outputs_by (K.filter.gives p) (with_samples h input.now) ≡ outputs_by (K.filter.gives p) h ++ out.new.items }
+{
+    if let Some(kept) = mem.read_named(Space::Saram, KEPT) {
+        K::run(kept, running, input, out);
+    }
+}
+
+/// Puts these words into force.
+fn set<K: Filter>(mem: &mut Lent<'_>, words: &[i16])
+    ensures loans { SameLoans mem.old mem.new }
+    ensures law { (p : List ℤ) (h : History) → AllLent mem.old.table.now (lent_words mem.old)
+        → IsTrue (K.filter.accepts p (Set words.now))
+        → IsActive K.KIND (K.filter.memory p) (K.runs p h) mem.old.table.now (lent_words mem.old)
+        → IsActive K.KIND (K.filter.memory p) (K.runs p (Control (Set words.now) ∷ h)) mem.old.table.now (lent_words mem.new) }
+{
+    let Some(Record { k, words: kept }) = mem.take_named(Space::Saram, KEPT) else {
+        return;
+    };
+    K::set(kept, words);
+    mem.put(k, kept);
+}
+
+/// Forgets the past samples.
+fn reset<K: Filter>(mem: &mut Lent<'_>)
+    ensures loans { SameLoans mem.old mem.new }
+    ensures law { (p : List ℤ) (h : History) → AllLent mem.old.table.now (lent_words mem.old)
+        → IsActive K.KIND (K.filter.memory p) (K.runs p h) mem.old.table.now (lent_words mem.old)
+        → IsActive K.KIND (K.filter.memory p) (K.runs p (Control Reset ∷ h)) mem.old.table.now (lent_words mem.new) }
+{
+    let Some(Record { k, words }) = mem.take_named(Space::Daram, RUNNING) else {
+        return;
+    };
+    K::reset(words);
+    mem.put(k, words);
+}
+
+/// The answer to `get`.
+fn get<K: Filter>(mem: &Lent<'_>) -> Words
+    ensures answer { (p : List ℤ) (h : History) → AllLent mem.now.table.now (lent_words mem.now)
+        → IsActive K.KIND (K.filter.memory p) (K.runs p h) mem.now.table.now (lent_words mem.now)
+        → result.items ≡ K.filter.got p h }
+    ensures history { (p : List ℤ) (h : History) → AllLent mem.now.table.now (lent_words mem.now)
+        → IsActive K.KIND (K.filter.memory p) (K.runs p h) mem.now.table.now (lent_words mem.now)
+        → IsActive K.KIND (K.filter.memory p) (K.runs p (Control Get ∷ h)) mem.now.table.now (lent_words mem.now) }
+{
+    let Some(kept) = mem.read_named(Space::Saram, KEPT) else {
+        return Words::new();
+    };
+    let Some(running) = mem.read_named(Space::Daram, RUNNING) else {
+        return Words::new();
+    };
+    K::get(kept, running)
+}
+
+/// The law that filters keep IALG's laws for all parameters, refused ones too, in a host of any poison word and in one
+/// of none. The call does nothing: its contract is the law.
+pub fn filters_are_lawful<K: Filter>()
+    ensures { (kind : K) (p : List ℤ) (w : Option ℤ) → IsTrue (⟦<K as Ialg>⟧.meaning.lawful kind p w) }
+{}

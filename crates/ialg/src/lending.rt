@@ -1,0 +1,46 @@
+//! What records are lent for.
+ghost use Rattle.std.specs.Prelude.{ℤ, Bool, List, [], ◌∷◌};
+ghost use Rattle.mem_rec.specs.declared.MemRec.{MemRec};
+ghost use Rattle.ialg.specs.Loans.{lent_words, SameLoans};
+
+use crate::memory::Lent;
+use mem_rec::MemTab;
+
+/// A step of an instance, for which its records are lent. Its answer is put into `out`.
+pub trait Step<O> {
+    // when the step may be performed, with which `out`
+    ghost can: { Self → O → Type 0 };
+
+    // what it does to the words of the records, before and after, and to `out`
+    ghost done: { Self → List MemRec → Bool → List (List ℤ) → List (List ℤ) → O → O → Type 0 };
+
+    fn perform(&self, mem: &mut Lent<'_>, out: &mut O)
+        requires { can self.now out.old }
+        ensures loans { SameLoans mem.old mem.new }
+        ensures done { done self.now mem.old.table.now mem.old.writable (lent_words mem.old) (lent_words mem.new) out.old out.new };
+}
+
+/// Performs the step with these records: those of the table, an empty slice for each that isn't lent.
+pub fn lend<O, S: Step<O>>(
+    step: &S,
+    table: &MemTab,
+    writable: bool,
+    r0: &mut [i16],
+    r1: &mut [i16],
+    r2: &mut [i16],
+    r3: &mut [i16],
+    out: &mut O,
+)
+    requires { S.can step.now out.old }
+    ensures { S.done step.now table.now writable (r0.old ∷ r1.old ∷ r2.old ∷ r3.old ∷ []) (r0.new ∷ r1.new ∷ r2.new ∷ r3.new ∷ []) out.old out.new }
+{
+    let mut mem = Lent {
+        table,
+        writable,
+        r0,
+        r1,
+        r2,
+        r3,
+    };
+    step.perform(&mut mem, out);
+}
