@@ -47,9 +47,9 @@ was_set p h cs old new running runs accepted long written fit =
     }
 
 -- a block was run
-pub was_run : (p : List ℤ) (h : History) (xs kept running new ys : List ℤ) → Runs p h kept running → Ran p h xs new ys
+pub was_run : (p : List ℤ) (h : History) (xs kept running new : List ℤ) → Runs p h kept running → Ran p h xs new
     → Runs p (with_samples h xs) kept new
-was_run p h xs kept running new ys runs ran = record {
+was_run p h xs kept running new runs ran = record {
   history = IsWordHistory-with_samples h xs runs.history ran.samples;
   coefficients = record {
     some = runs.coefficients.some;

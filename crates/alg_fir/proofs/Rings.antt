@@ -1,25 +1,23 @@
 -- The ring of a filter, and the place that is written behind it.
-use Rattle.std.proofs.Common.{◌≡◌, ◌≢◌, ℕ, ℤ, pos, ◌+◌, ◌-◌, ◌<◌, List, length, inl, inr, sym, ap, subst, ◌∙◌, arith, get_or-set_other, get_or-set_same}
+use Rattle.std.proofs.Common.{◌≡◌, ◌≢◌, ℕ, ℤ, pos, ◌+◌, ◌-◌, ◌<◌, List, ◌∷◌, length, inl, inr, sym, ap, subst, ◌∙◌, arith, get_or-set_other, get_or-set_same}
 use Rattle.std.proofs.Math.ListN.{set, length-set}
 use Rattle.ialg.specs.declared.TheConstants.{BLOCK_SAMPLES}
-use Rattle.ialg.specs.History.{History, word_at}
+use Rattle.ialg.specs.History.{History, Control, Reset, word_at}
 use Rattle.fir_kernel.specs.Rings.{IsRing}
 use Rattle.fir_kernel.proofs.RingLemmas.{by_mod}
-use Rattle.alg_fir.specs.Keeps.{KeepsCoefficients, KeepsPast, KeepsRing}
+use Rattle.alg_fir.specs.Keeps.{KeepsPast, KeepsRing}
 
--- a ring that begins with the past samples of the words behind the coefficients
-pub ring_of_past : (p : List ℤ) (h : History) (kept words : List ℤ) (from : ℕ) → from ≡ length p
-    → length words ≡ length p - 1 + BLOCK_SAMPLES → KeepsCoefficients p h kept → KeepsPast p h kept
-    → ((k : ℕ) → k + 1 < from → word_at words k ≡ word_at kept (from + k)) → IsRing (length p - 1) (length words - 1) words (from - 1) h
-ring_of_past p h kept words from e long coefficients past copied =
-    let some = coefficients.some in
-    record {
-      within = omega arith;
-      samples = λ j k c b m.
-          let near : j + k + 1 ≡ from - 1 =
-          elim (by_mod (j + k + 1) (length words - 1) (from - 1) (omega arith) m) [ inl a ↦ a | inr a ↦ absurd (omega arith) ] in
-          copied j (omega arith) ∙ ap (λ n. word_at kept (n + j)) e ∙ past.samples j k (omega arith);
-    }
+-- a ring that begins with the past samples, where `place` is their number
+pub ring_of_past : (taps place : ℕ) (h : History) (past_words words : List ℤ) → place + 1 ≡ taps → length words ≡ taps - 1 + BLOCK_SAMPLES
+    → KeepsPast taps 0 h past_words → ((k : ℕ) → k < place → word_at words k ≡ word_at past_words k) → IsRing (taps - 1) (length words - 1) words place h
+ring_of_past taps place h past_words words e long past copied = record {
+  within = omega arith;
+  samples = λ j k c b m.
+      let near : j + k + 1 ≡ place =
+      elim (by_mod (j + k + 1) (length words - 1) place (omega arith) m) [ inl a ↦ a | inr a ↦ absurd (omega arith) ] in
+      let z : j ≡ 0 + j = omega arith in
+      copied j (omega arith) ∙ ap (word_at past_words) z ∙ past j k (omega arith);
+}
 
 -- the place is written behind the ring
 pub placed : (taps : ℕ) (h : History) (words : List ℤ) (next : ℕ) (v : ℤ) → v ≡ pos next → length words ≡ taps - 1 + BLOCK_SAMPLES
@@ -42,3 +40,13 @@ placed taps h words next v e long ring =
 pub placed_at : (taps : ℕ) (h : History) (words : List ℤ) (next last : ℕ) (v : ℤ) → last ≡ length words - 1 → v ≡ pos next
     → length words ≡ taps - 1 + BLOCK_SAMPLES → IsRing (taps - 1) (length words - 1) words next h → KeepsRing taps h (set words last v)
 placed_at taps h words next last v at e long ring = subst (λ n. KeepsRing taps h (set words n v)) (sym at) (placed taps h words next v e long ring)
+
+-- a ring of zeros, after a reset
+pub silent_ring : (taps : ℕ) (h : History) (words : List ℤ) → length words ≡ taps - 1 + BLOCK_SAMPLES
+    → ((k : ℕ) → word_at words k ≡ pos 0) → KeepsRing taps (Control Reset ∷ h) words
+silent_ring taps h words size silent = record {
+  size = size;
+  place = 0;
+  last = silent (length words - 1);
+  ring = record { within = omega arith; samples = λ j k c b e. silent j };
+}

@@ -1,5 +1,5 @@
 -- A run over a block goes on with the difference equation.
-use Rattle.std.proofs.Common.{◌≡◌, ℕ, ℤ, zero, suc, pos, ◌+◌, ◌-◌, ◌<◌, ◌≤◌, List, [], ◌∷◌, ◌++◌, length, take, FitsSigned, refl, sym, ap, ◌∙◌, arith, append_assoc, append-nil}
+use Rattle.std.proofs.Common.{◌≡◌, ℕ, ℤ, zero, suc, pos, ◌+◌, ◌-◌, ◌*◌, ◌<◌, ◌≤◌, List, [], ◌∷◌, ◌++◌, length, take, FitsSigned, refl, sym, ap, ◌∙◌, arith, append_assoc, append-nil}
 use Rattle.std.specs.List.{All}
 use Rattle.std.specs.Int.{w16}
 use Rattle.std.proofs.Math.Seq.{take-suc, take-length}
@@ -8,7 +8,7 @@ use Rattle.ialg.specs.History.{History, with_samples, word_at, past, words_in_fo
 use Rattle.ialg.proofs.Histories.{with_samples-take, with_samples-whole}
 use Rattle.fir_kernel.specs.Sums.{l_mac_sum, filtered_at}
 use Rattle.alg_fir.specs.Equation.{fir_output, fir_outputs}
-use Rattle.alg_fir.specs.Keeps.{KeepsRing, Ran}
+use Rattle.alg_fir.specs.Keeps.{KeepsRing, Ran, AreOutputs}
 
 mac_sum_same : (c c' x x' : ℕ → ℤ) (n : ℕ) → ((k : ℕ) → k < n → c k ≡ c' k) → ((k : ℕ) → k < n → x k ≡ x' k)
     → l_mac_sum c x n ≡ l_mac_sum c' x' n
@@ -51,26 +51,31 @@ module _ (p : List ℤ) (h : History) (xs cs line : List ℤ) (d : ℕ)
       ∙ ap round_of (mac_sum_same _ _ _ _ (d + 1) c x)
       ∙ ap (λ n. round_of (l_mac_sum (word_at cs) (λ k. word_at line (length cs - 1 + i - k)) n)) (sym taps)
 
-  module _ (ys : List ℤ) (many : length ys ≡ length xs)
-      (values : (i : ℕ) → i < length xs → word_at ys i ≡ filtered_at cs line i) where
-    outputs_at : (i : ℕ) → i ≤ length xs → fir_outputs p (upto h xs i) ≡ fir_outputs p h ++ take i ys
-    outputs_at zero b = sym (append-nil (fir_outputs p h))
-    outputs_at (suc i) b =
-        let e = with_samples-take h xs i (omega arith) in
-        let v : fir_output p (upto h xs (suc i)) ≡ word_at ys i = value_is i (omega arith) ∙ sym (values i (omega arith)) in
-        let w = rw e at v in
-        let t : take (suc i) ys ≡ take i ys ++ word_at ys i ∷ [] = take-suc ys i (pos 0) (omega arith) in
-        rw (e, outputs_at i (omega arith), w, t, append_assoc)
+  -- what a kernel gives for samples of the block are the outputs there
+  pub outputs_are : (ys : List ℤ) (first step : ℕ) → ((i : ℕ) → i < length ys → first + step * i < length xs)
+      → ((i : ℕ) → i < length ys → word_at ys i ≡ filtered_at cs line (first + step * i)) → AreOutputs p h xs first step ys
+  outputs_are ys first step reach values i b = values i b ∙ sym (value_is (first + step * i) (reach i b))
 
-    whole : upto h xs (length xs) ≡ with_samples h xs
-    whole = with_samples-whole h xs
+  pub ran : (new : List ℤ) → All (FitsSigned w16) xs → KeepsRing (length p) (with_samples h xs) new → Ran p h xs new
+  ran new fit keeps = record {
+    samples = fit;
+    ring = keeps;
+    coefficients = ap (words_in_force p) (sym (with_samples-whole h xs)) ∙ in_force_at (length xs) (omega arith);
+  }
 
-    pub runs : (new : List ℤ) → All (FitsSigned w16) xs → KeepsRing (length p) (with_samples h xs) new → Ran p h xs new ys
-    runs new fit keeps = record {
-      samples = fit;
-      ring = keeps;
-      coefficients = ap (words_in_force p) (sym whole) ∙ in_force_at (length xs) (omega arith);
-      outputs =
-          let all : take (length xs) ys ≡ ys = rw (← many) (take-length ys) in
-          ap (fir_outputs p) (sym whole) ∙ outputs_at (length xs) (omega arith) ∙ ap (λ t. fir_outputs p h ++ t) all;
-    }
+-- with an output at each sample, these are all that the block gives
+module _ (p : List ℤ) (h : History) (xs ys : List ℤ) (many : length ys ≡ length xs) (outputs : AreOutputs p h xs 0 1 ys) where
+  outputs_at : (i : ℕ) → i ≤ length xs → fir_outputs p (upto h xs i) ≡ fir_outputs p h ++ take i ys
+  outputs_at zero b = sym (append-nil (fir_outputs p h))
+  outputs_at (suc i) b =
+      let e = with_samples-take h xs i (omega arith) in
+      let at : suc (0 + 1 * i) ≡ suc i = omega arith in
+      let v : fir_output p (upto h xs (suc i)) ≡ word_at ys i = sym (outputs i (omega arith) ∙ ap (λ n. fir_output p (upto h xs n)) at) in
+      let w = rw e at v in
+      let t : take (suc i) ys ≡ take i ys ++ word_at ys i ∷ [] = take-suc ys i (pos 0) (omega arith) in
+      rw (e, outputs_at i (omega arith), w, t, append_assoc)
+
+  pub every_output : fir_outputs p (with_samples h xs) ≡ fir_outputs p h ++ ys
+  every_output =
+      let all : take (length xs) ys ≡ ys = rw (← many) (take-length ys) in
+      ap (fir_outputs p) (sym (with_samples-whole h xs)) ∙ outputs_at (length xs) (omega arith) ∙ ap (λ t. fir_outputs p h ++ t) all

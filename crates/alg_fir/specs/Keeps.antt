@@ -1,12 +1,12 @@
 -- How the words of an instance keep its history.
-use Rattle.std.specs.Prelude.{ℕ, ℤ, pos, ◌≡◌, ◌+◌, ◌-◌, ◌*◌, ◌≤◌, List, ◌++◌, length, take, FitsSigned}
+use Rattle.std.specs.Prelude.{ℕ, suc, ℤ, pos, ◌≡◌, ◌+◌, ◌-◌, ◌*◌, ◌≤◌, ◌<◌, List, length, take, FitsSigned}
 use Rattle.std.specs.List.{All}
 use Rattle.std.specs.Int.{w16}
 use Rattle.ialg.specs.declared.TheConstants.{BLOCK_SAMPLES}
 use Rattle.ialg.specs.History.{History, word_at, past, words_in_force, with_samples, IsWordHistory}
 use Rattle.fir_kernel.specs.declared.TheConstants.{MOST_COEFFICIENTS}
 use Rattle.fir_kernel.specs.Rings.{IsRing}
-use Rattle.alg_fir.specs.Equation.{fir_outputs}
+use Rattle.alg_fir.specs.Equation.{fir_output}
 
 -- the kind word of a filter's object
 abbrev pub fir_kind : ℤ
@@ -19,9 +19,9 @@ pub record KeepsCoefficients (p : List ℤ) (h : History) (kept : List ℤ) : Ty
   pub size : length kept ≡ 2 * length p - 1
   pub coefficients : take (length p) kept ≡ words_in_force p h
 
--- behind the coefficients the words have the past samples, the newest last
-pub record KeepsPast (p : List ℤ) (h : History) (kept : List ℤ) : Type 0 where
-  pub samples : (j k : ℕ) → j + k + 2 ≡ length p → word_at kept (length p + j) ≡ past h k
+-- from word `from` on the words have the past samples of a filter of `taps` coefficients, the newest last
+abbrev pub KeepsPast : ℕ → ℕ → History → List ℤ → Type 0
+KeepsPast taps from h kept = (j k : ℕ) → j + k + 2 ≡ taps → word_at kept (from + j) ≡ past h k
 
 -- all words but the last are a ring of the past samples of a filter of `taps` coefficients, and the last word is the place of
 -- the next sample
@@ -31,18 +31,22 @@ pub record KeepsRing (taps : ℕ) (h : History) (words : List ℤ) : Type 0 wher
   pub last : word_at words (length words - 1) ≡ pos place
   pub ring : IsRing (taps - 1) (length words - 1) words place h
 
--- a block of 16-bit samples was run: the ring keeps the longer history, and the outputs are those of the longer history less those before
-pub record Ran (p : List ℤ) (h : History) (block new ys : List ℤ) : Type 0 where
+-- a block of 16-bit samples was run: the ring keeps the longer history, and the same coefficients are in force
+pub record Ran (p : List ℤ) (h : History) (block new : List ℤ) : Type 0 where
   pub ring : KeepsRing (length p) (with_samples h block) new
   pub samples : All (FitsSigned w16) block
   pub coefficients : words_in_force p (with_samples h block) ≡ words_in_force p h
-  pub outputs : fir_outputs p (with_samples h block) ≡ fir_outputs p h ++ ys
+
+-- the values are the outputs at sample `first` of a block, and at each `step`-th sample after it
+abbrev pub AreOutputs : List ℤ → History → List ℤ → ℕ → ℕ → List ℤ → Type 0
+AreOutputs p h block first step ys = (i : ℕ) → i < length ys
+    → word_at ys i ≡ fir_output p (with_samples h (take (suc (first + step * i)) block))
 
 -- while an instance is idle
 pub record Rests (p : List ℤ) (h : History) (kept : List ℤ) : Type 0 where
   pub history : IsWordHistory h
   pub coefficients : KeepsCoefficients p h kept
-  pub past : KeepsPast p h kept
+  pub past : KeepsPast (length p) (length p) h kept
 
 -- while it is active
 pub record Runs (p : List ℤ) (h : History) (kept running : List ℤ) : Type 0 where

@@ -1,22 +1,15 @@
 //! The filter `Fir`: what the words of its records keep of a history.
-ghost use Rattle.std.specs.Prelude.{◌≡◌, ◌≤◌, ◌+◌, ◌-◌, ◌*◌, ◌<◌, ◌∷◌, ℕ, ℤ, [], List, length};
-ghost use Rattle.ialg.specs.History.{History, words_in_force};
-ghost use Rattle.fir_kernel.specs.Rings.{IsRing};
-ghost use Rattle.alg_fir.specs.Keeps.{fir_kind, Ran, Rests, Runs};
+ghost use Rattle.std.specs.Prelude.{◌≡◌, ◌≤◌, ◌-◌, ◌*◌, ℕ, length};
+ghost use Rattle.alg_fir.specs.Keeps.{fir_kind, Rests, Runs};
 ghost use Rattle.alg_fir.specs.Meaning.{fir_filter};
 
+use crate::delay::{MOST_RING_WORDS, Taken, refill, run_block};
 use crate::{FIR_KIND, LINE_ALIGNMENT};
-use fir_kernel::{MOST_COEFFICIENTS, enter, filter, named_place, unroll};
+use fir_kernel::{MOST_COEFFICIENTS, named_place, unroll};
 use ialg::{
     BLOCK_SAMPLES, Block, Ctl, Filter, FilterMemory, PARAMETER_WORDS, Words, clear, copied,
-    overwrite, place,
+    overwrite,
 };
-
-/// The most words of a delay line.
-const MOST_RING_WORDS: usize = MOST_COEFFICIENTS - 1 + BLOCK_SAMPLES;
-
-/// The words of a line of past samples and a block, with a run of taps at its end.
-const LINE_WORDS: usize = MOST_COEFFICIENTS + BLOCK_SAMPLES;
 
 /// A finite impulse response filter. Its parameters are its 1 to 64 coefficients in Q15, that of the newest sample
 /// first; it gives one output per sample, rounded and saturated as G.191's operators do.
@@ -56,10 +49,8 @@ impl Filter for Fir {
 
     fn restore(kept: &[i16], ring: &mut [i16]) {
         let n = count_of(kept);
-        if n <= MOST_COEFFICIENTS && n <= kept.len() && kept.len() - n + 1 < ring.len() {
-            place(ring, 0, &kept[n..]);
-            let last = ring.len() - 1;
-            ring[last] = (n - 1) as i16;
+        if n <= kept.len() {
+            refill(&kept[n..], ring);
         }
     }
 
@@ -72,7 +63,12 @@ impl Filter for Fir {
             && ring.len() <= MOST_RING_WORDS
             && next + 1 < ring.len()
         {
-            run_block(&kept[..n], ring, next, input, out);
+            let every = Taken {
+                first: 0,
+                step: 1,
+                count: input.len(),
+            };
+            run_block(&kept[..n], ring, next, input, every, out);
         }
     }
 
@@ -119,30 +115,4 @@ fn count_of(kept: &[i16]) -> usize
     ensures some { 1 ≤ result }
 {
     kept.len() / 2 + 1
-}
-
-/// Runs the filter over a block: past samples and block are laid out in a line, and then the block enters the ring.
-fn run_block(coefficients: &[i16], ring: &mut [i16], next: usize, input: &[i16], out: &mut Block)
-    requires some { 1 ≤ length coefficients.now }
-    requires few { length coefficients.now ≤ MOST_COEFFICIENTS }
-    requires room { length coefficients.now ≤ length ring.old }
-    requires small { length ring.old ≤ MOST_RING_WORDS }
-    requires next { next + 1 < length ring.old }
-    requires within { length input.now ≤ BLOCK_SAMPLES }
-    requires empty { out.old.items ≡ [] }
-    ensures bounded { length out.new.items ≡ length input.now }
-    ensures law { (p : List ℤ) (h : History) → coefficients.now ≡ words_in_force p h
-        → length coefficients.now ≡ length p → length ring.old ≡ length p - 1 + BLOCK_SAMPLES
-        → IsRing (length p - 1) (length ring.old - 1) ring.old next h
-        → Ran p h input.now ring.new out.new.items }
-{
-    let past = coefficients.len() - 1;
-    let size = ring.len() - 1;
-    let mut line = [0; LINE_WORDS];
-    unroll(ring, size, next, past, &mut line, 0);
-    place(&mut line, past, input);
-    let _fits = out.try_extend_from_slice(input);
-    filter(coefficients, &line, out.as_mut_slice());
-    let after = enter(ring, size, next, input);
-    ring[size] = after as i16;
 }

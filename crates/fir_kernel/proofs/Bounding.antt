@@ -27,8 +27,8 @@ front_silent words m j e = elim (cases_lt j m) [
 module _ (cs taps line : List ℤ) (m n : ℕ) (some : 1 ≤ length cs) (few : length cs ≤ m)
     (reversed : (j k : ℕ) → j + k + 1 ≡ length cs → word_at taps j ≡ word_at cs k)
     (rest : (j : ℕ) → length cs ≤ j → word_at taps j ≡ pos 0)
-    (bounded : IsBounded cs (take (length cs - 1 + n) line)) where
-  pub bounded_output : (i : ℕ) (s y : ℤ) → i < n → s ≡ int_wrap w32 (product_sum (word_at (take m taps)) (λ j. word_at line (i + j)) m)
+    (bounded : IsBounded cs (take (n + length cs) line)) where
+  pub bounded_output : (i : ℕ) (s y : ℤ) → i ≤ n → s ≡ int_wrap w32 (product_sum (word_at (take m taps)) (λ j. word_at line (i + j)) m)
       → y ≡ round_of (l_add_of s s) → y ≡ filtered_at cs line i
   bounded_output i s y b e f =
       let x : ℕ → ℤ = λ k. word_at line (length cs - 1 + i - k) in
@@ -43,7 +43,7 @@ module _ (cs taps line : List ℤ) (m n : ℕ) (some : 1 ≤ length cs) (few : l
       let sum : s ≡ int_wrap w32 (product_sum (word_at cs) x (length cs)) = e ∙ ap (λ d. int_wrap w32 (product_sum c' x' d)) whole ∙ ap (int_wrap w32) (short ∙ turned) in
       let quiet : (k : ℕ) → k < length cs → unsigned_abs (x k) ≤ bounded.0 =
       λ k h.
-      let a : length cs - 1 + i - k < length cs - 1 + n = omega arith in
-      let same : word_at (take (length cs - 1 + n) line) (length cs - 1 + i - k) ≡ x k = get_or-take (length cs - 1 + n) line (length cs - 1 + i - k) (pos 0) a in
+      let a : length cs - 1 + i - k < n + length cs = omega arith in
+      let same : word_at (take (n + length cs) line) (length cs - 1 + i - k) ≡ x k = get_or-take (n + length cs) line (length cs - 1 + i - k) (pos 0) a in
       rw same at (bounded.1 (length cs - 1 + i - k)) in
       f ∙ ap round_of (wrapped_sum_is (word_at cs) x bounded.0 (length cs) s quiet bounded.2 sum)

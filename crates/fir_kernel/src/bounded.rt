@@ -1,5 +1,5 @@
 //! The filter where no sum can saturate: plain sums, in whatever order the vector registers take the products.
-ghost use Rattle.std.specs.Prelude.{◌≡◌, ◌↔◌, ◌<◌, ◌≤◌, ◌+◌, ◌-◌, ◌%◌, ◌+ℤ◌, ◌*ℤ◌, ℕ, length, take, IsTrue};
+ghost use Rattle.std.specs.Prelude.{◌≡◌, ◌↔◌, ◌<◌, ◌≤◌, ◌+◌, ◌*◌, ◌%◌, ◌+ℤ◌, ◌*ℤ◌, ℕ, length, take, IsTrue};
 ghost use Rattle.std.specs.Int.{int_wrap, w32};
 ghost use Rattle.basic_op.specs.Operators.{l_add_of, round_of};
 ghost use Rattle.ialg.specs.History.{word_at};
@@ -45,22 +45,31 @@ fn loudest(samples: &[i16]) -> u16
     loudest
 }
 
-/// Runs the filter over the block in `line`, behind as many past samples as there are coefficients but one, where no
-/// sum can saturate. Behind the block `line` has words of any value, which no coefficient reaches.
-pub(crate) fn filter_bounded(coefficients: &[i16], line: &[i16], out: &mut [i16])
+/// Runs the filter as [`filter`](crate::filter) does, where no sum can saturate over the samples up to `last`. There is
+/// no output for a later one.
+pub(crate) fn filter_bounded(
+    coefficients: &[i16],
+    line: &[i16],
+    first: usize,
+    step: usize,
+    last: usize,
+    out: &mut [i16],
+)
     requires some { 1 ≤ length coefficients.now }
     requires few { length coefficients.now ≤ MOST_COEFFICIENTS }
-    requires reach { length out.old + MOST_COEFFICIENTS ≤ length line.now + 1 }
+    requires reach { (i : ℕ) → i < length out.old → first + step * i + MOST_COEFFICIENTS ≤ length line.now }
     requires block { length out.old ≤ BLOCK_SAMPLES }
-    requires bounded { IsBounded coefficients.now (take (length coefficients.now - 1 + length out.old) line.now) }
-    ensures { (i : ℕ) → i < length out.old → word_at out.new i ≡ filtered_at coefficients.now line.now i }
+    requires last { (i : ℕ) → i < length out.old → first + step * i ≤ last }
+    requires bounded { IsBounded coefficients.now (take (last + length coefficients.now) line.now) }
+    ensures { (i : ℕ) → i < length out.old
+        → word_at out.new i ≡ filtered_at coefficients.now line.now (first + step * i) }
 {
     let mut taps = [0; MOST_COEFFICIENTS];
     reverse(coefficients, &mut taps);
     let runs = if coefficients.len() <= LANES { 1 } else { 2 };
     let mut block = [0; BLOCK_SAMPLES];
     let (sums, _unused) = block.split_at_mut(out.len());
-    sum_windows(&taps[..LANES * runs], line, sums);
+    sum_windows(&taps[..LANES * runs], line, first, step, sums);
     round_doubled(sums, out);
 }
 
@@ -76,16 +85,17 @@ fn reverse(coefficients: &[i16], taps: &mut [i16])
     }
 }
 
-/// The sum of the products of all taps with each window of the line: sum `i` is that of the window that begins at
-/// word `i`.
-fn sum_windows(taps: &[i16], line: &[i16], sums: &mut [i32])
+/// The sums of the products of all taps with windows of the line: sum `i` is that of the window that begins at word
+/// `first + step * i`.
+fn sum_windows(taps: &[i16], line: &[i16], first: usize, step: usize, sums: &mut [i32])
     requires whole { length taps.now % LANES ≡ 0 }
-    requires reach { length sums.old + length taps.now ≤ length line.now + 1 }
+    requires reach { (i : ℕ) → i < length sums.old → first + step * i + length taps.now ≤ length line.now }
     ensures { (i : ℕ) → i < length sums.old → word_at sums.new i ≡ int_wrap w32
-        (product_sum (word_at taps.now) (λ j. word_at line.now (i + j)) (length taps.now)) }
+        (product_sum (word_at taps.now) (λ j. word_at line.now (first + step * i + j)) (length taps.now)) }
 {
     for (i, sum) in sums.iter_mut().enumerate() {
-        *sum = dot(taps, &line[i..i + taps.len()]);
+        let from = first + step * i;
+        *sum = dot(taps, &line[from..from + taps.len()]);
     }
 }
 

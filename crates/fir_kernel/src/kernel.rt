@@ -1,5 +1,5 @@
 //! The filter over plain words: a line of past samples and a block, the newest sample last.
-ghost use Rattle.std.specs.Prelude.{negsuc, unsigned_abs, ◌≡◌, ◌<◌, ◌≤◌, ◌+◌, ◌-◌, ℕ, length};
+ghost use Rattle.std.specs.Prelude.{negsuc, unsigned_abs, ◌≡◌, ◌<◌, ◌≤◌, ◌+◌, ◌-◌, ◌*◌, ℕ, length};
 ghost use Rattle.basic_op.specs.Operators.{l_mac_of, l_mult_of, round_of};
 ghost use Rattle.ialg.specs.History.{word_at};
 ghost use Rattle.fir_kernel.specs.Sums.{filtered_at, l_mac_sum};
@@ -9,48 +9,102 @@ use crate::bounded::{filter_bounded, is_bounded, product};
 use basic_op::{l_add, l_mac, round};
 use ialg::BLOCK_SAMPLES;
 
-/// Runs the filter over the block in `line`, behind as many past samples as there are coefficients but one. Behind the
-/// block `line` has words of any value, so that a run of taps never ends past it. Coefficients are in Q15, and there is
-/// one output for each sample of the block.
-pub fn filter(coefficients: &[i16], line: &[i16], out: &mut [i16])
+/// Runs the filter over the block in `line`, behind as many past samples as there are coefficients but one, for the
+/// samples `first`, `first + step`, `first + 2 * step`, .. of the block, as many as there are outputs. Coefficients are
+/// in Q15. Behind the block `line` has words of any value, so that a run of taps never ends past it.
+pub fn filter(coefficients: &[i16], line: &[i16], first: usize, step: usize, out: &mut [i16])
     requires some { 1 ≤ length coefficients.now }
     requires few { length coefficients.now ≤ MOST_COEFFICIENTS }
-    requires reach { length out.old + MOST_COEFFICIENTS ≤ length line.now + 1 }
+    requires reach { (i : ℕ) → i < length out.old → first + step * i + MOST_COEFFICIENTS ≤ length line.now }
     requires block { length out.old ≤ BLOCK_SAMPLES }
-    ensures { (i : ℕ) → i < length out.old → word_at out.new i ≡ filtered_at coefficients.now line.now i }
+    ensures { (i : ℕ) → i < length out.old
+        → word_at out.new i ≡ filtered_at coefficients.now line.now (first + step * i) }
 {
-    if is_bounded(coefficients, &line[..coefficients.len() - 1 + out.len()]) {
-        filter_bounded(coefficients, line, out);
+    if out.is_empty() {
+        return;
+    }
+    let last = first + step * (out.len() - 1);
+    if is_bounded(coefficients, &line[..last + coefficients.len()]) {
+        filter_bounded(coefficients, line, first, step, last, out);
     } else {
-        filter_exact(coefficients, line, out);
+        filter_exact(coefficients, line, first, step, out);
     }
 }
 
 /// Runs the filter where a sum may saturate.
-fn filter_exact(coefficients: &[i16], line: &[i16], out: &mut [i16])
+fn filter_exact(coefficients: &[i16], line: &[i16], first: usize, step: usize, out: &mut [i16])
     requires some { 1 ≤ length coefficients.now }
-    requires reach { length coefficients.now + length out.old ≤ length line.now + 1 }
+    requires outputs { 1 ≤ length out.old }
+    requires reach { (i : ℕ) → i < length out.old → first + step * i + length coefficients.now ≤ length line.now }
     requires block { length out.old ≤ BLOCK_SAMPLES }
-    ensures { (i : ℕ) → i < length out.old → word_at out.new i ≡ filtered_at coefficients.now line.now i }
+    ensures { (i : ℕ) → i < length out.old
+        → word_at out.new i ≡ filtered_at coefficients.now line.now (first + step * i) }
 {
     let mut block = [0; BLOCK_SAMPLES];
     let (sums, _unused) = block.split_at_mut(out.len());
-    sum_products(coefficients, line, sums);
+    sum_outputs(coefficients, line, first, step, sums);
     round_sums(sums, out);
 }
 
-/// The sums of all outputs, in Q31. Taps are outside and outputs inside: each sum takes its products in the filter's
-/// order and saturates after each, while the sums of a block run side by side in vector registers.
-fn sum_products(coefficients: &[i16], line: &[i16], sums: &mut [i32])
+/// The sums of all outputs, in Q31.
+fn sum_outputs(coefficients: &[i16], line: &[i16], first: usize, step: usize, sums: &mut [i32])
     requires some { 1 ≤ length coefficients.now }
-    requires reach { length coefficients.now + length sums.old ≤ length line.now + 1 }
+    requires outputs { 1 ≤ length sums.old }
+    requires reach { (i : ℕ) → i < length sums.old → first + step * i + length coefficients.now ≤ length line.now }
+    requires block { length sums.old ≤ BLOCK_SAMPLES }
     ensures { (i : ℕ) → i < length sums.old → word_at sums.new i ≡ l_mac_sum (word_at coefficients.now)
-        (λ k. word_at line.now (length coefficients.now - 1 + i - k)) (length coefficients.now) }
+        (λ k. word_at line.now (length coefficients.now - 1 + (first + step * i) - k)) (length coefficients.now) }
+{
+    if step == 1 {
+        sum_products(coefficients, line, first, sums);
+    } else {
+        sum_gathered(coefficients, line, first, step, sums);
+    }
+}
+
+/// The sums of neighbouring outputs, that at sample `first` first. Taps are outside and outputs inside: each sum
+/// takes its products in the filter's order and saturates after each, while the sums of a block run side by side in
+/// vector registers.
+fn sum_products(coefficients: &[i16], line: &[i16], first: usize, sums: &mut [i32])
+    requires some { 1 ≤ length coefficients.now }
+    requires reach { first + length coefficients.now + length sums.old ≤ length line.now + 1 }
+    ensures { (i : ℕ) → i < length sums.old → word_at sums.new i ≡ l_mac_sum (word_at coefficients.now)
+        (λ k. word_at line.now (length coefficients.now - 1 + (first + i) - k)) (length coefficients.now) }
 {
     sums.fill(0);
     for (k, coefficient) in coefficients.iter().enumerate() {
-        let oldest = coefficients.len() - 1 - k;
+        let oldest = first + (coefficients.len() - 1 - k);
         add_products(*coefficient, &line[oldest..oldest + sums.len()], sums);
+    }
+}
+
+/// The sums of outputs `step` samples apart, as [`sum_products`] does. The samples of a tap are gathered first, so that
+/// they too are side by side.
+fn sum_gathered(coefficients: &[i16], line: &[i16], first: usize, step: usize, sums: &mut [i32])
+    requires some { 1 ≤ length coefficients.now }
+    requires reach { (i : ℕ) → i < length sums.old → first + step * i + length coefficients.now ≤ length line.now }
+    requires block { length sums.old ≤ BLOCK_SAMPLES }
+    ensures { (i : ℕ) → i < length sums.old → word_at sums.new i ≡ l_mac_sum (word_at coefficients.now)
+        (λ k. word_at line.now (length coefficients.now - 1 + (first + step * i) - k)) (length coefficients.now) }
+{
+    let mut block = [0; BLOCK_SAMPLES];
+    let (samples, _unused) = block.split_at_mut(sums.len());
+    sums.fill(0);
+    for (k, coefficient) in coefficients.iter().enumerate() {
+        let oldest = coefficients.len() - 1 - k;
+        gather(line, first, step, oldest, samples);
+        add_products(*coefficient, samples, sums);
+    }
+}
+
+/// Copies the samples that stand `on` behind `first`, `first + step`, .. of the line.
+fn gather(line: &[i16], first: usize, step: usize, on: usize, samples: &mut [i16])
+    requires { (i : ℕ) → i < length samples.old → first + step * i + on < length line.now }
+    ensures { (i : ℕ) → i < length samples.old
+        → word_at samples.new i ≡ word_at line.now (first + step * i + on) }
+{
+    for (i, sample) in samples.iter_mut().enumerate() {
+        *sample = line[first + step * i + on];
     }
 }
 

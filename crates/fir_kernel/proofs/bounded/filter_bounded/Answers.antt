@@ -19,7 +19,8 @@ returns c i b =
     ] in
     let all : length taps ≡ 64 = c.reverse.auto.taps in
     let front : length (take m taps) ≡ m = simp length-take (omega arith) in
-    bounded_output cs taps line m (length c.args.out.now) c.requires.some size.0
-    c.reverse.ensures.reversed (λ j h. c.reverse.ensures.rest j h ∙ zeros_at 64 j) c.requires.bounded i _ _ b
-    (c.sum_windows.ensures i (omega arith) ∙ ap (λ n. int_wrap w32 (product_sum (word_at (take m taps)) (λ j. word_at line (i + j)) n)) front)
+    let at = c.args.first + c.args.step * i in
+    bounded_output cs taps line m c.args.last c.requires.some size.0
+    c.reverse.ensures.reversed (λ j h. c.reverse.ensures.rest j h ∙ zeros_at 64 j) c.requires.bounded at _ _ (c.requires.last i b)
+    (c.sum_windows.ensures i (omega arith) ∙ ap (λ n. int_wrap w32 (product_sum (word_at (take m taps)) (λ j. word_at line (at + j)) n)) front)
     (c.round_doubled.ensures i b)

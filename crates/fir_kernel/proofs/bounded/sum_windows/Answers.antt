@@ -1,4 +1,4 @@
-use Rattle.std.proofs.Common.{◌≡◌, ◌≢◌, ◌<◌, ◌+◌, ◌-◌, ◌∙◌, ℕ, ℤ, List, length, take, drop, FitsSigned, rules, w32, arith, ap, refl, below_more, get_or-set_other, get_or-set_same}
+use Rattle.std.proofs.Common.{◌≡◌, ◌≢◌, ◌<◌, ◌+◌, ◌*◌, ◌-◌, ◌∙◌, ℕ, ℤ, List, length, take, drop, FitsSigned, rules, w32, arith, ap, refl, below_more, get_or-set_other, get_or-set_same}
 use Rattle.std.specs.Int.{int_wrap}
 use Rattle.std.proofs.lemmas.Int.{to_z-of_z}
 use Rattle.std.proofs.Math.ListN.{set}
@@ -8,20 +8,21 @@ use Rattle.fir_kernel.proofs.Parts.{part_at}
 use Rattle.fir_kernel.proofs.Sums.{product_sum-same}
 use Rattle.fir_kernel.proofs.bounded.sum_windows.Goals as goal
 
--- the sum at i was written
-written : (taps line sums : List ℤ) (i n : ℕ) (r : ℤ) → i < length sums
-    → ((k : ℕ) → k < i → word_at sums k ≡ int_wrap w32 (product_sum (word_at taps) (λ j. word_at line (k + j)) n))
-    → r ≡ int_wrap w32 (product_sum (word_at taps) (word_at (take (i + n - i) (drop i line))) n)
-    → (k : ℕ) → k < i + 1 → word_at (set sums i r) k ≡ int_wrap w32 (product_sum (word_at taps) (λ j. word_at line (k + j)) n)
-written taps line sums i n r b before e =
+-- the sum at i was written: that of the window at `from i`
+written : (taps line sums : List ℤ) (from : ℕ → ℕ) (i n : ℕ) (r : ℤ) → i < length sums
+    → ((k : ℕ) → k < i → word_at sums k ≡ int_wrap w32 (product_sum (word_at taps) (λ j. word_at line (from k + j)) n))
+    → r ≡ int_wrap w32 (product_sum (word_at taps) (word_at (take (from i + n - from i) (drop (from i) line))) n)
+    → (k : ℕ) → k < i + 1 → word_at (set sums i r) k ≡ int_wrap w32 (product_sum (word_at taps) (λ j. word_at line (from k + j)) n)
+written taps line sums from i n r b before e =
     below_more _ _
     (λ k h. let ne : k ≢ i = omega arith in rw get_or-set_other (before k h))
-    (rw get_or-set_same (e ∙ ap (int_wrap w32) (product_sum-same (word_at taps) (word_at taps) (word_at (take (i + n - i) (drop i line))) (λ j. word_at line (i + j)) n
-    (λ k h. refl) (λ k h. part_at line i (i + n) k (omega arith)))))
+    (rw get_or-set_same (e ∙ ap (int_wrap w32) (product_sum-same (word_at taps) (word_at taps) (word_at (take (from i + n - from i) (drop (from i) line))) (λ j. word_at line (from i + j)) n
+    (λ k h. refl) (λ k h. part_at line (from i) (from i + n) k (omega arith)))))
 
 pub loop-i-preserved : goal.loop-i-preserved
 loop-i-preserved c =
     let r = c.dot.result in
     let f : FitsSigned w32 r = search rules in
     let b : c.loop-i.i < length c.loop-i.sums = omega arith in
-    rw (to_z-of_z w32 r f) (written c.args.taps.now c.args.line.now c.loop-i.sums c.loop-i.i (length c.args.taps.now) r b c.loop-i.invariant c.dot.ensures)
+    let from : ℕ → ℕ = λ k. c.args.first + c.args.step * k in
+    rw (to_z-of_z w32 r f) (written c.args.taps.now c.args.line.now c.loop-i.sums from c.loop-i.i (length c.args.taps.now) r b c.loop-i.invariant c.dot.ensures)

@@ -23,7 +23,5 @@ returns-then-next-ring c p h runs =
     record {
       history = runs.history;
       coefficients = coefficients_stay p h kept c.unroll.new.line n b c.unroll.auto.line c.unroll.ensures.before coefficients;
-      past = record {
-        samples = λ j k b. ap (λ m. word_at c.unroll.new.line (m + j)) (sym e) ∙ c.unroll.ensures.samples h ring j k (omega arith);
-      };
+      past = λ j k b. ap (λ m. word_at c.unroll.new.line (m + j)) (sym e) ∙ c.unroll.ensures.samples h ring j k (omega arith);
     }

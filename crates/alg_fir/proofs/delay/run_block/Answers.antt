@@ -3,11 +3,11 @@ use Rattle.std.proofs.Math.ListN.{set}
 use Rattle.std.proofs.lemmas.Int.{to_z_pos}
 use Rattle.ialg.specs.History.{word_at, past, with_samples}
 use Rattle.fir_kernel.specs.Rings.{IsRing}
-use Rattle.alg_fir.specs.Keeps.{Ran}
-use Rattle.alg_fir.proofs.Steps.{runs}
+use Rattle.alg_fir.specs.Keeps.{AreOutputs}
+use Rattle.alg_fir.proofs.Steps.{ran, outputs_are}
 use Rattle.alg_fir.proofs.Words.{first_is}
 use Rattle.alg_fir.proofs.Rings.{placed_at}
-use Rattle.alg_fir.proofs.filter.run_block.Goals as goal
+use Rattle.alg_fir.proofs.delay.run_block.Goals as goal
 
 pub returns-clause-law : goal.returns-clause-law
 returns-clause-law c p h in_force taps size ring =
@@ -20,7 +20,7 @@ returns-clause-law c p h in_force taps size ring =
     let entered = c.enter-after.new.words in
     let after = c.enter-after.result in
     let some = c.requires.some in
-    let long : length room ≡ length xs = search rules in
+    let long : length room ≡ c.args.taken.count = search rules in
     let d = length cs - 1 in
     let count : length cs ≡ d + 1 = omega arith in
     let coefficients : length p ≡ d + 1 = omega arith in
@@ -38,6 +38,9 @@ returns-clause-law c p h in_force taps size ring =
     let new = set entered (length words - 1) (to_z w16 after) in
     let small : to_z w16 after ≡ pos after = to_z_pos w16 after (omega arith) in
     let keeps = placed_at (length p) (with_samples h xs) entered after (length words - 1) (to_z w16 after) last small (all ∙ size) after_ring in
-    let P : List ℤ → Type 0 = λ zs. Ran p h xs new zs in
-    subst P (sym (first_is ys room many))
-    (runs p h xs cs line d coefficients count in_force before c.place.ensures.copied ys (many ∙ long) (λ i b. c.filter.ensures i (omega arith)) new c.place.ensures.read keeps)
+    let P : List ℤ → Type 0 = λ zs. AreOutputs p h xs c.args.taken.first c.args.taken.step zs in (
+      ran p h xs cs line d coefficients count in_force before c.place.ensures.copied new c.place.ensures.read keeps,
+      subst P (sym (first_is ys room many))
+          (outputs_are p h xs cs line d coefficients count in_force before c.place.ensures.copied ys c.args.taken.first c.args.taken.step
+          (λ i b. c.requires.reach i (omega arith)) (λ i b. c.filter.ensures i (omega arith))),
+    )

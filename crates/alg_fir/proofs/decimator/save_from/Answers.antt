@@ -1,0 +1,6 @@
+use Rattle.alg_fir.specs.DecimMeaning.{decim_records}
+use Rattle.alg_fir.specs.DecimKeeps.{decim_kind}
+use Rattle.alg_fir.proofs.decimator.save_from.Goals as goal
+
+pub returns-in_default-clause-past : goal.returns-in_default-clause-past
+returns-in_default-clause-past c taps h named some size ring = absurd (c.in_default.ensures.named decim_kind (decim_records taps) named)

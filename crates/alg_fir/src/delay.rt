@@ -1,0 +1,79 @@
+//! The delay line of a filter: a ring of past samples in scratch words, and in the last of them the place of the next
+//! sample.
+ghost use Rattle.std.specs.Prelude.{◌≡◌, ◌≤◌, ◌+◌, ◌-◌, ◌*◌, ◌<◌, ℕ, ℤ, [], List, length};
+ghost use Rattle.ialg.specs.History.{History, words_in_force};
+ghost use Rattle.fir_kernel.specs.Rings.{IsRing};
+ghost use Rattle.alg_fir.specs.Keeps.{AreOutputs, KeepsPast, KeepsRing, Ran};
+
+use fir_kernel::{MOST_COEFFICIENTS, enter, filter, unroll};
+use ialg::{BLOCK_SAMPLES, Block, place};
+
+/// The most words of a delay line.
+pub(crate) const MOST_RING_WORDS: usize = MOST_COEFFICIENTS - 1 + BLOCK_SAMPLES;
+
+/// The words of a line of past samples and a block, with a run of taps at its end.
+const LINE_WORDS: usize = MOST_COEFFICIENTS + BLOCK_SAMPLES;
+
+/// The samples of a block for which there is an output: the sample `first`, and each `step`-th after it.
+#[derive(Clone, Copy, PartialEq, Eq, Debug)]
+pub(crate) struct Taken {
+    pub first: usize,
+    pub step: usize,
+    /// How many samples these are.
+    pub count: usize,
+}
+
+/// Makes the ring from past samples, the newest last, whatever it was. A ring without room for them and one more stays
+/// as it is.
+pub(crate) fn refill(past: &[i16], ring: &mut [i16])
+    ensures { (taps : ℕ) (h : History) → length past.now + 1 ≡ taps → taps ≤ MOST_COEFFICIENTS
+        → length ring.old ≡ taps - 1 + BLOCK_SAMPLES → KeepsPast taps 0 h past.now → KeepsRing taps h ring.new }
+{
+    if past.len() < MOST_COEFFICIENTS && past.len() + 1 < ring.len() {
+        place(ring, 0, past);
+        let last = ring.len() - 1;
+        ring[last] = past.len() as i16;
+    }
+}
+
+/// Runs a filter over a block: past samples and block are laid out in a line, and then the block enters the ring, in
+/// which `next` is the place of the next sample.
+pub(crate) fn run_block(
+    coefficients: &[i16],
+    ring: &mut [i16],
+    next: usize,
+    input: &[i16],
+    taken: Taken,
+    out: &mut Block,
+)
+    requires some { 1 ≤ length coefficients.now }
+    requires few { length coefficients.now ≤ MOST_COEFFICIENTS }
+    requires room { length coefficients.now ≤ length ring.old }
+    requires small { length ring.old ≤ MOST_RING_WORDS }
+    requires next { next + 1 < length ring.old }
+    requires within { length input.now ≤ BLOCK_SAMPLES }
+    requires reach { (i : ℕ) → i < taken.count → taken.first + taken.step * i < length input.now }
+    requires count { taken.count ≤ length input.now }
+    requires empty { out.old.items ≡ [] }
+    ensures count { length out.new.items ≡ taken.count }
+    ensures law { (p : List ℤ) (h : History) → coefficients.now ≡ words_in_force p h
+        → length coefficients.now ≡ length p → length ring.old ≡ length p - 1 + BLOCK_SAMPLES
+        → IsRing (length p - 1) (length ring.old - 1) ring.old next h
+        → Ran p h input.now ring.new × AreOutputs p h input.now taken.first taken.step out.new.items }
+{
+    let past = coefficients.len() - 1;
+    let size = ring.len() - 1;
+    let mut line = [0; LINE_WORDS];
+    unroll(ring, size, next, past, &mut line, 0);
+    place(&mut line, past, input);
+    let _fits = out.try_extend_from_slice(&input[..taken.count]);
+    filter(
+        coefficients,
+        &line,
+        taken.first,
+        taken.step,
+        out.as_mut_slice(),
+    );
+    let after = enter(ring, size, next, input);
+    ring[size] = after as i16;
+}

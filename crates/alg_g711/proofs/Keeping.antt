@@ -1,0 +1,143 @@
+-- An instance in its records: what it keeps is the same idle and active, and a decoder finds the samples of the codes.
+use Rattle.std.proofs.Common.{◌≡◌, ℕ, zero, suc, ℤ, Option, List, [], length, Some, refl, sym, ap, ◌∙◌, lit<, lit≤, arith}
+use Rattle.mem_rec.specs.declared.MemRec.{MemRec}
+use Rattle.mem_rec.specs.declared.Space.TheVariants.{External}
+use Rattle.mem_rec.specs.declared.Attr.TheVariants.{Persist, WriteOnce}
+use Rattle.ialg.specs.declared.memory.Lent.{Lent}
+use Rattle.ialg.specs.History.{History, IsWordHistory}
+use Rattle.ialg.specs.Records.{record_at, words_of, unplaced, lasting, lasting_words, AreApart, AllLent, HoldFill}
+use Rattle.ialg.specs.Loans.{lent_words}
+use Rattle.ialg.specs.Objects.{Names, NamedAt}
+use Rattle.ialg.proofs.Tables.{words_of-lasting, lasting_at, lent_size, attr_of}
+use Rattle.alg_g711.specs.declared.TheConstants.{CODES}
+use Rattle.alg_g711.specs.declared.companding.Law.{Law}
+use Rattle.alg_g711.specs.declared.coder.Direction.{Direction}
+use Rattle.alg_g711.specs.declared.coder.Direction.TheVariants.{Encode, Decode}
+use Rattle.alg_g711.specs.declared.coder.Coder.{Coder}
+use Rattle.alg_g711.specs.Companding.{samples_of_codes}
+use Rattle.alg_g711.specs.Meaning.{coder_named, kind_word, records_of, table_of, fill_by, fill_of}
+use Rattle.alg_g711.specs.Keeps.{Keeps}
+
+once_lasts : (rs : List MemRec) (wss : List (List ℤ)) (k : ℕ) → (record_at rs k).attr ≡ WriteOnce
+    → words_of (lasting rs wss) k ≡ words_of wss k
+once_lasts rs wss k once = words_of-lasting rs wss k ∙ ap (λ a. lasting_words a (words_of wss k)) once
+
+-- the words that last keep what all words keep
+pub asleep : (p : List ℤ) (rs : List MemRec) (wss : List (List ℤ)) (h : History) → Keeps p rs wss h → Keeps p rs (lasting rs wss) h
+asleep p rs wss h keeps =
+    let object = lasting_at rs (records_of keeps.coder.direction) keeps.object.on_table wss 0 in
+    record {
+      coder = keeps.coder;
+      granted = keeps.granted;
+      object = rw object keeps.object;
+      samples = λ k once. once_lasts rs wss k once ∙ keeps.samples k once;
+      history = keeps.history;
+    }
+
+-- so do those that last by a table with other bases
+pub awake : (p : List ℤ) (before after : List MemRec) (wss : List (List ℤ)) (h : History) → unplaced before ≡ unplaced after
+    → Keeps p before (lasting after wss) h → Keeps p before wss h
+awake p before after wss h moved keeps =
+    let records : unplaced after ≡ records_of keeps.coder.direction = sym moved ∙ keeps.object.on_table in
+    let object = lasting_at after (records_of keeps.coder.direction) records wss 0 in
+    record {
+      coder = keeps.coder;
+      granted = keeps.granted;
+      object = rw object at keeps.object;
+      samples = λ k once.
+          let same = attr_of after (records_of keeps.coder.direction) records k ∙ sym (attr_of before (records_of keeps.coder.direction) keeps.object.on_table k) in
+          sym (once_lasts after wss k (same ∙ once)) ∙ keeps.samples k once;
+      history = keeps.history;
+    }
+
+-- the samples of the codes are found
+pub samples_named : (m : Lent) (law : Law) → Names (kind_word law Decode) (records_of Decode) m.table.now m.r0.now
+    → AreApart m.table.now → length m.r1.now ≡ CODES → NamedAt m External 1 (kind_word law Decode) (records_of Decode)
+samples_named m law names apart size = record {
+  names = names;
+  apart = apart;
+  not_the_object = lit≤ tt;
+  within = lit< tt;
+  few = lit≤ tt;
+  its_space = refl;
+  lent = omega arith;
+}
+
+-- a decoder finds them, and they are those of its law
+pub record Decodes (m : Lent) (law : Law) : Type 0 where
+  pub named : NamedAt m External 1 (kind_word law Decode) (records_of Decode)
+  pub samples : m.r1.now ≡ samples_of_codes law
+
+decoder_of : (p : List ℤ) (m : Lent) (coder : Coder) (law : Law) → coder_named p ≡ Some coder → coder.law ≡ law → coder.direction ≡ Decode
+    → Names (kind_word coder.law coder.direction) (records_of coder.direction) m.table.now m.r0.now
+    → HoldFill (fill_of (coder_named p)) m.table.now (lent_words m) → AllLent m.table.now (lent_words m) → Decodes m law
+decoder_of p m coder law granted is way object samples lent =
+    let names : Names (kind_word law Decode) (records_of Decode) m.table.now m.r0.now = rw (is, way) at object in
+    let once = attr_of m.table.now (records_of Decode) names.on_table 1 in
+    let all = lent_size m.table.now (records_of Decode) names.on_table (lent_words m) lent in
+    record {
+      named = samples_named m law names lent.apart (all 1);
+      samples = samples 1 once ∙ ap (λ o. fill_of o 1) granted ∙ rw (is, way) refl;
+    }
+
+pub decodes : (p : List ℤ) (m : Lent) (h : History) (law : Law) (keeps : Keeps p m.table.now (lent_words m) h)
+    → keeps.coder.law ≡ law → keeps.coder.direction ≡ Decode → AllLent m.table.now (lent_words m) → Decodes m law
+decodes p m h law keeps is way lent = decoder_of p m keeps.coder law keeps.granted is way keeps.object keeps.samples lent
+
+-- the same words after one more entry, or some
+pub goes_on : (p : List ℤ) (rs : List MemRec) (wss : List (List ℤ)) (h after : History) → IsWordHistory after → Keeps p rs wss h
+    → Keeps p rs wss after
+goes_on p rs wss h after words keeps =
+    record { coder = keeps.coder; granted = keeps.granted; object = keeps.object; samples = keeps.samples; history = words }
+
+-- ---- the object was written
+
+persistent : Persist ≡ WriteOnce → ⊥
+persistent e = cc
+
+-- a decoder's write-once record has the samples of the codes, and an encoder has none
+once_at : (law : Law) (direction : Direction) (wss : List (List ℤ)) (k : ℕ) → (record_at (records_of direction) k).attr ≡ WriteOnce
+    → (direction ≡ Decode → words_of wss 1 ≡ samples_of_codes law) → words_of wss k ≡ fill_by law direction k
+once_at law Encode wss zero once written = cc
+once_at law Encode wss (suc k) once written = cc
+once_at law Decode wss zero once written = cc
+once_at law Decode wss (suc zero) once written = written refl
+once_at law Decode wss (suc (suc k)) once written = cc
+
+-- the coder of a table that was granted
+pub granted_records : (asked : Option Coder) (coder : Coder) (t : List MemRec) → asked ≡ Some coder → table_of asked ≡ Some t
+    → t ≡ records_of coder.direction
+granted_records asked coder t e f = let g : table_of (Some coder) ≡ Some t = rw e at f in cc
+
+pub begun : (p : List ℤ) (rs : List MemRec) (wss : List (List ℤ)) (coder : Coder) → coder_named p ≡ Some coder
+    → unplaced rs ≡ records_of coder.direction
+    → Names (kind_word coder.law coder.direction) (unplaced rs) rs (words_of wss 0)
+    → (coder.direction ≡ Decode → words_of wss 1 ≡ samples_of_codes coder.law) → Keeps p rs wss []
+begun p rs wss coder granted records names written = record {
+  coder = coder;
+  granted = granted;
+  object = rw records at names;
+  samples = λ k once.
+      once_at coder.law coder.direction wss k (sym (attr_of rs (records_of coder.direction) records k) ∙ once) written
+      ∙ sym (ap (λ o. fill_of o k) granted);
+  history = tt;
+}
+
+-- the object names the records of a table with other bases
+module _ (p : List ℤ) (before after : List MemRec) (old new : List (List ℤ)) (h : History) (moved : unplaced before ≡ unplaced after) where
+  follows_at : (keeps : Keeps p before old h) → ((k : ℕ) → (0 ≡ k → ⊥) → words_of new k ≡ words_of old k) → (k : ℕ)
+      → (record_at after k).attr ≡ WriteOnce → words_of new k ≡ fill_of (coder_named p) k
+  follows_at keeps others zero once =
+      let e = attr_of after (records_of keeps.coder.direction) (sym moved ∙ keeps.object.on_table) 0 in
+      absurd (persistent (sym e ∙ once))
+  follows_at keeps others (suc k) once =
+      let e = attr_of after (records_of keeps.coder.direction) (sym moved ∙ keeps.object.on_table) (suc k) in
+      let f = attr_of before (records_of keeps.coder.direction) keeps.object.on_table (suc k) in
+      others (suc k) (λ z. omega arith) ∙ keeps.samples (suc k) (f ∙ sym e ∙ once)
+
+  pub follows : (keeps : Keeps p before old h)
+      → Names (kind_word keeps.coder.law keeps.coder.direction) (unplaced after) after (words_of new 0)
+      → ((k : ℕ) → (0 ≡ k → ⊥) → words_of new k ≡ words_of old k) → Keeps p after new h
+  follows keeps names others =
+      let records : unplaced after ≡ records_of keeps.coder.direction = sym moved ∙ keeps.object.on_table in
+      record { coder = keeps.coder; granted = keeps.granted; object = rw records at names; samples = follows_at keeps others; history = keeps.history }

@@ -1,0 +1,5 @@
+use Rattle.alg_g711.proofs.Computed.{middle}
+use Rattle.alg_g711.proofs.companding.middle_sample.Goals as goal
+
+pub overflow_sub-result : goal.overflow_sub-result
+overflow_sub-result c = rw (c.lower_end.ensures, c.step_width-width.ensures.width, c.in-Mu.is) (middle c.args.law c.args.number c.requires).biased

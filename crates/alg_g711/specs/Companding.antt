@@ -1,0 +1,76 @@
+-- Companding (G.711, 3.2): the code of a sample is that of the one interval that holds it, and the sample of a code is its
+-- interval's middle. Intervals are numbered from the least: sixteen steps in each of eight segments.
+use Rattle.std.specs.Prelude.{ℕ, zero, suc, ◌+◌, ◌-◌, ◌*◌, ◌/◌, ◌%◌, ◌^◌, min, Bool, ◌&&◌, nat_le, nat_lt, ℤ, pos, negsuc, neg_ℤ, find, unwrap_or, bit_xor, List, map, if◌then◌else◌}
+use Rattle.std.specs.Int.Signed.{mag}
+use Rattle.std.specs.List.{range_with_len}
+use Rattle.alg_g711.specs.declared.TheConstants.{INTERVALS, CODES}
+use Rattle.alg_g711.specs.declared.companding.Law.{Law}
+use Rattle.alg_g711.specs.declared.companding.Law.TheVariants.{A, Mu}
+
+-- ---- intervals
+
+-- how wide the steps of a segment are
+abbrev pub step_width : Law → ℕ → ℕ
+step_width A zero = 16
+step_width A (suc e) = 16 * 2 ^ e
+step_width Mu e = 2 ^ (e + 1)
+
+-- where step m of segment e begins
+abbrev pub step_start : Law → ℕ → ℕ → ℕ
+step_start A zero m = 16 * m
+step_start A (suc e) m = step_width A (suc e) * (16 + m)
+step_start Mu e m = step_width Mu e * (16 + m)
+
+abbrev pub lower_end : Law → ℕ → ℕ
+lower_end law number = step_start law (number / 16) (number % 16)
+
+abbrev pub width_of : Law → ℕ → ℕ
+width_of law number = step_width law (number / 16)
+
+abbrev pub holds : Law → ℕ → ℕ → Bool
+holds law magnitude number =
+    nat_le (lower_end law number) magnitude && nat_lt magnitude (lower_end law number + width_of law number)
+
+-- the one interval that holds the magnitude
+unfoldable pub interval_of : Law → ℕ → ℕ
+interval_of law magnitude = unwrap_or (find (holds law magnitude) (range_with_len 0 INTERVALS)) 0
+
+abbrev pub middle_of : Law → ℕ → ℕ
+middle_of law number = lower_end law number + width_of law number / 2
+
+-- ---- samples: `mag x` is x, and -1 - x where x is negative
+
+-- the magnitude that the intervals hold: mu-law has one of 13 bits, with a bias of 33
+abbrev pub magnitude_of : Law → ℤ → ℕ
+magnitude_of A x = mag x
+magnitude_of Mu x = min (mag x / 4 + 33) 8191
+
+-- and back
+abbrev pub sample_of : Law → ℕ → ℕ
+sample_of A magnitude = magnitude
+sample_of Mu magnitude = 4 * (magnitude - 33)
+
+-- ---- codes: bit 128 is set where the sample isn't negative
+
+-- the bits of an interval's number in its code, and the other way round: A-law turns the even bits, mu-law turns all
+abbrev pub turned : Law → ℕ → ℕ
+turned A bits = bit_xor bits 0x55
+turned Mu bits = 127 - bits
+
+abbrev pub encoded : Law → ℤ → ℕ
+encoded law (pos n) = 128 + turned law (interval_of law (magnitude_of law (pos n)))
+encoded law (negsuc n) = turned law (interval_of law (magnitude_of law (negsuc n)))
+
+-- the interval of a code
+abbrev pub number_of : Law → ℕ → ℕ
+number_of law code = turned law (code % 128)
+
+abbrev pub signed_by : ℕ → ℕ → ℤ
+signed_by code n = if nat_le 128 code then pos n else neg_ℤ (pos n)
+
+abbrev pub decoded : Law → ℕ → ℤ
+decoded law code = signed_by code (sample_of law (middle_of law (number_of law code)))
+
+-- the samples of all codes, in order
+unfoldable pub samples_of_codes : Law → List ℤ
+samples_of_codes law = map (decoded law) (range_with_len 0 CODES)

@@ -1,0 +1,4 @@
+pub mod Companding
+pub mod Intervals
+pub mod Meaning
+pub mod Keeps

@@ -1,0 +1,153 @@
+//! Companding of one sample.
+ghost use Rattle.std.specs.Prelude.{◌≡◌, ◌≤◌, ◌<◌, ◌+◌, ◌/◌, ◌^◌};
+ghost use Rattle.alg_g711.specs.Companding.{decoded, encoded, interval_of, lower_end, magnitude_of, middle_of, sample_of, step_width, turned};
+ghost use Rattle.alg_g711.specs.declared.companding.Law.TheVariants.{A, Mu};
+
+use crate::INTERVALS;
+
+/// The two laws of G.711, 3.2.
+#[derive(Clone, Copy, PartialEq, Eq, Debug)]
+pub enum Law {
+    /// A-law: tables 1a and 1b.
+    A,
+    /// Mu-law: tables 2a and 2b.
+    Mu,
+}
+
+/// The code of a sample (G.711, 3.2), 0 to 255: bit 128 for the sign, and below it the number of the interval that holds
+/// the magnitude, with the bits that the law turns. A-law's magnitudes have 15 bits here, and mu-law's 13.
+#[inline]
+pub fn encode(law: Law, x: i16) -> u8
+    ensures { result ≡ encoded law x }
+{
+    let sign = if x < 0 { 0 } else { 128 };
+    let bits = turn(law, interval(law, magnitude(law, x)));
+    (sign + bits) as u8
+}
+
+/// The sample of a code (G.711, 3.2): the middle of its interval.
+pub fn decode(law: Law, code: u8) -> i16
+    ensures { result ≡ decoded law code }
+{
+    let number = turn(law, u32::from(code % 128));
+    let n = middle_sample(law, number) as i16;
+    if code < 128 { -n } else { n }
+}
+
+/// The magnitude of a sample that the law's intervals hold. That of a negative sample is that of -1 - x, so that no sample
+/// has a magnitude of more than 15 bits.
+#[inline]
+fn magnitude(law: Law, x: i16) -> u32
+    ensures value { result ≡ magnitude_of law x }
+    ensures above { lower_end law 0 ≤ result }
+    ensures below { result < lower_end law INTERVALS }
+{
+    let folded = if x < 0 { !x } else { x };
+    let magnitude = u32::from(folded.cast_unsigned());
+    match law {
+        Law::A => magnitude,
+        Law::Mu => (magnitude / 4 + 33).min(8191),
+    }
+}
+
+/// The number of the interval that holds the magnitude.
+#[inline]
+fn interval(law: Law, magnitude: u32) -> u32
+    requires above { lower_end law 0 ≤ magnitude }
+    requires below { magnitude < lower_end law INTERVALS }
+    ensures number { result ≡ interval_of law magnitude }
+    ensures within { result < INTERVALS }
+{
+    match law {
+        Law::A => a_interval(magnitude),
+        Law::Mu => mu_interval(magnitude),
+    }
+}
+
+/// The number of the interval of A-law that holds the magnitude: the five leading bits are a step and a bit that each
+/// segment but the first has. The first is as fine as the second.
+#[inline]
+fn a_interval(magnitude: u32) -> u32
+    requires { magnitude < 32768 }
+    ensures number { result ≡ interval_of A magnitude }
+    ensures within { result < INTERVALS }
+{
+    let shift = bits_past_five(magnitude.max(256));
+    16 * shift + (magnitude >> shift) - 64
+}
+
+/// The number of the interval of mu-law that holds the magnitude, whose five leading bits are a step and a bit that
+/// each segment has.
+#[inline]
+fn mu_interval(magnitude: u32) -> u32
+    requires some { 32 ≤ magnitude }
+    requires few { magnitude < 8192 }
+    ensures number { result ≡ interval_of Mu magnitude }
+    ensures within { result < INTERVALS }
+{
+    let shift = bits_past_five(magnitude);
+    16 * shift + (magnitude >> shift) - 32
+}
+
+/// How many bits stand below the five leading bits.
+#[inline]
+fn bits_past_five(n: u32) -> u32
+    requires { 16 ≤ n }
+    ensures low { 2 ^ (result + 4) ≤ n }
+    ensures high { n < 2 ^ (result + 5) }
+{
+    27 - n.leading_zeros()
+}
+
+/// The bits of a number as a code has them, and the other way round.
+#[inline]
+fn turn(law: Law, bits: u32) -> u32
+    requires { bits < INTERVALS }
+    ensures bits { result ≡ turned law bits }
+    ensures fits { result < INTERVALS }
+{
+    match law {
+        Law::A => bits ^ 0x55,
+        Law::Mu => 127 - bits,
+    }
+}
+
+/// The magnitude of the sample in the middle of an interval.
+fn middle_sample(law: Law, number: u32) -> u32
+    requires { number < INTERVALS }
+    ensures value { result ≡ sample_of law (middle_of law number) }
+    ensures fits { result < 32768 }
+{
+    let width = step_width(law, number / 16);
+    let middle = lower_end(law, number, width) + width / 2;
+    match law {
+        Law::A => middle,
+        Law::Mu => 4 * (middle - 33),
+    }
+}
+
+/// How wide the steps of a segment are.
+fn step_width(law: Law, segment: u32) -> u32
+    requires { segment < 8 }
+    ensures width { result ≡ step_width law segment }
+    ensures bounded { result ≤ 1024 }
+{
+    match law {
+        Law::A => 16 << segment.saturating_sub(1),
+        Law::Mu => 2 << segment,
+    }
+}
+
+/// Where an interval begins whose segment has steps of this width.
+fn lower_end(law: Law, number: u32, width: u32) -> u32
+    requires within { number < INTERVALS }
+    requires width { width ≡ step_width law (number / 16) }
+    ensures { result ≡ lower_end law number }
+{
+    let step = number % 16;
+    if law == Law::A && number < 16 {
+        width * step
+    } else {
+        width * (16 + step)
+    }
+}

@@ -1,0 +1,201 @@
+//! The kind `G711`: its calls find the coder in the object, and leave the words to it.
+ghost use Rattle.std.specs.Prelude.{◌≡◌, ◌≤◌, ◌++◌, ◌∷◌, Option, Some, ℤ, [], List, length, map, true, FitsSigned};
+ghost use Rattle.std.specs.List.{All};
+ghost use Rattle.std.specs.Int.{w16};
+ghost use Rattle.mem_rec.specs.declared.MemRec.{MemRec};
+ghost use Rattle.mem_rec.specs.declared.Space.TheVariants.{External};
+ghost use Rattle.ialg.specs.declared.TheConstants.{OBJECT_WORDS};
+ghost use Rattle.ialg.specs.History.{History, Control, with_samples};
+ghost use Rattle.ialg.specs.Records.{AllLent, unplaced};
+ghost use Rattle.ialg.specs.Loans.{lent_words, SameLoans, SameBut};
+ghost use Rattle.ialg.specs.Objects.{NamedAt, Names};
+ghost use Rattle.alg_g711.specs.declared.coder.Direction.TheVariants.{Encode, Decode};
+ghost use Rattle.alg_g711.specs.Companding.{samples_of_codes};
+ghost use Rattle.alg_g711.specs.Keeps.{Keeps};
+ghost use Rattle.alg_g711.specs.Meaning.{coded, g711_meaning, kind_word, records_of};
+
+use crate::blocks::{decode_words, encode_words, write_samples};
+use crate::coder::{Coder, Direction};
+use crate::companding::Law;
+use crate::{CODER_RECORDS, CODES};
+use ialg::{BLOCK_SAMPLES, Block, Ctl, Ialg, Lent, Params, Record, Status, Words, copied};
+use mem_rec::{MemTab, Space};
+
+/// The number of the record of the samples of the codes.
+const SAMPLES: usize = 1;
+
+/// A coder by G.711. Its parameters are the law, 0 for A and 1 for mu, and the direction: 0 encodes samples, 1 decodes codes.
+/// It gives one output per sample. A code stands in the lower octet of a word: an encoder gives words of 0 to 255, and
+/// a decoder ignores the upper octet.
+///
+/// A decoder has a write-once record of the samples of all codes; no coder has a state.
+#[derive(Clone, Copy, PartialEq, Eq, Debug)]
+pub struct G711;
+
+impl Ialg for G711 {
+    ghost meaning = { g711_meaning };
+
+    ghost idle_keeps = { λ _. Keeps };
+
+    ghost active_keeps = { λ _. Keeps };
+
+    fn alg_num_alloc(&self) -> usize {
+        CODER_RECORDS
+    }
+
+    fn alg_alloc(&self, p: &Params) -> Option<MemTab> {
+        match Coder::by_parameters(p.as_slice()) {
+            Some(coder) => coder.table(),
+            None => None,
+        }
+    }
+
+    fn alg_init(&self, tab: &MemTab, p: &Params, mem: &mut Lent<'_>) {
+        let Some(coder) = Coder::by_parameters(p.as_slice()) else {
+            return;
+        };
+        write_object_of(coder, tab, mem);
+        match coder.direction {
+            Direction::Encode => {}
+            Direction::Decode => fill(coder.law, mem),
+        }
+    }
+
+    fn alg_activate(&self, _mem: &mut Lent<'_>) {}
+
+    fn process(&self, mem: &mut Lent<'_>, input: &[i16], out: &mut Block) {
+        run(mem, input, out);
+    }
+
+    fn alg_deactivate(&self, _mem: &mut Lent<'_>) {}
+
+    fn alg_moved(&self, tab: &MemTab, mem: &mut Lent<'_>) {
+        let Some(coder) = coder_of(mem) else {
+            return;
+        };
+        write_object_of(coder, tab, mem);
+    }
+
+    fn accepts(&self, _p: &Params, c: &Ctl) -> bool {
+        match c {
+            Ctl::Set(_) => false,
+            Ctl::Reset | Ctl::Get => true,
+        }
+    }
+
+    fn alg_control(&self, mem: &mut Lent<'_>, c: &Ctl) -> Status {
+        match c {
+            Ctl::Set(_) | Ctl::Reset => Status::Done,
+            Ctl::Get => Status::Words(get(mem)),
+        }
+    }
+
+    fn alg_free(&self, mem: &Lent<'_>) -> MemTab {
+        mem.table.copied()
+    }
+
+    ghost idle_words = { λ _ p rs wss h keeps. keeps.history };
+
+    ghost active_words = { λ _ p rs wss h keeps. keeps.history };
+
+    ghost idle_fill = { λ _ p rs wss h keeps. keeps.samples };
+
+    ghost active_fill = { λ _ p rs wss h keeps. keeps.samples };
+}
+
+/// The coder that the object names by its kind word.
+fn coder_of(mem: &Lent<'_>) -> Option<Coder>
+    ensures { (coder : Coder) (records table : List MemRec)
+        → Names (kind_word coder.law coder.direction) records table mem.now.r0.now → result ≡ Some coder }
+{
+    let object = mem.object();
+    if object.is_empty() {
+        return None;
+    }
+    Coder::by_kind(object[0])
+}
+
+/// Writes the instance object: the kind word, and the bases of the table.
+fn write_object_of(coder: Coder, tab: &MemTab, mem: &mut Lent<'_>)
+    ensures loans { SameLoans mem.old mem.new }
+    ensures others { SameBut 0 mem.old mem.new }
+    ensures names { length mem.old.r0.now ≡ OBJECT_WORDS
+        → Names (kind_word coder.law coder.direction) (unplaced tab.now) tab.now mem.new.r0.now }
+{
+    mem.name_records(coder.kind(), tab);
+}
+
+/// Writes the samples of the codes into the record that the object names.
+fn fill(law: Law, mem: &mut Lent<'_>)
+    ensures loans { SameLoans mem.old mem.new }
+    ensures object { NamedAt mem.old External 1 (kind_word law Decode) (records_of Decode) → mem.old.writable ≡ true
+        → mem.new.r0.now ≡ mem.old.r0.now }
+    ensures samples { NamedAt mem.old External 1 (kind_word law Decode) (records_of Decode) → mem.old.writable ≡ true
+        → length mem.old.r1.now ≡ CODES → mem.new.r1.now ≡ samples_of_codes law }
+{
+    let Some(Record { k, words }) = mem.take_named(Space::External, SAMPLES) else {
+        return;
+    };
+    write_samples(law, words);
+    mem.put(k, words);
+}
+
+/// Gives out one word for each word of the block.
+fn run(mem: &Lent<'_>, input: &[i16], out: &mut Block)
+    requires within { length input.now ≤ BLOCK_SAMPLES }
+    requires empty { out.old.items ≡ [] }
+    ensures bounded { length out.new.items ≤ length input.now }
+    ensures law { (p : List ℤ) (h : History) (keeps : Keeps p mem.now.table.now (lent_words mem.now) h)
+        → AllLent mem.now.table.now (lent_words mem.now)
+        → out.new.items ≡ map (coded keeps.coder.law keeps.coder.direction) input.now }
+    ensures read { (p : List ℤ) (h : History) → Keeps p mem.now.table.now (lent_words mem.now) h
+        → AllLent mem.now.table.now (lent_words mem.now) → All (FitsSigned w16) input.now }
+{
+    let Some(coder) = coder_of(mem) else {
+        return;
+    };
+    match coder.direction {
+        Direction::Encode => encode_block(coder.law, input, out),
+        Direction::Decode => decode_block(mem, input, out),
+    }
+}
+
+/// Gives out the codes of the samples.
+fn encode_block(law: Law, input: &[i16], out: &mut Block)
+    requires within { length input.now ≤ BLOCK_SAMPLES }
+    requires empty { out.old.items ≡ [] }
+    ensures given { out.new.items ≡ map (coded law Encode) input.now }
+    ensures read { All (FitsSigned w16) input.now }
+{
+    let _fits = out.try_extend_from_slice(input);
+    encode_words(law, input, out.as_mut_slice());
+}
+
+/// Gives out the samples of the codes, by the samples that `mem` has.
+fn decode_block(mem: &Lent<'_>, input: &[i16], out: &mut Block)
+    requires within { length input.now ≤ BLOCK_SAMPLES }
+    requires empty { out.old.items ≡ [] }
+    ensures bounded { length out.new.items ≤ length input.now }
+    ensures law { (law : Law) → NamedAt mem.now External 1 (kind_word law Decode) (records_of Decode)
+        → mem.now.r1.now ≡ samples_of_codes law → out.new.items ≡ map (coded law Decode) input.now }
+    ensures read { (law : Law) → NamedAt mem.now External 1 (kind_word law Decode) (records_of Decode)
+        → mem.now.r1.now ≡ samples_of_codes law → All (FitsSigned w16) input.now }
+{
+    let Some(table) = mem.read_named(Space::External, SAMPLES) else {
+        return;
+    };
+    if table.len() == CODES {
+        let _fits = out.try_extend_from_slice(input);
+        decode_words(table, input, out.as_mut_slice());
+    }
+}
+
+/// The answer to `get`.
+fn get(mem: &Lent<'_>) -> Words
+    ensures { (p : List ℤ) (h : History) → Keeps p mem.now.table.now (lent_words mem.now) h → result.items ≡ p }
+{
+    match coder_of(mem) {
+        Some(coder) => copied(&coder.parameters()),
+        None => Words::new(),
+    }
+}

@@ -1,0 +1,142 @@
+//! A kind that is lawful under one poison word alone, and keeps a word in a write-once record.
+ghost use Rattle.std.specs.Prelude.{◌≡◌, ◌≤◌, ◌+◌, ◌++◌, ℤ, List, length, FitsSigned};
+ghost use Rattle.std.specs.List.{All};
+ghost use Rattle.std.specs.Int.{w16};
+ghost use Rattle.ialg.specs.declared.TheConstants.{BLOCK_SAMPLES, PARAMETER_WORDS};
+ghost use Rattle.ialg.specs.History.{History};
+ghost use Rattle.ialg.specs.Records.{AllLent};
+ghost use Rattle.ialg.specs.Loans.{lent_words};
+ghost use Rattle.trial_kinds.specs.Primed.{KeepsWord, primed_meaning, primed_records};
+
+use ialg::{
+    BLOCK_SAMPLES, Block, Ctl, Ialg, Lent, Params, Record, Status, Words, object_record, overwrite,
+    place,
+};
+use mem_rec::{Attr, LEAST_ALIGNMENT, MemRec, MemTab, Space};
+
+/// The kind word of the object.
+const KIND: i16 = 9;
+
+/// The number of the write-once record.
+const ONCE: usize = 1;
+
+/// The number of the record that is never written.
+const PRIMED: usize = 2;
+
+/// A kind of one parameter, which gives nothing for its samples. It writes the parameter into a write-once record when it
+/// starts, and relies on another record having it already: it is lawful only in a host whose poison word is the parameter. `get`
+/// answers the words of both records, and no other control is taken.
+#[derive(Clone, Copy, PartialEq, Eq, Debug)]
+pub struct Primed;
+
+impl Ialg for Primed {
+    ghost meaning = { primed_meaning };
+
+    ghost idle_keeps = { λ _ p rs wss h. KeepsWord p rs wss h };
+
+    ghost active_keeps = { λ _ p rs wss h. KeepsWord p rs wss h };
+
+    fn alg_num_alloc(&self) -> usize {
+        3
+    }
+
+    fn alg_alloc(&self, p: &Params) -> Option<MemTab> {
+        if p.len() == 1 {
+            MemTab::make(&records())
+        } else {
+            None
+        }
+    }
+
+    fn alg_init(&self, tab: &MemTab, p: &Params, mem: &mut Lent<'_>) {
+        mem.name_records(KIND, tab);
+        let Some(Record { k, words }) = mem.take_named(Space::External, ONCE) else {
+            return;
+        };
+        overwrite(words, p.as_slice());
+        mem.put(k, words);
+    }
+
+    fn alg_activate(&self, _mem: &mut Lent<'_>) {}
+
+    fn process(&self, _mem: &mut Lent<'_>, input: &[i16], _out: &mut Block) {
+        read(input);
+    }
+
+    fn alg_deactivate(&self, _mem: &mut Lent<'_>) {}
+
+    fn alg_moved(&self, tab: &MemTab, mem: &mut Lent<'_>) {
+        mem.name_records(KIND, tab);
+    }
+
+    fn accepts(&self, _p: &Params, c: &Ctl) -> bool {
+        matches!(c, Ctl::Get)
+    }
+
+    fn alg_control(&self, mem: &mut Lent<'_>, _c: &Ctl) -> Status {
+        Status::Words(kept_words(mem))
+    }
+
+    fn alg_free(&self, mem: &Lent<'_>) -> MemTab {
+        mem.table.copied()
+    }
+
+    ghost idle_words = { λ _ p rs wss h keeps. keeps.history };
+
+    ghost active_words = { λ _ p rs wss h keeps. keeps.history };
+
+    ghost idle_fill = { λ _ p rs wss h keeps. keeps.once };
+
+    ghost active_fill = { λ _ p rs wss h keeps. keeps.once };
+}
+
+/// The records: the object, one that is written once, and one that is never written.
+fn records() -> [MemRec; 3]
+    ensures { result ≡ primed_records }
+{
+    let word = |space, attr| MemRec {
+        size: 1,
+        align: LEAST_ALIGNMENT,
+        space,
+        attr,
+        base: 0,
+    };
+    [
+        object_record(),
+        word(Space::External, Attr::WriteOnce),
+        word(Space::Saram, Attr::Persist),
+    ]
+}
+
+/// Reads the samples, so that they are known to have 16 bits.
+fn read(samples: &[i16])
+    requires { length samples.now ≤ BLOCK_SAMPLES }
+    ensures { All (FitsSigned w16) samples.now }
+{
+    let mut copy = [0; BLOCK_SAMPLES];
+    place(&mut copy, 0, samples);
+}
+
+/// The words of the one record, and then those of the other.
+fn kept_words(mem: &Lent<'_>) -> Words
+    ensures { (p : List ℤ) (h : History) → AllLent mem.now.table.now (lent_words mem.now)
+        → KeepsWord p mem.now.table.now (lent_words mem.now) h → result.items ≡ p ++ p }
+{
+    let Some(once) = mem.read_named(Space::External, ONCE) else {
+        return Words::new();
+    };
+    let Some(primed) = mem.read_named(Space::Saram, PRIMED) else {
+        return Words::new();
+    };
+    joined(once, primed)
+}
+
+/// The words of both slices, where there is room.
+fn joined(first: &[i16], second: &[i16]) -> Words
+    ensures { length first.now + length second.now ≤ PARAMETER_WORDS → result.items ≡ first.now ++ second.now }
+{
+    let mut words = Words::new();
+    let _first_fits = words.try_extend_from_slice(first);
+    let _second_fits = words.try_extend_from_slice(second);
+    words
+}

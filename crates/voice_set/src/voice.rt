@@ -1,0 +1,169 @@
+//! One of the hosted kinds.
+ghost use Rattle.std.specs.Prelude.{ℤ, List, Option, IsTrue};
+ghost use Rattle.voice_set.specs.Voices.{voice_meaning, voice_named};
+ghost use Rattle.voice_set.specs.Keeps.{IsIdle, IsActive};
+ghost use Rattle.voice_set.specs.Kept.{idle_words, active_words, idle_fill, active_fill};
+
+use alg_biquad::Biquad;
+use alg_fir::{Decim, Fir};
+use alg_g711::G711;
+use alg_tone::Tone;
+use ialg::{Block, Ctl, Ialg, Lent, Named, Params, Status};
+use mem_rec::MemTab;
+
+/// One of the hosted kinds. Each call is that of the kind.
+#[derive(Clone, Copy, PartialEq, Eq, Debug)]
+pub enum Voice {
+    /// `fir`: a finite impulse response filter.
+    Fir,
+    /// `decim`: such a filter that gives one output for so many samples.
+    Decim,
+    /// `biquad`: a filter of second order with feedback.
+    Biquad,
+    /// `tone`: Goertzel's detector of one tone.
+    Tone,
+    /// `g711`: an encoder or decoder of A-law or mu-law (ITU-T G.711).
+    G711,
+}
+
+impl Named for Voice {
+    ghost named = { voice_named };
+
+    fn of_name(name: &[u8]) -> Option<Voice> {
+        if name == b"fir".as_slice() {
+            Some(Voice::Fir)
+        } else if name == b"decim".as_slice() {
+            Some(Voice::Decim)
+        } else if name == b"biquad".as_slice() {
+            Some(Voice::Biquad)
+        } else if name == b"tone".as_slice() {
+            Some(Voice::Tone)
+        } else if name == b"g711".as_slice() {
+            Some(Voice::G711)
+        } else {
+            None
+        }
+    }
+}
+
+impl Ialg for Voice {
+    ghost meaning = { voice_meaning };
+
+    ghost idle_keeps = { IsIdle };
+
+    ghost active_keeps = { IsActive };
+
+    fn alg_num_alloc(&self) -> usize {
+        match self {
+            Voice::Fir => Fir.alg_num_alloc(),
+            Voice::Decim => Decim.alg_num_alloc(),
+            Voice::Biquad => Biquad.alg_num_alloc(),
+            Voice::Tone => Tone.alg_num_alloc(),
+            Voice::G711 => G711.alg_num_alloc(),
+        }
+    }
+
+    fn alg_alloc(&self, p: &Params) -> Option<MemTab> {
+        match self {
+            Voice::Fir => Fir.alg_alloc(p),
+            Voice::Decim => Decim.alg_alloc(p),
+            Voice::Biquad => Biquad.alg_alloc(p),
+            Voice::Tone => Tone.alg_alloc(p),
+            Voice::G711 => G711.alg_alloc(p),
+        }
+    }
+
+    fn alg_init(&self, tab: &MemTab, p: &Params, mem: &mut Lent<'_>) {
+        match self {
+            Voice::Fir => Fir.alg_init(tab, p, mem),
+            Voice::Decim => Decim.alg_init(tab, p, mem),
+            Voice::Biquad => Biquad.alg_init(tab, p, mem),
+            Voice::Tone => Tone.alg_init(tab, p, mem),
+            Voice::G711 => G711.alg_init(tab, p, mem),
+        }
+    }
+
+    fn alg_activate(&self, mem: &mut Lent<'_>) {
+        match self {
+            Voice::Fir => Fir.alg_activate(mem),
+            Voice::Decim => Decim.alg_activate(mem),
+            Voice::Biquad => Biquad.alg_activate(mem),
+            Voice::Tone => Tone.alg_activate(mem),
+            Voice::G711 => G711.alg_activate(mem),
+        }
+    }
+
+    fn process(&self, mem: &mut Lent<'_>, input: &[i16], out: &mut Block) {
+        match self {
+            Voice::Fir => Fir.process(mem, input, out),
+            Voice::Decim => Decim.process(mem, input, out),
+            Voice::Biquad => Biquad.process(mem, input, out),
+            Voice::Tone => Tone.process(mem, input, out),
+            Voice::G711 => G711.process(mem, input, out),
+        }
+    }
+
+    fn alg_deactivate(&self, mem: &mut Lent<'_>) {
+        match self {
+            Voice::Fir => Fir.alg_deactivate(mem),
+            Voice::Decim => Decim.alg_deactivate(mem),
+            Voice::Biquad => Biquad.alg_deactivate(mem),
+            Voice::Tone => Tone.alg_deactivate(mem),
+            Voice::G711 => G711.alg_deactivate(mem),
+        }
+    }
+
+    fn alg_moved(&self, tab: &MemTab, mem: &mut Lent<'_>) {
+        match self {
+            Voice::Fir => Fir.alg_moved(tab, mem),
+            Voice::Decim => Decim.alg_moved(tab, mem),
+            Voice::Biquad => Biquad.alg_moved(tab, mem),
+            Voice::Tone => Tone.alg_moved(tab, mem),
+            Voice::G711 => G711.alg_moved(tab, mem),
+        }
+    }
+
+    fn accepts(&self, p: &Params, c: &Ctl) -> bool {
+        match self {
+            Voice::Fir => Fir.accepts(p, c),
+            Voice::Decim => Decim.accepts(p, c),
+            Voice::Biquad => Biquad.accepts(p, c),
+            Voice::Tone => Tone.accepts(p, c),
+            Voice::G711 => G711.accepts(p, c),
+        }
+    }
+
+    fn alg_control(&self, mem: &mut Lent<'_>, c: &Ctl) -> Status {
+        match self {
+            Voice::Fir => Fir.alg_control(mem, c),
+            Voice::Decim => Decim.alg_control(mem, c),
+            Voice::Biquad => Biquad.alg_control(mem, c),
+            Voice::Tone => Tone.alg_control(mem, c),
+            Voice::G711 => G711.alg_control(mem, c),
+        }
+    }
+
+    fn alg_free(&self, mem: &Lent<'_>) -> MemTab {
+        match self {
+            Voice::Fir => Fir.alg_free(mem),
+            Voice::Decim => Decim.alg_free(mem),
+            Voice::Biquad => Biquad.alg_free(mem),
+            Voice::Tone => Tone.alg_free(mem),
+            Voice::G711 => G711.alg_free(mem),
+        }
+    }
+
+    ghost idle_words = { idle_words };
+
+    ghost active_words = { active_words };
+
+    ghost idle_fill = { idle_fill };
+
+    ghost active_fill = { active_fill };
+}
+
+/// The law that all kinds keep IALG's laws for all parameters, refused ones too, in a host of any poison word and in one
+/// of none. The call does nothing: its contract is the law.
+pub fn voices_are_lawful()
+    ensures { (voice : Voice) (p : List ℤ) (w : Option ℤ) → IsTrue (voice_meaning.lawful voice p w) }
+{}
