@@ -1,14 +1,5 @@
 pub mod ConsoleLemmas
-pub mod Ends
-pub mod Feeds
 pub mod KindLemmas
-pub mod LineAnswers
-pub mod Lines
-pub mod Ports
 pub mod SampleLemmas
 pub mod RowLemmas
-pub mod Scripts
 pub mod SlotLemmas
-pub mod SoFar
-pub mod Steps
-pub mod Writes

@@ -1,7 +1,7 @@
 -- The worked rows, computed.
 use Rattle.std.proofs.Common.{refl}
 use Rattle.std.specs.Fmt.{digits}
-use Rattle.dsp_console.specs.Served.{held_by, order_of, refusals, line_answer, lines_answer}
+use Rattle.script_server.specs.Served.{held_by, order_of, refusals, line_answer, lines_answer}
 use Rattle.dsp_console.specs.Rows.{WorkedRows, FeedOrder}
 
 pub worked_rows : WorkedRows

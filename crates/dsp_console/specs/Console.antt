@@ -5,19 +5,16 @@ use Rattle.ialg.specs.Meaning.{Meaning}
 use Rattle.dsp_console.specs.Instances.{Living, after_create, feed_output, fed}
 use Rattle.dsp_console.specs.Channels.{Channels, after_chain, feed_refusal, members_at, new_channels}
 use Rattle.voice_script.specs.Script.{Command, Create, Chain, Feed, parsed, lines_of}
-use Rattle.voice_script.specs.Replies.{Reply, Done, Count, No, is_refusal, reply_text}
+use Rattle.voice_script.specs.Replies.{Done, Count, No, reply_text}
 use Rattle.dsp_console.specs.Samples.{octets_of, samples_of}
-use Rattle.dsp_console.specs.Served.{Asked, Nothing, Tell, Machine, Run, Answer, lines_answer}
-use Rattle.dsp_console.specs.Served as asks
-use Rattle.dsp_console.specs.declared.limits.TheConstants.{SAMPLE_OCTETS}
+use Rattle.script_server.specs.Served.{Asked, Nothing, tells, Machine, Run, Answer, lines_answer}
+use Rattle.script_server.specs.Served as asks
+use Rattle.script_server.specs.declared.limits.TheConstants.{SAMPLE_OCTETS}
 
 -- what a line did, and what it asks
 pub record Did (M : Type 0) : Type 0 where
   pub channels : Channels M
   pub asked : Asked
-
-abbrev pub tells : Reply → Asked
-tells reply = Tell (reply_text reply) (is_refusal reply)
 
 -- a channel that is ready asks for its samples' octets
 abbrev pub feed_asked : Option Refusal → ℕ → ℕ → Asked

@@ -3,7 +3,7 @@ use Rattle.std.specs.Prelude.{◌≡◌, ℕ, Some, None, List, [], ◌∷◌, �
 use Rattle.std.specs.List.{flat_map}
 use Prim.Native.String.{String}
 use Rattle.dsp_console.specs.Samples.{octets_of}
-use Rattle.dsp_console.specs.Served.{held_by, order_of, refusals}
+use Rattle.script_server.specs.Served.{held_by, order_of, refusals}
 use Rattle.dsp_console.specs.Console.{served}
 use Rattle.dsp_console.specs.Kinds.{kind_meaning, kind_named}
 

@@ -1,20 +1,19 @@
 //! The console: instances in their slots, and the channel through one of them.
-ghost use Rattle.std.specs.Prelude.{◌≡◌, ◌≤◌, ◌<◌, ◌*◌, ℕ, ℤ, [], ◌∷◌, List, length, take, None, Some, OnErr, IsOk, IfOk, IfSome, IsTrue};
+ghost use Rattle.std.specs.Prelude.{◌≡◌, ◌≤◌, ◌<◌, ◌*◌, ℕ, ℤ, [], ◌∷◌, List, length, take, None, Some, OnErr, IsOk, IfOk, IfSome, IsTrue, true, is_some};
 ghost use Rattle.std.specs.Option.{ForSome};
 ghost use Rattle.dsp_console.specs.declared.limits.TheConstants.{INSTANCES};
 ghost use Rattle.ialg.specs.Records.{record_at, unplaced};
 ghost use Rattle.dsp_console.specs.Slots.{FitsSlots};
 
-use crate::limits::{
-    BLOCK_OCTETS, CHANNELS, DARAM_SLOT, EXTERNAL_SLOT, GROUPS, INSTANCES, SAMPLE_OCTETS, SARAM_SLOT,
-};
+use crate::limits::{CHANNELS, DARAM_SLOT, EXTERNAL_SLOT, GROUPS, INSTANCES, SARAM_SLOT};
 use crate::samples::{read_samples, write_samples};
 use crate::slots::{feed_slots, start_slots};
 use arrayvec::ArrayVec;
 use ialg::{BLOCK_SAMPLES, Block, Ialg, Named, Params, Refusal};
 use mem_rec::MemTab;
+use script_server::{Ask, BLOCK_OCTETS, LineMachine, SAMPLE_OCTETS};
 use std::alloc::{AllocError, Global};
-use voice_script::{Command, FeedSamples, LINE_OCTETS, Reply, parse};
+use voice_script::{Command, FeedSamples, Reply, parse};
 
 /// A living instance: its kind, and its table with bases.
 #[derive(Drop)]
@@ -37,17 +36,6 @@ pub(crate) struct Console<M> {
     ghost in_saram: { length saram.items ≡ INSTANCES },
     ghost in_daram: { length daram.items ≡ INSTANCES },
     ghost numbered: { length instances.items ≡ INSTANCES },
-}
-
-/// What a line asks of the ports.
-#[derive(Clone, Copy)]
-pub(crate) enum Ask {
-    /// Nothing.
-    Nothing,
-    /// This reply.
-    Tell(Reply),
-    /// The octets of so many samples of the channel's input.
-    Feed { channel: u8, samples: FeedSamples },
 }
 
 /// The table with the bases of an instance's slots.
@@ -84,7 +72,7 @@ impl<M: Ialg + Named> Console<M> {
     ghost use Rattle.dsp_console.specs.Channels.{Channels, new_channels, after_chain, feed_refusal};
     ghost use Rattle.dsp_console.specs.Instances.{after_create, output_block, given};
     ghost use Rattle.voice_script.specs.Commands.{command_of};
-    ghost use Rattle.dsp_console.specs.Asks.{asked_of, IsReady, AskIsReady};
+    ghost use Rattle.script_server.specs.Asks.{asked_of, AskIsReady};
     ghost use Rattle.dsp_console.specs.Console.{with_living, command_did, output_of, machine_of};
     ghost use Rattle.dsp_console.specs.Answers.{Answers, refusal_of};
     ghost use Rattle.dsp_console.specs.Servable.{IsServable};
@@ -164,7 +152,8 @@ impl<M: Ialg + Named> Console<M> {
     /// Whether a feed of the channel may read its samples: `Range`, `Missing`.
     fn ready(&self, channel: u8) -> Result<(), Refusal>
         ensures known { (s : Channels M) → Keeps M.meaning M.idle_keeps self.now s → refusal_of result ≡ feed_refusal s channel }
-        ensures ready { IsOk result → IsReady self.now channel }
+        ensures there { IsOk result → channel < CHANNELS }
+        ensures chained { IsOk result → is_some self.now.member ≡ true }
     {
         if channel >= CHANNELS {
             return Err(Refusal::Range);
@@ -177,7 +166,7 @@ impl<M: Ialg + Named> Console<M> {
 
     fn command(&mut self, command: Command<M>) -> Ask
         requires servable { IsServable M.meaning }
-        ensures ready { AskIsReady self.new result }
+        ensures ready { AskIsReady (λ console _. is_some console.member ≡ true) CHANNELS self.new result }
         ensures asked { (s : Channels M) → Keeps M.meaning M.idle_keeps self.old s
             → asked_of result ≡ (command_did M.meaning s (command_of command)).asked }
         ensures after { (s : Channels M) → Keeps M.meaning M.idle_keeps self.old s
@@ -195,23 +184,6 @@ impl<M: Ialg + Named> Console<M> {
                 Ok(()) => Ask::Feed { channel, samples },
                 Err(refusal) => Ask::Tell(Reply::No(refusal)),
             },
-        }
-    }
-
-    /// Does what the line asks; a feed's samples are yet to come.
-    pub(crate) fn ask(&mut self, line: &[u8]) -> Ask
-        requires servable { IsServable M.meaning }
-        requires short { length line.now ≤ LINE_OCTETS }
-        ensures ready { AskIsReady self.new result }
-        ensures asked { (s : Channels M) → Keeps M.meaning M.idle_keeps self.old s
-            → asked_of result ≡ (machine_of M.meaning M.named).asked s line.now }
-        ensures after { (s : Channels M) → Keeps M.meaning M.idle_keeps self.old s
-            → Keeps M.meaning M.idle_keeps self.new ((machine_of M.meaning M.named).after s line.now) }
-    {
-        match parse(line) {
-            Ok(Some(command)) => self.command(command),
-            Ok(None) => Ask::Nothing,
-            Err(refusal) => Ask::Tell(Reply::No(refusal)),
         }
     }
 
@@ -241,27 +213,42 @@ impl<M: Ialg + Named> Console<M> {
             );
         }
     }
+}
 
-    /// Gives the samples of a feed to the channel. The octets of what it gives stand at the beginning of `output`; it
-    /// answers how many samples that are.
-    pub(crate) fn feed(
+impl<M: Ialg + Named> LineMachine for Console<M> {
+    ghost use Rattle.dsp_console.specs.Keeps.{Keeps};
+    ghost use Rattle.dsp_console.specs.Channels.{Channels};
+    ghost use Rattle.dsp_console.specs.Console.{machine_of};
+    ghost use Rattle.dsp_console.specs.Servable.{IsServable};
+    ghost use Rattle.dsp_console.specs.declared.limits.TheConstants.{CHANNELS};
+
+    ghost State = { Channels M };
+
+    ghost machine = { machine_of M.meaning M.named };
+
+    ghost keeps = { Keeps M.meaning M.idle_keeps };
+
+    ghost is_lawful = { IsServable M.meaning };
+
+    ghost channels = { CHANNELS };
+
+    ghost takes_feeds = { λ console _. is_some console.member ≡ true };
+
+    fn ask(&mut self, line: &[u8]) -> Ask {
+        match parse(line) {
+            Ok(Some(command)) => self.command(command),
+            Ok(None) => Ask::Nothing,
+            Err(refusal) => Ask::Tell(Reply::No(refusal)),
+        }
+    }
+
+    fn feed(
         &mut self,
         channel: u8,
         samples: FeedSamples,
         octets: &[u8],
         output: &mut [u8; BLOCK_OCTETS],
-    ) -> usize
-        requires servable { IsServable M.meaning }
-        requires ready { IsReady self.old channel }
-        requires whole { length octets.now ≡ SAMPLE_OCTETS * samples.number }
-        ensures bounded { result ≤ BLOCK_SAMPLES }
-        ensures output { (s : Channels M) → Keeps M.meaning M.idle_keeps self.old s
-            → take (SAMPLE_OCTETS * result) output.new ≡ (machine_of M.meaning M.named).output s channel octets.now }
-        ensures count { (s : Channels M) → Keeps M.meaning M.idle_keeps self.old s
-            → result ≡ length (output_of M.meaning s channel octets.now) }
-        ensures after { (s : Channels M) → Keeps M.meaning M.idle_keeps self.old s
-            → Keeps M.meaning M.idle_keeps self.new ((machine_of M.meaning M.named).fed s channel octets.now) }
-    {
+    ) -> usize {
         let member = self.member.unwrap();
         let mut input = [0; BLOCK_SAMPLES];
         let block = &mut input[..usize::from(samples.number())];

@@ -1,5 +1,4 @@
 //! The limits of the console.
-use ialg::BLOCK_SAMPLES;
 
 /// Instances have the numbers below this.
 pub(crate) const INSTANCES: usize = 64;
@@ -9,15 +8,6 @@ pub(crate) const GROUPS: u8 = 8;
 
 /// Channels have the numbers below this: for the time being there is one.
 pub const CHANNELS: u8 = 1;
-
-/// The most octets of a script.
-pub const SCRIPT_OCTETS: u32 = 1_000_000_000;
-
-/// The octets of a sample.
-pub(crate) const SAMPLE_OCTETS: usize = 2;
-
-/// The most octets of a feed.
-pub(crate) const BLOCK_OCTETS: usize = SAMPLE_OCTETS * BLOCK_SAMPLES;
 
 /// The most words of an instance's object.
 pub(crate) const OBJECT_SLOT: usize = 8;
@@ -36,5 +26,3 @@ pub(crate) const DARAM_SLOT: usize = 320;
 
 // The limits that a reader is told, said once more: no slip of one passes.
 const _: () = prove!(INSTANCES == 8 * 8 && GROUPS == 8 && CHANNELS == 1);
-
-const _: () = prove!(SCRIPT_OCTETS == 1_000 * 1_000 * 1_000 && BLOCK_OCTETS == 512);

@@ -2,8 +2,8 @@
 ghost use Rattle.std.specs.Prelude.{◌≡◌, ◌≤◌, ◌*◌, length};
 ghost use Rattle.dsp_console.specs.Samples.{samples_of, octets_of};
 
-use crate::limits::SAMPLE_OCTETS;
 use byteorder::{ByteOrder, LittleEndian};
+use script_server::SAMPLE_OCTETS;
 
 /// Reads the samples of the octets.
 pub(crate) fn read_samples(octets: &[u8], samples: &mut [i16])

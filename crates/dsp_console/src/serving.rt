@@ -1,22 +1,17 @@
-//! Serves a script.
+//! Runs of the engine.
 ghost use Rattle.std.specs.Prelude.{◌≡◌, ◌+◌, ◌⊎◌, ◌↔◌, IsTrue, true, false, map, length, IfOk, IsErrOf};
 ghost use Rattle.std.specs.Result.{is_err};
-ghost use Rattle.dsp_console.specs.Ports.{GivesWithin};
+ghost use Rattle.octet_ports.specs.Ports.{GivesWithin};
 ghost use Rattle.dsp_console.specs.Sizes.{AreSpaceSizes};
-ghost use Rattle.dsp_console.specs.Channels.{Channels};
-ghost use Rattle.dsp_console.specs.Keeps.{Keeps};
 ghost use Rattle.dsp_console.specs.Servable.{IsServable};
 ghost use Rattle.dsp_console.specs.Console.{machine_of, start};
-ghost use Rattle.dsp_console.specs.Runs.{AreReady, AllWait, ServesAll, EndsWell, EndsByRead, EndsByWrite, IsUnused, known_of, octets_to_come};
-ghost use Rattle.dsp_console.specs.LineRuns.{run_of};
+ghost use Rattle.script_server.specs.Runs.{AreReady, EndsWell, EndsByRead, EndsByWrite, IsUnused, known_of, octets_to_come};
 
 use crate::console::Console;
-use crate::limits::{CHANNELS, SCRIPT_OCTETS};
-use crate::line::{flush_outputs, serve_line};
-use crate::octets::read_line;
-use crate::port::{PortIn, PortOut};
-use arrayvec::ArrayVec;
+use crate::limits::CHANNELS;
 use ialg::{Ialg, Named};
+use octet_ports::{PortIn, PortOut};
+use script_server::{PortsFault, SCRIPT_OCTETS, serve};
 use space_heap::is_space_size;
 use std::alloc::Global;
 use thiserror::Error;
@@ -71,103 +66,6 @@ pub struct Summary {
     pub refused: u64,
 }
 
-/// Serves each line, and answers how many were refused.
-fn serve_script<M: Ialg + Named, S: PortIn, I: PortIn, O: PortOut, P: PortOut>(
-    console: &mut Console<M>,
-    script: &mut S,
-    inputs: &mut Vec<I>,
-    outputs: &mut Vec<O>,
-    replies: &mut P,
-) -> Result<u64, Fault>
-    ghost state: { Channels M }
-    requires servable { IsServable M.meaning }
-    requires kept { Keeps M.meaning M.idle_keeps console.old state }
-    requires script { (S.source script.old).failed ≡ false }
-    requires one { length inputs.old.items ≡ CHANNELS }
-    requires pairs { length outputs.old.items ≡ CHANNELS }
-    requires ready { AreReady (map I.source inputs.old.items) (map O.sink outputs.old.items) (P.sink replies.old) }
-    ensures few { GivesWithin (SCRIPT_OCTETS + 1) (S.source script.old) (S.source script.new) }
-    ensures fault { is_err result ≡ true → IsErrOf result Fault.Read ⊎ IsErrOf result Fault.Write }
-    ensures waits { AllWait (map O.sink outputs.old.items) (map O.sink outputs.new.items) (P.sink replies.old) (P.sink replies.new) }
-    ensures ok { IfOk result (λ refused. ServesAll (machine_of M.meaning M.named) (run_of state (map I.source inputs.old.items)) refused
-        (known_of S.source I.source O.sink P.sink script.old inputs.old.items outputs.old.items replies.old)
-        (known_of S.source I.source O.sink P.sink script.new inputs.new.items outputs.new.items replies.new)) }
-    ensures read { IsErrOf result Fault.Read → EndsByRead (machine_of M.meaning M.named) (run_of state (map I.source inputs.old.items))
-        (known_of S.source I.source O.sink P.sink script.old inputs.old.items outputs.old.items replies.old)
-        (known_of S.source I.source O.sink P.sink script.new inputs.new.items outputs.new.items replies.new) }
-    ensures write { IsErrOf result Fault.Write → EndsByWrite (machine_of M.meaning M.named) (run_of state (map I.source inputs.old.items))
-        (known_of S.source I.source O.sink P.sink script.old inputs.old.items outputs.old.items replies.old)
-        (known_of S.source I.source O.sink P.sink script.new inputs.new.items outputs.new.items replies.new) }
-{
-    let mut left = SCRIPT_OCTETS;
-    let mut refused: u64 = 0;
-    let mut text = ArrayVec::new();
-    'lines: loop {
-        text.clear();
-        let line = match read_line(script, &mut text, &mut left) {
-            Ok(line) => line,
-            Err(_) => return Err(Fault::Read),
-        };
-        let is_refused = match serve_line(
-            console,
-            text.as_slice(),
-            line.long,
-            inputs,
-            outputs,
-            replies,
-        ) {
-            Ok(is_refused) => is_refused,
-            Err(fault) => return Err(fault),
-        };
-        if is_refused {
-            refused += 1;
-        }
-        if line.last {
-            return Ok(refused);
-        }
-    }
-}
-
-/// Serves each line, and then passes on what the ports hold back.
-fn serve<M: Ialg + Named, S: PortIn, I: PortIn, O: PortOut, P: PortOut>(
-    console: &mut Console<M>,
-    script: &mut S,
-    inputs: &mut Vec<I>,
-    outputs: &mut Vec<O>,
-    replies: &mut P,
-) -> Result<Summary, Fault>
-    ghost state: { Channels M }
-    requires servable { IsServable M.meaning }
-    requires kept { Keeps M.meaning M.idle_keeps console.old state }
-    requires script { (S.source script.old).failed ≡ false }
-    requires one { length inputs.old.items ≡ CHANNELS }
-    requires pairs { length outputs.old.items ≡ CHANNELS }
-    requires ready { AreReady (map I.source inputs.old.items) (map O.sink outputs.old.items) (P.sink replies.old) }
-    ensures few { GivesWithin (SCRIPT_OCTETS + 1) (S.source script.old) (S.source script.new) }
-    ensures fault { is_err result ≡ true → IsErrOf result Fault.Read ⊎ IsErrOf result Fault.Write }
-    ensures ok { IfOk result (λ summary. EndsWell (machine_of M.meaning M.named) (run_of state (map I.source inputs.old.items)) summary.refused
-        (known_of S.source I.source O.sink P.sink script.old inputs.old.items outputs.old.items replies.old)
-        (known_of S.source I.source O.sink P.sink script.new inputs.new.items outputs.new.items replies.new)) }
-    ensures read { IsErrOf result Fault.Read → EndsByRead (machine_of M.meaning M.named) (run_of state (map I.source inputs.old.items))
-        (known_of S.source I.source O.sink P.sink script.old inputs.old.items outputs.old.items replies.old)
-        (known_of S.source I.source O.sink P.sink script.new inputs.new.items outputs.new.items replies.new) }
-    ensures write { IsErrOf result Fault.Write → EndsByWrite (machine_of M.meaning M.named) (run_of state (map I.source inputs.old.items))
-        (known_of S.source I.source O.sink P.sink script.old inputs.old.items outputs.old.items replies.old)
-        (known_of S.source I.source O.sink P.sink script.new inputs.new.items outputs.new.items replies.new) }
-{
-    let refused = match serve_script(console, script, inputs, outputs, replies) {
-        Ok(refused) => refused,
-        Err(fault) => return Err(fault),
-    };
-    if flush_outputs(outputs).is_err() {
-        return Err(Fault::Write);
-    }
-    if replies.flush().is_err() {
-        return Err(Fault::Write);
-    }
-    Ok(Summary { refused })
-}
-
 /// Serves the lines of the script in order, over one pair of ports.
 ///
 /// A feed reads its samples from the channel's input, writes what the channel gives to the channel's output, and then its
@@ -218,5 +116,9 @@ pub fn run<M: Ialg + Named, S: PortIn, I: PortIn, O: PortOut, P: PortOut>(
     let Ok(mut console) = Console::<M>::new(alloc) else {
         return Err(Fault::Memory);
     };
-    serve(&mut console, script, inputs, outputs, replies)
+    match serve(&mut console, script, inputs, outputs, replies) {
+        Ok(refused) => Ok(Summary { refused }),
+        Err(PortsFault::Read) => Err(Fault::Read),
+        Err(PortsFault::Write) => Err(Fault::Write),
+    }
 }

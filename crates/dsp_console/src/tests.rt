@@ -1,15 +1,12 @@
 //! Runs over tapes and over devices that fail, and a caller that is proved from the contracts alone.
 ghost use Rattle.std.specs.Prelude.{◌≡◌, ◌<◌, ◌∷◌, [], None, Some, IfOk};
-ghost use Rattle.dsp_console.specs.Served.{held_by, order_of, refusals};
+ghost use Rattle.script_server.specs.Served.{held_by, order_of, refusals};
 ghost use Rattle.dsp_console.specs.Console.{served};
 ghost use Rattle.dsp_console.specs.Kinds.{kind_meaning, kind_named};
 
-use crate::octets::write_octets;
-use crate::{
-    Config, Fault, Kind, PortIn, PortOut, Reading, Sizes, Summary, TAPE_OCTETS, TapeIn, TapeOut,
-    Writing, kinds_are_servable, outcome, run,
-};
+use crate::{Config, Fault, Kind, Sizes, Summary, kinds_are_servable, outcome, run};
 use arrayvec::ArrayVec;
+use octet_ports::{PortIn, PortOut, Reading, TapeIn, TapeOut, Writing};
 use std::alloc::{AllocError, Global};
 use std::io;
 use std::io::{ErrorKind, Read, Write};
@@ -381,19 +378,6 @@ fn stops_where_the_replies_fail(rt: HostRuntime) -> Result<(), Fail> {
         compare_fault(&rt, WIDE, fuses, Fault::Write, outputs, held)?;
     }
     Ok(())
-}
-
-#[test]
-fn a_tape_is_full_at_4096(rt: HostRuntime) {
-    let mut tape = TapeOut::new(1000, NEVER);
-    let answer = write_octets(&mut tape, &[7; TAPE_OCTETS]);
-    assert!(rt; answer.is_ok());
-    assert_eq!(rt; tape.held(), [7u8; 4096].as_slice());
-    let nothing = tape.put(b"");
-    assert_eq!(rt; nothing, Ok(0));
-    let more = tape.put(b"x");
-    assert!(rt; more.is_err() && tape.failed());
-    assert_eq!(rt; tape.held().len(), 4096);
 }
 
 #[test]

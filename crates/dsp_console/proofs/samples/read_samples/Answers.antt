@@ -1,5 +1,5 @@
 use Rattle.std.proofs.Common.{◌∙◌, ◌*◌, ap, sym}
-use Rattle.dsp_console.specs.declared.limits.TheConstants.{SAMPLE_OCTETS}
+use Rattle.script_server.specs.declared.limits.TheConstants.{SAMPLE_OCTETS}
 use Rattle.dsp_console.proofs.SampleLemmas.{read-samples}
 use Rattle.dsp_console.proofs.samples.read_samples.Goals as goal
 

@@ -1,0 +1,62 @@
+-- A line as it comes, an octet at a time.
+use Rattle.std.proofs.Common.{◌≡◌, ◌≢◌, ℕ, ◌+◌, ◌-◌, ◌≤◌, Bool, true, false, List, [], ◌∷◌, ◌++◌, length, take, get_or, refl, ap, length-append, arith}
+use Rattle.std.specs.List.{All}
+use Rattle.std.proofs.lemmas.List.Elements.{All-push}
+use Rattle.std.proofs.lemmas.Grind.{common_steps}
+use Rattle.std.proofs.lemmas.Bool.Decides.{nat_tests}
+use Rattle.octet_ports.specs.Ports.{Source, Gives}
+use Rattle.octet_ports.specs.Lines.{IsLine, IsNoFeed}
+use Rattle.octet_ports.proofs.Ports.{gives_more}
+
+-- as much of a line as has come, of so many octets that may
+pub record LineSoFar (most : ℕ) (text : List ℕ) (long : Bool) (limit left : ℕ) (old new : Source) : Type 0 where
+  pub octets : List ℕ
+  pub line : IsLine most text long octets
+  pub gives : Gives octets old new
+  pub used : limit ≡ length octets + left
+
+pub one_octet : (n : ℕ) (xs : List ℕ) → n ≤ length xs → length xs ≡ 1 → (n ≡ 0 → ⊥) → take n xs ≡ get_or xs 0 0 ∷ []
+one_octet n [] h e z = absurd (z (grind (arith, common_steps)))
+one_octet n (x ∷ []) h e z = let one : n ≡ 1 = omega arith in rw one refl
+one_octet n (x ∷ y ∷ ys) h e z = absurd (omega arith)
+
+pub no_feed_more : (xs : List ℕ) (x : ℕ) → All IsNoFeed xs → x ≢ 10 → All IsNoFeed (xs ++ x ∷ [])
+no_feed_more xs x a n = All-push IsNoFeed xs x a n
+
+pub is_line_more : {most : ℕ} {text octets : List ℕ} (long : Bool) (x : ℕ) → IsLine most text long octets → x ≢ 10 → (length text ≡ most → ⊥) → length text ≤ most → IsLine most (text ++ x ∷ []) long (octets ++ x ∷ [])
+is_line_more {most} {text} {octets} true x line n f w = record {
+  no_feed = no_feed_more octets x line.no_feed n;
+  is_long = let h = line.is_long in grind (arith, common_steps, nat_tests);
+  is_text = λ e. cc;
+}
+is_line_more {most} {text} {octets} false x line n f w =
+    let same : text ≡ octets = line.is_text refl in
+    record {
+      no_feed = no_feed_more octets x line.no_feed n;
+      is_long = let h = line.is_long in grind (arith, common_steps, nat_tests);
+      is_text = λ e. ap (λ t. t ++ x ∷ []) same;
+    }
+
+pub is_line_long : {most : ℕ} {text octets : List ℕ} (long : Bool) (x : ℕ) → IsLine most text long octets → x ≢ 10 → length text ≡ most → IsLine most text true (octets ++ x ∷ [])
+is_line_long {most} {text} {octets} true x line n f = record {
+  no_feed = no_feed_more octets x line.no_feed n;
+  is_long = let h = line.is_long in grind (arith, common_steps, nat_tests);
+  is_text = λ e. cc;
+}
+is_line_long {most} {text} {octets} false x line n f =
+    let same : text ≡ octets = line.is_text refl in
+    record {
+      no_feed = no_feed_more octets x line.no_feed n;
+      is_long = let h = line.is_long in grind (arith, common_steps, nat_tests);
+      is_text = λ e. cc;
+    }
+
+pub so_far_more : {most limit left : ℕ} {text new_text : List ℕ} {long new_long : Bool} {a b c : Source} (x : ℕ)
+    (came : LineSoFar most text long limit left a b) → IsLine most new_text new_long (came.octets ++ x ∷ []) → Gives (x ∷ []) b c → (left ≡ 0 → ⊥)
+    → LineSoFar most new_text new_long limit (left - 1) a c
+so_far_more {most} {limit} {left} x came line gives z = record {
+  octets = came.octets ++ x ∷ [];
+  line = line;
+  gives = gives_more came.gives gives;
+  used = let u = came.used in let l = length-append came.octets (x ∷ []) in omega arith;
+}

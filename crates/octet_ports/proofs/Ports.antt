@@ -1,0 +1,53 @@
+-- What ports give and take in several calls.
+use Rattle.std.proofs.Common.{◌≡◌, ℕ, ◌+◌, ◌-◌, ◌≤◌, List, [], ◌++◌, length, take, refl, sym, ap, ◌∙◌, append_assoc, arith}
+use Rattle.std.proofs.Math.Seq.{take-append-add}
+use Rattle.std.proofs.lemmas.List.{take-append-le}
+use borrow.Rule.Slice.PartMut.{put_mid, post_of}
+use Rattle.std.proofs.lemmas.Grind.{common_steps}
+use Rattle.octet_ports.specs.Ports.{Source, Sink, Gives, Holds, Waits, Takes, TakesFirst}
+
+pub gives_none : (s : Source) → Gives [] s s
+gives_none s = record { stays = λ h. h; given = λ h. refl }
+
+pub holds_none : (s : Sink) → Holds [] s s
+holds_none s = record { stays = λ h. h; taken = λ h. grind (arith, common_steps) }
+
+pub waits_none : (s : Sink) → Waits s s
+waits_none s = record { stays = λ h. h; passed = λ h. refl }
+
+pub takes_none : (s : Sink) → Takes [] s s
+takes_none s = record { holds = holds_none s; waits = waits_none s }
+
+pub gives_more : {xs ys : List ℕ} {a b c : Source} → Gives xs a b → Gives ys b c → Gives (xs ++ ys) a c
+gives_more {xs} {ys} {a} {b} {c} g h = record {
+  stays = λ e. h.stays (g.stays e);
+  given = λ e. g.given e ∙ ap (λ r. xs ++ r) (h.given (g.stays e)) ∙ sym (append_assoc xs ys c.coming);
+}
+
+pub holds_more : {xs ys : List ℕ} {a b c : Sink} → Holds xs a b → Holds ys b c → Holds (xs ++ ys) a c
+holds_more {xs} {ys} {a} {b} {c} g h = record {
+  stays = λ e. h.stays (g.stays e);
+  taken = λ e. h.taken (g.stays e) ∙ ap (λ r. r ++ ys) (g.taken e) ∙ append_assoc a.held xs ys;
+}
+
+pub waits_more : {a b c : Sink} → Waits a b → Waits b c → Waits a c
+waits_more g h = record { stays = λ e. h.stays (g.stays e); passed = λ e. h.passed (g.stays e) ∙ g.passed e }
+
+pub takes_more : {xs ys : List ℕ} {a b c : Sink} → Takes xs a b → Takes ys b c → Takes (xs ++ ys) a c
+takes_more g h = record { holds = holds_more g.holds h.holds; waits = waits_more g.waits h.waits }
+
+pub takes_some : {xs ys : List ℕ} {a b c : Sink} → Takes xs a b → TakesFirst ys b c → TakesFirst (xs ++ ys) a c
+takes_some {xs} {ys} {a} {b} {c} g h = record {
+  count = length xs + h.count;
+  within = let w = h.within in grind (arith, common_steps);
+  first = rw (take-append-add xs ys h.count) (takes_more g h.first);
+}
+
+-- a part of a list is written over from the place on
+pub take-put_mid_more : (at count : ℕ) (xs ys : List ℕ) → at ≤ length xs → count ≤ length ys → take (at + count) (put_mid at (length xs - at) xs ys) ≡ take at xs ++ take count ys
+take-put_mid_more at count xs ys h f =
+    let rest = post_of at (length xs - at) xs in
+    let l : length (take at xs) ≡ at = grind (arith, common_steps) in
+    let e : take (length (take at xs) + count) (take at xs ++ (ys ++ rest)) ≡ take at xs ++ take count (ys ++ rest) = take-append-add (take at xs) (ys ++ rest) count in
+    let s : take count (ys ++ rest) ≡ take count ys = rw take-append-le refl in
+    rw l at e ∙ ap (λ r. take at xs ++ r) s

@@ -1,0 +1,48 @@
+-- What comes from an input: lines, and so many octets.
+use Rattle.std.specs.Prelude.{◌≡◌, ◌≢◌, ℕ, ◌+◌, ◌<◌, ◌≤◌, Bool, true, false, nat_lt, List, [], ◌∷◌, ◌++◌, length, All}
+use Rattle.octet_ports.specs.Ports.{Source, Gives, IsAtEnd}
+use Rattle.octet_ports.specs.declared.octets.LineFault.{LineFault}
+use Rattle.octet_ports.specs.declared.octets.LineFault.TheVariants.{Port, Limit}
+
+-- what ends a line: nothing ends the last one
+abbrev pub ending : Bool → List ℕ
+ending true = []
+ending false = 10 ∷ []
+
+abbrev pub IsNoFeed : ℕ → Type 0
+IsNoFeed b = b ≢ 10
+
+abbrev pub ended : List ℕ → List ℕ
+ended line = line ++ 10 ∷ []
+
+-- a line's octets as they are kept: the text, where it isn't long
+pub record IsLine (most : ℕ) (text : List ℕ) (long : Bool) (octets : List ℕ) : Type 0 where
+  pub no_feed : All IsNoFeed octets
+  pub is_long : long ≡ nat_lt most (length octets)
+  pub is_text : long ≡ false → text ≡ octets
+
+-- a line came with its ending, of so many octets that might
+pub record LineCame (most : ℕ) (text : List ℕ) (long last : Bool) (limit left : ℕ) (old new : Source) : Type 0 where
+  pub octets : List ℕ
+  pub line : IsLine most text long octets
+  pub gives : Gives (octets ++ ending last) old new
+  pub used : limit ≡ length (octets ++ ending last) + left
+  pub at_end : last ≡ true → IsAtEnd new
+
+-- the input gave out within a line, of so many octets that might come
+pub record BreaksOff (octets : List ℕ) (limit : ℕ) (old new : Source) : Type 0 where
+  pub no_feed : All IsNoFeed octets
+  pub gives : Gives octets old new
+  pub few : length octets ≤ limit
+
+-- why no line came: the input failed, or goes on after the limit
+abbrev pub LineFails : LineFault → ℕ → Source → Source → Type 0
+LineFails Port limit old new = (new.failed ≡ true) × ((octets : List ℕ) × BreaksOff octets limit old new)
+LineFails Limit limit old new =
+    (new.failed ≡ false) × ((octets : List ℕ) × (next : ℕ) × All IsNoFeed octets × Gives (octets ++ next ∷ []) old new × (limit ≡ length octets))
+
+-- an honest input ended before so many octets came
+pub record EndsWithin (count : ℕ) (old new : Source) : Type 0 where
+  pub stays : old.honest ≡ true → new.honest ≡ true
+  pub few : old.honest ≡ true → length old.coming < count
+  pub at_end : IsAtEnd new

@@ -1,0 +1,14 @@
+//! Ports: what octets come from and go to, and whole buffers and lines through them.
+#![tactic(auto)]
+
+mod device;
+mod octets;
+mod port;
+mod tape;
+#[cfg(test)]
+mod tests;
+
+pub use device::{Reading, Writing};
+pub use octets::{LineFault, ReadLine, read_line, read_octets, write_octets};
+pub use port::{PortFault, PortIn, PortOut};
+pub use tape::{TAPE_OCTETS, TapeIn, TapeOut};

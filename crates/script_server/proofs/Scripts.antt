@@ -1,0 +1,172 @@
+-- Lines served one after another.
+use Rattle.std.proofs.Common.{◌≡◌, ◌≢◌, ℕ, suc, slice_index_or, ◌+◌, ◌<◌, Bool, true, false, List, [], ◌∷◌, ◌++◌, map, length, refl, sym, ap, ◌∙◌, append_assoc, length-append, arith, eqb}
+use Rattle.std.specs.List.{All, flat_map}
+use Rattle.std.proofs.lemmas.List.{append-nil}
+use Rattle.std.proofs.lemmas.List.Elements.{All-nil, All-weaker}
+use Rattle.std.proofs.lemmas.List.Splits.{slice_split_none, slice_split_at, length-slice_split}
+use Rattle.std.proofs.lemmas.Grind.{common_steps}
+use Rattle.std.proofs.lemmas.Bool.Decides.{nat_tests}
+use Rattle.octet_ports.specs.Ports.{Source, Sink, Gives, IsAtEnd}
+use Rattle.octet_ports.specs.Lines.{LineCame}
+use Rattle.octet_ports.proofs.Ports.{gives_none, gives_more}
+use Rattle.octet_ports.specs.Lines.{IsNoFeed, ending, ended}
+use Rattle.script_server.specs.Served.{Machine, Run, Written, line_answer, lines_answer, then_answer, order_of, refusals, ended_lines}
+use Rattle.voice_script.specs.Script.{lines_of}
+use Rattle.script_server.specs.Runs.{IsHonest}
+use Rattle.script_server.specs.LineRuns.{run_of}
+use Rattle.script_server.proofs.SoFar.{ServedSoFar, Consumes}
+use Rattle.voice_script.specs.declared.limits.TheConstants.{LINE_OCTETS}
+use Rattle.script_server.specs.declared.limits.TheConstants.{SCRIPT_OCTETS}
+use Rattle.script_server.proofs.Writes.{writes_none, order_of-append}
+
+-- ---- answers
+
+pub lines_answer-append : {S : Type 0} (m : Machine S) (run : Run S) (xs ys : List (List ℕ))
+    → lines_answer m run (xs ++ ys) ≡ then_answer m (lines_answer m run xs).written (lines_answer m (lines_answer m run xs).run ys)
+unfolding lines_answer
+lines_answer-append m run [] ys = refl
+lines_answer-append m run (x ∷ xs) ys =
+    let a = line_answer m run x in
+    ap (then_answer m a.written) (lines_answer-append m a.run xs ys)
+    ∙ ap (λ w. record { run = (lines_answer m (lines_answer m a.run xs).run ys).run; written = w })
+    (sym (append_assoc a.written (lines_answer m a.run xs).written (lines_answer m (lines_answer m a.run xs).run ys).written))
+
+pub lines_answer-first : {S : Type 0} (m : Machine S) (run : Run S) (x : List ℕ) (xs : List (List ℕ))
+    → lines_answer m run (x ∷ xs) ≡ then_answer m (line_answer m run x).written (lines_answer m (line_answer m run x).run xs)
+unfolding lines_answer
+lines_answer-first m run x xs = refl
+
+pub lines_answer-one : {S : Type 0} (m : Machine S) (run : Run S) (x : List ℕ) → lines_answer m run (x ∷ []) ≡ line_answer m run x
+unfolding lines_answer
+lines_answer-one m run x = ap (λ w. record { run = (line_answer m run x).run; written = w }) (append-nil (line_answer m run x).written)
+
+pub lines_answer-push : {S : Type 0} (m : Machine S) (run : Run S) (xs : List (List ℕ)) (x : List ℕ)
+    → lines_answer m run (xs ++ x ∷ []) ≡ then_answer m (lines_answer m run xs).written (line_answer m (lines_answer m run xs).run x)
+lines_answer-push m run xs x = lines_answer-append m run xs (x ∷ []) ∙ ap (then_answer m (lines_answer m run xs).written) (lines_answer-one m (lines_answer m run xs).run x)
+
+pub refusals-append : (xs ys : List Written) → refusals (xs ++ ys) ≡ refusals xs + refusals ys
+unfolding refusals
+refusals-append xs ys = grind (arith, common_steps)
+
+-- ---- lines of a script
+
+no_feed_test : (b : ℕ) → b ≢ 10 → eqb b 10 ≡ false
+no_feed_test b n = grind (arith, nat_tests)
+
+pub lines_of_first : (line rest : List ℕ) → All IsNoFeed line → lines_of (line ++ 10 ∷ rest) ≡ line ∷ lines_of rest
+lines_of_first line rest n = slice_split_at (λ b. eqb b 10) line 10 rest (All-weaker IsNoFeed (λ b. eqb b 10 ≡ false) no_feed_test line n) refl
+
+pub lines_of_last : (line : List ℕ) → All IsNoFeed line → lines_of line ≡ line ∷ []
+lines_of_last line n = slice_split_none (λ b. eqb b 10) line (All-weaker IsNoFeed (λ b. eqb b 10 ≡ false) no_feed_test line n)
+
+-- lines that line feeds ended, and what follows
+pub lines_of_ended : (lines : List (List ℕ)) (rest : List ℕ) → ((k : ℕ) → k < length lines → All IsNoFeed (slice_index_or lines k [])) → lines_of (flat_map ended lines ++ rest) ≡ lines ++ lines_of rest
+lines_of_ended [] rest n = refl
+lines_of_ended (line ∷ lines) rest n =
+    let shape : flat_map ended (line ∷ lines) ++ rest ≡ line ++ 10 ∷ (flat_map ended lines ++ rest) = grind (arith, common_steps) in
+    ap lines_of shape ∙ lines_of_first line (flat_map ended lines ++ rest) (n 0 (omega arith))
+    ∙ ap (λ r. line ∷ r) (lines_of_ended lines rest (λ k h. n (suc k) (omega arith)))
+
+-- ---- a run's lines
+
+pub served_none : {S : Type 0} (m : Machine S) (keeps : S → Type 0) (state : S) (script : Source) (sources : List Source) (outputs : List Sink) (replies : Sink)
+    → keeps state → All IsHonest sources → ServedSoFar m keeps (run_of state sources) 0 SCRIPT_OCTETS script script sources outputs outputs replies replies
+unfolding lines_answer order_of refusals
+served_none m keeps state script sources outputs replies k h = record {
+  lines = [];
+  no_feeds = All-nil (λ line. All IsNoFeed line);
+  gives = gives_none script;
+  used = refl;
+  kept = k;
+  honest = h;
+  inputs = refl;
+  writes = writes_none outputs replies;
+  counted = refl;
+}
+
+pub consumes_more : {left new_left : ℕ} {script a b : Source} {text : List ℕ} {long last : Bool} → Consumes left script a → LineCame LINE_OCTETS text long last left new_left a b → Consumes new_left script b
+consumes_more {left = left} {new_left = new_left} {last = last} c line = record {
+  octets = c.octets ++ (line.octets ++ ending last);
+  gives = gives_more c.gives line.gives;
+  used =
+      let u : SCRIPT_OCTETS ≡ length c.octets + left = c.used in
+      let v : left ≡ length (line.octets ++ ending last) + new_left = line.used in
+      let l : length (c.octets ++ (line.octets ++ ending last)) ≡ length c.octets + length (line.octets ++ ending last) = length-append c.octets (line.octets ++ ending last) in
+      omega arith;
+}
+
+-- what lines and one more write
+pub order_push : {S : Type 0} (m : Machine S) (start : Run S) (lines : List (List ℕ)) (octets : List ℕ)
+    → order_of (lines_answer m start (lines ++ octets ∷ [])).written
+    ≡ order_of (lines_answer m start lines).written ++ order_of (line_answer m (lines_answer m start lines).run octets).written
+order_push m start lines octets =
+    ap (λ a. order_of a.written) (lines_answer-push m start lines octets)
+    ∙ order_of-append (lines_answer m start lines).written (line_answer m (lines_answer m start lines).run octets).written
+
+module _ {S : Type 0} (m : Machine S) (start : Run S) where
+  pub run_is : (run : Run S) (sources : List Source) → run.inputs ≡ map (λ s. s.coming) sources → run ≡ run_of run.state sources
+  run_is run sources e = ap (λ i. record { state = run.state; inputs = i }) e
+
+  -- what the lines so far and one more write
+  pub order_more : (lines : List (List ℕ)) (sources : List Source) (octets : List ℕ) → (lines_answer m start lines).run.inputs ≡ map (λ s. s.coming) sources
+      → order_of (lines_answer m start (lines ++ octets ∷ [])).written
+      ≡ order_of (lines_answer m start lines).written ++ order_of (line_answer m (run_of (lines_answer m start lines).run.state sources) octets).written
+  order_more lines sources octets e =
+      order_push m start lines octets
+      ∙ ap (λ r. order_of (lines_answer m start lines).written ++ order_of (line_answer m r octets).written) (run_is (lines_answer m start lines).run sources e)
+
+  pub run_more : (lines : List (List ℕ)) (sources : List Source) (octets : List ℕ) → (lines_answer m start lines).run.inputs ≡ map (λ s. s.coming) sources
+      → (lines_answer m start (lines ++ octets ∷ [])).run ≡ (line_answer m (run_of (lines_answer m start lines).run.state sources) octets).run
+  run_more lines sources octets e =
+      ap (λ a. a.run) (lines_answer-push m start lines octets) ∙ ap (λ r. (line_answer m r octets).run) (run_is (lines_answer m start lines).run sources e)
+
+  pub refusals_more : (lines : List (List ℕ)) (sources : List Source) (octets : List ℕ) → (lines_answer m start lines).run.inputs ≡ map (λ s. s.coming) sources
+      → refusals (lines_answer m start (lines ++ octets ∷ [])).written
+      ≡ refusals (lines_answer m start lines).written + refusals (line_answer m (run_of (lines_answer m start lines).run.state sources) octets).written
+  refusals_more lines sources octets e =
+      ap (λ a. refusals a.written) (lines_answer-push m start lines octets)
+      ∙ refusals-append (lines_answer m start lines).written (line_answer m (lines_answer m start lines).run octets).written
+      ∙ ap (λ r. refusals (lines_answer m start lines).written + refusals (line_answer m r octets).written) (run_is (lines_answer m start lines).run sources e)
+
+-- a script has a last line
+pub last_of : {A : Type 0} (xs : List A) → 0 < length xs → (front : List A) × (last : A) × (xs ≡ front ++ last ∷ [])
+last_of [] h = absurd (omega arith)
+last_of (x ∷ []) h = ([], x, refl)
+last_of (x ∷ y ∷ xs) h = let rest = last_of (y ∷ xs) (omega arith) in (x ∷ rest.0, rest.1, ap (λ r. x ∷ r) rest.2)
+
+pub last_line_of : (script : List ℕ) → (front : List (List ℕ)) × (last : List ℕ) × (lines_of script ≡ front ++ last ∷ [])
+last_line_of script = last_of (lines_of script) (omega (arith, length-slice_split (λ b. eqb b 10) script))
+
+pub ended_more : (lines : List (List ℕ)) (octets : List ℕ) → flat_map ended (lines ++ octets ∷ []) ≡ flat_map ended lines ++ (octets ++ 10 ∷ [])
+ended_more lines octets = grind (arith, common_steps)
+
+pub lines_at : (lines : List (List ℕ)) → All (λ line. All IsNoFeed line) lines → (k : ℕ) → k < length lines → All IsNoFeed (slice_index_or lines k [])
+lines_at lines n k h = n k [] h
+
+-- the last line ends the script
+pub last_coming : {xs : List ℕ} (octets : List ℕ) {script a b : Source} → IsHonest script → Gives xs script a → Gives (octets ++ []) a b → IsAtEnd b → script.coming ≡ xs ++ octets
+last_coming {xs} octets {script} {a} {b} h g f e =
+    let nothing : b.coming ≡ [] = e (f.stays (g.stays h)) in
+    let whole : (octets ++ []) ++ b.coming ≡ octets = rw nothing (grind (arith, common_steps)) in
+    g.given h ∙ ap (λ r. xs ++ r) (f.given (g.stays h) ∙ whole)
+
+-- a line that was read is the next of the script's
+pub next_line : (lines : List (List ℕ)) (octets : List ℕ) (last : Bool) (script a b : Source) → All (λ line. All IsNoFeed line) lines → All IsNoFeed octets → IsHonest script
+    → Gives (flat_map ended lines) script a → Gives (octets ++ ending last) a b → (last ≡ true → IsAtEnd b) → (more : List (List ℕ)) × (lines_of script.coming ≡ lines ++ octets ∷ more)
+next_line lines octets true script a b n o h g f e =
+    let coming : script.coming ≡ flat_map ended lines ++ octets = last_coming octets h g f (e refl) in
+    ([], ap lines_of coming ∙ lines_of_ended lines octets (lines_at lines n) ∙ ap (λ r. lines ++ r) (lines_of_last octets o))
+next_line lines octets false script a b n o h g f e =
+    let coming : script.coming ≡ flat_map ended lines ++ (octets ++ 10 ∷ b.coming) = g.given h ∙ ap (λ r. flat_map ended lines ++ r) (f.given (g.stays h) ∙ append_assoc octets (10 ∷ []) b.coming) in
+    (lines_of b.coming, ap lines_of coming ∙ lines_of_ended lines (octets ++ 10 ∷ b.coming) (lines_at lines n) ∙ ap (λ r. lines ++ r) (lines_of_first octets b.coming o))
+
+pub last_line : (lines : List (List ℕ)) (octets : List ℕ) (script a b : Source) → All (λ line. All IsNoFeed line) lines → All IsNoFeed octets → IsHonest script
+    → Gives (flat_map ended lines) script a → Gives (octets ++ []) a b → IsAtEnd b → lines_of script.coming ≡ lines ++ octets ∷ []
+last_line lines octets script a b n o h g f e =
+    ap lines_of (last_coming octets h g f e) ∙ lines_of_ended lines octets (lines_at lines n) ∙ ap (λ r. lines ++ r) (lines_of_last octets o)
+
+-- lines that line feeds ended, and less than a line: these are the lines that ended
+pub ended_lines_of : (lines : List (List ℕ)) (rest : List ℕ) → All (λ line. All IsNoFeed line) lines → All IsNoFeed rest → ended_lines (flat_map ended lines ++ rest) ≡ lines
+ended_lines_of lines rest n o =
+    let e : lines_of (flat_map ended lines ++ rest) ≡ lines ++ rest ∷ [] = lines_of_ended lines rest (lines_at lines n) ∙ ap (λ r. lines ++ r) (lines_of_last rest o) in
+    rw e (grind (arith, common_steps))

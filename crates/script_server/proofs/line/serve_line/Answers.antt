@@ -1,0 +1,55 @@
+use Rattle.std.proofs.Common.{refl}
+use Rattle.std.proofs.lemmas.Result.{IfOk-weaker}
+use Rattle.script_server.proofs.LineAnswers.{served_long, cut_long, served_asked, cut_asked, served_reply, cut_reply, served_nothing}
+use Rattle.script_server.proofs.Writes.{wait_none, wait_reply}
+use Rattle.script_server.proofs.line.serve_line.Goals as goal
+
+pub returns-in-Ok-clause-served : goal.returns-in-Ok-clause-served
+returns-in-Ok-clause-served g c = λ octets s line k h.
+    served_long (g.T.LineMachine.keeps c.args.machine.now) g.T.LineMachine.machine s _ _ (rw c.if-long.true at line) k h (c.in-Ok.ensures.ok refl)
+
+pub returns-in-Err-clause-cut : goal.returns-in-Err-clause-cut
+returns-in-Err-clause-cut g c = λ is octets s line k h.
+    cut_long g.T.LineMachine.machine s _ _ (rw c.if-long.true at line) (c.in-Err.ensures.fault refl)
+
+pub returns-in-Nothing-clause-served : goal.returns-in-Nothing-clause-served
+returns-in-Nothing-clause-served g c = λ octets s line k h.
+    served_asked (g.T.LineMachine.keeps c.ask.new.self) g.T.LineMachine.machine s _ (rw c.if-long.false at line) (c.in-Nothing.ensures.asked s k)
+    (served_nothing (g.T.LineMachine.keeps c.ask.new.self) _ _ _ _ (c.ask.ensures.after s k) h)
+
+pub returns-in-Ok-tell-clause-served : goal.returns-in-Ok-tell-clause-served
+returns-in-Ok-tell-clause-served g c = λ octets s line k h.
+    served_asked (g.T.LineMachine.keeps c.ask.new.self) g.T.LineMachine.machine s _ (rw c.if-long.false at line) (c.in-Tell.ensures.asked s k)
+    (rw c.is_refusal.ensures (served_reply (g.T.LineMachine.keeps c.ask.new.self) _ _ _ _ _ (c.ask.ensures.after s k) h (c.in-Ok-tell.ensures.ok refl)))
+
+pub returns-in-Err-tell-clause-cut : goal.returns-in-Err-tell-clause-cut
+returns-in-Err-tell-clause-cut g c = λ is octets s line k h.
+    cut_asked g.T.LineMachine.machine s _ (rw c.if-long.false at line) (c.in-Tell.ensures.asked s k)
+    (cut_reply _ _ _ _ _ (c.in-Err-tell.ensures.fault refl))
+
+pub returns-in-Feed-clause-served : goal.returns-in-Feed-clause-served
+returns-in-Feed-clause-served g c = IfOk-weaker c.serve_feed.result _ _ (λ refused fed octets s line k h.
+    served_asked (g.T.LineMachine.keeps c.serve_feed.new.machine) g.T.LineMachine.machine s _ (rw c.if-long.false at line) (c.in-Feed.ensures.asked s k)
+    (fed (g.T.LineMachine.machine.after s c.args.line.now) (c.ask.ensures.after s k) h)) c.serve_feed.ensures.served
+
+pub returns-in-Feed-clause-cut : goal.returns-in-Feed-clause-cut
+returns-in-Feed-clause-cut g c = λ is octets s line k h.
+    cut_asked g.T.LineMachine.machine s _ (rw c.if-long.false at line) (c.in-Feed.ensures.asked s k)
+    (c.serve_feed.ensures.cut is (g.T.LineMachine.machine.after s c.args.line.now) (c.ask.ensures.after s k) h)
+
+-- ---- nothing is passed on
+
+pub returns-in-Ok-clause-waits : goal.returns-in-Ok-clause-waits
+returns-in-Ok-clause-waits g c = wait_reply _ (c.in-Ok.ensures.ok refl).waits
+
+pub returns-in-Err-clause-waits : goal.returns-in-Err-clause-waits
+returns-in-Err-clause-waits g c = wait_reply _ (c.in-Err.ensures.fault refl).first.waits
+
+pub returns-in-Nothing-clause-waits : goal.returns-in-Nothing-clause-waits
+returns-in-Nothing-clause-waits g c = wait_none _ _
+
+pub returns-in-Ok-tell-clause-waits : goal.returns-in-Ok-tell-clause-waits
+returns-in-Ok-tell-clause-waits g c = wait_reply _ (c.in-Ok-tell.ensures.ok refl).waits
+
+pub returns-in-Err-tell-clause-waits : goal.returns-in-Err-tell-clause-waits
+returns-in-Err-tell-clause-waits g c = wait_reply _ (c.in-Err-tell.ensures.fault refl).first.waits

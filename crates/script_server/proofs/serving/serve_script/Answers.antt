@@ -1,0 +1,95 @@
+use Rattle.std.proofs.Common.{rules, ◌≡◌, arith, ◌+◌, refl, ap, Err, ◌≤◌, length, ◌++◌, ◌∷◌, [], if◌then◌else◌, inl, inr}
+use Rattle.std.proofs.lemmas.Grind.{common_steps}
+use Rattle.octet_ports.proofs.Ports.{gives_none}
+use Rattle.script_server.proofs.Scripts.{served_none, consumes_more}
+use Rattle.script_server.proofs.Writes.{wait_none, wait_more}
+use Rattle.script_server.proofs.Ends.{served_more, served_all, script_cut, stops_in_script, stops_in_feed, why_failed, consumes_within, consumes_then}
+use Rattle.script_server.specs.declared.serving.PortsFault.TheVariants.{Read, Write}
+use Rattle.script_server.proofs.serving.serve_script.Goals as goal
+use Rattle.script_server.proofs.serving.serve_script.Goals.{then-is_refused, else-is_refused}
+
+pub lines-init : goal.lines-init
+lines-init g c = record {
+  script = search rules;
+  one = search rules;
+  pairs = search rules;
+  ready = search rules;
+  few = search rules;
+  came = record { octets = _; gives = gives_none _; used = refl };
+  waits = wait_none _ _;
+  served = λ h. served_none g.T.LineMachine.machine (g.T.LineMachine.keeps c.args.machine.now) g.state _ _ _ _ (search rules) h;
+}
+
+pub returns-in-Err-clause-read : goal.returns-in-Err-clause-read
+returns-in-Err-clause-read g c = λ is. record {
+  failed = why_failed _ c.in-Err.field-0 c.lines.invariant.came c.in-Err.ensures.err;
+  passed = c.lines.invariant.waits;
+  served = λ h. stops_in_script g.T.LineMachine.machine _ _ _ (c.lines.invariant.served h) c.in-Err.field-0 c.in-Err.ensures.err;
+}
+
+pub returns-in-Err-serve_line-clause-write : goal.returns-in-Err-serve_line-clause-write
+returns-in-Err-serve_line-clause-write g c = λ is.
+    let e : c.in-Err-serve_line.fault ≡ Write = cc in
+    let came = c.in-Ok.ensures.ok in
+    record {
+      failed = c.in-Err-serve_line.ensures.write (ap Err e);
+      passed = inl (wait_more c.lines.invariant.waits c.in-Err-serve_line.ensures.waits).reply;
+      served = λ honest h. let served = c.lines.invariant.served h in
+          script_cut g.T.LineMachine.machine _ _ _ honest served came
+          (c.in-Err-serve_line.ensures.cut (ap Err e) came.octets _ (rw (c.as_slice.ensures.value) came.line) served.kept served.honest);
+    }
+
+pub returns-in-Err-serve_line-clause-read : goal.returns-in-Err-serve_line-clause-read
+returns-in-Err-serve_line-clause-read g c = λ is.
+    let e : c.in-Err-serve_line.fault ≡ Read = cc in
+    let came = c.in-Ok.ensures.ok in
+    record {
+      failed = inr (inl (c.in-Err-serve_line.ensures.read (ap Err e)));
+      passed = wait_more c.lines.invariant.waits c.in-Err-serve_line.ensures.waits;
+      served = λ h. let served = c.lines.invariant.served h in
+          stops_in_feed g.T.LineMachine.machine _ _ _ served came
+          (c.in-Err-serve_line.ensures.unfed (ap Err e) came.octets _ (rw (c.as_slice.ensures.value) came.line) served.kept);
+    }
+
+pub returns-then-line-clause-ok : goal.returns-then-line-clause-ok
+returns-then-line-clause-ok g c =
+    let came = rw c.if-line.true at c.in-Ok.ensures.ok in
+    let count : c.if-is_refused.refused ≡ c.lines.refused + (if c.in-Ok-serve_line.is_refused then 1 else 0) =
+    elim c.if-is_refused.branch [ then-is_refused w ↦ rw w.if-is_refused.true w.refused-is | else-is_refused w ↦ rw w.if-is_refused.false (omega (arith, w.refused-is)) ] in
+    record {
+      script = search rules;
+      ready = search rules;
+      served = λ honest h. let served = c.lines.invariant.served h in
+          served_all g.T.LineMachine.machine _ _ _ honest served came
+          (c.in-Ok-serve_line.ensures.served came.octets _ (rw (c.as_slice.ensures.value) came.line) served.kept served.honest) count;
+    }
+
+pub lines-preserved : goal.lines-preserved
+lines-preserved g c =
+    let came = rw c.if-line.false at c.in-Ok.ensures.ok in
+    let count : c.if-is_refused.refused ≡ c.lines.refused + (if c.in-Ok-serve_line.is_refused then 1 else 0) =
+    elim c.if-is_refused.branch [ then-is_refused w ↦ rw w.if-is_refused.true w.refused-is | else-is_refused w ↦ rw w.if-is_refused.false (omega (arith, w.refused-is)) ] in
+    let one : c.if-is_refused.refused ≤ c.lines.refused + 1 =
+    elim c.if-is_refused.branch [ then-is_refused w ↦ omega arith | else-is_refused w ↦ omega arith ] in
+    let used : c.lines.left ≡ length (came.octets ++ 10 ∷ []) + c.read_line.new.left = came.used in
+    record {
+      script = search rules;
+      one = search rules;
+      pairs = search rules;
+      ready = search rules;
+      few = let f = c.lines.invariant.few in grind (arith, common_steps);
+      came = consumes_more c.lines.invariant.came came;
+      waits = wait_more c.lines.invariant.waits c.in-Ok-serve_line.ensures.waits;
+      served = λ h. let served = c.lines.invariant.served h in
+          served_more g.T.LineMachine.machine _ served came
+          (c.in-Ok-serve_line.ensures.served came.octets _ (rw (c.as_slice.ensures.value) came.line) served.kept served.honest) count;
+    }
+
+pub returns-in-Err-clause-few : goal.returns-in-Err-clause-few
+returns-in-Err-clause-few g c = consumes_then c.in-Err.field-0 c.lines.invariant.came c.in-Err.ensures.err
+
+pub returns-in-Err-serve_line-clause-few : goal.returns-in-Err-serve_line-clause-few
+returns-in-Err-serve_line-clause-few g c = consumes_within (consumes_more c.lines.invariant.came c.in-Ok.ensures.ok)
+
+pub returns-then-line-clause-few : goal.returns-then-line-clause-few
+returns-then-line-clause-few g c = consumes_within (consumes_more c.lines.invariant.came c.in-Ok.ensures.ok)

@@ -1,0 +1,23 @@
+-- What a line asks of the ports.
+use Rattle.std.specs.Prelude.{ℕ, ◌*◌, ◌<◌}
+use Rattle.script_server.specs.Served as served
+use Rattle.voice_script.specs.ReplyViews.{reply_of}
+use Rattle.script_server.specs.declared.limits.TheConstants.{SAMPLE_OCTETS}
+use Rattle.script_server.specs.declared.machine.Ask.{Ask}
+use Rattle.script_server.specs.declared.machine.Ask.TheVariants.{Nothing, Tell, Feed}
+
+abbrev pub asked_of : Ask → served.Asked
+asked_of Nothing = served.Nothing
+asked_of (Tell reply) = served.tells (reply_of reply)
+asked_of (Feed channel samples) = served.Feed channel (SAMPLE_OCTETS * samples.number)
+
+-- the channel is one of so many, and takes feeds
+pub record IsReady {X : Type 0} (takes_feeds : X → ℕ → Type 0) (channels : ℕ) (machine : X) (channel : ℕ) : Type 0 where
+  pub there : channel < channels
+  pub able : takes_feeds machine channel
+
+-- a channel that is asked to feed is ready
+abbrev pub AskIsReady : {X : Type 0} → (X → ℕ → Type 0) → ℕ → X → Ask → Type 0
+AskIsReady takes_feeds channels machine Nothing = Unit {0}
+AskIsReady takes_feeds channels machine (Tell reply) = Unit {0}
+AskIsReady takes_feeds channels machine (Feed channel samples) = IsReady takes_feeds channels machine channel

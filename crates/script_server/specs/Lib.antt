@@ -1,0 +1,4 @@
+pub mod Asks
+pub mod LineRuns
+pub mod Runs
+pub mod Served

@@ -1,0 +1,40 @@
+-- For private clauses alone: what a line did to the ports.
+use Rattle.std.specs.Prelude.{◌≡◌, ℕ, ◌≤◌, Bool, List, [], ◌++◌, map, length, All, if◌then◌else◌}
+use Rattle.octet_ports.specs.Ports.{Source, Sink}
+use Rattle.script_server.specs.Served.{Machine, Run, Answer, Octet, order_of, refusals, Feed}
+use Rattle.script_server.specs.Runs.{IsHonest, Writes, StepsAt, FailsWithin, no_source}
+use Rattle.voice_script.specs.declared.limits.TheConstants.{LINE_OCTETS}
+
+abbrev pub run_of : {S : Type 0} → S → List Source → Run S
+run_of state sources = record { state = state; inputs = map (λ s. s.coming) sources }
+
+-- the ports together hold the first of these more, in their one order
+pub record WritesFirst (order : List Octet) (outputs new_outputs : List Sink) (replies new_replies : Sink) : Type 0 where
+  pub first : List Octet
+  pub later : List Octet
+  pub is_first : order ≡ first ++ later
+  pub writes : Writes first outputs new_outputs replies new_replies
+
+-- an answer was given whole
+pub record IsServed {S : Type 0} (keeps : S → Type 0) (answer : Answer S) (refused : Bool)
+    (sources : List Source) (outputs new_outputs : List Sink) (replies new_replies : Sink) : Type 0 where
+  pub kept : keeps answer.run.state
+  pub honest : All IsHonest sources
+  pub inputs : answer.run.inputs ≡ map (λ s. s.coming) sources
+  pub writes : Writes (order_of answer.written) outputs new_outputs replies new_replies
+  pub counted : refusals answer.written ≡ (if refused then 1 else 0)
+
+-- an answer was cut: its input was read, and the first of what it has was written
+pub record IsCut {S : Type 0} (answer : Answer S) (sources : List Source) (outputs new_outputs : List Sink) (replies new_replies : Sink) : Type 0 where
+  pub inputs : answer.run.inputs ≡ map (λ s. s.coming) sources
+  pub writes : WritesFirst (order_of answer.written) outputs new_outputs replies new_replies
+
+-- a line's feed was not given, since its channel's input failed, and nothing was written
+pub record IsUnfed {S : Type 0} (machine : Machine S) (state : S) (line : List ℕ) (sources new_sources : List Source)
+    (outputs new_outputs : List Sink) (replies new_replies : Sink) : Type 0 where
+  pub fits : length line ≤ LINE_OCTETS
+  pub channel : ℕ
+  pub count : ℕ
+  pub asked : machine.asked state line ≡ Feed channel count
+  pub input : StepsAt (FailsWithin count) channel no_source sources new_sources
+  pub writes : Writes [] outputs new_outputs replies new_replies

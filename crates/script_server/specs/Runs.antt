@@ -1,0 +1,166 @@
+-- How a run of the engine ended: what it did to its ports.
+use Rattle.std.specs.Prelude.{◌≡◌, ◌⊎◌, ℕ, ◌<◌, ◌≤◌, Bool, true, false, List, [], ◌∷◌, ◌++◌, map, length, Some, None, slice_index_or, slice_set, All, Any}
+use Rattle.std.specs.List.{flat_map}
+use Rattle.octet_ports.specs.Ports.{Source, Sink, Gives, GivesWithin, Holds, Waits, IsAtEnd, HasPassedAll}
+use Rattle.octet_ports.specs.Lines.{IsNoFeed, ending, ended}
+use Rattle.script_server.specs.Served.{Machine, Run, Octet, held_by, order_of, refusals, line_answer, lines_answer, ended_lines, Feed}
+use Rattle.voice_script.specs.Script.{lines_of}
+use Rattle.voice_script.specs.declared.limits.TheConstants.{LINE_OCTETS}
+use Rattle.script_server.specs.declared.limits.TheConstants.{SCRIPT_OCTETS}
+
+-- ---- one port
+
+abbrev pub no_source : Source
+no_source = record { honest = false; coming = []; failed = false }
+
+abbrev pub no_sink : Sink
+no_sink = record { honest = false; held = []; passed = 0; failed = false }
+
+abbrev pub IsHonest : Source → Type 0
+IsHonest source = source.honest ≡ true
+
+abbrev pub IsReadyIn : Source → Type 0
+IsReadyIn source = source.failed ≡ false
+
+abbrev pub IsReadyOut : Sink → Type 0
+IsReadyOut sink = sink.failed ≡ false
+
+abbrev pub HasFailedIn : Source → Type 0
+HasFailedIn source = source.failed ≡ true
+
+abbrev pub HasFailedOut : Sink → Type 0
+HasFailedOut sink = sink.failed ≡ true
+
+-- the input failed within so many octets
+pub record FailsWithin (most : ℕ) (old new : Source) : Type 0 where
+  pub failed : HasFailedIn new
+  pub gives : GivesWithin most old new
+
+-- ---- several
+
+-- the port of this number went a step, and the others stayed
+pub record StepsAt {A : Type 0} (Step : A → A → Type 0) (number : ℕ) (none : A) (old new : List A) : Type 0 where
+  pub after : A
+  pub others : new ≡ slice_set old number after
+  pub step : Step (slice_index_or old number none) after
+
+-- no port has failed
+pub record AreReady (sources : List Source) (outputs : List Sink) (replies : Sink) : Type 0 where
+  pub inputs : All IsReadyIn sources
+  pub outs : All IsReadyOut outputs
+  pub reply : IsReadyOut replies
+
+-- each port holds its octets of these more
+pub record Writes (order : List Octet) (outputs new_outputs : List Sink) (replies new_replies : Sink) : Type 0 where
+  pub count : length new_outputs ≡ length outputs
+  pub output : (channel : ℕ) → channel < length outputs
+      → Holds (held_by (Some channel) order) (slice_index_or outputs channel no_sink) (slice_index_or new_outputs channel no_sink)
+  pub reply : Holds (held_by None order) replies new_replies
+
+-- no port passed anything on
+pub record AllWait (outputs new_outputs : List Sink) (replies new_replies : Sink) : Type 0 where
+  pub count : length new_outputs ≡ length outputs
+  pub output : (channel : ℕ) → channel < length outputs → Waits (slice_index_or outputs channel no_sink) (slice_index_or new_outputs channel no_sink)
+  pub reply : Waits replies new_replies
+
+abbrev pub octets_to_come : List Source → List (List ℕ)
+octets_to_come sources = map (λ s. s.coming) sources
+
+-- what is known of all the ports of a run
+pub record Devices : Type 0 where
+  pub script : Source
+  pub inputs : List Source
+  pub outputs : List Sink
+  pub replies : Sink
+
+-- by the ports, of what kinds ever
+abbrev pub known_of : {S I O P : Type 0} → (S → Source) → (I → Source) → (O → Sink) → (P → Sink) → S → List I → List O → P → Devices
+known_of source_of_script source_of_input sink_of_output sink_of_replies script inputs outputs replies = record {
+  script = source_of_script script;
+  inputs = map source_of_input inputs;
+  outputs = map sink_of_output outputs;
+  replies = sink_of_replies replies;
+}
+
+-- no port was used
+pub record IsUnused {S I O P : Type 0} (old_script new_script : S) (old_inputs new_inputs : I) (old_outputs new_outputs : O) (old_replies new_replies : P) : Type 0 where
+  pub script : new_script ≡ old_script
+  pub inputs : new_inputs ≡ old_inputs
+  pub outputs : new_outputs ≡ old_outputs
+  pub replies : new_replies ≡ old_replies
+
+-- the script, if it is honest, goes on after the limit
+abbrev pub GoesOn : Source → Type 0
+GoesOn script = IsHonest script → SCRIPT_OCTETS < length script.coming
+
+-- ---- how a run ended
+
+module _ {S : Type 0} (machine : Machine S) (start : Run S) where
+  -- all of an honest script was served, between honest ports
+  pub record ServedAll (refused : ℕ) (old new : Devices) : Type 0 where
+    pub at_end : new.script.coming ≡ []
+    pub inputs : (lines_answer machine start (lines_of old.script.coming)).run.inputs ≡ octets_to_come new.inputs
+    pub writes : Writes (order_of (lines_answer machine start (lines_of old.script.coming)).written) old.outputs new.outputs old.replies new.replies
+    pub counted : refusals (lines_answer machine start (lines_of old.script.coming)).written ≡ refused
+
+  pub record ServesAll (refused : ℕ) (old new : Devices) : Type 0 where
+    pub script : IsReadyIn new.script
+    pub ready : AreReady new.inputs new.outputs new.replies
+    pub served : IsHonest old.script → All IsHonest old.inputs → ServedAll refused old new
+
+  -- all was served, no port has failed, and each honest one has passed all on
+  pub record EndsWell (refused : ℕ) (old new : Devices) : Type 0 where
+    pub serves : ServesAll refused old new
+    pub outputs_passed : All HasPassedAll new.outputs
+    pub replies_passed : HasPassedAll new.replies
+
+  -- the first lines of an honest script were served, between honest ports: whole, but for a last part of the last one's answer
+  pub record ServedFirst (old new : Devices) : Type 0 where
+    pub whole : List (List ℕ)
+    pub last : List ℕ
+    pub more : List (List ℕ)
+    pub are_first : lines_of old.script.coming ≡ whole ++ last ∷ more
+    pub inputs : (lines_answer machine start (whole ++ last ∷ [])).run.inputs ≡ octets_to_come new.inputs
+    pub first : List Octet
+    pub later : List Octet
+    pub is_first : order_of (line_answer machine (lines_answer machine start whole).run last).written ≡ first ++ later
+    pub writes : Writes (order_of (lines_answer machine start whole).written ++ first) old.outputs new.outputs old.replies new.replies
+
+  -- an output or the replies failed; the replies passed something on only after every honest output had passed all on
+  pub record EndsByWrite (old new : Devices) : Type 0 where
+    pub failed : Any HasFailedOut new.outputs ⊎ HasFailedOut new.replies
+    pub passed : Waits old.replies new.replies ⊎ All HasPassedAll new.outputs
+    pub served : IsHonest old.script → All IsHonest old.inputs → ServedFirst old new
+
+  -- why no more lines were read than these, and what was read of the inputs
+  pub data Stops (script new_script : Source) (lines : List (List ℕ)) (sources new_sources : List Source) : Type 0 where
+    -- the script failed within a line
+    InScript : (rest : List ℕ) → All IsNoFeed rest → Gives (flat_map ended lines ++ rest) script new_script → HasFailedIn new_script
+        → new_sources ≡ sources → Stops script new_script lines sources new_sources
+    -- the script goes on after so many octets
+    AtLimit : (rest : List ℕ) (next : ℕ) → All IsNoFeed rest → length (flat_map ended lines ++ rest) ≡ SCRIPT_OCTETS
+        → Gives ((flat_map ended lines ++ rest) ++ next ∷ []) script new_script
+        → new_sources ≡ sources → Stops script new_script lines sources new_sources
+    -- the input of the next line's feed failed
+    InFeed : (line : List ℕ) (last : Bool) (channel count : ℕ) → All IsNoFeed line → length line ≤ LINE_OCTETS
+        → machine.asked (lines_answer machine start lines).run.state line ≡ Feed channel count
+        → Gives (flat_map ended lines ++ (line ++ ending last)) script new_script → (last ≡ true → IsAtEnd new_script)
+        → StepsAt (FailsWithin count) channel no_source sources new_sources → Stops script new_script lines sources new_sources
+
+  -- exactly these lines were served, from honest inputs
+  pub record ServedUpTo (old new : Devices) : Type 0 where
+    pub lines : List (List ℕ)
+    pub no_feeds : All (λ line. All IsNoFeed line) lines
+    -- with any part of a line that may follow them, they are the lines that ended
+    pub are_ended : (rest : List ℕ) → All IsNoFeed rest → ended_lines (flat_map ended lines ++ rest) ≡ lines
+    -- the inputs after these lines
+    pub sources : List Source
+    pub inputs : (lines_answer machine start lines).run.inputs ≡ octets_to_come sources
+    pub stops : Stops old.script new.script lines sources new.inputs
+    pub writes : Writes (order_of (lines_answer machine start lines).written) old.outputs new.outputs old.replies new.replies
+
+  -- the script or an input failed, or the script goes on after the limit; nothing was passed on
+  pub record EndsByRead (old new : Devices) : Type 0 where
+    pub failed : HasFailedIn new.script ⊎ (Any HasFailedIn new.inputs ⊎ GoesOn old.script)
+    pub passed : AllWait old.outputs new.outputs old.replies new.replies
+    pub served : All IsHonest old.inputs → ServedUpTo old new

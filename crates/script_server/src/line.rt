@@ -1,0 +1,197 @@
+//! Serves one line.
+ghost use Rattle.std.specs.Prelude.{◌≡◌, ◌<◌, ◌≤◌, ◌*◌, ◌⊎◌, List, ℕ, [], true, false, map, length, Ok, All, Any, IfOk, IsOk, IsErrOf};
+ghost use Rattle.std.specs.Result.{is_err};
+ghost use Rattle.octet_ports.specs.Ports.{Sink, Gives, Holds, Takes, TakesFirst, HasPassedAll};
+ghost use Rattle.octet_ports.specs.Lines.{IsLine, EndsWithin};
+ghost use Rattle.script_server.specs.Asks.{IsReady};
+ghost use Rattle.voice_script.specs.Replies.{reply_text};
+ghost use Rattle.voice_script.specs.ReplyViews.{reply_of};
+ghost use Rattle.script_server.specs.Served.{feed_answer, line_answer};
+ghost use Rattle.script_server.specs.Runs.{StepsAt, no_source, no_sink, IsHonest, IsReadyIn, IsReadyOut, HasFailedIn, HasFailedOut, AreReady, Writes, AllWait, FailsWithin};
+ghost use Rattle.script_server.specs.LineRuns.{IsServed, IsCut, IsUnfed, run_of};
+
+use crate::limits::{BLOCK_OCTETS, SAMPLE_OCTETS};
+use crate::machine::{Ask, LineMachine};
+use crate::serving::PortsFault;
+use ialg::Refusal;
+use octet_ports::{PortFault, PortIn, PortOut, read_octets, write_octets};
+use voice_script::{FeedSamples, LINE_OCTETS, Reply, reply_text};
+
+/// Reads from the input of this number.
+fn read_from<I: PortIn>(
+    inputs: &mut Vec<I>,
+    channel: usize,
+    octets: &mut [u8],
+) -> Result<bool, PortFault>
+    requires there { channel < length inputs.old.items }
+    requires ready { All IsReadyIn (map I.source inputs.old.items) }
+    ensures filled { result ≡ Ok true → StepsAt (Gives octets.new) channel no_source (map I.source inputs.old.items) (map I.source inputs.new.items) }
+    ensures short { result ≡ Ok false → StepsAt (EndsWithin (length octets.old)) channel no_source (map I.source inputs.old.items) (map I.source inputs.new.items) }
+    ensures ready { IsOk result → All IsReadyIn (map I.source inputs.new.items) }
+    ensures fault { is_err result ≡ true → StepsAt (FailsWithin (length octets.old)) channel no_source (map I.source inputs.old.items) (map I.source inputs.new.items) }
+    ensures failed { is_err result ≡ true → Any HasFailedIn (map I.source inputs.new.items) }
+{
+    read_octets(&mut inputs[channel], octets)
+}
+
+/// Writes to the output of this number.
+fn write_to<O: PortOut>(
+    outputs: &mut Vec<O>,
+    channel: usize,
+    octets: &[u8],
+) -> Result<(), PortFault>
+    requires there { channel < length outputs.old.items }
+    requires ready { All IsReadyOut (map O.sink outputs.old.items) }
+    ensures ok { IsOk result → StepsAt (Takes octets.now) channel no_sink (map O.sink outputs.old.items) (map O.sink outputs.new.items) }
+    ensures fault { is_err result ≡ true → StepsAt (TakesFirst octets.now) channel no_sink (map O.sink outputs.old.items) (map O.sink outputs.new.items) }
+    ensures ready { IsOk result → All IsReadyOut (map O.sink outputs.new.items) }
+    ensures failed { is_err result ≡ true → Any HasFailedOut (map O.sink outputs.new.items) }
+{
+    write_octets(&mut outputs[channel], octets)
+}
+
+/// Writes a reply.
+fn tell<P: PortOut>(replies: &mut P, reply: &Reply) -> Result<(), PortsFault>
+    requires { (P.sink replies.old).failed ≡ false }
+    ensures ok { IsOk result → Takes (reply_text (reply_of reply.now)) (P.sink replies.old) (P.sink replies.new) }
+    ensures fault { is_err result ≡ true → TakesFirst (reply_text (reply_of reply.now)) (P.sink replies.old) (P.sink replies.new) }
+    ensures failed { (P.sink replies.new).failed ≡ is_err result }
+    ensures write { is_err result ≡ true → IsErrOf result PortsFault.Write }
+{
+    let text = reply_text(reply);
+    if write_octets(replies, text.as_slice()).is_err() {
+        return Err(PortsFault::Write);
+    }
+    Ok(())
+}
+
+/// Serves a feed of a channel that is ready: reads its samples, writes what the channel gives, then the reply. It answers
+/// whether it was refused.
+fn serve_feed<T: LineMachine, I: PortIn, O: PortOut, P: PortOut>(
+    machine: &mut T,
+    channel: u8,
+    samples: FeedSamples,
+    inputs: &mut Vec<I>,
+    outputs: &mut Vec<O>,
+    replies: &mut P,
+) -> Result<bool, PortsFault>
+    requires lawful { T.is_lawful }
+    requires channel { IsReady T.takes_feeds T.channels machine.old channel }
+    requires one { length inputs.old.items ≡ T.channels }
+    requires pairs { length outputs.old.items ≡ T.channels }
+    requires ready { AreReady (map I.source inputs.old.items) (map O.sink outputs.old.items) (P.sink replies.old) }
+    ensures inputs { IsOk result → length inputs.new.items ≡ T.channels }
+    ensures outputs { IsOk result → length outputs.new.items ≡ T.channels }
+    ensures ready { IsOk result → AreReady (map I.source inputs.new.items) (map O.sink outputs.new.items) (P.sink replies.new) }
+    ensures read { IsErrOf result PortsFault.Read → Any HasFailedIn (map I.source inputs.new.items) }
+    ensures write { IsErrOf result PortsFault.Write → Any HasFailedOut (map O.sink outputs.new.items) ⊎ HasFailedOut (P.sink replies.new) }
+    ensures waits { AllWait (map O.sink outputs.old.items) (map O.sink outputs.new.items) (P.sink replies.old) (P.sink replies.new) }
+    ensures served { IfOk result (λ refused. (s : T.State) → T.keeps machine.old s → All IsHonest (map I.source inputs.old.items)
+        → IsServed (T.keeps machine.new) (feed_answer T.machine (run_of s (map I.source inputs.old.items)) channel (SAMPLE_OCTETS * samples.number)) refused
+        (map I.source inputs.new.items) (map O.sink outputs.old.items) (map O.sink outputs.new.items) (P.sink replies.old) (P.sink replies.new)) }
+    ensures cut { IsErrOf result PortsFault.Write → (s : T.State) → T.keeps machine.old s → All IsHonest (map I.source inputs.old.items)
+        → IsCut (feed_answer T.machine (run_of s (map I.source inputs.old.items)) channel (SAMPLE_OCTETS * samples.number))
+        (map I.source inputs.new.items) (map O.sink outputs.old.items) (map O.sink outputs.new.items) (P.sink replies.old) (P.sink replies.new) }
+    ensures unread { IsErrOf result PortsFault.Read → StepsAt (FailsWithin (SAMPLE_OCTETS * samples.number)) channel no_source (map I.source inputs.old.items) (map I.source inputs.new.items) }
+    ensures unfed { IsErrOf result PortsFault.Read → Writes [] (map O.sink outputs.old.items) (map O.sink outputs.new.items) (P.sink replies.old) (P.sink replies.new) }
+{
+    let c = usize::from(channel);
+    let mut block = [0; BLOCK_OCTETS];
+    let octets = &mut block[..SAMPLE_OCTETS * usize::from(samples.number())];
+    let whole = match read_from(inputs, c, octets) {
+        Ok(whole) => whole,
+        Err(_) => return Err(PortsFault::Read),
+    };
+    if !whole {
+        return match tell(replies, &Reply::No(Refusal::Short)) {
+            Ok(()) => Ok(true),
+            Err(fault) => Err(fault),
+        };
+    }
+    let mut output = [0; BLOCK_OCTETS];
+    let count = machine.feed(channel, samples, octets, &mut output);
+    if write_to(outputs, c, &output[..SAMPLE_OCTETS * count]).is_err() {
+        return Err(PortsFault::Write);
+    }
+    match tell(replies, &Reply::Count(count as u32)) {
+        Ok(()) => Ok(false),
+        Err(fault) => Err(fault),
+    }
+}
+
+/// Serves a line, and answers whether it was refused.
+pub(crate) fn serve_line<T: LineMachine, I: PortIn, O: PortOut, P: PortOut>(
+    machine: &mut T,
+    line: &[u8],
+    long: bool,
+    inputs: &mut Vec<I>,
+    outputs: &mut Vec<O>,
+    replies: &mut P,
+) -> Result<bool, PortsFault>
+    requires lawful { T.is_lawful }
+    requires short { length line.now ≤ LINE_OCTETS }
+    requires one { length inputs.old.items ≡ T.channels }
+    requires pairs { length outputs.old.items ≡ T.channels }
+    requires ready { AreReady (map I.source inputs.old.items) (map O.sink outputs.old.items) (P.sink replies.old) }
+    ensures inputs { IsOk result → length inputs.new.items ≡ T.channels }
+    ensures outputs { IsOk result → length outputs.new.items ≡ T.channels }
+    ensures ready { IsOk result → AreReady (map I.source inputs.new.items) (map O.sink outputs.new.items) (P.sink replies.new) }
+    ensures read { IsErrOf result PortsFault.Read → Any HasFailedIn (map I.source inputs.new.items) }
+    ensures write { IsErrOf result PortsFault.Write → Any HasFailedOut (map O.sink outputs.new.items) ⊎ HasFailedOut (P.sink replies.new) }
+    ensures waits { AllWait (map O.sink outputs.old.items) (map O.sink outputs.new.items) (P.sink replies.old) (P.sink replies.new) }
+    ensures served { IfOk result (λ refused. (octets : List ℕ) (s : T.State) → IsLine LINE_OCTETS line.now long octets → T.keeps machine.old s → All IsHonest (map I.source inputs.old.items)
+        → IsServed (T.keeps machine.new) (line_answer T.machine (run_of s (map I.source inputs.old.items)) octets) refused
+        (map I.source inputs.new.items) (map O.sink outputs.old.items) (map O.sink outputs.new.items) (P.sink replies.old) (P.sink replies.new)) }
+    ensures cut { IsErrOf result PortsFault.Write → (octets : List ℕ) (s : T.State) → IsLine LINE_OCTETS line.now long octets → T.keeps machine.old s → All IsHonest (map I.source inputs.old.items)
+        → IsCut (line_answer T.machine (run_of s (map I.source inputs.old.items)) octets)
+        (map I.source inputs.new.items) (map O.sink outputs.old.items) (map O.sink outputs.new.items) (P.sink replies.old) (P.sink replies.new) }
+    ensures unfed { IsErrOf result PortsFault.Read → (octets : List ℕ) (s : T.State) → IsLine LINE_OCTETS line.now long octets → T.keeps machine.old s
+        → IsUnfed T.machine s octets (map I.source inputs.old.items) (map I.source inputs.new.items)
+        (map O.sink outputs.old.items) (map O.sink outputs.new.items) (P.sink replies.old) (P.sink replies.new) }
+{
+    if long {
+        return match tell(replies, &Reply::No(Refusal::Long)) {
+            Ok(()) => Ok(true),
+            Err(fault) => Err(fault),
+        };
+    }
+    match machine.ask(line) {
+        Ask::Nothing => Ok(false),
+        Ask::Tell(reply) => match tell(replies, &reply) {
+            Ok(()) => Ok(reply.is_refusal()),
+            Err(fault) => Err(fault),
+        },
+        Ask::Feed { channel, samples } => {
+            serve_feed(machine, channel, samples, inputs, outputs, replies)
+        }
+    }
+}
+
+/// Passes on what the output of this number holds back.
+fn flush_at<O: PortOut>(outputs: &mut Vec<O>, channel: usize) -> Result<(), PortFault>
+    requires there { channel < length outputs.old.items }
+    requires ready { All IsReadyOut (map O.sink outputs.old.items) }
+    ensures holds { StepsAt (Holds []) channel no_sink (map O.sink outputs.old.items) (map O.sink outputs.new.items) }
+    ensures passed { IsOk result → StepsAt (λ _ new. HasPassedAll new) channel no_sink (map O.sink outputs.old.items) (map O.sink outputs.new.items) }
+    ensures count { length outputs.new.items ≡ length outputs.old.items }
+    ensures ready { IsOk result → All IsReadyOut (map O.sink outputs.new.items) }
+    ensures failed { is_err result ≡ true → Any HasFailedOut (map O.sink outputs.new.items) }
+{
+    outputs[channel].flush()
+}
+
+/// Passes on what the outputs hold back, in ascending number.
+pub(crate) fn flush_outputs<O: PortOut>(outputs: &mut Vec<O>) -> Result<(), PortFault>
+    requires ready { All IsReadyOut (map O.sink outputs.old.items) }
+    ensures holds { (replies : Sink) → Writes [] (map O.sink outputs.old.items) (map O.sink outputs.new.items) replies replies }
+    ensures passed { IsOk result → All HasPassedAll (map O.sink outputs.new.items) }
+    ensures ready { IsOk result → All IsReadyOut (map O.sink outputs.new.items) }
+    ensures failed { is_err result ≡ true → Any HasFailedOut (map O.sink outputs.new.items) }
+{
+    for channel in 0..outputs.len() {
+        if flush_at(outputs, channel).is_err() {
+            return Err(PortFault);
+        }
+    }
+    Ok(())
+}

@@ -1,0 +1,121 @@
+//! Serves a script.
+ghost use Rattle.std.specs.Prelude.{◌≡◌, ◌+◌, false, map, length, IfOk, IsErrOf};
+ghost use Rattle.octet_ports.specs.Ports.{GivesWithin};
+ghost use Rattle.script_server.specs.Runs.{AreReady, AllWait, ServesAll, EndsWell, EndsByRead, EndsByWrite, known_of};
+ghost use Rattle.script_server.specs.LineRuns.{run_of};
+
+use crate::limits::SCRIPT_OCTETS;
+use crate::line::{flush_outputs, serve_line};
+use crate::machine::LineMachine;
+use arrayvec::ArrayVec;
+use octet_ports::{PortIn, PortOut, read_line};
+use voice_script::LINE_OCTETS;
+
+/// Which ports ended a run.
+#[derive(Clone, Copy, PartialEq, Eq, Debug)]
+pub enum PortsFault {
+    /// The script or an input failed, or the script goes on after [`SCRIPT_OCTETS`].
+    Read,
+    /// An output or the replies failed.
+    Write,
+}
+
+/// Serves each line, and answers how many were refused.
+fn serve_script<T: LineMachine, S: PortIn, I: PortIn, O: PortOut, P: PortOut>(
+    machine: &mut T,
+    script: &mut S,
+    inputs: &mut Vec<I>,
+    outputs: &mut Vec<O>,
+    replies: &mut P,
+) -> Result<u64, PortsFault>
+    ghost state: { T.State }
+    requires lawful { T.is_lawful }
+    requires kept { T.keeps machine.old state }
+    requires script { (S.source script.old).failed ≡ false }
+    requires one { length inputs.old.items ≡ T.channels }
+    requires pairs { length outputs.old.items ≡ T.channels }
+    requires ready { AreReady (map I.source inputs.old.items) (map O.sink outputs.old.items) (P.sink replies.old) }
+    ensures few { GivesWithin (SCRIPT_OCTETS + 1) (S.source script.old) (S.source script.new) }
+    ensures waits { AllWait (map O.sink outputs.old.items) (map O.sink outputs.new.items) (P.sink replies.old) (P.sink replies.new) }
+    ensures ok { IfOk result (λ refused. ServesAll T.machine (run_of state (map I.source inputs.old.items)) refused
+        (known_of S.source I.source O.sink P.sink script.old inputs.old.items outputs.old.items replies.old)
+        (known_of S.source I.source O.sink P.sink script.new inputs.new.items outputs.new.items replies.new)) }
+    ensures read { IsErrOf result PortsFault.Read → EndsByRead T.machine (run_of state (map I.source inputs.old.items))
+        (known_of S.source I.source O.sink P.sink script.old inputs.old.items outputs.old.items replies.old)
+        (known_of S.source I.source O.sink P.sink script.new inputs.new.items outputs.new.items replies.new) }
+    ensures write { IsErrOf result PortsFault.Write → EndsByWrite T.machine (run_of state (map I.source inputs.old.items))
+        (known_of S.source I.source O.sink P.sink script.old inputs.old.items outputs.old.items replies.old)
+        (known_of S.source I.source O.sink P.sink script.new inputs.new.items outputs.new.items replies.new) }
+{
+    let mut left = SCRIPT_OCTETS;
+    let mut refused: u64 = 0;
+    let mut text: ArrayVec<u8, LINE_OCTETS> = ArrayVec::new();
+    'lines: loop {
+        text.clear();
+        let line = match read_line(script, &mut text, &mut left) {
+            Ok(line) => line,
+            Err(_) => return Err(PortsFault::Read),
+        };
+        let is_refused = match serve_line(
+            machine,
+            text.as_slice(),
+            line.long,
+            inputs,
+            outputs,
+            replies,
+        ) {
+            Ok(is_refused) => is_refused,
+            Err(fault) => return Err(fault),
+        };
+        if is_refused {
+            refused += 1;
+        }
+        if line.last {
+            return Ok(refused);
+        }
+    }
+}
+
+/// Serves each line, and then passes on what the ports hold back: the outputs, and then the replies. It answers how many
+/// lines were refused.
+///
+/// A feed reads its samples from the channel's input, writes what the channel gives to the channel's output, and then its
+/// reply; it is refused as short at the input's end, and what was read of it is gone. Every other line writes its reply
+/// alone. A fault ends the run.
+pub fn serve<T: LineMachine, S: PortIn, I: PortIn, O: PortOut, P: PortOut>(
+    machine: &mut T,
+    script: &mut S,
+    inputs: &mut Vec<I>,
+    outputs: &mut Vec<O>,
+    replies: &mut P,
+) -> Result<u64, PortsFault>
+    ghost state: { T.State }
+    requires lawful { T.is_lawful }
+    requires kept { T.keeps machine.old state }
+    requires script { (S.source script.old).failed ≡ false }
+    requires one { length inputs.old.items ≡ T.channels }
+    requires pairs { length outputs.old.items ≡ T.channels }
+    requires ready { AreReady (map I.source inputs.old.items) (map O.sink outputs.old.items) (P.sink replies.old) }
+    ensures few { GivesWithin (SCRIPT_OCTETS + 1) (S.source script.old) (S.source script.new) }
+    ensures ok { IfOk result (λ refused. EndsWell T.machine (run_of state (map I.source inputs.old.items)) refused
+        (known_of S.source I.source O.sink P.sink script.old inputs.old.items outputs.old.items replies.old)
+        (known_of S.source I.source O.sink P.sink script.new inputs.new.items outputs.new.items replies.new)) }
+    ensures read { IsErrOf result PortsFault.Read → EndsByRead T.machine (run_of state (map I.source inputs.old.items))
+        (known_of S.source I.source O.sink P.sink script.old inputs.old.items outputs.old.items replies.old)
+        (known_of S.source I.source O.sink P.sink script.new inputs.new.items outputs.new.items replies.new) }
+    ensures write { IsErrOf result PortsFault.Write → EndsByWrite T.machine (run_of state (map I.source inputs.old.items))
+        (known_of S.source I.source O.sink P.sink script.old inputs.old.items outputs.old.items replies.old)
+        (known_of S.source I.source O.sink P.sink script.new inputs.new.items outputs.new.items replies.new) }
+{
+    let refused = match serve_script(machine, script, inputs, outputs, replies) {
+        Ok(refused) => refused,
+        Err(fault) => return Err(fault),
+    };
+    if flush_outputs(outputs).is_err() {
+        return Err(PortsFault::Write);
+    }
+    if replies.flush().is_err() {
+        return Err(PortsFault::Write);
+    }
+    Ok(refused)
+}
