@@ -11,8 +11,8 @@ use Rattle.octet_ports.proofs.Ports.{gives_more}
 use Rattle.octet_ports.specs.Lines.{ended, IsNoFeed}
 use Rattle.script_server.specs.Served.{Machine, Run, line_answer, lines_answer, order_of}
 use Rattle.voice_script.specs.Script.{lines_of}
-use Rattle.script_server.specs.Runs.{Devices, IsHonest, HasFailedIn, GoesOn, ServedAll, ServedFirst, ServedUpTo, InScript, AtLimit, InFeed, Writes}
-use Rattle.script_server.specs.LineRuns.{IsServed, IsCut, IsUnfed, run_of}
+use Rattle.script_server.specs.Runs.{Devices, IsHonest, HasFailedIn, GoesOn, ServedAll, ServedFirst, ServedUpTo, InScript, AtLimit, InFeed, Writes, run_of}
+use Rattle.script_server.specs.LineRuns.{IsServed, IsCut, IsUnfed}
 use Rattle.script_server.proofs.SoFar.{Consumes, ServedSoFar}
 use Rattle.voice_script.specs.declared.limits.TheConstants.{LINE_OCTETS}
 use Rattle.script_server.specs.declared.limits.TheConstants.{SCRIPT_OCTETS}

@@ -7,8 +7,8 @@ use Rattle.std.proofs.lemmas.Bool.Decides.{nat_tests}
 use Rattle.octet_ports.specs.Ports.{Source, Sink, Gives, Takes, TakesFirst}
 use Rattle.octet_ports.specs.Lines.{EndsWithin}
 use Rattle.script_server.specs.Served.{Machine, Answer, feed_answer, fed_answer, replies, short_text, refusals}
-use Rattle.script_server.specs.Runs.{StepsAt, IsHonest, no_source, no_sink}
-use Rattle.script_server.specs.LineRuns.{IsServed, IsCut, run_of}
+use Rattle.script_server.specs.Runs.{StepsAt, IsHonest, no_source, no_sink, run_of}
+use Rattle.script_server.specs.LineRuns.{IsServed, IsCut}
 use Rattle.script_server.proofs.Writes.{writes_more, writes_reply, writes_output, step_holds, first_more, first_longer, first_reply, first_output, order_of_reply, order_of_feed, octets_to}
 
 abbrev pub coming_of : Source → List ℕ

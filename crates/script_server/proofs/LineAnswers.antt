@@ -3,8 +3,8 @@ use Rattle.std.proofs.Common.{◌≡◌, ℕ, Bool, true, false, List, [], cond,
 use Rattle.octet_ports.specs.Ports.{Source, Sink, Takes, TakesFirst}
 use Rattle.octet_ports.specs.Lines.{IsLine}
 use Rattle.script_server.specs.Served.{Machine, Run, Answer, Asked, line_answer, asked_answer, replies, long_text, order_of, refusals}
-use Rattle.script_server.specs.Runs.{IsHonest}
-use Rattle.script_server.specs.LineRuns.{IsServed, IsCut, run_of}
+use Rattle.script_server.specs.Runs.{IsHonest, run_of}
+use Rattle.script_server.specs.LineRuns.{IsServed, IsCut}
 use Rattle.voice_script.specs.declared.limits.TheConstants.{LINE_OCTETS}
 use Rattle.std.specs.List.{All}
 use Rattle.script_server.proofs.Writes.{writes_none, writes_reply, first_reply, order_of_reply}

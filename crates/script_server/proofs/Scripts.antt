@@ -12,8 +12,7 @@ use Rattle.octet_ports.proofs.Ports.{gives_none, gives_more}
 use Rattle.octet_ports.specs.Lines.{IsNoFeed, ending, ended}
 use Rattle.script_server.specs.Served.{Machine, Run, Written, line_answer, lines_answer, then_answer, order_of, refusals, ended_lines}
 use Rattle.voice_script.specs.Script.{lines_of}
-use Rattle.script_server.specs.Runs.{IsHonest}
-use Rattle.script_server.specs.LineRuns.{run_of}
+use Rattle.script_server.specs.Runs.{IsHonest, run_of}
 use Rattle.script_server.proofs.SoFar.{ServedSoFar, Consumes}
 use Rattle.voice_script.specs.declared.limits.TheConstants.{LINE_OCTETS}
 use Rattle.script_server.specs.declared.limits.TheConstants.{SCRIPT_OCTETS}

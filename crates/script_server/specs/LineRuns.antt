@@ -1,12 +1,9 @@
 -- For private clauses alone: what a line did to the ports.
 use Rattle.std.specs.Prelude.{◌≡◌, ℕ, ◌≤◌, Bool, List, [], ◌++◌, map, length, All, if◌then◌else◌}
 use Rattle.octet_ports.specs.Ports.{Source, Sink}
-use Rattle.script_server.specs.Served.{Machine, Run, Answer, Octet, order_of, refusals, Feed}
+use Rattle.script_server.specs.Served.{Machine, Answer, Octet, order_of, refusals, Feed}
 use Rattle.script_server.specs.Runs.{IsHonest, Writes, StepsAt, FailsWithin, no_source}
 use Rattle.voice_script.specs.declared.limits.TheConstants.{LINE_OCTETS}
-
-abbrev pub run_of : {S : Type 0} → S → List Source → Run S
-run_of state sources = record { state = state; inputs = map (λ s. s.coming) sources }
 
 -- the ports together hold the first of these more, in their one order
 pub record WritesFirst (order : List Octet) (outputs new_outputs : List Sink) (replies new_replies : Sink) : Type 0 where

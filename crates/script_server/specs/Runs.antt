@@ -66,6 +66,10 @@ pub record AllWait (outputs new_outputs : List Sink) (replies new_replies : Sink
 abbrev pub octets_to_come : List Source → List (List ℕ)
 octets_to_come sources = map (λ s. s.coming) sources
 
+-- a machine in this state, with what these inputs have to come
+abbrev pub run_of : {S : Type 0} → S → List Source → Run S
+run_of state sources = record { state = state; inputs = octets_to_come sources }
+
 -- what is known of all the ports of a run
 pub record Devices : Type 0 where
   pub script : Source

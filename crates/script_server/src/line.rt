@@ -7,8 +7,8 @@ ghost use Rattle.script_server.specs.Asks.{IsReady};
 ghost use Rattle.voice_script.specs.Replies.{reply_text};
 ghost use Rattle.voice_script.specs.ReplyViews.{reply_of};
 ghost use Rattle.script_server.specs.Served.{feed_answer, line_answer};
-ghost use Rattle.script_server.specs.Runs.{StepsAt, no_source, no_sink, IsHonest, IsReadyIn, IsReadyOut, HasFailedIn, HasFailedOut, AreReady, Writes, AllWait, FailsWithin};
-ghost use Rattle.script_server.specs.LineRuns.{IsServed, IsCut, IsUnfed, run_of};
+ghost use Rattle.script_server.specs.Runs.{StepsAt, no_source, no_sink, IsHonest, IsReadyIn, IsReadyOut, HasFailedIn, HasFailedOut, AreReady, Writes, AllWait, FailsWithin, run_of};
+ghost use Rattle.script_server.specs.LineRuns.{IsServed, IsCut, IsUnfed};
 
 use crate::limits::{BLOCK_OCTETS, SAMPLE_OCTETS};
 use crate::machine::{Ask, LineMachine};

@@ -1,8 +1,7 @@
 //! Serves a script.
 ghost use Rattle.std.specs.Prelude.{◌≡◌, ◌+◌, false, map, length, IfOk, IsErrOf};
 ghost use Rattle.octet_ports.specs.Ports.{GivesWithin};
-ghost use Rattle.script_server.specs.Runs.{AreReady, AllWait, ServesAll, EndsWell, EndsByRead, EndsByWrite, known_of};
-ghost use Rattle.script_server.specs.LineRuns.{run_of};
+ghost use Rattle.script_server.specs.Runs.{AreReady, AllWait, ServesAll, EndsWell, EndsByRead, EndsByWrite, known_of, run_of};
 
 use crate::limits::SCRIPT_OCTETS;
 use crate::line::{flush_outputs, serve_line};

@@ -1,6 +1,5 @@
 use Rattle.std.proofs.Common.{◌≡◌, ◌+◌, ◌≤◌, false, length, map, All}
-use Rattle.script_server.specs.Runs.{AreReady, AllWait, IsHonest}
-use Rattle.script_server.specs.LineRuns.{run_of}
+use Rattle.script_server.specs.Runs.{AreReady, AllWait, IsHonest, run_of}
 use Rattle.script_server.proofs.SoFar.{ServedSoFar, Consumes}
 use Rattle.script_server.specs.declared.limits.TheConstants.{SCRIPT_OCTETS}
 use Rattle.script_server.proofs.serving.serve_script.Given as goal
