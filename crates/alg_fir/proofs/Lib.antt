@@ -4,3 +4,4 @@ pub mod Steps
 pub mod Words
 pub mod DecimSteps
 pub mod DecimRecords
+pub mod RowLemmas

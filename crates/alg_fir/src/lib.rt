@@ -8,12 +8,14 @@ mod decimation;
 mod decimator;
 mod delay;
 mod filter;
+mod rows;
 #[cfg(test)]
 mod tests;
 
 pub use decimator::{Decim, decim_is_lawful};
 pub use filter::Fir;
 pub use fir_kernel::MOST_COEFFICIENTS;
+pub use rows::fir_rows;
 
 /// The alignment of the delay line, which is a ring.
 pub const LINE_ALIGNMENT: u32 = 16;

@@ -5,3 +5,4 @@ pub mod Samples
 pub mod Outputs
 pub mod Coders
 pub mod Keeping
+pub mod RowLemmas

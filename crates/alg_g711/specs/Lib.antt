@@ -1,4 +1,5 @@
 pub mod Companding
 pub mod Intervals
 pub mod Meaning
+pub mod Rows
 pub mod Keeps

@@ -6,6 +6,7 @@ mod coder;
 mod companding;
 mod kind;
 mod laws;
+mod rows;
 #[cfg(test)]
 mod tests;
 
@@ -13,6 +14,7 @@ pub use coder::{Coder, Direction};
 pub use companding::{Law, decode, encode};
 pub use kind::G711;
 pub use laws::{codes_come_back, decoding_is_monotone, g711_is_lawful, intervals_divide_samples};
+pub use rows::companding_rows;
 
 /// The intervals of a law: sixteen in each of eight segments.
 pub const INTERVALS: usize = 128;

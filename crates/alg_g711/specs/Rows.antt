@@ -1,0 +1,56 @@
+-- Worked rows: codes of samples, samples of codes, and what coders give and take.
+use Rattle.std.specs.Prelude.{◌≡◌, ℤ, pos, negsuc, true, false, List, [], ◌∷◌, Some, None}
+use Rattle.mem_rec.specs.declared.MemRec.{MemRec}
+use Rattle.mem_rec.specs.declared.Space.TheVariants.{External}
+use Rattle.mem_rec.specs.declared.Attr.TheVariants.{Persist, WriteOnce}
+use Rattle.ialg.specs.History.{Set, Reset, Get, with_samples}
+use Rattle.ialg.specs.Meaning.{outputs_of}
+use Rattle.alg_g711.specs.declared.companding.Law.TheVariants.{A, Mu}
+use Rattle.alg_g711.specs.Companding.{encoded, decoded}
+use Rattle.alg_g711.specs.Meaning.{g711_meaning}
+
+pub record CodeRows : Type 0 where
+  pub a_zero : encoded A (pos 0) ≡ 213
+  pub a_below_0 : encoded A (negsuc 0) ≡ 85
+  pub mu_zero : encoded Mu (pos 0) ≡ 255
+  pub mu_below_0 : encoded Mu (negsuc 0) ≡ 127
+  pub mu_greatest : encoded Mu (pos 32767) ≡ 128
+  pub mu_least : encoded Mu (negsuc 32767) ≡ 0
+
+pub record SampleRows : Type 0 where
+  pub a_greatest : decoded A 170 ≡ pos 32256
+  pub a_least : decoded A 42 ≡ negsuc 32255
+  pub a_zero : decoded A 213 ≡ pos 8
+  pub a_below_0 : decoded A 85 ≡ negsuc 7
+  pub mu_greatest : decoded Mu 128 ≡ pos 32124
+  pub mu_least : decoded Mu 0 ≡ negsuc 32123
+  pub mu_zero : decoded Mu 255 ≡ pos 0
+  pub mu_below_0 : decoded Mu 127 ≡ pos 0
+
+-- what a coder with these parameters gives for these words
+abbrev pub given : List ℤ → List ℤ → List ℤ
+given p words = outputs_of g711_meaning (record {}) p (with_samples [] words)
+
+pub record CoderRows : Type 0 where
+  pub mu_encoder : given (pos 1 ∷ pos 0 ∷ []) (pos 0 ∷ negsuc 0 ∷ pos 32767 ∷ []) ≡ pos 255 ∷ pos 127 ∷ pos 128 ∷ []
+  pub a_encoder : given (pos 0 ∷ pos 0 ∷ []) (pos 0 ∷ negsuc 0 ∷ []) ≡ pos 213 ∷ pos 85 ∷ []
+  -- the lower octet of -1 is 255
+  pub mu_decoder : given (pos 1 ∷ pos 1 ∷ []) (pos 128 ∷ pos 0 ∷ negsuc 0 ∷ []) ≡ pos 32124 ∷ negsuc 32123 ∷ pos 0 ∷ []
+  pub a_decoder : given (pos 0 ∷ pos 1 ∷ []) (pos 170 ∷ pos 42 ∷ []) ≡ pos 32256 ∷ negsuc 32255 ∷ []
+
+abbrev pub object : MemRec
+object = record { size = 4; align = 4; space = External; attr = Persist; base = 0 }
+
+pub record ParameterRows : Type 0 where
+  pub encoder : g711_meaning.table (record {}) (pos 0 ∷ pos 0 ∷ []) ≡ Some (object ∷ [])
+  pub decoder : g711_meaning.table (record {}) (pos 1 ∷ pos 1 ∷ [])
+      ≡ Some (object ∷ record { size = 256; align = 8; space = External; attr = WriteOnce; base = 0 } ∷ [])
+  pub law_two : g711_meaning.table (record {}) (pos 2 ∷ pos 0 ∷ []) ≡ None
+  pub law_below_0 : g711_meaning.table (record {}) (negsuc 0 ∷ pos 0 ∷ []) ≡ None
+  pub direction_two : g711_meaning.table (record {}) (pos 0 ∷ pos 2 ∷ []) ≡ None
+  pub direction_below_0 : g711_meaning.table (record {}) (pos 0 ∷ negsuc 0 ∷ []) ≡ None
+  pub one_word : g711_meaning.table (record {}) (pos 0 ∷ []) ≡ None
+  pub three_words : g711_meaning.table (record {}) (pos 0 ∷ pos 0 ∷ pos 0 ∷ []) ≡ None
+  pub no_set : g711_meaning.accepts (record {}) [] (Set []) ≡ false
+  pub reset : g711_meaning.accepts (record {}) [] Reset ≡ true
+  pub get : g711_meaning.accepts (record {}) [] Get ≡ true
