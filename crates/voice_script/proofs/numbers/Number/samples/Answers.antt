@@ -1,0 +1,7 @@
+use Rattle.std.proofs.Common.{arith}
+use Rattle.std.proofs.lemmas.Int.{ints}
+use Rattle.std.proofs.lemmas.Bool.Decides.{nat_tests}
+use Rattle.voice_script.proofs.numbers.Number.samples.Goals as goal
+
+pub returns-then-value-from-clause-fits : goal.returns-then-value-from-clause-fits
+returns-then-value-from-clause-fits c = grind (arith, ints, nat_tests)
