@@ -1,5 +1,5 @@
 -- What the words of a primed instance keep.
-use Rattle.std.proofs.Common.{◌≡◌, ℕ, ℤ, zero, suc, pos, lit<, lit≤, IsTrue, ◌<◌, true, false, List, [], ◌∷◌, ◌++◌, length, Option, Some, None, take, refl, sym, ap, ◌∙◌, arith, append-nil}
+use Rattle.std.proofs.Common.{◌≡◌, ℕ, ℤ, zero, suc, pos, lit<, lit≤, IsTrue, true, false, List, [], ◌∷◌, length, Option, Some, None, take, drop, refl, sym, ap, ◌∙◌, arith, append-nil}
 use Rattle.std.proofs.lemmas.Bool.Decides.{Decides-int_eq}
 use Rattle.std.proofs.Math.Seq.{take-length}
 use Rattle.mem_rec.specs.declared.MemRec.{MemRec}
@@ -7,11 +7,10 @@ use Rattle.mem_rec.specs.declared.Space.TheVariants.{Saram, External}
 use Rattle.mem_rec.specs.declared.Attr.TheVariants.{WriteOnce}
 use Rattle.ialg.specs.declared.memory.Lent.{Lent}
 use Rattle.ialg.specs.History.{History, Sample, Control, outputs_by}
-use Rattle.ialg.specs.Records.{record_at, words_of, lasting, lasting_words, unplaced, AreApart, AllLent, ArePoison}
-use Rattle.ialg.specs.Loans.{lent_words}
+use Rattle.ialg.specs.Records.{record_at, words_of, lasting, lasting_words, unplaced, AreApart, ArePoison}
 use Rattle.ialg.specs.Objects.{Names, NamedAt}
-use Rattle.ialg.proofs.Tables.{attr_of, lasting_at, lent_size, words_of-lasting}
-use Rattle.trial_kinds.specs.Primed.{primed_records, primed_fill, is_primed, KeepsWord}
+use Rattle.ialg.proofs.Tables.{attr_of, lasting_at, words_of-lasting}
+use Rattle.trial_kinds.specs.Primed.{primed_records, primed_fill, is_primed, KeepsWords}
 
 pub silent : (h : History) → outputs_by (λ t. []) h ≡ []
 silent [] = refl
@@ -23,22 +22,22 @@ once_lasts : (rs : List MemRec) (wss : List (List ℤ)) (k : ℕ) → (record_at
 once_lasts rs wss k once = words_of-lasting rs wss k ∙ ap (λ a. lasting_words a (words_of wss k)) once
 
 -- no record is scratch, so all words last
-pub asleep : (p : List ℤ) (rs : List MemRec) (wss : List (List ℤ)) (h : History) → KeepsWord p rs wss h → KeepsWord p rs (lasting rs wss) h
+pub asleep : (p : List ℤ) (rs : List MemRec) (wss : List (List ℤ)) (h : History) → KeepsWords p rs wss h → KeepsWords p rs (lasting rs wss) h
 asleep p rs wss h keeps =
     let at = lasting_at rs primed_records keeps.object.on_table wss in
     record {
-      one = keeps.one;
+      two = keeps.two;
       history = keeps.history;
       object = rw (at 0) keeps.object;
       once = λ k once. once_lasts rs wss k once ∙ keeps.once k once;
       primed = at 2 ∙ keeps.primed;
     }
 
-pub awake : (p : List ℤ) (rs : List MemRec) (wss : List (List ℤ)) (h : History) → KeepsWord p rs (lasting rs wss) h → KeepsWord p rs wss h
+pub awake : (p : List ℤ) (rs : List MemRec) (wss : List (List ℤ)) (h : History) → KeepsWords p rs (lasting rs wss) h → KeepsWords p rs wss h
 awake p rs wss h keeps =
     let at = lasting_at rs primed_records keeps.object.on_table wss in
     record {
-      one = keeps.one;
+      two = keeps.two;
       history = keeps.history;
       object = rw (at 0) at keeps.object;
       once = λ k once. sym (once_lasts rs wss k once) ∙ keeps.once k once;
@@ -46,7 +45,7 @@ awake p rs wss h keeps =
     }
 
 -- the one write-once record is record 1
-pub fill_at : (p : List ℤ) (rs : List MemRec) (wss : List (List ℤ)) → unplaced rs ≡ primed_records → words_of wss 1 ≡ p
+pub fill_at : (p : List ℤ) (rs : List MemRec) (wss : List (List ℤ)) → unplaced rs ≡ primed_records → words_of wss 1 ≡ drop 1 p
     → (k : ℕ) → (record_at rs k).attr ≡ WriteOnce → words_of wss k ≡ primed_fill p k
 fill_at p rs wss records word zero once = let e = sym (attr_of rs primed_records records 0) ∙ once in cc
 fill_at p rs wss records word (suc zero) once = word
@@ -54,12 +53,12 @@ fill_at p rs wss records word (suc (suc zero)) once = let e = sym (attr_of rs pr
 fill_at p rs wss records word (suc (suc (suc k))) once = let e = sym (attr_of rs primed_records records (suc (suc (suc k)))) ∙ once in cc
 
 -- the object was written anew, and the other words are the same
-pub moved : (p : List ℤ) (before rs : List MemRec) (wss wss' : List (List ℤ)) (h : History) → unplaced before ≡ unplaced rs → KeepsWord p before wss h
-    → Names (pos 9) (unplaced rs) rs (words_of wss' 0) → words_of wss' 1 ≡ words_of wss 1 → words_of wss' 2 ≡ words_of wss 2 → KeepsWord p rs wss' h
+pub moved : (p : List ℤ) (before rs : List MemRec) (wss wss' : List (List ℤ)) (h : History) → unplaced before ≡ unplaced rs → KeepsWords p before wss h
+    → Names (pos 9) (unplaced rs) rs (words_of wss' 0) → words_of wss' 1 ≡ words_of wss 1 → words_of wss' 2 ≡ words_of wss 2 → KeepsWords p rs wss' h
 moved p before rs wss wss' h same keeps names first second =
     let records : unplaced rs ≡ primed_records = sym same ∙ keeps.object.on_table in
     record {
-      one = keeps.one;
+      two = keeps.two;
       history = keeps.history;
       object = rw records at names;
       once = λ k once. fill_at p rs wss' records (first ∙ keeps.once 1 (attr_of before primed_records keeps.object.on_table 1)) k once;
@@ -74,18 +73,20 @@ module _ (m : Lent) (names : Names (pos 9) primed_records m.table.now m.r0.now) 
   pub primed_named : length m.r2.now ≡ 1 → NamedAt m Saram 2 (pos 9) primed_records
   primed_named size = record { names = names; apart = apart; not_the_object = lit≤ tt; within = lit< tt; few = lit≤ tt; its_space = refl; lent = omega arith }
 
--- a word of the poison is the parameter
-pub primed_word : (p : List ℤ) (w : Option ℤ) (ws : List ℤ) → IsTrue (is_primed p w) → length ws ≡ 1 → ArePoison w ws → ws ≡ p
+-- a word of the poison is the first parameter
+pub primed_word : (p : List ℤ) (w : Option ℤ) (ws : List ℤ) → IsTrue (is_primed p w) → length ws ≡ 1 → ArePoison w ws → ws ≡ take 1 p
 primed_word [] None ws lawful size poison = let e : false ≡ true = lawful in cc
 primed_word [] (Some u) ws lawful size poison = let e : false ≡ true = lawful in cc
-primed_word (v ∷ u ∷ p) None ws lawful size poison = let e : false ≡ true = lawful in cc
-primed_word (v ∷ u ∷ p) (Some x) ws lawful size poison = let e : false ≡ true = lawful in cc
 primed_word (v ∷ []) None ws lawful size poison = let e : false ≡ true = lawful in cc
-primed_word (v ∷ []) (Some u) [] lawful size poison = absurd (omega arith)
-primed_word (v ∷ []) (Some u) (x ∷ y ∷ ws) lawful size poison = absurd (omega arith)
-primed_word (v ∷ []) (Some u) (x ∷ []) lawful size poison =
+primed_word (v ∷ []) (Some u) ws lawful size poison = let e : false ≡ true = lawful in cc
+primed_word (v ∷ x ∷ y ∷ p) None ws lawful size poison = let e : false ≡ true = lawful in cc
+primed_word (v ∷ x ∷ y ∷ p) (Some u) ws lawful size poison = let e : false ≡ true = lawful in cc
+primed_word (v ∷ x ∷ []) None ws lawful size poison = let e : false ≡ true = lawful in cc
+primed_word (v ∷ x ∷ []) (Some u) [] lawful size poison = absurd (omega arith)
+primed_word (v ∷ x ∷ []) (Some u) (y ∷ z ∷ ws) lawful size poison = absurd (omega arith)
+primed_word (v ∷ x ∷ []) (Some u) (y ∷ []) lawful size poison =
     let same : v ≡ u = (Decides-int_eq v u).0 lawful in
-    let here : x ≡ u = poison 0 x (omega arith) in
+    let here : y ≡ u = poison 0 y (omega arith) in
     ap (λ z. z ∷ []) (here ∙ sym same)
 
 -- a word that was written over
@@ -94,14 +95,14 @@ overwritten p new size first = sym (take-length new) ∙ ap (λ n. take n new) s
 
 -- the words that last go by what the records are, and not by where they stand
 pub awake_by : (p : List ℤ) (before rs : List MemRec) (wss : List (List ℤ)) (h : History) → unplaced before ≡ unplaced rs
-    → KeepsWord p before (lasting rs wss) h → KeepsWord p before wss h
+    → KeepsWords p before (lasting rs wss) h → KeepsWords p before wss h
 awake_by p before rs wss h same keeps =
     let on_table = keeps.object.on_table in
     let records : unplaced rs ≡ primed_records = sym same ∙ on_table in
     let at = lasting_at rs primed_records records wss in
     let attr = λ (k : ℕ). attr_of rs primed_records records k ∙ sym (attr_of before primed_records on_table k) in
     record {
-      one = keeps.one;
+      two = keeps.two;
       history = keeps.history;
       object = rw (at 0) at keeps.object;
       once = λ k once. sym (once_lasts rs wss k (attr k ∙ once)) ∙ keeps.once k once;

@@ -1,1 +1,2 @@
 pub mod Primed
+pub mod Starts

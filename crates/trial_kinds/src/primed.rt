@@ -1,47 +1,40 @@
 //! A kind that is lawful under one poison word alone, and keeps a word in a write-once record.
-ghost use Rattle.std.specs.Prelude.{◌≡◌, ◌≤◌, ◌+◌, ◌++◌, ℤ, List, length, FitsSigned};
+ghost use Rattle.std.specs.Prelude.{◌≡◌, ◌≤◌, ◌+◌, ◌++◌, ℤ, List, length, drop, FitsSigned};
 ghost use Rattle.std.specs.List.{All};
 ghost use Rattle.std.specs.Int.{w16};
 ghost use Rattle.ialg.specs.declared.TheConstants.{BLOCK_SAMPLES, PARAMETER_WORDS};
 ghost use Rattle.ialg.specs.History.{History};
 ghost use Rattle.ialg.specs.Records.{AllLent};
 ghost use Rattle.ialg.specs.Loans.{lent_words};
-ghost use Rattle.trial_kinds.specs.Primed.{KeepsWord, primed_meaning, primed_records};
+ghost use Rattle.trial_kinds.specs.Primed.{KeepsWords, primed_meaning, primed_records};
 
+use crate::{ONCE, PRIMED, PRIMED_KIND, PRIMED_PARAMETERS, PRIMED_RECORDS};
 use ialg::{
     BLOCK_SAMPLES, Block, Ctl, Ialg, Lent, Params, Record, Status, Words, object_record, overwrite,
     place,
 };
 use mem_rec::{Attr, LEAST_ALIGNMENT, MemRec, MemTab, Space};
 
-/// The kind word of the object.
-const KIND: i16 = 9;
-
-/// The number of the write-once record.
-const ONCE: usize = 1;
-
-/// The number of the record that is never written.
-const PRIMED: usize = 2;
-
-/// A kind of one parameter, which gives nothing for its samples. It writes the parameter into a write-once record when it
-/// starts, and relies on another record having it already: it is lawful only in a host whose poison word is the parameter. `get`
-/// answers the words of both records, and no other control is taken.
+/// A kind that gives nothing for its samples. Its parameters are two words: the poison word that the host is to have, and
+/// a word that it writes into a write-once record when it starts. It relies on a third record having the poison word
+/// already, and never writes it: it is lawful only in a host of that poison word. `get` answers both words, and no other
+/// control is taken.
 #[derive(Clone, Copy, PartialEq, Eq, Debug)]
 pub struct Primed;
 
 impl Ialg for Primed {
     ghost meaning = { primed_meaning };
 
-    ghost idle_keeps = { λ _ p rs wss h. KeepsWord p rs wss h };
+    ghost idle_keeps = { λ _ p rs wss h. KeepsWords p rs wss h };
 
-    ghost active_keeps = { λ _ p rs wss h. KeepsWord p rs wss h };
+    ghost active_keeps = { λ _ p rs wss h. KeepsWords p rs wss h };
 
     fn alg_num_alloc(&self) -> usize {
-        3
+        PRIMED_RECORDS
     }
 
     fn alg_alloc(&self, p: &Params) -> Option<MemTab> {
-        if p.len() == 1 {
+        if p.len() == PRIMED_PARAMETERS {
             MemTab::make(&records())
         } else {
             None
@@ -49,11 +42,11 @@ impl Ialg for Primed {
     }
 
     fn alg_init(&self, tab: &MemTab, p: &Params, mem: &mut Lent<'_>) {
-        mem.name_records(KIND, tab);
+        mem.name_records(PRIMED_KIND, tab);
         let Some(Record { k, words }) = mem.take_named(Space::External, ONCE) else {
             return;
         };
-        overwrite(words, p.as_slice());
+        overwrite(words, once_word(p.as_slice()));
         mem.put(k, words);
     }
 
@@ -66,7 +59,7 @@ impl Ialg for Primed {
     fn alg_deactivate(&self, _mem: &mut Lent<'_>) {}
 
     fn alg_moved(&self, tab: &MemTab, mem: &mut Lent<'_>) {
-        mem.name_records(KIND, tab);
+        mem.name_records(PRIMED_KIND, tab);
     }
 
     fn accepts(&self, _p: &Params, c: &Ctl) -> bool {
@@ -91,7 +84,7 @@ impl Ialg for Primed {
 }
 
 /// The records: the object, one that is written once, and one that is never written.
-fn records() -> [MemRec; 3]
+fn records() -> [MemRec; PRIMED_RECORDS]
     ensures { result ≡ primed_records }
 {
     let word = |space, attr| MemRec {
@@ -108,6 +101,13 @@ fn records() -> [MemRec; 3]
     ]
 }
 
+/// The parameters without the poison word.
+fn once_word(p: &[i16]) -> &[i16]
+    ensures { result.now ≡ drop 1 p.now }
+{
+    p.get(1..).unwrap_or(&[])
+}
+
 /// Reads the samples, so that they are known to have 16 bits.
 fn read(samples: &[i16])
     requires { length samples.now ≤ BLOCK_SAMPLES }
@@ -117,10 +117,10 @@ fn read(samples: &[i16])
     place(&mut copy, 0, samples);
 }
 
-/// The words of the one record, and then those of the other.
+/// The word that was never written, and then the one that was written once.
 fn kept_words(mem: &Lent<'_>) -> Words
     ensures { (p : List ℤ) (h : History) → AllLent mem.now.table.now (lent_words mem.now)
-        → KeepsWord p mem.now.table.now (lent_words mem.now) h → result.items ≡ p ++ p }
+        → KeepsWords p mem.now.table.now (lent_words mem.now) h → result.items ≡ p }
 {
     let Some(once) = mem.read_named(Space::External, ONCE) else {
         return Words::new();
@@ -128,7 +128,7 @@ fn kept_words(mem: &Lent<'_>) -> Words
     let Some(primed) = mem.read_named(Space::Saram, PRIMED) else {
         return Words::new();
     };
-    joined(once, primed)
+    joined(primed, once)
 }
 
 /// The words of both slices, where there is room.

@@ -1,11 +1,11 @@
-use Rattle.std.proofs.Common.{◌≡◌, ◌==◌, [], List, ℤ, length, inl, inr, sym, ap, subst, lit<, arith, ◌∙◌, Some, true, take}
+use Rattle.std.proofs.Common.{◌≡◌, ◌==◌, [], length, inl, inr, sym, ap, lit<, arith, ◌∙◌, take, drop, length-drop}
 use Rattle.std.proofs.lemmas.Bool.Decides.{nat_tests}
 use Rattle.mem_rec.specs.declared.Attr.TheVariants.{Persist, WriteOnce}
-use Rattle.ialg.specs.Records.{unplaced, words_of, record_at}
+use Rattle.ialg.specs.Records.{unplaced, words_of}
 use Rattle.ialg.specs.Loans.{lent_words}
 use Rattle.ialg.proofs.Tables.{chosen, attr_of, idle_lent_size}
 use Rattle.ialg.proofs.Taking.{visit}
-use Rattle.trial_kinds.specs.Primed.{primed_records, KeepsWord}
+use Rattle.trial_kinds.specs.Primed.{primed_records, KeepsWords}
 use Rattle.trial_kinds.proofs.Kept.{asleep, fill_at, once_named, primed_word, overwritten}
 use Rattle.trial_kinds.proofs.primed.PrimedIalg.alg_init.Goals as goal
 
@@ -16,9 +16,10 @@ returns-clause-law c w lawful taken table lent writable new =
     let old = lent_words c.args.mem.now in
     let m = c.name_records.new.self in
     let after = lent_words c.put.new.self in
-    let asked = chosen (length p == 1) primed_records (unplaced tab) taken in
+    let asked = chosen (length p == 2) primed_records (unplaced tab) taken in
     let test = asked.0 in
-    let one : length p ≡ 1 = grind (arith, nat_tests, test) in
+    let two : length p ≡ 2 = grind (arith, nat_tests, test) in
+    let once : length (drop 1 p) ≡ 1 = simp length-drop (omega arith) in
     let sizes = idle_lent_size tab primed_records asked.1 old lent in
     let others = c.name_records.ensures.others in
     let same = ap (λ b. b.now) others.table ∙ table in
@@ -28,16 +29,16 @@ returns-clause-law c w lawful taken table lent writable new =
     let found = c.in-Some.ensures.named _ primed_records named (λ once. c.name_records.ensures.loans.writable ∙ writable) in
     let v = visit 1 m _ _ c.in-Some.field-0 _ found (lit< tt) (λ e. omega arith) c.in-Some.ensures.left c.put.ensures.others c.put.ensures.back in
     let long = c.overwrite.auto.words ∙ ap (λ r. length r.now) v.taken ∙ size in
-    let written : c.overwrite.new.words ≡ p = overwritten p c.overwrite.new.words (long ∙ sym one) (rw c.as_slice.ensures.value at (c.overwrite.ensures.first) (omega arith)) in
+    let written : c.overwrite.new.words ≡ drop 1 p = overwritten (drop 1 p) c.overwrite.new.words (long ∙ sym once) (rw (c.once_word.ensures, c.as_slice.ensures.value) at (c.overwrite.ensures.first) (omega arith)) in
     let first = v.written.written ∙ written in
     let second = v.written.others 2 (λ e. omega arith) ∙ ap (λ r. r.now) (others.others2 (λ e. omega arith)) in
-    let kept : words_of old 2 ≡ p = elim (new 2) [
+    let kept : words_of old 2 ≡ take 1 p = elim (new 2) [
       | inl poison ↦ primed_word p w (words_of old 2) lawful (sizes 2) poison
       | inr once ↦ (let e : Persist ≡ WriteOnce = sym (attr_of tab primed_records asked.1 2) ∙ once.0 in cc)
     ] in
     let object = v.written.others 0 (λ e. omega arith) in
-    let keeps : KeepsWord p tab after [] = record {
-      one = one;
+    let keeps : KeepsWords p tab after [] = record {
+      two = two;
       history = tt;
       object = rw object names;
       once = fill_at p tab after asked.1 first;
@@ -51,7 +52,7 @@ returns-in_default-clause-law c w lawful taken table lent writable new =
     let tab = c.args.tab.now in
     let old = lent_words c.args.mem.now in
     let m = c.name_records.new.self in
-    let asked = chosen (length p == 1) primed_records (unplaced tab) taken in
+    let asked = chosen (length p == 2) primed_records (unplaced tab) taken in
     let sizes = idle_lent_size tab primed_records asked.1 old lent in
     let others = c.name_records.ensures.others in
     let same = ap (λ b. b.now) others.table ∙ table in

@@ -8,7 +8,7 @@ pub returns-clause-law : goal.returns-clause-law
 returns-clause-law c p w h lawful closed lent keeps =
     let xs = c.args.input.now in (
       record {
-        one = keeps.one;
+        two = keeps.two;
         history = IsWordHistory-with_samples h xs keeps.history c.read.ensures;
         object = keeps.object;
         once = keeps.once;

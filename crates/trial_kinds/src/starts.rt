@@ -1,0 +1,108 @@
+//! Starts of a primed instance. Each concludes from the laws of [`Ialg`] that the empty history is kept.
+ghost use Rattle.std.specs.Prelude.{◌≡◌, ◌∷◌, ℤ, [], List, Option, Some, IfSome, IsTrue, MatchOption, true, ⊤};
+ghost use Rattle.ialg.specs.Records.{lasting, HoldFill, AreNew, LastingLent, unplaced};
+ghost use Rattle.trial_kinds.specs.Primed.{is_primed, primed_fill, primed_records, KeepsWords};
+ghost use Rattle.trial_kinds.specs.Starts.{placed_records, held_words, HasStarted};
+
+use crate::{ONCE, ONCE_BASE, Primed};
+use ialg::{Ialg, Lent, OBJECT_WORDS, Params, Step, copied, lend};
+use mem_rec::MemTab;
+
+/// The words of an instance's records.
+#[derive(Clone, Copy, PartialEq, Eq, Debug)]
+pub struct Held {
+    pub object: [i16; OBJECT_WORDS],
+    pub once: [i16; 1],
+    pub primed: [i16; 1],
+}
+
+/// Starts an instance in a host of the poison word `poison`, where its records hold nothing else.
+pub fn start_in_poison(poison: i16, once: i16) -> Option<Held>
+    ensures keeps { MatchOption result ⊥ (λ held. HasStarted poison once held) }
+    ensures fill { IfSome result (λ held. HoldFill (primed_fill (poison ∷ once ∷ [])) placed_records (held_words held)) }
+{
+    let new = Held {
+        object: [poison; OBJECT_WORDS],
+        once: [poison],
+        primed: [poison],
+    };
+    started(poison, once, new)
+}
+
+/// Starts an instance in a host of the poison word `poison`, where its write-once record holds its word already: instances with
+/// equal parameters may share it.
+pub fn start_with_fill(poison: i16, once: i16) -> Option<Held>
+    ensures keeps { MatchOption result ⊥ (λ held. HasStarted poison once held) }
+    ensures fill { IfSome result (λ held. HoldFill (primed_fill (poison ∷ once ∷ [])) placed_records (held_words held)) }
+{
+    let new = Held {
+        object: [poison; OBJECT_WORDS],
+        once: [once],
+        primed: [poison],
+    };
+    started(poison, once, new)
+}
+
+/// Starts an instance in these records, which are new.
+fn started(poison: i16, once: i16, new: Held) -> Option<Held>
+    requires { AreNew (Some poison) (primed_fill (poison ∷ once ∷ [])) placed_records (held_words new) }
+    ensures { MatchOption result ⊥ (λ held. HasStarted poison once held) }
+{
+    let p = copied(&[poison, once]);
+    let table = placed_table(&p)?;
+    let Held {
+        mut object,
+        mut once,
+        mut primed,
+    } = new;
+    lend(
+        &Start { p: &p },
+        &table,
+        true,
+        &mut object,
+        &mut once,
+        &mut primed,
+        &mut [],
+        &mut (),
+    );
+    Some(Held {
+        object,
+        once,
+        primed,
+    })
+}
+
+/// The table of an instance with these parameters, with its places.
+fn placed_table(p: &Params) -> Option<MemTab>
+    ensures { (poison once : ℤ) → p.now.items ≡ poison ∷ once ∷ []
+        → MatchOption result ⊥ (λ table. table ≡ placed_records) }
+{
+    let table = Primed.alg_alloc(p)?;
+    if ONCE < table.len() {
+        Some(table.with_base(ONCE, ONCE_BASE))
+    } else {
+        None
+    }
+}
+
+/// The start of an instance with these parameters.
+#[derive(Clone, Copy)]
+struct Start<'a> {
+    p: &'a Params,
+}
+
+impl Step<()> for Start<'_> {
+    ghost can = { λ _ _. ⊤ };
+
+    ghost done = { λ start table writable old new _ _. (w : Option ℤ) → IsTrue (is_primed start.p.now.items w)
+        → unplaced table ≡ primed_records
+        → LastingLent table old
+        → writable ≡ true
+        → AreNew w (primed_fill start.p.now.items) table old
+        → KeepsWords start.p.now.items table (lasting table new) [] };
+
+    fn perform(&self, mem: &mut Lent<'_>, _out: &mut ()) {
+        let table = mem.table;
+        Primed.alg_init(table, self.p, mem);
+    }
+}

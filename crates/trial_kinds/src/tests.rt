@@ -1,0 +1,111 @@
+//! What no clause says: that starts succeed, the words of the records, and the calls of a primed instance one after the
+//! other.
+ghost use Rattle.std.specs.Prelude.{⊤};
+
+use crate::{Held, ONCE_BASE, PRIMED_RECORDS, Primed, start_in_poison, start_with_fill};
+use ialg::{Ctl, Ialg, Lent, PARAMETER_WORDS, Status, Step, Words, copied, lend};
+use mem_rec::{Attr, MemTab, Space};
+use std::process::Abort;
+
+const POISON: i16 = 21845;
+
+const STARTED: Held = Held {
+    object: [9, 4, 0, 0],
+    once: [7],
+    primed: [POISON],
+};
+
+fn words(rt: &impl Abort, values: &[i16]) -> Words {
+    assert!(rt; values.len() <= PARAMETER_WORDS);
+    copied(values)
+}
+
+/// The records with the write-once record at `once`, and the other at `primed`.
+fn table(rt: &impl Abort, once: u16, primed: u16) -> MemTab {
+    let table = Primed
+        .alg_alloc(&words(rt, &[POISON, 7]))
+        .expect(rt, "a table");
+    assert_eq!(rt; table.len(), PRIMED_RECORDS);
+    let table = table.with_base(1, once);
+    assert_eq!(rt; table.len(), PRIMED_RECORDS);
+    table.with_base(2, primed)
+}
+
+/// A move to the table that the records are lent by, and then a `get`.
+#[derive(Clone, Copy)]
+struct MoveAndAsk;
+
+/// What these calls gave.
+#[derive(Drop)]
+struct Given {
+    status: Status,
+    freed: Option<MemTab>,
+}
+
+impl Step<Given> for MoveAndAsk {
+    ghost can = { λ _ _. ⊤ };
+
+    ghost done = { λ _ _ _ _ _ _ _. ⊤ };
+
+    fn perform(&self, mem: &mut Lent<'_>, given: &mut Given) {
+        let table = mem.table;
+        Primed.alg_moved(table, mem);
+        Primed.alg_activate(mem);
+        given.status = Primed.alg_control(mem, &Ctl::Get);
+        Primed.alg_deactivate(mem);
+        given.freed = Some(Primed.alg_free(mem));
+    }
+}
+
+#[test]
+fn starts_leave_the_words(rt: HostRuntime) {
+    assert_eq!(rt; start_in_poison(POISON, 7), Some(STARTED));
+    assert_eq!(rt; start_with_fill(POISON, 7), Some(STARTED));
+}
+
+#[test]
+fn moved_and_asked(rt: HostRuntime) {
+    let mut held = start_in_poison(POISON, 7).expect(&rt, "a start");
+    let there = table(&rt, 64, 32);
+    let mut given = Given {
+        status: Status::Done,
+        freed: None,
+    };
+    lend(
+        &MoveAndAsk,
+        &there,
+        false,
+        &mut held.object,
+        &mut held.once,
+        &mut held.primed,
+        &mut [],
+        &mut given,
+    );
+    assert_eq!(rt; held.object, [9, 64, 32, 0]);
+    assert_eq!(rt; given.status, Status::Words(words(&rt, &[POISON, 7])));
+    let freed = given.freed.expect(&rt, "a table");
+    assert_eq!(rt; freed.records(), there.records());
+}
+
+#[test]
+fn parameters_are_two(rt: HostRuntime) {
+    for refused in [[0; 3].as_slice(), &[0], &[]] {
+        assert!(rt; Primed.alg_alloc(&words(&rt, refused)).is_none());
+    }
+    assert_eq!(rt; Primed.alg_num_alloc(), 3);
+    let table = table(&rt, ONCE_BASE, 0);
+    assert_eq!(rt; table.len(), 3);
+    let (once, primed) = (table.get(1), table.get(2));
+    assert_eq!(rt;
+        (once.size, once.space, once.attr),
+        (1, Space::External, Attr::WriteOnce)
+    );
+    assert_eq!(rt;
+        (primed.size, primed.space, primed.attr),
+        (1, Space::Saram, Attr::Persist)
+    );
+    let p = words(&rt, &[POISON, 7]);
+    assert!(rt; Primed.accepts(&p, &Ctl::Get));
+    assert!(rt; !Primed.accepts(&p, &Ctl::Reset));
+    assert!(rt; !Primed.accepts(&p, &Ctl::Set(words(&rt, &[1]))));
+}
