@@ -1,16 +1,18 @@
 //! The worked rows over plain words. The running words are overwritten before each call: an instance relies on what it
 //! kept alone.
-use crate::{Biquad, COEFFICIENTS, STATE_WORDS};
+use crate::{Biquad, COEFFICIENTS, STATE_WORDS, biquad_rows};
 use ialg::{BLOCK_SAMPLES, Block, Ctl, Filter, Ialg, PARAMETER_WORDS, Words, copied};
+use mem_rec::{Attr, MemRec, Space};
 use std::process::Abort;
 
 const KEPT_WORDS: usize = COEFFICIENTS + STATE_WORDS;
 
 const POISON: i16 = 21845;
 
-fn words(rt: &impl Abort, values: &[i16]) -> Words {
-    assert!(rt; values.len() <= PARAMETER_WORDS);
-    copied(values)
+/// So many words, each 0.
+fn zeros(rt: &impl Abort, count: usize) -> Words {
+    assert!(rt; count <= PARAMETER_WORDS);
+    copied(&[0; PARAMETER_WORDS][..count])
 }
 
 fn started(p: &[i16]) -> [i16; KEPT_WORDS] {
@@ -37,59 +39,100 @@ fn reset(kept: &mut [i16]) {
     Biquad::save(kept, &running);
 }
 
+/// Each output is halved and fed back.
+const HALVING: [i16; COEFFICIENTS] = [16384, 0, 0, -8192, 0];
+
 #[test]
 fn outputs_are_fed_back(rt: HostRuntime) {
-    let mut kept = started(&[16384, 0, 0, -8192, 0]);
+    let mut kept = started(&HALVING);
     let out = feed(&mut kept, &[100, 0, 0, 0]);
     assert_eq!(rt; out.as_slice(), [100, 50, 25, 13].as_slice());
 
-    let mut kept = started(&[16384, 0, 0, -8192, 0]);
+    let mut kept = started(&HALVING);
     let first = feed(&mut kept, &[100, 0]);
     let rest = feed(&mut kept, &[0, 0]);
     assert_eq!(rt; first.as_slice(), [100, 50].as_slice());
     assert_eq!(rt; rest.as_slice(), [25, 13].as_slice());
 }
 
-// y(n) = x(n-1) / 2 + x(n-2) - y(n-2), so 100 gives 0, 50, 100, -50, -100
 #[test]
 fn each_coefficient_has_its_place(rt: HostRuntime) {
-    let mut kept = started(&[0, 8192, 16384, 0, 16384]);
+    let mut kept = started(&[0, 16384, 8192, 0, -8192]);
     let out = feed(&mut kept, &[100, 0, 0, 0, 0]);
-    assert_eq!(rt; out.as_slice(), [0, 50, 100, -50, -100].as_slice());
+    assert_eq!(rt; out.as_slice(), [0, 100, 50, 50, 25].as_slice());
+}
+
+#[test]
+fn outputs_are_rounded_and_limited(rt: HostRuntime) {
+    let mut kept = started(&HALVING);
+    let out = feed(&mut kept, &[-100, 0, 0, 0]);
+    assert_eq!(rt; out.as_slice(), [-100, -50, -25, -12].as_slice());
+    let mut kept = started(&[32767, 0, 0, 0, 0]);
+    let out = feed(&mut kept, &[32767, -32768]);
+    assert_eq!(rt; out.as_slice(), [32767, -32768].as_slice());
 }
 
 #[test]
 fn a_reset_forgets_samples_and_outputs(rt: HostRuntime) {
-    let mut kept = started(&[16384, 0, 0, -8192, 0]);
+    let mut kept = started(&HALVING);
     let out = feed(&mut kept, &[100, 0]);
     assert_eq!(rt; out.as_slice(), [100, 50].as_slice());
     reset(&mut kept);
+    let out = feed(&mut kept, &[0, 64]);
+    assert_eq!(rt; out.as_slice(), [0, 64].as_slice());
+    assert_eq!(rt;
+        Biquad::get(&kept, &[0; STATE_WORDS]).as_slice(),
+        HALVING.as_slice()
+    );
+}
+
+// 40 / 2 + 100 + 20 / 2 + 50
+#[test]
+fn a_set_keeps_samples_and_outputs(rt: HostRuntime) {
+    let mut kept = started(&[8192, 0, 0, 0, 0]);
+    let out = feed(&mut kept, &[100, 40]);
+    assert_eq!(rt; out.as_slice(), [50, 20].as_slice());
+    let coefficients = [0, 8192, 16384, -8192, -16384];
+    Biquad::set(&mut kept, &coefficients);
     let out = feed(&mut kept, &[0]);
-    assert_eq!(rt; out.as_slice(), [0].as_slice());
+    assert_eq!(rt; out.as_slice(), [180].as_slice());
+    assert_eq!(rt;
+        Biquad::get(&kept, &[0; STATE_WORDS]).as_slice(),
+        coefficients.as_slice()
+    );
 }
 
 #[test]
-fn a_set_keeps_samples_and_outputs(rt: HostRuntime) {
-    let mut kept = started(&[16384, 0, 0, 0, 0]);
-    let _first = feed(&mut kept, &[100]);
-    assert!(rt; Biquad::takes(&[0; 5], &Ctl::Set(words(&rt, &[0; 5]))));
-    assert!(rt; !Biquad::takes(&[0; 5], &Ctl::Set(words(&rt, &[0; 4]))));
-    Biquad::set(&mut kept, &[0, 16384, 0, -8192, 0]);
-    let out = feed(&mut kept, &[0]);
-    assert_eq!(rt; out.as_slice(), [150].as_slice());
-    let got = Biquad::get(&kept, &[0; STATE_WORDS]);
-    assert_eq!(rt; got.as_slice(), [0, 16384, 0, -8192, 0].as_slice());
+fn controls_that_are_taken(rt: HostRuntime) {
+    for (count, taken) in [(0, false), (4, false), (5, true), (6, false)] {
+        assert_eq!(rt;
+            Biquad::takes(&HALVING, &Ctl::Set(zeros(&rt, count))),
+            taken
+        );
+    }
+    assert!(rt; Biquad::takes(&HALVING, &Ctl::Reset));
+    assert!(rt; Biquad::takes(&HALVING, &Ctl::Get));
 }
 
 #[test]
 fn parameters_are_five(rt: HostRuntime) {
-    assert!(rt; Biquad.alg_alloc(&words(&rt, &[0; 4])).is_none());
-    assert!(rt; Biquad.alg_alloc(&words(&rt, &[0; 6])).is_none());
-    let table = Biquad
-        .alg_alloc(&words(&rt, &[0; 5]))
-        .expect(&rt, "a table");
-    assert_eq!(rt; table.len(), Biquad.alg_num_alloc());
-    assert_eq!(rt; table.len(), 3);
-    assert_eq!(rt; table.get(1).size, 9);
-    assert_eq!(rt; table.get(2).size, 4);
+    biquad_rows();
+    assert!(rt; Biquad.alg_alloc(&zeros(&rt, 4)).is_none());
+    assert!(rt; Biquad.alg_alloc(&zeros(&rt, 6)).is_none());
+    let table = Biquad.alg_alloc(&zeros(&rt, 5)).expect(&rt, "a table");
+    assert_eq!(rt; Biquad.alg_num_alloc(), 3);
+    let record = |size, space, attr| MemRec {
+        size,
+        align: 4,
+        space,
+        attr,
+        base: 0,
+    };
+    let wanted = [
+        record(4, Space::External, Attr::Persist),
+        record(9, Space::Saram, Attr::Persist),
+        record(4, Space::Daram, Attr::Scratch),
+    ];
+    assert_eq!(rt; table.records(), wanted.as_slice());
+    assert_eq!(rt; Biquad::KIND, 3);
 }
