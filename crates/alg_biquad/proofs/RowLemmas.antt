@@ -1,4 +1,4 @@
--- The worked rows, computed.
+-- The worked rows, computed by the checker.
 use Rattle.std.proofs.Common.{refl}
 use Rattle.alg_biquad.specs.Rows.{OutputRows, ParameterRows, ControlRows}
 

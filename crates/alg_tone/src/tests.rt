@@ -1,7 +1,8 @@
 //! The worked rows over plain words. The running words are overwritten before each call: an instance relies on what it
 //! kept alone.
-use crate::{PARAMETERS, STATE_WORDS, Tone};
+use crate::{PARAMETERS, STATE_WORDS, Tone, tone_rows};
 use ialg::{BLOCK_SAMPLES, Block, Ctl, Filter, Ialg, PARAMETER_WORDS, Words, copied};
+use mem_rec::{Attr, MemRec, Space};
 use std::process::Abort;
 
 const KEPT_WORDS: usize = PARAMETERS + STATE_WORDS;
@@ -43,39 +44,51 @@ fn got(kept: &[i16]) -> Words {
     Tone::get(kept, &running)
 }
 
+/// Frames of four samples, with the factor 0.
+const FOURS: [i16; PARAMETERS] = [0, 4, 0];
+
 #[test]
 fn a_frame_gives_its_level_at_its_end(rt: HostRuntime) {
-    let mut kept = started(&[0, 4, 0]);
+    let mut kept = started(&FOURS);
     let out = feed(&mut kept, &[1000, 0, -1000]);
     assert!(rt; out.is_empty());
     let out = feed(&mut kept, &[0]);
     assert_eq!(rt; out.as_slice(), [122].as_slice());
 
     // the next frame begins anew
-    let out = feed(&mut kept, &[1000, 0, -1000, 0]);
-    assert_eq!(rt; out.as_slice(), [122].as_slice());
+    let out = feed(&mut kept, &[0, 0, 0, 1000]);
+    assert_eq!(rt; out.as_slice(), [30].as_slice());
+
+    let mut kept = started(&FOURS);
+    let out = feed(&mut kept, &[1000, 0, -1000, 0, 0, 0, 0, 1000]);
+    assert_eq!(rt; out.as_slice(), [122, 30].as_slice());
 }
 
 #[test]
 fn the_level_has_the_last_factor(rt: HostRuntime) {
-    let mut kept = started(&[0, 4, 0]);
+    let mut kept = started(&FOURS);
     let out = feed(&mut kept, &[1000, 0, 0]);
     assert!(rt; out.is_empty());
-    assert!(rt; Tone::takes(&[0, 4, 0], &Ctl::Set(words(&rt, &[16384]))));
-    assert!(rt; !Tone::takes(&[0, 4, 0], &Ctl::Set(words(&rt, &[1, 2]))));
     Tone::set(&mut kept, &[16384]);
     assert_eq!(rt; got(&kept).as_slice(), [3].as_slice());
     let out = feed(&mut kept, &[1000]);
     assert_eq!(rt; out.as_slice(), [30].as_slice());
 
-    let mut kept = started(&[0, 4, 0]);
+    let mut kept = started(&FOURS);
     let out = feed(&mut kept, &[1000, 0, 0, 1000]);
     assert_eq!(rt; out.as_slice(), [61].as_slice());
+
+    // v = 1000, 2000: (2000 * 2000 + 1000 * 1000 - 2000 * 1000) * 2 / 65536
+    let mut kept = started(&[0, 2, 0]);
+    let _none = feed(&mut kept, &[1000]);
+    Tone::set(&mut kept, &[16384]);
+    let out = feed(&mut kept, &[1000]);
+    assert_eq!(rt; out.as_slice(), [91].as_slice());
 }
 
 #[test]
 fn a_reset_begins_a_frame(rt: HostRuntime) {
-    let mut kept = started(&[0, 4, 0]);
+    let mut kept = started(&FOURS);
     let _none = feed(&mut kept, &[1000, 0, 0]);
     reset(&mut kept);
     assert_eq!(rt; got(&kept).as_slice(), [0].as_slice());
@@ -83,25 +96,65 @@ fn a_reset_begins_a_frame(rt: HostRuntime) {
     assert_eq!(rt; out.as_slice(), [122].as_slice());
 }
 
-// v = 256 in a frame of its own: 256 * 256 * 2 / 65536
 #[test]
-fn a_frame_may_have_one_sample(rt: HostRuntime) {
+fn samples_are_shifted(rt: HostRuntime) {
+    let mut kept = started(&[0, 4, 1]);
+    let out = feed(&mut kept, &[2000, 1, -2000, 0]);
+    assert_eq!(rt; out.as_slice(), [122].as_slice());
+
+    // v = 256 in a frame of its own: 256 * 256 * 2 / 65536
     let mut kept = started(&[32767, 1, 2]);
     let out = feed(&mut kept, &[1024, 1027, -1]);
     assert_eq!(rt; out.as_slice(), [2, 2, 0].as_slice());
 }
 
 #[test]
+fn get_counts_the_samples_of_the_frame(rt: HostRuntime) {
+    let mut kept = started(&FOURS);
+    for count in [1, 2, 3, 0, 1] {
+        let _out = feed(&mut kept, &[9]);
+        assert_eq!(rt; got(&kept).as_slice(), [count].as_slice());
+    }
+}
+
+#[test]
+fn controls_that_are_taken(rt: HostRuntime) {
+    for (factors, taken) in [([].as_slice(), false), (&[16384], true), (&[1, 2], false)] {
+        assert_eq!(rt; Tone::takes(&FOURS, &Ctl::Set(words(&rt, factors))), taken);
+    }
+    assert!(rt; Tone::takes(&FOURS, &Ctl::Reset));
+    assert!(rt; Tone::takes(&FOURS, &Ctl::Get));
+}
+
+#[test]
 fn parameters_are_three_in_their_ranges(rt: HostRuntime) {
-    for refused in [[0, 0, 0], [0, 1025, 0], [0, 1, -1], [0, 1, 16]] {
+    tone_rows();
+    for refused in [[0, 0, 0], [0, 1025, 0], [0, -1, 0], [0, 1, -1], [0, 1, 16]] {
         assert!(rt; Tone.alg_alloc(&words(&rt, &refused)).is_none());
     }
+    for granted in [[32767, 1, 0], [-32768, 1024, 0], [0, 1, 15]] {
+        assert!(rt; Tone.alg_alloc(&words(&rt, &granted)).is_some());
+    }
     assert!(rt; Tone.alg_alloc(&words(&rt, &[0, 1])).is_none());
-    let table = Tone
-        .alg_alloc(&words(&rt, &[-1, 1024, 15]))
-        .expect(&rt, "a table");
-    assert_eq!(rt; table.len(), Tone.alg_num_alloc());
-    assert_eq!(rt; table.len(), 3);
-    assert_eq!(rt; table.get(1).size, 6);
-    assert_eq!(rt; table.get(2).size, 3);
+    assert!(rt; Tone.alg_alloc(&words(&rt, &[0, 1, 0, 0])).is_none());
+}
+
+#[test]
+fn the_table_by_its_numbers(rt: HostRuntime) {
+    let table = Tone.alg_alloc(&words(&rt, &FOURS)).expect(&rt, "a table");
+    assert_eq!(rt; Tone.alg_num_alloc(), 3);
+    let record = |size, space, attr| MemRec {
+        size,
+        align: 4,
+        space,
+        attr,
+        base: 0,
+    };
+    let wanted = [
+        record(4, Space::External, Attr::Persist),
+        record(6, Space::Saram, Attr::Persist),
+        record(3, Space::Daram, Attr::Scratch),
+    ];
+    assert_eq!(rt; table.records(), wanted.as_slice());
+    assert_eq!(rt; Tone::KIND, 4);
 }
