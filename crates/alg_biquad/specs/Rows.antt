@@ -2,7 +2,7 @@
 use Rattle.std.specs.Prelude.{◌≡◌, ℤ, pos, negsuc, true, false, List, [], ◌∷◌, replicate, Some, None}
 use Rattle.mem_rec.specs.declared.Space.TheVariants.{Daram, Saram, External}
 use Rattle.mem_rec.specs.declared.Attr.TheVariants.{Scratch, Persist}
-use Rattle.ialg.specs.History.{History, Control, Set, Reset, Get, with_samples}
+use Rattle.ialg.specs.History.{Control, Set, Reset, Get, with_samples}
 use Rattle.ialg.specs.Filters.{filter_table}
 use Rattle.alg_biquad.specs.Equation.{biquad_outputs}
 use Rattle.alg_biquad.specs.Meaning.{biquad_memory, biquad_accepts, biquad_filter}

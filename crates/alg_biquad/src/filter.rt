@@ -8,7 +8,8 @@ use ialg::{Block, Ctl, Filter, FilterMemory, Words, clear, copied, overwrite};
 use mem_rec::LEAST_ALIGNMENT;
 
 /// A filter of second order with feedback. Its parameters are its five coefficients in Q14, those of the samples first:
-/// b0 b1 b2 a1 a2. It gives one output per sample, rounded and saturated as G.191's operators do.
+/// b0 b1 b2 a1 a2. It gives one output per sample, rounded and saturated as G.191's operators do. Samples and outputs are in
+/// Q15, and an output that is fed back was rounded.
 ///
 /// The kept words are the coefficients and the state. The running words are the state: the two newest samples and the two
 /// newest outputs.

@@ -8,7 +8,7 @@ use crate::{COEFFICIENTS, STATE_WORDS};
 use basic_op::{l_mac, l_msu, l_mult, l_shl, round};
 use ialg::{BLOCK_SAMPLES, Block};
 
-/// The two newest samples and the two newest outputs.
+/// The two newest samples and the two newest outputs, in Q15.
 #[derive(Clone, Copy)]
 struct State {
     x1: i16,
@@ -58,7 +58,7 @@ impl State {
     }
 }
 
-/// The output at the sample `x`. Coefficients are in Q14, so that the sum is in Q30.
+/// The output at the sample `x`, in Q15. Coefficients are in Q14, so that the sum is in Q30, and in Q31 when it is doubled.
 fn output(c: &[i16], state: State, x: i16) -> i16
     requires { length c.now ≡ COEFFICIENTS }
     ensures { result ≡ biquad_value (word_at c.now) x state.x1 state.x2 state.y1 state.y2 }
