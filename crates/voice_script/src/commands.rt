@@ -29,7 +29,6 @@ pub enum Command<M> {
 }
 
 /// `create` I KIND G W*
-#[tactic(auto, using(std::proofs::lemmas::Bool::and_parts, crate::proofs::ReadingLemmas::unfit))]
 fn create_row<M: Named + Copy>(mut words: Words<'_>) -> Result<Command<M>, Refusal>
     ensures { row_of result ≡ create_row M.named (to_come words.entry) }
 {
