@@ -1,4 +1,5 @@
 use Rattle.std.proofs.Common.{ap, arith, ◌∙◌, sym, get_or}
+use Rattle.std.proofs.lemmas.Grind.{common_steps}
 use Rattle.mem_rec.specs.declared.MemRec.{MemRec}
 use Rattle.mem_rec.specs.declared.Space.TheVariants.{Daram}
 use Rattle.mem_rec.specs.declared.Attr.TheVariants.{Scratch}
@@ -60,3 +61,12 @@ loop-r-preserved c =
             low = omega arith;
           }
     ]
+
+pub returns-clause-offsets : goal.returns-clause-offsets
+returns-clause-offsets c = grind (arith, common_steps)
+
+pub returns-clause-need : goal.returns-clause-need
+returns-clause-need c = grind (arith, common_steps)
+
+pub returns-clause-align : goal.returns-clause-align
+returns-clause-align c = grind (arith, common_steps)
