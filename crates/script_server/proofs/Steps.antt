@@ -8,6 +8,14 @@ use Rattle.script_server.specs.Runs.{StepsAt}
 pub at_number : {X A : Type 0} (view : X → A) (none : A) (xs : List X) (i : ℕ) (x : X) → i < length xs → x ≡ slice_index_or xs i x → slice_index_or (map view xs) i none ≡ view x
 at_number view none xs i x h e = get_or-map view xs i x none h ∙ ap view (sym e)
 
+-- the number of a port is that of what is known of it
+pub there_in : {X A : Type 0} (view : X → A) (xs : List X) {i n : ℕ} → length xs ≡ n → i < n → i < length (map view xs)
+there_in view xs e h = rw (length-map xs view, e) h
+
+-- as much is known of as many ports
+pub same_length : {X Y A B : Type 0} (f : X → A) (g : Y → B) (xs : List X) (ys : List Y) {n : ℕ} → length xs ≡ n → length ys ≡ n → length (map f xs) ≡ length (map g ys)
+same_length f g xs ys a b = length-map xs f ∙ a ∙ sym (length-map ys g ∙ b)
+
 pub steps_at : {X A : Type 0} (Step : A → A → Type 0) (view : X → A) (none : A) (xs : List X) (i : ℕ) (x x' : X)
     → i < length xs → x ≡ slice_index_or xs i x → Step (view x) (view x') → StepsAt Step i none (map view xs) (map view (slice_set xs i x'))
 steps_at Step view none xs i x x' h e step = record {
