@@ -139,18 +139,17 @@ module _ {S : Type 0} (m : Machine S) (start : Run S) where
   -- ---- the end of a run
 
   -- what is passed on at the end changes nothing of what is held
-  pub all_passed_on : {refused : ℕ} (old mid new : Devices) → ServedAll m start refused old mid
-      → new.script ≡ mid.script → new.inputs ≡ mid.inputs → Writes [] mid.outputs new.outputs mid.replies new.replies
-      → ServedAll m start refused old new
-  all_passed_on old mid new all script inputs none = record {
-    at_end = rw script all.at_end;
-    inputs = rw inputs all.inputs;
+  pub all_passed_on : {refused : ℕ} {old mid : Devices} {outputs : List Sink} {replies : Sink} → ServedAll m start refused old mid
+      → Writes [] mid.outputs outputs mid.replies replies → ServedAll m start refused old (record mid { outputs = outputs; replies = replies })
+  all_passed_on {old = old} all none = record {
+    at_end = all.at_end;
+    inputs = all.inputs;
     writes = rw (append-nil (order_of (lines_answer m start (lines_of old.script.coming)).written)) at (writes_more all.writes none);
     counted = all.counted;
   }
 
-  pub all_is_first : {refused : ℕ} (old new : Devices) → ServedAll m start refused old new → ServedFirst m start old new
-  all_is_first old new all =
+  pub all_is_first : {refused : ℕ} {old new : Devices} → ServedAll m start refused old new → ServedFirst m start old new
+  all_is_first {old = old} all =
       let split = last_line_of old.script.coming in
       let answer = line_answer m (lines_answer m start split.0).run split.1 in
       record {

@@ -1,5 +1,5 @@
 -- What has come, and what was served, at the start of an iteration.
-use Rattle.std.proofs.Common.{◌≡◌, ℕ, ◌+◌, Bool, List, length, map}
+use Rattle.std.proofs.Common.{◌≡◌, ℕ, ◌+◌, List, length, map}
 use Rattle.std.specs.List.{All, flat_map}
 use Rattle.octet_ports.specs.Ports.{Source, Sink, Gives}
 use Rattle.octet_ports.specs.Lines.{ended, IsNoFeed}

@@ -1,4 +1,5 @@
-use Rattle.std.proofs.Common.{◌∙◌, refl, sym, inl, inr}
+use Rattle.std.proofs.Common.{map, ◌∙◌, sym, inl, inr}
+use Rattle.script_server.specs.Runs.{run_of}
 use Rattle.script_server.proofs.Writes.{writes_more, writes_reply}
 use Rattle.script_server.proofs.Ends.{all_passed_on, all_is_first}
 use Rattle.script_server.proofs.serving.serve.Goals as goal
@@ -7,27 +8,30 @@ use Rattle.script_server.proofs.serving.serve.Goals as goal
 pub returns-then-is_err-clause-write : goal.returns-then-is_err-clause-write
 returns-then-is_err-clause-write g c = λ is.
     let m = g.T.LineMachine.machine in
+    let start = run_of g.state (map g.I.PortIn.source c.args.inputs.now.items) in
     let outputs_hold = c.flush_outputs.ensures.holds _ in
     record {
       failed = inl (c.flush_outputs.ensures.failed (sym c.is_err.ensures.value ∙ c.if-is_err.true));
       passed = inl c.serve_script.ensures.waits.reply;
-      served = λ honest h. all_is_first m _ _ _ (all_passed_on m _ _ _ _ (c.in-Ok.ensures.ok.served honest h) refl refl outputs_hold);
+      served = λ honest h. all_is_first m start (all_passed_on m start (c.in-Ok.ensures.ok.served honest h) outputs_hold);
     }
 
 -- the replies' flush failed
 pub returns-then-is_err-2-clause-write : goal.returns-then-is_err-2-clause-write
 returns-then-is_err-2-clause-write g c = λ is.
     let m = g.T.LineMachine.machine in
+    let start = run_of g.state (map g.I.PortIn.source c.args.inputs.now.items) in
     let all_hold = writes_more (c.flush_outputs.ensures.holds _) (writes_reply _ c.flush.ensures.octets) in
     record {
       failed = inr (c.flush.ensures.failed ∙ sym c.is_err-2.ensures.value ∙ c.if-is_err-2.true);
       passed = inr (c.flush_outputs.ensures.passed c.if-is_err.ensures.negation);
-      served = λ honest h. all_is_first m _ _ _ (all_passed_on m _ _ _ _ (c.in-Ok.ensures.ok.served honest h) refl refl all_hold);
+      served = λ honest h. all_is_first m start (all_passed_on m start (c.in-Ok.ensures.ok.served honest h) all_hold);
     }
 
 pub returns-clause-ok : goal.returns-clause-ok
 returns-clause-ok g c =
     let m = g.T.LineMachine.machine in
+    let start = run_of g.state (map g.I.PortIn.source c.args.inputs.now.items) in
     let serves = c.in-Ok.ensures.ok in
     let both_hold = writes_more (c.flush_outputs.ensures.holds _) (writes_reply _ c.flush.ensures.octets) in
     let outputs_passed_on = c.if-is_err.ensures.negation in
@@ -40,7 +44,7 @@ returns-clause-ok g c =
           outs = c.flush_outputs.ensures.ready outputs_passed_on;
           reply = c.flush.ensures.failed ∙ sym c.is_err-2.ensures.value ∙ c.if-is_err-2.false;
         };
-        served = λ honest h. all_passed_on m _ _ _ _ (serves.served honest h) refl refl both_hold;
+        served = λ honest h. all_passed_on m start (serves.served honest h) both_hold;
       };
       outputs_passed = c.flush_outputs.ensures.passed outputs_passed_on;
       replies_passed = c.flush.ensures.all replies_passed_on;
