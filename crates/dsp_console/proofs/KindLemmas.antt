@@ -1,7 +1,5 @@
 -- The program's kinds can be served.
-use Rattle.std.proofs.Common.{rules, ◌≡◌, ◌≤◌, List, ℤ, length, Some, refl, sym, ◌∙◌, ap, arith}
-use Rattle.mem_rec.specs.declared.MemRec.{MemRec}
-use Rattle.fir_kernel.specs.declared.TheConstants.{MOST_COEFFICIENTS}
+use Rattle.std.proofs.Common.{rules, length, refl, ap, arith}
 use Rattle.ialg.specs.declared.filter.FilterMemory.{FilterMemory}
 use Rattle.ialg.specs.Filters.{filter_records}
 use Rattle.ialg.proofs.Hosting.{table_some}

@@ -1,4 +1,4 @@
-use Rattle.std.proofs.Common.{◌≡◌, List, None, subst, ap, ◌∙◌}
+use Rattle.std.proofs.Common.{List, None, subst, ap, ◌∙◌}
 use Rattle.mem_rec.specs.declared.MemRec.{MemRec}
 use Rattle.ialg.specs.History.{History, with_samples}
 use Rattle.ialg.specs.Records.{lasting}
