@@ -8,9 +8,9 @@ use crate::{FRAME_SAMPLES, MOST_SHIFT, PARAMETERS, STATE_WORDS, TONE_KIND};
 use ialg::{Block, Ctl, Filter, FilterMemory, Words, clear, copied, overwrite};
 use mem_rec::LEAST_ALIGNMENT;
 
-/// A detector of one tone (Goertzel). Its parameters are k N s: the factor in Q14, which sets the frequency, the samples
-/// of a frame, 1 to 1024, and the bits by which each sample is shifted to the right, 0 to 15. After each frame it gives
-/// the level of the tone in it.
+/// A detector of one tone (Goertzel). Its parameters are k N s: the factor in Q14, twice the cosine of the angle by which the tone
+/// turns in a sample; the samples of a frame, 1 to 1024; and the bits by which each sample is shifted to the right, 0 to 15. After
+/// each frame it gives the level of the tone in it: the squared magnitude in Q15, where the shifted samples are in Q15.
 ///
 /// The kept words are the parameters and the state. The running words are the state: how many samples of the frame there
 /// are, and the two newest values in it.

@@ -84,21 +84,21 @@ impl Tuning {
         }
     }
 
-    /// The factor times a value.
+    /// The factor, in Q14, times a value in Q15: in Q15.
     fn feedback(self, v: i16) -> i16
         ensures { result ≡ feedback_of self.factor v }
     {
         extract_h(l_shl(l_mult(self.factor, v), 1))
     }
 
-    /// The value of the sample `x` in the frame.
+    /// The value of the sample `x` in the frame, in Q15.
     fn value(self, frame: Frame, x: i16) -> i16
         ensures { result ≡ tone_value self.factor self.shift x frame.v1 frame.v2 }
     {
         sub(add(shr(x, self.shift), self.feedback(frame.v1)), frame.v2)
     }
 
-    /// The level of the tone in the frame.
+    /// The level of the tone in the frame, in Q15: the sum of squares is in Q31.
     fn level(self, frame: Frame) -> i16
         ensures { result ≡ tone_level self.factor frame.v1 frame.v2 }
     {
