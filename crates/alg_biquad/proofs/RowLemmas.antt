@@ -3,7 +3,7 @@ use Rattle.std.proofs.Common.{refl}
 use Rattle.alg_biquad.specs.Rows.{OutputRows, ParameterRows, ControlRows}
 
 pub outputs : OutputRows
-outputs = record { fed_back = refl; below_0 = refl; other_coefficients = refl; limited = refl; kept_over_set = refl; reset_within = refl }
+outputs = record { fed_back = refl; below_0 = refl; other_coefficients = refl; limited = refl; samples_in_order = refl; samples_first = refl; outputs_in_order = refl; kept_over_set = refl; reset_within = refl }
 
 pub parameters : ParameterRows
 parameters = record { four = refl; five = refl; six = refl }

@@ -18,6 +18,14 @@ pub record OutputRows : Type 0 where
   pub other_coefficients : biquad_outputs (pos 0 ∷ pos 16384 ∷ pos 8192 ∷ pos 0 ∷ negsuc 8191 ∷ []) (with_samples [] (pos 100 ∷ pos 0 ∷ pos 0 ∷ pos 0 ∷ pos 0 ∷ []))
       ≡ pos 0 ∷ pos 100 ∷ pos 50 ∷ pos 50 ∷ pos 25 ∷ []
   pub limited : biquad_outputs (pos 32767 ∷ replicate 4 (pos 0)) (with_samples [] (pos 32767 ∷ negsuc 32767 ∷ [])) ≡ pos 32767 ∷ negsuc 32767 ∷ []
+  -- samples come before outputs, and each sum is limited before the next product
+  pub samples_in_order : biquad_outputs (pos 32767 ∷ pos 32767 ∷ negsuc 32767 ∷ pos 0 ∷ pos 0 ∷ []) (with_samples [] (replicate 3 (pos 32767)))
+      ≡ pos 32767 ∷ pos 32767 ∷ pos 2 ∷ []
+  pub samples_first : biquad_outputs (pos 32767 ∷ pos 32767 ∷ pos 0 ∷ pos 32767 ∷ pos 0 ∷ []) (with_samples [] (replicate 2 (pos 32767)))
+      ≡ pos 32767 ∷ pos 4 ∷ []
+  pub outputs_in_order : biquad_outputs (pos 32767 ∷ replicate 4 (pos 0))
+      (with_samples (Control (Set (negsuc 32767 ∷ pos 0 ∷ pos 0 ∷ pos 32767 ∷ negsuc 32767 ∷ [])) ∷ with_samples [] (replicate 2 (pos 32767))) (pos 32767 ∷ []))
+      ≡ pos 32767 ∷ pos 32767 ∷ negsuc 1 ∷ []
   -- a `set` keeps two past samples and two past outputs: 40 / 2 + 100 + 20 / 2 + 50
   pub kept_over_set : biquad_outputs (pos 8192 ∷ replicate 4 (pos 0))
       (with_samples (Control (Set (pos 0 ∷ pos 8192 ∷ pos 16384 ∷ negsuc 8191 ∷ negsuc 16383 ∷ [])) ∷ with_samples [] (pos 100 ∷ pos 40 ∷ [])) (pos 0 ∷ []))

@@ -53,7 +53,7 @@ impl Step<Given> for Call<'_> {
     ghost done = { λ _ _ _ _ _ _ _. ⊤ };
 
     fn perform(&self, mem: &mut Lent<'_>, given: &mut Given) {
-        let table = mem.table;
+        let table = mem.table();
         match *self {
             Call::Start(p) => Decim.alg_init(table, p, mem),
             Call::Feed(input) => run_awake(mem, input, &mut given.out),

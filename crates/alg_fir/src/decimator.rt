@@ -100,7 +100,7 @@ impl Ialg for Decim {
     }
 
     fn alg_free(&self, mem: &Lent<'_>) -> MemTab {
-        mem.table.copied()
+        mem.table().copied()
     }
 
     ghost idle_words = { λ _ p rs wss h idle. idle.keeps.history };

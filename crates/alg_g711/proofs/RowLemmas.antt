@@ -1,7 +1,7 @@
 -- The worked rows, computed by the checker.
 use Rattle.std.proofs.Common.{refl}
 use Rattle.alg_g711.specs.Companding.{interval_of}
-use Rattle.alg_g711.specs.Rows.{CodeRows, SampleRows, CoderRows, ParameterRows}
+use Rattle.alg_g711.specs.Rows.{CodeRows, SampleRows, CoderRows, ParameterRows, KindRows}
 
 pub codes : CodeRows
 unfolding interval_of
@@ -37,3 +37,6 @@ parameters = record {
   reset = refl;
   get = refl;
 }
+
+pub kinds : KindRows
+kinds = record { a_encoder = refl; a_decoder = refl; mu_encoder = refl; mu_decoder = refl }

@@ -6,8 +6,9 @@ use Rattle.mem_rec.specs.declared.Attr.TheVariants.{Persist, WriteOnce}
 use Rattle.ialg.specs.History.{Set, Reset, Get, with_samples}
 use Rattle.ialg.specs.Meaning.{outputs_of}
 use Rattle.alg_g711.specs.declared.companding.Law.TheVariants.{A, Mu}
+use Rattle.alg_g711.specs.declared.coder.Direction.TheVariants.{Encode, Decode}
 use Rattle.alg_g711.specs.Companding.{encoded, decoded}
-use Rattle.alg_g711.specs.Meaning.{g711_meaning}
+use Rattle.alg_g711.specs.Meaning.{g711_meaning, kind_word}
 
 pub record CodeRows : Type 0 where
   pub a_zero : encoded A (pos 0) ≡ 213
@@ -54,3 +55,10 @@ pub record ParameterRows : Type 0 where
   pub no_set : g711_meaning.accepts (record {}) [] (Set []) ≡ false
   pub reset : g711_meaning.accepts (record {}) [] Reset ≡ true
   pub get : g711_meaning.accepts (record {}) [] Get ≡ true
+
+-- what an object's first word says
+pub record KindRows : Type 0 where
+  pub a_encoder : kind_word A Encode ≡ pos 5
+  pub a_decoder : kind_word A Decode ≡ pos 6
+  pub mu_encoder : kind_word Mu Encode ≡ pos 7
+  pub mu_decoder : kind_word Mu Decode ≡ pos 8

@@ -91,7 +91,7 @@ impl Ialg for G711 {
     }
 
     fn alg_free(&self, mem: &Lent<'_>) -> MemTab {
-        mem.table.copied()
+        mem.table().copied()
     }
 
     ghost idle_words = { λ _ p rs wss h keeps. keeps.history };

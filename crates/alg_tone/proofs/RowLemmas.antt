@@ -12,6 +12,9 @@ outputs = record {
   level_factor = refl;
   halved = refl;
   one_sample = refl;
+  cut_off = refl;
+  limited_in_order = refl;
+  squares_first = refl;
   reset_within = refl;
 }
 

@@ -28,6 +28,12 @@ pub record OutputRows : Type 0 where
   pub halved : tone_outputs (pos 0 ∷ pos 4 ∷ pos 1 ∷ []) (with_samples [] (pos 2000 ∷ pos 1 ∷ negsuc 1999 ∷ pos 0 ∷ [])) ≡ pos 122 ∷ []
   -- each frame has one sample, shifted by two bits: 256 * 256 * 2 / 65536
   pub one_sample : tone_outputs (pos 32767 ∷ pos 1 ∷ pos 2 ∷ []) (with_samples [] (pos 1024 ∷ pos 1027 ∷ negsuc 0 ∷ [])) ≡ pos 2 ∷ pos 2 ∷ pos 0 ∷ []
+  -- the feedback is cut off, not rounded
+  pub cut_off : tone_outputs (pos 32767 ∷ pos 2 ∷ pos 0 ∷ []) (with_samples [] (pos 8192 ∷ pos 0 ∷ [])) ≡ pos 2047 ∷ []
+  -- the feedback is added, and limited, before the older value is taken off
+  pub limited_in_order : tone_outputs (pos 32767 ∷ pos 3 ∷ pos 0 ∷ []) (with_samples [] (negsuc 32767 ∷ pos 0 ∷ pos 0 ∷ [])) ≡ pos 32767 ∷ []
+  -- of a level the squares are summed, and limited, first
+  pub squares_first : tone_outputs (pos 16384 ∷ pos 2 ∷ pos 0 ∷ []) (with_samples [] (negsuc 32767 ∷ pos 0 ∷ [])) ≡ pos 0 ∷ []
   pub reset_within : tone_outputs fours (with_samples (Control Reset ∷ with_samples [] (pos 1000 ∷ pos 0 ∷ pos 0 ∷ [])) (pos 1000 ∷ pos 0 ∷ negsuc 999 ∷ pos 0 ∷ []))
       ≡ pos 122 ∷ []
 

@@ -18,7 +18,7 @@ impl<M: Ialg> Step<()> for Start<'_, M> {
     ghost done = { λ step table writable old new out given. Starts M.meaning M.idle_keeps step.kind step.parameters.now.items table writable old new };
 
     fn perform(&self, mem: &mut Lent<'_>, _out: &mut ()) {
-        let table = mem.table;
+        let table = mem.table();
         self.kind.alg_init(table, self.parameters, mem);
     }
 }

@@ -2,3 +2,4 @@ pub mod Bounding
 pub mod Parts
 pub mod RingLemmas
 pub mod Sums
+pub mod Written

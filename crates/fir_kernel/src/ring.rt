@@ -26,6 +26,7 @@ pub fn unroll(words: &[i16], size: usize, next: usize, count: usize, line: &mut 
     ensures samples { (h : History) → IsRing count size words.now next h
         → (j k : ℕ) → j + k + 1 ≡ count → word_at line.new (at + j) ≡ past h k }
     ensures before { (j : ℕ) → j < at → word_at line.new j ≡ word_at line.old j }
+    ensures after { (j : ℕ) → at + count ≤ j → word_at line.new j ≡ word_at line.old j }
 {
     if count <= next {
         place(line, at, &words[next - count..next]);
@@ -36,13 +37,14 @@ pub fn unroll(words: &[i16], size: usize, next: usize, count: usize, line: &mut 
     }
 }
 
-/// Enters the samples one by one, each at the place of the oldest: the place of the next one.
+/// Enters the samples one by one, each at the place of the oldest: the place of the next one. The words behind the ring stay.
 pub fn enter(words: &mut [i16], size: usize, next: usize, samples: &[i16]) -> usize
     requires size { size ≤ length words.old }
     requires next { next < size }
     ensures within { result < size }
     ensures ring { (count : ℕ) (h : History) → count ≤ size → IsRing count size words.old next h
         → IsRing count size words.new result (with_samples h samples.now) }
+    ensures behind { (k : ℕ) → size ≤ k → word_at words.new k ≡ word_at words.old k }
 {
     let mut at = next;
     for sample in samples {

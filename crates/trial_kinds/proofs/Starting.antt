@@ -53,3 +53,11 @@ placed_lent object once primed four one single = record {
   sizes (suc (suc zero)) = single
   sizes (suc (suc (suc zero))) = refl
   sizes (suc (suc (suc (suc k)))) = refl
+
+-- such parameters are granted their table
+pub taken : (p : List ℤ) (w : Option ℤ) → IsTrue (is_primed p w) → (if length p == 2 then Some primed_records else None) ≡ Some primed_records
+taken [] w primed = cc
+taken (v ∷ []) w primed = cc
+taken (v ∷ x ∷ []) None primed = cc
+taken (v ∷ x ∷ []) (Some w) primed = refl
+taken (v ∷ x ∷ y ∷ p) w primed = cc

@@ -71,7 +71,7 @@ impl Ialg for Primed {
     }
 
     fn alg_free(&self, mem: &Lent<'_>) -> MemTab {
-        mem.table.copied()
+        mem.table().copied()
     }
 
     ghost idle_words = { λ _ p rs wss h keeps. keeps.history };

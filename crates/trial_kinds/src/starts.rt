@@ -102,7 +102,7 @@ impl Step<()> for Start<'_> {
         → KeepsWords start.p.now.items table (lasting table new) [] };
 
     fn perform(&self, mem: &mut Lent<'_>, _out: &mut ()) {
-        let table = mem.table;
+        let table = mem.table();
         Primed.alg_init(table, self.p, mem);
     }
 }

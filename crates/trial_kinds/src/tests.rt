@@ -48,7 +48,7 @@ impl Step<Given> for MoveAndAsk {
     ghost done = { λ _ _ _ _ _ _ _. ⊤ };
 
     fn perform(&self, mem: &mut Lent<'_>, given: &mut Given) {
-        let table = mem.table;
+        let table = mem.table();
         Primed.alg_moved(table, mem);
         Primed.alg_activate(mem);
         given.status = Primed.alg_control(mem, &Ctl::Get);

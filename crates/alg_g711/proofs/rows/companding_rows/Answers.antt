@@ -12,3 +12,6 @@ returns-clause-coders c = lemmas.coders
 
 pub returns-clause-parameters : goal.returns-clause-parameters
 returns-clause-parameters c = lemmas.parameters
+
+pub returns-clause-kinds : goal.returns-clause-kinds
+returns-clause-kinds c = lemmas.kinds

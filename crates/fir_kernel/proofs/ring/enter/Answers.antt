@@ -21,6 +21,7 @@ loop-sample-preserved c =
     ] in
     record {
       within = both.0;
+      behind = λ k out. search (rules, c.loop-sample.invariant.behind k out);
       ring = λ count h few old.
           let step : i + 1 ≡ suc i = omega arith in
           let e : with_samples h (take (i + 1) xs) ≡ Sample (word_at xs i) ∷ with_samples h (take i xs) =

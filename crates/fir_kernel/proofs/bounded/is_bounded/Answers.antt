@@ -1,0 +1,23 @@
+use Rattle.std.proofs.Common.{◌≡◌, ◌↔◌, ◌<◌, ◌≤◌, ◌*◌, ◌^◌, ℕ, ℤ, List, length, IsTrue, nat_lt, arith}
+use Rattle.std.proofs.lemmas.Bool.Decides.{nat_tests}
+use Rattle.std.proofs.lemmas.Nat.{mul-le}
+use Rattle.ialg.specs.History.{word_at}
+use Rattle.fir_kernel.specs.Bounded.{magnitude_sum, NoneLouder, IsBounded}
+use Rattle.fir_kernel.proofs.bounded.is_bounded.Goals as goal
+
+-- the least bound of the samples tells
+decided_by : (cs samples : List ℤ) (m l : ℕ) → m ≡ magnitude_sum (word_at cs) (length cs) → NoneLouder samples l
+    → ((bound : ℕ) → NoneLouder samples bound → l ≤ bound) → IsTrue (nat_lt (m * l) (2 ^ 30)) ↔ IsBounded cs samples
+decided_by cs samples m l e quiet least = (
+  λ t. let within : magnitude_sum (word_at cs) (length cs) * l < 2 ^ 30 = rw (← e) (grind (arith, nat_tests, t)) in (l, quiet, within),
+  λ b.
+      let less : m * l ≤ m * b.0 = mul-le m l m b.0 (omega arith) (least b.0 b.1) in
+      let bound : m * b.0 < 2 ^ 30 = rw e b.2 in
+      let within : m * l < 2 ^ 30 = omega arith in
+      grind (arith, nat_tests, within),
+)
+
+pub returns : goal.returns
+returns c =
+    rw (c.from.ensures, c.from-2.ensures)
+    (decided_by c.args.coefficients.now c.args.samples.now c.magnitude.result c.loudest.result c.magnitude.ensures c.loudest.ensures.bound c.loudest.ensures.least)

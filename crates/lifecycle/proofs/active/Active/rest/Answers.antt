@@ -1,0 +1,14 @@
+use Rattle.lifecycle.proofs.Frames.{fits_stay}
+use Rattle.lifecycle.proofs.Keeps.{rested}
+use Rattle.lifecycle.proofs.active.Active.rest.Goals as goal
+
+pub lend-requires-clause-sizes : goal.lend-requires-clause-sizes
+lend-requires-clause-sizes g c = c.requires.fits.lent.sizes
+
+pub returns-clause-fits : goal.returns-clause-fits
+returns-clause-fits g c = fits_stay _ _ _ _ _ _ _ c.lend.ensures.own c.lend.ensures.shared c.lend.ensures.group c.requires.fits
+
+pub returns-clause-keeps : goal.returns-clause-keeps
+returns-clause-keeps g c w h keeps lawful =
+    rested g.M.Ialg.meaning g.M.Ialg.idle_keeps g.M.Ialg.active_keeps c.args.self.instance.kind c.args.self.instance.table c.args.self.instance.own c.lend.new.own c.args.shared.now c.lend.new.shared c.args.group.now c.lend.new.self
+    c.requires.fits c.lend.ensures.done c.args.self.instance.params.items w h lawful (keeps lawful)

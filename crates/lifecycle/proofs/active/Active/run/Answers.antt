@@ -1,0 +1,15 @@
+use Rattle.std.proofs.Common.{refl}
+use Rattle.lifecycle.proofs.Frames.{fits_stay}
+use Rattle.lifecycle.proofs.active.Active.run.Goals as goal
+
+pub lend-requires-clause-sizes : goal.lend-requires-clause-sizes
+lend-requires-clause-sizes g c = c.requires.fits.lent.sizes
+
+pub returns-clause-fits : goal.returns-clause-fits
+returns-clause-fits g c = fits_stay _ _ _ _ _ _ _ c.lend.ensures.own c.lend.ensures.shared c.lend.ensures.group c.requires.fits
+
+pub returns-clause-keeps : goal.returns-clause-keeps
+returns-clause-keeps g c w h keeps lawful = (c.lend.ensures.done.0 c.args.self.now.instance.params.items w h lawful refl c.requires.fits.lent (keeps lawful)).0
+
+pub returns-clause-output : goal.returns-clause-output
+returns-clause-output g c w h lawful keeps = (c.lend.ensures.done.0 c.args.self.now.instance.params.items w h lawful refl c.requires.fits.lent (keeps lawful)).1

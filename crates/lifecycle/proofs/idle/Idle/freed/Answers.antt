@@ -1,0 +1,15 @@
+use Rattle.lifecycle.proofs.Words.{lasting_lent}
+use Rattle.lifecycle.proofs.Frames.{fits_stay, same_group}
+use Rattle.lifecycle.proofs.Keeps.{freed}
+use Rattle.lifecycle.proofs.idle.Idle.freed.Goals as goal
+
+pub lend_lasting-requires-clause-sizes : goal.lend_lasting-requires-clause-sizes
+lend_lasting-requires-clause-sizes g c = (lasting_lent c.args.self.now.instance.table c.args.self.now.instance.own c.args.shared.now c.args.group.now c.requires.fits.lent).sizes
+
+pub returns-clause-fits : goal.returns-clause-fits
+returns-clause-fits g c = fits_stay _ _ _ _ _ _ _ c.lend_lasting.ensures.own c.lend_lasting.ensures.shared (same_group c.args.group.now) c.requires.fits
+
+pub returns-clause-table : goal.returns-clause-table
+returns-clause-table g c w h lawful keeps =
+    freed g.M.Ialg.meaning g.M.Ialg.idle_keeps g.M.Ialg.active_keeps c.args.self.now.instance.kind c.args.self.now.instance.table c.args.self.now.instance.own c.args.shared.now c.args.group.now c.lend_lasting.new.out
+    c.requires.fits c.lend_lasting.ensures.done.1 c.args.self.now.instance.params.items w h lawful (keeps lawful)

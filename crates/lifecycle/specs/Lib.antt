@@ -1,0 +1,4 @@
+pub mod States
+pub mod Laws
+pub mod Moves
+pub mod Rooms

@@ -1,0 +1,53 @@
+-- When an instance keeps a history.
+use Rattle.std.specs.Prelude.{ℤ, ◌≡◌, IsTrue, List, Option}
+use Rattle.mem_rec.specs.declared.MemRec.{MemRec}
+use Rattle.ialg.specs.History.{History, Ctl}
+use Rattle.ialg.specs.Meaning.{Meaning, Status, outputs_of, status_of}
+use Rattle.ialg.specs.Records.{AllLent}
+use Rattle.scratch_group.specs.declared.group.Group.{Group}
+use Rattle.record_loans.specs.declared.pieces.Pieces.{Pieces}
+use Rattle.record_loans.specs.Pieces.{SamePieces}
+use Rattle.scratch_group.specs.Words.{active_words, idle_words, InSpaces}
+use Rattle.lifecycle.specs.declared.instance.Instance.{Instance}
+
+-- whether words keep a history, by the kind, its parameters and its table
+abbrev pub Relation : Type 0 → Type 1
+Relation M = M → List ℤ → List MemRec → List (List ℤ) → History → Type 0
+
+-- the records have their words in these pieces and blocks, and no two begin at one place
+pub record Fits (rs : List MemRec) (own shared : Pieces) (g : Group) : Type 0 where
+  pub lent : AllLent rs (active_words rs own shared g)
+  pub spaces : InSpaces own shared g
+
+-- the same instance, whose words may differ
+pub record SameInstance {M : Type 0} (old new : Instance M) : Type 0 where
+  pub kind : new.kind ≡ old.kind
+  pub params : new.params ≡ old.params
+  pub table : new.table ≡ old.table
+  pub own : SamePieces old.own new.own
+
+-- the instance is lawful in a host of this poison word, or of none
+abbrev pub IsLawful : {M : Type 0} → Meaning M → Instance M → Option ℤ → Type 0
+IsLawful meaning s w = IsTrue (meaning.lawful s.kind s.params.items w)
+
+-- the instance takes the control
+abbrev pub Accepts : {M : Type 0} → Meaning M → Instance M → Ctl → Type 0
+Accepts meaning s c = IsTrue (meaning.accepts s.kind s.params.items c)
+
+-- all that the instance gives out on a history
+abbrev pub all_outputs : {M : Type 0} → Meaning M → Instance M → History → List ℤ
+all_outputs meaning s h = outputs_of meaning s.kind s.params.items h
+
+-- what it answers to a control after a history
+abbrev pub status_after : {M : Type 0} → Meaning M → Instance M → History → Ctl → Status
+status_after meaning s h c = status_of meaning s.kind s.params.items h c
+
+-- an idle instance keeps a history by its own pieces and those of its write-once records. An unlawful one owes nothing
+abbrev pub IdleKeeps : {M : Type 0} → Meaning M → Relation M → Instance M → Option ℤ → Pieces → History → Type 0
+IdleKeeps meaning idle_keeps s w shared h = IsLawful meaning s w
+    → idle_keeps s.kind s.params.items s.table (idle_words s.table s.own shared) h
+
+-- an active one by these and its group's blocks
+abbrev pub ActiveKeeps : {M : Type 0} → Meaning M → Relation M → Instance M → Option ℤ → Pieces → Group → History → Type 0
+ActiveKeeps meaning active_keeps s w shared g h = IsLawful meaning s w
+    → active_keeps s.kind s.params.items s.table (active_words s.table s.own shared g) h

@@ -1,0 +1,148 @@
+//! Active instances.
+ghost use Rattle.std.specs.Prelude.{◌≡◌, ◌≤◌, ◌++◌, ◌∷◌, ℕ, ℤ, [], List, length, Option, Some, None, IsSome, IsTrue};
+ghost use Rattle.ialg.specs.History.{History, Control, with_samples};
+ghost use Rattle.ialg.specs.Views.{control_of, answer_of};
+ghost use Rattle.scratch_group.specs.Blocks.{SameGroup};
+ghost use Rattle.record_loans.specs.Pieces.{piece_at, with_piece, SamePieces};
+ghost use Rattle.lifecycle.specs.Moves.{CanRestore, with_back, settled, HasRoom};
+ghost use Rattle.lifecycle.specs.States.{Fits, SameInstance, IsLawful, Accepts, all_outputs, status_after, IdleKeeps, ActiveKeeps};
+
+use crate::Idle;
+use crate::instance::{Instance, restore};
+use crate::steps::{Command, Deactivate, Move, Process};
+use ialg::{BLOCK_SAMPLES, Block, Ctl, Ialg, Status};
+use record_loans::Pieces;
+use scratch_group::{Group, placed};
+use space_raw::Piece;
+
+/// An active instance. Its own pieces and those of its write-once records keep its history together with the blocks of its
+/// group.
+pub struct Active<M> {
+    pub instance: Instance<M>,
+}
+
+impl<M: Ialg> Active<M> {
+    /// Gives the instance a block of samples, and puts what they give into `out`.
+    pub fn run(&mut self, shared: &mut Pieces, group: &mut Group, input: &[i16], out: &mut Block)
+        requires fits { Fits self.old.instance.table self.old.instance.own shared.old group.old }
+        requires empty { out.old.items ≡ [] }
+        requires some { 1 ≤ length input.now }
+        requires within { length input.now ≤ BLOCK_SAMPLES }
+        ensures same { SameInstance self.old.instance self.new.instance }
+        ensures shared { SamePieces shared.old shared.new }
+        ensures group { SameGroup group.old group.new }
+        ensures fits { Fits self.new.instance.table self.new.instance.own shared.new group.new }
+        ensures bounded { length out.new.items ≤ length input.now }
+        ensures keeps { (w : Option ℤ) (h : History) → ActiveKeeps M.meaning M.active_keeps self.old.instance w shared.old group.old h
+            → ActiveKeeps M.meaning M.active_keeps self.new.instance w shared.new group.new (with_samples h input.now) }
+        ensures output { (w : Option ℤ) (h : History) → IsLawful M.meaning self.old.instance w
+            → ActiveKeeps M.meaning M.active_keeps self.old.instance w shared.old group.old h
+            → all_outputs M.meaning self.old.instance (with_samples h input.now)
+            ≡ all_outputs M.meaning self.old.instance h ++ out.new.items }
+    {
+        let kind = self.instance.kind;
+        let step = Process { kind, input };
+        group.lend(
+            &step,
+            &self.instance.table,
+            &mut self.instance.own,
+            shared,
+            out,
+        );
+    }
+
+    /// Whether the instance takes the control.
+    pub fn accepts(&self, c: &Ctl) -> bool
+        ensures { (w : Option ℤ) → IsLawful M.meaning self.now.instance w
+            → result ≡ M.meaning.accepts self.now.instance.kind self.now.instance.params.items (control_of c.now) }
+    {
+        self.instance.kind.accepts(&self.instance.params, c)
+    }
+
+    /// Gives the instance a control that it accepts.
+    pub fn control(&mut self, shared: &mut Pieces, group: &mut Group, c: &Ctl) -> Status
+        requires fits { Fits self.old.instance.table self.old.instance.own shared.old group.old }
+        ensures same { SameInstance self.old.instance self.new.instance }
+        ensures shared { SamePieces shared.old shared.new }
+        ensures group { SameGroup group.old group.new }
+        ensures fits { Fits self.new.instance.table self.new.instance.own shared.new group.new }
+        ensures keeps { (w : Option ℤ) (h : History) → Accepts M.meaning self.old.instance (control_of c.now)
+            → ActiveKeeps M.meaning M.active_keeps self.old.instance w shared.old group.old h
+            → ActiveKeeps M.meaning M.active_keeps self.new.instance w shared.new group.new (Control (control_of c.now) ∷ h) }
+        ensures status { (w : Option ℤ) (h : History) → IsLawful M.meaning self.old.instance w
+            → Accepts M.meaning self.old.instance (control_of c.now)
+            → ActiveKeeps M.meaning M.active_keeps self.old.instance w shared.old group.old h
+            → answer_of result ≡ status_after M.meaning self.old.instance h (control_of c.now) }
+    {
+        let kind = self.instance.kind;
+        let mut answer = Status::Done;
+        group.lend(
+            &Command { kind, control: c },
+            &self.instance.table,
+            &mut self.instance.own,
+            shared,
+            &mut answer,
+        );
+        answer
+    }
+
+    /// Deactivates the instance: its scratch records are lent to it no longer.
+    pub fn rest(self, shared: &mut Pieces, group: &mut Group) -> Idle<M>
+        requires fits { Fits self.instance.table self.instance.own shared.old group.old }
+        ensures same { SameInstance self.instance result.instance }
+        ensures shared { SamePieces shared.old shared.new }
+        ensures group { SameGroup group.old group.new }
+        ensures fits { Fits result.instance.table result.instance.own shared.new group.new }
+        ensures keeps { (w : Option ℤ) (h : History) → ActiveKeeps M.meaning M.active_keeps self.instance w shared.old group.old h
+            → IdleKeeps M.meaning M.idle_keeps result.instance w shared.new h }
+    {
+        let Active { instance } = self;
+        let Instance {
+            kind,
+            params,
+            table,
+            mut own,
+        } = instance;
+        group.lend(&Deactivate { kind }, &table, &mut own, shared, &mut ());
+        Idle {
+            instance: Instance {
+                kind,
+                params,
+                table,
+                own,
+            },
+        }
+    }
+
+    /// Takes out the piece of record `k`, to be moved: [`moved`](Active::moved) has to follow.
+    pub fn detach(&mut self, k: usize) -> Piece
+        requires { IsSome (piece_at self.old.instance.own k) }
+        ensures piece { piece_at self.old.instance.own k ≡ Some result }
+        ensures left { self.new.instance ≡ record self.old.instance { own = with_piece self.old.instance.own k None } }
+    {
+        self.instance.own.take_out(k)
+    }
+
+    /// Goes by the places as they are now, with the piece that was taken out, if one was. The instance stays active.
+    pub fn moved(&mut self, back: Option<(usize, Piece)>, shared: &mut Pieces, group: &mut Group)
+        requires back { CanRestore back self.old.instance.own }
+        requires fits { HasRoom (with_back self.old.instance back) shared.old group.old }
+        ensures same { SameInstance (settled (with_back self.old.instance back) shared.old group.old) self.new.instance }
+        ensures shared { SamePieces shared.old shared.new }
+        ensures group { SameGroup group.old group.new }
+        ensures fits { Fits self.new.instance.table self.new.instance.own shared.new group.new }
+        ensures keeps { (w : Option ℤ) (h : History) → ActiveKeeps M.meaning M.active_keeps (with_back self.old.instance back) w shared.old group.old h
+            → ActiveKeeps M.meaning M.active_keeps self.new.instance w shared.new group.new h }
+    {
+        restore(&mut self.instance.own, back);
+        self.instance.table = placed(&self.instance.table, &self.instance.own, shared, group);
+        let kind = self.instance.kind;
+        group.lend(
+            &Move { kind },
+            &self.instance.table,
+            &mut self.instance.own,
+            shared,
+            &mut (),
+        );
+    }
+}

@@ -1,0 +1,168 @@
+//! Idle instances.
+ghost use Rattle.std.specs.Prelude.{◌≡◌, ℕ, ℤ, [], Option, Some, None, IsSome, IsTrue};
+ghost use Rattle.ialg.specs.History.{History};
+ghost use Rattle.ialg.specs.Records.{unplaced, AreNew};
+ghost use Rattle.ialg.specs.Views.{control_of};
+ghost use Rattle.scratch_group.specs.Blocks.{BlocksArePoison, SameGroup};
+ghost use Rattle.record_loans.specs.Pieces.{piece_at, with_piece, SamePieces};
+ghost use Rattle.scratch_group.specs.Words.{idle_words};
+ghost use Rattle.lifecycle.specs.Moves.{CanRestore, with_back, settled, HasRoom};
+ghost use Rattle.lifecycle.specs.States.{Fits, SameInstance, IsLawful, IdleKeeps, ActiveKeeps};
+
+use crate::Active;
+use crate::instance::{Instance, restore};
+use crate::steps::{Activate, Free, Init, Move};
+use ialg::{Ctl, Ialg, Params};
+use mem_rec::MemTab;
+use record_loans::Pieces;
+use scratch_group::{Group, lend_lasting, placed};
+use space_raw::Piece;
+
+/// An idle instance. Its own pieces and those of its write-once records keep its history.
+pub struct Idle<M> {
+    pub instance: Instance<M>,
+}
+
+impl<M: Ialg> Idle<M> {
+    /// Starts an instance, which owns a piece for each of its persistent records. It goes by the places of the pieces and of its
+    /// group's blocks, and its write-once records may be written this once.
+    pub fn init(
+        kind: M,
+        params: Params,
+        table: MemTab,
+        own: Pieces,
+        shared: &mut Pieces,
+        group: &Group,
+    ) -> Idle<M>
+        requires fits { HasRoom (record { kind = kind; params = params; table = table; own = own }) shared.old group.now }
+        ensures same { SameInstance (settled (record { kind = kind; params = params; table = table; own = own }) shared.old group.now) result.instance }
+        ensures shared { SamePieces shared.old shared.new }
+        ensures fits { Fits result.instance.table result.instance.own shared.new group.now }
+        ensures keeps { (w : Option ℤ) → M.meaning.table kind params.items ≡ Some (unplaced table)
+            → AreNew w (M.meaning.fill kind params.items) table (idle_words table own shared.old)
+            → IdleKeeps M.meaning M.idle_keeps result.instance w shared.new [] }
+    {
+        let table = placed(&table, &own, shared, group);
+        let mut own = own;
+        let step = Init {
+            kind,
+            params: &params,
+        };
+        lend_lasting(&step, &table, true, &mut own, shared, &mut ());
+        Idle {
+            instance: Instance {
+                kind,
+                params,
+                table,
+                own,
+            },
+        }
+    }
+
+    /// Activates the instance: its scratch records are lent to it from now on.
+    pub fn wake(self, shared: &mut Pieces, group: &mut Group) -> Active<M>
+        requires fits { Fits self.instance.table self.instance.own shared.old group.old }
+        ensures same { SameInstance self.instance result.instance }
+        ensures shared { SamePieces shared.old shared.new }
+        ensures group { SameGroup group.old group.new }
+        ensures fits { Fits result.instance.table result.instance.own shared.new group.new }
+        ensures keeps { (w : Option ℤ) (h : History) → BlocksArePoison w group.old
+            → IdleKeeps M.meaning M.idle_keeps self.instance w shared.old h
+            → ActiveKeeps M.meaning M.active_keeps result.instance w shared.new group.new h }
+    {
+        let Idle { instance } = self;
+        let Instance {
+            kind,
+            params,
+            table,
+            mut own,
+        } = instance;
+        group.lend(&Activate { kind }, &table, &mut own, shared, &mut ());
+        Active {
+            instance: Instance {
+                kind,
+                params,
+                table,
+                own,
+            },
+        }
+    }
+
+    /// Whether the instance takes the control.
+    pub fn accepts(&self, c: &Ctl) -> bool
+        ensures { (w : Option ℤ) → IsLawful M.meaning self.now.instance w
+            → result ≡ M.meaning.accepts self.now.instance.kind self.now.instance.params.items (control_of c.now) }
+    {
+        self.instance.kind.accepts(&self.instance.params, c)
+    }
+
+    /// The records that the instance holds, as its kind answers.
+    pub fn freed(&mut self, shared: &mut Pieces, group: &Group) -> MemTab
+        requires fits { Fits self.old.instance.table self.old.instance.own shared.old group.now }
+        ensures same { SameInstance self.old.instance self.new.instance }
+        ensures shared { SamePieces shared.old shared.new }
+        ensures fits { Fits self.new.instance.table self.new.instance.own shared.new group.now }
+        ensures keeps { (w : Option ℤ) (h : History) → IdleKeeps M.meaning M.idle_keeps self.old.instance w shared.old h
+            → IdleKeeps M.meaning M.idle_keeps self.new.instance w shared.new h }
+        ensures table { (w : Option ℤ) (h : History) → IsLawful M.meaning self.old.instance w
+            → IdleKeeps M.meaning M.idle_keeps self.old.instance w shared.old h → result ≡ self.old.instance.table }
+    {
+        let kind = self.instance.kind;
+        let mut told = self.instance.table.copied();
+        lend_lasting(
+            &Free { kind },
+            &self.instance.table,
+            false,
+            &mut self.instance.own,
+            shared,
+            &mut told,
+        );
+        told
+    }
+
+    /// Ends the instance, and gives its pieces back, whatever its kind is.
+    pub fn finish(self) -> Pieces
+        ensures { result ≡ self.instance.own }
+    {
+        let Idle { instance } = self;
+        let Instance {
+            kind: _,
+            params: _,
+            table: _,
+            own: pieces,
+        } = instance;
+        pieces
+    }
+
+    /// Takes out the piece of record `k`, to be moved: [`moved`](Idle::moved) has to follow.
+    pub fn detach(&mut self, k: usize) -> Piece
+        requires { IsSome (piece_at self.old.instance.own k) }
+        ensures piece { piece_at self.old.instance.own k ≡ Some result }
+        ensures left { self.new.instance ≡ record self.old.instance { own = with_piece self.old.instance.own k None } }
+    {
+        self.instance.own.take_out(k)
+    }
+
+    /// Goes by the places as they are now, with the piece that was taken out, if one was.
+    pub fn moved(&mut self, back: Option<(usize, Piece)>, shared: &mut Pieces, group: &Group)
+        requires back { CanRestore back self.old.instance.own }
+        requires fits { HasRoom (with_back self.old.instance back) shared.old group.now }
+        ensures same { SameInstance (settled (with_back self.old.instance back) shared.old group.now) self.new.instance }
+        ensures shared { SamePieces shared.old shared.new }
+        ensures fits { Fits self.new.instance.table self.new.instance.own shared.new group.now }
+        ensures keeps { (w : Option ℤ) (h : History) → IdleKeeps M.meaning M.idle_keeps (with_back self.old.instance back) w shared.old h
+            → IdleKeeps M.meaning M.idle_keeps self.new.instance w shared.new h }
+    {
+        restore(&mut self.instance.own, back);
+        self.instance.table = placed(&self.instance.table, &self.instance.own, shared, group);
+        let kind = self.instance.kind;
+        lend_lasting(
+            &Move { kind },
+            &self.instance.table,
+            false,
+            &mut self.instance.own,
+            shared,
+            &mut (),
+        );
+    }
+}

@@ -1,0 +1,3 @@
+pub mod Pieces
+pub mod Blocks
+pub mod Cuts

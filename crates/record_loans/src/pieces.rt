@@ -1,0 +1,94 @@
+//! The pieces of an instance's records.
+ghost use Rattle.std.specs.Prelude.{◌≡◌, ◌≤◌, ◌<◌, Option, Some, None, IsSome, length};
+ghost use Rattle.record_loans.specs.Pieces.{piece_at, with_piece, piece_words, piece_place, IsInSpace};
+
+use space_raw::Piece;
+
+/// A piece for each of some records of a table. The pieces of an instance's own records are kept by the instance, those of its
+/// write-once records are lent to it.
+pub struct Pieces {
+    pub p0: Option<Piece>,
+    pub p1: Option<Piece>,
+    pub p2: Option<Piece>,
+    pub p3: Option<Piece>,
+}
+
+impl Pieces {
+    /// No pieces.
+    pub fn none() -> Pieces
+        ensures { result ≡ record { p0 = None; p1 = None; p2 = None; p3 = None } }
+    {
+        Pieces {
+            p0: None,
+            p1: None,
+            p2: None,
+            p3: None,
+        }
+    }
+
+    /// The piece of record `k`.
+    pub fn piece(&self, k: usize) -> &Option<Piece>
+        requires { k < 4 }
+        ensures { result.now ≡ piece_at self.now k }
+    {
+        match k {
+            0 => &self.p0,
+            1 => &self.p1,
+            2 => &self.p2,
+            _ => &self.p3,
+        }
+    }
+
+    /// Where the piece of record `k` begins.
+    pub fn place(&self, k: usize) -> u16
+        requires number { k < 4 }
+        requires some { 1 ≤ length (piece_words (piece_at self.now k)) }
+        requires space { IsInSpace (piece_at self.now k) }
+        ensures { result ≡ piece_place (piece_at self.now k) }
+    {
+        match self.piece(k) {
+            Some(p) => {
+                // the piece lies within its region, as its length says
+                let _len = p.len();
+                p.place() as u16
+            }
+            None => 0,
+        }
+    }
+
+    /// Takes the piece of record `k` out.
+    pub fn take_out(&mut self, k: usize) -> Piece
+        requires { IsSome (piece_at self.old k) }
+        ensures piece { piece_at self.old k ≡ Some result }
+        ensures left { self.new ≡ with_piece self.old k None }
+    {
+        let piece = match k {
+            0 => self.p0.take(),
+            1 => self.p1.take(),
+            2 => self.p2.take(),
+            _ => self.p3.take(),
+        };
+        match piece {
+            Some(p) => p,
+            None => unreachable!(),
+        }
+    }
+
+    /// Puts the piece of record `k` in, which has none.
+    pub fn put_in(&mut self, k: usize, piece: Piece)
+        requires number { k < 4 }
+        requires empty { piece_at self.old k ≡ None }
+        ensures { self.new ≡ with_piece self.old k (Some piece) }
+    {
+        let old = match k {
+            0 => self.p0.replace(piece),
+            1 => self.p1.replace(piece),
+            2 => self.p2.replace(piece),
+            _ => self.p3.replace(piece),
+        };
+        match old {
+            Some(_piece) => unreachable!(),
+            None => {}
+        }
+    }
+}

@@ -1,0 +1,5 @@
+pub mod Ends
+pub mod Cutting
+pub mod Tables
+pub mod Fills
+pub mod TrialLemmas

@@ -1,0 +1,17 @@
+//! The shared scratch memory of a group of instances: a block in each space, the active member, and how often a member was
+//! activated.
+//!
+//! A group lends records to a step. The persistent records of an instance lie in pieces that it owns, its write-once records in pieces
+//! that are lent to it, and its scratch records in the group's blocks, at the layout's offsets.
+#![tactic(auto)]
+
+mod bases;
+mod group;
+mod lasting;
+mod plan;
+#[cfg(test)]
+mod tests;
+
+pub use bases::{lends_at_the_layout, placed};
+pub use group::{Group, Need};
+pub use lasting::lend_lasting;

@@ -1,0 +1,165 @@
+//! How the records of a table are cut out of an instance's pieces and its group's blocks.
+ghost use Rattle.std.specs.Prelude.{◌≡◌, ◌≤◌, ◌<◌, ◌+◌, ◌-◌, ◌*◌, ℕ, drop, take, length, IsTrue};
+ghost use Rattle.mem_rec.specs.Records.{is_table};
+ghost use Rattle.ialg.specs.Records.{record_at};
+ghost use Rattle.scratch_group.specs.Words.{scratch_end, scratch_offset};
+ghost use Rattle.scratch_group.specs.Plans.{cut_of, idle_cut_of, active_plan_of, idle_plan_of, IsWithinLimits};
+
+use mem_rec::{Attr, GREATEST_ALIGNMENT, MemRec, MemTab, RECORD_WORDS, Space};
+use record_loans::{Cut, Plan, Source};
+
+/// The most words by which a record moves the end of those before it: the greatest record, behind the greatest gap.
+pub(crate) const GREATEST_STEP: u32 = RECORD_WORDS + GREATEST_ALIGNMENT;
+
+/// Record `k` of a table.
+pub(crate) fn record(table: &MemTab, k: usize) -> MemRec
+    requires { k < length table.now }
+    ensures value { result ≡ record_at table.now k }
+    ensures limits { IsWithinLimits result }
+{
+    // a table's records are valid, as its list of records says
+    let _records = table.records();
+    table.get(k)
+}
+
+/// Where the scratch records of a space end, of the first `k` records.
+pub(crate) fn end_before(table: &MemTab, k: usize, space: Space) -> u32
+    requires long { k ≤ length table.now }
+    requires few { k ≤ 3 }
+    ensures value { result ≡ scratch_end table.now k space }
+    ensures most { result ≤ GREATEST_STEP * k }
+{
+    let mut end: u32 = 0;
+    for i in 0..k {
+        let r = record(table, i);
+        if r.is_scratch_of(space) {
+            end = end.next_multiple_of(r.align) + r.size;
+        }
+    }
+    end
+}
+
+/// The offset of record `k`, where those before it end at `end`.
+pub(crate) fn offset_behind(table: &MemTab, k: usize, end: u32) -> u32
+    requires number { k < length table.now }
+    requires few { k ≤ 3 }
+    requires end { end ≡ scratch_end table.now k (record_at table.now k).space }
+    requires most { end ≤ GREATEST_STEP * k }
+    ensures value { result ≡ scratch_offset table.now k }
+    ensures behind { end ≤ result }
+{
+    end.next_multiple_of(record(table, k).align)
+}
+
+/// How record `k` of an active instance is cut.
+fn active_cut(table: &MemTab, k: usize) -> Cut
+    requires { k ≤ 3 }
+    ensures { result ≡ cut_of table.now k }
+{
+    if k >= table.len() {
+        return Cut {
+            source: Source::InDaram,
+            gap: 0,
+            size: 0,
+        };
+    }
+    let r = record(table, k);
+    let size = r.size as usize;
+    match r.attr {
+        Attr::Persist => Cut {
+            source: Source::Own,
+            gap: 0,
+            size,
+        },
+        Attr::WriteOnce => Cut {
+            source: Source::Shared,
+            gap: 0,
+            size,
+        },
+        Attr::Scratch => {
+            let end = end_before(table, k, r.space);
+            Cut {
+                source: block_source(r.space),
+                gap: (offset_behind(table, k, end) - end) as usize,
+                size,
+            }
+        }
+    }
+}
+
+/// The block that the scratch records of a space are cut out of.
+fn block_source(space: Space) -> Source
+    ensures { result ≡ Rattle.scratch_group.specs.Plans.block_source space }
+{
+    match space {
+        Space::Daram => Source::InDaram,
+        Space::Saram => Source::InSaram,
+        Space::External => Source::InExternal,
+    }
+}
+
+/// The plan by which an active instance is lent its records.
+pub(crate) fn active_plan(table: &MemTab) -> Plan
+    ensures value { result ≡ active_plan_of table.now }
+    ensures table { IsTrue (is_table table.now) }
+{
+    let _records = table.records();
+    Plan {
+        object: object_size(table),
+        first: active_cut(table, 1),
+        second: active_cut(table, 2),
+        third: active_cut(table, 3),
+    }
+}
+
+/// The words of record 0.
+fn object_size(table: &MemTab) -> usize
+    ensures { result ≡ (record_at table.now 0).size }
+{
+    // a table has a first record, as its length says
+    let _len = table.len();
+    record(table, 0).size as usize
+}
+
+/// How record `k` of an idle instance is cut.
+fn idle_cut(table: &MemTab, k: usize) -> Cut
+    ensures { result ≡ idle_cut_of table.now k }
+{
+    let absent = Cut {
+        source: Source::Absent,
+        gap: 0,
+        size: 0,
+    };
+    if k >= table.len() {
+        return absent;
+    }
+    let r = record(table, k);
+    let size = r.size as usize;
+    match r.attr {
+        Attr::Persist => Cut {
+            source: Source::Own,
+            gap: 0,
+            size,
+        },
+        Attr::WriteOnce => Cut {
+            source: Source::Shared,
+            gap: 0,
+            size,
+        },
+        Attr::Scratch => absent,
+    }
+}
+
+/// The plan by which an idle instance is lent its records.
+pub(crate) fn idle_plan(table: &MemTab) -> Plan
+    ensures value { result ≡ idle_plan_of table.now }
+    ensures table { IsTrue (is_table table.now) }
+{
+    let _records = table.records();
+    Plan {
+        object: object_size(table),
+        first: idle_cut(table, 1),
+        second: idle_cut(table, 2),
+        third: idle_cut(table, 3),
+    }
+}
