@@ -85,6 +85,8 @@ impl Filter for Biquad {
         }
     }
 
+    ghost one = { λ a b e i. a };
+
     ghost rests_words = { λ p h kept rests. rests.history };
 
     ghost runs_words = { λ p h kept state runs. runs.history };

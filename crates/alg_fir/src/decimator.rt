@@ -103,6 +103,8 @@ impl Ialg for Decim {
         mem.table().copied()
     }
 
+    ghost same = { λ a b e i. a };
+
     ghost idle_words = { λ _ p rs wss h idle. idle.keeps.history };
 
     ghost active_words = { λ _ p rs wss h active. active.keeps.history };

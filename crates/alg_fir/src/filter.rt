@@ -104,6 +104,8 @@ impl Filter for Fir {
         }
     }
 
+    ghost one = { λ a b e i. a };
+
     ghost rests_words = { λ p h kept rests. rests.history };
 
     ghost runs_words = { λ p h kept ring runs. runs.history };

@@ -94,6 +94,8 @@ impl Ialg for G711 {
         mem.table().copied()
     }
 
+    ghost same = { λ a b e i. a };
+
     ghost idle_words = { λ _ p rs wss h keeps. keeps.history };
 
     ghost active_words = { λ _ p rs wss h keeps. keeps.history };

@@ -109,6 +109,23 @@ fn samples_are_shifted(rt: HostRuntime) {
 }
 
 #[test]
+fn values_and_levels_are_limited(rt: HostRuntime) {
+    for (input, level) in [
+        // v = 32767, 32767: each square, doubled, is 2147352578, and their sum is limited to 2147483647
+        ([32767, 32767].as_slice(), 32767),
+        (&[-32768, -32768], 32767),
+        // v = 32767, 0, and -32768 - 32767, which is limited to -32768
+        (&[32767, 0, -32768], 32767),
+        // v = -32768, 0, and 32767 + 32768, which is limited to 32767: 32767 * 32767 * 2 / 65536
+        (&[-32768, 0, 32767], 32766),
+    ] {
+        let mut kept = started(&[0, input.len() as i16, 0]);
+        let out = feed(&mut kept, input);
+        assert_eq!(rt; out.as_slice(), [level].as_slice());
+    }
+}
+
+#[test]
 fn get_counts_the_samples_of_the_frame(rt: HostRuntime) {
     let mut kept = started(&FOURS);
     for count in [1, 2, 3, 0, 1] {

@@ -1,4 +1,6 @@
 //! The kinds of algorithms that the program knows.
+ghost use Rattle.std.proofs.Common.{rules};
+ghost use Rattle.std.specs.Cmp.Rules.{comparing};
 ghost use Rattle.ialg.specs.Filters.{IsIdle, IsActive};
 ghost use Rattle.alg_fir.specs.Keeps.{fir_kind, Rests, Runs};
 ghost use Rattle.alg_fir.specs.Meaning.{fir_memory};
@@ -74,6 +76,8 @@ impl Ialg for Kind {
     fn alg_free(&self, mem: &Lent<'_>) -> MemTab {
         Fir.alg_free(mem)
     }
+
+    ghost same = { Prim.search (comparing, rules) };
 
     ghost idle_words = { λ _ p rs wss h keeps. keeps.keeps.history };
 

@@ -1,5 +1,5 @@
 //! Filters: kinds whose instances have one persistent record and one scratch record beside the object.
-ghost use Rattle.std.specs.Prelude.{◌≡◌, ◌≤◌, ◌++◌, ◌∷◌, ℤ, [], List, length, Option, Some, IfSome, IsTrue};
+ghost use Rattle.std.specs.Prelude.{true, ◌≡◌, ◌≤◌, ◌++◌, ◌∷◌, ℤ, [], List, length, Option, Some, IfSome, IsTrue};
 ghost use Rattle.mem_rec.specs.Records.{is_table};
 ghost use Rattle.ialg.specs.declared.filter.FilterMemory.{FilterMemory};
 ghost use Rattle.ialg.specs.History.{History, Control, Set, Reset, Get, with_samples, outputs_by, IsWordHistory};
@@ -87,6 +87,9 @@ pub trait Filter: Copy + Eq {
         ensures answer { (p : List ℤ) (h : History) → runs p h kept.now running.now → result.items ≡ filter.got p h }
         ensures history { (p : List ℤ) (h : History) → runs p h kept.now running.now
             → runs p (Control Get ∷ h) kept.now running.now };
+
+    // equal filters are one filter
+    ghost one: { (a b : Self) → ⟦<Self as PartialEq>⟧.eq a b ≡ true → a ≡ b };
 
     // what is kept is a history of 16-bit samples and words
     ghost rests_words: { (p : List ℤ) (h : History) (kept : List ℤ) → rests p h kept → IsWordHistory h };

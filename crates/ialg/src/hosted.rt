@@ -118,6 +118,8 @@ impl<K: Filter> Ialg for K {
         mem.table.copied()
     }
 
+    ghost same = { K.one };
+
     ghost idle_words = { λ _ p rs wss h keeps. K.rests_words p h _ keeps.keeps };
 
     ghost active_words = { λ _ p rs wss h keeps. K.runs_words p h _ _ keeps.keeps };

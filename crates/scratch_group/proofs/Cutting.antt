@@ -1,17 +1,17 @@
 -- What is cut out of pieces and blocks is each record's words.
-use Rattle.std.proofs.Common.{◌≡◌, ℕ, ℤ, zero, suc, ◌+◌, ◌-◌, ◌<◌, ◌≤◌, Bool, true, false, ◌&&◌, ◌⊎◌, inl, inr, nat_le, IsTrue, List, [], ◌∷◌, length, take, drop, Option, None, refl, ap, sym, ◌∙◌, subst, arith, length-take, length-drop}
+use Rattle.std.proofs.Common.{◌≡◌, ℕ, ℤ, zero, suc, ◌+◌, ◌-◌, ◌<◌, ◌≤◌, ◌⊎◌, inl, inr, IsTrue, List, [], ◌∷◌, length, take, drop, Option, None, refl, ap, sym, ◌∙◌, subst, arith, length-take, length-drop}
 use Rattle.std.proofs.lemmas.Grind.{common_steps}
 use Rattle.std.specs.Int.{next_multiple_of}
-use Rattle.std.specs.List.{list_all}
 use Rattle.space_raw.specs.Span.{Span}
 use Rattle.mem_rec.specs.declared.MemRec.{MemRec}
 use Rattle.mem_rec.specs.declared.Space.{Space}
 use Rattle.mem_rec.specs.declared.Space.TheVariants.{Daram, Saram, External}
 use Rattle.mem_rec.specs.declared.Attr.{Attr}
 use Rattle.mem_rec.specs.declared.Attr.TheVariants.{Scratch, Persist, WriteOnce}
-use Rattle.mem_rec.specs.Records.{is_table, is_record, is_persistent}
+use Rattle.mem_rec.specs.Records.{is_table}
 use Rattle.mem_rec.proofs.Valid.{within_limits, bounded_at}
 use Rattle.ialg.specs.Records.{record_at, words_of, idle_size}
+use Rattle.ialg.proofs.Tables.{object_attr}
 use Rattle.record_loans.specs.declared.plan.Source.{Source}
 use Rattle.record_loans.specs.declared.plan.Source.TheVariants.{Absent, Own, Shared, InDaram, InSaram, InExternal}
 use Rattle.record_loans.specs.declared.plan.Cut.{Cut}
@@ -141,21 +141,6 @@ fit_step rs own shared g k cs os t long later = (
   fits_is (record_at rs k).attr (record_at rs k).space (record_at rs k).size (scratch_offset rs k) (scratch_end rs k) (λ space. block_words (block_in g space)) (piece_at own k) (piece_at shared k) (omega arith) (no_gap rs k t) long,
   rw (less_is rs g k Daram, less_is rs g k Saram, less_is rs g k External) later,
 )
-
--- the object is a persistent record
-
-parts : (a b c : Bool) → IsTrue (a && b && c) → a ≡ true
-parts true b c h = refl
-parts false b c h = cc
-
-is_persist : (a : Attr) → is_persistent a ≡ true → a ≡ Persist
-is_persist Persist h = refl
-is_persist Scratch h = cc
-is_persist WriteOnce h = cc
-
-pub object_attr : (rs : List MemRec) → IsTrue (is_table rs) → (record_at rs 0).attr ≡ Persist
-object_attr [] t = cc
-object_attr (r ∷ rs) t = is_persist r.attr (parts (is_persistent r.attr) (nat_le (length (r ∷ rs)) 4) (list_all is_record (r ∷ rs)) t)
 
 first_end : (rs : List MemRec) (space : Space) → IsTrue (is_table rs) → scratch_end rs 1 space ≡ 0
 first_end rs space t = scratch_end-suc rs 0 space ∙ ap (λ a. next_end a (record_at rs 0).space (record_at rs 0).size (record_at rs 0).align space 0) (object_attr rs t)

@@ -3,7 +3,7 @@ use Rattle.std.proofs.Common.{◌≡◌, ℕ, ℤ, zero, suc, pos, lit<, lit≤,
 use Rattle.std.proofs.lemmas.Bool.Decides.{Decides-int_eq}
 use Rattle.std.proofs.Math.Seq.{take-length}
 use Rattle.mem_rec.specs.declared.MemRec.{MemRec}
-use Rattle.mem_rec.specs.declared.Space.TheVariants.{Saram, External}
+use Rattle.mem_rec.specs.declared.Space.TheVariants.{Daram, Saram, External}
 use Rattle.mem_rec.specs.declared.Attr.TheVariants.{WriteOnce}
 use Rattle.ialg.specs.declared.memory.Lent.{Lent}
 use Rattle.ialg.specs.History.{History, Sample, Control, outputs_by}
@@ -21,7 +21,7 @@ silent (Control c ∷ h) = silent h
 once_lasts : (rs : List MemRec) (wss : List (List ℤ)) (k : ℕ) → (record_at rs k).attr ≡ WriteOnce → words_of (lasting rs wss) k ≡ words_of wss k
 once_lasts rs wss k once = words_of-lasting rs wss k ∙ ap (λ a. lasting_words a (words_of wss k)) once
 
--- no record is scratch, so all words last
+-- what is kept of the words that last
 pub asleep : (p : List ℤ) (rs : List MemRec) (wss : List (List ℤ)) (h : History) → KeepsWords p rs wss h → KeepsWords p rs (lasting rs wss) h
 asleep p rs wss h keeps =
     let at = lasting_at rs primed_records keeps.object.on_table wss in
@@ -50,7 +50,8 @@ pub fill_at : (p : List ℤ) (rs : List MemRec) (wss : List (List ℤ)) → unpl
 fill_at p rs wss records word zero once = let e = sym (attr_of rs primed_records records 0) ∙ once in cc
 fill_at p rs wss records word (suc zero) once = word
 fill_at p rs wss records word (suc (suc zero)) once = let e = sym (attr_of rs primed_records records 2) ∙ once in cc
-fill_at p rs wss records word (suc (suc (suc k))) once = let e = sym (attr_of rs primed_records records (suc (suc (suc k)))) ∙ once in cc
+fill_at p rs wss records word (suc (suc (suc zero))) once = let e = sym (attr_of rs primed_records records 3) ∙ once in cc
+fill_at p rs wss records word (suc (suc (suc (suc k)))) once = let e = sym (attr_of rs primed_records records (suc (suc (suc (suc k))))) ∙ once in cc
 
 -- the object was written anew, and the other words are the same
 pub moved : (p : List ℤ) (before rs : List MemRec) (wss wss' : List (List ℤ)) (h : History) → unplaced before ≡ unplaced rs → KeepsWords p before wss h
@@ -66,12 +67,15 @@ moved p before rs wss wss' h same keeps names first second =
     }
 
 module _ (m : Lent) (names : Names (pos 9) primed_records m.table.now m.r0.now) (apart : AreApart m.table.now) where
-  -- both records are found
+  -- the records are found
   pub once_named : length m.r1.now ≡ 1 → NamedAt m External 1 (pos 9) primed_records
   once_named size = record { names = names; apart = apart; not_the_object = lit≤ tt; within = lit< tt; few = lit≤ tt; its_space = refl; lent = omega arith }
 
   pub primed_named : length m.r2.now ≡ 1 → NamedAt m Saram 2 (pos 9) primed_records
   primed_named size = record { names = names; apart = apart; not_the_object = lit≤ tt; within = lit< tt; few = lit≤ tt; its_space = refl; lent = omega arith }
+
+  pub scratch_named : length m.r3.now ≡ 1 → NamedAt m Daram 3 (pos 9) primed_records
+  scratch_named size = record { names = names; apart = apart; not_the_object = lit≤ tt; within = lit< tt; few = lit≤ tt; its_space = refl; lent = omega arith }
 
 -- a word of the poison is the first parameter
 pub primed_word : (p : List ℤ) (w : Option ℤ) (ws : List ℤ) → IsTrue (is_primed p w) → length ws ≡ 1 → ArePoison w ws → ws ≡ take 1 p

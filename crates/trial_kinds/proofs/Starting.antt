@@ -3,7 +3,7 @@ use Rattle.std.proofs.Common.{◌≡◌, ◌==◌, ℕ, ℤ, zero, suc, inl, inr
 use Rattle.std.proofs.lemmas.Bool.Decides.{Decides-int_eq}
 use Rattle.std.proofs.lemmas.List.Elements.{All-nil, All-replicate}
 use Rattle.mem_rec.specs.declared.MemRec.{MemRec}
-use Rattle.ialg.specs.Records.{record_at, words_of, idle_size, AreApart, AreNew, LastingLent}
+use Rattle.ialg.specs.Records.{record_at, words_of, idle_size, AreApart, AreNew, AllLent, LastingLent, ScratchIsPoison}
 use Rattle.trial_kinds.specs.Primed.{is_primed, primed_fill, primed_records}
 use Rattle.trial_kinds.specs.Starts.{placed_records}
 
@@ -29,16 +29,24 @@ pub placed_apart : AreApart placed_records
 placed_apart zero zero _ _ _ _ = refl
 placed_apart zero (suc zero) _ _ _ base = cc
 placed_apart zero (suc (suc zero)) _ _ space _ = cc
+placed_apart zero (suc (suc (suc zero))) _ _ space _ = cc
 placed_apart (suc zero) zero _ _ _ base = cc
 placed_apart (suc zero) (suc zero) _ _ _ _ = refl
 placed_apart (suc zero) (suc (suc zero)) _ _ space _ = cc
+placed_apart (suc zero) (suc (suc (suc zero))) _ _ space _ = cc
 placed_apart (suc (suc zero)) zero _ _ space _ = cc
 placed_apart (suc (suc zero)) (suc zero) _ _ space _ = cc
 placed_apart (suc (suc zero)) (suc (suc zero)) _ _ _ _ = refl
-placed_apart (suc (suc (suc j))) k few _ _ _ = absurd (omega arith)
-placed_apart zero (suc (suc (suc k))) _ few _ _ = absurd (omega arith)
-placed_apart (suc zero) (suc (suc (suc k))) _ few _ _ = absurd (omega arith)
-placed_apart (suc (suc zero)) (suc (suc (suc k))) _ few _ _ = absurd (omega arith)
+placed_apart (suc (suc zero)) (suc (suc (suc zero))) _ _ space _ = cc
+placed_apart (suc (suc (suc zero))) zero _ _ space _ = cc
+placed_apart (suc (suc (suc zero))) (suc zero) _ _ space _ = cc
+placed_apart (suc (suc (suc zero))) (suc (suc zero)) _ _ space _ = cc
+placed_apart (suc (suc (suc zero))) (suc (suc (suc zero))) _ _ _ _ = refl
+placed_apart (suc (suc (suc (suc j)))) k few _ _ _ = absurd (omega arith)
+placed_apart zero (suc (suc (suc (suc k)))) _ few _ _ = absurd (omega arith)
+placed_apart (suc zero) (suc (suc (suc (suc k)))) _ few _ _ = absurd (omega arith)
+placed_apart (suc (suc zero)) (suc (suc (suc (suc k)))) _ few _ _ = absurd (omega arith)
+placed_apart (suc (suc (suc zero))) (suc (suc (suc (suc k)))) _ few _ _ = absurd (omega arith)
 
 -- the records are lent, at their sizes
 pub placed_lent : (object once primed : List ℤ) → length object ≡ 4 → length once ≡ 1 → length primed ≡ 1
@@ -53,6 +61,29 @@ placed_lent object once primed four one single = record {
   sizes (suc (suc zero)) = single
   sizes (suc (suc (suc zero))) = refl
   sizes (suc (suc (suc (suc k)))) = refl
+
+-- and while the instance is active
+pub all_lent : (object once primed scratch : List ℤ) → length object ≡ 4 → length once ≡ 1 → length primed ≡ 1 → length scratch ≡ 1
+    → AllLent placed_records (object ∷ once ∷ primed ∷ scratch ∷ [])
+all_lent object once primed scratch four one single last = record {
+  sizes = λ k. sizes k;
+  apart = placed_apart;
+} where
+  sizes : (k : ℕ) → length (words_of (object ∷ once ∷ primed ∷ scratch ∷ []) k) ≡ (record_at placed_records k).size
+  sizes zero = four
+  sizes (suc zero) = one
+  sizes (suc (suc zero)) = single
+  sizes (suc (suc (suc zero))) = last
+  sizes (suc (suc (suc (suc k)))) = refl
+
+-- the one scratch word is the poison word
+pub scratch_poisoned : (v : ℤ) (object once primed : List ℤ)
+    → ScratchIsPoison (Some v) placed_records (object ∷ once ∷ primed ∷ (v ∷ []) ∷ [])
+scratch_poisoned v object once primed zero scratch = cc
+scratch_poisoned v object once primed (suc zero) scratch = cc
+scratch_poisoned v object once primed (suc (suc zero)) scratch = cc
+scratch_poisoned v object once primed (suc (suc (suc zero))) scratch = All-replicate (λ y. y ≡ v) 1 v refl
+scratch_poisoned v object once primed (suc (suc (suc (suc k)))) scratch = All-nil (λ y. y ≡ v)
 
 -- such parameters are granted their table
 pub taken : (p : List ℤ) (w : Option ℤ) → IsTrue (is_primed p w) → (if length p == 2 then Some primed_records else None) ≡ Some primed_records

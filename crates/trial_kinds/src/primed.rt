@@ -1,14 +1,14 @@
 //! A kind that is lawful under one poison word alone, and keeps a word in a write-once record.
-ghost use Rattle.std.specs.Prelude.{◌≡◌, ◌≤◌, ◌+◌, ◌++◌, ℤ, List, length, drop, FitsSigned};
+ghost use Rattle.std.specs.Prelude.{◌≡◌, ◌≤◌, ◌+◌, ◌++◌, ℤ, List, length, take, drop, FitsSigned};
 ghost use Rattle.std.specs.List.{All};
 ghost use Rattle.std.specs.Int.{w16};
 ghost use Rattle.ialg.specs.declared.TheConstants.{BLOCK_SAMPLES, PARAMETER_WORDS};
 ghost use Rattle.ialg.specs.History.{History};
 ghost use Rattle.ialg.specs.Records.{AllLent};
 ghost use Rattle.ialg.specs.Loans.{lent_words};
-ghost use Rattle.trial_kinds.specs.Primed.{KeepsWords, primed_meaning, primed_records};
+ghost use Rattle.trial_kinds.specs.Primed.{KeepsWords, KeepsAwake, primed_meaning, primed_records};
 
-use crate::{ONCE, PRIMED, PRIMED_KIND, PRIMED_PARAMETERS, PRIMED_RECORDS};
+use crate::{ONCE, PRIMED, PRIMED_KIND, PRIMED_PARAMETERS, PRIMED_RECORDS, SCRATCH};
 use ialg::{
     BLOCK_SAMPLES, Block, Ctl, Ialg, Lent, Params, Record, Status, Words, object_record, overwrite,
     place,
@@ -17,7 +17,8 @@ use mem_rec::{Attr, LEAST_ALIGNMENT, MemRec, MemTab, Space};
 
 /// A kind that gives nothing for its samples. Its parameters are two words: the poison word that the host is to have, and
 /// a word that it writes into a write-once record when it starts. It relies on a third record having the poison word
-/// already, and never writes it: it is lawful only in a host of that poison word. `get` answers both words, and no other
+/// already, and on a scratch record having it at each activation, and never writes either: it is lawful only in a host of
+/// that poison word. `get` answers the scratch word, the word of the third record and the write-once word, and no other
 /// control is taken.
 #[derive(Clone, Copy, PartialEq, Eq, Debug)]
 pub struct Primed;
@@ -27,7 +28,7 @@ impl Ialg for Primed {
 
     ghost idle_keeps = { λ _ p rs wss h. KeepsWords p rs wss h };
 
-    ghost active_keeps = { λ _ p rs wss h. KeepsWords p rs wss h };
+    ghost active_keeps = { λ _ p rs wss h. KeepsAwake p rs wss h };
 
     fn alg_num_alloc(&self) -> usize {
         PRIMED_RECORDS
@@ -74,16 +75,18 @@ impl Ialg for Primed {
         mem.table().copied()
     }
 
+    ghost same = { λ a b e i. a };
+
     ghost idle_words = { λ _ p rs wss h keeps. keeps.history };
 
-    ghost active_words = { λ _ p rs wss h keeps. keeps.history };
+    ghost active_words = { λ _ p rs wss h keeps. keeps.idle.history };
 
     ghost idle_fill = { λ _ p rs wss h keeps. keeps.once };
 
-    ghost active_fill = { λ _ p rs wss h keeps. keeps.once };
+    ghost active_fill = { λ _ p rs wss h keeps. keeps.idle.once };
 }
 
-/// The records: the object, one that is written once, and one that is never written.
+/// The records: the object, one that is written once, one that is never written, and a scratch record.
 fn records() -> [MemRec; PRIMED_RECORDS]
     ensures { result ≡ primed_records }
 {
@@ -98,6 +101,7 @@ fn records() -> [MemRec; PRIMED_RECORDS]
         object_record(),
         word(Space::External, Attr::WriteOnce),
         word(Space::Saram, Attr::Persist),
+        word(Space::Daram, Attr::Scratch),
     ]
 }
 
@@ -117,10 +121,10 @@ fn read(samples: &[i16])
     place(&mut copy, 0, samples);
 }
 
-/// The word that was never written, and then the one that was written once.
+/// The scratch word, the word that was never written, and the one that was written once.
 fn kept_words(mem: &Lent<'_>) -> Words
     ensures { (p : List ℤ) (h : History) → AllLent mem.now.table.now (lent_words mem.now)
-        → KeepsWords p mem.now.table.now (lent_words mem.now) h → result.items ≡ p }
+        → KeepsAwake p mem.now.table.now (lent_words mem.now) h → result.items ≡ take 1 p ++ p }
 {
     let Some(once) = mem.read_named(Space::External, ONCE) else {
         return Words::new();
@@ -128,15 +132,20 @@ fn kept_words(mem: &Lent<'_>) -> Words
     let Some(primed) = mem.read_named(Space::Saram, PRIMED) else {
         return Words::new();
     };
-    joined(primed, once)
+    let Some(scratch) = mem.read_named(Space::Daram, SCRATCH) else {
+        return Words::new();
+    };
+    joined(scratch, primed, once)
 }
 
-/// The words of both slices, where there is room.
-fn joined(first: &[i16], second: &[i16]) -> Words
-    ensures { length first.now + length second.now ≤ PARAMETER_WORDS → result.items ≡ first.now ++ second.now }
+/// The words of the slices one after the other, where there is room.
+fn joined(first: &[i16], second: &[i16], third: &[i16]) -> Words
+    ensures { length first.now + length second.now + length third.now ≤ PARAMETER_WORDS
+        → result.items ≡ first.now ++ second.now ++ third.now }
 {
     let mut words = Words::new();
     let _first_fits = words.try_extend_from_slice(first);
     let _second_fits = words.try_extend_from_slice(second);
+    let _third_fits = words.try_extend_from_slice(third);
     words
 }

@@ -1,19 +1,30 @@
-//! Starts of a primed instance. Each concludes from the laws of [`Ialg`] that the empty history is kept.
-ghost use Rattle.std.specs.Prelude.{◌≡◌, ◌∷◌, ℤ, [], List, Option, Some, IfSome, IsTrue, MatchOption, true, ⊤};
-ghost use Rattle.ialg.specs.Records.{lasting, HoldFill, AreNew, LastingLent, unplaced};
-ghost use Rattle.trial_kinds.specs.Primed.{is_primed, primed_fill, primed_records, KeepsWords};
-ghost use Rattle.trial_kinds.specs.Starts.{placed_records, held_words, HasStarted};
+//! Starts of a primed instance, its activation, and a sample. Each concludes from the laws of [`Ialg`] what is kept.
+ghost use Rattle.std.specs.Prelude.{◌≡◌, ◌∷◌, ℤ, [], List, Option, Some, IfSome, IsTrue, MatchOption, true, false, ⊤};
+ghost use Rattle.ialg.specs.History.{History, Sample};
+ghost use Rattle.ialg.specs.Records.{lasting, HoldFill, AllLent, AreNew, LastingLent, ScratchIsPoison, unplaced};
+ghost use Rattle.ialg.specs.Meaning.{Done};
+ghost use Rattle.ialg.specs.Views.{answer_of};
+ghost use Rattle.ialg.specs.Loans.{lent_words};
+ghost use Rattle.trial_kinds.specs.Primed.{is_primed, primed_fill, primed_records, KeepsWords, KeepsAwake};
+ghost use Rattle.trial_kinds.specs.Starts.{placed_records, held_words, HasStarted, IsAwake};
 
 use crate::{ONCE, ONCE_BASE, Primed};
-use ialg::{Ialg, Lent, OBJECT_WORDS, Params, Step, copied, lend};
+use ialg::{Block, Entry, Ialg, Lent, OBJECT_WORDS, Params, Status, Step, copied, give, lend};
 use mem_rec::MemTab;
 
-/// The words of an instance's records.
+/// The words of an instance's records that last.
 #[derive(Clone, Copy, PartialEq, Eq, Debug)]
 pub struct Held {
     pub object: [i16; OBJECT_WORDS],
     pub once: [i16; 1],
     pub primed: [i16; 1],
+}
+
+/// The words of an active instance's records.
+#[derive(Clone, Copy, PartialEq, Eq, Debug)]
+pub struct Awake {
+    pub held: Held,
+    pub scratch: [i16; 1],
 }
 
 /// Starts an instance in a host of the poison word `poison`, where its records hold nothing else.
@@ -105,4 +116,77 @@ impl Step<()> for Start<'_> {
         let table = mem.table();
         Primed.alg_init(table, self.p, mem);
     }
+}
+
+/// Starts an instance in a host of the poison word `poison`, and activates it over a scratch word that is the poison word.
+pub fn wake_in_poison(poison: i16, once: i16) -> Option<Awake>
+    ensures { MatchOption result ⊥ (λ awake. IsAwake poison once awake) }
+{
+    let held = start_in_poison(poison, once)?;
+    awoken(poison, once, held)
+}
+
+/// Activates a started instance.
+fn awoken(poison: i16, once: i16, held: Held) -> Option<Awake>
+    requires { HasStarted poison once held }
+    ensures { MatchOption result ⊥ (λ awake. IsAwake poison once awake) }
+{
+    let table = placed_table(&copied(&[poison, once]))?;
+    let Held {
+        mut object,
+        mut once,
+        mut primed,
+    } = held;
+    let mut scratch = [poison];
+    lend(
+        &Wake,
+        &table,
+        false,
+        &mut object,
+        &mut once,
+        &mut primed,
+        &mut scratch,
+        &mut (),
+    );
+    Some(Awake {
+        held: Held {
+            object,
+            once,
+            primed,
+        },
+        scratch,
+    })
+}
+
+/// The activation of an instance.
+#[derive(Clone, Copy)]
+struct Wake;
+
+impl Step<()> for Wake {
+    ghost can = { λ _ _. ⊤ };
+
+    ghost done = { λ _ table writable old new _ _. (p : List ℤ) (w : Option ℤ) (h : History) → IsTrue (is_primed p w)
+        → writable ≡ false
+        → AllLent table old
+        → ScratchIsPoison w table old
+        → KeepsWords p table (lasting table old) h
+        → KeepsAwake p table new h };
+
+    fn perform(&self, mem: &mut Lent<'_>, _out: &mut ()) {
+        Primed.alg_activate(mem);
+    }
+}
+
+/// Gives a sample to an active instance: its history has the sample, nothing comes out, and the answer is `Done`.
+pub fn give_sample(mem: &mut Lent<'_>, sample: i16, out: &mut Block) -> Status
+    requires { out.old.items ≡ [] }
+    ensures { (p : List ℤ) (w : Option ℤ) (h : History) → IsTrue (is_primed p w)
+        → mem.old.writable ≡ false
+        → AllLent mem.old.table.now (lent_words mem.old)
+        → KeepsAwake p mem.old.table.now (lent_words mem.old) h
+        → KeepsAwake p mem.old.table.now (lent_words mem.new) (Sample sample ∷ h)
+        × (out.new.items ≡ [])
+        × (answer_of result ≡ Done) }
+{
+    give(Primed, mem, &Entry::Sample(sample), out)
 }

@@ -2,8 +2,11 @@
 //! other.
 ghost use Rattle.std.specs.Prelude.{⊤};
 
-use crate::{Held, ONCE_BASE, PRIMED_RECORDS, Primed, start_in_poison, start_with_fill};
-use ialg::{Ctl, Ialg, Lent, PARAMETER_WORDS, Status, Step, Words, copied, lend};
+use crate::{
+    Awake, Held, ONCE_BASE, PRIMED_RECORDS, Primed, give_sample, start_in_poison, start_with_fill,
+    wake_in_poison,
+};
+use ialg::{Block, Ctl, Ialg, Lent, PARAMETER_WORDS, Status, Step, Words, copied, lend};
 use mem_rec::{Attr, MemTab, Space};
 use std::process::Abort;
 
@@ -31,13 +34,14 @@ fn table(rt: &impl Abort, once: u16, primed: u16) -> MemTab {
     table.with_base(2, primed)
 }
 
-/// A move to the table that the records are lent by, and then a `get`.
+/// A move to the table that the records are lent by, a sample, and then a `get`.
 #[derive(Clone, Copy)]
 struct MoveAndAsk;
 
 /// What these calls gave.
 #[derive(Drop)]
 struct Given {
+    sampled: Status,
     status: Status,
     freed: Option<MemTab>,
 }
@@ -51,6 +55,7 @@ impl Step<Given> for MoveAndAsk {
         let table = mem.table();
         Primed.alg_moved(table, mem);
         Primed.alg_activate(mem);
+        given.sampled = give_sample(mem, 1, &mut Block::new());
         given.status = Primed.alg_control(mem, &Ctl::Get);
         Primed.alg_deactivate(mem);
         given.freed = Some(Primed.alg_free(mem));
@@ -61,13 +66,22 @@ impl Step<Given> for MoveAndAsk {
 fn starts_leave_the_words(rt: HostRuntime) {
     assert_eq!(rt; start_in_poison(POISON, 7), Some(STARTED));
     assert_eq!(rt; start_with_fill(POISON, 7), Some(STARTED));
+    let awake = Awake {
+        held: STARTED,
+        scratch: [POISON],
+    };
+    assert_eq!(rt; wake_in_poison(POISON, 7), Some(awake));
 }
 
 #[test]
 fn moved_and_asked(rt: HostRuntime) {
-    let mut held = start_in_poison(POISON, 7).expect(&rt, "a start");
+    let Awake {
+        mut held,
+        mut scratch,
+    } = wake_in_poison(POISON, 7).expect(&rt, "a start");
     let there = table(&rt, 64, 32);
     let mut given = Given {
+        sampled: Status::Words(words(&rt, &[])),
         status: Status::Done,
         freed: None,
     };
@@ -78,11 +92,12 @@ fn moved_and_asked(rt: HostRuntime) {
         &mut held.object,
         &mut held.once,
         &mut held.primed,
-        &mut [],
+        &mut scratch,
         &mut given,
     );
     assert_eq!(rt; held.object, [9, 64, 32, 0]);
-    assert_eq!(rt; given.status, Status::Words(words(&rt, &[POISON, 7])));
+    assert_eq!(rt; given.sampled, Status::Done);
+    assert_eq!(rt; given.status, Status::Words(words(&rt, &[POISON, POISON, 7])));
     let freed = given.freed.expect(&rt, "a table");
     assert_eq!(rt; freed.records(), there.records());
 }
@@ -92,10 +107,10 @@ fn parameters_are_two(rt: HostRuntime) {
     for refused in [[0; 3].as_slice(), &[0], &[]] {
         assert!(rt; Primed.alg_alloc(&words(&rt, refused)).is_none());
     }
-    assert_eq!(rt; Primed.alg_num_alloc(), 3);
+    assert_eq!(rt; Primed.alg_num_alloc(), 4);
     let table = table(&rt, ONCE_BASE, 0);
-    assert_eq!(rt; table.len(), 3);
-    let (once, primed) = (table.get(1), table.get(2));
+    assert_eq!(rt; table.len(), 4);
+    let (once, primed, scratch) = (table.get(1), table.get(2), table.get(3));
     assert_eq!(rt;
         (once.size, once.space, once.attr),
         (1, Space::External, Attr::WriteOnce)
@@ -103,6 +118,10 @@ fn parameters_are_two(rt: HostRuntime) {
     assert_eq!(rt;
         (primed.size, primed.space, primed.attr),
         (1, Space::Saram, Attr::Persist)
+    );
+    assert_eq!(rt;
+        (scratch.size, scratch.space, scratch.attr),
+        (1, Space::Daram, Attr::Scratch)
     );
     let p = words(&rt, &[POISON, 7]);
     assert!(rt; Primed.accepts(&p, &Ctl::Get));

@@ -1,6 +1,6 @@
-//! The voices by their names, and what each asks for.
+//! The voices by their names.
 use crate::Voice;
-use ialg::{Ialg, Named};
+use ialg::Named;
 
 #[test]
 fn five_names_name_a_kind_each(rt: HostRuntime) {

@@ -1,5 +1,7 @@
 //! One of the hosted kinds.
 ghost use Rattle.std.specs.Prelude.{ℤ, List, Option, IsTrue};
+ghost use Rattle.std.proofs.Common.{rules};
+ghost use Rattle.std.specs.Cmp.Rules.{comparing};
 ghost use Rattle.voice_set.specs.Voices.{voice_meaning, voice_named};
 ghost use Rattle.voice_set.specs.Keeps.{IsIdle, IsActive};
 ghost use Rattle.voice_set.specs.Kept.{idle_words, active_words, idle_fill, active_fill};
@@ -152,6 +154,8 @@ impl Ialg for Voice {
             Voice::G711 => G711.alg_free(mem),
         }
     }
+
+    ghost same = { Prim.search (comparing, rules) };
 
     ghost idle_words = { idle_words };
 

@@ -3,6 +3,7 @@ use Rattle.ialg.specs.Records.{unplaced}
 use Rattle.ialg.specs.Loans.{lent_words}
 use Rattle.ialg.specs.Filters.{filter_records, IsPlaced}
 use Rattle.ialg.proofs.Tables.{idle_lent_size}
+use Rattle.ialg.proofs.Loans.{SameLoans-then, taken_and_put}
 use Rattle.ialg.proofs.Taking.{visit, persist_not_once}
 use Rattle.ialg.proofs.Hosting.{table_some, is_table-unplaced, none_once, kept_at, asleep, rests_now}
 use Rattle.ialg.proofs.hosted.AnyIalg.alg_init.Goals as goal
@@ -43,3 +44,12 @@ returns-in_default-clause-law g c w lawful taken table lent writable poison =
     let valid = rw s.records at (is_table-unplaced tab c.write_object_of.ensures.valid) in
     let named = kept_at s.memory valid c.write_object_of.new.mem F.KIND (rw same names) (rw same lent.apart) size in
     absurd (c.in_default.ensures.named F.KIND records named persist_not_once)
+
+pub returns-clause-loans : goal.returns-clause-loans
+returns-clause-loans g c =
+    let left = c.in-Some.ensures.left in
+    let back = c.put.ensures.back in
+    let later = taken_and_put _ _ _ _ left.0 left.2 c.put.ensures.others c.in-Some.ensures.found.may
+        (ap (λ r. r.ghost_name) back ∙ ap (λ r. r.ghost_name) left.1)
+        (ap (λ r. length r.now) back ∙ c.start.auto.kept ∙ ap (λ r. length r.now) left.1) in
+    SameLoans-then _ _ _ c.write_object_of.ensures.loans later

@@ -1,4 +1,4 @@
-use Rattle.std.proofs.Common.{◌≡◌, sym, subst, ap, ◌∙◌, arith}
+use Rattle.std.proofs.Common.{◌≡◌, sym, ap, ◌∙◌, arith}
 use Rattle.ialg.specs.Records.{unplaced}
 use Rattle.ialg.specs.Loans.{lent_words}
 use Rattle.ialg.specs.Filters.{filter_records, IsPlaced}

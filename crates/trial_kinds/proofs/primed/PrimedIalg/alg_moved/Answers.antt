@@ -1,4 +1,4 @@
-use Rattle.std.proofs.Common.{ap, arith}
+use Rattle.std.proofs.Common.{ap, ◌∙◌, arith}
 use Rattle.ialg.specs.Loans.{lent_words}
 use Rattle.trial_kinds.proofs.Kept.{asleep, awake_by, moved}
 use Rattle.trial_kinds.proofs.primed.PrimedIalg.alg_moved.Goals as goal
@@ -8,7 +8,10 @@ returns-clause-active c p w h before lawful same table closed lent keeps =
     let others = c.name_records.ensures.others in
     let first = ap (λ r. r.now) (others.others1 (λ e. omega arith)) in
     let second = ap (λ r. r.now) (others.others2 (λ e. omega arith)) in
-    moved p before c.args.tab.now (lent_words c.args.mem.now) (lent_words c.name_records.new.self) h same keeps (c.name_records.ensures.names keeps.object.long) first second
+    record {
+      idle = moved p before c.args.tab.now (lent_words c.args.mem.now) (lent_words c.name_records.new.self) h same keeps.idle (c.name_records.ensures.names keeps.idle.object.long) first second;
+      scratch = ap (λ r. r.now) (others.others3 (λ e. omega arith)) ∙ keeps.scratch;
+    }
 
 pub returns-clause-idle : goal.returns-clause-idle
 returns-clause-idle c p w h before lawful same table closed lent keeps =

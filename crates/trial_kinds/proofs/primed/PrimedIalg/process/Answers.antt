@@ -8,11 +8,14 @@ pub returns-clause-law : goal.returns-clause-law
 returns-clause-law c p w h lawful closed lent keeps =
     let xs = c.args.input.now in (
       record {
-        two = keeps.two;
-        history = IsWordHistory-with_samples h xs keeps.history c.read.ensures;
-        object = keeps.object;
-        once = keeps.once;
-        primed = keeps.primed;
+        idle = record {
+          two = keeps.idle.two;
+          history = IsWordHistory-with_samples h xs keeps.idle.history c.read.ensures;
+          object = keeps.idle.object;
+          once = keeps.idle.once;
+          primed = keeps.idle.primed;
+        };
+        scratch = keeps.scratch;
       },
       silent (with_samples h xs) ∙ sym (ap (λ o. o ++ c.args._out.now.items) (silent h) ∙ ap (λ o. [] ++ o) c.requires.empty),
     )
