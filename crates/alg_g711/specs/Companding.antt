@@ -3,7 +3,7 @@
 use Rattle.std.specs.Prelude.{ℕ, zero, suc, ◌+◌, ◌-◌, ◌*◌, ◌/◌, ◌%◌, ◌^◌, min, Bool, ◌&&◌, nat_le, nat_lt, ℤ, pos, negsuc, neg_ℤ, find, unwrap_or, bit_xor, List, map, if◌then◌else◌}
 use Rattle.std.specs.Int.Signed.{mag}
 use Rattle.std.specs.List.{range_with_len}
-use Rattle.alg_g711.specs.declared.TheConstants.{INTERVALS, CODES}
+use Rattle.alg_g711.specs.declared.TheConstants.{INTERVALS, CODES, BIAS, GREATEST_MAGNITUDE, EVEN_BITS}
 use Rattle.alg_g711.specs.declared.companding.Law.{Law}
 use Rattle.alg_g711.specs.declared.companding.Law.TheVariants.{A, Mu}
 
@@ -40,21 +40,21 @@ middle_of law number = lower_end law number + width_of law number / 2
 
 -- ---- samples: `mag x` is x, and -1 - x where x is negative
 
--- the magnitude that the intervals hold: mu-law has one of 13 bits, with a bias of 33
+-- the magnitude that the intervals hold: mu-law has one of 13 bits, with a bias
 abbrev pub magnitude_of : Law → ℤ → ℕ
 magnitude_of A x = mag x
-magnitude_of Mu x = min (mag x / 4 + 33) 8191
+magnitude_of Mu x = min (mag x / 4 + BIAS) GREATEST_MAGNITUDE
 
 -- and back
 abbrev pub sample_of : Law → ℕ → ℕ
 sample_of A magnitude = magnitude
-sample_of Mu magnitude = 4 * (magnitude - 33)
+sample_of Mu magnitude = 4 * (magnitude - BIAS)
 
 -- ---- codes: bit 128 is set where the sample isn't negative
 
 -- the bits of an interval's number in its code, and the other way round: A-law turns the even bits, mu-law turns all
 abbrev pub turned : Law → ℕ → ℕ
-turned A bits = bit_xor bits 0x55
+turned A bits = bit_xor bits EVEN_BITS
 turned Mu bits = 127 - bits
 
 abbrev pub encoded : Law → ℤ → ℕ

@@ -7,7 +7,7 @@ use Rattle.mem_rec.specs.declared.Attr.TheVariants.{WriteOnce}
 use Rattle.ialg.specs.History.{History, Sample, Ctl, Set, Reset, Get}
 use Rattle.ialg.specs.Meaning.{Meaning}
 use Rattle.ialg.specs.Objects.{object_memory}
-use Rattle.alg_g711.specs.declared.TheConstants.{CODES, CODER_RECORDS, SAMPLES_ALIGNMENT}
+use Rattle.alg_g711.specs.declared.TheConstants.{CODES, CODER_RECORDS, SAMPLES_ALIGNMENT, A_ENCODER_KIND, A_DECODER_KIND, MU_ENCODER_KIND, MU_DECODER_KIND}
 use Rattle.alg_g711.specs.declared.companding.Law.{Law}
 use Rattle.alg_g711.specs.declared.companding.Law.TheVariants.{A, Mu}
 use Rattle.alg_g711.specs.declared.coder.Direction.{Direction}
@@ -38,10 +38,10 @@ coder_named _ = None
 
 -- the kind word of a coder's object
 abbrev pub kind_word : Law → Direction → ℤ
-kind_word A Encode = pos 5
-kind_word A Decode = pos 6
-kind_word Mu Encode = pos 7
-kind_word Mu Decode = pos 8
+kind_word A Encode = A_ENCODER_KIND
+kind_word A Decode = A_DECODER_KIND
+kind_word Mu Encode = MU_ENCODER_KIND
+kind_word Mu Decode = MU_DECODER_KIND
 
 -- ---- records
 

@@ -3,7 +3,9 @@ ghost use Rattle.std.specs.Prelude.{◌≡◌, ◌∷◌, [], Option, Some};
 ghost use Rattle.alg_g711.specs.Meaning.{coder_named, direction_named, kind_word, law_named, samples_memory, table_of};
 
 use crate::companding::Law;
-use crate::{CODES, SAMPLES_ALIGNMENT};
+use crate::{
+    A_DECODER_KIND, A_ENCODER_KIND, CODES, MU_DECODER_KIND, MU_ENCODER_KIND, SAMPLES_ALIGNMENT,
+};
 use ialg::object_record;
 use mem_rec::{Attr, MemRec, MemTab, Space};
 
@@ -64,10 +66,10 @@ impl Coder {
         ensures { (coder : Coder) → kind ≡ kind_word coder.law coder.direction → result ≡ Some coder }
     {
         let (law, direction) = match kind {
-            5 => (Law::A, Direction::Encode),
-            6 => (Law::A, Direction::Decode),
-            7 => (Law::Mu, Direction::Encode),
-            8 => (Law::Mu, Direction::Decode),
+            A_ENCODER_KIND => (Law::A, Direction::Encode),
+            A_DECODER_KIND => (Law::A, Direction::Decode),
+            MU_ENCODER_KIND => (Law::Mu, Direction::Encode),
+            MU_DECODER_KIND => (Law::Mu, Direction::Decode),
             _ => return None,
         };
         Some(Coder { law, direction })
@@ -78,10 +80,10 @@ impl Coder {
         ensures { result ≡ kind_word self.law self.direction }
     {
         match (self.law, self.direction) {
-            (Law::A, Direction::Encode) => 5,
-            (Law::A, Direction::Decode) => 6,
-            (Law::Mu, Direction::Encode) => 7,
-            (Law::Mu, Direction::Decode) => 8,
+            (Law::A, Direction::Encode) => A_ENCODER_KIND,
+            (Law::A, Direction::Decode) => A_DECODER_KIND,
+            (Law::Mu, Direction::Encode) => MU_ENCODER_KIND,
+            (Law::Mu, Direction::Decode) => MU_DECODER_KIND,
         }
     }
 

@@ -3,7 +3,7 @@ ghost use Rattle.std.specs.Prelude.{◌≡◌, ◌≤◌, ◌<◌, ◌+◌, ◌/
 ghost use Rattle.alg_g711.specs.Companding.{decoded, encoded, interval_of, lower_end, magnitude_of, middle_of, sample_of, step_width, turned};
 ghost use Rattle.alg_g711.specs.declared.companding.Law.TheVariants.{A, Mu};
 
-use crate::INTERVALS;
+use crate::{BIAS, EVEN_BITS, GREATEST_MAGNITUDE, INTERVALS};
 
 /// The two laws of G.711, 3.2.
 #[derive(Clone, Copy, PartialEq, Eq, Debug)]
@@ -46,7 +46,7 @@ fn magnitude(law: Law, x: i16) -> u32
     let magnitude = u32::from(folded.cast_unsigned());
     match law {
         Law::A => magnitude,
-        Law::Mu => (magnitude / 4 + 33).min(8191),
+        Law::Mu => (magnitude / 4 + BIAS).min(GREATEST_MAGNITUDE),
     }
 }
 
@@ -107,7 +107,7 @@ fn turn(law: Law, bits: u32) -> u32
     ensures fits { result < INTERVALS }
 {
     match law {
-        Law::A => bits ^ 0x55,
+        Law::A => bits ^ EVEN_BITS,
         Law::Mu => 127 - bits,
     }
 }
@@ -122,7 +122,7 @@ fn middle_sample(law: Law, number: u32) -> u32
     let middle = lower_end(law, number, width) + width / 2;
     match law {
         Law::A => middle,
-        Law::Mu => 4 * (middle - 33),
+        Law::Mu => 4 * (middle - BIAS),
     }
 }
 

@@ -10,7 +10,6 @@ mod rows;
 #[cfg(test)]
 mod tests;
 
-pub use coder::{Coder, Direction};
 pub use companding::{Law, decode, encode};
 pub use kind::G711;
 pub use laws::{codes_come_back, decoding_is_monotone, g711_is_lawful, intervals_divide_samples};
@@ -21,6 +20,27 @@ pub const INTERVALS: usize = 128;
 
 /// The codes of a law: one of each sign for an interval.
 pub const CODES: usize = 256;
+
+/// The bias of mu-law's magnitudes (G.711, tables 2a and 2b).
+pub const BIAS: u32 = 33;
+
+/// The greatest magnitude of mu-law, with the bias.
+pub const GREATEST_MAGNITUDE: u32 = 8191;
+
+/// The bits of a number that A-law turns in its code: the even ones.
+pub const EVEN_BITS: u32 = 0x55;
+
+/// The kind word of an A-law encoder's object.
+pub const A_ENCODER_KIND: i16 = 5;
+
+/// The kind word of an A-law decoder's object.
+pub const A_DECODER_KIND: i16 = 6;
+
+/// The kind word of a mu-law encoder's object.
+pub const MU_ENCODER_KIND: i16 = 7;
+
+/// The kind word of a mu-law decoder's object.
+pub const MU_DECODER_KIND: i16 = 8;
 
 /// The most records of an instance: the object, and a decoder's samples of the codes.
 pub const CODER_RECORDS: usize = 2;

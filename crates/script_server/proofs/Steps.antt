@@ -1,6 +1,6 @@
 -- A step of one port of a list.
-use Rattle.std.proofs.Common.{◌≡◌, ℕ, ◌+◌, ◌<◌, List, map, length, take, All, Any, slice_index_or, slice_set, sym, ap, ◌∙◌}
-use Rattle.std.proofs.lemmas.List.{map-set, length-map, get_or-map, take_more_set}
+use Rattle.std.proofs.Common.{◌≡◌, ℕ, ◌+◌, ◌<◌, List, map, length, take, All, Any, slice_index_or, slice_set, sym, ap, ◌∙◌, arith}
+use Rattle.std.proofs.lemmas.List.{map-set, length-map, get_or-map, get_or-set_other, take-set, take_more_set}
 use Rattle.std.proofs.lemmas.List.Elements.{All-set, All-get_or, All-push}
 use Rattle.std.proofs.lemmas.List.Quantifiers.{any-set}
 use Rattle.script_server.specs.Runs.{StepsAt}
@@ -36,3 +36,11 @@ ready_at P view xs i x h e a = let there : i < length (map view xs) = rw (length
 -- what holds of the ports before this one, and of this one after its step
 pub first_after : {A : Type 0} (P : A → Type 0) (none : A) {i : ℕ} {old new : List A} → i < length old → All P (take i old) → StepsAt (λ _ y. P y) i none old new → All P (take (i + 1) new)
 first_after P none {i} {old} {new} h all s = rw (s.others, take_more_set old i s.after h) (All-push P (take i old) s.after all s.step)
+
+-- the ports before this one stay, and each other one
+pub before_stays : {A : Type 0} {P : A → A → Type 0} {none : A} {i : ℕ} {old new : List A} → StepsAt P i none old new → take i new ≡ take i old
+before_stays {i = i} {old = old} s = ap (take i) s.others ∙ take-set old i s.after
+
+pub other_stays : {A : Type 0} {P : A → A → Type 0} {none : A} {i k : ℕ} {old new : List A} → StepsAt P i none old new → i < k
+    → slice_index_or new k none ≡ slice_index_or old k none
+other_stays {none = none} {i = i} {k = k} {old = old} s h = ap (λ xs. slice_index_or xs k none) s.others ∙ get_or-set_other old i k s.after none (λ e. omega arith)

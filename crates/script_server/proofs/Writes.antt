@@ -1,13 +1,13 @@
 -- What the ports together took.
-use Rattle.std.proofs.Common.{◌≡◌, ◌≢◌, ℕ, ◌<◌, Bool, true, false, List, [], ◌∷◌, ◌++◌, map, filter, length, take, drop, Option, Some, None, slice_index_or, slice_set, refl, sym, ap, ◌∙◌, append_assoc, arith, eqb}
-use Rattle.std.proofs.lemmas.List.{map-append, take-append-drop, get_or-set_same, get_or-set_other, length-set}
-use Rattle.std.proofs.lemmas.List.Elements.{filter-append}
+use Rattle.std.proofs.Common.{◌≡◌, ◌≢◌, ℕ, ◌<◌, Bool, true, false, List, [], ◌∷◌, ◌++◌, map, filter, length, take, drop, Option, Some, None, slice_index_or, slice_set, All, ◌⊎◌, inl, inr, nat_le, refl, sym, ap, ◌∙◌, append_assoc, arith, eqb}
+use Rattle.std.proofs.lemmas.List.{map-append, take-append-drop, get_or-take, get_or-set_same, get_or-set_other, length-set}
+use Rattle.std.proofs.lemmas.List.Elements.{filter-append, All-get_or}
 use Rattle.std.proofs.lemmas.Grind.{common_steps, flat_map-append}
 use Rattle.std.proofs.lemmas.Bool.Decides.{nat_tests}
-use Rattle.octet_ports.specs.Ports.{Sink, Holds, Waits, Takes, TakesFirst}
+use Rattle.octet_ports.specs.Ports.{Sink, Holds, Waits, Takes, TakesFirst, HasPassedAll}
 use Rattle.octet_ports.proofs.Ports.{holds_none, holds_more, waits_none, waits_more}
 use Rattle.script_server.specs.Served.{Octet, Written, Output, Replied, held_by, order_of, same_port, octets_written}
-use Rattle.script_server.specs.Runs.{StepsAt, Writes, AllWait, no_sink}
+use Rattle.script_server.specs.Runs.{StepsAt, Writes, AllWait, InAscendingOrder, no_sink}
 use Rattle.script_server.specs.LineRuns.{WritesFirst}
 
 pub held_by-append : (port : Option ℕ) (xs ys : List Octet) → held_by port (xs ++ ys) ≡ held_by port xs ++ held_by port ys
@@ -109,6 +109,35 @@ wait_took replies {octets = octets} there s = wait_output replies there (step_we
 pub wait_took_first : (replies : Sink) {channel : ℕ} {octets : List ℕ} {outputs new_outputs : List Sink} → channel < length outputs
     → StepsAt (λ old new. TakesFirst octets old new) channel no_sink outputs new_outputs → AllWait outputs new_outputs replies replies
 wait_took_first replies {octets = octets} there s = wait_output replies there (step_weaker (λ x y. TakesFirst octets x y) (λ x y. Waits x y) (λ x y t. t.first.waits) s)
+
+-- ---- in which order the outputs pass on
+
+-- the outputs below a number have passed all on, and those above it are as they were
+pub in_order : (number : ℕ) (outputs new_outputs : List Sink) → length new_outputs ≡ length outputs → All HasPassedAll (take number new_outputs)
+    → ((k : ℕ) → number < k → slice_index_or new_outputs k no_sink ≡ slice_index_or outputs k no_sink) → InAscendingOrder outputs new_outputs
+in_order number outputs new_outputs count passed stay lower higher less there =
+    elim (nat_le higher number) as (λ t. nat_le higher number ≡ t → Waits (slice_index_or outputs higher no_sink) (slice_index_or new_outputs higher no_sink) ⊎ HasPassedAll (slice_index_or new_outputs lower no_sink)) [
+      | true ↦ λ e. (
+          let below : lower < number = grind (arith, nat_tests) in
+          let within : lower < length (take number new_outputs) = grind (arith, common_steps) in
+          inr (rw (get_or-take number new_outputs lower no_sink below) at (All-get_or HasPassedAll (take number new_outputs) lower no_sink within passed))
+          )
+      | false ↦ λ e. (
+          let above : number < higher = grind (arith, nat_tests) in
+          inl (rw (stay higher above) (waits_none _))
+          )
+    ] refl
+
+-- at first no output passed anything on
+pub order_after : {a b : List Sink} (c : List Sink) {x y : Sink} → AllWait a b x y → InAscendingOrder b c → InAscendingOrder a c
+order_after c w order lower higher less there =
+    elim (order lower higher less (rw w.count there)) [
+      | inl waits ↦ inl (waits_more (w.output higher there) waits)
+      | inr passed ↦ inr passed
+    ]
+
+pub order_waits : {a b : List Sink} {x y : Sink} → AllWait a b x y → InAscendingOrder a b
+order_waits w lower higher less there = inl (w.output higher there)
 
 -- ---- the first of an order
 

@@ -63,6 +63,11 @@ pub record AllWait (outputs new_outputs : List Sink) (replies new_replies : Sink
   pub output : (channel : ℕ) → channel < length outputs → Waits (slice_index_or outputs channel no_sink) (slice_index_or new_outputs channel no_sink)
   pub reply : Waits replies new_replies
 
+-- an output passed something on only after each of a lower number had passed all on, if it is honest
+abbrev pub InAscendingOrder : List Sink → List Sink → Type 0
+InAscendingOrder outputs new_outputs = (lower higher : ℕ) → lower < higher → higher < length outputs
+    → Waits (slice_index_or outputs higher no_sink) (slice_index_or new_outputs higher no_sink) ⊎ HasPassedAll (slice_index_or new_outputs lower no_sink)
+
 abbrev pub octets_to_come : List Source → List (List ℕ)
 octets_to_come sources = map (λ s. s.coming) sources
 
@@ -130,10 +135,11 @@ module _ {S : Type 0} (machine : Machine S) (start : Run S) where
     pub is_first : order_of (line_answer machine (lines_answer machine start whole).run last).written ≡ first ++ later
     pub writes : Writes (order_of (lines_answer machine start whole).written ++ first) old.outputs new.outputs old.replies new.replies
 
-  -- an output or the replies failed; the replies passed something on only after every honest output had passed all on
+  -- an output or the replies failed; what was passed on was passed on by the outputs in ascending number, and then by the replies
   pub record EndsByWrite (old new : Devices) : Type 0 where
     pub failed : Any HasFailedOut new.outputs ⊎ HasFailedOut new.replies
     pub passed : Waits old.replies new.replies ⊎ All HasPassedAll new.outputs
+    pub order : InAscendingOrder old.outputs new.outputs
     pub served : IsHonest old.script → All IsHonest old.inputs → ServedFirst old new
 
   -- why no more lines were read than these, and what was read of the inputs

@@ -7,7 +7,7 @@ ghost use Rattle.script_server.specs.Asks.{IsReady};
 ghost use Rattle.voice_script.specs.Replies.{reply_text};
 ghost use Rattle.voice_script.specs.ReplyViews.{reply_of};
 ghost use Rattle.script_server.specs.Served.{feed_answer, line_answer};
-ghost use Rattle.script_server.specs.Runs.{StepsAt, no_source, no_sink, IsHonest, IsReadyIn, IsReadyOut, HasFailedIn, HasFailedOut, AreReady, Writes, AllWait, FailsWithin, run_of};
+ghost use Rattle.script_server.specs.Runs.{StepsAt, no_source, no_sink, IsHonest, IsReadyIn, IsReadyOut, HasFailedIn, HasFailedOut, AreReady, Writes, AllWait, FailsWithin, run_of, InAscendingOrder};
 ghost use Rattle.script_server.specs.LineRuns.{IsServed, IsCut, IsUnfed};
 
 use crate::limits::{BLOCK_OCTETS, SAMPLE_OCTETS};
@@ -185,6 +185,7 @@ pub(crate) fn flush_outputs<O: PortOut>(outputs: &mut Vec<O>) -> Result<(), Port
     requires ready { All IsReadyOut (map O.sink outputs.old.items) }
     ensures holds { (replies : Sink) → Writes [] (map O.sink outputs.old.items) (map O.sink outputs.new.items) replies replies }
     ensures passed { IsOk result → All HasPassedAll (map O.sink outputs.new.items) }
+    ensures order { InAscendingOrder (map O.sink outputs.old.items) (map O.sink outputs.new.items) }
     ensures ready { IsOk result → All IsReadyOut (map O.sink outputs.new.items) }
     ensures failed { is_err result ≡ true → Any HasFailedOut (map O.sink outputs.new.items) }
 {

@@ -97,7 +97,10 @@ fn moved_and_asked(rt: HostRuntime) {
     );
     assert_eq!(rt; held.object, [9, 64, 32, 0]);
     assert_eq!(rt; given.sampled, Status::Done);
-    assert_eq!(rt; given.status, Status::Words(words(&rt, &[POISON, POISON, 7])));
+    assert_eq!(rt;
+        given.status,
+        Status::Words(words(&rt, &[POISON, POISON, 7]))
+    );
     let freed = given.freed.expect(&rt, "a table");
     assert_eq!(rt; freed.records(), there.records());
 }

@@ -1,6 +1,6 @@
 use Rattle.std.proofs.Common.{map, ◌∙◌, sym, inl, inr}
 use Rattle.script_server.specs.Runs.{run_of}
-use Rattle.script_server.proofs.Writes.{writes_more, writes_reply}
+use Rattle.script_server.proofs.Writes.{writes_more, writes_reply, order_after}
 use Rattle.script_server.proofs.Ends.{all_passed_on, all_is_first}
 use Rattle.script_server.proofs.serving.serve.Goals as goal
 
@@ -10,9 +10,11 @@ returns-then-is_err-clause-write g c = λ is.
     let m = g.T.LineMachine.machine in
     let start = run_of g.state (map g.I.PortIn.source c.args.inputs.now.items) in
     let outputs_hold = c.flush_outputs.ensures.holds _ in
+    let ordered = order_after _ c.serve_script.ensures.waits c.flush_outputs.ensures.order in
     record {
       failed = inl (c.flush_outputs.ensures.failed (sym c.is_err.ensures.value ∙ c.if-is_err.true));
       passed = inl c.serve_script.ensures.waits.reply;
+      order = ordered;
       served = λ honest h. all_is_first m start (all_passed_on m start (c.in-Ok.ensures.ok.served honest h) outputs_hold);
     }
 
@@ -25,6 +27,7 @@ returns-then-is_err-2-clause-write g c = λ is.
     record {
       failed = inr (c.flush.ensures.failed ∙ sym c.is_err-2.ensures.value ∙ c.if-is_err-2.true);
       passed = inr (c.flush_outputs.ensures.passed c.if-is_err.ensures.negation);
+      order = order_after _ c.serve_script.ensures.waits c.flush_outputs.ensures.order;
       served = λ honest h. all_is_first m start (all_passed_on m start (c.in-Ok.ensures.ok.served honest h) all_hold);
     }
 

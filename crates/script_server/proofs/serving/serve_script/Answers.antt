@@ -2,7 +2,7 @@ use Rattle.std.proofs.Common.{rules, ◌≡◌, arith, ◌+◌, refl, ap, Err, �
 use Rattle.std.proofs.lemmas.Grind.{common_steps}
 use Rattle.octet_ports.proofs.Ports.{gives_none}
 use Rattle.script_server.proofs.Scripts.{served_none, consumes_more}
-use Rattle.script_server.proofs.Writes.{wait_none, wait_more}
+use Rattle.script_server.proofs.Writes.{wait_none, wait_more, order_waits}
 use Rattle.script_server.proofs.Ends.{served_more, served_all, script_cut, stops_in_script, stops_in_feed, why_failed, consumes_within, consumes_then}
 use Rattle.script_server.specs.declared.serving.PortsFault.TheVariants.{Read, Write}
 use Rattle.script_server.proofs.serving.serve_script.Goals as goal
@@ -34,6 +34,7 @@ returns-in-Err-serve_line-clause-write g c = λ is.
     record {
       failed = c.in-Err-serve_line.ensures.write (ap Err e);
       passed = inl (wait_more c.lines.invariant.waits c.in-Err-serve_line.ensures.waits).reply;
+      order = order_waits (wait_more c.lines.invariant.waits c.in-Err-serve_line.ensures.waits);
       served = λ honest h. let served = c.lines.invariant.served h in
           script_cut g.T.LineMachine.machine _ _ _ honest served came
           (c.in-Err-serve_line.ensures.cut (ap Err e) came.octets _ (rw (c.as_slice.ensures.value) came.line) served.kept served.honest);

@@ -50,6 +50,6 @@ returns-clause-loans g c =
     let left = c.in-Some.ensures.left in
     let back = c.put.ensures.back in
     let later = taken_and_put _ _ _ _ left.0 left.2 c.put.ensures.others c.in-Some.ensures.found.may
-        (ap (λ r. r.ghost_name) back ∙ ap (λ r. r.ghost_name) left.1)
-        (ap (λ r. length r.now) back ∙ c.start.auto.kept ∙ ap (λ r. length r.now) left.1) in
+    (ap (λ r. r.ghost_name) back ∙ ap (λ r. r.ghost_name) left.1)
+    (ap (λ r. length r.now) back ∙ c.start.auto.kept ∙ ap (λ r. length r.now) left.1) in
     SameLoans-then _ _ _ c.write_object_of.ensures.loans later

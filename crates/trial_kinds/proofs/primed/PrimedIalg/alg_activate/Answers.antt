@@ -12,6 +12,6 @@ returns-clause-law c p w h lawful closed lent poison keeps =
     record {
       idle = awake p m.table.now (lent_words m) h keeps;
       scratch =
-        primed_word p w (words_of (lent_words m) 3) lawful (lent_size m.table.now primed_records on_table (lent_words m) lent 3)
-        (poison 3 (attr_of m.table.now primed_records on_table 3));
+          primed_word p w (words_of (lent_words m) 3) lawful (lent_size m.table.now primed_records on_table (lent_words m) lent 3)
+          (poison 3 (attr_of m.table.now primed_records on_table 3));
     }

@@ -67,6 +67,6 @@ returns-clause-loans c =
     let left = c.in-Some.ensures.left in
     let back = c.put.ensures.back in
     let later = taken_and_put _ _ _ _ left.0 left.2 c.put.ensures.others c.in-Some.ensures.found.may
-        (ap (λ r. r.ghost_name) back ∙ ap (λ r. r.ghost_name) left.1)
-        (ap (λ r. length r.now) back ∙ c.overwrite.auto.words ∙ ap (λ r. length r.now) left.1) in
+    (ap (λ r. r.ghost_name) back ∙ ap (λ r. r.ghost_name) left.1)
+    (ap (λ r. length r.now) back ∙ c.overwrite.auto.words ∙ ap (λ r. length r.now) left.1) in
     SameLoans-then _ _ _ c.name_records.ensures.loans later
