@@ -4,7 +4,7 @@ ghost use Rattle.ialg.specs.History.{History, Sample};
 ghost use Rattle.ialg.specs.Records.{lasting, HoldFill, AllLent, AreNew, LastingLent, ScratchIsPoison, unplaced};
 ghost use Rattle.ialg.specs.Meaning.{Done};
 ghost use Rattle.ialg.specs.Views.{answer_of};
-ghost use Rattle.ialg.specs.Loans.{lent_words};
+ghost use Rattle.ialg.specs.Loans.{lent_words, SameLoans};
 ghost use Rattle.trial_kinds.specs.Primed.{is_primed, primed_fill, primed_records, KeepsWords, KeepsAwake};
 ghost use Rattle.trial_kinds.specs.Starts.{placed_records, held_words, HasStarted, IsAwake};
 
@@ -180,7 +180,8 @@ impl Step<()> for Wake {
 /// Gives a sample to an active instance: its history has the sample, nothing comes out, and the answer is `Done`.
 pub fn give_sample(mem: &mut Lent<'_>, sample: i16, out: &mut Block) -> Status
     requires { out.old.items ≡ [] }
-    ensures { (p : List ℤ) (w : Option ℤ) (h : History) → IsTrue (is_primed p w)
+    ensures loans { SameLoans mem.old mem.new }
+    ensures law { (p : List ℤ) (w : Option ℤ) (h : History) → IsTrue (is_primed p w)
         → mem.old.writable ≡ false
         → AllLent mem.old.table.now (lent_words mem.old)
         → KeepsAwake p mem.old.table.now (lent_words mem.old) h

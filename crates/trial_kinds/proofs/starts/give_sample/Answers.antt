@@ -6,8 +6,8 @@ use Rattle.ialg.specs.History.{Sample}
 use Rattle.trial_kinds.proofs.Kept.{silent}
 use Rattle.trial_kinds.proofs.starts.give_sample.Goals as goal
 
-pub returns : goal.returns
-returns c p w h lawful closed lent awake =
+pub returns-clause-law : goal.returns-clause-law
+returns-clause-law c p w h lawful closed lent awake =
     let x = c.args.sample in
     let fits : SFits w16 x = search rules in
     let same : to_z w16 (of_z w16 x) ≡ x = to_z-of_z w16 x fits in
