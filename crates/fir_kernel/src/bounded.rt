@@ -6,7 +6,7 @@ ghost use Rattle.ialg.specs.History.{word_at};
 ghost use Rattle.fir_kernel.specs.Bounded.{product_sum, magnitude_sum, NoneLouder, IsBounded};
 ghost use Rattle.fir_kernel.specs.Sums.{filtered_at};
 
-use crate::MOST_COEFFICIENTS;
+use crate::{LEAST_UNBOUNDED_SUM, MOST_COEFFICIENTS};
 use basic_op::{l_add, round};
 use ialg::BLOCK_SAMPLES;
 
@@ -18,7 +18,7 @@ pub(crate) fn is_bounded(coefficients: &[i16], samples: &[i16]) -> bool
     requires { length coefficients.now ≤ MOST_COEFFICIENTS }
     ensures { IsTrue result ↔ IsBounded coefficients.now samples.now }
 {
-    u64::from(magnitude(coefficients)) * u64::from(loudest(samples)) < 1 << 30
+    u64::from(magnitude(coefficients)) * u64::from(loudest(samples)) < LEAST_UNBOUNDED_SUM
 }
 
 /// The sum of the coefficients' magnitudes.

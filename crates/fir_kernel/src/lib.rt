@@ -12,3 +12,6 @@ pub use ring::{enter, named_place, unroll};
 
 /// The most coefficients of a filter.
 pub const MOST_COEFFICIENTS: usize = 64;
+
+/// The least magnitude of a sum of products that leaves 32 bits when it is doubled.
+pub const LEAST_UNBOUNDED_SUM: u64 = 1 << 30;
