@@ -3,6 +3,7 @@ use Rattle.std.proofs.Common.{◌≡◌, ℕ, ℤ, zero, suc, ◌≤◌, ◌<◌
 use Rattle.std.specs.Prelude.{if◌then◌else◌, ◌||◌, ◌&&◌, nat_eq, nat_le, MatchOption}
 use Rattle.std.proofs.lemmas.Bool.Decides.{nat_tests}
 use Rattle.space_raw.specs.Span.{Span, Extent, IsWhole}
+use Rattle.mem_rec.specs.declared.TheConstants.{RECORD_WORDS}
 use Rattle.mem_rec.specs.declared.MemRec.{MemRec}
 use Rattle.mem_rec.specs.declared.Space.{Space}
 use Rattle.mem_rec.specs.declared.Space.TheVariants.{Daram, Saram, External}
@@ -77,8 +78,8 @@ module _ (o q : Span) (b : ScratchBlock) (active : Option ℕ) (activations : �
   block_apart (suc (suc (suc k))) t = absurd (omega (arith, t))
 
   own_in : (k : ℕ) → IsInSpace (piece_at own k)
-  own_in zero = omega (arith, ho.region)
-  own_in (suc zero) = omega (arith, hq.region)
+  own_in zero = ho.region
+  own_in (suc zero) = hq.region
   own_in (suc (suc zero)) = tt
   own_in (suc (suc (suc zero))) = tt
   own_in (suc (suc (suc (suc k)))) = tt
@@ -91,7 +92,7 @@ module _ (o q : Span) (b : ScratchBlock) (active : Option ℕ) (activations : �
   none_in (suc (suc (suc (suc k)))) = tt
 
   block_in_space : (space : Space) → IsInSpace (block_piece (block_in g space))
-  block_in_space Daram = omega (arith, hb.region)
+  block_in_space Daram = hb.region
   block_in_space Saram = tt
   block_in_space External = tt
 
@@ -155,13 +156,15 @@ same_group_then a b c e f = record {
 
 -- whole regions, and the group that has one for a block
 
-pub home : (n : ℕ) (p : Span) (r : Extent) → r.size ≡ n → (p.region ≡ r) × IsWhole p → IsHome n p
-home n p r size whole = record { words = whole.1.1 ∙ ap (λ (x : Extent). x.size) whole.0 ∙ size; region = ap (λ (x : Extent). x.size) whole.0 ∙ size }
+pub home : (n : ℕ) (p : Span) (r : Extent) → n ≤ RECORD_WORDS → r.size ≡ n → (p.region ≡ r) × IsWhole p → IsHome n p
+home n p r few size whole =
+    let same = ap (λ (x : Extent). x.size) whole.0 ∙ size in
+    record { words = whole.1.1 ∙ same; region = rw same few }
 
-saram_is_not_daram : Saram ≡ Daram → ⊥
+pub saram_is_not_daram : Saram ≡ Daram → ⊥
 saram_is_not_daram h = cc
 
-external_is_not_daram : External ≡ Daram → ⊥
+pub external_is_not_daram : External ≡ Daram → ⊥
 external_is_not_daram h = cc
 
 pub ready_group : (g0 g1 : Group) (p : Span) → ((space : Space) → block_in g0 space ≡ None) → g1.daram ≡ Some (record { piece = p; align = 16 }) → SameBut Daram g0 g1 → IsHome 260 p
@@ -172,7 +175,7 @@ ready_group g0 g1 p none e same h = record {
   external = same.others External external_is_not_daram ∙ none External;
 }
 
-none_stays : (b b' : Option ScratchBlock) → IsSameBlock b b' → b ≡ None → b' ≡ None
+pub none_stays : (b b' : Option ScratchBlock) → IsSameBlock b b' → b ≡ None → b' ≡ None
 none_stays None None same e = refl
 none_stays None (Some b) same e = let p = same.0 in cc
 none_stays (Some b) b' same e = cc

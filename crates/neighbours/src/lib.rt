@@ -8,6 +8,8 @@ ghost use Rattle.scratch_group.specs.Blocks.{BlocksArePoison, SameGroup};
 ghost use Rattle.lifecycle.specs.States.{Fits, IsLawful, IdleKeeps, SameInstance, all_outputs};
 
 #[cfg(test)]
+mod moves;
+#[cfg(test)]
 mod tests;
 
 use ialg::{BLOCK_SAMPLES, Block, Ialg};
