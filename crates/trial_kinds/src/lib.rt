@@ -1,16 +1,19 @@
 //! Kinds for tests: instances that meet the premises of laws which no hosted kind needs.
 //!
 //! [`Primed`] is lawful in a host of one poison word alone. [`start_in_poison`] and [`start_with_fill`] start it by the laws
-//! of IALG, so that what these laws ask of new records is met by words that there are.
+//! of IALG, so that what these laws ask of new records is met by words that there are. [`Slicer`] has scratch records of two
+//! alignments in two spaces.
 #![tactic(auto)]
 
 mod primed;
+mod slicer;
 mod starts;
 #[cfg(test)]
 mod tests;
 
 use ialg::OBJECT_WORDS;
 pub use primed::Primed;
+pub use slicer::Slicer;
 pub use starts::{Held, start_in_poison, start_with_fill};
 
 /// The kind word of a primed instance's object.
@@ -30,3 +33,27 @@ pub const PRIMED: usize = 2;
 
 /// Where the write-once record is placed: right behind the object.
 pub const ONCE_BASE: u16 = OBJECT_WORDS as u16;
+
+/// The kind word of a slicer's object.
+pub const SLICER_KIND: i16 = 10;
+
+/// The parameters of a slicer: the low level and the high one.
+pub const LEVELS: usize = 2;
+
+/// The records of a slicer: the object, the levels, and a scratch record for each.
+pub const SLICER_RECORDS: usize = 4;
+
+/// The number of the scratch record of the low level.
+pub const LOW: usize = 2;
+
+/// The number of the scratch record of the high level.
+pub const HIGH: usize = 3;
+
+/// The words of the scratch record of the low level.
+pub const LOW_WORDS: u32 = 5;
+
+/// The words of the scratch record of the high level.
+pub const HIGH_WORDS: u32 = 3;
+
+/// The alignment of the scratch record of the high level.
+pub const HIGH_ALIGNMENT: u32 = 64;
