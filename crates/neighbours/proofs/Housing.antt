@@ -13,7 +13,7 @@ use Rattle.alg_fir.specs.Meaning.{fir_memory}
 use Rattle.record_loans.specs.declared.block.ScratchBlock.{ScratchBlock}
 use Rattle.record_loans.specs.declared.pieces.Pieces.{Pieces}
 use Rattle.record_loans.specs.Blocks.{block_piece, IsSameBlock}
-use Rattle.record_loans.specs.Pieces.{piece_at, IsInSpace, IsSamePiece}
+use Rattle.record_loans.specs.Pieces.{piece_at, IsInSpace, IsSamePiece, SamePieces}
 use Rattle.scratch_group.specs.declared.group.Group.{Group}
 use Rattle.scratch_group.specs.declared.group.Need.{Need}
 use Rattle.scratch_group.specs.Blocks.{block_in, block_needed, SameBut, SameGroup}
@@ -139,6 +139,14 @@ memory_of_two (x ∷ y ∷ z ∷ p) h = absurd (omega (arith, h))
 
 pub some_same : (a b : List MemRec) → Some a ≡ Some b → a ≡ b
 some_same a b e = cc
+
+pub same_pieces_then : (a b c : Pieces) → SamePieces a b → SamePieces b c → SamePieces a c
+same_pieces_then a b c e f = record {
+  p0 = same_then a.p0 b.p0 c.p0 e.p0 f.p0;
+  p1 = same_then a.p1 b.p1 c.p1 e.p1 f.p1;
+  p2 = same_then a.p2 b.p2 c.p2 e.p2 f.p2;
+  p3 = same_then a.p3 b.p3 c.p3 e.p3 f.p3;
+}
 
 -- the same group after one call and another
 
