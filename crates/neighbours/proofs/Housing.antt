@@ -30,10 +30,10 @@ none_needed false x h = cc
 large_enough : (need align n fine : ℕ) → need ≤ n → align ≤ fine → (nat_eq need 0 || nat_le need n && nat_le align fine) ≡ true
 large_enough need align n fine h a = grind (arith, nat_tests)
 
-block_serves : (b : ScratchBlock) (need align : ℕ) → need ≤ length b.piece.words → align ≤ b.align → block_needed (Some b) need align ≡ None
+pub block_serves : (b : ScratchBlock) (need align : ℕ) → need ≤ length b.piece.words → align ≤ b.align → block_needed (Some b) need align ≡ None
 block_serves b need align h a = none_needed _ _ (large_enough need align (length b.piece.words) b.align h a)
 
-first : (n : ℕ) (xs : List ℤ) → n ≤ length xs → length (take n xs) ≡ n
+pub first : (n : ℕ) (xs : List ℤ) → n ≤ length xs → length (take n xs) ≡ n
 first n xs h = omega (arith, length-take n xs)
 
 apart_from_none : (p : Option Span) → AreSeparate p None
@@ -194,8 +194,8 @@ all_gone g1 g2 g3 ready same went gone Saram = went.others Saram saram_is_not_da
 all_gone g1 g2 g3 ready same went gone External = went.others External external_is_not_daram ∙ none_stays g1.external g2.external same.external ready.external
 
 -- what came back is what was placed
-pub same_block_span : (p s : Span) (b1 b2 : Option ScratchBlock) → b1 ≡ Some (record { piece = p; align = 16 }) → IsSameBlock b1 b2 → block_piece b2 ≡ Some s → IsSamePiece (Some p) (Some s)
-same_block_span p s b1 b2 e1 same e2 =
+pub same_block_span : (align : ℕ) (p s : Span) (b1 b2 : Option ScratchBlock) → b1 ≡ Some (record { piece = p; align = align }) → IsSameBlock b1 b2 → block_piece b2 ≡ Some s → IsSamePiece (Some p) (Some s)
+same_block_span align p s b1 b2 e1 same e2 =
     subst (λ (x : Option Span). IsSamePiece (Some p) x) e2 (subst (λ (x : Option ScratchBlock). IsSamePiece (block_piece x) (block_piece b2)) e1 same.0)
 
 pub same_piece_span : (p s : Span) (a b : Option Span) → IsSamePiece (Some p) a → IsSamePiece a b → b ≡ Some s → IsSamePiece (Some p) (Some s)

@@ -1,5 +1,5 @@
 -- What a slicer's records are, while it lives.
-use Rattle.std.proofs.Common.{◌≡◌, ℕ, ℤ, List, [], length, take, map, Some, None, refl, ap, sym, ◌∙◌, cond, true, arith}
+use Rattle.std.proofs.Common.{◌≡◌, ℤ, List, [], length, take, map, Some, None, ap, sym, ◌∙◌, true, arith}
 use Rattle.std.proofs.lemmas.Bool.Decides.{nat_tests}
 use Rattle.std.specs.Prelude.{◌==◌, ◌++◌, if◌then◌else◌}
 use Rattle.mem_rec.specs.declared.MemRec.{MemRec}

@@ -15,6 +15,9 @@ ghost use Rattle.lifecycle.specs.States.{Fits};
 ghost use Rattle.trial_kinds.specs.declared.TheConstants.{LEVELS};
 ghost use Rattle.trial_kinds.specs.Slicer.{sliced, slicer_records};
 
+#[cfg(test)]
+mod tests;
+
 use ialg::{BLOCK_SAMPLES, Block, Ctl, Ialg, Params, Status};
 use lifecycle::Idle;
 use mem_rec::MemTab;

@@ -1,4 +1,4 @@
-use Rattle.std.proofs.Common.{◌≡◌, ◌∷◌, None, Some, [], inl, refl, ap, sym, ◌∙◌}
+use Rattle.std.proofs.Common.{◌∷◌, None, [], inl, refl, ap, ◌∙◌}
 use Rattle.ialg.specs.History.{with_samples, Control, Get}
 use Rattle.ialg.specs.Meaning.{Words}
 use Rattle.neighbours.proofs.Housing.{same_pieces_then, same_group_then}

@@ -64,13 +64,13 @@ end-requires g c =
 pub close-requires-clause-region : goal.close-requires-clause-region
 close-requires-clause-region g c =
     let whole = rw c.expect-daram.ensures at c.make.ensures.whole in
-    let same = same_block_span c.expect-daram.result.1 c.expect-block.result c.replace.new.self.daram c.give-second-2.new.group.daram c.replace.ensures.new (same_group_then c.replace.new.self c.give-first-2.new.group c.give-second-2.new.group (same_group_then c.replace.new.self c.control-first.new.group c.give-first-2.new.group (same_group_then c.replace.new.self c.give-second.new.group c.control-first.new.group (same_group_then c.replace.new.self c.give-first.new.group c.give-second.new.group c.give-first.ensures.group c.give-second.ensures.group) c.control-first.ensures.group) c.give-first-2.ensures.group) c.give-second-2.ensures.group).daram (sym c.remove.ensures.old ∙ c.expect-block.ensures) in
+    let same = same_block_span 16 c.expect-daram.result.1 c.expect-block.result c.replace.new.self.daram c.give-second-2.new.group.daram c.replace.ensures.new (same_group_then c.replace.new.self c.give-first-2.new.group c.give-second-2.new.group (same_group_then c.replace.new.self c.control-first.new.group c.give-first-2.new.group (same_group_then c.replace.new.self c.give-second.new.group c.control-first.new.group (same_group_then c.replace.new.self c.give-first.new.group c.give-second.new.group c.give-first.ensures.group c.give-second.ensures.group) c.control-first.ensures.group) c.give-first-2.ensures.group) c.give-second-2.ensures.group).daram (sym c.remove.ensures.old ∙ c.expect-block.ensures) in
     (still_whole c.expect-daram.result.1 _ c.expect-daram.result.0 whole same).0
 
 pub close-requires-clause-whole : goal.close-requires-clause-whole
 close-requires-clause-whole g c =
     let whole = rw c.expect-daram.ensures at c.make.ensures.whole in
-    let same = same_block_span c.expect-daram.result.1 c.expect-block.result c.replace.new.self.daram c.give-second-2.new.group.daram c.replace.ensures.new (same_group_then c.replace.new.self c.give-first-2.new.group c.give-second-2.new.group (same_group_then c.replace.new.self c.control-first.new.group c.give-first-2.new.group (same_group_then c.replace.new.self c.give-second.new.group c.control-first.new.group (same_group_then c.replace.new.self c.give-first.new.group c.give-second.new.group c.give-first.ensures.group c.give-second.ensures.group) c.control-first.ensures.group) c.give-first-2.ensures.group) c.give-second-2.ensures.group).daram (sym c.remove.ensures.old ∙ c.expect-block.ensures) in
+    let same = same_block_span 16 c.expect-daram.result.1 c.expect-block.result c.replace.new.self.daram c.give-second-2.new.group.daram c.replace.ensures.new (same_group_then c.replace.new.self c.give-first-2.new.group c.give-second-2.new.group (same_group_then c.replace.new.self c.control-first.new.group c.give-first-2.new.group (same_group_then c.replace.new.self c.give-second.new.group c.control-first.new.group (same_group_then c.replace.new.self c.give-first.new.group c.give-second.new.group c.give-first.ensures.group c.give-second.ensures.group) c.control-first.ensures.group) c.give-first-2.ensures.group) c.give-second-2.ensures.group).daram (sym c.remove.ensures.old ∙ c.expect-block.ensures) in
     (still_whole c.expect-daram.result.1 _ c.expect-daram.result.0 whole same).1
 
 pub close-requires-2-clause-region : goal.close-requires-2-clause-region
