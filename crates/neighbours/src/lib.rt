@@ -1,4 +1,5 @@
-//! Two instances of one group, for tests: what one gives doesn't depend on the other.
+//! Two instances of one group, for tests: what one gives doesn't depend on the other. The tests also move an instance, idle and
+//! active.
 #![tactic(auto)]
 
 ghost use Rattle.std.specs.Prelude.{◌≡◌, ◌≤◌, ◌++◌, ℤ, [], length, Option, None};

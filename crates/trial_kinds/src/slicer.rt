@@ -24,6 +24,8 @@ use mem_rec::{Attr, LEAST_ALIGNMENT, MemRec, MemTab, Space};
 /// level and the high one, which it writes into a write-once record when it starts. While it is active each word of a scratch
 /// record in `daram` is the low level, and each word of a coarser aligned one in `saram` is the high level: its outputs are made
 /// of these. `get` answers both levels, and no other control is taken.
+///
+/// A table has four records at most, so that the object is its only persistent record: a slicer has no state.
 #[derive(Clone, Copy, PartialEq, Eq, Debug)]
 pub struct Slicer;
 
