@@ -101,7 +101,9 @@ pub(crate) fn give<M: Ialg>(
 }
 
 /// Looks that there is no piece.
-pub(crate) fn nothing(rt: &impl Abort, piece: Option<Piece>) {
+pub(crate) fn nothing(rt: &impl Abort, piece: Option<Piece>)
+    ensures { piece ≡ None }
+{
     assert!(rt; piece.is_none(), "no piece");
     match piece {
         Some(_piece) => unreachable!(),
@@ -110,7 +112,9 @@ pub(crate) fn nothing(rt: &impl Abort, piece: Option<Piece>) {
 }
 
 /// Ends pieces that are none.
-pub(crate) fn end(rt: &impl Abort, pieces: Pieces) {
+pub(crate) fn end(rt: &impl Abort, pieces: Pieces)
+    ensures { pieces ≡ no_pieces }
+{
     let Pieces { p0, p1, p2, p3 } = pieces;
     nothing(rt, p0);
     nothing(rt, p1);

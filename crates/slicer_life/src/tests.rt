@@ -1,5 +1,5 @@
 //! A slicer whose object and levels stand in one region, and whose scratch records stand in blocks of two others.
-ghost use Rattle.std.specs.Prelude.{◌≡◌, length};
+ghost use Rattle.std.specs.Prelude.{◌≡◌, length, None};
 ghost use Rattle.ialg.specs.Records.{unplaced};
 ghost use Rattle.trial_kinds.specs.declared.TheConstants.{LEVELS};
 ghost use Rattle.trial_kinds.specs.Slicer.{slicer_records};
@@ -29,7 +29,9 @@ fn table(rt: &impl Abort, levels: &Params) -> MemTab
 }
 
 /// Looks that there is no piece.
-fn nothing(rt: &impl Abort, piece: Option<Piece>) {
+fn nothing(rt: &impl Abort, piece: Option<Piece>)
+    ensures { piece ≡ None }
+{
     assert!(rt; piece.is_none(), "no piece");
     match piece {
         Some(_piece) => unreachable!(),
