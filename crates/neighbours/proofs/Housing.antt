@@ -3,6 +3,7 @@ use Rattle.std.proofs.Common.{◌≡◌, ℕ, ℤ, zero, suc, ◌≤◌, ◌<◌
 use Rattle.std.specs.Prelude.{if◌then◌else◌, ◌||◌, ◌&&◌, nat_eq, nat_le, MatchOption}
 use Rattle.std.proofs.lemmas.Bool.Decides.{nat_tests}
 use Rattle.space_raw.specs.Span.{Span, Extent, IsWhole}
+use Rattle.mem_rec.specs.declared.TheConstants.{RECORD_WORDS}
 use Rattle.mem_rec.specs.declared.MemRec.{MemRec}
 use Rattle.mem_rec.specs.declared.Space.{Space}
 use Rattle.mem_rec.specs.declared.Space.TheVariants.{Daram, Saram, External}
@@ -12,7 +13,7 @@ use Rattle.alg_fir.specs.Meaning.{fir_memory}
 use Rattle.record_loans.specs.declared.block.ScratchBlock.{ScratchBlock}
 use Rattle.record_loans.specs.declared.pieces.Pieces.{Pieces}
 use Rattle.record_loans.specs.Blocks.{block_piece, IsSameBlock}
-use Rattle.record_loans.specs.Pieces.{piece_at, IsInSpace, IsSamePiece}
+use Rattle.record_loans.specs.Pieces.{piece_at, IsInSpace, IsSamePiece, SamePieces}
 use Rattle.scratch_group.specs.declared.group.Group.{Group}
 use Rattle.scratch_group.specs.declared.group.Need.{Need}
 use Rattle.scratch_group.specs.Blocks.{block_in, block_needed, SameBut, SameGroup}
@@ -29,10 +30,10 @@ none_needed false x h = cc
 large_enough : (need align n fine : ℕ) → need ≤ n → align ≤ fine → (nat_eq need 0 || nat_le need n && nat_le align fine) ≡ true
 large_enough need align n fine h a = grind (arith, nat_tests)
 
-block_serves : (b : ScratchBlock) (need align : ℕ) → need ≤ length b.piece.words → align ≤ b.align → block_needed (Some b) need align ≡ None
+pub block_serves : (b : ScratchBlock) (need align : ℕ) → need ≤ length b.piece.words → align ≤ b.align → block_needed (Some b) need align ≡ None
 block_serves b need align h a = none_needed _ _ (large_enough need align (length b.piece.words) b.align h a)
 
-first : (n : ℕ) (xs : List ℤ) → n ≤ length xs → length (take n xs) ≡ n
+pub first : (n : ℕ) (xs : List ℤ) → n ≤ length xs → length (take n xs) ≡ n
 first n xs h = omega (arith, length-take n xs)
 
 apart_from_none : (p : Option Span) → AreSeparate p None
@@ -77,8 +78,8 @@ module _ (o q : Span) (b : ScratchBlock) (active : Option ℕ) (activations : �
   block_apart (suc (suc (suc k))) t = absurd (omega (arith, t))
 
   own_in : (k : ℕ) → IsInSpace (piece_at own k)
-  own_in zero = omega (arith, ho.region)
-  own_in (suc zero) = omega (arith, hq.region)
+  own_in zero = ho.region
+  own_in (suc zero) = hq.region
   own_in (suc (suc zero)) = tt
   own_in (suc (suc (suc zero))) = tt
   own_in (suc (suc (suc (suc k)))) = tt
@@ -91,7 +92,7 @@ module _ (o q : Span) (b : ScratchBlock) (active : Option ℕ) (activations : �
   none_in (suc (suc (suc (suc k)))) = tt
 
   block_in_space : (space : Space) → IsInSpace (block_piece (block_in g space))
-  block_in_space Daram = omega (arith, hb.region)
+  block_in_space Daram = hb.region
   block_in_space Saram = tt
   block_in_space External = tt
 
@@ -139,6 +140,14 @@ memory_of_two (x ∷ y ∷ z ∷ p) h = absurd (omega (arith, h))
 pub some_same : (a b : List MemRec) → Some a ≡ Some b → a ≡ b
 some_same a b e = cc
 
+pub same_pieces_then : (a b c : Pieces) → SamePieces a b → SamePieces b c → SamePieces a c
+same_pieces_then a b c e f = record {
+  p0 = same_then a.p0 b.p0 c.p0 e.p0 f.p0;
+  p1 = same_then a.p1 b.p1 c.p1 e.p1 f.p1;
+  p2 = same_then a.p2 b.p2 c.p2 e.p2 f.p2;
+  p3 = same_then a.p3 b.p3 c.p3 e.p3 f.p3;
+}
+
 -- the same group after one call and another
 
 same_block_then : (a b c : Option ScratchBlock) → IsSameBlock a b → IsSameBlock b c → IsSameBlock a c
@@ -155,13 +164,15 @@ same_group_then a b c e f = record {
 
 -- whole regions, and the group that has one for a block
 
-pub home : (n : ℕ) (p : Span) (r : Extent) → r.size ≡ n → (p.region ≡ r) × IsWhole p → IsHome n p
-home n p r size whole = record { words = whole.1.1 ∙ ap (λ (x : Extent). x.size) whole.0 ∙ size; region = ap (λ (x : Extent). x.size) whole.0 ∙ size }
+pub home : (n : ℕ) (p : Span) (r : Extent) → n ≤ RECORD_WORDS → r.size ≡ n → (p.region ≡ r) × IsWhole p → IsHome n p
+home n p r few size whole =
+    let same = ap (λ (x : Extent). x.size) whole.0 ∙ size in
+    record { words = whole.1.1 ∙ same; region = rw same few }
 
-saram_is_not_daram : Saram ≡ Daram → ⊥
+pub saram_is_not_daram : Saram ≡ Daram → ⊥
 saram_is_not_daram h = cc
 
-external_is_not_daram : External ≡ Daram → ⊥
+pub external_is_not_daram : External ≡ Daram → ⊥
 external_is_not_daram h = cc
 
 pub ready_group : (g0 g1 : Group) (p : Span) → ((space : Space) → block_in g0 space ≡ None) → g1.daram ≡ Some (record { piece = p; align = 16 }) → SameBut Daram g0 g1 → IsHome 260 p
@@ -172,7 +183,7 @@ ready_group g0 g1 p none e same h = record {
   external = same.others External external_is_not_daram ∙ none External;
 }
 
-none_stays : (b b' : Option ScratchBlock) → IsSameBlock b b' → b ≡ None → b' ≡ None
+pub none_stays : (b b' : Option ScratchBlock) → IsSameBlock b b' → b ≡ None → b' ≡ None
 none_stays None None same e = refl
 none_stays None (Some b) same e = let p = same.0 in cc
 none_stays (Some b) b' same e = cc
@@ -183,8 +194,8 @@ all_gone g1 g2 g3 ready same went gone Saram = went.others Saram saram_is_not_da
 all_gone g1 g2 g3 ready same went gone External = went.others External external_is_not_daram ∙ none_stays g1.external g2.external same.external ready.external
 
 -- what came back is what was placed
-pub same_block_span : (p s : Span) (b1 b2 : Option ScratchBlock) → b1 ≡ Some (record { piece = p; align = 16 }) → IsSameBlock b1 b2 → block_piece b2 ≡ Some s → IsSamePiece (Some p) (Some s)
-same_block_span p s b1 b2 e1 same e2 =
+pub same_block_span : (align : ℕ) (p s : Span) (b1 b2 : Option ScratchBlock) → b1 ≡ Some (record { piece = p; align = align }) → IsSameBlock b1 b2 → block_piece b2 ≡ Some s → IsSamePiece (Some p) (Some s)
+same_block_span align p s b1 b2 e1 same e2 =
     subst (λ (x : Option Span). IsSamePiece (Some p) x) e2 (subst (λ (x : Option ScratchBlock). IsSamePiece (block_piece x) (block_piece b2)) e1 same.0)
 
 pub same_piece_span : (p s : Span) (a b : Option Span) → IsSamePiece (Some p) a → IsSamePiece a b → b ≡ Some s → IsSamePiece (Some p) (Some s)

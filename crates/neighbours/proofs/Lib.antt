@@ -1,1 +1,2 @@
 pub mod Housing
+pub mod Standing

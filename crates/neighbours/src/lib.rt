@@ -1,4 +1,5 @@
-//! Two instances of one group, for tests: what one gives doesn't depend on the other.
+//! Two instances of one group, for tests: what one gives doesn't depend on the other. The tests also move an instance, idle and
+//! active.
 #![tactic(auto)]
 
 ghost use Rattle.std.specs.Prelude.{◌≡◌, ◌≤◌, ◌++◌, ℤ, [], length, Option, None};
@@ -7,6 +8,8 @@ ghost use Rattle.record_loans.specs.Pieces.{SamePieces};
 ghost use Rattle.scratch_group.specs.Blocks.{BlocksArePoison, SameGroup};
 ghost use Rattle.lifecycle.specs.States.{Fits, IsLawful, IdleKeeps, SameInstance, all_outputs};
 
+#[cfg(test)]
+mod moves;
 #[cfg(test)]
 mod tests;
 

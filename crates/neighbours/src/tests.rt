@@ -1,6 +1,7 @@
 //! Two filters are active by turns in the scratch memory of one group: each gives the outputs of its own samples, with a control in
 //! between.
-ghost use Rattle.std.specs.Prelude.{◌≡◌, ◌≤◌, [], length, Some};
+ghost use Rattle.std.specs.Prelude.{◌≡◌, ◌≤◌, [], length, Some, None};
+ghost use Rattle.ialg.specs.Records.{unplaced};
 ghost use Rattle.record_loans.specs.Pieces.{IsSamePiece, SamePieces};
 ghost use Rattle.scratch_group.specs.Blocks.{SameGroup};
 ghost use Rattle.lifecycle.specs.States.{Fits, SameInstance};
@@ -32,7 +33,7 @@ fn table(rt: &impl Abort, p: &Params) -> MemTab
 }
 
 /// A filter that gives half of a sample and half of the one before it.
-fn filter(
+pub(crate) fn filter(
     rt: &impl Abort,
     object: Piece,
     kept: Piece,
@@ -45,6 +46,8 @@ fn filter(
     requires ready { IsReady group.now }
     ensures object { IsSamePiece (Some object) result.instance.own.p0 }
     ensures kept { IsSamePiece (Some kept) result.instance.own.p1 }
+    ensures others { (result.instance.own.p2 ≡ None) × (result.instance.own.p3 ≡ None) }
+    ensures table { unplaced result.instance.table ≡ two_taps }
     ensures none { SamePieces none.old none.new }
     ensures fits { Fits result.instance.table result.instance.own none.new group.now }
 {
@@ -78,7 +81,7 @@ fn control<M: Ialg>(
 }
 
 /// What the member gives for these samples. The group's blocks are overwritten afterwards.
-fn give<M: Ialg>(
+pub(crate) fn give<M: Ialg>(
     member: Idle<M>,
     none: &mut Pieces,
     group: &mut Group,
@@ -98,7 +101,9 @@ fn give<M: Ialg>(
 }
 
 /// Looks that there is no piece.
-fn nothing(rt: &impl Abort, piece: Option<Piece>) {
+pub(crate) fn nothing(rt: &impl Abort, piece: Option<Piece>)
+    ensures { piece ≡ None }
+{
     assert!(rt; piece.is_none(), "no piece");
     match piece {
         Some(_piece) => unreachable!(),
@@ -107,7 +112,9 @@ fn nothing(rt: &impl Abort, piece: Option<Piece>) {
 }
 
 /// Ends pieces that are none.
-fn end(rt: &impl Abort, pieces: Pieces) {
+pub(crate) fn end(rt: &impl Abort, pieces: Pieces)
+    ensures { pieces ≡ no_pieces }
+{
     let Pieces { p0, p1, p2, p3 } = pieces;
     nothing(rt, p0);
     nothing(rt, p1);
@@ -116,7 +123,7 @@ fn end(rt: &impl Abort, pieces: Pieces) {
 }
 
 /// The object and the kept words of an ended instance, which has no other pieces.
-fn both(rt: &impl Abort, pieces: Pieces) -> (Piece, Piece)
+pub(crate) fn both(rt: &impl Abort, pieces: Pieces) -> (Piece, Piece)
     ensures object { pieces.p0 ≡ Some result.0 }
     ensures kept { pieces.p1 ≡ Some result.1 }
 {

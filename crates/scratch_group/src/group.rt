@@ -210,7 +210,8 @@ impl Group {
         );
     }
 
-    /// Ends a group whose blocks were all taken out.
+    /// Ends a group whose blocks were all taken out. It answers nothing and leaves nothing behind, so that there is no more to say: a
+    /// block that still stood there would have to be given back, and that is what the call asks.
     pub fn end(self)
         requires { (space : Space) → block_in self space ≡ None }
     {

@@ -18,7 +18,7 @@ silent (Sample x ∷ h) = append-nil (outputs_by (λ t. []) h) ∙ silent h
 silent (Control c ∷ h) = silent h
 
 -- the write-once words last
-once_lasts : (rs : List MemRec) (wss : List (List ℤ)) (k : ℕ) → (record_at rs k).attr ≡ WriteOnce → words_of (lasting rs wss) k ≡ words_of wss k
+pub once_lasts : (rs : List MemRec) (wss : List (List ℤ)) (k : ℕ) → (record_at rs k).attr ≡ WriteOnce → words_of (lasting rs wss) k ≡ words_of wss k
 once_lasts rs wss k once = words_of-lasting rs wss k ∙ ap (λ a. lasting_words a (words_of wss k)) once
 
 -- what is kept of the words that last

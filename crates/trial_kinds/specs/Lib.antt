@@ -1,2 +1,3 @@
 pub mod Primed
 pub mod Starts
+pub mod Slicer

@@ -3,15 +3,18 @@
 //! [`Primed`] is lawful in a host of one poison word alone. [`start_in_poison`] and [`start_with_fill`] start it, and
 //! [`wake_in_poison`] activates it, by the laws of IALG, so that what these laws ask of new records and of scratch words is
 //! met by words that there are. [`give_sample`] gives it a sample by the law of one entry.
+//! [`Slicer`] has scratch records of two alignments in two spaces.
 #![tactic(auto)]
 
 mod primed;
+mod slicer;
 mod starts;
 #[cfg(test)]
 mod tests;
 
 use ialg::OBJECT_WORDS;
 pub use primed::Primed;
+pub use slicer::Slicer;
 pub use starts::{Awake, Held, give_sample, start_in_poison, start_with_fill, wake_in_poison};
 
 /// The kind word of a primed instance's object.
@@ -34,3 +37,27 @@ pub const SCRATCH: usize = 3;
 
 /// Where the write-once record is placed: right behind the object.
 pub const ONCE_BASE: u16 = OBJECT_WORDS as u16;
+
+/// The kind word of a slicer's object.
+pub const SLICER_KIND: i16 = 10;
+
+/// The parameters of a slicer: the low level and the high one.
+pub const LEVELS: usize = 2;
+
+/// The records of a slicer: the object, the levels, and a scratch record for each.
+pub const SLICER_RECORDS: usize = 4;
+
+/// The number of the scratch record of the low level.
+pub const LOW: usize = 2;
+
+/// The number of the scratch record of the high level.
+pub const HIGH: usize = 3;
+
+/// The words of the scratch record of the low level.
+pub const LOW_WORDS: u32 = 5;
+
+/// The words of the scratch record of the high level.
+pub const HIGH_WORDS: u32 = 3;
+
+/// The alignment of the scratch record of the high level.
+pub const HIGH_ALIGNMENT: u32 = 64;

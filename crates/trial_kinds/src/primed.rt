@@ -113,7 +113,7 @@ fn once_word(p: &[i16]) -> &[i16]
 }
 
 /// Reads the samples, so that they are known to have 16 bits.
-fn read(samples: &[i16])
+pub(crate) fn read(samples: &[i16])
     requires { length samples.now ≤ BLOCK_SAMPLES }
     ensures { All (FitsSigned w16) samples.now }
 {
