@@ -1,0 +1,5 @@
+pub mod Multiples
+pub mod PackingLemmas
+pub mod CompactionLemmas
+pub mod Lowers
+pub mod RowLemmas

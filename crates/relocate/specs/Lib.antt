@@ -1,0 +1,4 @@
+pub mod Spots
+pub mod Packing
+pub mod Compaction
+pub mod Rows

@@ -1,0 +1,16 @@
+//! Where the blocks of a space go when they are moved together.
+//!
+//! A block's packed place is the least multiple of its alignment not below the end of the block before it, once that one
+//! stands at its own packed place; the first block's is 0. A move takes the first block that stands elsewhere to its packed
+//! place. Places and sizes are counted in words of 16 bits, and blocks go by their index in place order, from 0.
+#![tactic(auto)]
+
+mod laws;
+mod packing;
+mod rows;
+#[cfg(test)]
+mod tests;
+
+pub use laws::{compactions, lowering_moves, moves_go_down};
+pub use packing::{Move, Spot, next_move};
+pub use rows::packing_rows;
