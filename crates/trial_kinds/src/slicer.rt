@@ -32,6 +32,8 @@ pub struct Slicer;
 impl Ialg for Slicer {
     ghost meaning = { slicer_meaning };
 
+    ghost same = { λ a b e i. a };
+
     ghost idle_keeps = { λ _ p rs wss h. HoldsLevels p rs wss h };
 
     ghost active_keeps = { λ _ p rs wss h. SpreadsLevels p rs wss h };

@@ -4,6 +4,7 @@ use Rattle.ialg.specs.Records.{unplaced}
 use Rattle.ialg.specs.Loans.{lent_words}
 use Rattle.ialg.proofs.Tables.{chosen, idle_lent_size}
 use Rattle.ialg.proofs.Taking.{visit}
+use Rattle.ialg.proofs.Loans.{SameLoans-then, taken_and_put}
 use Rattle.trial_kinds.specs.Slicer.{slicer_records, HoldsLevels}
 use Rattle.trial_kinds.proofs.Kept.{overwritten}
 use Rattle.trial_kinds.proofs.Levels.{asleep, fill_at, levels_named}
@@ -52,3 +53,12 @@ returns-in_default-clause-law c w lawful taken table lent writable new =
     let size = ap (λ r. length r.now) (others.others1 (λ e. omega arith)) ∙ sizes 1 in
     let named = levels_named m (rw same names) (rw same lent.apart) size in
     absurd (c.in_default.ensures.named _ slicer_records named (λ once. c.name_records.ensures.loans.writable ∙ writable))
+
+pub returns-clause-loans : goal.returns-clause-loans
+returns-clause-loans c =
+    let left = c.in-Some.ensures.left in
+    let back = c.put.ensures.back in
+    let later = taken_and_put _ _ _ _ left.0 left.2 c.put.ensures.others c.in-Some.ensures.found.may
+    (ap (λ r. r.ghost_name) back ∙ ap (λ r. r.ghost_name) left.1)
+    (ap (λ r. length r.now) back ∙ c.overwrite.auto.words ∙ ap (λ r. length r.now) left.1) in
+    SameLoans-then _ _ _ c.name_records.ensures.loans later
