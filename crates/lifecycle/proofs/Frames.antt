@@ -19,17 +19,21 @@ use Rattle.std.specs.Int.{next_multiple_of}
 use Rattle.ialg.proofs.Tables.{record_at-unplaced}
 use Rattle.lifecycle.proofs.Words.{active_words-same, size-same, ends-unplaced}
 
-piece_same : (a b : Pieces) (k : ℕ) → SamePieces a b → IsSamePiece (piece_at a k) (piece_at b k)
+pub piece_same : (a b : Pieces) (k : ℕ) → SamePieces a b → IsSamePiece (piece_at a k) (piece_at b k)
 piece_same a b zero s = s.p0
 piece_same a b (suc zero) s = s.p1
 piece_same a b (suc (suc zero)) s = s.p2
 piece_same a b (suc (suc (suc zero))) s = s.p3
 piece_same a b (suc (suc (suc (suc k)))) s = refl
 
-block_same : (a b : Group) (space : Space) → SameGroup a b → IsSamePiece (block_piece (block_in a space)) (block_piece (block_in b space))
+pub block_same : (a b : Group) (space : Space) → SameGroup a b → IsSamePiece (block_piece (block_in a space)) (block_piece (block_in b space))
 block_same a b Daram s = s.daram.0
 block_same a b Saram s = s.saram.0
 block_same a b External s = s.external.0
+
+-- the blocks are at the same places, with as many words
+abbrev pub AreSameBlocks : Group → Group → Type 0
+AreSameBlocks a b = (space : Space) → IsSamePiece (block_piece (block_in a space)) (block_piece (block_in b space))
 
 same_length : (a b : Option Span) → IsSamePiece a b → length (piece_words b) ≡ length (piece_words a)
 same_length None b e = rw e refl
@@ -50,33 +54,38 @@ length_by Scratch n at o o' s s' b b' eo es eb = take_same n (drop at b) (drop a
 length_by Persist n at o o' s s' b b' eo es eb = take_same n o o' eo
 length_by WriteOnce n at o o' s s' b b' eo es eb = take_same n s s' es
 
-record_length : (rs : List MemRec) (own own' shared shared' : Pieces) (g g' : Group) (k : ℕ) → SamePieces own own' → SamePieces shared shared' → SameGroup g g'
+record_length : (rs : List MemRec) (own own' shared shared' : Pieces) (g g' : Group) (k : ℕ) → SamePieces own own' → SamePieces shared shared' → AreSameBlocks g g'
     → length (record_words rs own' shared' g' k) ≡ length (record_words rs own shared g k)
-record_length rs own own' shared shared' g g' k so ss sg =
+record_length rs own own' shared shared' g g' k so ss sb =
     length_by (record_at rs k).attr (record_at rs k).size (scratch_offset rs k) _ _ _ _ _ _
-    (same_length _ _ (piece_same own own' k so)) (same_length _ _ (piece_same shared shared' k ss)) (same_length _ _ (block_same g g' (record_at rs k).space sg))
+    (same_length _ _ (piece_same own own' k so)) (same_length _ _ (piece_same shared shared' k ss)) (same_length _ _ (sb (record_at rs k).space))
 
-all_lengths : (rs : List MemRec) (own own' shared shared' : Pieces) (g g' : Group) (k : ℕ) → SamePieces own own' → SamePieces shared shared' → SameGroup g g'
+all_lengths : (rs : List MemRec) (own own' shared shared' : Pieces) (g g' : Group) (k : ℕ) → SamePieces own own' → SamePieces shared shared' → AreSameBlocks g g'
     → length (words_of (active_words rs own' shared' g') k) ≡ length (words_of (active_words rs own shared g) k)
-all_lengths rs own own' shared shared' g g' zero so ss sg = record_length rs own own' shared shared' g g' 0 so ss sg
-all_lengths rs own own' shared shared' g g' (suc zero) so ss sg = record_length rs own own' shared shared' g g' 1 so ss sg
-all_lengths rs own own' shared shared' g g' (suc (suc zero)) so ss sg = record_length rs own own' shared shared' g g' 2 so ss sg
-all_lengths rs own own' shared shared' g g' (suc (suc (suc zero))) so ss sg = record_length rs own own' shared shared' g g' 3 so ss sg
-all_lengths rs own own' shared shared' g g' (suc (suc (suc (suc k)))) so ss sg = refl
+all_lengths rs own own' shared shared' g g' zero so ss sb = record_length rs own own' shared shared' g g' 0 so ss sb
+all_lengths rs own own' shared shared' g g' (suc zero) so ss sb = record_length rs own own' shared shared' g g' 1 so ss sb
+all_lengths rs own own' shared shared' g g' (suc (suc zero)) so ss sb = record_length rs own own' shared shared' g g' 2 so ss sb
+all_lengths rs own own' shared shared' g g' (suc (suc (suc zero))) so ss sb = record_length rs own own' shared shared' g g' 3 so ss sb
+all_lengths rs own own' shared shared' g g' (suc (suc (suc (suc k)))) so ss sb = refl
 
-pub fits_stay : (rs : List MemRec) (own own' shared shared' : Pieces) (g g' : Group) → SamePieces own own' → SamePieces shared shared' → SameGroup g g'
+-- whichever member is active
+pub fits_at : (rs : List MemRec) (own own' shared shared' : Pieces) (g g' : Group) → SamePieces own own' → SamePieces shared shared' → AreSameBlocks g g'
     → Fits rs own shared g → Fits rs own' shared' g'
-fits_stay rs own own' shared shared' g g' so ss sg f = record {
+fits_at rs own own' shared shared' g g' so ss sb f = record {
   lent = record {
-    sizes = λ k. all_lengths rs own own' shared shared' g g' k so ss sg ∙ f.lent.sizes k;
+    sizes = λ k. all_lengths rs own own' shared shared' g g' k so ss sb ∙ f.lent.sizes k;
     apart = f.lent.apart;
   };
   spaces = record {
     own_space = λ k. same_space _ _ (piece_same own own' k so) (f.spaces.own_space k);
     shared_space = λ k. same_space _ _ (piece_same shared shared' k ss) (f.spaces.shared_space k);
-    block_space = λ space. same_space _ _ (block_same g g' space sg) (f.spaces.block_space space);
+    block_space = λ space. same_space _ _ (sb space) (f.spaces.block_space space);
   };
 }
+
+pub fits_stay : (rs : List MemRec) (own own' shared shared' : Pieces) (g g' : Group) → SamePieces own own' → SamePieces shared shared' → SameGroup g g'
+    → Fits rs own shared g → Fits rs own' shared' g'
+fits_stay rs own own' shared shared' g g' so ss sg f = fits_at rs own own' shared shared' g g' so ss (λ space. block_same g g' space sg) f
 
 reflexive : (p : Option Span) → IsSamePiece p p
 reflexive None = refl

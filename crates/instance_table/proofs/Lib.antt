@@ -1,0 +1,6 @@
+pub mod Housing
+pub mod Changes
+pub mod Activities
+pub mod Idles
+pub mod Told
+pub mod Ends

@@ -1,0 +1,103 @@
+use Rattle.std.proofs.Common.{◌≡◌, ℕ, ◌<◌, Option, Some, None, sym, ◌∙◌, ap, subst, arith, rules}
+use Rattle.std.proofs.lemmas.List.{set-set}
+use Rattle.std.proofs.lemmas.Option.{none-some}
+use Rattle.mem_rec.specs.declared.Space.{Space}
+use Rattle.record_loans.specs.Pieces.{SamePieces}
+use Rattle.record_loans.specs.Blocks.{IsSameBlock}
+use Rattle.scratch_group.specs.Blocks.{block_in}
+use Rattle.lifecycle.specs.declared.instance.Inst.TheVariants.{Running}
+use Rattle.lifecycle.specs.States.{SameInstance}
+use Rattle.instance_table.specs.declared.TheConstants.{GROUPS}
+use Rattle.instance_table.specs.Table.{once_at, group_at, group_of, slot_at, slot_active_in, activity_at, instance_of}
+use Rattle.instance_table.proofs.Changes.{read_ok_group, read_ok_once, fits_in_slot, tables_after_change, tables_then, ok_after_change, poisoned_after_change, activity_after_change, keeps_after_change}
+use Rattle.instance_table.proofs.Activities.{same_group_of, not_active, none_active_after, activity_after_wake}
+use Rattle.instance_table.proofs.activity.touch.Goals as goal
+use Rattle.instance_table.proofs.activity.touch.Goals.{After-put_in}
+use Rattle.instance_table.proofs.activity.touch.Given.{Over}
+
+pub unreachable-requires : goal.unreachable-requires
+unreachable-requires g c =
+    let group : c.take_out-inst.result.group ≡ c.in-Some.g =
+        ap group_of (sym c.take_out-inst.ensures.member) ∙ same_group_of _ _ (c.rest-rested.ensures.same.slot c.args.i) ∙ sym c.in-Some.ensures.group in
+    let there : slot_active_in (slot_at c.rest-rested.new.slots.items c.args.i) ≡ Some c.in-Some.g = rw (c.take_out-inst.ensures.member, c.in-Running.is) (ap Some group) in
+    let none = none_active_after (activity_at c.args.groups.now.items) (activity_at c.rest-rested.new.groups.items) c.in-Some.g c.rest-rested.ensures.activity in
+    none-some _ (sym none ∙ c.rest-rested.ensures.ok.active_known _ _ there)
+
+pub wake_in-active-requires : goal.wake_in-active-requires
+wake_in-active-requires g c =
+    let group : c.take_out-inst.result.group ≡ c.in-Some.g =
+        ap group_of (sym c.take_out-inst.ensures.member) ∙ same_group_of _ _ (c.rest-rested.ensures.same.slot c.args.i) ∙ sym c.in-Some.ensures.group in
+    let in_range : c.in-Some.g < GROUPS = subst (λ (k : ℕ). k < GROUPS) group (c.rest-rested.ensures.ok.group_range _ _ c.take_out-inst.ensures.member) in
+    let once_is = read_ok_once _ _ _ c.rest-rested.ensures.ok _ _ c.take_out-inst.ensures.member _ c.index_mut.ensures.value in
+    let group_is = read_ok_group _ _ _ c.rest-rested.ensures.ok _ in_range _ c.index_mut-in-Idling.ensures.value in
+    record { fits = fits_in_slot _ _ _ _ _ _ _ _ _ c.rest-rested.ensures.ok c.take_out-inst.ensures.member c.in-Idling.is group once_is group_is }
+
+-- after the deactivation the instance is in the same group, which has no active member
+module _ (g : Over) (c : After-put_in g) where
+  group : c.take_out-inst.result.group ≡ c.in-Some.g
+  group =
+      ap group_of (sym c.take_out-inst.ensures.member) ∙ same_group_of _ _ (c.rest-rested.ensures.same.slot c.args.i) ∙ sym c.in-Some.ensures.group
+
+  in_range : c.in-Some.g < GROUPS
+  in_range = subst (λ (k : ℕ). k < GROUPS) group (c.rest-rested.ensures.ok.group_range _ _ c.take_out-inst.ensures.member)
+
+  none : (group_at c.rest-rested.new.groups.items c.in-Some.g).active ≡ None
+  none = none_active_after (activity_at c.args.groups.now.items) (activity_at c.rest-rested.new.groups.items) c.in-Some.g c.rest-rested.ensures.activity
+
+  alone : (j : ℕ) → (group_at c.rest-rested.new.groups.items c.in-Some.g).active ≡ Some j → j ≡ c.args.i
+  alone j active = absurd (none-some _ (sym none ∙ active))
+
+  once_is : once_at c.rest-rested.new.once.items c.args.i ≡ c.index_mut.result.now
+  once_is = read_ok_once _ _ _ c.rest-rested.ensures.ok _ _ c.take_out-inst.ensures.member _ c.index_mut.ensures.value
+
+  group_is : group_at c.rest-rested.new.groups.items c.in-Some.g ≡ c.index_mut-in-Idling.result.now
+  group_is = read_ok_group _ _ _ c.rest-rested.ensures.ok _ in_range _ c.index_mut-in-Idling.ensures.value
+
+  same : SameInstance (instance_of c.take_out-inst.result.inst) (instance_of (Running c.wake_in-active.result))
+  same = rw c.in-Idling.is c.wake_in-active.ensures.same
+
+  shared : SamePieces (once_at c.rest-rested.new.once.items c.args.i) c.wake_in-active.new.shared
+  shared = rw once_is c.wake_in-active.ensures.shared
+
+  blocks : (space : Space) → IsSameBlock (block_in (group_at c.rest-rested.new.groups.items c.in-Some.g) space) (block_in c.wake_in-active.new.group space)
+  blocks space = rw group_is (c.wake_in-active.ensures.blocks space)
+
+pub returns-clause-ok : goal.returns-clause-ok
+returns-clause-ok g c =
+    rw (c.put_in.ensures.slots, c.take_out-inst.ensures.slots, set-set)
+    (ok_after_change _ _ _ _ _ _ _ _ _ c.rest-rested.ensures.ok c.take_out-inst.ensures.member (group g c) (alone g c)
+        c.wake_in-active.ensures.active (same g c) (shared g c) (blocks g c))
+
+pub returns-clause-poisoned : goal.returns-clause-poisoned
+returns-clause-poisoned g c =
+    poisoned_after_change _ _ _ _ _ _ _ (Running c.wake_in-active.result) c.wake_in-active.new.shared _ c.rest-rested.ensures.ok c.take_out-inst.ensures.member (group g c) (alone g c)
+        c.wake_in-active.ensures.active
+        c.args.poison c.rest-rested.ensures.poisoned (λ e. absurd (none-some _ (sym e ∙ c.wake_in-active.ensures.active)))
+
+pub returns-clause-same : goal.returns-clause-same
+returns-clause-same g c =
+    rw (c.put_in.ensures.slots, c.take_out-inst.ensures.slots, set-set)
+    (tables_then _ _ _ _ _ _ _ _ _ c.rest-rested.ensures.same
+    (tables_after_change _ _ _ _ _ _ _ _ _ c.rest-rested.ensures.ok c.take_out-inst.ensures.member (group g c) (alone g c)
+        c.wake_in-active.ensures.active (same g c) (shared g c) (blocks g c)))
+
+pub returns-clause-activity : goal.returns-clause-activity
+returns-clause-activity g c k =
+    let idle = not_active (group_at c.args.groups.now.items c.in-Some.g).active c.args.i
+        (λ active. none-some _ (sym c.in-Some.ensures.idle ∙ c.requires.ok.active_there _ _ (in_range g c) active)) in
+    rw (← c.in-Some.ensures.group)
+    (activity_after_change _ _ _ _ _ _ _ (Running c.wake_in-active.result) c.wake_in-active.new.shared _ c.rest-rested.ensures.ok c.take_out-inst.ensures.member (group g c) (alone g c)
+        c.wake_in-active.ensures.active k
+    ∙ activity_after_wake (activity_at c.args.groups.now.items) (activity_at c.rest-rested.new.groups.items) c.in-Some.g c.args.i _
+        c.rest-rested.ensures.activity idle c.wake_in-active.ensures.active (rw (group_is g c) c.wake_in-active.ensures.activations) k)
+
+pub returns-clause-keeps : goal.returns-clause-keeps
+returns-clause-keeps g c histories keeps =
+    rw (c.put_in.ensures.slots, c.take_out-inst.ensures.slots, set-set)
+    (keeps_after_change _ _ _ _ _ _ _ _ _ _ c.rest-rested.ensures.ok c.take_out-inst.ensures.member (group g c) (alone g c)
+        c.wake_in-active.ensures.active
+        g.M.Ialg.meaning g.M.Ialg.idle_keeps g.M.Ialg.active_keeps c.args.poison histories
+        (λ before. c.wake_in-active.ensures.keeps c.args.poison (histories c.args.i)
+            (rw (group_is g c) at (c.rest-rested.ensures.poisoned c.in-Some.g (in_range g c) (none g c)))
+            (rw (c.in-Idling.is, once_is g c) at before))
+        (c.rest-rested.ensures.keeps histories keeps))

@@ -1,0 +1,84 @@
+use Rattle.std.proofs.Common.{◌≡◌, ℕ, Option, Some, sym, ◌∙◌, refl, ap, subst}
+use Rattle.std.proofs.lemmas.Option.{same_Some, none-some}
+use Rattle.mem_rec.specs.declared.Space.{Space}
+use Rattle.record_loans.specs.Pieces.{SamePieces}
+use Rattle.record_loans.specs.Blocks.{IsSameBlock}
+use Rattle.scratch_group.specs.Blocks.{block_in}
+use Rattle.lifecycle.specs.declared.instance.Inst.TheVariants.{Running}
+use Rattle.lifecycle.specs.States.{SameInstance}
+use Rattle.instance_table.specs.Table.{slot_at, once_at, group_at, instance_of, activity_at}
+use Rattle.instance_table.proofs.Housing.{same_blocks}
+use Rattle.instance_table.proofs.Changes.{read_slot, read_ok_group, read_ok_once, known_active, kept_in_slot, fits_in_slot, tables_after_change, ok_after_change, poisoned_after_change, activity_after_change, keeps_after_step}
+use Rattle.instance_table.proofs.Activities.{activity_stays}
+use Rattle.instance_table.proofs.calls.run.Goals as goal
+use Rattle.instance_table.proofs.calls.run.Goals.{After-once-1}
+use Rattle.instance_table.proofs.calls.run.Given.{Over}
+
+pub run-requires-clause-fits : goal.run-requires-clause-fits
+run-requires-clause-fits g c =
+    let in_slot = read_slot c.args.slots.now.items c.args.i _ c.requires.active _ c.index_mut.ensures.value ∙ c.in-Some.is in
+    let once_is = read_ok_once _ _ _ c.requires.ok _ _ in_slot _ c.index_mut-in-Running.ensures.value in
+    let group_is = read_ok_group _ _ _ c.requires.ok _ (c.requires.ok.group_range c.args.i _ in_slot) _ c.index_mut-group.ensures.value in
+    fits_in_slot _ _ _ _ _ _ _ _ _ c.requires.ok in_slot c.in-Running.is refl once_is group_is
+
+-- the instance is the active member of its group
+module _ (g : Over) (c : After-once-1 g) where
+  in_slot : slot_at c.args.slots.now.items c.args.i ≡ Some c.in-Some.member
+  in_slot = read_slot c.args.slots.now.items c.args.i _ c.requires.active _ c.index_mut.ensures.value ∙ c.in-Some.is
+
+  once_is : once_at c.args.once.now.items c.args.i ≡ c.index_mut-in-Running.result.now
+  once_is = read_ok_once _ _ _ c.requires.ok _ _ in_slot _ c.index_mut-in-Running.ensures.value
+
+  group_is : group_at c.args.groups.now.items c.in-Some.member.group ≡ c.index_mut-group.result.now
+  group_is = read_ok_group _ _ _ c.requires.ok _ (c.requires.ok.group_range c.args.i _ in_slot) _ c.index_mut-group.ensures.value
+
+  known : (group_at c.args.groups.now.items c.in-Some.member.group).active ≡ Some c.args.i
+  known = known_active _ _ _ c.requires.ok c.args.i _ in_slot c.requires.active
+
+  alone : (j : ℕ) → (group_at c.args.groups.now.items c.in-Some.member.group).active ≡ Some j → j ≡ c.args.i
+  alone j other = same_Some j c.args.i (sym other ∙ known)
+
+  same : SameInstance (instance_of c.in-Some.member.inst) (instance_of (Running c.run.new.self))
+  same = rw c.in-Running.is c.run.ensures.same
+
+  shared : SamePieces (once_at c.args.once.now.items c.args.i) c.run.new.shared
+  shared = rw once_is c.run.ensures.shared
+
+  blocks : (space : Space) → IsSameBlock (block_in (group_at c.args.groups.now.items c.in-Some.member.group) space) (block_in c.run.new.group space)
+  blocks space = rw group_is (same_blocks _ _ c.run.ensures.group space)
+
+  now : c.run.new.group.active ≡ Some c.args.i
+  now = c.run.ensures.group.active ∙ rw group_is at known
+
+pub returns-clause-ok : goal.returns-clause-ok
+returns-clause-ok g c =
+    ok_after_change _ _ _ _ _ _ _ _ _ c.requires.ok (in_slot g c) refl (alone g c) (now g c) (same g c) (shared g c) (blocks g c)
+
+pub returns-clause-poisoned : goal.returns-clause-poisoned
+returns-clause-poisoned g c w before =
+    poisoned_after_change _ _ _ _ _ _ _ (Running c.run.new.self) c.run.new.shared _ c.requires.ok (in_slot g c) refl (alone g c) (now g c)
+        w before (λ e. absurd (none-some _ (sym e ∙ now g c)))
+
+pub returns-clause-same : goal.returns-clause-same
+returns-clause-same g c =
+    tables_after_change _ _ _ _ _ _ _ _ _ c.requires.ok (in_slot g c) refl (alone g c) (now g c) (same g c) (shared g c) (blocks g c)
+
+pub returns-clause-activity : goal.returns-clause-activity
+returns-clause-activity g c k =
+    activity_after_change _ _ _ _ _ _ _ (Running c.run.new.self) c.run.new.shared _ c.requires.ok (in_slot g c) refl (alone g c) (now g c) k
+    ∙ activity_stays (activity_at c.args.groups.now.items) c.in-Some.member.group _
+        (now g c ∙ sym (known g c)) (rw (group_is g c) c.run.ensures.group.activations) k
+
+pub returns-clause-keeps : goal.returns-clause-keeps
+returns-clause-keeps g c w histories keeps =
+    keeps_after_step _ _ _ _ _ _ _ _ _ _ c.requires.ok (in_slot g c) refl (alone g c) (now g c)
+        g.M.Ialg.meaning g.M.Ialg.idle_keeps g.M.Ialg.active_keeps w histories _
+        (λ before. c.run.ensures.keeps w (histories c.args.i) (rw (c.in-Running.is, once_is g c, group_is g c) at before))
+        keeps
+
+pub returns-clause-output : goal.returns-clause-output
+returns-clause-output g c w histories keeps m at lawful =
+    let is : c.in-Some.member ≡ m = same_Some _ _ (sym (in_slot g c) ∙ at) in
+    let inst : m.inst ≡ Running c.in-Running.active = ap (λ q. q.inst) (sym is) ∙ c.in-Running.is in
+    let kept = kept_in_slot _ _ _ _ _ _ _ _ (in_slot g c) c.in-Running.is (once_is g c) (group_is g c) g.M.Ialg.meaning g.M.Ialg.idle_keeps g.M.Ialg.active_keeps w histories keeps in
+    rw inst (c.run.ensures.output w (histories c.args.i) (rw inst at lawful) kept)

@@ -1,0 +1,147 @@
+//! Which member of a group is active.
+ghost use Rattle.std.specs.Prelude.{◌≡◌, ℕ, ℤ, ◌<◌, length, Option, Some, None, IsSome, is_some};
+ghost use Rattle.ialg.specs.History.{History};
+ghost use Rattle.record_loans.specs.Pieces.{SamePieces};
+ghost use Rattle.record_loans.specs.Blocks.{IsSameBlock};
+ghost use Rattle.mem_rec.specs.declared.Space.{Space};
+ghost use Rattle.scratch_group.specs.Blocks.{block_in, count_after, BlocksArePoison};
+ghost use Rattle.lifecycle.specs.States.{Fits, SameInstance, IdleKeeps, ActiveKeeps};
+ghost use Rattle.instance_table.specs.declared.TheConstants.{GROUPS};
+ghost use Rattle.instance_table.specs.Table.{slot_at, group_at, group_of, slot_active_in, activity_at, rested, touched_by, quieted_by, with_activity, TablesOk, ArePoisoned};
+ghost use Rattle.instance_table.specs.Keeps.{Keeps};
+ghost use Rattle.instance_table.specs.Frames.{SameTables};
+
+use crate::member::{Member, active_group, idle_in, put_in, take_out};
+use ialg::Ialg;
+use lifecycle::{Active, Idle, Inst};
+use record_loans::Pieces;
+use scratch_group::Group;
+
+/// Deactivates the active member of a group. In a host of a poison word the blocks are filled with it.
+fn rest_in<M: Ialg>(active: Active<M>, shared: &mut Pieces, group: &mut Group, poison: Option<i16>) -> Idle<M>
+    requires fits { Fits active.instance.table active.instance.own shared.old group.old }
+    ensures same { SameInstance active.instance result.instance }
+    ensures shared { SamePieces shared.old shared.new }
+    ensures blocks { (space : Space) → IsSameBlock (block_in group.old space) (block_in group.new space) }
+    ensures active { group.new.active ≡ None }
+    ensures activations { group.new.activations ≡ group.old.activations }
+    ensures poisoned { BlocksArePoison poison group.new }
+    ensures keeps { (w : Option ℤ) (h : History) → ActiveKeeps M.meaning M.active_keeps active.instance w shared.old group.old h
+        → IdleKeeps M.meaning M.idle_keeps result.instance w shared.new h }
+{
+    let idle = active.rest(shared, group);
+    group.set_active(None);
+    if let Some(word) = poison {
+        group.fill(word);
+    }
+    idle
+}
+
+/// Activates the member of this number of a group that has no active member.
+fn wake_in<M: Ialg>(idle: Idle<M>, shared: &mut Pieces, group: &mut Group, i: u8) -> Active<M>
+    requires fits { Fits idle.instance.table idle.instance.own shared.old group.old }
+    ensures same { SameInstance idle.instance result.instance }
+    ensures shared { SamePieces shared.old shared.new }
+    ensures blocks { (space : Space) → IsSameBlock (block_in group.old space) (block_in group.new space) }
+    ensures active { group.new.active ≡ Some i }
+    ensures activations { group.new.activations ≡ count_after group.old.activations (Some i) }
+    ensures keeps { (w : Option ℤ) (h : History) → BlocksArePoison w group.old
+        → IdleKeeps M.meaning M.idle_keeps idle.instance w shared.old h
+        → ActiveKeeps M.meaning M.active_keeps result.instance w shared.new group.new h }
+{
+    let active = idle.wake(shared, group);
+    group.set_active(Some(i));
+    active
+}
+
+/// Deactivates the active member of a group, if there is one, and says whether there was one.
+pub fn rest<M: Ialg>(
+    slots: &mut Vec<Option<Member<M>>>,
+    once: &mut Vec<Pieces>,
+    groups: &mut Vec<Group>,
+    poison: Option<i16>,
+    g: u8,
+) -> bool
+    requires range { g < GROUPS }
+    requires ok { TablesOk slots.old.items once.old.items groups.old.items }
+    requires poisoned { ArePoisoned poison groups.old.items }
+    ensures ok { TablesOk slots.new.items once.new.items groups.new.items }
+    ensures poisoned { ArePoisoned poison groups.new.items }
+    ensures active { result ≡ is_some (group_at groups.old.items g).active }
+    ensures same { SameTables slots.old.items once.old.items groups.old.items slots.new.items once.new.items groups.new.items }
+    ensures activity { (k : ℕ) → activity_at groups.new.items k
+        ≡ with_activity (activity_at groups.old.items) g (rested (activity_at groups.old.items g)) k }
+    ensures keeps { (histories : ℕ → History) → Keeps M.meaning M.idle_keeps M.active_keeps poison slots.old.items once.old.items groups.old.items histories
+        → Keeps M.meaning M.idle_keeps M.active_keeps poison slots.new.items once.new.items groups.new.items histories }
+{
+    let Some(i) = groups[g as usize].active() else {
+        return false;
+    };
+    let Member { group: _, inst } = take_out(slots, i);
+    match inst {
+        Inst::Running(active) => {
+            let idle = rest_in(active, &mut once[i as usize], &mut groups[g as usize], poison);
+            put_in(slots, i, Member { group: g, inst: Inst::Idling(idle) });
+            true
+        }
+        Inst::Idling(_idle) => unreachable!(),
+    }
+}
+
+/// Activates the instance, unless it is active; another active member of its group is deactivated first.
+pub fn touch<M: Ialg>(
+    slots: &mut Vec<Option<Member<M>>>,
+    once: &mut Vec<Pieces>,
+    groups: &mut Vec<Group>,
+    poison: Option<i16>,
+    i: u8,
+)
+    requires living { IsSome (slot_at slots.old.items i) }
+    requires ok { TablesOk slots.old.items once.old.items groups.old.items }
+    requires poisoned { ArePoisoned poison groups.old.items }
+    ensures ok { TablesOk slots.new.items once.new.items groups.new.items }
+    ensures poisoned { ArePoisoned poison groups.new.items }
+    ensures active { slot_active_in (slot_at slots.new.items i) ≡ Some (group_of (slot_at slots.new.items i)) }
+    ensures same { SameTables slots.old.items once.old.items groups.old.items slots.new.items once.new.items groups.new.items }
+    ensures activity { (k : ℕ) → activity_at groups.new.items k ≡ touched_by slots.old.items groups.old.items i k }
+    ensures keeps { (histories : ℕ → History) → Keeps M.meaning M.idle_keeps M.active_keeps poison slots.old.items once.old.items groups.old.items histories
+        → Keeps M.meaning M.idle_keeps M.active_keeps poison slots.new.items once.new.items groups.new.items histories }
+{
+    let Some(g) = idle_in(slots, i) else {
+        return;
+    };
+    let _rested = rest(slots, once, groups, poison, g);
+    let Member { group: _, inst } = take_out(slots, i);
+    match inst {
+        Inst::Idling(idle) => {
+            let active = wake_in(idle, &mut once[i as usize], &mut groups[g as usize], i);
+            put_in(slots, i, Member { group: g, inst: Inst::Running(active) });
+        }
+        Inst::Running(_active) => unreachable!(),
+    }
+}
+
+/// Deactivates the instance, if it is active.
+pub fn quiet<M: Ialg>(
+    slots: &mut Vec<Option<Member<M>>>,
+    once: &mut Vec<Pieces>,
+    groups: &mut Vec<Group>,
+    poison: Option<i16>,
+    i: u8,
+)
+    requires living { IsSome (slot_at slots.old.items i) }
+    requires ok { TablesOk slots.old.items once.old.items groups.old.items }
+    requires poisoned { ArePoisoned poison groups.old.items }
+    ensures ok { TablesOk slots.new.items once.new.items groups.new.items }
+    ensures poisoned { ArePoisoned poison groups.new.items }
+    ensures idle { slot_active_in (slot_at slots.new.items i) ≡ None }
+    ensures same { SameTables slots.old.items once.old.items groups.old.items slots.new.items once.new.items groups.new.items }
+    ensures activity { (k : ℕ) → activity_at groups.new.items k ≡ quieted_by slots.old.items groups.old.items i k }
+    ensures keeps { (histories : ℕ → History) → Keeps M.meaning M.idle_keeps M.active_keeps poison slots.old.items once.old.items groups.old.items histories
+        → Keeps M.meaning M.idle_keeps M.active_keeps poison slots.new.items once.new.items groups.new.items histories }
+{
+    let active = active_group(slots, i);
+    if let Some(g) = active {
+        let _was_active = rest(slots, once, groups, poison, g);
+    }
+}

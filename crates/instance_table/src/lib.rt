@@ -1,0 +1,25 @@
+//! The instances of a host, in their groups: which member of each group is active, and which history each instance keeps.
+//!
+//! At most one member of a group is active. Activation is lazy: a member that is touched becomes the active one, and stays so until
+//! another is touched, or until it is put to rest.
+#![tactic(auto)]
+
+mod activity;
+mod calls;
+mod life;
+mod member;
+mod moves;
+mod tables;
+
+pub use activity::{quiet, rest, touch};
+pub use calls::{command, process};
+pub use life::{end, start};
+pub use member::Member;
+pub use moves::tell_members;
+pub use tables::{empty_groups, empty_once, empty_slots, end_groups, end_once, end_slots};
+
+/// Instances have the numbers below this.
+pub const INSTANCES: usize = 64;
+
+/// Groups have the numbers below this.
+pub const GROUPS: u8 = 8;

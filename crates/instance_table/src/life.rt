@@ -1,0 +1,99 @@
+//! The start and the end of instances.
+ghost use Rattle.std.specs.Prelude.{◌≡◌, ◌≢◌, ◌<◌, ℕ, ℤ, [], Option, Some, None, IsSome};
+ghost use Rattle.ialg.specs.History.{History};
+ghost use Rattle.ialg.specs.Records.{unplaced, AreNew};
+ghost use Rattle.record_loans.specs.Pieces.{SamePieces};
+ghost use Rattle.scratch_group.specs.Words.{idle_words};
+ghost use Rattle.lifecycle.specs.States.{Fits};
+ghost use Rattle.lifecycle.specs.Moves.{HasRoom, settled};
+ghost use Rattle.instance_table.specs.declared.TheConstants.{INSTANCES, GROUPS};
+ghost use Rattle.instance_table.specs.Table.{slot_at, once_at, no_pieces, group_at, own_of, activity_at, quieted_by, TablesOk, ArePoisoned};
+ghost use Rattle.instance_table.specs.Keeps.{Keeps, with_history};
+ghost use Rattle.instance_table.specs.Frames.{OthersStay, OthersSame, IsStarted};
+
+use crate::activity::quiet;
+use crate::member::{Member, end_absent, put_in, take_out};
+use ialg::{Ialg, Params};
+use lifecycle::{Idle, Inst};
+use mem_rec::MemTab;
+use record_loans::Pieces;
+use scratch_group::Group;
+use std::mem;
+
+/// Starts an instance in an empty slot, in these pieces. It is idle.
+pub fn start<M: Ialg>(
+    slots: &mut Vec<Option<Member<M>>>,
+    once: &mut Vec<Pieces>,
+    groups: &Vec<Group>,
+    i: u8,
+    g: u8,
+    kind: M,
+    params: Params,
+    table: MemTab,
+    own: Pieces,
+    shared: Pieces,
+)
+    requires number { i < INSTANCES }
+    requires group { g < GROUPS }
+    requires empty { slot_at slots.old.items i ≡ None }
+    requires none { once_at once.old.items i ≡ no_pieces }
+    requires ok { TablesOk slots.old.items once.old.items groups.now.items }
+    requires fits { HasRoom (record { kind = kind; params = params; table = table; own = own }) shared (group_at groups.now.items g) }
+    ensures ok { TablesOk slots.new.items once.new.items groups.now.items }
+    ensures others { OthersStay i slots.old.items once.old.items slots.new.items once.new.items }
+    ensures started { IsStarted g (settled (record { kind = kind; params = params; table = table; own = own }) shared (group_at groups.now.items g)) (slot_at slots.new.items i) }
+    ensures pieces { SamePieces shared (once_at once.new.items i) }
+    ensures keeps { (w : Option ℤ) (histories : ℕ → History) → M.meaning.table kind params.items ≡ Some (unplaced table)
+        → AreNew w (M.meaning.fill kind params.items) table (idle_words table own shared)
+        → Keeps M.meaning M.idle_keeps M.active_keeps w slots.old.items once.old.items groups.now.items histories
+        → Keeps M.meaning M.idle_keeps M.active_keeps w slots.new.items once.new.items groups.now.items (with_history histories i []) }
+{
+    let mut shared = shared;
+    let idle = Idle::init(kind, params, table, own, &mut shared, &groups[g as usize]);
+    end_absent(mem::replace(&mut once[i as usize], shared));
+    put_in(slots, i, Member { group: g, inst: Inst::Idling(idle) });
+}
+
+/// Ends an instance, and gives back the pieces of its own records and those of its write-once records. An active one is deactivated
+/// first. All pieces come back, whatever its kind answers to algFree.
+pub fn end<M: Ialg>(
+    slots: &mut Vec<Option<Member<M>>>,
+    once: &mut Vec<Pieces>,
+    groups: &mut Vec<Group>,
+    poison: Option<i16>,
+    i: u8,
+) -> (Pieces, Pieces)
+    requires living { IsSome (slot_at slots.old.items i) }
+    requires ok { TablesOk slots.old.items once.old.items groups.old.items }
+    requires poisoned { ArePoisoned poison groups.old.items }
+    ensures ok { TablesOk slots.new.items once.new.items groups.new.items }
+    ensures poisoned { ArePoisoned poison groups.new.items }
+    ensures gone { slot_at slots.new.items i ≡ None }
+    ensures none { once_at once.new.items i ≡ no_pieces }
+    ensures own { SamePieces (own_of (slot_at slots.old.items i)) result.0 }
+    ensures shared { SamePieces (once_at once.old.items i) result.1 }
+    ensures others { OthersSame i slots.old.items once.old.items groups.old.items slots.new.items once.new.items groups.new.items }
+    ensures activity { (k : ℕ) → activity_at groups.new.items k ≡ quieted_by slots.old.items groups.old.items i k }
+    ensures keeps { (histories : ℕ → History) → Keeps M.meaning M.idle_keeps M.active_keeps poison slots.old.items once.old.items groups.old.items histories
+        → Keeps M.meaning M.idle_keeps M.active_keeps poison slots.new.items once.new.items groups.new.items histories }
+{
+    quiet(slots, once, groups, poison, i);
+    let Member { group: g, inst } = take_out(slots, i);
+    let shared = mem::replace(&mut once[i as usize], Pieces::none());
+    match inst {
+        Inst::Idling(idle) => end_idle(idle, shared, &groups[g as usize]),
+        Inst::Running(_active) => unreachable!(),
+    }
+}
+
+/// Ends an idle instance, once its kind has been told by algFree.
+fn end_idle<M: Ialg>(idle: Idle<M>, shared: Pieces, group: &Group) -> (Pieces, Pieces)
+    requires fits { Fits idle.instance.table idle.instance.own shared group.now }
+    ensures own { SamePieces idle.instance.own result.0 }
+    ensures shared { SamePieces shared result.1 }
+{
+    let mut idle = idle;
+    let mut shared = shared;
+    let _told = idle.freed(&mut shared, group);
+    (idle.finish(), shared)
+}

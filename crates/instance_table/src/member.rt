@@ -1,0 +1,96 @@
+//! Slots of the table of instances.
+ghost use Rattle.std.specs.Prelude.{◌≡◌, ◌≢◌, ℕ, ◌<◌, length, Option, Some, None, IsSome, IfSome, IfNone, OnSome, slice_set};
+ghost use Rattle.instance_table.specs.Table.{slot_at, no_pieces, group_of, slot_active_in};
+
+use ialg::Ialg;
+use lifecycle::Inst;
+use record_loans::Pieces;
+use space_raw::Piece;
+use std::mem;
+
+/// An instance, and the number of its group.
+pub struct Member<M> {
+    pub group: u8,
+    pub inst: Inst<M>,
+}
+
+/// Takes the instance out of its slot.
+pub(crate) fn take_out<M: Ialg>(slots: &mut Vec<Option<Member<M>>>, i: u8) -> Member<M>
+    requires { IsSome (slot_at slots.old.items i) }
+    ensures member { slot_at slots.old.items i ≡ Some result }
+    ensures slots { slots.new.items ≡ slice_set slots.old.items i None }
+    ensures length { length slots.new.items ≡ length slots.old.items }
+    ensures emptied { slot_at slots.new.items i ≡ None }
+    ensures others { (j : ℕ) → j ≢ i → slot_at slots.new.items j ≡ slot_at slots.old.items j }
+{
+    match mem::replace(&mut slots[i as usize], None) {
+        Some(member) => member,
+        None => unreachable!(),
+    }
+}
+
+/// Puts an instance into an empty slot.
+pub(crate) fn put_in<M: Ialg>(slots: &mut Vec<Option<Member<M>>>, i: u8, member: Member<M>)
+    requires room { i < length slots.old.items }
+    requires empty { slot_at slots.old.items i ≡ None }
+    ensures slots { slots.new.items ≡ slice_set slots.old.items i (Some member) }
+    ensures length { length slots.new.items ≡ length slots.old.items }
+    ensures filled { slot_at slots.new.items i ≡ Some member }
+    ensures others { (j : ℕ) → j ≢ i → slot_at slots.new.items j ≡ slot_at slots.old.items j }
+{
+    match mem::replace(&mut slots[i as usize], Some(member)) {
+        Some(_) => unreachable!(),
+        None => {}
+    }
+}
+
+/// The group of an idle instance, or None where the instance is active.
+pub(crate) fn idle_in<M: Ialg>(slots: &Vec<Option<Member<M>>>, i: u8) -> Option<u8>
+    requires { IsSome (slot_at slots.now.items i) }
+    ensures active { IfNone result (slot_active_in (slot_at slots.now.items i) ≡ Some (group_of (slot_at slots.now.items i))) }
+    ensures group { IfSome result (λ g. g ≡ group_of (slot_at slots.now.items i)) }
+    ensures idle { OnSome result (slot_active_in (slot_at slots.now.items i) ≡ None) }
+{
+    match &slots[i as usize] {
+        Some(member) => match &member.inst {
+            Inst::Idling(_) => Some(member.group),
+            Inst::Running(_) => None,
+        },
+        None => unreachable!(),
+    }
+}
+
+/// Ends a table of no pieces.
+pub(crate) fn end_absent(pieces: Pieces)
+    requires { pieces ≡ no_pieces }
+{
+    let Pieces { p0, p1, p2, p3 } = pieces;
+    end_none(p0);
+    end_none(p1);
+    end_none(p2);
+    end_none(p3);
+}
+
+/// Ends a piece that isn't there.
+fn end_none(piece: Option<Piece>)
+    requires { piece ≡ None }
+{
+    match piece {
+        Some(_piece) => unreachable!(),
+        None => {}
+    }
+}
+
+/// The group of an active instance, or None where the instance is idle.
+pub(crate) fn active_group<M: Ialg>(slots: &Vec<Option<Member<M>>>, i: u8) -> Option<u8>
+    requires { IsSome (slot_at slots.now.items i) }
+    ensures { result ≡ slot_active_in (slot_at slots.now.items i) }
+{
+    match &slots[i as usize] {
+        Some(member) => match &member.inst {
+            Inst::Idling(_) => None,
+            Inst::Running(_) => Some(member.group),
+        },
+        None => unreachable!(),
+    }
+}

@@ -1,0 +1,101 @@
+//! Tables without instances: how they are made and ended.
+ghost use Rattle.std.specs.Prelude.{◌≡◌, ℕ, ℤ, Option, None, length, IfOk};
+ghost use Rattle.ialg.specs.History.{History};
+ghost use Rattle.mem_rec.specs.declared.Space.{Space};
+ghost use Rattle.scratch_group.specs.Blocks.{block_in};
+ghost use Rattle.instance_table.specs.declared.TheConstants.{INSTANCES, GROUPS};
+ghost use Rattle.instance_table.specs.Table.{slot_at, once_at, no_pieces, group_at, activity_at, untouched, TablesOk, ArePoisoned};
+ghost use Rattle.instance_table.specs.Keeps.{Keeps};
+
+use crate::member::{Member, end_absent};
+use crate::{GROUPS, INSTANCES};
+use ialg::Ialg;
+use record_loans::Pieces;
+use scratch_group::Group;
+use std::alloc::{AllocError, Global};
+
+/// A slot for each instance number, each of them empty.
+pub fn empty_slots<M: Ialg>(alloc: Global) -> Result<Vec<Option<Member<M>>>, AllocError>
+    ensures count { IfOk result (λ v. length v.items ≡ INSTANCES) }
+    ensures empty { IfOk result (λ v. (i : ℕ) → slot_at v.items i ≡ None) }
+{
+    let mut slots = Vec::with_capacity(alloc, INSTANCES)?;
+    for _ in 0..INSTANCES {
+        slots.push_reserved(None);
+    }
+    Ok(slots)
+}
+
+/// For each instance number the pieces of its write-once records, of which there are none.
+pub fn empty_once(alloc: Global) -> Result<Vec<Pieces>, AllocError>
+    ensures count { IfOk result (λ v. length v.items ≡ INSTANCES) }
+    ensures empty { IfOk result (λ v. (i : ℕ) → once_at v.items i ≡ no_pieces) }
+{
+    let mut once = Vec::with_capacity(alloc, INSTANCES)?;
+    for _ in 0..INSTANCES {
+        once.push_reserved(Pieces::none());
+    }
+    Ok(once)
+}
+
+/// Groups without blocks and members.
+pub fn empty_groups(alloc: Global) -> Result<Vec<Group>, AllocError>
+    ensures count { IfOk result (λ v. length v.items ≡ GROUPS) }
+    ensures blocks { IfOk result (λ v. (g : ℕ) (space : Space) → block_in (group_at v.items g) space ≡ None) }
+    ensures activity { IfOk result (λ v. (g : ℕ) → activity_at v.items g ≡ untouched) }
+{
+    let mut groups = Vec::with_capacity(alloc, GROUPS as usize)?;
+    for _ in 0..GROUPS {
+        groups.push_reserved(Group::new());
+    }
+    Ok(groups)
+}
+
+/// Ends a table of empty slots.
+pub fn end_slots<M: Ialg>(slots: Vec<Option<Member<M>>>)
+    requires { (i : ℕ) → slot_at slots.items i ≡ None }
+{
+    let mut slots = slots;
+    while let Some(slot) = slots.pop() {
+        match slot {
+            Some(_member) => unreachable!(),
+            None => {}
+        }
+    }
+    slots.destroy_empty();
+}
+
+/// Ends a table of no pieces.
+pub fn end_once(once: Vec<Pieces>)
+    requires { (i : ℕ) → once_at once.items i ≡ no_pieces }
+{
+    let mut once = once;
+    while let Some(pieces) = once.pop() {
+        end_absent(pieces);
+    }
+    once.destroy_empty();
+}
+
+/// Ends groups whose blocks were all taken out.
+pub fn end_groups(groups: Vec<Group>)
+    requires { (g : ℕ) (space : Space) → block_in (group_at groups.items g) space ≡ None }
+{
+    let mut groups = groups;
+    while let Some(group) = groups.pop() {
+        group.end();
+    }
+    groups.destroy_empty();
+}
+
+/// The law that tables without instances are in order, and keep any histories. The call does nothing: its contract is the law.
+pub fn in_order<M: Ialg>(slots: &Vec<Option<Member<M>>>, once: &Vec<Pieces>, groups: &Vec<Group>)
+    requires slots { length slots.now.items ≡ INSTANCES }
+    requires once { length once.now.items ≡ INSTANCES }
+    requires groups { length groups.now.items ≡ GROUPS }
+    requires empty { (i : ℕ) → slot_at slots.now.items i ≡ None }
+    requires blocks { (g : ℕ) (space : Space) → block_in (group_at groups.now.items g) space ≡ None }
+    requires untouched { (g : ℕ) → activity_at groups.now.items g ≡ untouched }
+    ensures ok { TablesOk slots.now.items once.now.items groups.now.items }
+    ensures poisoned { (w : Option ℤ) → ArePoisoned w groups.now.items }
+    ensures keeps { (w : Option ℤ) (histories : ℕ → History) → Keeps M.meaning M.idle_keeps M.active_keeps w slots.now.items once.now.items groups.now.items histories }
+{}
