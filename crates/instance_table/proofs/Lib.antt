@@ -4,3 +4,4 @@ pub mod Activities
 pub mod Idles
 pub mod Told
 pub mod Ends
+pub mod Histories
