@@ -1,10 +1,15 @@
 -- What each call of an algorithm does to the words of its records, by the laws of its kind. No public contract speaks of it.
-use Rattle.std.specs.Prelude.{ℤ, ◌≡◌, Bool, true, false, IsTrue, List, [], ◌∷◌, ◌++◌, Option, Some}
+use Rattle.std.specs.Prelude.{ℕ, ℤ, ◌≡◌, Bool, true, false, IsTrue, List, [], ◌∷◌, ◌++◌, Option, Some}
 use Rattle.mem_rec.specs.declared.MemRec.{MemRec}
+use Rattle.mem_rec.specs.declared.Attr.TheVariants.{WriteOnce}
 use Rattle.ialg.specs.History.{History, Ctl, Control, with_samples}
 use Rattle.ialg.specs.Meaning.{Meaning, Status, outputs_of, status_of}
-use Rattle.ialg.specs.Records.{AllLent, LastingLent, lasting, unplaced, AreNew, ScratchIsPoison}
+use Rattle.ialg.specs.Records.{record_at, words_of, AllLent, LastingLent, lasting, unplaced, AreNew, ScratchIsPoison}
 use Rattle.lifecycle.specs.States.{Relation}
+
+-- of any kind: the words of the write-once records, where these aren't lent for writing
+abbrev pub StaysOnce : List MemRec → Bool → List (List ℤ) → List (List ℤ) → Type 0
+StaysOnce rs writable old new = (k : ℕ) → (record_at rs k).attr ≡ WriteOnce → writable ≡ false → words_of new k ≡ words_of old k
 
 -- the start
 abbrev pub Started : {M : Type 0} → Meaning M → Relation M → M → List ℤ → List MemRec → Bool → List (List ℤ) → List (List ℤ) → Type 0

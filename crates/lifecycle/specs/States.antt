@@ -1,12 +1,13 @@
 -- When an instance keeps a history.
-use Rattle.std.specs.Prelude.{ℤ, ◌≡◌, IsTrue, List, Option}
+use Rattle.std.specs.Prelude.{ℕ, ℤ, ◌≡◌, IsTrue, List, take, Option}
 use Rattle.mem_rec.specs.declared.MemRec.{MemRec}
+use Rattle.mem_rec.specs.declared.Attr.TheVariants.{WriteOnce}
 use Rattle.ialg.specs.History.{History, Ctl}
 use Rattle.ialg.specs.Meaning.{Meaning, Status, outputs_of, status_of}
-use Rattle.ialg.specs.Records.{AllLent}
+use Rattle.ialg.specs.Records.{record_at, AllLent}
 use Rattle.scratch_group.specs.declared.group.Group.{Group}
 use Rattle.record_loans.specs.declared.pieces.Pieces.{Pieces}
-use Rattle.record_loans.specs.Pieces.{SamePieces}
+use Rattle.record_loans.specs.Pieces.{piece_at, piece_words, SamePieces}
 use Rattle.scratch_group.specs.Words.{active_words, idle_words, InSpaces}
 use Rattle.lifecycle.specs.declared.instance.Instance.{Instance}
 
@@ -25,6 +26,11 @@ pub record SameInstance {M : Type 0} (old new : Instance M) : Type 0 where
   pub params : new.params ≡ old.params
   pub table : new.table ≡ old.table
   pub own : SamePieces old.own new.own
+
+-- each write-once record has the same words
+abbrev pub SameOnce : List MemRec → Pieces → Pieces → Type 0
+SameOnce rs old new = (k : ℕ) → (record_at rs k).attr ≡ WriteOnce
+    → take (record_at rs k).size (piece_words (piece_at new k)) ≡ take (record_at rs k).size (piece_words (piece_at old k))
 
 -- the instance is lawful in a host of this poison word, or of none
 abbrev pub IsLawful : {M : Type 0} → Meaning M → Instance M → Option ℤ → Type 0

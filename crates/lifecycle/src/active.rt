@@ -5,7 +5,7 @@ ghost use Rattle.ialg.specs.Views.{control_of, answer_of};
 ghost use Rattle.scratch_group.specs.Blocks.{SameGroup};
 ghost use Rattle.record_loans.specs.Pieces.{piece_at, with_piece, SamePieces};
 ghost use Rattle.lifecycle.specs.Moves.{CanRestore, with_back, settled, HasRoom};
-ghost use Rattle.lifecycle.specs.States.{Fits, SameInstance, IsLawful, Accepts, all_outputs, status_after, IdleKeeps, ActiveKeeps};
+ghost use Rattle.lifecycle.specs.States.{Fits, SameInstance, SameOnce, IsLawful, Accepts, all_outputs, status_after, IdleKeeps, ActiveKeeps};
 
 use crate::Idle;
 use crate::instance::{Instance, restore};
@@ -30,6 +30,7 @@ impl<M: Ialg> Active<M> {
         requires within { length input.now ≤ BLOCK_SAMPLES }
         ensures same { SameInstance self.old.instance self.new.instance }
         ensures shared { SamePieces shared.old shared.new }
+        ensures once { SameOnce self.old.instance.table shared.old shared.new }
         ensures group { SameGroup group.old group.new }
         ensures fits { Fits self.new.instance.table self.new.instance.own shared.new group.new }
         ensures bounded { length out.new.items ≤ length input.now }
@@ -64,6 +65,7 @@ impl<M: Ialg> Active<M> {
         requires fits { Fits self.old.instance.table self.old.instance.own shared.old group.old }
         ensures same { SameInstance self.old.instance self.new.instance }
         ensures shared { SamePieces shared.old shared.new }
+        ensures once { SameOnce self.old.instance.table shared.old shared.new }
         ensures group { SameGroup group.old group.new }
         ensures fits { Fits self.new.instance.table self.new.instance.own shared.new group.new }
         ensures keeps { (w : Option ℤ) (h : History) → Accepts M.meaning self.old.instance (control_of c.now)
@@ -91,6 +93,7 @@ impl<M: Ialg> Active<M> {
         requires fits { Fits self.instance.table self.instance.own shared.old group.old }
         ensures same { SameInstance self.instance result.instance }
         ensures shared { SamePieces shared.old shared.new }
+        ensures once { SameOnce self.instance.table shared.old shared.new }
         ensures group { SameGroup group.old group.new }
         ensures fits { Fits result.instance.table result.instance.own shared.new group.new }
         ensures keeps { (w : Option ℤ) (h : History) → ActiveKeeps M.meaning M.active_keeps self.instance w shared.old group.old h
@@ -129,6 +132,7 @@ impl<M: Ialg> Active<M> {
         requires fits { HasRoom (with_back self.old.instance back) shared.old group.old }
         ensures same { SameInstance (settled (with_back self.old.instance back) shared.old group.old) self.new.instance }
         ensures shared { SamePieces shared.old shared.new }
+        ensures once { SameOnce self.new.instance.table shared.old shared.new }
         ensures group { SameGroup group.old group.new }
         ensures fits { Fits self.new.instance.table self.new.instance.own shared.new group.new }
         ensures keeps { (w : Option ℤ) (h : History) → ActiveKeeps M.meaning M.active_keeps (with_back self.old.instance back) w shared.old group.old h

@@ -7,7 +7,7 @@ ghost use Rattle.scratch_group.specs.Blocks.{BlocksArePoison, SameGroup};
 ghost use Rattle.record_loans.specs.Pieces.{piece_at, with_piece, SamePieces};
 ghost use Rattle.scratch_group.specs.Words.{idle_words};
 ghost use Rattle.lifecycle.specs.Moves.{CanRestore, with_back, settled, HasRoom};
-ghost use Rattle.lifecycle.specs.States.{Fits, SameInstance, IsLawful, IdleKeeps, ActiveKeeps};
+ghost use Rattle.lifecycle.specs.States.{Fits, SameInstance, SameOnce, IsLawful, IdleKeeps, ActiveKeeps};
 
 use crate::Active;
 use crate::instance::{Instance, restore};
@@ -64,6 +64,7 @@ impl<M: Ialg> Idle<M> {
         requires fits { Fits self.instance.table self.instance.own shared.old group.old }
         ensures same { SameInstance self.instance result.instance }
         ensures shared { SamePieces shared.old shared.new }
+        ensures once { SameOnce self.instance.table shared.old shared.new }
         ensures group { SameGroup group.old group.new }
         ensures fits { Fits result.instance.table result.instance.own shared.new group.new }
         ensures keeps { (w : Option ℤ) (h : History) → BlocksArePoison w group.old
@@ -101,6 +102,7 @@ impl<M: Ialg> Idle<M> {
         requires fits { Fits self.old.instance.table self.old.instance.own shared.old group.now }
         ensures same { SameInstance self.old.instance self.new.instance }
         ensures shared { SamePieces shared.old shared.new }
+        ensures once { SameOnce self.old.instance.table shared.old shared.new }
         ensures fits { Fits self.new.instance.table self.new.instance.own shared.new group.now }
         ensures keeps { (w : Option ℤ) (h : History) → IdleKeeps M.meaning M.idle_keeps self.old.instance w shared.old h
             → IdleKeeps M.meaning M.idle_keeps self.new.instance w shared.new h }
@@ -149,6 +151,7 @@ impl<M: Ialg> Idle<M> {
         requires fits { HasRoom (with_back self.old.instance back) shared.old group.now }
         ensures same { SameInstance (settled (with_back self.old.instance back) shared.old group.now) self.new.instance }
         ensures shared { SamePieces shared.old shared.new }
+        ensures once { SameOnce self.new.instance.table shared.old shared.new }
         ensures fits { Fits self.new.instance.table self.new.instance.own shared.new group.now }
         ensures keeps { (w : Option ℤ) (h : History) → IdleKeeps M.meaning M.idle_keeps (with_back self.old.instance back) w shared.old h
             → IdleKeeps M.meaning M.idle_keeps self.new.instance w shared.new h }

@@ -1,15 +1,11 @@
 //! What an idle and an active instance have in common.
 ghost use Rattle.std.specs.Prelude.{◌≡◌};
-ghost use Rattle.scratch_group.specs.Words.{placed, HasPieces, InSpaces};
 ghost use Rattle.lifecycle.specs.Moves.{restored, CanRestore};
-ghost use Rattle.lifecycle.specs.Rooms.{NoNeed, Separate};
-ghost use Rattle.lifecycle.specs.States.{Fits};
 
 use crate::{Active, Idle};
 use ialg::Params;
 use mem_rec::MemTab;
 use record_loans::Pieces;
-use scratch_group::Group;
 use space_raw::Piece;
 
 /// An instance: its kind, its parameters, its table with bases, and the pieces of its persistent records.
@@ -35,16 +31,4 @@ pub(crate) fn restore(own: &mut Pieces, back: Option<(usize, Piece)>)
         Some((k, piece)) => own.put_in(k, piece),
         None => {}
     }
-}
-
-/// Where no block must be placed, each record that lasts has its piece and no two of these meet, there is room for the
-/// records. The call does nothing: its contract is the law.
-pub fn room(table: &MemTab, own: &Pieces, shared: &Pieces, group: &Group)
-    requires need { NoNeed table.now group.now }
-    requires pieces { HasPieces table.now own.now shared.now }
-    requires separate { Separate table.now own.now shared.now group.now }
-    requires spaces { InSpaces own.now shared.now group.now }
-    ensures { Fits (placed table.now own.now shared.now group.now) own.now shared.now group.now }
-{
-    let _records = table.records();
 }

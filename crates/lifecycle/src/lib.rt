@@ -8,8 +8,10 @@
 mod active;
 mod idle;
 mod instance;
+mod laws;
 mod steps;
 
 pub use active::Active;
 pub use idle::Idle;
-pub use instance::{Inst, Instance, room};
+pub use instance::{Inst, Instance};
+pub use laws::room;

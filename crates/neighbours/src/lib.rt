@@ -47,8 +47,8 @@ pub fn feed<M: Ialg>(
     awake.rest(shared, group)
 }
 
-/// The first instance is given two blocks, and between them the second is given one, in a host of no poison word. What the first
-/// gives are the outputs of its own two blocks.
+/// The first instance is given two blocks, and between them the second is given one, in a host of no poison word. What each gives are
+/// the outputs of its own blocks.
 pub fn interleave<M: Ialg, N: Ialg>(
     first: Idle<M>,
     second: Idle<N>,
@@ -71,6 +71,10 @@ pub fn interleave<M: Ialg, N: Ialg>(
         → IdleKeeps M.meaning M.idle_keeps first.instance None shared.old h
         → all_outputs M.meaning first.instance (with_samples (with_samples h before.now) after.now)
         ≡ (all_outputs M.meaning first.instance h ++ out.new.items) ++ more.new.items }
+    ensures output_between { (h : History) → IsLawful N.meaning second.instance None
+        → IdleKeeps N.meaning N.idle_keeps second.instance None others.old h
+        → all_outputs N.meaning second.instance (with_samples h between.now)
+        ≡ all_outputs N.meaning second.instance h ++ other.new.items }
 {
     let first = feed(first, shared, group, before, out);
     let second = feed(second, others, group, between, other);

@@ -10,10 +10,10 @@ ghost use Rattle.neighbours.specs.Homes.{IsHome, IsReady, no_pieces, two_taps};
 use crate::feed;
 use alg_fir::Fir;
 use ialg::{Block, Ctl, Ialg, PARAMETER_WORDS, Params, Status, Words, copied};
-use lifecycle::Idle;
+use lifecycle::{Idle, room};
 use mem_rec::{MemTab, Space};
 use record_loans::Pieces;
-use scratch_group::Group;
+use scratch_group::{Group, lends_at_the_layout};
 use space_raw::{Piece, Region};
 use std::process::Abort;
 
@@ -153,8 +153,11 @@ fn members_take_turns(rt: HostRuntime) {
     assert_eq!(rt; out.as_slice(), [5i16].as_slice());
     let (first, status) = control(first, &mut none, &mut group, &Ctl::Get);
     assert_eq!(rt; status, Status::Words(words(&rt, &[16384, 16384])));
-    let (first, out) = give(first, &mut none, &mut group, &[6]);
+    let (mut first, out) = give(first, &mut none, &mut group, &[6]);
     assert_eq!(rt; out.as_slice(), [5i16].as_slice());
+    assert!(rt; first.accepts(&Ctl::Get));
+    let told = first.freed(&mut none, &group);
+    assert_eq!(rt; told.len(), 3);
     let (second, out) = give(second, &mut other_none, &mut group, &[20]);
     assert_eq!(rt; out.as_slice(), [15i16].as_slice());
 
@@ -169,4 +172,10 @@ fn members_take_turns(rt: HostRuntime) {
     other_saram.close(other_kept);
     end(&rt, none);
     end(&rt, other_none);
+}
+
+#[test]
+fn laws_are_stated(_rt: HostRuntime) {
+    lends_at_the_layout();
+    room();
 }

@@ -8,7 +8,7 @@ use Rattle.space_heap.specs.Places.{Range, end_of, free_from, lower_place}
 use Rattle.relocate.specs.declared.packing.Spot.{Spot}
 use Rattle.relocate.specs.declared.packing.Move.{Move}
 use Rattle.relocate.specs.Spots.{AreSpots, AreSpotsFrom, IsSpot, range_of, ranges_of}
-use Rattle.relocate.specs.Packing.{next_move_of}
+use Rattle.relocate.specs.Packing.{next_move_of, with_place, after_move}
 use Rattle.relocate.proofs.Multiples.{least_multiple}
 use Rattle.relocate.proofs.PackingLemmas.{align_at, end_from}
 use Rattle.relocate.proofs.CompactionLemmas.{next_goes}
@@ -81,3 +81,20 @@ next_lowered before s after m are some e index =
     subst (λ k. m.to ≡ next_multiple_of (end_from 0 (take k spots)) (align_at spots k)) index (next_goes spots m e) in
     lowered_to before s after are some
     ∙ sym (goes ∙ ap (λ xs. next_multiple_of (end_from 0 xs) (align_at spots (length before))) (take-append_seam before (s ∷ after)) ∙ ap (next_multiple_of (end_from 0 before)) (align_behind before s after))
+
+-- the blocks after a move
+
+with_place-at : (before : List Spot) (s : Spot) (after : List Spot) (to : ℕ) → with_place (before ++ s ∷ after) (length before) to ≡ before ++ record s { place = to } ∷ after
+with_place-at [] s after to = refl
+with_place-at (x ∷ xs) s after to = ap (λ (ss : List Spot). x ∷ ss) (with_place-at xs s after to)
+
+ranges-around : (before : List Spot) (s : Spot) (after : List Spot) → ranges_of (before ++ s ∷ after) ≡ ranges_of before ++ range_of s ∷ ranges_of after
+ranges-around [] s after = refl
+ranges-around (x ∷ xs) s after = ap (λ (rs : List Range). range_of x ∷ rs) (ranges-around xs s after)
+
+pub ranges_moved : (before : List Spot) (s : Spot) (after : List Spot) (m : Move) → m.index ≡ length before
+    → ranges_of (after_move (before ++ s ∷ after) m) ≡ ranges_of before ++ range_of (record s { place = m.to }) ∷ ranges_of after
+ranges_moved before s after m index =
+    ap (λ k. ranges_of (with_place (before ++ s ∷ after) k m.to)) index
+    ∙ ap ranges_of (with_place-at before s after m.to)
+    ∙ ranges-around before (record s { place = m.to }) after

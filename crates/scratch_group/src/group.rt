@@ -170,8 +170,7 @@ impl Group {
     pub fn fill(&mut self, word: i16)
         ensures blocks { (space : Space) → block_in self.new space ≡ filled word (block_in self.old space) }
         ensures poison { BlocksArePoison (Some word) self.new }
-        ensures active { self.new.active ≡ self.old.active }
-        ensures activations { self.new.activations ≡ self.old.activations }
+        ensures same { SameGroup self.old self.new }
     {
         fill_block(&mut self.daram, word);
         fill_block(&mut self.saram, word);

@@ -19,4 +19,5 @@ returns g c = record {
       let second = c.feed-first-2.ensures.output None (with_samples h c.args.before.now) (λ space. tt) (rw (same.kind, same.params) lawful) kept in
       let both = rw (same.kind, same.params) at second in
       both ∙ ap (λ (ys : List ℤ). ys ++ c.feed-first-2.new.out.items) first;
+  output_between = λ h lawful keeps. c.feed-second.ensures.output None h (λ space. tt) lawful keeps;
 }

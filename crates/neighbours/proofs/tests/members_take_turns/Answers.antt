@@ -76,25 +76,25 @@ close-requires-clause-whole g c =
 pub close-requires-2-clause-region : goal.close-requires-2-clause-region
 close-requires-2-clause-region g c =
     let whole = rw c.expect-external.ensures at c.make-2.ensures.whole in
-    let same = same_piece_span c.expect-external.result.1 _ _ c.give-first-2.result.0.instance.own.p0 c.filter-first.ensures.object (same_then _ _ _ (same_then _ _ _ c.give-first.ensures.same.own.p0 c.control-first.ensures.same.own.p0) c.give-first-2.ensures.same.own.p0) (sym (ap (λ (ps : Pieces). ps.p0) c.finish.ensures) ∙ c.both-object.ensures.object) in
+    let same = same_piece_span c.expect-external.result.1 _ _ c.freed-told.new.self.instance.own.p0 c.filter-first.ensures.object (same_then _ _ _ (same_then _ _ _ (same_then _ _ _ c.give-first.ensures.same.own.p0 c.control-first.ensures.same.own.p0) c.give-first-2.ensures.same.own.p0) c.freed-told.ensures.same.own.p0) (sym (ap (λ (ps : Pieces). ps.p0) c.finish.ensures) ∙ c.both-object.ensures.object) in
     (still_whole c.expect-external.result.1 _ c.expect-external.result.0 whole same).0
 
 pub close-requires-2-clause-whole : goal.close-requires-2-clause-whole
 close-requires-2-clause-whole g c =
     let whole = rw c.expect-external.ensures at c.make-2.ensures.whole in
-    let same = same_piece_span c.expect-external.result.1 _ _ c.give-first-2.result.0.instance.own.p0 c.filter-first.ensures.object (same_then _ _ _ (same_then _ _ _ c.give-first.ensures.same.own.p0 c.control-first.ensures.same.own.p0) c.give-first-2.ensures.same.own.p0) (sym (ap (λ (ps : Pieces). ps.p0) c.finish.ensures) ∙ c.both-object.ensures.object) in
+    let same = same_piece_span c.expect-external.result.1 _ _ c.freed-told.new.self.instance.own.p0 c.filter-first.ensures.object (same_then _ _ _ (same_then _ _ _ (same_then _ _ _ c.give-first.ensures.same.own.p0 c.control-first.ensures.same.own.p0) c.give-first-2.ensures.same.own.p0) c.freed-told.ensures.same.own.p0) (sym (ap (λ (ps : Pieces). ps.p0) c.finish.ensures) ∙ c.both-object.ensures.object) in
     (still_whole c.expect-external.result.1 _ c.expect-external.result.0 whole same).1
 
 pub close-requires-3-clause-region : goal.close-requires-3-clause-region
 close-requires-3-clause-region g c =
     let whole = rw c.expect-saram.ensures at c.make-3.ensures.whole in
-    let same = same_piece_span c.expect-saram.result.1 _ _ c.give-first-2.result.0.instance.own.p1 c.filter-first.ensures.kept (same_then _ _ _ (same_then _ _ _ c.give-first.ensures.same.own.p1 c.control-first.ensures.same.own.p1) c.give-first-2.ensures.same.own.p1) (sym (ap (λ (ps : Pieces). ps.p1) c.finish.ensures) ∙ c.both-object.ensures.kept) in
+    let same = same_piece_span c.expect-saram.result.1 _ _ c.freed-told.new.self.instance.own.p1 c.filter-first.ensures.kept (same_then _ _ _ (same_then _ _ _ (same_then _ _ _ c.give-first.ensures.same.own.p1 c.control-first.ensures.same.own.p1) c.give-first-2.ensures.same.own.p1) c.freed-told.ensures.same.own.p1) (sym (ap (λ (ps : Pieces). ps.p1) c.finish.ensures) ∙ c.both-object.ensures.kept) in
     (still_whole c.expect-saram.result.1 _ c.expect-saram.result.0 whole same).0
 
 pub close-requires-3-clause-whole : goal.close-requires-3-clause-whole
 close-requires-3-clause-whole g c =
     let whole = rw c.expect-saram.ensures at c.make-3.ensures.whole in
-    let same = same_piece_span c.expect-saram.result.1 _ _ c.give-first-2.result.0.instance.own.p1 c.filter-first.ensures.kept (same_then _ _ _ (same_then _ _ _ c.give-first.ensures.same.own.p1 c.control-first.ensures.same.own.p1) c.give-first-2.ensures.same.own.p1) (sym (ap (λ (ps : Pieces). ps.p1) c.finish.ensures) ∙ c.both-object.ensures.kept) in
+    let same = same_piece_span c.expect-saram.result.1 _ _ c.freed-told.new.self.instance.own.p1 c.filter-first.ensures.kept (same_then _ _ _ (same_then _ _ _ (same_then _ _ _ c.give-first.ensures.same.own.p1 c.control-first.ensures.same.own.p1) c.give-first-2.ensures.same.own.p1) c.freed-told.ensures.same.own.p1) (sym (ap (λ (ps : Pieces). ps.p1) c.finish.ensures) ∙ c.both-object.ensures.kept) in
     (still_whole c.expect-saram.result.1 _ c.expect-saram.result.0 whole same).1
 
 pub close-requires-4-clause-region : goal.close-requires-4-clause-region

@@ -1,5 +1,6 @@
 use Rattle.std.proofs.Common.{refl}
 use Rattle.lifecycle.proofs.Frames.{fits_stay}
+use Rattle.lifecycle.proofs.Once.{once_active}
 use Rattle.lifecycle.proofs.active.Active.control.Goals as goal
 
 pub lend-requires-clause-sizes : goal.lend-requires-clause-sizes
@@ -9,7 +10,10 @@ pub returns-clause-fits : goal.returns-clause-fits
 returns-clause-fits g c = fits_stay _ _ _ _ _ _ _ c.lend.ensures.own c.lend.ensures.shared c.lend.ensures.group c.requires.fits
 
 pub returns-clause-keeps : goal.returns-clause-keeps
-returns-clause-keeps g c w h takes keeps lawful = (c.lend.ensures.done c.args.self.now.instance.params.items w h lawful takes refl c.requires.fits.lent (keeps lawful)).0
+returns-clause-keeps g c w h takes keeps lawful = (c.lend.ensures.done.1 c.args.self.now.instance.params.items w h lawful takes refl c.requires.fits.lent (keeps lawful)).0
 
 pub returns-clause-status : goal.returns-clause-status
-returns-clause-status g c w h lawful takes keeps = (c.lend.ensures.done c.args.self.now.instance.params.items w h lawful takes refl c.requires.fits.lent (keeps lawful)).1
+returns-clause-status g c w h lawful takes keeps = (c.lend.ensures.done.1 c.args.self.now.instance.params.items w h lawful takes refl c.requires.fits.lent (keeps lawful)).1
+
+pub returns-clause-once : goal.returns-clause-once
+returns-clause-once g c = once_active c.args.self.now.instance.table c.args.self.now.instance.own c.lend.new.own c.args.shared.now c.lend.new.shared c.args.group.now c.lend.new.self c.lend.ensures.done.0

@@ -3,6 +3,7 @@ use Rattle.record_loans.specs.declared.pieces.Pieces.{Pieces}
 use Rattle.scratch_group.specs.Words.{active_words}
 use Rattle.lifecycle.proofs.Frames.{fits_stay, sizes_restored, fits_settled, unplaced-placed}
 use Rattle.lifecycle.proofs.Keeps.{active_moved}
+use Rattle.lifecycle.proofs.Once.{once_active}
 use Rattle.lifecycle.proofs.active.Active.moved.Goals as goal
 
 pub placed-self-requires-clause-sizes : goal.placed-self-requires-clause-sizes
@@ -23,5 +24,8 @@ returns-clause-keeps g c w h keeps lawful =
     let fits = fits_settled c.args.self.now.instance.table c.placed-self.result c.restore.new.own _ c.args.shared.now c.args.group.now c.restore.ensures c.placed-self.ensures c.requires.fits in
     let same = unplaced-placed c.args.self.now.instance.table c.placed-self.result c.restore.new.own c.args.shared.now c.args.group.now c.placed-self.ensures in
     active_moved g.M.Ialg.meaning g.M.Ialg.idle_keeps g.M.Ialg.active_keeps c.args.self.now.instance.kind c.placed-self.result c.args.self.now.instance.table c.restore.new.own c.lend.new.own c.args.shared.now c.lend.new.shared c.args.group.now c.lend.new.self
-    same fits c.lend.ensures.done c.args.self.now.instance.params.items w h lawful
+    same fits c.lend.ensures.done.1 c.args.self.now.instance.params.items w h lawful
     (subst (λ (o : Pieces). g.M.Ialg.active_keeps c.args.self.now.instance.kind c.args.self.now.instance.params.items c.args.self.now.instance.table (active_words c.args.self.now.instance.table o c.args.shared.now c.args.group.now) h) (sym c.restore.ensures) (keeps lawful))
+
+pub returns-clause-once : goal.returns-clause-once
+returns-clause-once g c = once_active c.placed-self.result c.restore.new.own c.lend.new.own c.args.shared.now c.lend.new.shared c.args.group.now c.lend.new.self c.lend.ensures.done.0
