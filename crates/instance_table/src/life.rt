@@ -1,5 +1,5 @@
 //! The start and the end of instances.
-ghost use Rattle.std.specs.Prelude.{◌≡◌, ◌≢◌, ◌<◌, ℕ, ℤ, [], Option, Some, None, IsSome};
+ghost use Rattle.std.specs.Prelude.{◌≡◌, ◌≢◌, ◌<◌, ℕ, ℤ, [], Option, Some, None, IsSome, IsTrue};
 ghost use Rattle.ialg.specs.History.{History};
 ghost use Rattle.ialg.specs.Records.{unplaced, AreNew};
 ghost use Rattle.record_loans.specs.Pieces.{SamePieces};
@@ -43,7 +43,8 @@ pub fn start<M: Ialg>(
     ensures others { OthersStay i slots.old.items once.old.items slots.new.items once.new.items }
     ensures started { IsStarted g (settled (record { kind = kind; params = params; table = table; own = own }) shared (group_at groups.now.items g)) (slot_at slots.new.items i) }
     ensures pieces { SamePieces shared (once_at once.new.items i) }
-    ensures keeps { (w : Option ℤ) (histories : ℕ → History) → M.meaning.table kind params.items ≡ Some (unplaced table)
+    ensures keeps { (w : Option ℤ) (histories : ℕ → History)
+        → (IsTrue (M.meaning.lawful kind params.items w) → M.meaning.table kind params.items ≡ Some (unplaced table))
         → AreNew w (M.meaning.fill kind params.items) table (idle_words table own shared)
         → Keeps M.meaning M.idle_keeps M.active_keeps w slots.old.items once.old.items groups.now.items histories
         → Keeps M.meaning M.idle_keeps M.active_keeps w slots.new.items once.new.items groups.now.items (with_history histories i []) }

@@ -29,4 +29,5 @@ pub returns-clause-keeps : goal.returns-clause-keeps
 returns-clause-keeps g c w histories table new keeps =
     rw (c.put_in.ensures.slots, c.replace.ensures.after)
     (keeps_after_quiet _ _ _ _ c.args.i (Some (record { group = c.args.g; inst = Idling c.init-idle.result })) _ c.requires.ok c.requires.number (ap slot_active_in c.requires.empty) refl
-        g.M.Ialg.meaning g.M.Ialg.idle_keeps g.M.Ialg.active_keeps w histories _ (c.init-idle.ensures.keeps w table new) keeps)
+        g.M.Ialg.meaning g.M.Ialg.idle_keeps g.M.Ialg.active_keeps w histories _
+        (λ lawful. c.init-idle.ensures.keeps w (table (rw (c.init-idle.ensures.same.kind, c.init-idle.ensures.same.params) at lawful)) new lawful) keeps)
