@@ -4,6 +4,7 @@ use Rattle.std.proofs.lemmas.List.{length-set, get_or_read}
 use Rattle.std.proofs.lemmas.Bool.Decides.{eqb_tells}
 use Rattle.std.proofs.lemmas.Bool.{true≢false}
 use Rattle.std.proofs.lemmas.Option.{none-some, same_Some}
+use Rattle.mem_rec.specs.declared.MemRec.{MemRec}
 use Rattle.mem_rec.specs.declared.Space.{Space}
 use Rattle.ialg.specs.Meaning.{Meaning}
 use Rattle.ialg.specs.History.{History}
@@ -17,7 +18,7 @@ use Rattle.scratch_group.specs.Blocks.{block_in, BlocksArePoison, SameGroup}
 use Rattle.lifecycle.specs.declared.instance.Instance.{Instance}
 use Rattle.lifecycle.specs.declared.instance.Inst.{Inst}
 use Rattle.lifecycle.specs.declared.instance.Inst.TheVariants.{Idling, Running}
-use Rattle.lifecycle.specs.States.{Relation, Fits, SameInstance}
+use Rattle.lifecycle.specs.States.{Relation, Fits, SameInstance, SameOnce}
 use Rattle.lifecycle.proofs.Frames.{same_pieces, same_group}
 use Rattle.instance_table.specs.declared.TheConstants.{INSTANCES, GROUPS}
 use Rattle.instance_table.specs.declared.member.Member.{Member}
@@ -257,7 +258,7 @@ module _ {M : Type 0} (H : ℕ → Member M → Pieces → Group → Type 0) (sl
 -- for an instance that stays where it is
 module _ {M : Type 0} (slots : List (Option (Member M))) (once : List Pieces) (groups : List Group) (i g : ℕ) (m : Member M) (inst : Inst M) (o : Pieces) (y : Group)
     (ok : TablesOk slots once groups) (in_slot : slot_at slots i ≡ Some m) (of_group : m.group ≡ g) (alone : (j : ℕ) → (group_at groups g).active ≡ Some j → j ≡ i) (now : y.active ≡ active_in i inst)
-    (same : SameInstance (instance_of m.inst) (instance_of inst)) (pieces : SamePieces (once_at once i) o)
+    (same : SameInstance (instance_of m.inst) (instance_of inst)) (pieces : SamePieces (once_at once i) o) (written : SameOnce (instance_of m.inst).table (once_at once i) o)
     (blocks : (space : Space) → IsSameBlock (block_in (group_at groups g) space) (block_in y space)) where
   blocks_after : (k : ℕ) (space : Space) → IsSameBlock (block_in (group_at groups k) space) (block_in (group_at (set groups g y) k) space)
   blocks_after = blocks_stay groups g y (g_in EachIsHoused slots once groups i g m inst o y ok in_slot of_group alone now) blocks
@@ -272,8 +273,18 @@ module _ {M : Type 0} (slots : List (Option (Member M))) (once : List Pieces) (g
         | inr e ↦ rw (slot_other EachIsHoused slots once groups i g m inst o y ok in_slot of_group alone now j e.1) (same_slot (slot_at slots j))
       ]
 
+  written_after : (j : ℕ) (n : Member M) → slot_at slots j ≡ Some n → SameOnce (instance_of n.inst).table (once_at once j) (once_at (set once i o) j)
+  written_after j n at k attr =
+      elim (eqb_tells j i) [
+        inl e ↦
+          let is : m ≡ n = same_Some _ _ (sym in_slot ∙ rw e.1 at at) in
+          rw (e.1, once_same EachIsHoused slots once groups i g m inst o y ok in_slot of_group alone now)
+          (subst (λ (q : Member M). SameOnce (instance_of q.inst).table (once_at once i) o) is written k attr)
+        | inr e ↦ rw (once_other EachIsHoused slots once groups i g m inst o y ok in_slot of_group alone now j e.1) refl
+      ]
+
   pub tables_after_change : SameTables slots once groups (set slots i (Some (record { group = g; inst = inst }))) (set once i o) (set groups g y)
-  tables_after_change = record { slot = slots_after; pieces = pieces_after; blocks = blocks_after }
+  tables_after_change = record { slot = slots_after; pieces = pieces_after; written = written_after; blocks = blocks_after }
 
   pub ok_after_change : TablesOk (set slots i (Some (record { group = g; inst = inst }))) (set once i o) (set groups g y)
   ok_after_change =
@@ -327,12 +338,25 @@ pub read_alone : {M : Type 0} (slots : List (Option (Member M))) (once : List Pi
 read_alone slots once groups ok g i below r read active j other =
     same_Some j i (sym other ∙ ap (λ (q : Group). q.active) (read_ok_group slots once groups ok g below r read) ∙ active)
 
+-- the same instance later
+pub later_member : {M : Type 0} (a b : Option (Member M)) (m : Member M) → a ≡ Some m → SameSlot a b
+    → (n : Member M) × ((b ≡ Some n) × SameInstance (instance_of m.inst) (instance_of n.inst))
+later_member {M = M} a None m at s = absurd (subst (λ (x : Option (Member M)). SameSlot x None) at s)
+later_member {M = M} a (Some n) m at s = (n, (refl, (subst (λ (x : Option (Member M)). SameSlot x (Some n)) at s).1))
+
+-- write-once words that stay
+once_then : (rs : List MemRec) (a b c : Pieces) → SameOnce rs a b → SameOnce rs b c → SameOnce rs a c
+once_then rs a b c e f k attr = f k attr ∙ e k attr
+
 -- two steps in turn
 pub tables_then : {M : Type 0} (slots slots' slots'' : List (Option (Member M))) (once once' once'' : List Pieces) (groups groups' groups'' : List Group)
     → SameTables slots once groups slots' once' groups' → SameTables slots' once' groups' slots'' once'' groups'' → SameTables slots once groups slots'' once'' groups''
 tables_then slots slots' slots'' once once' once'' groups groups' groups'' a b = record {
   slot = λ i. slot_then _ _ _ (a.slot i) (b.slot i);
   pieces = λ i. pieces_then _ _ _ (a.pieces i) (b.pieces i);
+  written = λ i m at.
+    let later = later_member _ _ m at (a.slot i) in
+    once_then _ _ _ _ (a.written i m at) (subst (λ (rs : List MemRec). SameOnce rs (once_at once' i) (once_at once'' i)) later.1.1.table (b.written i later.0 later.1.0));
   blocks = λ g space. block_then _ _ _ (a.blocks g space) (b.blocks g space);
 }
 
@@ -355,12 +379,6 @@ pub kept_in_slot : {M : Type 0} (slots : List (Option (Member M))) (once : List 
 kept_in_slot slots once groups i m inst o y at is once_is group_is meaning idle_keeps active_keeps w histories keeps =
     let here : SlotKeeps meaning idle_keeps active_keeps w (Some m) (once_at once i) groups (histories i) = rw at at (keeps i) in
     rw (is, once_is, group_is) at here
-
--- the same instance later
-pub later_member : {M : Type 0} (a b : Option (Member M)) (m : Member M) → a ≡ Some m → SameSlot a b
-    → (n : Member M) × ((b ≡ Some n) × SameInstance (instance_of m.inst) (instance_of n.inst))
-later_member {M = M} a None m at s = absurd (subst (λ (x : Option (Member M)). SameSlot x None) at s)
-later_member {M = M} a (Some n) m at s = (n, (refl, (subst (λ (x : Option (Member M)). SameSlot x (Some n)) at s).1))
 
 pub member_of : {M : Type 0} (slot : Option (Member M)) → IsSome slot → (m : Member M) × (slot ≡ Some m)
 member_of None e = absurd (true≢false (sym e))

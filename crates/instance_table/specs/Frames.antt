@@ -9,7 +9,7 @@ use Rattle.scratch_group.specs.Blocks.{block_in}
 use Rattle.lifecycle.specs.declared.instance.Instance.{Instance}
 use Rattle.lifecycle.specs.declared.instance.Inst.{Inst}
 use Rattle.lifecycle.specs.declared.instance.Inst.TheVariants.{Idling, Running}
-use Rattle.lifecycle.specs.States.{SameInstance}
+use Rattle.lifecycle.specs.States.{SameInstance, SameOnce}
 use Rattle.ialg.specs.Records.{unplaced}
 use Rattle.instance_table.specs.declared.member.Member.{Member}
 use Rattle.instance_table.specs.Table.{slot_at, once_at, group_at, instance_of}
@@ -25,6 +25,8 @@ pub record SameTables {M : Type 0} (slots : List (Option (Member M))) (once : Li
     (slots' : List (Option (Member M))) (once' : List Pieces) (groups' : List Group) : Type 0 where
   pub slot : (i : ℕ) → SameSlot (slot_at slots i) (slot_at slots' i)
   pub pieces : (i : ℕ) → SamePieces (once_at once i) (once_at once' i)
+  -- no write-once record has other words
+  pub written : (i : ℕ) (m : Member M) → slot_at slots i ≡ Some m → SameOnce (instance_of m.inst).table (once_at once i) (once_at once' i)
   pub blocks : (g : ℕ) (space : Space) → IsSameBlock (block_in (group_at groups g) space) (block_in (group_at groups' g) space)
 
 -- all other instances, and their pieces, are as they were

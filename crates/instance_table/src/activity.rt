@@ -5,7 +5,7 @@ ghost use Rattle.record_loans.specs.Pieces.{SamePieces};
 ghost use Rattle.record_loans.specs.Blocks.{IsSameBlock};
 ghost use Rattle.mem_rec.specs.declared.Space.{Space};
 ghost use Rattle.scratch_group.specs.Blocks.{block_in, count_after, BlocksArePoison};
-ghost use Rattle.lifecycle.specs.States.{Fits, SameInstance, IdleKeeps, ActiveKeeps};
+ghost use Rattle.lifecycle.specs.States.{Fits, SameInstance, SameOnce, IdleKeeps, ActiveKeeps};
 ghost use Rattle.instance_table.specs.declared.TheConstants.{GROUPS};
 ghost use Rattle.instance_table.specs.Table.{slot_at, group_at, group_of, slot_active_in, activity_at, rested, touched_by, quieted_by, with_activity, TablesOk, ArePoisoned};
 ghost use Rattle.instance_table.specs.Keeps.{Keeps};
@@ -22,6 +22,7 @@ fn rest_in<M: Ialg>(active: Active<M>, shared: &mut Pieces, group: &mut Group, p
     requires fits { Fits active.instance.table active.instance.own shared.old group.old }
     ensures same { SameInstance active.instance result.instance }
     ensures shared { SamePieces shared.old shared.new }
+    ensures once { SameOnce active.instance.table shared.old shared.new }
     ensures blocks { (space : Space) → IsSameBlock (block_in group.old space) (block_in group.new space) }
     ensures active { group.new.active ≡ None }
     ensures activations { group.new.activations ≡ group.old.activations }
@@ -42,6 +43,7 @@ fn wake_in<M: Ialg>(idle: Idle<M>, shared: &mut Pieces, group: &mut Group, i: u8
     requires fits { Fits idle.instance.table idle.instance.own shared.old group.old }
     ensures same { SameInstance idle.instance result.instance }
     ensures shared { SamePieces shared.old shared.new }
+    ensures once { SameOnce idle.instance.table shared.old shared.new }
     ensures blocks { (space : Space) → IsSameBlock (block_in group.old space) (block_in group.new space) }
     ensures active { group.new.active ≡ Some i }
     ensures activations { group.new.activations ≡ count_after group.old.activations (Some i) }

@@ -6,7 +6,7 @@ use Rattle.record_loans.specs.Pieces.{SamePieces}
 use Rattle.record_loans.specs.Blocks.{IsSameBlock}
 use Rattle.scratch_group.specs.Blocks.{block_in}
 use Rattle.lifecycle.specs.declared.instance.Inst.TheVariants.{Idling}
-use Rattle.lifecycle.specs.States.{SameInstance}
+use Rattle.lifecycle.specs.States.{SameInstance, SameOnce}
 use Rattle.instance_table.specs.Table.{once_at, group_at, instance_of}
 use Rattle.instance_table.proofs.Changes.{read_ok_group, read_ok_once, read_active, read_alone, slot_is_some, fits_in_slot, tables_after_change, ok_after_change, keeps_after_change}
 use Rattle.instance_table.proofs.activity.rest.Goals as goal
@@ -52,6 +52,9 @@ module _ (g : Over) (c : After-put_in g) where
   shared : SamePieces (once_at c.args.once.now.items c.in-Some.i) c.rest_in-idle.new.shared
   shared = rw once_is c.rest_in-idle.ensures.shared
 
+  written : SameOnce (instance_of c.take_out-inst.result.inst).table (once_at c.args.once.now.items c.in-Some.i) c.rest_in-idle.new.shared
+  written = rw (c.in-Running.is, once_is) c.rest_in-idle.ensures.once
+
   blocks : (space : Space) → IsSameBlock (block_in (group_at c.args.groups.now.items c.args.g) space) (block_in c.rest_in-idle.new.group space)
   blocks space = rw group_is (c.rest_in-idle.ensures.blocks space)
 
@@ -59,13 +62,13 @@ pub returns-clause-ok : goal.returns-clause-ok
 returns-clause-ok g c =
     rw (c.put_in.ensures.slots, c.take_out-inst.ensures.slots, set-set)
     (ok_after_change _ _ _ _ _ _ _ _ _ c.requires.ok c.take_out-inst.ensures.member (of_group g c) (alone g c)
-        c.rest_in-idle.ensures.active (same g c) (shared g c) (blocks g c))
+        c.rest_in-idle.ensures.active (same g c) (shared g c) (written g c) (blocks g c))
 
 pub returns-clause-same : goal.returns-clause-same
 returns-clause-same g c =
     rw (c.put_in.ensures.slots, c.take_out-inst.ensures.slots, set-set)
     (tables_after_change _ _ _ _ _ _ _ _ _ c.requires.ok c.take_out-inst.ensures.member (of_group g c) (alone g c)
-        c.rest_in-idle.ensures.active (same g c) (shared g c) (blocks g c))
+        c.rest_in-idle.ensures.active (same g c) (shared g c) (written g c) (blocks g c))
 
 pub returns-clause-keeps : goal.returns-clause-keeps
 returns-clause-keeps g c histories keeps =

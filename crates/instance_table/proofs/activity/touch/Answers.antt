@@ -6,7 +6,7 @@ use Rattle.record_loans.specs.Pieces.{SamePieces}
 use Rattle.record_loans.specs.Blocks.{IsSameBlock}
 use Rattle.scratch_group.specs.Blocks.{block_in}
 use Rattle.lifecycle.specs.declared.instance.Inst.TheVariants.{Running}
-use Rattle.lifecycle.specs.States.{SameInstance}
+use Rattle.lifecycle.specs.States.{SameInstance, SameOnce}
 use Rattle.instance_table.specs.declared.TheConstants.{GROUPS}
 use Rattle.instance_table.specs.Table.{once_at, group_at, group_of, slot_at, slot_active_in, activity_at, instance_of}
 use Rattle.instance_table.proofs.Changes.{read_ok_group, read_ok_once, fits_in_slot, tables_after_change, tables_then, ok_after_change, poisoned_after_change, activity_after_change, keeps_after_change}
@@ -59,6 +59,9 @@ module _ (g : Over) (c : After-put_in g) where
   shared : SamePieces (once_at c.rest-rested.new.once.items c.args.i) c.wake_in-active.new.shared
   shared = rw once_is c.wake_in-active.ensures.shared
 
+  written : SameOnce (instance_of c.take_out-inst.result.inst).table (once_at c.rest-rested.new.once.items c.args.i) c.wake_in-active.new.shared
+  written = rw (c.in-Idling.is, once_is) c.wake_in-active.ensures.once
+
   blocks : (space : Space) → IsSameBlock (block_in (group_at c.rest-rested.new.groups.items c.in-Some.g) space) (block_in c.wake_in-active.new.group space)
   blocks space = rw group_is (c.wake_in-active.ensures.blocks space)
 
@@ -66,7 +69,7 @@ pub returns-clause-ok : goal.returns-clause-ok
 returns-clause-ok g c =
     rw (c.put_in.ensures.slots, c.take_out-inst.ensures.slots, set-set)
     (ok_after_change _ _ _ _ _ _ _ _ _ c.rest-rested.ensures.ok c.take_out-inst.ensures.member (group g c) (alone g c)
-        c.wake_in-active.ensures.active (same g c) (shared g c) (blocks g c))
+        c.wake_in-active.ensures.active (same g c) (shared g c) (written g c) (blocks g c))
 
 pub returns-clause-poisoned : goal.returns-clause-poisoned
 returns-clause-poisoned g c =
@@ -79,7 +82,7 @@ returns-clause-same g c =
     rw (c.put_in.ensures.slots, c.take_out-inst.ensures.slots, set-set)
     (tables_then _ _ _ _ _ _ _ _ _ c.rest-rested.ensures.same
     (tables_after_change _ _ _ _ _ _ _ _ _ c.rest-rested.ensures.ok c.take_out-inst.ensures.member (group g c) (alone g c)
-        c.wake_in-active.ensures.active (same g c) (shared g c) (blocks g c)))
+        c.wake_in-active.ensures.active (same g c) (shared g c) (written g c) (blocks g c)))
 
 pub returns-clause-activity : goal.returns-clause-activity
 returns-clause-activity g c k =

@@ -5,7 +5,7 @@ use Rattle.record_loans.specs.Pieces.{SamePieces}
 use Rattle.record_loans.specs.Blocks.{IsSameBlock}
 use Rattle.scratch_group.specs.Blocks.{block_in}
 use Rattle.lifecycle.specs.declared.instance.Inst.TheVariants.{Running}
-use Rattle.lifecycle.specs.States.{SameInstance}
+use Rattle.lifecycle.specs.States.{SameInstance, SameOnce}
 use Rattle.instance_table.specs.Table.{slot_at, once_at, group_at, instance_of, activity_at}
 use Rattle.instance_table.proofs.Housing.{same_blocks}
 use Rattle.instance_table.proofs.Changes.{read_slot, read_ok_group, read_ok_once, known_active, kept_in_slot, fits_in_slot, tables_after_change, ok_after_change, poisoned_after_change, activity_after_change, keeps_after_step}
@@ -44,6 +44,9 @@ module _ (g : Over) (c : After-once-1 g) where
   shared : SamePieces (once_at c.args.once.now.items c.args.i) c.run.new.shared
   shared = rw once_is c.run.ensures.shared
 
+  written : SameOnce (instance_of c.in-Some.member.inst).table (once_at c.args.once.now.items c.args.i) c.run.new.shared
+  written = rw (c.in-Running.is, once_is) c.run.ensures.once
+
   blocks : (space : Space) → IsSameBlock (block_in (group_at c.args.groups.now.items c.in-Some.member.group) space) (block_in c.run.new.group space)
   blocks space = rw group_is (same_blocks _ _ c.run.ensures.group space)
 
@@ -52,7 +55,7 @@ module _ (g : Over) (c : After-once-1 g) where
 
 pub returns-clause-ok : goal.returns-clause-ok
 returns-clause-ok g c =
-    ok_after_change _ _ _ _ _ _ _ _ _ c.requires.ok (in_slot g c) refl (alone g c) (now g c) (same g c) (shared g c) (blocks g c)
+    ok_after_change _ _ _ _ _ _ _ _ _ c.requires.ok (in_slot g c) refl (alone g c) (now g c) (same g c) (shared g c) (written g c) (blocks g c)
 
 pub returns-clause-poisoned : goal.returns-clause-poisoned
 returns-clause-poisoned g c w before =
@@ -61,7 +64,7 @@ returns-clause-poisoned g c w before =
 
 pub returns-clause-same : goal.returns-clause-same
 returns-clause-same g c =
-    tables_after_change _ _ _ _ _ _ _ _ _ c.requires.ok (in_slot g c) refl (alone g c) (now g c) (same g c) (shared g c) (blocks g c)
+    tables_after_change _ _ _ _ _ _ _ _ _ c.requires.ok (in_slot g c) refl (alone g c) (now g c) (same g c) (shared g c) (written g c) (blocks g c)
 
 pub returns-clause-activity : goal.returns-clause-activity
 returns-clause-activity g c k =
