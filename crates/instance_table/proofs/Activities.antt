@@ -1,11 +1,10 @@
 -- Which member of a group is active after a step.
-use Rattle.std.proofs.Common.{◌≡◌, ◌≢◌, ◌<◌, ℕ, List, length, set, get_or-set_same, get_or-set_other, inl, inr, Option, Some, None, Bool, true, false, refl, sym, ◌∙◌, ap}
+use Rattle.std.proofs.Common.{◌≡◌, ◌<◌, ℕ, List, length, set, get_or-set_same, get_or-set_other, inl, inr, Option, Some, None, false, refl, ◌∙◌, ap}
 use Rattle.std.proofs.lemmas.Bool.Decides.{eqb_tells}
-use Rattle.std.proofs.lemmas.Option.{none-some}
 use Rattle.scratch_group.specs.declared.group.Group.{Group}
 use Rattle.scratch_group.specs.Blocks.{count_after}
 use Rattle.instance_table.specs.declared.member.Member.{Member}
-use Rattle.instance_table.specs.Table.{group_at, no_group, group_of, Activity, activity_at, rested, is_active, touched, with_activity}
+use Rattle.instance_table.specs.Table.{no_group, group_of, Activity, activity_at, rested, is_active, touched, with_activity}
 use Rattle.instance_table.specs.Frames.{SameSlot}
 
 pub same_group_of : {M : Type 0} (a b : Option (Member M)) → SameSlot a b → group_of b ≡ group_of a
@@ -17,7 +16,7 @@ pub not_active : (a : Option ℕ) (i : ℕ) → (a ≡ Some i → ⊥) → is_ac
 not_active None i never = refl
 not_active (Some j) i never =
     elim (eqb_tells j i) [
-      inl e ↦ absurd (never (ap Some e.1))
+      | inl e ↦ absurd (never (ap Some e.1))
       | inr e ↦ e.0
     ]
 
@@ -25,7 +24,7 @@ not_active (Some j) i never =
 pub at_group : (old : ℕ → Activity) (g : ℕ) (a : Activity) → with_activity old g a g ≡ a
 at_group old g a =
     elim (eqb_tells g g) [
-      inl e ↦ rw e.0 refl
+      | inl e ↦ rw e.0 refl
       | inr e ↦ absurd (e.1 refl)
     ]
 
@@ -39,11 +38,11 @@ pub activity_after_wake : (old mid : ℕ → Activity) (g i : ℕ) (new : Activi
 activity_after_wake old mid g i new rest idle active count k =
     let counted : (mid g).count ≡ (old g).count = ap (λ (a : Activity). a.count) (rest g ∙ at_group old g (rested (old g))) in
     elim (eqb_tells k g) [
-      inl e ↦
-        let is : new ≡ record { active = Some i; count = count_after (old g).count (Some i) } =
-            ap (λ (a : Option ℕ). let r : Activity = record { active = a; count = new.count } in r) active
-            ∙ ap (λ (n : ℕ). let r : Activity = record { active = Some i; count = n } in r) (count ∙ ap (λ n. count_after n (Some i)) counted) in
-        rw (e.0, idle) is
+      | inl e ↦
+          let is : new ≡ record { active = Some i; count = count_after (old g).count (Some i) } =
+          ap (λ (a : Option ℕ). let r : Activity = record { active = a; count = new.count } in r) active
+          ∙ ap (λ (n : ℕ). let r : Activity = record { active = Some i; count = n } in r) (count ∙ ap (λ n. count_after n (Some i)) counted) in
+          rw (e.0, idle) is
       | inr e ↦ rw e.0 (rw e.0 at (rest k))
     ]
 
@@ -51,10 +50,10 @@ activity_after_wake old mid g i new rest idle active count k =
 pub activity_stays : (all : ℕ → Activity) (g : ℕ) (a : Activity) → a.active ≡ (all g).active → a.count ≡ (all g).count → (k : ℕ) → with_activity all g a k ≡ all k
 activity_stays all g a active count k =
     let is : a ≡ all g =
-        ap (λ (x : Option ℕ). let r : Activity = record { active = x; count = a.count } in r) active
-        ∙ ap (λ (n : ℕ). let r : Activity = record { active = (all g).active; count = n } in r) count in
+    ap (λ (x : Option ℕ). let r : Activity = record { active = x; count = a.count } in r) active
+    ∙ ap (λ (n : ℕ). let r : Activity = record { active = (all g).active; count = n } in r) count in
     elim (eqb_tells k g) [
-      inl e ↦ rw (e.0, e.1) is
+      | inl e ↦ rw (e.0, e.1) is
       | inr e ↦ rw e.0 refl
     ]
 
@@ -62,9 +61,9 @@ pub group_change : (groups : List Group) (g : ℕ) (y : Group) → g < length gr
     → activity_at (set groups g y) k ≡ with_activity (activity_at groups) g (record { active = y.active; count = y.activations }) k
 group_change groups g y inside k =
     elim (eqb_tells k g) [
-      inl e ↦
-        let equal : activity_at (set groups g y) g ≡ record { active = y.active; count = y.activations } =
-            ap (λ (q : Group). let r : Activity = record { active = q.active; count = q.activations } in r) (get_or-set_same groups g y no_group inside) in
-        rw (e.0, e.1) equal
+      | inl e ↦
+          let equal : activity_at (set groups g y) g ≡ record { active = y.active; count = y.activations } =
+          ap (λ (q : Group). let r : Activity = record { active = q.active; count = q.activations } in r) (get_or-set_same groups g y no_group inside) in
+          rw (e.0, e.1) equal
       | inr e ↦ rw e.0 (ap (λ (q : Group). let r : Activity = record { active = q.active; count = q.activations } in r) (get_or-set_other groups g k y no_group e.1))
     ]

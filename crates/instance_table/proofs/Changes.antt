@@ -1,5 +1,5 @@
 -- One instance and its group change.
-use Rattle.std.proofs.Common.{◌≡◌, ◌≢◌, ℕ, ℤ, ◌<◌, ◌⊎◌, inl, inr, List, [], ◌∷◌, zero, suc, length, Option, IsSome, slice_index_or, Some, None, Bool, true, false, set, get_or, get_or-set_same, get_or-set_other, refl, sym, ◌∙◌, ap, subst, arith}
+use Rattle.std.proofs.Common.{◌≡◌, ◌≢◌, ℕ, ℤ, ◌<◌, inl, inr, List, [], ◌∷◌, zero, suc, length, Option, IsSome, slice_index_or, Some, None, set, get_or-set_same, get_or-set_other, refl, sym, ◌∙◌, ap, subst, arith}
 use Rattle.std.proofs.lemmas.List.{length-set, get_or_read}
 use Rattle.std.proofs.lemmas.Bool.Decides.{eqb_tells}
 use Rattle.std.proofs.lemmas.Bool.{true≢false}
@@ -14,15 +14,14 @@ use Rattle.record_loans.specs.Pieces.{IsSamePiece, SamePieces}
 use Rattle.record_loans.specs.declared.block.ScratchBlock.{ScratchBlock}
 use Rattle.record_loans.specs.Blocks.{IsSameBlock}
 use Rattle.scratch_group.specs.declared.group.Group.{Group}
-use Rattle.scratch_group.specs.Blocks.{block_in, BlocksArePoison, SameGroup}
-use Rattle.lifecycle.specs.declared.instance.Instance.{Instance}
+use Rattle.scratch_group.specs.Blocks.{block_in, BlocksArePoison}
 use Rattle.lifecycle.specs.declared.instance.Inst.{Inst}
 use Rattle.lifecycle.specs.declared.instance.Inst.TheVariants.{Idling, Running}
 use Rattle.lifecycle.specs.States.{Relation, Fits, SameInstance, SameOnce}
 use Rattle.lifecycle.proofs.Frames.{same_pieces, same_group}
 use Rattle.instance_table.specs.declared.TheConstants.{INSTANCES, GROUPS}
 use Rattle.instance_table.specs.declared.member.Member.{Member}
-use Rattle.instance_table.specs.Table.{slot_at, once_at, group_at, no_pieces, no_group, instance_of, group_of, active_in, slot_active_in, IsHoused, EachIsHoused, Tables, TablesOk, ArePoisoned, Activity, activity_at, with_activity}
+use Rattle.instance_table.specs.Table.{slot_at, once_at, group_at, no_pieces, no_group, instance_of, group_of, active_in, slot_active_in, IsHoused, EachIsHoused, Tables, TablesOk, ArePoisoned, activity_at, with_activity}
 use Rattle.instance_table.specs.Keeps.{InstKeeps, SlotKeeps, Keeps, with_history}
 use Rattle.instance_table.specs.Frames.{SameSlot, SameTables}
 use Rattle.instance_table.proofs.Housing.{same_blocks, housed_stays}
@@ -86,26 +85,29 @@ slot_then None None c e f = f
 slot_then None (Some b) c e f = absurd (none-some _ (sym e))
 slot_then (Some a) None c e f = absurd e
 slot_then (Some a) (Some b) None e f = absurd f
-slot_then (Some a) (Some b) (Some c) e f = (f.0 ∙ e.0, record {
-  kind = f.1.kind ∙ e.1.kind;
-  params = f.1.params ∙ e.1.params;
-  table = f.1.table ∙ e.1.table;
-  own = pieces_then (instance_of a.inst).own (instance_of b.inst).own (instance_of c.inst).own e.1.own f.1.own;
-})
+slot_then (Some a) (Some b) (Some c) e f = (
+  f.0 ∙ e.0,
+  record {
+    kind = f.1.kind ∙ e.1.kind;
+    params = f.1.params ∙ e.1.params;
+    table = f.1.table ∙ e.1.table;
+    own = pieces_then (instance_of a.inst).own (instance_of b.inst).own (instance_of c.inst).own e.1.own f.1.own;
+  },
+)
 
 -- the blocks after group g was changed
 pub blocks_stay : (groups : List Group) (g : ℕ) (y : Group) → g < length groups → ((space : Space) → IsSameBlock (block_in (group_at groups g) space) (block_in y space))
     → (k : ℕ) (space : Space) → IsSameBlock (block_in (group_at groups k) space) (block_in (group_at (set groups g y) k) space)
 blocks_stay groups g y inside blocks k space =
     elim (eqb_tells k g) [
-      inl e ↦ rw (e.1, get_or-set_same groups g y no_group inside) (blocks space)
+      | inl e ↦ rw (e.1, get_or-set_same groups g y no_group inside) (blocks space)
       | inr e ↦ rw (get_or-set_other groups g k y no_group e.1) (same_blocks _ _ (same_group (group_at groups k)) space)
     ]
 
 pub pieces_stay : (once : List Pieces) (i : ℕ) (o : Pieces) → i < length once → SamePieces (once_at once i) o → (j : ℕ) → SamePieces (once_at once j) (once_at (set once i o) j)
 pieces_stay once i o inside pieces j =
     elim (eqb_tells j i) [
-      inl e ↦ rw (e.1, get_or-set_same once i o no_pieces inside) pieces
+      | inl e ↦ rw (e.1, get_or-set_same once i o no_pieces inside) pieces
       | inr e ↦ rw (get_or-set_other once i j o no_pieces e.1) (same_pieces (once_at once j))
     ]
 
@@ -144,31 +146,31 @@ module _ {M : Type 0} (H : ℕ → Member M → Pieces → Group → Type 0) (sl
   there_after : (k j : ℕ) → k < GROUPS → (group_at (set groups g y) k).active ≡ Some j → slot_active_in (slot_at (set slots i (Some (record { group = g; inst = inst }))) j) ≡ Some k
   there_after k j below at =
       elim (eqb_tells k g) [
-        inl e ↦
-          let mine : active_in i inst ≡ Some j = sym now ∙ ap (λ (q : Group). q.active) (sym group_same) ∙ rw e.1 at at in
-          let here : i ≡ j = active_in_own i j inst mine in
-          rw (e.1, ← here) (ap slot_active_in slot_same ∙ active_in_any i j g inst mine)
+        | inl e ↦
+            let mine : active_in i inst ≡ Some j = sym now ∙ ap (λ (q : Group). q.active) (sym group_same) ∙ rw e.1 at at in
+            let here : i ≡ j = active_in_own i j inst mine in
+            rw (e.1, ← here) (ap slot_active_in slot_same ∙ active_in_any i j g inst mine)
         | inr e ↦
-          let there : slot_active_in (slot_at slots j) ≡ Some k = ok.active_there k j below (ap (λ (q : Group). q.active) (sym (group_other k e.1)) ∙ at) in
-          elim (eqb_tells j i) [
-            inl f ↦ absurd (e.1 (sym (active_in_own m.group k m.inst (ap slot_active_in (sym in_slot) ∙ rw f.1 at there)) ∙ of_group))
-            | inr f ↦ ap slot_active_in (slot_other j f.1) ∙ there
-          ]
+            let there : slot_active_in (slot_at slots j) ≡ Some k = ok.active_there k j below (ap (λ (q : Group). q.active) (sym (group_other k e.1)) ∙ at) in
+            elim (eqb_tells j i) [
+              | inl f ↦ absurd (e.1 (sym (active_in_own m.group k m.inst (ap slot_active_in (sym in_slot) ∙ rw f.1 at there)) ∙ of_group))
+              | inr f ↦ ap slot_active_in (slot_other j f.1) ∙ there
+            ]
       ]
 
   known_after : (k j : ℕ) → slot_active_in (slot_at (set slots i (Some (record { group = g; inst = inst }))) j) ≡ Some k → (group_at (set groups g y) k).active ≡ Some j
   known_after k j at =
       elim (eqb_tells j i) [
-        inl f ↦
-          let here : active_in g inst ≡ Some k = ap slot_active_in (sym slot_same) ∙ rw f.1 at at in
-          let equal : g ≡ k = active_in_own g k inst here in
-          rw (f.1, ← equal) (ap (λ (q : Group). q.active) group_same ∙ now ∙ active_in_any g k i inst here)
+        | inl f ↦
+            let here : active_in g inst ≡ Some k = ap slot_active_in (sym slot_same) ∙ rw f.1 at at in
+            let equal : g ≡ k = active_in_own g k inst here in
+            rw (f.1, ← equal) (ap (λ (q : Group). q.active) group_same ∙ now ∙ active_in_any g k i inst here)
         | inr f ↦
-          let known : (group_at groups k).active ≡ Some j = ok.active_known k j (ap slot_active_in (sym (slot_other j f.1)) ∙ at) in
-          elim (eqb_tells k g) [
-            inl e ↦ absurd (f.1 (alone j (rw e.1 at known)))
-            | inr e ↦ ap (λ (q : Group). q.active) (group_other k e.1) ∙ known
-          ]
+            let known : (group_at groups k).active ≡ Some j = ok.active_known k j (ap slot_active_in (sym (slot_other j f.1)) ∙ at) in
+            elim (eqb_tells k g) [
+              | inl e ↦ absurd (f.1 (alone j (rw e.1 at known)))
+              | inr e ↦ ap (λ (q : Group). q.active) (group_other k e.1) ∙ known
+            ]
       ]
 
   pub tables_by_change : (K : ℕ → Member M → Pieces → Group → Type 0)
@@ -180,21 +182,21 @@ module _ {M : Type 0} (H : ℕ → Member M → Pieces → Group → Type 0) (sl
     once_count = simp length-set ok.once_count;
     group_count = simp length-set ok.group_count;
     group_range = λ j n at.
-      elim (eqb_tells j i) [
-          inl e ↦
-            let is : record { group = g; inst = inst } ≡ n = same_Some _ _ (sym slot_same ∙ rw e.1 at at) in
-            subst (λ (q : Member M). q.group < GROUPS) is (rw of_group at (ok.group_range i m in_slot))
-        | inr e ↦ ok.group_range j n (sym (slot_other j e.1) ∙ at)
-      ];
+        elim (eqb_tells j i) [
+          | inl e ↦
+              let is : record { group = g; inst = inst } ≡ n = same_Some _ _ (sym slot_same ∙ rw e.1 at at) in
+              subst (λ (q : Member M). q.group < GROUPS) is (rw of_group at (ok.group_range i m in_slot))
+          | inr e ↦ ok.group_range j n (sym (slot_other j e.1) ∙ at)
+        ];
     housed = λ j n at.
-      elim (eqb_tells j i) [
-          inl e ↦
-            let is : record { group = g; inst = inst } ≡ n = same_Some _ _ (sym slot_same ∙ rw e.1 at at) in
-            rw e.1 (subst (λ (q : Member M). K i q (once_at (set once i o) i) (group_at (set groups g y) q.group)) is here)
-        | inr e ↦
-            let before = sym (slot_other j e.1) ∙ at in
-            there j n e.1 before (ok.housed j n before)
-      ];
+        elim (eqb_tells j i) [
+          | inl e ↦
+              let is : record { group = g; inst = inst } ≡ n = same_Some _ _ (sym slot_same ∙ rw e.1 at at) in
+              rw e.1 (subst (λ (q : Member M). K i q (once_at (set once i o) i) (group_at (set groups g y) q.group)) is here)
+          | inr e ↦
+              let before = sym (slot_other j e.1) ∙ at in
+              there j n e.1 before (ok.housed j n before)
+        ];
     active_there = there_after;
     active_known = known_after;
   }
@@ -202,16 +204,16 @@ module _ {M : Type 0} (H : ℕ → Member M → Pieces → Group → Type 0) (sl
   pub poisoned_after_change : (w : Option ℤ) → ArePoisoned w groups → (y.active ≡ None → BlocksArePoison w y) → ArePoisoned w (set groups g y)
   poisoned_after_change w before here k below none =
       elim (eqb_tells k g) [
-        inl e ↦ rw (e.1, group_same) (here (ap (λ (q : Group). q.active) (sym group_same) ∙ rw e.1 at none))
+        | inl e ↦ rw (e.1, group_same) (here (ap (λ (q : Group). q.active) (sym group_same) ∙ rw e.1 at none))
         | inr e ↦ rw (group_other k e.1) (before k below (ap (λ (q : Group). q.active) (sym (group_other k e.1)) ∙ none))
       ]
 
   pub activity_after_change : (k : ℕ) → activity_at (set groups g y) k ≡ with_activity (activity_at groups) g (record { active = y.active; count = y.activations }) k
   activity_after_change k =
       elim (eqb_tells k g) [
-        inl e ↦
-          let equal : activity_at (set groups g y) g ≡ record { active = y.active; count = y.activations } = ap (λ (q : Group). record { active = q.active; count = q.activations }) group_same in
-          rw (e.0, e.1) equal
+        | inl e ↦
+            let equal : activity_at (set groups g y) g ≡ record { active = y.active; count = y.activations } = ap (λ (q : Group). record { active = q.active; count = q.activations }) group_same in
+            rw (e.0, e.1) equal
         | inr e ↦ rw e.0 (ap (λ (q : Group). record { active = q.active; count = q.activations }) (group_other k e.1))
       ]
 
@@ -240,7 +242,7 @@ module _ {M : Type 0} (H : ℕ → Member M → Pieces → Group → Type 0) (sl
       → Keeps meaning idle_keeps active_keeps w (set slots i (Some (record { group = g; inst = inst }))) (set once i o) (set groups g y) (with_history histories i h)
   keeps_after_step meaning idle_keeps active_keeps w histories h step keeps j =
       elim (eqb_tells j i) [
-        inl e ↦ rw (e.0, e.1) (keeps_here meaning idle_keeps active_keeps w h (step (kept_here meaning idle_keeps active_keeps w histories keeps)))
+        | inl e ↦ rw (e.0, e.1) (keeps_here meaning idle_keeps active_keeps w h (step (kept_here meaning idle_keeps active_keeps w histories keeps)))
         | inr e ↦ rw e.0 (keeps_there meaning idle_keeps active_keeps w j e.1 (histories j) (keeps j))
       ]
 
@@ -251,7 +253,7 @@ module _ {M : Type 0} (H : ℕ → Member M → Pieces → Group → Type 0) (sl
       → Keeps meaning idle_keeps active_keeps w (set slots i (Some (record { group = g; inst = inst }))) (set once i o) (set groups g y) histories
   keeps_after_change meaning idle_keeps active_keeps w histories step keeps j =
       elim (eqb_tells j i) [
-        inl e ↦ rw e.1 (keeps_here meaning idle_keeps active_keeps w (histories i) (step (kept_here meaning idle_keeps active_keeps w histories keeps)))
+        | inl e ↦ rw e.1 (keeps_here meaning idle_keeps active_keeps w (histories i) (step (kept_here meaning idle_keeps active_keeps w histories keeps)))
         | inr e ↦ keeps_there meaning idle_keeps active_keeps w j e.1 (histories j) (keeps j)
       ]
 
@@ -269,17 +271,17 @@ module _ {M : Type 0} (slots : List (Option (Member M))) (once : List Pieces) (g
   slots_after : (j : ℕ) → SameSlot (slot_at slots j) (slot_at (set slots i (Some (record { group = g; inst = inst }))) j)
   slots_after j =
       elim (eqb_tells j i) [
-        inl e ↦ rw (e.1, slot_same EachIsHoused slots once groups i g m inst o y ok in_slot of_group alone now, in_slot) (sym of_group, same)
+        | inl e ↦ rw (e.1, slot_same EachIsHoused slots once groups i g m inst o y ok in_slot of_group alone now, in_slot) (sym of_group, same)
         | inr e ↦ rw (slot_other EachIsHoused slots once groups i g m inst o y ok in_slot of_group alone now j e.1) (same_slot (slot_at slots j))
       ]
 
   written_after : (j : ℕ) (n : Member M) → slot_at slots j ≡ Some n → SameOnce (instance_of n.inst).table (once_at once j) (once_at (set once i o) j)
   written_after j n at k attr =
       elim (eqb_tells j i) [
-        inl e ↦
-          let is : m ≡ n = same_Some _ _ (sym in_slot ∙ rw e.1 at at) in
-          rw (e.1, once_same EachIsHoused slots once groups i g m inst o y ok in_slot of_group alone now)
-          (subst (λ (q : Member M). SameOnce (instance_of q.inst).table (once_at once i) o) is written k attr)
+        | inl e ↦
+            let is : m ≡ n = same_Some _ _ (sym in_slot ∙ rw e.1 at at) in
+            rw (e.1, once_same EachIsHoused slots once groups i g m inst o y ok in_slot of_group alone now)
+            (subst (λ (q : Member M). SameOnce (instance_of q.inst).table (once_at once i) o) is written k attr)
         | inr e ↦ rw (once_other EachIsHoused slots once groups i g m inst o y ok in_slot of_group alone now j e.1) refl
       ]
 
@@ -290,10 +292,10 @@ module _ {M : Type 0} (slots : List (Option (Member M))) (once : List Pieces) (g
   ok_after_change =
       tables_by_change EachIsHoused slots once groups i g m inst o y ok in_slot of_group alone now EachIsHoused
       (let before : IsHoused (instance_of m.inst) (once_at once i) (group_at groups g) = rw of_group at (ok.housed i m in_slot) in
-        housed_stays (instance_of m.inst) (instance_of inst) _ _ _ _ same (pieces_after i) (blocks_after g) before)
+      housed_stays (instance_of m.inst) (instance_of inst) _ _ _ _ same (pieces_after i) (blocks_after g) before)
       (λ j n apart at before.
-        housed_stays (instance_of n.inst) (instance_of n.inst) _ _ _ _
-        (record { kind = refl; params = refl; table = refl; own = same_pieces (instance_of n.inst).own }) (pieces_after j) (blocks_after n.group) before)
+      housed_stays (instance_of n.inst) (instance_of n.inst) _ _ _ _
+      (record { kind = refl; params = refl; table = refl; own = same_pieces (instance_of n.inst).own }) (pieces_after j) (blocks_after n.group) before)
 
 -- what the code read
 pub read_group : (groups : List Group) (g : ℕ) (r : Group) → g < length groups → r ≡ slice_index_or groups g r → group_at groups g ≡ r
@@ -355,8 +357,8 @@ tables_then slots slots' slots'' once once' once'' groups groups' groups'' a b =
   slot = λ i. slot_then _ _ _ (a.slot i) (b.slot i);
   pieces = λ i. pieces_then _ _ _ (a.pieces i) (b.pieces i);
   written = λ i m at.
-    let later = later_member _ _ m at (a.slot i) in
-    once_then _ _ _ _ (a.written i m at) (subst (λ (rs : List MemRec). SameOnce rs (once_at once' i) (once_at once'' i)) later.1.1.table (b.written i later.0 later.1.0));
+      let later = later_member _ _ m at (a.slot i) in
+      once_then _ _ _ _ (a.written i m at) (subst (λ (rs : List MemRec). SameOnce rs (once_at once' i) (once_at once'' i)) later.1.1.table (b.written i later.0 later.1.0));
   blocks = λ g space. block_then _ _ _ (a.blocks g space) (b.blocks g space);
 }
 

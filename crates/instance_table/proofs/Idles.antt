@@ -40,7 +40,7 @@ module _ {M : Type 0} (H : ℕ → Member M → Pieces → Group → Type 0) (sl
   active_same : (j : ℕ) → slot_active_in (slot_at (set slots i x) j) ≡ slot_active_in (slot_at slots j)
   active_same j =
       elim (eqb_tells j i) [
-        inl e ↦ rw (e.1, slot_same) (is ∙ sym was)
+        | inl e ↦ rw (e.1, slot_same) (is ∙ sym was)
         | inr e ↦ ap slot_active_in (slot_other j e.1)
       ]
 
@@ -53,17 +53,17 @@ module _ {M : Type 0} (H : ℕ → Member M → Pieces → Group → Type 0) (sl
     once_count = simp length-set ok.once_count;
     group_count = ok.group_count;
     group_range = λ j n at.
-      elim (eqb_tells j i) [
-          inl e ↦ (new n (sym slot_same ∙ rw e.1 at at)).0
-        | inr e ↦ ok.group_range j n (sym (slot_other j e.1) ∙ at)
-      ];
+        elim (eqb_tells j i) [
+          | inl e ↦ (new n (sym slot_same ∙ rw e.1 at at)).0
+          | inr e ↦ ok.group_range j n (sym (slot_other j e.1) ∙ at)
+        ];
     housed = λ j n at.
-      elim (eqb_tells j i) [
-          inl e ↦ rw (e.1, once_same) (new n (sym slot_same ∙ rw e.1 at at)).1
-        | inr e ↦
-          let before = sym (slot_other j e.1) ∙ at in
-          rw (once_other j e.1) (there j n e.1 before (ok.housed j n before))
-      ];
+        elim (eqb_tells j i) [
+          | inl e ↦ rw (e.1, once_same) (new n (sym slot_same ∙ rw e.1 at at)).1
+          | inr e ↦
+              let before = sym (slot_other j e.1) ∙ at in
+              rw (once_other j e.1) (there j n e.1 before (ok.housed j n before))
+        ];
     active_there = λ k j below at. active_same j ∙ ok.active_there k j below at;
     active_known = λ k j at. ok.active_known k j (sym (active_same j) ∙ at);
   }
@@ -74,7 +74,7 @@ module _ {M : Type 0} (H : ℕ → Member M → Pieces → Group → Type 0) (sl
       → Keeps meaning idle_keeps active_keeps w (set slots i x) (set once i o) groups (with_history histories i h)
   keeps_after_quiet meaning idle_keeps active_keeps w histories h new keeps j =
       elim (eqb_tells j i) [
-        inl e ↦ rw (e.0, e.1, slot_same, once_same) new
+        | inl e ↦ rw (e.0, e.1, slot_same, once_same) new
         | inr e ↦ rw (e.0, slot_other j e.1, once_other j e.1) (keeps j)
       ]
 
@@ -84,7 +84,7 @@ module _ {M : Type 0} (H : ℕ → Member M → Pieces → Group → Type 0) (sl
       → Keeps meaning idle_keeps active_keeps w (set slots i x) (set once i o) groups histories
   keeps_after_end meaning idle_keeps active_keeps w histories new keeps j =
       elim (eqb_tells j i) [
-        inl e ↦ rw (e.1, slot_same, once_same) new
+        | inl e ↦ rw (e.1, slot_same, once_same) new
         | inr e ↦ rw (slot_other j e.1, once_other j e.1) (keeps j)
       ]
 

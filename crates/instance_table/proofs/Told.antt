@@ -1,9 +1,8 @@
 -- Members of a group that are told of a move, one after the other.
-use Rattle.std.proofs.Common.{◌≡◌, ◌≢◌, ◌⊎◌, inl, inr, ℕ, ℤ, ◌<◌, ◌≤◌, ◌+◌, List, length, Option, Some, None, Bool, true, false, set, get_or-set_same, get_or-set_other, refl, sym, ◌∙◌, ap, subst, arith, nat_eq}
+use Rattle.std.proofs.Common.{◌≡◌, ◌≢◌, inl, inr, ℕ, ◌<◌, ◌≤◌, ◌+◌, List, length, Option, Some, None, true, false, set, get_or-set_same, get_or-set_other, refl, sym, ◌∙◌, ap, arith, nat_eq}
 use Rattle.std.proofs.lemmas.Bool.Decides.{eqb_tells}
 use Rattle.std.proofs.lemmas.Bool.{true≢false}
-use Rattle.std.proofs.lemmas.Option.{none-some, same_Some}
-use Rattle.mem_rec.specs.declared.MemRec.{MemRec}
+use Rattle.std.proofs.lemmas.Option.{none-some}
 use Rattle.mem_rec.specs.declared.Space.{Space}
 use Rattle.ialg.specs.Records.{unplaced}
 use Rattle.record_loans.specs.declared.pieces.Pieces.{Pieces}
@@ -13,14 +12,13 @@ use Rattle.scratch_group.specs.declared.group.Group.{Group}
 use Rattle.scratch_group.specs.Blocks.{block_in}
 use Rattle.scratch_group.proofs.Tables.{unplaced-with_bases}
 use Rattle.scratch_group.specs.Words.{record_place}
-use Rattle.lifecycle.specs.declared.instance.Instance.{Instance}
 use Rattle.lifecycle.specs.declared.instance.Inst.{Inst}
-use Rattle.lifecycle.specs.Moves.{settled, HasRoom}
-use Rattle.lifecycle.specs.States.{Fits, SameInstance}
+use Rattle.lifecycle.specs.Moves.{settled}
+use Rattle.lifecycle.specs.States.{SameInstance}
 use Rattle.lifecycle.proofs.Frames.{same_pieces, same_group}
-use Rattle.instance_table.specs.declared.TheConstants.{INSTANCES, GROUPS}
+use Rattle.instance_table.specs.declared.TheConstants.{INSTANCES}
 use Rattle.instance_table.specs.declared.member.Member.{Member}
-use Rattle.instance_table.specs.Table.{slot_at, once_at, group_at, no_pieces, no_group, instance_of, is_member_of, IsHoused, IsTold, Tables, TablesOk, TablesTold}
+use Rattle.instance_table.specs.Table.{slot_at, once_at, group_at, no_pieces, no_group, instance_of, is_member_of, IsHoused, IsTold, TablesOk, TablesTold}
 use Rattle.instance_table.specs.Frames.{SameMember, IsSameMember, SameMembers}
 use Rattle.instance_table.proofs.Housing.{same_blocks, room_of_housed, room_stays, housed_stays}
 use Rattle.instance_table.proofs.Changes.{slot_in, pieces_then, block_then, pieces_stay, blocks_stay}
@@ -29,7 +27,7 @@ use Rattle.instance_table.proofs.Changes.{slot_in, pieces_then, block_then, piec
 pub member_is : {M : Type 0} (slot : Option (Member M)) (g : ℕ) (m : Member M) → slot ≡ Some m → is_member_of g slot ≡ true → m.group ≡ g
 member_is slot g m at member =
     elim (eqb_tells m.group g) [
-      inl e ↦ e.1
+      | inl e ↦ e.1
       | inr e ↦ absurd (true≢false (sym (rw at at member) ∙ e.0))
     ]
 
@@ -37,10 +35,10 @@ member_is slot g m at member =
 pub told_next : {M : Type 0} (g n j : ℕ) (m : Member M) (o : Pieces) (y : Group) → j ≢ n → IsTold g n j m o y → IsTold g (n + 1) j m o y
 told_next g n j m o y apart t = record {
   told = λ h.
-    t.told (elim h [
-        inl e ↦ inl e
-      | inr e ↦ inr (omega (arith, apart, e))
-    ]);
+      t.told (elim h [
+        | inl e ↦ inl e
+        | inr e ↦ inr (omega (arith, apart, e))
+      ]);
   waits = t.waits;
 }
 
@@ -67,7 +65,7 @@ told_beside g n j m o o' y y' apart so sb t =
 equal_is : (a b : ℕ) → a ≡ b → nat_eq a b ≡ true
 equal_is a b same =
     elim (eqb_tells a b) [
-      inl e ↦ e.0
+      | inl e ↦ e.0
       | inr e ↦ absurd (e.1 same)
     ]
 
@@ -80,13 +78,13 @@ told_by_none g n slots once groups none ok = record {
   group_count = ok.group_count;
   group_range = ok.group_range;
   housed = λ j m at.
-    elim (eqb_tells j n) [
-        inl e ↦
-          let other : m.group ≢ g = λ same. true≢false (sym (sym none ∙ ap (is_member_of g) (rw e.1 at at) ∙ equal_is m.group g same)) in
-          let t = ok.housed j m at in
-          record { told = λ h. t.told (inl other); waits = t.waits }
-      | inr e ↦ told_next g n j m _ _ e.1 (ok.housed j m at)
-    ];
+      elim (eqb_tells j n) [
+        | inl e ↦
+            let other : m.group ≢ g = λ same. true≢false (sym (sym none ∙ ap (is_member_of g) (rw e.1 at at) ∙ equal_is m.group g same)) in
+            let t = ok.housed j m at in
+            record { told = λ h. t.told (inl other); waits = t.waits }
+        | inr e ↦ told_next g n j m _ _ e.1 (ok.housed j m at)
+      ];
   active_there = ok.active_there;
   active_known = ok.active_known;
 }
@@ -99,8 +97,8 @@ all_told g n slots once groups all ok = record {
   group_count = ok.group_count;
   group_range = ok.group_range;
   housed = λ j m at.
-    let inside = slot_in slots j m at in
-    (ok.housed j m at).told (inr (omega (arith, inside, all, ok.slot_count)));
+      let inside = slot_in slots j m at in
+      (ok.housed j m at).told (inr (omega (arith, inside, all, ok.slot_count)));
   active_there = ok.active_there;
   active_known = ok.active_known;
 }
@@ -158,10 +156,10 @@ pub members_after : {M : Type 0} (slots : List (Option (Member M))) (once : List
     → SameMembers slots once groups (set slots i (Some n)) (set once i o) (set groups g y)
 members_after slots once groups i g m n o y slot_in once_in group_in at same pieces blocks = record {
   slot = λ j.
-    elim (eqb_tells j i) [
-        inl e ↦ rw (e.1, get_or-set_same slots i (Some n) None slot_in, at) same
-      | inr e ↦ rw (get_or-set_other slots i j (Some n) None e.1) (same_members_slot (slot_at slots j))
-    ];
+      elim (eqb_tells j i) [
+        | inl e ↦ rw (e.1, get_or-set_same slots i (Some n) None slot_in, at) same
+        | inr e ↦ rw (get_or-set_other slots i j (Some n) None e.1) (same_members_slot (slot_at slots j))
+      ];
   pieces = pieces_stay once i o once_in pieces;
   blocks = blocks_stay groups g y group_in blocks;
 }
@@ -171,10 +169,10 @@ pub members_after_quiet : {M : Type 0} (slots : List (Option (Member M))) (once 
     → SameMembers slots once groups (set slots i (Some n)) (set once i o) groups
 members_after_quiet slots once groups i m n o slot_in once_in at same pieces = record {
   slot = λ j.
-    elim (eqb_tells j i) [
-        inl e ↦ rw (e.1, get_or-set_same slots i (Some n) None slot_in, at) same
-      | inr e ↦ rw (get_or-set_other slots i j (Some n) None e.1) (same_members_slot (slot_at slots j))
-    ];
+      elim (eqb_tells j i) [
+        | inl e ↦ rw (e.1, get_or-set_same slots i (Some n) None slot_in, at) same
+        | inr e ↦ rw (get_or-set_other slots i j (Some n) None e.1) (same_members_slot (slot_at slots j))
+      ];
   pieces = pieces_stay once i o once_in pieces;
   blocks = λ g space. same_blocks _ _ (same_group (group_at groups g)) space;
 }

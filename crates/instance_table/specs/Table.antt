@@ -1,7 +1,5 @@
 -- The tables of a host: a slot for each instance number, the pieces of its write-once records, and the groups.
-use Rattle.std.specs.Prelude.{ℕ, ℤ, ◌≡◌, ◌≢◌, ◌⊎◌, ◌<◌, ◌+◌, ◌-◌, ◌^◌, min, Bool, false, List, length, Option, Some, None, nat_eq, slice_index_or, if◌then◌else◌}
-use Rattle.mem_rec.specs.declared.MemRec.{MemRec}
-use Rattle.ialg.specs.Records.{unplaced}
+use Rattle.std.specs.Prelude.{ℕ, ℤ, ◌≡◌, ◌≢◌, ◌⊎◌, ◌<◌, Bool, false, List, length, Option, Some, None, nat_eq, slice_index_or, if◌then◌else◌}
 use Rattle.record_loans.specs.declared.pieces.Pieces.{Pieces}
 use Rattle.scratch_group.specs.declared.group.Group.{Group}
 use Rattle.scratch_group.specs.Blocks.{count_after, BlocksArePoison}

@@ -18,7 +18,12 @@ use record_loans::Pieces;
 use scratch_group::Group;
 
 /// Deactivates the active member of a group. In a host of a poison word the blocks are filled with it.
-fn rest_in<M: Ialg>(active: Active<M>, shared: &mut Pieces, group: &mut Group, poison: Option<i16>) -> Idle<M>
+fn rest_in<M: Ialg>(
+    active: Active<M>,
+    shared: &mut Pieces,
+    group: &mut Group,
+    poison: Option<i16>,
+) -> Idle<M>
     requires fits { Fits active.instance.table active.instance.own shared.old group.old }
     ensures same { SameInstance active.instance result.instance }
     ensures shared { SamePieces shared.old shared.new }
@@ -82,8 +87,20 @@ pub fn rest<M: Ialg>(
     let Member { group: _, inst } = take_out(slots, i);
     match inst {
         Inst::Running(active) => {
-            let idle = rest_in(active, &mut once[i as usize], &mut groups[g as usize], poison);
-            put_in(slots, i, Member { group: g, inst: Inst::Idling(idle) });
+            let idle = rest_in(
+                active,
+                &mut once[i as usize],
+                &mut groups[g as usize],
+                poison,
+            );
+            put_in(
+                slots,
+                i,
+                Member {
+                    group: g,
+                    inst: Inst::Idling(idle),
+                },
+            );
             true
         }
         Inst::Idling(_idle) => unreachable!(),
@@ -117,7 +134,14 @@ pub fn touch<M: Ialg>(
     match inst {
         Inst::Idling(idle) => {
             let active = wake_in(idle, &mut once[i as usize], &mut groups[g as usize], i);
-            put_in(slots, i, Member { group: g, inst: Inst::Running(active) });
+            put_in(
+                slots,
+                i,
+                Member {
+                    group: g,
+                    inst: Inst::Running(active),
+                },
+            );
         }
         Inst::Running(_active) => unreachable!(),
     }

@@ -16,7 +16,9 @@ pub use calls::{command, process};
 pub use life::{end, start};
 pub use member::Member;
 pub use moves::tell_members;
-pub use tables::{empty_groups, empty_once, empty_slots, end_groups, end_once, end_slots, in_order};
+pub use tables::{
+    empty_groups, empty_once, empty_slots, end_groups, end_once, end_slots, in_order,
+};
 
 /// Instances have the numbers below this.
 pub const INSTANCES: usize = 64;

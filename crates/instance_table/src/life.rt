@@ -52,7 +52,14 @@ pub fn start<M: Ialg>(
     let mut shared = shared;
     let idle = Idle::init(kind, params, table, own, &mut shared, &groups[g as usize]);
     end_absent(mem::replace(&mut once[i as usize], shared));
-    put_in(slots, i, Member { group: g, inst: Inst::Idling(idle) });
+    put_in(
+        slots,
+        i,
+        Member {
+            group: g,
+            inst: Inst::Idling(idle),
+        },
+    );
 }
 
 /// Ends an instance, and gives back the pieces of its own records and those of its write-once records. An active one is deactivated

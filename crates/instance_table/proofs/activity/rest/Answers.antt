@@ -1,4 +1,4 @@
-use Rattle.std.proofs.Common.{◌≡◌, ℕ, Option, Some, sym, ◌∙◌}
+use Rattle.std.proofs.Common.{◌≡◌, ℕ, Some, sym, ◌∙◌}
 use Rattle.std.proofs.lemmas.List.{set-set}
 use Rattle.std.proofs.lemmas.Option.{same_Some, none-some}
 use Rattle.mem_rec.specs.declared.Space.{Space}
@@ -62,19 +62,19 @@ pub returns-clause-ok : goal.returns-clause-ok
 returns-clause-ok g c =
     rw (c.put_in.ensures.slots, c.take_out-inst.ensures.slots, set-set)
     (ok_after_change _ _ _ _ _ _ _ _ _ c.requires.ok c.take_out-inst.ensures.member (of_group g c) (alone g c)
-        c.rest_in-idle.ensures.active (same g c) (shared g c) (written g c) (blocks g c))
+    c.rest_in-idle.ensures.active (same g c) (shared g c) (written g c) (blocks g c))
 
 pub returns-clause-same : goal.returns-clause-same
 returns-clause-same g c =
     rw (c.put_in.ensures.slots, c.take_out-inst.ensures.slots, set-set)
     (tables_after_change _ _ _ _ _ _ _ _ _ c.requires.ok c.take_out-inst.ensures.member (of_group g c) (alone g c)
-        c.rest_in-idle.ensures.active (same g c) (shared g c) (written g c) (blocks g c))
+    c.rest_in-idle.ensures.active (same g c) (shared g c) (written g c) (blocks g c))
 
 pub returns-clause-keeps : goal.returns-clause-keeps
 returns-clause-keeps g c histories keeps =
     rw (c.put_in.ensures.slots, c.take_out-inst.ensures.slots, set-set)
     (keeps_after_change _ _ _ _ _ _ _ _ _ _ c.requires.ok c.take_out-inst.ensures.member (of_group g c) (alone g c)
-        c.rest_in-idle.ensures.active
-        g.M.Ialg.meaning g.M.Ialg.idle_keeps g.M.Ialg.active_keeps c.args.poison histories
-        (λ before. c.rest_in-idle.ensures.keeps c.args.poison (histories c.in-Some.i) (rw (c.in-Running.is, once_is g c, group_is g c) at before))
-        keeps)
+    c.rest_in-idle.ensures.active
+    g.M.Ialg.meaning g.M.Ialg.idle_keeps g.M.Ialg.active_keeps c.args.poison histories
+    (λ before. c.rest_in-idle.ensures.keeps c.args.poison (histories c.in-Some.i) (rw (c.in-Running.is, once_is g c, group_is g c) at before))
+    keeps)

@@ -1,4 +1,4 @@
-use Rattle.std.proofs.Common.{◌≡◌, FitsSigned, rules, w16}
+use Rattle.std.proofs.Common.{FitsSigned, rules, w16}
 use Rattle.std.proofs.lemmas.Int.{to_z-of_z}
 use Rattle.instance_table.proofs.Housing.{same_blocks, same_filled}
 use Rattle.instance_table.proofs.activity.rest_in.Goals as goal

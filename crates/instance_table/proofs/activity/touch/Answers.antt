@@ -1,4 +1,4 @@
-use Rattle.std.proofs.Common.{◌≡◌, ℕ, ◌<◌, Option, Some, None, sym, ◌∙◌, ap, subst, arith, rules}
+use Rattle.std.proofs.Common.{◌≡◌, ℕ, ◌<◌, Some, None, sym, ◌∙◌, ap, subst}
 use Rattle.std.proofs.lemmas.List.{set-set}
 use Rattle.std.proofs.lemmas.Option.{none-some}
 use Rattle.mem_rec.specs.declared.Space.{Space}
@@ -18,7 +18,7 @@ use Rattle.instance_table.proofs.activity.touch.Given.{Over}
 pub unreachable-requires : goal.unreachable-requires
 unreachable-requires g c =
     let group : c.take_out-inst.result.group ≡ c.in-Some.g =
-        ap group_of (sym c.take_out-inst.ensures.member) ∙ same_group_of _ _ (c.rest-rested.ensures.same.slot c.args.i) ∙ sym c.in-Some.ensures.group in
+    ap group_of (sym c.take_out-inst.ensures.member) ∙ same_group_of _ _ (c.rest-rested.ensures.same.slot c.args.i) ∙ sym c.in-Some.ensures.group in
     let there : slot_active_in (slot_at c.rest-rested.new.slots.items c.args.i) ≡ Some c.in-Some.g = rw (c.take_out-inst.ensures.member, c.in-Running.is) (ap Some group) in
     let none = none_active_after (activity_at c.args.groups.now.items) (activity_at c.rest-rested.new.groups.items) c.in-Some.g c.rest-rested.ensures.activity in
     none-some _ (sym none ∙ c.rest-rested.ensures.ok.active_known _ _ there)
@@ -26,7 +26,7 @@ unreachable-requires g c =
 pub wake_in-active-requires : goal.wake_in-active-requires
 wake_in-active-requires g c =
     let group : c.take_out-inst.result.group ≡ c.in-Some.g =
-        ap group_of (sym c.take_out-inst.ensures.member) ∙ same_group_of _ _ (c.rest-rested.ensures.same.slot c.args.i) ∙ sym c.in-Some.ensures.group in
+    ap group_of (sym c.take_out-inst.ensures.member) ∙ same_group_of _ _ (c.rest-rested.ensures.same.slot c.args.i) ∙ sym c.in-Some.ensures.group in
     let in_range : c.in-Some.g < GROUPS = subst (λ (k : ℕ). k < GROUPS) group (c.rest-rested.ensures.ok.group_range _ _ c.take_out-inst.ensures.member) in
     let once_is = read_ok_once _ _ _ c.rest-rested.ensures.ok _ _ c.take_out-inst.ensures.member _ c.index_mut.ensures.value in
     let group_is = read_ok_group _ _ _ c.rest-rested.ensures.ok _ in_range _ c.index_mut-in-Idling.ensures.value in
@@ -69,38 +69,38 @@ pub returns-clause-ok : goal.returns-clause-ok
 returns-clause-ok g c =
     rw (c.put_in.ensures.slots, c.take_out-inst.ensures.slots, set-set)
     (ok_after_change _ _ _ _ _ _ _ _ _ c.rest-rested.ensures.ok c.take_out-inst.ensures.member (group g c) (alone g c)
-        c.wake_in-active.ensures.active (same g c) (shared g c) (written g c) (blocks g c))
+    c.wake_in-active.ensures.active (same g c) (shared g c) (written g c) (blocks g c))
 
 pub returns-clause-poisoned : goal.returns-clause-poisoned
 returns-clause-poisoned g c =
     poisoned_after_change _ _ _ _ _ _ _ (Running c.wake_in-active.result) c.wake_in-active.new.shared _ c.rest-rested.ensures.ok c.take_out-inst.ensures.member (group g c) (alone g c)
-        c.wake_in-active.ensures.active
-        c.args.poison c.rest-rested.ensures.poisoned (λ e. absurd (none-some _ (sym e ∙ c.wake_in-active.ensures.active)))
+    c.wake_in-active.ensures.active
+    c.args.poison c.rest-rested.ensures.poisoned (λ e. absurd (none-some _ (sym e ∙ c.wake_in-active.ensures.active)))
 
 pub returns-clause-same : goal.returns-clause-same
 returns-clause-same g c =
     rw (c.put_in.ensures.slots, c.take_out-inst.ensures.slots, set-set)
     (tables_then _ _ _ _ _ _ _ _ _ c.rest-rested.ensures.same
     (tables_after_change _ _ _ _ _ _ _ _ _ c.rest-rested.ensures.ok c.take_out-inst.ensures.member (group g c) (alone g c)
-        c.wake_in-active.ensures.active (same g c) (shared g c) (written g c) (blocks g c)))
+    c.wake_in-active.ensures.active (same g c) (shared g c) (written g c) (blocks g c)))
 
 pub returns-clause-activity : goal.returns-clause-activity
 returns-clause-activity g c k =
     let idle = not_active (group_at c.args.groups.now.items c.in-Some.g).active c.args.i
-        (λ active. none-some _ (sym c.in-Some.ensures.idle ∙ c.requires.ok.active_there _ _ (in_range g c) active)) in
+    (λ active. none-some _ (sym c.in-Some.ensures.idle ∙ c.requires.ok.active_there _ _ (in_range g c) active)) in
     rw (← c.in-Some.ensures.group)
     (activity_after_change _ _ _ _ _ _ _ (Running c.wake_in-active.result) c.wake_in-active.new.shared _ c.rest-rested.ensures.ok c.take_out-inst.ensures.member (group g c) (alone g c)
-        c.wake_in-active.ensures.active k
+    c.wake_in-active.ensures.active k
     ∙ activity_after_wake (activity_at c.args.groups.now.items) (activity_at c.rest-rested.new.groups.items) c.in-Some.g c.args.i _
-        c.rest-rested.ensures.activity idle c.wake_in-active.ensures.active (rw (group_is g c) c.wake_in-active.ensures.activations) k)
+    c.rest-rested.ensures.activity idle c.wake_in-active.ensures.active (rw (group_is g c) c.wake_in-active.ensures.activations) k)
 
 pub returns-clause-keeps : goal.returns-clause-keeps
 returns-clause-keeps g c histories keeps =
     rw (c.put_in.ensures.slots, c.take_out-inst.ensures.slots, set-set)
     (keeps_after_change _ _ _ _ _ _ _ _ _ _ c.rest-rested.ensures.ok c.take_out-inst.ensures.member (group g c) (alone g c)
-        c.wake_in-active.ensures.active
-        g.M.Ialg.meaning g.M.Ialg.idle_keeps g.M.Ialg.active_keeps c.args.poison histories
-        (λ before. c.wake_in-active.ensures.keeps c.args.poison (histories c.args.i)
-            (rw (group_is g c) at (c.rest-rested.ensures.poisoned c.in-Some.g (in_range g c) (none g c)))
-            (rw (c.in-Idling.is, once_is g c) at before))
-        (c.rest-rested.ensures.keeps histories keeps))
+    c.wake_in-active.ensures.active
+    g.M.Ialg.meaning g.M.Ialg.idle_keeps g.M.Ialg.active_keeps c.args.poison histories
+    (λ before. c.wake_in-active.ensures.keeps c.args.poison (histories c.args.i)
+    (rw (group_is g c) at (c.rest-rested.ensures.poisoned c.in-Some.g (in_range g c) (none g c)))
+    (rw (c.in-Idling.is, once_is g c) at before))
+    (c.rest-rested.ensures.keeps histories keeps))

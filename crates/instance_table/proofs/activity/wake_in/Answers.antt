@@ -1,4 +1,3 @@
-use Rattle.std.proofs.Common.{◌≡◌}
 use Rattle.instance_table.proofs.Housing.{same_blocks, active_words_at}
 use Rattle.instance_table.proofs.activity.wake_in.Goals as goal
 

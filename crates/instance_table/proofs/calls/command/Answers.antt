@@ -16,5 +16,5 @@ returns-clause-keeps g c histories keeps =
     let same = later.1.1 in
     let yes : c.accepts.result ≡ true = search rules in
     let accepts : IsLawful g.M.Ialg.meaning (instance_of later.0.inst) c.args.poison → Accepts g.M.Ialg.meaning (instance_of later.0.inst) (control_of c.args.c.now) =
-        λ lawful. rw (same.kind, same.params) (sym (c.accepts.ensures c.args.poison before.0 before.1 (lawful_before g.M.Ialg.meaning _ _ c.args.poison same lawful)) ∙ yes) in
+    λ lawful. rw (same.kind, same.params) (sym (c.accepts.ensures c.args.poison before.0 before.1 (lawful_before g.M.Ialg.meaning _ _ c.args.poison same lawful)) ∙ yes) in
     c.control.ensures.keeps c.args.poison histories later.0 later.1.0 accepts (c.touch.ensures.keeps histories keeps)

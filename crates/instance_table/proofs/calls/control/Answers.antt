@@ -1,4 +1,4 @@
-use Rattle.std.proofs.Common.{◌≡◌, ℕ, Option, Some, sym, ◌∙◌, refl, ap, subst}
+use Rattle.std.proofs.Common.{◌≡◌, ℕ, Some, sym, ◌∙◌, refl, ap}
 use Rattle.std.proofs.lemmas.Option.{same_Some, none-some}
 use Rattle.mem_rec.specs.declared.Space.{Space}
 use Rattle.record_loans.specs.Pieces.{SamePieces}
@@ -60,7 +60,7 @@ returns-clause-ok g c =
 pub returns-clause-poisoned : goal.returns-clause-poisoned
 returns-clause-poisoned g c w before =
     poisoned_after_change _ _ _ _ _ _ _ (Running c.control.new.self) c.control.new.shared _ c.requires.ok (in_slot g c) refl (alone g c) (now g c)
-        w before (λ e. absurd (none-some _ (sym e ∙ now g c)))
+    w before (λ e. absurd (none-some _ (sym e ∙ now g c)))
 
 pub returns-clause-same : goal.returns-clause-same
 returns-clause-same g c =
@@ -70,18 +70,18 @@ pub returns-clause-activity : goal.returns-clause-activity
 returns-clause-activity g c k =
     activity_after_change _ _ _ _ _ _ _ (Running c.control.new.self) c.control.new.shared _ c.requires.ok (in_slot g c) refl (alone g c) (now g c) k
     ∙ activity_stays (activity_at c.args.groups.now.items) c.in-Some.member.group _
-        (now g c ∙ sym (known g c)) (rw (group_is g c) c.control.ensures.group.activations) k
+    (now g c ∙ sym (known g c)) (rw (group_is g c) c.control.ensures.group.activations) k
 
 pub returns-clause-keeps : goal.returns-clause-keeps
 returns-clause-keeps g c w histories m at accepts keeps =
     let is : c.in-Some.member ≡ m = same_Some _ _ (sym (in_slot g c) ∙ at) in
     let inst : m.inst ≡ Running c.in-Running.active = ap (λ q. q.inst) (sym is) ∙ c.in-Running.is in
     keeps_after_step _ _ _ _ _ _ _ _ _ _ c.requires.ok (in_slot g c) refl (alone g c) (now g c)
-        g.M.Ialg.meaning g.M.Ialg.idle_keeps g.M.Ialg.active_keeps w histories _
-        (λ before lawful.
-          let s = c.in-Running.active.instance in
-          c.control.ensures.keeps w (histories c.args.i) (rw inst at accepts (lawful_before g.M.Ialg.meaning s _ w c.control.ensures.same lawful)) (rw (c.in-Running.is, once_is g c, group_is g c) at before) lawful)
-        keeps
+    g.M.Ialg.meaning g.M.Ialg.idle_keeps g.M.Ialg.active_keeps w histories _
+    (λ before lawful.
+    let s = c.in-Running.active.instance in
+    c.control.ensures.keeps w (histories c.args.i) (rw inst at accepts (lawful_before g.M.Ialg.meaning s _ w c.control.ensures.same lawful)) (rw (c.in-Running.is, once_is g c, group_is g c) at before) lawful)
+    keeps
 
 pub returns-clause-status : goal.returns-clause-status
 returns-clause-status g c w histories m at lawful accepts keeps =

@@ -1,4 +1,4 @@
-use Rattle.std.proofs.Common.{◌≡◌, ◌∙◌}
+use Rattle.std.proofs.Common.{◌∙◌}
 use Rattle.instance_table.proofs.Changes.{tables_then, later_member}
 use Rattle.instance_table.proofs.Housing.{lawful_after}
 use Rattle.instance_table.proofs.calls.process.Goals as goal
@@ -18,4 +18,4 @@ returns-clause-output g c histories keeps m at lawful =
     let same = later.1.1 in
     rw (same.kind, same.params) at
     (c.run.ensures.output c.args.poison histories (c.touch.ensures.keeps histories keeps) later.0 later.1.0
-        (lawful_after g.M.Ialg.meaning _ _ c.args.poison same lawful))
+    (lawful_after g.M.Ialg.meaning _ _ c.args.poison same lawful))

@@ -1,4 +1,4 @@
-use Rattle.std.proofs.Common.{◌≡◌, ℕ, Option, Some, sym, ◌∙◌, refl, ap, subst}
+use Rattle.std.proofs.Common.{◌≡◌, ℕ, Some, sym, ◌∙◌, refl, ap}
 use Rattle.std.proofs.lemmas.Option.{same_Some, none-some}
 use Rattle.mem_rec.specs.declared.Space.{Space}
 use Rattle.record_loans.specs.Pieces.{SamePieces}
@@ -60,7 +60,7 @@ returns-clause-ok g c =
 pub returns-clause-poisoned : goal.returns-clause-poisoned
 returns-clause-poisoned g c w before =
     poisoned_after_change _ _ _ _ _ _ _ (Running c.run.new.self) c.run.new.shared _ c.requires.ok (in_slot g c) refl (alone g c) (now g c)
-        w before (λ e. absurd (none-some _ (sym e ∙ now g c)))
+    w before (λ e. absurd (none-some _ (sym e ∙ now g c)))
 
 pub returns-clause-same : goal.returns-clause-same
 returns-clause-same g c =
@@ -70,14 +70,14 @@ pub returns-clause-activity : goal.returns-clause-activity
 returns-clause-activity g c k =
     activity_after_change _ _ _ _ _ _ _ (Running c.run.new.self) c.run.new.shared _ c.requires.ok (in_slot g c) refl (alone g c) (now g c) k
     ∙ activity_stays (activity_at c.args.groups.now.items) c.in-Some.member.group _
-        (now g c ∙ sym (known g c)) (rw (group_is g c) c.run.ensures.group.activations) k
+    (now g c ∙ sym (known g c)) (rw (group_is g c) c.run.ensures.group.activations) k
 
 pub returns-clause-keeps : goal.returns-clause-keeps
 returns-clause-keeps g c w histories keeps =
     keeps_after_step _ _ _ _ _ _ _ _ _ _ c.requires.ok (in_slot g c) refl (alone g c) (now g c)
-        g.M.Ialg.meaning g.M.Ialg.idle_keeps g.M.Ialg.active_keeps w histories _
-        (λ before. c.run.ensures.keeps w (histories c.args.i) (rw (c.in-Running.is, once_is g c, group_is g c) at before))
-        keeps
+    g.M.Ialg.meaning g.M.Ialg.idle_keeps g.M.Ialg.active_keeps w histories _
+    (λ before. c.run.ensures.keeps w (histories c.args.i) (rw (c.in-Running.is, once_is g c, group_is g c) at before))
+    keeps
 
 pub returns-clause-output : goal.returns-clause-output
 returns-clause-output g c w histories keeps m at lawful =

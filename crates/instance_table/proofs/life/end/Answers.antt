@@ -1,4 +1,4 @@
-use Rattle.std.proofs.Common.{◌≡◌, ◌<◌, length, Option, Some, None, sym, ◌∙◌, refl, arith}
+use Rattle.std.proofs.Common.{◌<◌, None, sym, ◌∙◌, refl, arith}
 use Rattle.std.proofs.lemmas.Option.{none-some}
 use Rattle.record_loans.specs.Pieces.{SamePieces}
 use Rattle.instance_table.specs.declared.TheConstants.{INSTANCES}

@@ -1,13 +1,6 @@
-use Rattle.std.proofs.Common.{◌≡◌, ◌<◌, Option, Some, None, sym, ap, subst, refl}
-use Rattle.std.proofs.lemmas.Option.{same_Some}
-use Rattle.scratch_group.specs.declared.group.Group.{Group}
-use Rattle.record_loans.specs.declared.pieces.Pieces.{Pieces}
+use Rattle.std.proofs.Common.{Some, ap, refl}
 use Rattle.lifecycle.specs.declared.instance.Inst.TheVariants.{Idling}
-use Rattle.lifecycle.specs.States.{Fits}
-use Rattle.scratch_group.specs.Words.{placed}
-use Rattle.instance_table.specs.declared.TheConstants.{GROUPS}
-use Rattle.instance_table.specs.declared.member.Member.{Member}
-use Rattle.instance_table.specs.Table.{instance_of, IsHoused, EachIsHoused, group_at, slot_active_in}
+use Rattle.instance_table.specs.Table.{IsHoused, EachIsHoused, group_at, slot_active_in}
 use Rattle.instance_table.proofs.Housing.{settled_stays}
 use Rattle.instance_table.proofs.Changes.{read_ok_group}
 use Rattle.instance_table.proofs.Idles.{is_new, ok_after_quiet, keeps_after_quiet}
@@ -23,11 +16,11 @@ returns-clause-ok g c =
     } in
     rw (c.put_in.ensures.slots, c.replace.ensures.after)
     (ok_after_quiet _ _ _ c.args.i (Some (record { group = c.args.g; inst = Idling c.init-idle.result })) _ c.requires.ok c.requires.number (ap slot_active_in c.requires.empty) refl
-        (is_new EachIsHoused _ c.args.i _ _ c.requires.group housed))
+    (is_new EachIsHoused _ c.args.i _ _ c.requires.group housed))
 
 pub returns-clause-keeps : goal.returns-clause-keeps
 returns-clause-keeps g c w histories table new keeps =
     rw (c.put_in.ensures.slots, c.replace.ensures.after)
     (keeps_after_quiet _ _ _ _ c.args.i (Some (record { group = c.args.g; inst = Idling c.init-idle.result })) _ c.requires.ok c.requires.number (ap slot_active_in c.requires.empty) refl
-        g.M.Ialg.meaning g.M.Ialg.idle_keeps g.M.Ialg.active_keeps w histories _
-        (λ lawful. c.init-idle.ensures.keeps w (table (rw (c.init-idle.ensures.same.kind, c.init-idle.ensures.same.params) at lawful)) new lawful) keeps)
+    g.M.Ialg.meaning g.M.Ialg.idle_keeps g.M.Ialg.active_keeps w histories _
+    (λ lawful. c.init-idle.ensures.keeps w (table (rw (c.init-idle.ensures.same.kind, c.init-idle.ensures.same.params) at lawful)) new lawful) keeps)

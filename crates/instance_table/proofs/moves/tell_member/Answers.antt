@@ -1,11 +1,11 @@
-use Rattle.std.proofs.Common.{◌≡◌, ◌<◌, ◌+◌, ℕ, length, Option, Some, None, sym, ◌∙◌, refl, ap, arith}
+use Rattle.std.proofs.Common.{◌≡◌, ◌+◌, Some, None, sym, ◌∙◌, refl, arith}
 use Rattle.std.proofs.lemmas.Option.{same_Some, none-some}
 use Rattle.mem_rec.specs.declared.Space.{Space}
 use Rattle.record_loans.specs.Pieces.{SamePieces}
 use Rattle.record_loans.specs.Blocks.{IsSameBlock}
 use Rattle.scratch_group.specs.Blocks.{block_in}
 use Rattle.lifecycle.specs.declared.instance.Inst.TheVariants.{Idling, Running}
-use Rattle.instance_table.specs.Table.{slot_at, once_at, group_at, slot_active_in, activity_at, instance_of, IsHoused, IsTold}
+use Rattle.instance_table.specs.Table.{slot_at, once_at, group_at, slot_active_in, activity_at, IsHoused, IsTold}
 use Rattle.instance_table.proofs.Housing.{same_blocks, settled_stays, settled_at}
 use Rattle.instance_table.proofs.Changes.{read_ok_slot, read_ok_once, read_ok_group, kept_in_slot, tables_by_change, poisoned_after_change, keeps_after_change, blocks_stay, pieces_stay}
 use Rattle.instance_table.proofs.Activities.{activity_stays, group_change}
@@ -42,17 +42,17 @@ returns-in-Idling-clause-told g c =
     } in
     rw of_group
     (tables_by_quiet (IsTold c.args.g c.args.i) _ _ _ c.args.i (Some (record { group = c.args.g; inst = Idling c.moved.new.self })) _ c.requires.told c.requires.number was refl
-        (IsTold c.args.g (c.args.i + 1))
-        (is_new (IsTold c.args.g (c.args.i + 1)) _ c.args.i _ _ c.requires.range (is_told c.args.g (c.args.i + 1) c.args.i (record { group = c.args.g; inst = Idling c.moved.new.self }) _ _ housed))
-        (λ j n apart here before. told_next c.args.g c.args.i j n _ _ apart before))
+    (IsTold c.args.g (c.args.i + 1))
+    (is_new (IsTold c.args.g (c.args.i + 1)) _ c.args.i _ _ c.requires.range (is_told c.args.g (c.args.i + 1) c.args.i (record { group = c.args.g; inst = Idling c.moved.new.self }) _ _ housed))
+    (λ j n apart here before. told_next c.args.g c.args.i j n _ _ apart before))
 
 pub returns-in-Idling-clause-same : goal.returns-in-Idling-clause-same
 returns-in-Idling-clause-same g c =
     let at = read_ok_slot _ _ _ c.requires.told c.args.i c.requires.number _ c.index_mut.ensures.value ∙ c.in-Some.is in
     let once_is = read_ok_once _ _ _ c.requires.told c.args.i _ at _ c.index_mut-in-Idling.ensures.value in
     members_after_quiet _ _ _ c.args.i c.in-Some.member _ _ (omega (arith, c.requires.number, c.requires.told.slot_count)) (omega (arith, c.requires.number, c.requires.told.once_count)) at
-        (told_member c.in-Some.member (Idling c.moved.new.self) c.index_mut-in-Idling.result.now c.index.result.now (rw c.in-Idling.is c.moved.ensures.same))
-        (rw once_is c.moved.ensures.shared)
+    (told_member c.in-Some.member (Idling c.moved.new.self) c.index_mut-in-Idling.result.now c.index.result.now (rw c.in-Idling.is c.moved.ensures.same))
+    (rw once_is c.moved.ensures.shared)
 
 pub returns-in-Idling-clause-keeps : goal.returns-in-Idling-clause-keeps
 returns-in-Idling-clause-keeps g c w histories keeps =
@@ -61,7 +61,7 @@ returns-in-Idling-clause-keeps g c w histories keeps =
     let was : slot_active_in (slot_at c.args.slots.now.items c.args.i) ≡ None = rw (at, c.in-Idling.is) refl in
     let kept = kept_in_slot _ _ _ c.args.i _ _ _ _ at c.in-Idling.is once_is refl g.M.Ialg.meaning g.M.Ialg.idle_keeps g.M.Ialg.active_keeps w histories keeps in
     keeps_after_end (IsTold c.args.g c.args.i) _ _ _ c.args.i (Some (record { group = c.in-Some.member.group; inst = Idling c.moved.new.self })) _ c.requires.told c.requires.number was refl
-        g.M.Ialg.meaning g.M.Ialg.idle_keeps g.M.Ialg.active_keeps w histories (c.moved.ensures.keeps w (histories c.args.i) kept) keeps
+    g.M.Ialg.meaning g.M.Ialg.idle_keeps g.M.Ialg.active_keeps w histories (c.moved.ensures.keeps w (histories c.args.i) kept) keeps
 
 -- the active member of the group is told
 pub returns-in-Running-clause-told : goal.returns-in-Running-clause-told
@@ -75,7 +75,7 @@ returns-in-Running-clause-told g c =
     let now : c.moved-in-Running.new.group.active ≡ Some c.args.i = c.moved-in-Running.ensures.group.active ∙ rw group_is at known in
     let pieces : SamePieces (once_at c.args.once.now.items c.args.i) c.moved-in-Running.new.shared = rw once_is c.moved-in-Running.ensures.shared in
     let blocks : (space : Space) → IsSameBlock (block_in (group_at c.args.groups.now.items c.args.g) space) (block_in c.moved-in-Running.new.group space) =
-        λ space. rw group_is (same_blocks _ _ c.moved-in-Running.ensures.group space) in
+    λ space. rw group_is (same_blocks _ _ c.moved-in-Running.ensures.group space) in
     let s = c.moved-in-Running.new.self.instance in
     let housed : IsHoused s c.moved-in-Running.new.shared c.moved-in-Running.new.group = record {
       fits = c.moved-in-Running.ensures.fits;
@@ -84,12 +84,12 @@ returns-in-Running-clause-told g c =
     } in
     rw of_group
     (tables_by_change (IsTold c.args.g c.args.i) _ _ _ c.args.i c.args.g c.in-Some.member (Running c.moved-in-Running.new.self) _ _ c.requires.told at of_group
-        (λ j other. same_Some j c.args.i (sym other ∙ known)) now
-        (IsTold c.args.g (c.args.i + 1))
-        (told_here c.args.g c.args.i _ _ _ _ (record { group = c.args.g; inst = Running c.moved-in-Running.new.self }) (omega (arith, c.requires.number, c.requires.told.once_count)) (omega (arith, c.requires.range, c.requires.told.group_count)) housed)
-        (λ j n apart here before. told_beside c.args.g c.args.i j n _ _ _ _ apart
-            (pieces_stay _ c.args.i _ (omega (arith, c.requires.number, c.requires.told.once_count)) pieces j)
-            (blocks_stay _ c.args.g _ (omega (arith, c.requires.range, c.requires.told.group_count)) blocks n.group) before))
+    (λ j other. same_Some j c.args.i (sym other ∙ known)) now
+    (IsTold c.args.g (c.args.i + 1))
+    (told_here c.args.g c.args.i _ _ _ _ (record { group = c.args.g; inst = Running c.moved-in-Running.new.self }) (omega (arith, c.requires.number, c.requires.told.once_count)) (omega (arith, c.requires.range, c.requires.told.group_count)) housed)
+    (λ j n apart here before. told_beside c.args.g c.args.i j n _ _ _ _ apart
+    (pieces_stay _ c.args.i _ (omega (arith, c.requires.number, c.requires.told.once_count)) pieces j)
+    (blocks_stay _ c.args.g _ (omega (arith, c.requires.range, c.requires.told.group_count)) blocks n.group) before))
 
 pub returns-in-Running-clause-poisoned : goal.returns-in-Running-clause-poisoned
 returns-in-Running-clause-poisoned g c w before =
@@ -100,7 +100,7 @@ returns-in-Running-clause-poisoned g c w before =
     let known = c.requires.told.active_known c.args.g c.args.i there in
     let now : c.moved-in-Running.new.group.active ≡ Some c.args.i = c.moved-in-Running.ensures.group.active ∙ rw group_is at known in
     poisoned_after_change (IsTold c.args.g c.args.i) c.args.slots.now.items c.args.once.now.items _ c.args.i c.args.g c.in-Some.member (Running c.moved-in-Running.new.self) c.moved-in-Running.new.shared _ c.requires.told at of_group
-        (λ j other. same_Some j c.args.i (sym other ∙ known)) now w before (λ e. absurd (none-some _ (sym e ∙ now)))
+    (λ j other. same_Some j c.args.i (sym other ∙ known)) now w before (λ e. absurd (none-some _ (sym e ∙ now)))
 
 pub returns-in-Running-clause-same : goal.returns-in-Running-clause-same
 returns-in-Running-clause-same g c =
@@ -108,8 +108,8 @@ returns-in-Running-clause-same g c =
     let once_is = read_ok_once _ _ _ c.requires.told c.args.i _ at _ c.index_mut-in-Running.ensures.value in
     let group_is = read_ok_group _ _ _ c.requires.told c.args.g c.requires.range _ c.index_mut-in-Running-2.ensures.value in
     members_after _ _ _ c.args.i c.args.g c.in-Some.member _ _ _ (omega (arith, c.requires.number, c.requires.told.slot_count)) (omega (arith, c.requires.number, c.requires.told.once_count)) (omega (arith, c.requires.range, c.requires.told.group_count)) at
-        (told_member c.in-Some.member (Running c.moved-in-Running.new.self) c.index_mut-in-Running.result.now c.index_mut-in-Running-2.result.now (rw c.in-Running.is c.moved-in-Running.ensures.same))
-        (rw once_is c.moved-in-Running.ensures.shared) (λ space. rw group_is (same_blocks _ _ c.moved-in-Running.ensures.group space))
+    (told_member c.in-Some.member (Running c.moved-in-Running.new.self) c.index_mut-in-Running.result.now c.index_mut-in-Running-2.result.now (rw c.in-Running.is c.moved-in-Running.ensures.same))
+    (rw once_is c.moved-in-Running.ensures.shared) (λ space. rw group_is (same_blocks _ _ c.moved-in-Running.ensures.group space))
 
 pub returns-in-Running-clause-activity : goal.returns-in-Running-clause-activity
 returns-in-Running-clause-activity g c k =
@@ -128,7 +128,7 @@ returns-in-Running-clause-keeps g c w histories keeps =
     let now : c.moved-in-Running.new.group.active ≡ Some c.args.i = c.moved-in-Running.ensures.group.active ∙ rw group_is at known in
     rw of_group
     (keeps_after_change (IsTold c.args.g c.args.i) _ _ _ c.args.i c.args.g c.in-Some.member (Running c.moved-in-Running.new.self) _ _ c.requires.told at of_group
-        (λ j other. same_Some j c.args.i (sym other ∙ known)) now
-        g.M.Ialg.meaning g.M.Ialg.idle_keeps g.M.Ialg.active_keeps w histories
-        (λ before. c.moved-in-Running.ensures.keeps w (histories c.args.i) (rw (c.in-Running.is, once_is, group_is) at before))
-        keeps)
+    (λ j other. same_Some j c.args.i (sym other ∙ known)) now
+    g.M.Ialg.meaning g.M.Ialg.idle_keeps g.M.Ialg.active_keeps w histories
+    (λ before. c.moved-in-Running.ensures.keeps w (histories c.args.i) (rw (c.in-Running.is, once_is, group_is) at before))
+    keeps)

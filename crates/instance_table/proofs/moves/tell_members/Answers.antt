@@ -1,4 +1,4 @@
-use Rattle.std.proofs.Common.{◌≡◌, ◌∙◌, refl, arith}
+use Rattle.std.proofs.Common.{◌∙◌, refl, arith}
 use Rattle.instance_table.proofs.Told.{all_told, members_then, same_members}
 use Rattle.instance_table.proofs.moves.tell_members.Goals as goal
 

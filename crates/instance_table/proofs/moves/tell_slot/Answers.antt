@@ -1,4 +1,4 @@
-use Rattle.std.proofs.Common.{◌≡◌, sym, ◌∙◌}
+use Rattle.std.proofs.Common.{sym, ◌∙◌}
 use Rattle.instance_table.proofs.Told.{told_by_none, same_members}
 use Rattle.instance_table.proofs.moves.tell_slot.Goals as goal
 

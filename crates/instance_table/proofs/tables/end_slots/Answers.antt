@@ -1,6 +1,5 @@
-use Rattle.std.proofs.Common.{◌≡◌, Option, None, refl, sym, ◌∙◌}
+use Rattle.std.proofs.Common.{sym, ◌∙◌}
 use Rattle.std.proofs.lemmas.Option.{none-some}
-use Rattle.instance_table.specs.declared.member.Member.{Member}
 use Rattle.instance_table.proofs.Ends.{last_empty, front_empty}
 use Rattle.instance_table.proofs.tables.end_slots.Goals as goal
 

@@ -1,4 +1,4 @@
-use Rattle.std.proofs.Common.{◌≡◌, ap, sym, ◌∙◌}
+use Rattle.std.proofs.Common.{ap, sym, ◌∙◌}
 use Rattle.std.proofs.lemmas.Option.{none-some}
 use Rattle.instance_table.specs.Table.{slot_active_in, group_at, Activity}
 use Rattle.instance_table.proofs.Housing.{none_poisoned}
