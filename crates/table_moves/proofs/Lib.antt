@@ -1,0 +1,3 @@
+pub mod Owns
+pub mod Seen
+pub mod Tells

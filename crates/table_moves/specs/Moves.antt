@@ -1,0 +1,64 @@
+-- Records and blocks that lie elsewhere.
+use Rattle.std.specs.Prelude.{ℕ, ◌≡◌, ◌≢◌, List, Option, Some, None, slice_set}
+use Rattle.mem_rec.specs.declared.Space.{Space}
+use Rattle.record_loans.specs.declared.block.ScratchBlock.{ScratchBlock}
+use Rattle.record_loans.specs.declared.pieces.Pieces.{Pieces}
+use Rattle.record_loans.specs.Pieces.{piece_at, piece_words}
+use Rattle.record_loans.specs.Blocks.{block_words}
+use Rattle.scratch_group.specs.declared.group.Group.{Group}
+use Rattle.scratch_group.specs.Blocks.{block_in}
+use Rattle.lifecycle.specs.declared.instance.Instance.{Instance}
+use Rattle.lifecycle.specs.declared.instance.Inst.{Inst}
+use Rattle.lifecycle.specs.declared.instance.Inst.TheVariants.{Idling, Running}
+use Rattle.instance_table.specs.declared.member.Member.{Member}
+use Rattle.instance_table.specs.Table.{slot_at, once_at, group_at, instance_of, active_in, slot_active_in, Tables, IsHoused}
+
+-- an instance with these pieces for its own records
+abbrev pub inst_with : {M : Type 0} → Inst M → Pieces → Inst M
+inst_with (Idling s) own = Idling (record s { instance = record s.instance { own = own } })
+inst_with (Running s) own = Running (record s { instance = record s.instance { own = own } })
+
+abbrev pub slot_with : {M : Type 0} → Option (Member M) → Pieces → Option (Member M)
+slot_with None own = None
+slot_with (Some m) own = Some (record m { inst = inst_with m.inst own })
+
+-- the slots, where instance i has these pieces
+abbrev pub own_set : {M : Type 0} → List (Option (Member M)) → ℕ → Pieces → List (Option (Member M))
+own_set slots i own = slice_set slots i (slot_with (slot_at slots i) own)
+
+-- each instance but i is housed
+abbrev pub IsHousedBut : {M : Type 0} → ℕ → ℕ → Member M → Pieces → Group → Type 0
+IsHousedBut i j m o y = j ≢ i → IsHoused (instance_of m.inst) o y
+
+abbrev pub TablesBut : {M : Type 0} → ℕ → List (Option (Member M)) → List Pieces → List Group → Type 0
+TablesBut i slots once groups = Tables (IsHousedBut i) slots once groups
+
+-- the same words, wherever the pieces lie
+abbrev pub SameWords : Pieces → Pieces → Type 0
+SameWords old new = (k : ℕ) → piece_words (piece_at new k) ≡ piece_words (piece_at old k)
+
+-- the same instance in the same state, that goes by the same bases and has the same words
+pub record MemberStays {M : Type 0} (m n : Member M) : Type 0 where
+  pub group : n.group ≡ m.group
+  pub state : active_in m.group n.inst ≡ active_in m.group m.inst
+  pub kind : (instance_of n.inst).kind ≡ (instance_of m.inst).kind
+  pub params : (instance_of n.inst).params ≡ (instance_of m.inst).params
+  pub table : (instance_of n.inst).table ≡ (instance_of m.inst).table
+  pub own : SameWords (instance_of m.inst).own (instance_of n.inst).own
+
+abbrev pub SlotStays : {M : Type 0} → Option (Member M) → Option (Member M) → Type 0
+SlotStays None new = new ≡ None
+SlotStays (Some m) None = ⊥
+SlotStays (Some m) (Some n) = MemberStays m n
+
+-- a block that stood there before has the same words
+abbrev pub BlockStays : Option ScratchBlock → Option ScratchBlock → Type 0
+BlockStays None new = Unit {0}
+BlockStays (Some b) new = block_words new ≡ b.piece.words
+
+-- the same instances in the same states, whose words are the same; those of a group's blocks, where one of its members is active
+pub record WordsStay {M : Type 0} (slots : List (Option (Member M))) (once : List Pieces) (groups : List Group)
+    (slots' : List (Option (Member M))) (once' : List Pieces) (groups' : List Group) : Type 0 where
+  pub slot : (i : ℕ) → SlotStays (slot_at slots i) (slot_at slots' i)
+  pub pieces : (i : ℕ) → SameWords (once_at once i) (once_at once' i)
+  pub blocks : (g i : ℕ) (space : Space) → slot_active_in (slot_at slots i) ≡ Some g → BlockStays (block_in (group_at groups g) space) (block_in (group_at groups' g) space)

@@ -1,0 +1,45 @@
+//! The pieces of an instance's records, taken out and put back.
+ghost use Rattle.std.specs.Prelude.{◌≡◌, ◌<◌, length, Some, None, IsSome, slice_set};
+ghost use Rattle.record_loans.specs.Pieces.{piece_at, with_piece};
+ghost use Rattle.instance_table.specs.Table.{slot_at, once_at, own_of};
+ghost use Rattle.table_moves.specs.Moves.{own_set};
+
+use ialg::Ialg;
+use instance_table::Member;
+use lifecycle::Inst;
+use record_loans::Pieces;
+use space_raw::Piece;
+
+/// Takes the piece of record `k` out of an instance that has it for its own, to be moved: [`tell`](crate::tell) puts it back.
+pub fn take_own<M: Ialg>(slots: &mut Vec<Option<Member<M>>>, i: u8, k: usize) -> Piece
+    requires { IsSome (piece_at (own_of (slot_at slots.old.items i)) k) }
+    ensures piece { piece_at (own_of (slot_at slots.old.items i)) k ≡ Some result }
+    ensures left { slots.new.items ≡ own_set slots.old.items i (with_piece (own_of (slot_at slots.old.items i)) k None) }
+{
+    match &mut slots[i as usize] {
+        Some(member) => match &mut member.inst {
+            Inst::Idling(idle) => idle.detach(k),
+            Inst::Running(active) => active.detach(k),
+        },
+        None => unreachable!(),
+    }
+}
+
+/// Takes the piece of write-once record `k` of an instance out, to be moved: [`put_once`] puts it back.
+pub fn take_once(once: &mut Vec<Pieces>, i: u8, k: usize) -> Piece
+    requires { IsSome (piece_at (once_at once.old.items i) k) }
+    ensures piece { piece_at (once_at once.old.items i) k ≡ Some result }
+    ensures left { once.new.items ≡ slice_set once.old.items i (with_piece (once_at once.old.items i) k None) }
+{
+    once[i as usize].take_out(k)
+}
+
+/// Puts the piece of write-once record `k` of an instance back. [`tell`](crate::tell) has to follow.
+pub fn put_once(once: &mut Vec<Pieces>, i: u8, k: usize, piece: Piece)
+    requires number { i < length once.old.items }
+    requires record { k < 4 }
+    requires empty { piece_at (once_at once.old.items i) k ≡ None }
+    ensures { once.new.items ≡ slice_set once.old.items i (with_piece (once_at once.old.items i) k (Some piece)) }
+{
+    once[i as usize].put_in(k, piece);
+}

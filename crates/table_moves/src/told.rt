@@ -1,0 +1,52 @@
+//! An instance is told where its records lie.
+ghost use Rattle.std.specs.Prelude.{◌≡◌, ◌<◌, ℕ, ℤ, Option, Some, IsSome};
+ghost use Rattle.ialg.specs.History.{History};
+ghost use Rattle.lifecycle.specs.Moves.{restored, CanRestore, with_back, HasRoom};
+ghost use Rattle.instance_table.specs.declared.TheConstants.{INSTANCES};
+ghost use Rattle.instance_table.specs.declared.member.Member.{Member};
+ghost use Rattle.instance_table.specs.Table.{slot_at, once_at, group_at, own_of, instance_of, activity_at, TablesOk, ArePoisoned};
+ghost use Rattle.instance_table.specs.Keeps.{Keeps};
+ghost use Rattle.instance_table.specs.Frames.{SameMembers};
+ghost use Rattle.table_moves.specs.Moves.{own_set, TablesBut};
+
+use ialg::Ialg;
+use instance_table::Member;
+use lifecycle::Inst;
+use record_loans::Pieces;
+use scratch_group::Group;
+use space_raw::Piece;
+
+/// Tells an instance where its records lie now, with the own piece that was taken out, if one was. It stays in its state.
+pub fn tell<M: Ialg>(
+    slots: &mut Vec<Option<Member<M>>>,
+    once: &mut Vec<Pieces>,
+    groups: &mut Vec<Group>,
+    i: u8,
+    back: Option<(usize, Piece)>,
+)
+    requires number { i < INSTANCES }
+    requires living { IsSome (slot_at slots.old.items i) }
+    requires back { CanRestore back (own_of (slot_at slots.old.items i)) }
+    requires others { TablesBut i slots.old.items once.old.items groups.old.items }
+    requires room { (m : Member M) → slot_at slots.old.items i ≡ Some m
+        → HasRoom (with_back (instance_of m.inst) back) (once_at once.old.items i) (group_at groups.old.items m.group) }
+    ensures ok { TablesOk slots.new.items once.new.items groups.new.items }
+    ensures poisoned { (w : Option ℤ) → ArePoisoned w groups.old.items → ArePoisoned w groups.new.items }
+    ensures same { SameMembers (own_set slots.old.items i (restored back (own_of (slot_at slots.old.items i)))) once.old.items groups.old.items
+        slots.new.items once.new.items groups.new.items }
+    ensures activity { (k : ℕ) → activity_at groups.new.items k ≡ activity_at groups.old.items k }
+    ensures keeps { (w : Option ℤ) (histories : ℕ → History)
+        → Keeps M.meaning M.idle_keeps M.active_keeps w (own_set slots.old.items i (restored back (own_of (slot_at slots.old.items i)))) once.old.items groups.old.items histories
+        → Keeps M.meaning M.idle_keeps M.active_keeps w slots.new.items once.new.items groups.new.items histories }
+{
+    match &mut slots[i as usize] {
+        Some(member) => {
+            let g = member.group as usize;
+            match &mut member.inst {
+                Inst::Idling(idle) => idle.moved(back, &mut once[i as usize], &groups[g]),
+                Inst::Running(active) => active.moved(back, &mut once[i as usize], &mut groups[g]),
+            }
+        }
+        None => unreachable!(),
+    }
+}
