@@ -1,0 +1,79 @@
+-- The pieces of an instance's records and of a group's blocks, and the blocks that they are.
+use Rattle.std.specs.Prelude.{◌≡◌, ℕ, ◌<◌, ℤ, Bool, true, false, List, [], ◌∷◌, length, Option, Some, None, if◌then◌else◌}
+use Rattle.mem_rec.specs.declared.MemRec.{MemRec}
+use Rattle.mem_rec.specs.declared.Space.{Space}
+use Rattle.mem_rec.specs.declared.Space.TheVariants.{Daram, Saram, External}
+use Rattle.mem_rec.specs.declared.Attr.{Attr}
+use Rattle.mem_rec.specs.declared.Attr.TheVariants.{Persist, WriteOnce}
+use Rattle.mem_rec.specs.declared.Attr.TheVariants.{Scratch as ScratchRecord}
+use Rattle.mem_rec.specs.Records.{is_persistent, same_space}
+use Rattle.space_raw.specs.Span.{Extent, Span}
+use Rattle.space_heap.specs.Places.{placed_size}
+use Rattle.ialg.specs.Records.{ArePoison, record_at}
+use Rattle.record_loans.specs.declared.pieces.Pieces.{Pieces}
+use Rattle.record_loans.specs.declared.block.ScratchBlock.{ScratchBlock}
+use Rattle.record_loans.specs.Pieces.{piece_at, piece_words}
+use Rattle.record_loans.specs.Blocks.{block_align, block_piece, block_words}
+use Rattle.scratch_group.specs.declared.group.Group.{Group}
+use Rattle.scratch_group.specs.Blocks.{block_in}
+use Rattle.space_blocks.specs.declared.placed.Owner.TheVariants.{Record, Scratch}
+use Rattle.space_blocks.specs.declared.placed.Placed.{Placed}
+use Rattle.space_blocks.specs.Blocks.{block_of_piece, owned, without_piece}
+use Rattle.host_spaces.specs.declared.pieces.NewBlocks.{NewBlocks}
+use Rattle.host_spaces.specs.declared.pieces.OldBlocks.{OldBlocks}
+use Rattle.host_spaces.specs.declared.spaces.Spaces.{Spaces}
+use Rattle.host_spaces.specs.Picture.{Picture, blocks_in, each_space, space_in}
+
+-- the piece of a record that lasts: its own, or the one that is lent
+abbrev pub lasting_piece : Attr → Option Span → Option Span → Option Span
+lasting_piece ScratchRecord own shared = None
+lasting_piece Persist own shared = own
+lasting_piece WriteOnce own shared = shared
+
+abbrev pub piece_of_record : List MemRec → Pieces → Pieces → ℕ → Option Span
+piece_of_record table own shared k = lasting_piece (record_at table k).attr (piece_at own k) (piece_at shared k)
+
+-- the block of record k of instance i in the space, none if it is in another
+abbrev pub record_block : ℕ → ℕ → MemRec → Space → Option Span → List Placed
+record_block i k r space p = if same_space r.space space then block_of_piece (Record i k) r.align p else []
+
+-- the blocks of instance i in the picture are the pieces of its records
+abbrev pub HasRecords : Picture → ℕ → List MemRec → Pieces → Pieces → Type 0
+HasRecords picture i table own shared = (k : ℕ) (space : Space) →
+    owned (Record i k) (blocks_in picture space) ≡ record_block i k (record_at table k) space (piece_of_record table own shared k)
+
+-- those of group g are its blocks
+abbrev pub HasBlocks : Picture → ℕ → Group → Type 0
+HasBlocks picture g group = (space : Space) →
+    owned (Scratch g) (blocks_in picture space) ≡ block_of_piece (Scratch g) (block_align (block_in group space)) (block_piece (block_in group space))
+
+abbrev pub is_write_once : Attr → Bool
+is_write_once ScratchRecord = false
+is_write_once Persist = false
+is_write_once WriteOnce = true
+
+-- where a piece is wanted there is one, of the space's words and of so many of them
+abbrev pub IsPieceOf : Extent → ℕ → Bool → Option Span → Type 0
+IsPieceOf home size wanted None = wanted ≡ false
+IsPieceOf home size wanted (Some p) = (wanted ≡ true) × (p.region ≡ home) × (length p.words ≡ size)
+
+-- each record that lasts has a piece of its placed size in its space: a persistent one its own, a write-once one among those that are lent
+pub record ArePiecesOf (spaces : Spaces) (table : List MemRec) (own shared : Pieces) : Type 0 where
+  pub persistent : (k : ℕ) → IsPieceOf (space_in spaces (record_at table k).space).region (placed_size (record_at table k).size)
+      (is_persistent (record_at table k).attr) (piece_at own k)
+  pub write_once : (k : ℕ) → IsPieceOf (space_in spaces (record_at table k).space).region (placed_size (record_at table k).size)
+      (is_write_once (record_at table k).attr) (piece_at shared k)
+
+abbrev pub new_block : NewBlocks → Space → Option ScratchBlock
+new_block blocks Daram = blocks.daram
+new_block blocks Saram = blocks.saram
+new_block blocks External = blocks.external
+
+abbrev pub old_piece : OldBlocks → Space → Option Span
+old_piece pieces Daram = pieces.daram
+old_piece pieces Saram = pieces.saram
+old_piece pieces External = pieces.external
+
+-- the picture without these pieces
+abbrev pub without_pieces : Picture → OldBlocks → Picture
+without_pieces picture pieces = each_space (λ space. without_piece (old_piece pieces space) (blocks_in picture space))

@@ -1,0 +1,10 @@
+//! The three spaces of a host: which block stands where, and whose it is.
+//!
+//! A creation is refused whole: all its blocks are placed, or none. Places and sizes are counted in words of 16 bits.
+#![tactic(auto)]
+
+mod pieces;
+mod spaces;
+
+pub use pieces::{NewBlocks, OldBlocks, Placement};
+pub use spaces::{Sizes, Spaces, StartError};

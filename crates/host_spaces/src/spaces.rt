@@ -1,0 +1,177 @@
+//! The three spaces.
+ghost use Rattle.std.specs.Prelude.{◌≡◌, ◌≢◌, ℕ, ◌+◌, ◌≤◌, ◌^◌, [], ◌∷◌, length, min, Some, IfOk, IfErr, IsErrOf};
+ghost use Rattle.std.specs.Option.{option_map};
+ghost use Rattle.mem_rec.specs.declared.Space.{Space};
+ghost use Rattle.space_heap.specs.Pictures.{range_of};
+ghost use Rattle.space_blocks.specs.declared.TheConstants.{MAP_BLOCKS};
+ghost use Rattle.space_blocks.specs.declared.placed.Owner.{Owner};
+ghost use Rattle.space_blocks.specs.Blocks.{Owns, block_of, block_range, owned};
+ghost use Rattle.space_blocks.specs.Moves.{next_block, next_in};
+ghost use Rattle.space_blocks.specs.Spaces.{AreInOrder};
+ghost use Rattle.host_spaces.specs.Picture.{AreSizes, blocks_in, copied_in, empty_picture, moved_in, picture_of, sizes_of, space_in};
+
+use mem_rec::Space;
+use space_blocks::{Map, Placed, SpaceBlocks};
+use space_heap::{HeapError, is_space_size};
+use space_raw::Piece;
+use std::alloc::Global;
+use thiserror::Error;
+
+/// How many words of 16 bits each space has: a multiple of 4 up to 65,536.
+#[derive(Clone, Copy, PartialEq, Eq, Debug)]
+pub struct Sizes {
+    pub daram: u32,
+    pub saram: u32,
+    pub external: u32,
+}
+
+/// Why the spaces aren't made. Nothing is held then.
+#[derive(Clone, Copy, PartialEq, Eq, Debug, Error)]
+pub enum StartError {
+    /// The size of a space isn't a multiple of 4 up to 65,536.
+    #[error("a space is 0 to 65536 words, a multiple of 4")]
+    BadSize,
+    /// A request for memory was refused.
+    #[error("out of memory")]
+    Memory,
+}
+
+/// The three spaces and their blocks. The pieces of the blocks are held elsewhere. They can't be copied, and must be given back by
+/// `close`.
+pub struct Spaces {
+    pub(crate) daram: SpaceBlocks,
+    pub(crate) saram: SpaceBlocks,
+    pub(crate) external: SpaceBlocks,
+}
+
+// What it means to a host that a space isn't made.
+fn start_error(refusal: HeapError) -> StartError
+    ensures bad_size { refusal ≡ HeapError.BadSize → result ≡ StartError.BadSize }
+    ensures memory { refusal ≡ HeapError.Memory → result ≡ StartError.Memory }
+{
+    match refusal {
+        HeapError::BadSize => StartError::BadSize,
+        HeapError::Memory => StartError::Memory,
+    }
+}
+
+impl Spaces {
+    /// Spaces of these sizes, all of whose words are free.
+    pub fn new(alloc: Global, sizes: Sizes) -> Result<Spaces, StartError>
+        ensures bad_size { ¬ AreSizes sizes → IsErrOf result StartError.BadSize }
+        ensures memory { AreSizes sizes → IfErr result (λ e. e ≡ StartError.Memory) }
+        ensures spaces { IfOk result (λ s. (sizes_of s ≡ sizes) × (picture_of s ≡ empty_picture) × (copied_in s ≡ 0)) }
+    {
+        let Sizes {
+            daram,
+            saram,
+            external,
+        } = sizes;
+        if !is_space_size(daram) || !is_space_size(saram) || !is_space_size(external) {
+            return Err(StartError::BadSize);
+        }
+        let daram = match SpaceBlocks::new(alloc, daram) {
+            Ok(daram) => daram,
+            Err(refusal) => return Err(start_error(refusal)),
+        };
+        let saram = match SpaceBlocks::new(alloc, saram) {
+            Ok(saram) => saram,
+            Err(refusal) => {
+                daram.close();
+                return Err(start_error(refusal));
+            }
+        };
+        match SpaceBlocks::new(alloc, external) {
+            Ok(external) => Ok(Spaces {
+                daram,
+                saram,
+                external,
+            }),
+            Err(refusal) => {
+                saram.close();
+                daram.close();
+                Err(start_error(refusal))
+            }
+        }
+    }
+
+    /// A space.
+    fn space(&self, space: Space) -> &SpaceBlocks
+        ensures { result.now ≡ space_in self.now space }
+    {
+        match space {
+            Space::Daram => &self.daram,
+            Space::Saram => &self.saram,
+            Space::External => &self.external,
+        }
+    }
+
+    /// The blocks of a space, in place order, while none is being replaced.
+    pub fn map(&self, space: Space) -> Map
+        requires few { length (blocks_in (picture_of self.now) space) ≤ MAP_BLOCKS }
+        ensures value { result.items ≡ blocks_in (picture_of self.now) space }
+    {
+        self.space(space).map()
+    }
+
+    /// The blocks of a space, in place order.
+    pub fn blocks(&self, space: Space) -> &[Placed]
+        ensures value { result.now ≡ blocks_in (picture_of self.now) space }
+        ensures order { AreInOrder (space_in self.now space).region.size (blocks_in (picture_of self.now) space) }
+    {
+        self.space(space).blocks()
+    }
+
+    /// The block of a space that moves next, as it stands. `None` exactly where all are packed.
+    pub fn next_move(&self, space: Space) -> Option<Placed>
+        ensures value { result ≡ next_block (blocks_in (picture_of self.now) space) }
+    {
+        self.space(space).next_move()
+    }
+
+    /// The next move of a space is made, of the block that this piece is. It is slid down to its packed place with its words.
+    pub fn make_move(&mut self, space: Space, piece: Piece) -> Piece
+        requires region { piece.region ≡ (space_in self.old space).region }
+        requires next { option_map block_range (next_block (blocks_in (picture_of self.old) space)) ≡ Some (range_of piece) }
+        ensures picture { picture_of self.new ≡ moved_in (picture_of self.old) space }
+        ensures place { option_map (λ m. m.to) (next_in (blocks_in (picture_of self.old) space)) ≡ Some result.place }
+        ensures words { (result.words ≡ piece.words) × (result.region ≡ piece.region) }
+        ensures owned { (owner : Owner) (align : ℕ) → owned owner (blocks_in (picture_of self.old) space) ≡ block_of owner align piece ∷ []
+            → owned owner (blocks_in (picture_of self.new) space) ≡ block_of owner align result ∷ [] }
+        ensures others { (owner o : Owner) → Owns (blocks_in (picture_of self.old) space) owner piece → o ≢ owner
+            → owned o (blocks_in (picture_of self.new) space) ≡ owned o (blocks_in (picture_of self.old) space) }
+        ensures elsewhere { (other : Space) → other ≢ space → space_in self.new other ≡ space_in self.old other }
+        ensures copied { copied_in self.new ≡ min (copied_in self.old + length piece.words) (2 ^ 64 - 1) }
+        ensures regions { (any : Space) → (space_in self.new any).region ≡ (space_in self.old any).region }
+    {
+        match space {
+            Space::Daram => self.daram.make_move(piece),
+            Space::Saram => self.saram.make_move(piece),
+            Space::External => self.external.make_move(piece),
+        }
+    }
+
+    /// The words that were moved, again for each move. It stays at the greatest `u64`.
+    pub fn copied(&self) -> u64
+        ensures value { result ≡ copied_in self.now }
+    {
+        self.daram
+            .slid()
+            .saturating_add(self.saram.slid())
+            .saturating_add(self.external.slid())
+    }
+
+    /// The spaces go back to the allocator. All blocks were taken out.
+    pub fn close(self)
+        requires none { picture_of self ≡ empty_picture }
+    {
+        let Spaces {
+            daram,
+            saram,
+            external,
+        } = self;
+        daram.close();
+        saram.close();
+        external.close();
+    }
+}

@@ -1,0 +1,27 @@
+-- A space and its blocks.
+use Rattle.std.specs.Prelude.{◌≡◌, ℕ, ◌<◌, ◌^◌, List}
+use Rattle.space_raw.specs.Span.{Extent}
+use Rattle.space_heap.specs.Pictures.{AreBlocks, HeapState, Holds, IsSpaceSize}
+use Rattle.relocate.specs.Spots.{AreSpots}
+use Rattle.space_blocks.specs.declared.placed.Placed.{Placed}
+use Rattle.space_blocks.specs.Blocks.{ranges}
+use Rattle.space_blocks.specs.Moves.{spots_of}
+
+-- the space, how many words were moved in it, and its blocks
+pub record SpaceState : Type 0 where
+  pub region : Extent
+  pub slid : ℕ
+  pub blocks : List Placed
+
+-- the blocks lie within a space of so many words, none meets another, and they are in place order, each at a multiple of its alignment
+pub record AreInOrder (words : ℕ) (blocks : List Placed) : Type 0 where
+  pub size : IsSpaceSize words
+  pub apart : AreBlocks words (ranges blocks)
+  pub order : AreSpots (spots_of blocks)
+
+-- they are the blocks that the heap holds
+pub record AreKept (heap : HeapState) (blocks : List Placed) : Type 0 where
+  pub size : IsSpaceSize heap.region.size
+  pub held : Holds heap (ranges blocks)
+  pub order : AreSpots (spots_of blocks)
+  pub counted : heap.slid < 2 ^ 64
