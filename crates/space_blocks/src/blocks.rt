@@ -1,5 +1,5 @@
 //! One space.
-ghost use Rattle.std.specs.Prelude.{◌≡◌, ◌≢◌, ℕ, ◌+◌, ◌-◌, ◌<◌, ◌≤◌, ◌^◌, [], ◌∷◌, length, min, Some, Contains, IfOk, IfErr, IfSome, IfNone, IsErrOf};
+ghost use Rattle.std.specs.Prelude.{◌≡◌, ◌≢◌, ℕ, ◌+◌, ◌-◌, ◌<◌, ◌≤◌, ◌^◌, [], ◌∷◌, length, min, Some, Contains, slice_index_or, IfOk, IfErr, IfSome, IfNone, IsErrOf};
 ghost use Rattle.std.specs.Option.{option_map};
 ghost use Rattle.space_heap.specs.Places.{least_place, placed_size};
 ghost use Rattle.space_heap.specs.Pictures.{IsAlignment, IsSpaceSize, range_of};
@@ -8,7 +8,7 @@ ghost use Rattle.space_blocks.specs.declared.TheConstants.{MAP_BLOCKS, SPACE_BLO
 ghost use Rattle.space_blocks.specs.declared.placed.Owner.{Owner};
 ghost use Rattle.space_blocks.specs.declared.placed.Placed.{Placed};
 ghost use Rattle.space_blocks.specs.Blocks.{Owns, block_of, block_range, owned, ranges, with_block, with_place, without_at};
-ghost use Rattle.space_blocks.specs.Moves.{block_at, moved, next_block, next_in, spots_of};
+ghost use Rattle.space_blocks.specs.Moves.{moved, next_block, next_in, spots_of};
 ghost use Rattle.space_blocks.specs.Spaces.{AreInOrder};
 
 use crate::placed::{Owner, Placed};
@@ -180,7 +180,7 @@ fn enter(blocks: &mut ArrayVec<Placed, SPACE_BLOCKS>, block: Placed)
 fn position(blocks: &[Placed], place: u32) -> usize
     requires there { (b : Placed) × Contains blocks.now b × (b.place ≡ place) }
     ensures within { result < length blocks.now }
-    ensures found { IfSome (block_at blocks.now result) (λ b. b.place ≡ place) }
+    ensures found { (d : Placed) → (slice_index_or blocks.now result d).place ≡ place }
 {
     for (index, block) in blocks.iter().enumerate() {
         if block.place == place {

@@ -1,0 +1,5 @@
+pub mod Orders
+pub mod Owners
+pub mod Inserts
+pub mod Keeping
+pub mod Moving
