@@ -1,19 +1,21 @@
 -- What a space keeps: its blocks are those that its heap holds.
-use Rattle.std.proofs.Common.{◌≡◌, ℕ, suc, ◌+◌, ◌%◌, ◌<◌, ◌≤◌, ◌^◌, false, List, [], ◌∷◌, ◌++◌, length, get_or, take, drop, remove, map, refl, sym, ap, subst, ◌∙◌, arith}
+use Rattle.std.proofs.Common.{◌≡◌, ℕ, suc, ◌+◌, ◌%◌, ◌<◌, ◌≤◌, ◌^◌, false, List, [], ◌∷◌, ◌++◌, length, get_or, take, drop, remove, map, Contains, refl, sym, ap, subst, ◌∙◌, arith}
 use Rattle.std.proofs.lemmas.List.{take-append-drop, map-append}
 use Rattle.std.proofs.Math.Seq.{drop-cons}
-use Rattle.space_raw.specs.Span.{Extent}
+use Rattle.space_raw.specs.Span.{Extent, Span}
 use Rattle.std.specs.List.{list_any}
 use Rattle.space_heap.specs.Places.{Range, meets}
-use Rattle.space_heap.specs.Pictures.{AreBlocks, HeapState, Holds, IsAlignment, IsBlock, IsSpaceSize}
+use Rattle.space_heap.specs.Pictures.{AreBlocks, HeapState, Holds, IsAlignment, IsBlock, IsSpaceSize, range_of}
 use Rattle.space_heap.proofs.PictureLemmas.{block_out}
 use Rattle.relocate.specs.Spots.{AreSpots}
+use Rattle.space_blocks.specs.declared.placed.Owner.{Owner}
 use Rattle.space_blocks.specs.declared.placed.Placed.{Placed}
-use Rattle.space_blocks.specs.Blocks.{block_range, ranges, with_block}
+use Rattle.space_blocks.specs.Blocks.{Owns, block_of, block_range, owned, ranges, with_block, without_at}
 use Rattle.space_blocks.specs.Moves.{spots_of}
 use Rattle.space_blocks.specs.Spaces.{AreKept}
 use Rattle.space_blocks.proofs.Inserts.{order_with, order_without, sorted}
-use Rattle.space_blocks.proofs.Orders.{AreSortedFrom, put_in}
+use Rattle.space_blocks.proofs.Orders.{AreSortedFrom, put_in, removed_at, same_index}
+use Rattle.space_blocks.proofs.Owners.{owned_gone, stands}
 
 pub whole : (bs : List Placed) (k : ℕ) (d : Placed) → k < length bs → bs ≡ take k bs ++ get_or bs k d ∷ drop (suc k) bs
 whole bs k d lt = sym (take-append-drop k bs) ∙ ap (λ ys. take k bs ++ ys) (drop-cons bs k d lt)
@@ -68,3 +70,48 @@ module _ (old new : HeapState) (same : new.region ≡ old.region) (slid : new.sl
       order = order_without 0 (take k bs) (get_or bs k d) (drop (suc k) bs) (subst (λ xs. AreSpots (spots_of xs)) (whole bs k d lt) kept.order);
       counted = still_counted;
     }
+
+-- a new block has its piece's place and size
+pub entered : (owner : Owner) (align place size : ℕ) (s : Span) (bs new : List Placed) →
+    new ≡ with_block (record { owner = owner; place = place; size = size; align = align }) bs → place ≡ s.place → size ≡ length s.words
+    → new ≡ with_block (block_of owner align s) bs
+entered owner align place size s bs new e at long =
+    e ∙ ap (λ n. with_block (record { owner = owner; place = n; size = size; align = align }) bs) at
+    ∙ ap (λ n. with_block (record { owner = owner; place = s.place; size = n; align = align }) bs) long
+
+-- an owner's piece stands among the blocks
+pub stands_there : (bs slice : List Placed) (owner : Owner) (s : Span) (place : ℕ) → Owns bs owner s → slice ≡ bs → place ≡ s.place
+    → (b : Placed) × Contains slice b × (b.place ≡ place)
+stands_there bs slice owner s place it same at =
+    let w = stands bs owner s it in let b = block_of owner w.align s in
+    subst (λ (xs : List Placed). (c : Placed) × Contains xs c × (c.place ≡ place)) (sym same) (b, (w.index, w.inside, w.is), sym at)
+
+-- the block of an index is where an owner's piece is
+module _ (heap : HeapState) (bs : List Placed) (kept : AreKept heap bs) (owner : Owner) (s : Span) (it : Owns bs owner s) (k : ℕ) (lt : k < length bs)
+    (at : (d : Placed) → (get_or bs k d).place ≡ s.place) where
+  abbrev blank : Placed
+  blank = block_of owner (stands bs owner s it).align s
+
+  its_index : k ≡ (stands bs owner s it).index
+  its_index =
+      let w = stands bs owner s it in
+      same_index 0 bs k w.index blank blank (kept_sorted heap bs kept) lt w.inside (at blank ∙ sym (ap (λ (b : Placed). b.place) w.is))
+
+  its_range : block_range (get_or bs k blank) ≡ range_of s
+  its_range = ap (λ n. block_range (get_or bs n blank)) its_index ∙ ap block_range (stands bs owner s it).is
+
+  pub piece_block : IsBlock heap.region.size (range_of s)
+  piece_block = subst (IsBlock heap.region.size) its_range (its_block heap heap refl refl bs kept k blank lt)
+
+  pub kept_given : (new : HeapState) → new.region ≡ heap.region → new.slid ≡ heap.slid
+      → ((before after : List Range) → Holds heap (before ++ range_of s ∷ after) → Holds new (before ++ after)) → AreKept new (remove bs k)
+  kept_given new same slid given =
+      kept_without heap new same slid bs kept k blank lt
+      (λ before after holds. given before after (subst (λ r. Holds heap (before ++ r ∷ after)) its_range holds))
+
+  pub is_without : remove bs k ≡ without_at s.place bs
+  is_without = removed_at 0 bs k blank (kept_sorted heap bs kept) lt ∙ ap (λ n. without_at n bs) (at blank)
+
+-- the owner's only block
+pub owned_none : (bs : List Placed) (owner : Owner) (align : ℕ) (s : Span) → owned owner bs ≡ block_of owner align s ∷ [] → owned owner (without_at s.place bs) ≡ []
+owned_none bs owner align s one = owned_gone bs (block_of owner align s) one

@@ -3,3 +3,4 @@ pub mod Owners
 pub mod Inserts
 pub mod Keeping
 pub mod Moving
+pub mod MadeMoves

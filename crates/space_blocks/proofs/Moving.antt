@@ -2,6 +2,8 @@
 use Rattle.std.proofs.Common.{◌≡◌, ℕ, zero, suc, ◌+◌, ◌-◌, ◌^◌, ◌<◌, ◌≤◌, ◌==◌, min, false, cond, if◌then◌else◌, List, [], ◌∷◌, ◌++◌, length, get_or, set, take, drop, map, Option, Some, None, refl, sym, ◌∙◌, ap, subst, arith}
 use Rattle.std.specs.Option.{option_map}
 use Rattle.std.specs.Int.{next_multiple_of}
+use Rattle.std.specs.List.{refill}
+use Rattle.std.proofs.Math.Seq.{take-append_seam}
 use Rattle.std.proofs.lemmas.Bool.{eqb-true}
 use Rattle.std.proofs.lemmas.List.{length-map, map-append, take-map}
 use Rattle.space_raw.specs.Span.{Extent, Span}
@@ -132,3 +134,19 @@ pub spots_next : (bs : List Placed) (i : ℕ) (d : Placed) → i < length bs →
 spots_next [] i d lt = absurd (omega arith)
 spots_next (b ∷ bs) zero d lt = refl
 spots_next (b ∷ bs) (suc i) d lt = ap (λ xs. spot_of b ∷ xs) (spots_next bs i d (omega arith))
+
+pub next_found : (bs : List Placed) (m : Move) (d : Placed) → AreSpots (spots_of bs) → next_in bs ≡ Some m → Some (get_or bs m.index d) ≡ next_block bs
+next_found bs m d order e =
+    sym (ap (λ o. block_to_move o bs) e ∙ block_inside bs m.index d (move_inside bs m order e))
+
+length_moved : (bs : List Placed) (k to : ℕ) → length (moved_to bs k to) ≡ length bs
+length_moved [] k to = refl
+length_moved (b ∷ bs) zero to = refl
+length_moved (b ∷ bs) (suc k) to = ap suc (length_moved bs k to)
+
+all_kept : (xs ws : List Placed) → length ws ≡ length xs → refill (length xs) xs ws ≡ ws
+all_kept xs ws same = ap (λ n. take n (ws ++ drop (length ws) xs)) (sym same) ∙ take-append_seam ws (drop (length ws) xs)
+
+pub put_done : (bs : List Placed) (k place : ℕ) (d : Placed) → k < length bs → refill (length bs) bs (set bs k (record (get_or bs k d) { place = place })) ≡ moved_to bs k place
+put_done bs k place d lt =
+    ap (refill (length bs) bs) (set_moved bs k place d lt) ∙ all_kept bs (moved_to bs k place) (length_moved bs k place)

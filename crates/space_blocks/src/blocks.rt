@@ -8,7 +8,7 @@ ghost use Rattle.space_blocks.specs.declared.TheConstants.{MAP_BLOCKS, SPACE_BLO
 ghost use Rattle.space_blocks.specs.declared.placed.Owner.{Owner};
 ghost use Rattle.space_blocks.specs.declared.placed.Placed.{Placed};
 ghost use Rattle.space_blocks.specs.Blocks.{Owns, block_of, block_range, owned, ranges, with_block, with_place, without_at};
-ghost use Rattle.space_blocks.specs.Moves.{moved, next_block, next_in, spots_of};
+ghost use Rattle.space_blocks.specs.Moves.{moved, moved_to, next_block, next_in, spot_of, spots_of};
 ghost use Rattle.space_blocks.specs.Spaces.{AreInOrder};
 
 use crate::placed::{Owner, Placed};
@@ -117,9 +117,9 @@ impl SpaceBlocks {
         ensures stays { self.new.region ≡ self.old.region }
     {
         let index = position(self.blocks.as_slice(), piece.place());
-        let align = self.blocks.as_slice()[index].align;
+        let align = align_of(self.blocks.as_slice(), index);
         let moved = self.heap.lower(piece, align);
-        self.blocks.as_mut_slice()[index].place = moved.place();
+        put_at(&mut self.blocks, index, moved.place());
         moved
     }
 
@@ -190,6 +190,35 @@ fn position(blocks: &[Placed], place: u32) -> usize
     unreachable!()
 }
 
+// The alignment of a block.
+fn align_of(blocks: &[Placed], index: usize) -> u32
+    requires within { index < length blocks.now }
+    ensures value { (d : Placed) → result ≡ (slice_index_or blocks.now index d).align }
+{
+    blocks[index].align
+}
+
+// A block begins at this place from now on.
+fn put_at(blocks: &mut ArrayVec<Placed, SPACE_BLOCKS>, index: usize, place: u32)
+    requires within { index < length blocks.old.items }
+    ensures items { blocks.new.items ≡ moved_to blocks.old.items index place }
+{
+    let mut block = blocks.as_slice()[index];
+    block.place = place;
+    blocks.as_mut_slice()[index] = block;
+}
+
+// How the block stands.
+fn spot(block: &Placed) -> Spot
+    ensures value { result ≡ spot_of block.now }
+{
+    Spot {
+        place: block.place,
+        size: block.size,
+        align: block.align,
+    }
+}
+
 // How the blocks stand.
 fn spots(blocks: &[Placed]) -> ArrayVec<Spot, SPACE_BLOCKS>
     requires few { length blocks.now ≤ SPACE_BLOCKS }
@@ -197,11 +226,7 @@ fn spots(blocks: &[Placed]) -> ArrayVec<Spot, SPACE_BLOCKS>
 {
     let mut spots = ArrayVec::new();
     for block in blocks {
-        spots.push(Spot {
-            place: block.place,
-            size: block.size,
-            align: block.align,
-        });
+        spots.push(spot(block));
     }
     spots
 }
