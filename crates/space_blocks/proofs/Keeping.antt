@@ -10,12 +10,12 @@ use Rattle.space_heap.proofs.PictureLemmas.{block_out}
 use Rattle.relocate.specs.Spots.{AreSpots}
 use Rattle.space_blocks.specs.declared.placed.Owner.{Owner}
 use Rattle.space_blocks.specs.declared.placed.Placed.{Placed}
-use Rattle.space_blocks.specs.Blocks.{Owns, block_of, block_range, owned, ranges, with_block, without_at}
+use Rattle.space_blocks.specs.Blocks.{Owns, block_of, block_range, ranges, with_block, without_at}
 use Rattle.space_blocks.specs.Moves.{spots_of}
 use Rattle.space_blocks.specs.Spaces.{AreKept}
 use Rattle.space_blocks.proofs.Inserts.{order_with, order_without, sorted}
-use Rattle.space_blocks.proofs.Orders.{AreSortedFrom, put_in, removed_at, same_index}
-use Rattle.space_blocks.proofs.Owners.{owned_gone, stands}
+use Rattle.space_blocks.proofs.Orders.{AreSortedFrom, put_in, removed_at, same_index, without_with}
+use Rattle.space_blocks.proofs.Owners.{stands}
 
 pub whole : (bs : List Placed) (k : ℕ) (d : Placed) → k < length bs → bs ≡ take k bs ++ get_or bs k d ∷ drop (suc k) bs
 whole bs k d lt = sym (take-append-drop k bs) ∙ ap (λ ys. take k bs ++ ys) (drop-cons bs k d lt)
@@ -112,6 +112,6 @@ module _ (heap : HeapState) (bs : List Placed) (kept : AreKept heap bs) (owner :
   pub is_without : remove bs k ≡ without_at s.place bs
   is_without = removed_at 0 bs k blank (kept_sorted heap bs kept) lt ∙ ap (λ n. without_at n bs) (at blank)
 
--- the owner's only block
-pub owned_none : (bs : List Placed) (owner : Owner) (align : ℕ) (s : Span) → owned owner bs ≡ block_of owner align s ∷ [] → owned owner (without_at s.place bs) ≡ []
-owned_none bs owner align s one = owned_gone bs (block_of owner align s) one
+-- a new block is the only one that begins at its place
+pub taken_back : (heap : HeapState) (bs : List Placed) (b : Placed) → AreKept heap (with_block b bs) → without_at b.place (with_block b bs) ≡ bs
+taken_back heap bs b kept = without_with 0 b bs (kept_sorted heap (with_block b bs) kept)

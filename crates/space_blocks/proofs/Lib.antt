@@ -4,3 +4,4 @@ pub mod Inserts
 pub mod Keeping
 pub mod Moving
 pub mod MadeMoves
+pub mod Counting

@@ -95,7 +95,7 @@ same_index from (b ∷ bs) zero (suc k) d e are j_lt k_lt same = let more = sort
 same_index from (b ∷ bs) (suc j) zero d e are j_lt k_lt same = let more = sorted_at (suc b.place) bs j d are.1 (omega arith) in absurd (omega arith)
 same_index from (b ∷ bs) (suc j) (suc k) d e are j_lt k_lt same = ap suc (same_index (suc b.place) bs j k d e are.1 (omega arith) (omega arith) same)
 
-is_other : (m n : ℕ) → (m ≡ n → ⊥) → (m == n) ≡ false
+pub is_other : (m n : ℕ) → (m ≡ n → ⊥) → (m == n) ≡ false
 is_other m n apart = when_not (m == n) (λ is. apart (eqb-true m n is))
 
 module _ (p : Placed → Bool) where
@@ -161,6 +161,20 @@ removed_at from (b ∷ bs) (suc k) d are lt =
     let more = sorted_at (suc b.place) bs k d are.1 (omega arith) in
     ap (λ xs. b ∷ xs) (removed_at (suc b.place) bs k d are.1 (omega arith))
     ∙ sym (kept (λ c. not (c.place == (get_or bs k d).place)) b bs (ap not (is_other b.place (get_or bs k d).place (λ same. omega arith))))
+
+-- one that was put in and is taken out again
+pub without_with : (from : ℕ) (b : Placed) (bs : List Placed) → AreSortedFrom from (with_block b bs) → without_at b.place (with_block b bs) ≡ bs
+without_with from b [] are = dropped (λ c. not (c.place == b.place)) b [] (ap not (eq-eqb b.place b.place refl))
+without_with from b (c ∷ cs) are = elim (cases_lt c.place b.place) [
+  | inl lt ↦ let is = subst (AreSortedFrom from) (behind b c cs lt) are in
+      ap (without_at b.place) (behind b c cs lt)
+      ∙ kept (λ x. not (x.place == b.place)) c (with_block b cs) (ap not (is_other c.place b.place (λ same. omega arith)))
+      ∙ ap (λ xs. c ∷ xs) (without_with (suc c.place) b cs is.1)
+  | inr ge ↦ let is = subst (AreSortedFrom from) (before b c cs ge) are in
+      ap (without_at b.place) (before b c cs ge)
+      ∙ dropped (λ x. not (x.place == b.place)) b (c ∷ cs) (ap not (eq-eqb b.place b.place refl))
+      ∙ none_at b.place (suc b.place) (c ∷ cs) is.1 (omega arith)
+]
 
 not_from : (place to : ℕ) (b : Placed) → (b.place ≡ place → ⊥) → block_from place to b ≡ b
 not_from place to b apart = ap (λ t. if t then record b { place = to } else b) (is_other b.place place apart)

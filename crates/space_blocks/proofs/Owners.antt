@@ -6,7 +6,7 @@ use Rattle.space_raw.specs.Span.{Span}
 use Rattle.space_blocks.specs.declared.placed.Owner.{Owner}
 use Rattle.space_blocks.specs.declared.placed.Owner.TheVariants.{Record, Scratch}
 use Rattle.space_blocks.specs.declared.placed.Placed.{Placed}
-use Rattle.space_blocks.specs.Blocks.{Owns, block_from, block_of, owned, same_owner, with_block, with_place, without_at}
+use Rattle.space_blocks.specs.Blocks.{Owns, block_from, block_of, disowned, owned, same_owner, with_block, with_place, without_at}
 use Rattle.space_blocks.specs.Moves.{moved_to}
 use Rattle.space_blocks.proofs.Orders.{AreSortedFrom, dropped, filter_in, filter_out, filter_removed, kept, same_index}
 
@@ -86,12 +86,48 @@ module _ (p q : Placed → Bool) where
     ]
   ]
 
+-- what passes the test only once
+module _ (p : Placed → Bool) where
+  none_passes : (bs : List Placed) → length (filter p bs) ≤ 0 → filter (λ b. not (p b)) bs ≡ bs
+  none_passes [] few = refl
+  none_passes (b ∷ bs) few = elim (true_or_false (p b)) [
+    | inl is ↦ let n = ap length (kept p b bs is) in absurd (omega arith)
+    | inr out ↦ kept (λ c. not (p c)) b bs (ap not out) ∙ ap (λ xs. b ∷ xs) (none_passes bs (let n = ap length (dropped p b bs out) in omega arith))
+  ]
+
+  some_passes : (bs : List Placed) (k : ℕ) (d : Placed) → k < length bs → p (get_or bs k d) ≡ true → 1 ≤ length (filter p bs)
+  some_passes [] k d lt is = absurd (omega arith)
+  some_passes (b ∷ bs) zero d lt is = let n = ap length (kept p b bs is) in omega arith
+  some_passes (b ∷ bs) (suc k) d lt is = elim (true_or_false (p b)) [
+    | inl it ↦ let n = ap length (kept p b bs it) in omega arith
+    | inr out ↦ let n = ap length (dropped p b bs out) in let rest = some_passes bs k d (omega arith) is in omega arith
+  ]
+
+  only_one : (bs : List Placed) (k : ℕ) (d : Placed) → k < length bs → p (get_or bs k d) ≡ true → length (filter p bs) ≤ 1 → remove bs k ≡ filter (λ b. not (p b)) bs
+  only_one [] k d lt is few = absurd (omega arith)
+  only_one (b ∷ bs) zero d lt is few =
+      let n = ap length (kept p b bs is) in
+      sym (dropped (λ c. not (p c)) b bs (ap not is) ∙ none_passes bs (omega arith))
+  only_one (b ∷ bs) (suc k) d lt is few = elim (true_or_false (p b)) [
+    | inl it ↦ let n = ap length (kept p b bs it) in let rest = some_passes bs k d (omega arith) is in absurd (omega arith)
+    | inr out ↦ let n = ap length (dropped p b bs out) in
+        ap (λ xs. b ∷ xs) (only_one bs k d (omega arith) is (omega arith)) ∙ sym (kept (λ c. not (p c)) b bs (ap not out))
+  ]
+
+-- its only block is owned
+pub owns_one : (bs : List Placed) (owner : Owner) (align : ℕ) (s : Span) → owned owner bs ≡ block_of owner align s ∷ [] → Owns bs owner s
+owns_one bs owner align s one =
+    (align, subst (λ xs. Contains xs (block_of owner align s)) (sym one) (zero, (let n : zero < 1 = omega arith in n), refl))
+
 -- its only block is taken out
-pub owned_gone : (bs : List Placed) (b : Placed) → owned b.owner bs ≡ b ∷ [] → owned b.owner (without_at b.place bs) ≡ []
-owned_gone bs b one =
-    filters (λ c. same_owner b.owner c.owner) (λ c. not (c.place == b.place)) bs
-    ∙ ap (filter (λ c. not (c.place == b.place))) one
-    ∙ dropped (λ c. not (c.place == b.place)) b [] (ap not (eq-eqb b.place b.place refl))
+pub removed_only : (bs : List Placed) (owner : Owner) (align : ℕ) (s : Span) (k : ℕ) → k < length bs → ((d : Placed) → (get_or bs k d).place ≡ s.place) → AreSortedFrom 0 bs
+    → owned owner bs ≡ block_of owner align s ∷ [] → remove bs k ≡ disowned owner bs
+removed_only bs owner align s k lt at are one =
+    let w = stands bs owner s (owns_one bs owner align s one) in let d = block_of owner w.align s in
+    let index : k ≡ w.index = same_index 0 bs k w.index d d are lt w.inside (at d ∙ sym (ap (λ (b : Placed). b.place) w.is)) in
+    let is : same_owner owner (get_or bs k d).owner ≡ true = ap (λ n. same_owner owner (get_or bs n d).owner) index ∙ ap (λ (b : Placed). same_owner owner b.owner) w.is ∙ itself owner in
+    let few : length (owned owner bs) ≤ 1 = (let n = ap length one in omega arith) in
+    only_one (λ c. same_owner owner c.owner) bs k d lt is few
 
 -- ---- at another place
 

@@ -7,7 +7,7 @@ ghost use Rattle.space_heap.specs.declared.limits.TheConstants.{GREATEST_NEED};
 ghost use Rattle.space_blocks.specs.declared.TheConstants.{MAP_BLOCKS, SPACE_BLOCKS};
 ghost use Rattle.space_blocks.specs.declared.placed.Owner.{Owner};
 ghost use Rattle.space_blocks.specs.declared.placed.Placed.{Placed};
-ghost use Rattle.space_blocks.specs.Blocks.{Owns, block_of, block_range, owned, ranges, with_block, with_place, without_at};
+ghost use Rattle.space_blocks.specs.Blocks.{Owns, block_of, block_range, disowned, owned, ranges, with_block, with_place, without_at};
 ghost use Rattle.space_blocks.specs.Moves.{moved, moved_to, next_block, next_in, spot_of, spots_of};
 ghost use Rattle.space_blocks.specs.Spaces.{AreInOrder};
 
@@ -66,6 +66,7 @@ impl SpaceBlocks {
         ensures blocks { IfSome result (λ p. self.new.blocks ≡ with_block (block_of owner align p) self.old.blocks) }
         ensures owned { IfSome result (λ p. owned owner self.new.blocks ≡ with_block (block_of owner align p) (owned owner self.old.blocks)) }
         ensures others { (o : Owner) → o ≢ owner → owned o self.new.blocks ≡ owned o self.old.blocks }
+        ensures back { IfSome result (λ p. without_at p.place self.new.blocks ≡ self.old.blocks) }
         ensures none { IfNone result (self.new ≡ self.old) }
         ensures stays { (self.new.region ≡ self.old.region) × (self.new.slid ≡ self.old.slid) }
     {
@@ -85,7 +86,7 @@ impl SpaceBlocks {
         requires region { piece.region ≡ self.old.region }
         requires owner { (owner : Owner) × Owns self.old.blocks owner piece }
         ensures blocks { self.new.blocks ≡ without_at piece.place self.old.blocks }
-        ensures gone { (owner : Owner) (align : ℕ) → owned owner self.old.blocks ≡ block_of owner align piece ∷ [] → owned owner self.new.blocks ≡ [] }
+        ensures only { (owner : Owner) (align : ℕ) → owned owner self.old.blocks ≡ block_of owner align piece ∷ [] → self.new.blocks ≡ disowned owner self.old.blocks }
         ensures others { (owner o : Owner) → Owns self.old.blocks owner piece → o ≢ owner → owned o self.new.blocks ≡ owned o self.old.blocks }
         ensures stays { (self.new.region ≡ self.old.region) × (self.new.slid ≡ self.old.slid) }
     {

@@ -2,11 +2,11 @@
 use Rattle.std.proofs.Common.{◌≡◌, ◌≢◌, List, sym, ◌∙◌, ap, subst}
 use Rattle.space_blocks.specs.declared.placed.Owner.{Owner}
 use Rattle.space_blocks.specs.declared.placed.Placed.{Placed}
-use Rattle.space_blocks.specs.Blocks.{block_of, owned, ranges, with_block}
+use Rattle.space_blocks.specs.Blocks.{block_of, owned, ranges, with_block, without_at}
 use Rattle.space_blocks.specs.Spaces.{AreKept, SpaceState}
 use Rattle.space_heap.specs.Places.{placed_size}
 use Rattle.space_blocks.proofs.Inserts.{least_place_multiple}
-use Rattle.space_blocks.proofs.Keeping.{entered, kept_sorted, kept_with}
+use Rattle.space_blocks.proofs.Keeping.{entered, kept_sorted, kept_with, taken_back}
 use Rattle.space_blocks.proofs.Owners.{others_with, owned_with}
 use Rattle.space_blocks.proofs.blocks.SpaceBlocks.place.Goals as goal
 
@@ -32,3 +32,10 @@ pub returns-clause-others : goal.returns-clause-others
 returns-clause-others c =
     let bs = c.self.inside.blocks.items in let b = block_of c.args.owner c.args.align c.in_ok-piece.piece in
     λ o apart. ap (λ xs. owned o xs) (items c) ∙ others_with o b bs apart ∙ ap (λ (v : SpaceState). owned o v.blocks) c.self.view_is
+
+pub returns-clause-back : goal.returns-clause-back
+returns-clause-back c =
+    let bs = c.self.inside.blocks.items in let b = block_of c.args.owner c.args.align c.in_ok-piece.piece in
+    ap (without_at b.place) (items c)
+    ∙ taken_back c.take.new.self bs b (subst (λ (xs : List Placed). AreKept c.take.new.self xs) (items c) (invariant_of-self-2 c))
+    ∙ ap (λ (v : SpaceState). v.blocks) c.self.view_is

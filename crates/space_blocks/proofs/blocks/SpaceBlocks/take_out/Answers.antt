@@ -3,10 +3,10 @@ use Rattle.std.proofs.Common.{◌≡◌, ◌≢◌, ◌<◌, ℕ, List, length, 
 use Rattle.space_blocks.specs.declared.placed.Owner.{Owner}
 use Rattle.space_blocks.specs.declared.placed.Owner.TheVariants.{Record}
 use Rattle.space_blocks.specs.declared.placed.Placed.{Placed}
-use Rattle.space_blocks.specs.Blocks.{Owns, block_of, owned, without_at}
+use Rattle.space_blocks.specs.Blocks.{Owns, block_of, disowned, owned, without_at}
 use Rattle.space_blocks.specs.Spaces.{AreKept, SpaceState}
-use Rattle.space_blocks.proofs.Keeping.{is_without, kept_given, kept_sorted, owned_none, piece_block, stands_there}
-use Rattle.space_blocks.proofs.Owners.{others_without}
+use Rattle.space_blocks.proofs.Keeping.{is_without, kept_given, kept_sorted, piece_block, stands_there}
+use Rattle.space_blocks.proofs.Owners.{others_without, removed_only}
 use Rattle.space_blocks.proofs.blocks.SpaceBlocks.take_out.Goals as goal
 use Rattle.space_blocks.proofs.blocks.SpaceBlocks.take_out.Goals.{After-give, After-give-arg-1}
 
@@ -54,12 +54,14 @@ invariant_of-self c =
 pub returns-clause-blocks : goal.returns-clause-blocks
 returns-clause-blocks c = c.remove-block.ensures.items ∙ without c ∙ ap (λ (v : SpaceState). without_at c.args.piece.place v.blocks) c.self.view_is
 
-pub returns-clause-gone : goal.returns-clause-gone
-returns-clause-gone c =
+pub returns-clause-only : goal.returns-clause-only
+returns-clause-only c =
     let bs = c.self.inside.blocks.items in
     λ owner align one.
-    ap (λ xs. owned owner xs) (c.remove-block.ensures.items ∙ without c)
-    ∙ owned_none bs owner align c.args.piece (ap (λ (v : SpaceState). owned owner v.blocks) c.self.view_is ∙ one)
+    c.remove-block.ensures.items
+    ∙ removed_only bs owner align c.args.piece c.position-index.result (inside c) (there c) (kept_sorted c.self.inside.heap bs c.self.invariant)
+        (ap (λ (v : SpaceState). owned owner v.blocks) c.self.view_is ∙ one)
+    ∙ ap (λ (v : SpaceState). disowned owner v.blocks) c.self.view_is
 
 pub returns-clause-others : goal.returns-clause-others
 returns-clause-others c =
