@@ -1,11 +1,10 @@
 //! What a new instance needs.
-ghost use Rattle.std.specs.Prelude.{◌≡◌, ◌<◌, ℕ, List, Option, Some, None, IfSome, length, slice_index_or};
-ghost use Rattle.mem_rec.specs.declared.Space.{Space};
-ghost use Rattle.mem_rec.specs.Layout.{scratch_align, scratch_need};
+ghost use Rattle.std.specs.Prelude.{◌≡◌, ℕ, Some, IfSome};
 ghost use Rattle.ialg.specs.Records.{record_at};
-ghost use Rattle.scratch_group.specs.Blocks.{block_in, block_needed};
 ghost use Rattle.host_spaces.specs.Creation.{record_wanted};
-ghost use Rattle.host_spaces.specs.Wants.{IsWithinLimits, HasLimits, need_wanted, wants_of};
+ghost use Rattle.host_spaces.specs.Picture.{picture_of};
+ghost use Rattle.host_spaces.specs.Pieces.{HasBlocks};
+ghost use Rattle.host_spaces.specs.Wants.{IsWithinLimits, block_need, need_wanted, want_at, wants_of};
 
 use crate::spaces::Spaces;
 use mem_rec::{Attr, LEAST_ALIGNMENT, MemTab, Space};
@@ -53,8 +52,8 @@ pub(crate) fn wanted_block(
     old: &Group,
     space: Space,
 ) -> Option<Wanted>
-    requires old { HasLimits spaces.now g old.now }
-    ensures value { result ≡ need_wanted g space (block_needed (block_in old.now space) (scratch_need table.now space) (scratch_align table.now space)) }
+    requires blocks { HasBlocks (picture_of spaces.now) g old.now }
+    ensures value { result ≡ need_wanted g space (block_need table.now old.now space) }
     ensures limits { IfSome result IsWithinLimits }
 {
     // its records are within the limits, and so are the blocks of the space
@@ -77,9 +76,9 @@ pub(crate) fn wants(
     table: &MemTab,
     old: &Group,
 ) -> [Option<Wanted>; WANTS]
-    requires old { HasLimits spaces.now g old.now }
+    requires blocks { HasBlocks (picture_of spaces.now) g old.now }
     ensures value { result ≡ wants_of i g table.now old.now }
-    ensures limits { (j : ℕ) (w : Wanted) → slice_index_or result j None ≡ Some w → IsWithinLimits w }
+    ensures limits { (j : ℕ) (w : Wanted) → want_at result j ≡ Some w → IsWithinLimits w }
 {
     [
         wanted_record(i, 0, table),
