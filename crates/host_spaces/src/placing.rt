@@ -60,11 +60,13 @@ pub(crate) fn place_from(
     if k >= wants.len() {
         return Ok(Granted::none());
     }
-    let Some(want) = wants[k] else {
-        return place_from(spaces, wants, k + 1, poison);
+    let want = match wants[k] {
+        Some(want) => want,
+        None => return place_from(spaces, wants, k + 1, poison),
     };
-    let Some(piece) = place_filled(spaces, want, poison) else {
-        return Err(want.space);
+    let piece = match place_filled(spaces, want, poison) {
+        Some(piece) => piece,
+        None => return Err(want.space),
     };
     match place_from(spaces, wants, k + 1, poison) {
         Ok(granted) => {
