@@ -3,6 +3,8 @@
 //! A creation is refused whole: all its blocks are placed, or none. Places and sizes are counted in words of 16 bits.
 #![tactic(auto)]
 
+mod creation;
+mod deletion;
 mod granted;
 mod pieces;
 mod placing;
