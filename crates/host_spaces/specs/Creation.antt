@@ -11,14 +11,8 @@ use Rattle.space_blocks.specs.declared.placed.Owner.TheVariants.{Record, Scratch
 use Rattle.space_blocks.specs.declared.placed.Placed.{Placed}
 use Rattle.space_blocks.specs.Blocks.{without_at}
 use Rattle.host_spaces.specs.declared.spaces.Sizes.{Sizes}
+use Rattle.host_spaces.specs.declared.wants.Wanted.{Wanted}
 use Rattle.host_spaces.specs.Picture.{Picture, all_spaces, blocks_in, each_space, group_block, is_group's, is_instance's, place_in, put_block, without_owners}
-
--- a block that needs a place
-pub record Wanted : Type 0 where
-  pub space : Space
-  pub owner : Owner
-  pub size : ℕ
-  pub align : ℕ
 
 -- what record k of instance i needs: a scratch record nothing of its own
 abbrev pub record_wanted : ℕ → ℕ → MemRec → Option Wanted

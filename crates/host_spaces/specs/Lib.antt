@@ -1,3 +1,4 @@
 pub mod Picture
 pub mod Creation
 pub mod Pieces
+pub mod Wants

@@ -18,11 +18,16 @@ use Rattle.scratch_group.specs.declared.group.Group.{Group}
 use Rattle.scratch_group.specs.Blocks.{block_in}
 use Rattle.space_blocks.specs.declared.placed.Owner.TheVariants.{Record, Scratch}
 use Rattle.space_blocks.specs.declared.placed.Placed.{Placed}
-use Rattle.space_blocks.specs.Blocks.{block_of_piece, owned, without_piece}
+use Rattle.space_blocks.specs.Blocks.{block_of, block_of_piece, owned, with_block, without_piece}
+use Rattle.scratch_group.specs.declared.group.Need.{Need}
+use Rattle.host_spaces.specs.declared.granted.Granted.{Granted}
+use Rattle.host_spaces.specs.declared.wants.Wanted.{Wanted}
 use Rattle.host_spaces.specs.declared.pieces.NewBlocks.{NewBlocks}
+use Rattle.host_spaces.specs.declared.pieces.Placement.{Placement}
 use Rattle.host_spaces.specs.declared.pieces.OldBlocks.{OldBlocks}
 use Rattle.host_spaces.specs.declared.spaces.Spaces.{Spaces}
 use Rattle.host_spaces.specs.Picture.{Picture, blocks_in, each_space, space_in}
+use Rattle.host_spaces.specs.Wants.{want_at}
 
 -- the piece of a record that lasts: its own, or the one that is lent
 abbrev pub lasting_piece : Attr → Option Span → Option Span → Option Span
@@ -73,6 +78,46 @@ abbrev pub old_piece : OldBlocks → Space → Option Span
 old_piece pieces Daram = pieces.daram
 old_piece pieces Saram = pieces.saram
 old_piece pieces External = pieces.external
+
+-- a piece as one of the instance's own, and as one that is lent to it
+abbrev pub kept_piece : Bool → Option Span → Option Span
+kept_piece once p = if once then None else p
+
+abbrev pub lent_piece : Bool → Option Span → Option Span
+lent_piece once p = if once then p else None
+
+abbrev pub as_block : Option Wanted → Option Span → Option ScratchBlock
+as_block want None = None
+as_block None (Some p) = None
+as_block (Some w) (Some p) = Some (record { piece = p; align = w.align })
+
+-- what was granted, as an instance and its group take it
+abbrev pub placement_of : List MemRec → List (Option Wanted) → Granted → Placement
+placement_of table wants made =
+    let once : ℕ → Bool = λ k. is_write_once (record_at table k).attr in
+    record {
+      own = record { p0 = kept_piece (once 0) made.p0; p1 = kept_piece (once 1) made.p1; p2 = kept_piece (once 2) made.p2; p3 = kept_piece (once 3) made.p3 };
+      shared = record { p0 = lent_piece (once 0) made.p0; p1 = lent_piece (once 1) made.p1; p2 = lent_piece (once 2) made.p2; p3 = lent_piece (once 3) made.p3 };
+      blocks = record { daram = as_block (want_at wants 4) made.p4; saram = as_block (want_at wants 5) made.p5; external = as_block (want_at wants 6) made.p6 };
+    }
+
+-- where a block is needed it is there, of the space's words, its size and its alignment
+abbrev pub IsNeeded : Extent → Option Need → Option ScratchBlock → Type 0
+IsNeeded home None None = Unit {0}
+IsNeeded home None (Some b) = ⊥
+IsNeeded home (Some n) None = ⊥
+IsNeeded home (Some n) (Some b) = (b.piece.region ≡ home) × (length b.piece.words ≡ n.size) × (b.align ≡ n.align)
+
+-- the group's blocks with a new one, if there is one
+abbrev pub with_new : ℕ → Option ScratchBlock → List Placed → List Placed
+with_new g None blocks = blocks
+with_new g (Some b) blocks = with_block (block_of (Scratch g) b.align b.piece) blocks
+
+-- all words of what was placed are the poison word, where there is one
+pub record IsPoisoned (word : Option ℤ) (made : Placement) : Type 0 where
+  pub own : (k : ℕ) → ArePoison word (piece_words (piece_at made.own k))
+  pub shared : (k : ℕ) → ArePoison word (piece_words (piece_at made.shared k))
+  pub blocks : (space : Space) → ArePoison word (block_words (new_block made.blocks space))
 
 -- the picture without these pieces
 abbrev pub without_pieces : Picture → OldBlocks → Picture

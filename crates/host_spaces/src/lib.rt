@@ -3,8 +3,14 @@
 //! A creation is refused whole: all its blocks are placed, or none. Places and sizes are counted in words of 16 bits.
 #![tactic(auto)]
 
+mod creation;
+mod deletion;
+mod granted;
 mod pieces;
+mod placing;
 mod spaces;
+mod wants;
 
 pub use pieces::{NewBlocks, OldBlocks, Placement};
 pub use spaces::{Sizes, Spaces, StartError};
+pub use wants::Wanted;

@@ -1,15 +1,18 @@
 //! The three spaces.
-ghost use Rattle.std.specs.Prelude.{◌≡◌, ◌≢◌, ℕ, ◌+◌, ◌≤◌, ◌^◌, [], ◌∷◌, length, min, Some, IfOk, IfErr, IsErrOf};
+ghost use Rattle.std.specs.Prelude.{◌≡◌, ◌≢◌, ℕ, ◌+◌, ◌-◌, ◌<◌, ◌≤◌, ◌^◌, [], ◌∷◌, length, min, Some, IfOk, IfErr, IfSome, IfNone, IsErrOf};
 ghost use Rattle.std.specs.Option.{option_map};
 ghost use Rattle.mem_rec.specs.declared.Space.{Space};
 ghost use Rattle.space_heap.specs.Pictures.{range_of};
-ghost use Rattle.space_blocks.specs.declared.TheConstants.{MAP_BLOCKS};
+ghost use Rattle.space_heap.specs.Places.{least_place, placed_size};
+ghost use Rattle.space_blocks.specs.declared.TheConstants.{MAP_BLOCKS, SPACE_BLOCKS};
 ghost use Rattle.space_blocks.specs.declared.placed.Owner.{Owner};
-ghost use Rattle.space_blocks.specs.Blocks.{Owns, block_of, block_range, owned};
+ghost use Rattle.space_blocks.specs.Blocks.{Owns, block_of, block_range, disowned, owned, ranges, with_block, without_at};
 ghost use Rattle.space_blocks.specs.Moves.{next_block, next_in};
 ghost use Rattle.space_blocks.specs.Spaces.{AreInOrder};
-ghost use Rattle.host_spaces.specs.Picture.{AreSizes, blocks_in, copied_in, empty_picture, moved_in, picture_of, sizes_of, space_in};
+ghost use Rattle.host_spaces.specs.Picture.{AreSameSpaces, AreSizes, blocks_in, copied_in, empty_picture, moved_in, picture_of, sizes_of, space_in};
+ghost use Rattle.host_spaces.specs.Wants.{IsWithinLimits};
 
+use crate::wants::Wanted;
 use mem_rec::Space;
 use space_blocks::{Map, Placed, SpaceBlocks};
 use space_heap::{HeapError, is_space_size};
@@ -148,6 +151,46 @@ impl Spaces {
             Space::Daram => self.daram.make_move(piece),
             Space::Saram => self.saram.make_move(piece),
             Space::External => self.external.make_move(piece),
+        }
+    }
+
+    // A block for the owner at its place in the space. `None` exactly where there is none.
+    pub(crate) fn place(&mut self, want: Wanted) -> Option<Piece>
+        requires limits { IsWithinLimits want }
+        requires room { length (space_in self.old want.space).blocks < SPACE_BLOCKS }
+        ensures place { option_map (λ p. p.place) result ≡ least_place (space_in self.old want.space).region.size (ranges (space_in self.old want.space).blocks) (placed_size want.size) want.align }
+        ensures piece { IfSome result (λ p. (p.region ≡ (space_in self.old want.space).region) × (length p.words ≡ placed_size want.size)) }
+        ensures blocks { IfSome result (λ p. (space_in self.new want.space).blocks ≡ with_block (block_of want.owner want.align p) (space_in self.old want.space).blocks) }
+        ensures owned { IfSome result (λ p. owned want.owner (space_in self.new want.space).blocks ≡ with_block (block_of want.owner want.align p) (owned want.owner (space_in self.old want.space).blocks)) }
+        ensures others { (o : Owner) → o ≢ want.owner → owned o (space_in self.new want.space).blocks ≡ owned o (space_in self.old want.space).blocks }
+        ensures elsewhere { (other : Space) → other ≢ want.space → space_in self.new other ≡ space_in self.old other }
+        ensures back { IfSome result (λ p. without_at p.place (space_in self.new want.space).blocks ≡ (space_in self.old want.space).blocks) }
+        ensures none { IfNone result (self.new ≡ self.old) }
+        ensures stays { AreSameSpaces self.old self.new }
+    {
+        match want.space {
+            Space::Daram => self.daram.place(want.owner, want.size, want.align),
+            Space::Saram => self.saram.place(want.owner, want.size, want.align),
+            Space::External => self.external.place(want.owner, want.size, want.align),
+        }
+    }
+
+    // A block of the space goes back.
+    pub(crate) fn take_out(&mut self, space: Space, piece: Piece)
+        requires region { piece.region ≡ (space_in self.old space).region }
+        requires owner { (owner : Owner) × Owns (space_in self.old space).blocks owner piece }
+        ensures blocks { (space_in self.new space).blocks ≡ without_at piece.place (space_in self.old space).blocks }
+        ensures only { (owner : Owner) (align : ℕ) → owned owner (space_in self.old space).blocks ≡ block_of owner align piece ∷ []
+            → (space_in self.new space).blocks ≡ disowned owner (space_in self.old space).blocks }
+        ensures others { (owner o : Owner) → Owns (space_in self.old space).blocks owner piece → o ≢ owner
+            → owned o (space_in self.new space).blocks ≡ owned o (space_in self.old space).blocks }
+        ensures elsewhere { (other : Space) → other ≢ space → space_in self.new other ≡ space_in self.old other }
+        ensures stays { AreSameSpaces self.old self.new }
+    {
+        match space {
+            Space::Daram => self.daram.take_out(piece),
+            Space::Saram => self.saram.take_out(piece),
+            Space::External => self.external.take_out(piece),
         }
     }
 

@@ -19,6 +19,10 @@ same_owner (Scratch g) (Record j l) = false
 abbrev pub owned : Owner → List Placed → List Placed
 owned owner blocks = filter (λ b. same_owner owner b.owner) blocks
 
+-- the blocks of all other owners
+abbrev pub disowned : Owner → List Placed → List Placed
+disowned owner blocks = filter (λ b. not (same_owner owner b.owner)) blocks
+
 -- the piece as a block
 abbrev pub block_of : Owner → ℕ → Span → Placed
 block_of owner align p = record { owner = owner; place = p.place; size = length p.words; align = align }

@@ -1,5 +1,5 @@
 //! One space.
-ghost use Rattle.std.specs.Prelude.{◌≡◌, ◌≢◌, ℕ, ◌+◌, ◌-◌, ◌<◌, ◌≤◌, ◌^◌, [], ◌∷◌, length, min, Some, Contains, IfOk, IfErr, IfSome, IfNone, IsErrOf};
+ghost use Rattle.std.specs.Prelude.{◌≡◌, ◌≢◌, ℕ, ◌+◌, ◌-◌, ◌<◌, ◌≤◌, ◌^◌, [], ◌∷◌, length, min, Some, Contains, slice_index_or, IfOk, IfErr, IfSome, IfNone, IsErrOf};
 ghost use Rattle.std.specs.Option.{option_map};
 ghost use Rattle.space_heap.specs.Places.{least_place, placed_size};
 ghost use Rattle.space_heap.specs.Pictures.{IsAlignment, IsSpaceSize, range_of};
@@ -7,8 +7,8 @@ ghost use Rattle.space_heap.specs.declared.limits.TheConstants.{GREATEST_NEED};
 ghost use Rattle.space_blocks.specs.declared.TheConstants.{MAP_BLOCKS, SPACE_BLOCKS};
 ghost use Rattle.space_blocks.specs.declared.placed.Owner.{Owner};
 ghost use Rattle.space_blocks.specs.declared.placed.Placed.{Placed};
-ghost use Rattle.space_blocks.specs.Blocks.{Owns, block_of, block_range, owned, ranges, with_block, with_place, without_at};
-ghost use Rattle.space_blocks.specs.Moves.{block_at, moved, next_block, next_in, spots_of};
+ghost use Rattle.space_blocks.specs.Blocks.{Owns, block_of, block_range, disowned, owned, ranges, with_block, with_place, without_at};
+ghost use Rattle.space_blocks.specs.Moves.{moved, moved_to, next_block, next_in, spot_of, spots_of};
 ghost use Rattle.space_blocks.specs.Spaces.{AreInOrder};
 
 use crate::placed::{Owner, Placed};
@@ -66,6 +66,7 @@ impl SpaceBlocks {
         ensures blocks { IfSome result (λ p. self.new.blocks ≡ with_block (block_of owner align p) self.old.blocks) }
         ensures owned { IfSome result (λ p. owned owner self.new.blocks ≡ with_block (block_of owner align p) (owned owner self.old.blocks)) }
         ensures others { (o : Owner) → o ≢ owner → owned o self.new.blocks ≡ owned o self.old.blocks }
+        ensures back { IfSome result (λ p. without_at p.place self.new.blocks ≡ self.old.blocks) }
         ensures none { IfNone result (self.new ≡ self.old) }
         ensures stays { (self.new.region ≡ self.old.region) × (self.new.slid ≡ self.old.slid) }
     {
@@ -85,7 +86,7 @@ impl SpaceBlocks {
         requires region { piece.region ≡ self.old.region }
         requires owner { (owner : Owner) × Owns self.old.blocks owner piece }
         ensures blocks { self.new.blocks ≡ without_at piece.place self.old.blocks }
-        ensures gone { (owner : Owner) (align : ℕ) → owned owner self.old.blocks ≡ block_of owner align piece ∷ [] → owned owner self.new.blocks ≡ [] }
+        ensures only { (owner : Owner) (align : ℕ) → owned owner self.old.blocks ≡ block_of owner align piece ∷ [] → self.new.blocks ≡ disowned owner self.old.blocks }
         ensures others { (owner o : Owner) → Owns self.old.blocks owner piece → o ≢ owner → owned o self.new.blocks ≡ owned o self.old.blocks }
         ensures stays { (self.new.region ≡ self.old.region) × (self.new.slid ≡ self.old.slid) }
     {
@@ -117,9 +118,9 @@ impl SpaceBlocks {
         ensures stays { self.new.region ≡ self.old.region }
     {
         let index = position(self.blocks.as_slice(), piece.place());
-        let align = self.blocks.as_slice()[index].align;
+        let align = align_of(self.blocks.as_slice(), index);
         let moved = self.heap.lower(piece, align);
-        self.blocks.as_mut_slice()[index].place = moved.place();
+        put_at(&mut self.blocks, index, moved.place());
         moved
     }
 
@@ -180,7 +181,7 @@ fn enter(blocks: &mut ArrayVec<Placed, SPACE_BLOCKS>, block: Placed)
 fn position(blocks: &[Placed], place: u32) -> usize
     requires there { (b : Placed) × Contains blocks.now b × (b.place ≡ place) }
     ensures within { result < length blocks.now }
-    ensures found { IfSome (block_at blocks.now result) (λ b. b.place ≡ place) }
+    ensures found { (d : Placed) → (slice_index_or blocks.now result d).place ≡ place }
 {
     for (index, block) in blocks.iter().enumerate() {
         if block.place == place {
@@ -190,6 +191,35 @@ fn position(blocks: &[Placed], place: u32) -> usize
     unreachable!()
 }
 
+// The alignment of a block.
+fn align_of(blocks: &[Placed], index: usize) -> u32
+    requires within { index < length blocks.now }
+    ensures value { (d : Placed) → result ≡ (slice_index_or blocks.now index d).align }
+{
+    blocks[index].align
+}
+
+// A block begins at this place from now on.
+fn put_at(blocks: &mut ArrayVec<Placed, SPACE_BLOCKS>, index: usize, place: u32)
+    requires within { index < length blocks.old.items }
+    ensures items { blocks.new.items ≡ moved_to blocks.old.items index place }
+{
+    let mut block = blocks.as_slice()[index];
+    block.place = place;
+    blocks.as_mut_slice()[index] = block;
+}
+
+// How the block stands.
+fn spot(block: &Placed) -> Spot
+    ensures value { result ≡ spot_of block.now }
+{
+    Spot {
+        place: block.place,
+        size: block.size,
+        align: block.align,
+    }
+}
+
 // How the blocks stand.
 fn spots(blocks: &[Placed]) -> ArrayVec<Spot, SPACE_BLOCKS>
     requires few { length blocks.now ≤ SPACE_BLOCKS }
@@ -197,11 +227,7 @@ fn spots(blocks: &[Placed]) -> ArrayVec<Spot, SPACE_BLOCKS>
 {
     let mut spots = ArrayVec::new();
     for block in blocks {
-        spots.push(Spot {
-            place: block.place,
-            size: block.size,
-            align: block.align,
-        });
+        spots.push(spot(block));
     }
     spots
 }

@@ -5,11 +5,13 @@
 #![tactic(auto)]
 
 mod blocks;
+mod laws;
 mod placed;
 
 use mem_rec::TABLE_RECORDS;
 
 pub use blocks::{Map, SpaceBlocks};
+pub use laws::{blocks_are_apart, blocks_are_few};
 pub use placed::{Owner, Placed};
 
 /// Instances have the numbers below this.

@@ -1,11 +1,13 @@
-use Rattle.std.specs.Prelude.{◌≡◌, ℕ, ◌+◌, ◌-◌, ◌<◌, ◌≤◌, ◌++◌, length, take, drop}
-use Rattle.space_blocks.specs.Blocks.{with_block}
+-- The blocks below the index begin before the new one.
+use Rattle.std.proofs.Common.{ℕ, ◌<◌, ◌≤◌, ◌-◌, length, get_or}
+use Rattle.space_blocks.specs.declared.placed.Placed.{Placed}
 use Rattle.space_blocks.proofs.blocks.enter.Given as goal
-
-abbrev pub invariant-loop-index : goal.invariant-loop-index
-invariant-loop-index l =
-    (l.index ≤ length l.blocks.items)
-    × (with_block l.block l.blocks.items ≡ take l.index l.blocks.items ++ with_block l.block (drop l.index l.blocks.items))
 
 abbrev pub decreases-loop-index : goal.decreases-loop-index
 decreases-loop-index l = length l.blocks.items - l.index
+
+abbrev pub invariant-loop-index : goal.invariant-loop-index
+invariant-loop-index l = record {
+  upto : l.index ≤ length l.blocks.items;
+  low : (k : ℕ) (d : Placed) → k < l.index → (get_or l.blocks.items k d).place < l.block.place;
+}

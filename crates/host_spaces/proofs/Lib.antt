@@ -1,0 +1,5 @@
+pub mod Pictures
+pub mod Slots
+pub mod OnePlaced
+pub mod Needs
+pub mod Limits

@@ -1,0 +1,82 @@
+//! Places for all that is needed, or for nothing.
+ghost use Rattle.std.specs.Prelude.{◌≡◌, ◌≢◌, ℕ, ◌+◌, ◌<◌, ◌≤◌, length, drop, Some, IfOk, IfSome, IfNone, OnErr};
+ghost use Rattle.std.specs.Option.{option_map};
+ghost use Rattle.mem_rec.specs.declared.Space.{Space};
+ghost use Rattle.space_heap.specs.Places.{least_place, placed_size};
+ghost use Rattle.ialg.specs.Records.{ArePoison};
+ghost use Rattle.space_blocks.specs.declared.TheConstants.{SPACE_BLOCKS};
+ghost use Rattle.space_blocks.specs.declared.placed.Owner.{Owner};
+ghost use Rattle.space_blocks.specs.Blocks.{block_of, owned, ranges, with_block, without_at};
+ghost use Rattle.host_spaces.specs.declared.wants.TheConstants.{WANTS};
+ghost use Rattle.host_spaces.specs.declared.wants.Wanted.{Wanted};
+ghost use Rattle.host_spaces.specs.Picture.{AreSameSpaces, picture_of, sizes_of, space_in};
+ghost use Rattle.host_spaces.specs.Creation.{all_placed, result_map};
+ghost use Rattle.host_spaces.specs.Wants.{AreApartWants, IsGranted, IsWithinLimits, count_in, somes, want_at};
+
+use crate::granted::Granted;
+use crate::spaces::Spaces;
+use crate::wants::Wanted;
+use mem_rec::Space;
+use space_raw::Piece;
+
+// A block at its place in its space, which is filled with the poison word, where there is one.
+fn place_filled(spaces: &mut Spaces, want: Wanted, poison: Option<i16>) -> Option<Piece>
+    requires limits { IsWithinLimits want }
+    requires room { length (space_in spaces.old want.space).blocks < SPACE_BLOCKS }
+    ensures place { option_map (λ p. p.place) result ≡ least_place (space_in spaces.old want.space).region.size (ranges (space_in spaces.old want.space).blocks) (placed_size want.size) want.align }
+    ensures piece { IfSome result (λ p. (p.region ≡ (space_in spaces.old want.space).region) × (length p.words ≡ placed_size want.size)) }
+    ensures blocks { IfSome result (λ p. (space_in spaces.new want.space).blocks ≡ with_block (block_of want.owner want.align p) (space_in spaces.old want.space).blocks) }
+    ensures owned { IfSome result (λ p. owned want.owner (space_in spaces.new want.space).blocks ≡ with_block (block_of want.owner want.align p) (owned want.owner (space_in spaces.old want.space).blocks)) }
+    ensures others { (o : Owner) → o ≢ want.owner → owned o (space_in spaces.new want.space).blocks ≡ owned o (space_in spaces.old want.space).blocks }
+    ensures elsewhere { (other : Space) → other ≢ want.space → space_in spaces.new other ≡ space_in spaces.old other }
+    ensures back { IfSome result (λ p. without_at p.place (space_in spaces.new want.space).blocks ≡ (space_in spaces.old want.space).blocks) }
+    ensures poison { IfSome result (λ p. ArePoison poison p.words) }
+    ensures none { IfNone result (spaces.new ≡ spaces.old) }
+    ensures stays { AreSameSpaces spaces.old spaces.new }
+{
+    let mut piece = spaces.place(want)?;
+    if let Some(word) = poison {
+        piece.words_mut().fill(word);
+    }
+    Some(piece)
+}
+
+// Places for what is wanted from entry `k` on, in this order; or the space of the first that has none, and then nothing has happened.
+pub(crate) fn place_from(
+    spaces: &mut Spaces,
+    wants: &[Option<Wanted>],
+    k: usize,
+    poison: Option<i16>,
+) -> Result<Granted, Space>
+    requires seven { length wants.now ≡ WANTS }
+    requires limits { (j : ℕ) (w : Wanted) → want_at wants.now j ≡ Some w → IsWithinLimits w }
+    requires apart { AreApartWants wants.now }
+    requires room { (space : Space) → length (space_in spaces.old space).blocks + count_in space (drop k wants.now) ≤ SPACE_BLOCKS }
+    ensures exact { all_placed (sizes_of spaces.old) (picture_of spaces.old) (somes (drop k wants.now)) ≡ result_map (λ _. picture_of spaces.new) result }
+    ensures granted { IfOk result (IsGranted spaces.old spaces.new poison k wants.now) }
+    ensures refused { OnErr result (spaces.new ≡ spaces.old) }
+    ensures stays { AreSameSpaces spaces.old spaces.new }
+{
+    if k >= wants.len() {
+        return Ok(Granted::none());
+    }
+    let want = match wants[k] {
+        Some(want) => want,
+        None => return place_from(spaces, wants, k + 1, poison),
+    };
+    let piece = match place_filled(spaces, want, poison) {
+        Some(piece) => piece,
+        None => return Err(want.space),
+    };
+    match place_from(spaces, wants, k + 1, poison) {
+        Ok(granted) => {
+            let mut granted = granted;
+            granted.put(k, piece);
+            Ok(granted)
+        }
+        Err(space) => {
+            spaces.take_out(want.space, piece);
+            Err(space)
+        }
+    }
+}
