@@ -16,6 +16,7 @@ use Rattle.record_loans.specs.Pieces.{piece_at, piece_words}
 use Rattle.record_loans.specs.Blocks.{block_align, block_piece, block_words}
 use Rattle.scratch_group.specs.declared.group.Group.{Group}
 use Rattle.scratch_group.specs.Blocks.{block_in}
+use Rattle.lifecycle.specs.Rooms.{piece_of_record}
 use Rattle.space_blocks.specs.declared.placed.Owner.TheVariants.{Record, Scratch}
 use Rattle.space_blocks.specs.declared.placed.Placed.{Placed}
 use Rattle.space_blocks.specs.Blocks.{block_of, block_of_piece, owned, with_block, without_piece}
@@ -28,15 +29,6 @@ use Rattle.host_spaces.specs.declared.pieces.OldBlocks.{OldBlocks}
 use Rattle.host_spaces.specs.declared.spaces.Spaces.{Spaces}
 use Rattle.host_spaces.specs.Picture.{Picture, blocks_in, each_space, space_in}
 use Rattle.host_spaces.specs.Wants.{want_at}
-
--- the piece of a record that lasts: its own, or the one that is lent
-abbrev pub lasting_piece : Attr → Option Span → Option Span → Option Span
-lasting_piece ScratchRecord own shared = None
-lasting_piece Persist own shared = own
-lasting_piece WriteOnce own shared = shared
-
-abbrev pub piece_of_record : List MemRec → Pieces → Pieces → ℕ → Option Span
-piece_of_record table own shared k = lasting_piece (record_at table k).attr (piece_at own k) (piece_at shared k)
 
 -- the block of record k of instance i in the space, none if it is in another
 abbrev pub record_block : ℕ → ℕ → MemRec → Space → Option Span → List Placed
