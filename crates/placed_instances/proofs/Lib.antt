@@ -1,1 +1,9 @@
 pub mod Rooms
+pub mod Homes
+pub mod Slots
+pub mod Moved
+pub mod MovedBlocks
+pub mod Nexts
+pub mod OwnMoves
+pub mod OnceMoves
+pub mod BlockMoves

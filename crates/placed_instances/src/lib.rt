@@ -1,14 +1,10 @@
 //! Instances in the three spaces of a host.
+//!
+//! The records of each instance, and the blocks of each group, stand where the memory picture shows them.
 #![tactic(auto)]
 
-ghost use Rattle.std.specs.Prelude.{◌≡◌};
-ghost use Rattle.host_spaces.specs.Picture.{sizes_of};
-ghost use Rattle.placed_instances.specs.Standing.{AreOrdered};
+mod moves;
+mod order;
 
-use host_spaces::Spaces;
-
-/// The law that blocks are in order.
-pub fn in_order(spaces: &Spaces)
-    ensures { AreOrdered spaces.now }
-{
-}
+pub use moves::make_next_move;
+pub use order::in_order;

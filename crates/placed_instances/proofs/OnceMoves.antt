@@ -1,0 +1,148 @@
+-- A write-once record of an instance moves.
+use Rattle.std.proofs.Common.{◌≡◌, ◌≢◌, ℕ, zero, suc, ◌<◌, ◌⊎◌, inl, inr, true, List, [], ◌∷◌, length, Option, Some, None, set, get_or-set_same, get_or-set_other, refl, sym, ◌∙◌, ap, subst, arith}
+use Rattle.std.specs.Option.{option_map}
+use Rattle.std.specs.List.{Contains}
+use Rattle.std.proofs.lemmas.Option.{same_Some}
+use Rattle.std.proofs.lemmas.Bool.Decides.{eqb_tells}
+use Rattle.space_raw.specs.Span.{Extent, Span}
+use Rattle.mem_rec.specs.declared.Space.{Space}
+use Rattle.mem_rec.specs.Records.{same_space}
+use Rattle.space_heap.specs.Pictures.{range_of}
+use Rattle.space_heap.specs.Places.{placed_size}
+use Rattle.ialg.specs.Records.{record_at}
+use Rattle.record_loans.specs.declared.pieces.Pieces.{Pieces}
+use Rattle.record_loans.specs.Pieces.{piece_at, piece_words, with_piece}
+use Rattle.scratch_group.specs.declared.group.Group.{Group}
+use Rattle.lifecycle.specs.declared.instance.Inst.{Inst}
+use Rattle.lifecycle.specs.declared.instance.Inst.TheVariants.{Idling, Running}
+use Rattle.lifecycle.specs.declared.instance.Instance.{Instance}
+use Rattle.lifecycle.specs.Moves.{restored, with_back, HasRoom}
+use Rattle.space_blocks.specs.declared.placed.Owner.{Owner}
+use Rattle.space_blocks.specs.declared.placed.Owner.TheVariants.{Record}
+use Rattle.space_blocks.specs.declared.placed.Placed.{Placed}
+use Rattle.space_blocks.specs.Blocks.{Owns, block_of, block_range, owned}
+use Rattle.space_blocks.specs.Moves.{next_block}
+use Rattle.host_spaces.specs.declared.spaces.Spaces.{Spaces}
+use Rattle.host_spaces.specs.Picture.{blocks_in, picture_of, space_in}
+use Rattle.host_spaces.specs.Pieces.{IsPieceOf, is_write_once}
+use Rattle.instance_table.specs.declared.member.Member.{Member}
+use Rattle.instance_table.specs.Table.{slot_at, once_at, group_at, no_pieces, instance_of, own_of, TablesOk}
+use Rattle.table_moves.specs.Moves.{inst_with, slot_with, own_set, TablesBut, SameWords, WordsStay}
+use Rattle.table_moves.proofs.Owns.{set_again, own_set_same, but_all, but_shared}
+use Rattle.placed_instances.specs.Standing.{IsHome, AreOrdered, AreStanding, table_of}
+use Rattle.placed_instances.specs.Moves.{IsNextOf}
+use Rattle.placed_instances.proofs.Rooms.{space_itself}
+use Rattle.placed_instances.proofs.Moved.{OneMoves, standing_once}
+use Rattle.placed_instances.proofs.MovedBlocks.{room_of_standing, block_stays_itself}
+use Rattle.placed_instances.proofs.Nexts.{IsNextRecord, next_record}
+use Rattle.placed_instances.proofs.OwnMoves.{kept_slot}
+use Rattle.placed_instances.proofs.Slots.{only_one, written_once, piece_there, piece_with_same, piece_with_other, piece_again}
+
+-- pieces that are put where they are
+inst_as_it_is : {M : Type 0} (inst : Inst M) → inst_with inst (instance_of inst).own ≡ inst
+inst_as_it_is (Idling s) = refl
+inst_as_it_is (Running s) = refl
+
+slot_as_it_is : {M : Type 0} (slot : Option (Member M)) → slot_with slot (own_of slot) ≡ slot
+slot_as_it_is None = refl
+slot_as_it_is (Some m) = ap (λ (inst : Inst _). Some (record m { inst = inst })) (inst_as_it_is m.inst)
+
+set_as_it_is : {M : Type 0} (slots : List (Option (Member M))) (i : ℕ) → set slots i (slot_at slots i) ≡ slots
+set_as_it_is [] i = refl
+set_as_it_is (x ∷ xs) zero = refl
+set_as_it_is (x ∷ xs) (suc i) = ap (λ (l : List _). x ∷ l) (set_as_it_is xs i)
+
+-- where no piece comes back, the slots are as they were
+pub none_back : {M : Type 0} (slots : List (Option (Member M))) (i : ℕ) → own_set slots i (restored None (own_of (slot_at slots i))) ≡ slots
+none_back slots i = ap (set slots i) (slot_as_it_is (slot_at slots i)) ∙ set_as_it_is slots i
+
+module _ {M : Type 0} (slots : List (Option (Member M))) (once : List Pieces) (groups : List Group) (spaces : Spaces) (space : Space) (i k : ℕ) (p : Span)
+    (ok : TablesOk slots once groups) (standing : AreStanding slots once groups spaces) (next : IsNextOf spaces space (Record i k))
+    (inside : i < length once) (taken : piece_at (once_at once i) k ≡ Some p) where
+  pub its : IsNextRecord slots once spaces space i k
+  its = next_record slots once groups spaces space i k standing next
+
+  home : IsHome spaces i (table_of its.member) (instance_of its.member.inst).own (once_at once i) (group_at groups its.member.group)
+  home = standing.homes i its.member its.there
+
+  kept : IsPieceOf (space_in spaces (record_at (table_of its.member) k).space).region (placed_size (record_at (table_of its.member) k).size) (is_write_once (record_at (table_of its.member) k).attr) (Some p)
+  kept = rw taken at (home.pieces.write_once k)
+
+  is_its : its.piece ≡ p
+  is_its =
+      let attr = written_once (record_at (table_of its.member) k).attr kept.0 in
+      let piece : piece_at (once_at once i) k ≡ Some its.piece = rw attr at its.its in
+      same_Some _ _ (sym piece ∙ taken)
+
+  pub next_is : next_block (blocks_in (picture_of spaces) space) ≡ Some (block_of (Record i k) (record_at (table_of its.member) k).align p)
+  next_is = its.next ∙ ap (λ (s : Span). Some (block_of (Record i k) (record_at (table_of its.member) k).align s)) is_its
+
+  pub region_is : p.region ≡ (space_in spaces space).region
+  region_is = subst (λ (s : Space). p.region ≡ (space_in spaces s).region) its.of_space kept.1
+
+  pub range_is : option_map block_range (next_block (blocks_in (picture_of spaces) space)) ≡ Some (range_of p)
+  range_is = rw next_is refl
+
+  owned_is : owned (Record i k) (blocks_in (picture_of spaces) space) ≡ block_of (Record i k) (record_at (table_of its.member) k).align p ∷ []
+  owned_is =
+      let attr = written_once (record_at (table_of its.member) k).attr kept.0 in
+      rw (attr, taken, its.of_space, space_itself space) at (home.records k space)
+
+  owns : Owns (blocks_in (picture_of spaces) space) (Record i k) p
+  owns = ((record_at (table_of its.member) k).align,
+      subst (λ (bs : List Placed). Contains bs (block_of (Record i k) (record_at (table_of its.member) k).align p)) (sym owned_is) (only_one (block_of (Record i k) (record_at (table_of its.member) k).align p)))
+
+  abbrev away : List Pieces
+  away = set once i (with_piece (once_at once i) k None)
+
+  away_at : once_at away i ≡ with_piece (once_at once i) k None
+  away_at = get_or-set_same once i (with_piece (once_at once i) k None) no_pieces inside
+
+  pub empty_there : piece_at (once_at away i) k ≡ None
+  empty_there = ap (λ (o : Pieces). piece_at o k) away_at ∙ piece_with_same (once_at once i) k None (piece_there (once_at once i) k p taken)
+
+  module _ (q : Span) where
+    abbrev now : List Pieces
+    now = set once i (with_piece (once_at once i) k (Some q))
+
+    -- the piece that is put back
+    pub back_is : set away i (with_piece (once_at away i) k (Some q)) ≡ now
+    back_is =
+        ap (λ (o : Pieces). set away i (with_piece o k (Some q))) away_at
+        ∙ ap (set away i) (piece_again (once_at once i) k None (Some q))
+        ∙ set_again once i (with_piece (once_at once i) k None) (with_piece (once_at once i) k (Some q))
+
+    pub told_others : TablesBut i slots now groups
+    told_others = but_shared i (with_piece (once_at once i) k (Some q)) slots once groups (but_all i slots once groups ok)
+
+    module _ (spaces' : Spaces)
+        (here : (owner : Owner) (align : ℕ) → owned owner (blocks_in (picture_of spaces) space) ≡ block_of owner align p ∷ [] → owned owner (blocks_in (picture_of spaces') space) ≡ block_of owner align q ∷ [])
+        (others : (owner o : Owner) → Owns (blocks_in (picture_of spaces) space) owner p → o ≢ owner → owned o (blocks_in (picture_of spaces') space) ≡ owned o (blocks_in (picture_of spaces) space))
+        (elsewhere : (other : Space) → other ≢ space → space_in spaces' other ≡ space_in spaces other)
+        (regions : (any : Space) → (space_in spaces' any).region ≡ (space_in spaces any).region) (words : q.words ≡ p.words) (region : q.region ≡ p.region) where
+      moves : OneMoves space (Record i k) p q spaces spaces'
+      moves = record { here = here (Record i k); others = λ o apart. others (Record i k) o owns apart; elsewhere = elsewhere; regions = regions; words = words; region = region }
+
+      pub stands : AreStanding slots now groups spaces'
+      stands = standing_once space i k p q slots once groups spaces spaces' moves standing its.member its.there its.of_space taken inside
+
+      pub room_now : AreOrdered spaces' → (n : Member M) → slot_at slots i ≡ Some n → HasRoom (with_back (instance_of n.inst) None) (once_at now i) (group_at groups n.group)
+      room_now ordered n at = room_of_standing slots now groups spaces' ordered stands i n at
+
+      same_words : (j : ℕ) → SameWords (once_at once j) (once_at now j)
+      same_words j l =
+          elim (eqb_tells j i) [
+            | inr e ↦ ap (λ (o : Pieces). piece_words (piece_at o l)) (get_or-set_other once i j (with_piece (once_at once i) k (Some q)) no_pieces e.1)
+            | inl e ↦ rw (e.1, get_or-set_same once i (with_piece (once_at once i) k (Some q)) no_pieces inside)
+                (elim (eqb_tells l k) [
+                  | inl f ↦ rw (f.1, piece_with_same (once_at once i) k (Some q) (piece_there (once_at once i) k p taken), taken) words
+                  | inr f ↦ ap piece_words (piece_with_other (once_at once i) k l (Some q) f.1)
+                ])
+          ]
+
+      pub words_now : WordsStay slots once groups slots now groups
+      words_now = record {
+        slot = λ j. kept_slot (slot_at slots j);
+        pieces = same_words;
+        blocks = λ g j s active. block_stays_itself _;
+      }

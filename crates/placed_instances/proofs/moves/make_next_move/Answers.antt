@@ -1,0 +1,30 @@
+use Rattle.std.proofs.Common.{◌≡◌, Some, sym, ap, ◌∙◌, arith}
+use Rattle.std.proofs.lemmas.Option.{same_Some}
+use Rattle.space_blocks.specs.declared.placed.Placed.{Placed}
+use Rattle.instance_table.proofs.Changes.{slot_in}
+use Rattle.placed_instances.proofs.Nexts.{next_record}
+use Rattle.placed_instances.proofs.BlockMoves.{record_number, own_there, group_number}
+use Rattle.placed_instances.proofs.moves.make_next_move.Goals as goal
+
+pub has_once-requires-clause-number : goal.has_once-requires-clause-number
+has_once-requires-clause-number g c =
+    let its = next_record _ _ _ c.args.spaces.now c.args.space c.in-Record.i c.in-Record.k c.requires.standing (c.in-Some.block, (sym c.next_move.ensures.value ∙ c.in-Some.is, c.in-Record.is)) in
+    let inside = slot_in c.args.slots.now.items c.in-Record.i its.member its.there in
+    omega (arith, inside, c.requires.ok.slot_count, c.requires.ok.once_count)
+
+pub has_once-requires-clause-record : goal.has_once-requires-clause-record
+has_once-requires-clause-record g c =
+    record_number c.args.slots.now.items c.args.once.now.items c.args.spaces.now c.args.space c.in-Record.i c.in-Record.k
+    (next_record _ _ _ c.args.spaces.now c.args.space c.in-Record.i c.in-Record.k c.requires.standing (c.in-Some.block, (sym c.next_move.ensures.value ∙ c.in-Some.is, c.in-Record.is)))
+
+pub move_own-requires-clause-own : goal.move_own-requires-clause-own
+move_own-requires-clause-own g c =
+    own_there c.args.slots.now.items c.args.once.now.items c.args.spaces.now c.args.space c.in-Record.i c.in-Record.k
+    (next_record _ _ _ c.args.spaces.now c.args.space c.in-Record.i c.in-Record.k c.requires.standing (c.in-Some.block, (sym c.next_move.ensures.value ∙ c.in-Some.is, c.in-Record.is)))
+    (sym c.has_once.ensures ∙ c.if-has_once.false)
+
+pub move_block-requires-clause-number : goal.move_block-requires-clause-number
+move_block-requires-clause-number g c =
+    let next = sym c.next_move.ensures.value ∙ c.in-Some.is in
+    group_number _ _ _ c.args.spaces.now c.args.space c.in-Scratch.g c.in-Some.block.align c.requires.ok c.requires.standing (c.in-Some.block, (next, c.in-Scratch.is))
+    (λ b e. ap (λ (x : Placed). x.align) (same_Some b c.in-Some.block (sym e ∙ next)))

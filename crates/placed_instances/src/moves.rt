@@ -1,0 +1,151 @@
+//! Moves: the next block of a space is slid down to its packed place, and whoever has records in it is told.
+ghost use Rattle.std.specs.Prelude.{◌≡◌, ◌<◌, length, true, false, Some, None, IsSome, is_some};
+ghost use Rattle.record_loans.specs.Pieces.{piece_at};
+ghost use Rattle.instance_table.specs.declared.TheConstants.{INSTANCES, GROUPS};
+ghost use Rattle.instance_table.specs.Table.{slot_at, once_at, own_of, TablesOk};
+ghost use Rattle.space_blocks.specs.declared.placed.Owner.{Owner};
+ghost use Rattle.space_blocks.specs.declared.placed.Placed.{Placed};
+ghost use Rattle.space_blocks.specs.Moves.{next_block};
+ghost use Rattle.host_spaces.specs.Picture.{blocks_in, picture_of};
+ghost use Rattle.placed_instances.specs.Standing.{AreStanding};
+ghost use Rattle.placed_instances.specs.Moves.{HasMoved, IsNextOf};
+
+use crate::order::in_order;
+use host_spaces::Spaces;
+use ialg::Ialg;
+use instance_table::{Member, tell_members};
+use mem_rec::Space;
+use record_loans::Pieces;
+use scratch_group::Group;
+use space_blocks::Owner;
+use space_raw::Piece;
+use table_moves::{put_block, put_once, take_block, take_once, take_own, tell};
+
+/// Moves a record that an instance has for its own.
+fn move_own<M: Ialg>(
+    slots: &mut Vec<Option<Member<M>>>,
+    once: &mut Vec<Pieces>,
+    groups: &mut Vec<Group>,
+    spaces: &mut Spaces,
+    space: Space,
+    i: u8,
+    k: u8,
+)
+    requires ok { TablesOk slots.old.items once.old.items groups.old.items }
+    requires standing { AreStanding slots.old.items once.old.items groups.old.items spaces.old }
+    requires next { IsNextOf spaces.old space (Owner.Record i k) }
+    requires own { IsSome (piece_at (own_of (slot_at slots.old.items i)) k) }
+    ensures { HasMoved M.meaning M.idle_keeps M.active_keeps space slots.old.items once.old.items groups.old.items spaces.old
+        slots.new.items once.new.items groups.new.items spaces.new }
+{
+    let piece = take_own(slots, i, k as usize);
+    let moved = spaces.make_move(space, piece);
+    in_order(spaces);
+    tell(slots, once, groups, i, Some((k as usize, moved)));
+}
+
+/// Moves a write-once record of an instance.
+fn move_once<M: Ialg>(
+    slots: &mut Vec<Option<Member<M>>>,
+    once: &mut Vec<Pieces>,
+    groups: &mut Vec<Group>,
+    spaces: &mut Spaces,
+    space: Space,
+    i: u8,
+    k: u8,
+)
+    requires ok { TablesOk slots.old.items once.old.items groups.old.items }
+    requires standing { AreStanding slots.old.items once.old.items groups.old.items spaces.old }
+    requires next { IsNextOf spaces.old space (Owner.Record i k) }
+    requires number { i < length once.old.items }
+    requires shared { IsSome (piece_at (once_at once.old.items i) k) }
+    ensures { HasMoved M.meaning M.idle_keeps M.active_keeps space slots.old.items once.old.items groups.old.items spaces.old
+        slots.new.items once.new.items groups.new.items spaces.new }
+{
+    let piece = take_once(once, i, k as usize);
+    let moved = spaces.make_move(space, piece);
+    in_order(spaces);
+    put_once(once, i, k as usize, moved);
+    tell(slots, once, groups, i, None);
+}
+
+/// Moves the block of a group.
+fn move_block<M: Ialg>(
+    slots: &mut Vec<Option<Member<M>>>,
+    once: &mut Vec<Pieces>,
+    groups: &mut Vec<Group>,
+    spaces: &mut Spaces,
+    space: Space,
+    g: u8,
+    align: u32,
+)
+    requires ok { TablesOk slots.old.items once.old.items groups.old.items }
+    requires standing { AreStanding slots.old.items once.old.items groups.old.items spaces.old }
+    requires number { g < GROUPS }
+    requires next { IsNextOf spaces.old space (Owner.Scratch g) }
+    requires align { (b : Placed) → next_block (blocks_in (picture_of spaces.old) space) ≡ Some b → b.align ≡ align }
+    ensures { HasMoved M.meaning M.idle_keeps M.active_keeps space slots.old.items once.old.items groups.old.items spaces.old
+        slots.new.items once.new.items groups.new.items spaces.new }
+{
+    match take_block(groups, g, space) {
+        Some(piece) => {
+            let moved = spaces.make_move(space, piece);
+            in_order(spaces);
+            let old = put_block(groups, g, space, moved, align);
+            end_none(old);
+            tell_members(slots, once, groups, g);
+        }
+        None => unreachable!(),
+    }
+}
+
+/// Ends a piece that isn't there.
+fn end_none(piece: Option<Piece>)
+    requires { piece ≡ None }
+{
+    match piece {
+        Some(_piece) => unreachable!(),
+        None => {}
+    }
+}
+
+/// Whether record `k` of the instance is a write-once one, which has its piece with those that are lent.
+fn has_once(once: &Vec<Pieces>, i: u8, k: u8) -> bool
+    requires number { i < length once.now.items }
+    requires record { k < 4 }
+    ensures { result ≡ is_some (piece_at (once_at once.now.items i) k) }
+{
+    once[i as usize].piece(k as usize).is_some()
+}
+
+/// Makes the next move of a space: its first block that isn't at its packed place is slid down to it, with its words, and its owner, or
+/// each member of its group in ascending number, is told. Says whether a block moved.
+pub fn make_next_move<M: Ialg>(
+    slots: &mut Vec<Option<Member<M>>>,
+    once: &mut Vec<Pieces>,
+    groups: &mut Vec<Group>,
+    spaces: &mut Spaces,
+    space: Space,
+) -> bool
+    requires ok { TablesOk slots.old.items once.old.items groups.old.items }
+    requires standing { AreStanding slots.old.items once.old.items groups.old.items spaces.old }
+    ensures answer { result ≡ is_some (next_block (blocks_in (picture_of spaces.old) space)) }
+    ensures moved { result ≡ true → HasMoved M.meaning M.idle_keeps M.active_keeps space slots.old.items once.old.items groups.old.items spaces.old
+        slots.new.items once.new.items groups.new.items spaces.new }
+    ensures packed { result ≡ false → (slots.new ≡ slots.old) × (once.new ≡ once.old) × (groups.new ≡ groups.old) × (spaces.new ≡ spaces.old) }
+{
+    let Some(block) = spaces.next_move(space) else {
+        return false;
+    };
+    match block.owner {
+        Owner::Record(i, k) => {
+            if has_once(once, i, k) {
+                move_once(slots, once, groups, spaces, space, i, k);
+            } else {
+                move_own(slots, once, groups, spaces, space, i, k);
+            }
+        }
+        Owner::Scratch(g) => move_block(slots, once, groups, spaces, space, g, block.align),
+    }
+    true
+}
