@@ -21,11 +21,11 @@ fn words(rt: &impl Abort, values: &[i16]) -> Words {
 /// The records of the decimator, each at a place of its own.
 fn table(rt: &impl Abort, p: &Params) -> MemTab {
     let table = Decim.alg_alloc(p).expect(rt, "a table");
-    assert_eq!(rt; table.len(), 4);
+    assert!(rt; table.len() == 4);
     let table = table.with_base(1, 8);
-    assert_eq!(rt; table.len(), 4);
+    assert!(rt; table.len() == 4);
     let table = table.with_base(2, 24);
-    assert_eq!(rt; table.len(), 4);
+    assert!(rt; table.len() == 4);
     table.with_base(3, 16)
 }
 
@@ -119,7 +119,7 @@ impl<const KEPT: usize, const CONSTANTS: usize, const RING: usize> Instance<KEPT
     /// Moves the constants to another place.
     fn move_constants(&mut self, rt: &impl Abort, base: u16) {
         let table = self.table.copied();
-        assert_eq!(rt; table.len(), 4);
+        assert!(rt; table.len() == 4);
         self.table = table.with_base(2, base);
         let _moved = self.perform(Call::Follow);
     }
@@ -155,14 +155,14 @@ impl<const KEPT: usize, const CONSTANTS: usize, const RING: usize> Instance<KEPT
 fn each_second_output_is_given(rt: HostRuntime) {
     let p = words(&rt, &[2, 16384, 16384]);
     let mut halver: Instance<2, 3, 257> = Instance::start(&rt, &p);
-    assert_eq!(rt; halver.object, [2, 8, 24, 16]);
-    assert_eq!(rt; halver.constants, [2, 16384, 16384]);
+    assert!(rt; halver.object == [2, 8, 24, 16]);
+    assert!(rt; halver.constants == [2, 16384, 16384]);
     let out = halver.feed(&[2, 4, 6]);
-    assert_eq!(rt; out.as_slice(), [3].as_slice());
+    assert!(rt; out.as_slice() == [3].as_slice());
     let got = halver.control(&Ctl::Get);
-    assert_eq!(rt; got, Status::Words(words(&rt, &[1])));
+    assert!(rt; got == Status::Words(words(&rt, &[1])));
     let out = halver.feed(&[8]);
-    assert_eq!(rt; out.as_slice(), [7].as_slice());
+    assert!(rt; out.as_slice() == [7].as_slice());
 }
 
 #[test]
@@ -170,11 +170,11 @@ fn a_reset_clears_the_phase(rt: HostRuntime) {
     let p = words(&rt, &[2, 16384, 16384]);
     let mut halver: Instance<2, 3, 257> = Instance::start(&rt, &p);
     let _out = halver.feed(&[2, 4, 6]);
-    assert_eq!(rt; halver.control(&Ctl::Reset), Status::Done);
+    assert!(rt; halver.control(&Ctl::Reset) == Status::Done);
     let out = halver.feed(&[10]);
     assert!(rt; out.is_empty());
     let out = halver.feed(&[4]);
-    assert_eq!(rt; out.as_slice(), [7].as_slice());
+    assert!(rt; out.as_slice() == [7].as_slice());
 }
 
 #[test]
@@ -182,13 +182,13 @@ fn moved_and_freed(rt: HostRuntime) {
     let p = words(&rt, &[1, 16384, 16384]);
     let mut each: Instance<2, 3, 257> = Instance::start(&rt, &p);
     let out = each.feed(&[2, 4]);
-    assert_eq!(rt; out.as_slice(), [1, 3].as_slice());
+    assert!(rt; out.as_slice() == [1, 3].as_slice());
     each.move_constants(&rt, 40);
-    assert_eq!(rt; each.object, [2, 8, 40, 16]);
+    assert!(rt; each.object == [2, 8, 40, 16]);
     let out = each.feed(&[6]);
-    assert_eq!(rt; out.as_slice(), [5].as_slice());
+    assert!(rt; out.as_slice() == [5].as_slice());
     let freed = each.free().expect(&rt, "a table");
-    assert_eq!(rt; freed.records(), each.table.records());
+    assert!(rt; freed.records() == each.table.records());
 }
 
 /// The parameters of a decimator by `factor`, of 64 coefficients whose sums saturate over loud samples.
@@ -231,12 +231,12 @@ fn assert_thinned(rt: &impl Abort, factor: i16) {
         let out = decimator.feed(input.as_slice());
         let mut wanted = Block::new();
         Fir::run(&filter, &mut line, input.as_slice(), &mut wanted);
-        assert_eq!(rt; wanted.len(), count);
+        assert!(rt; wanted.len() == count);
         let mut outputs = out.as_slice().iter();
         for value in wanted.as_slice() {
             number = number.wrapping_add(1);
             if number == factor {
-                assert_eq!(rt; outputs.next(), Some(value));
+                assert!(rt; outputs.next() == Some(value));
                 number = 0;
             }
         }
@@ -254,7 +254,7 @@ fn the_outputs_are_each_mth_of_the_filter(rt: HostRuntime) {
 #[test]
 fn other_parameters_are_refused(rt: HostRuntime) {
     decim_is_lawful();
-    assert_eq!(rt; Decim.alg_num_alloc(), 4);
+    assert!(rt; Decim.alg_num_alloc() == 4);
     assert!(rt; Decim.alg_alloc(&words(&rt, &[])).is_none());
     assert!(rt; Decim.alg_alloc(&words(&rt, &[2])).is_none());
     assert!(rt; Decim.alg_alloc(&words(&rt, &[0, 1])).is_none());
@@ -290,7 +290,7 @@ fn assert_table(rt: &impl Abort, parameters: usize, kept: u32, constants: u32, r
         record(constants, 8, Space::External, Attr::WriteOnce),
         record(ring, 16, Space::Daram, Attr::Scratch),
     ];
-    assert_eq!(rt; table.records(), wanted.as_slice());
+    assert!(rt; table.records() == wanted.as_slice());
 }
 
 #[test]
