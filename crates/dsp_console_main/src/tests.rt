@@ -56,7 +56,7 @@ fn a_refusal_and_a_full_device_show_in_the_status(rt: HostRuntime) -> Result<(),
     make_file(&rt, "input", b"\x02\x00")?;
     assert!(rt; answer(&rt, &["refused", "input", "output"]) == (1, ""));
     assert!(rt; answer(&rt, &["granted", "input", "output"]) == (0, ""));
-    assert!(rt; fs::read(&rt, "output")?.as_slice() == b"\x01\x00".as_slice());
+    assert_eq!(rt; fs::read(&rt, "output")?.as_slice(), b"\x01\x00".as_slice());
     assert!(rt; answer(&rt, &["granted", "input", "/dev/full"]) == WRITE_FAILED);
     Ok(())
 }
