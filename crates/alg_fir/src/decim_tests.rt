@@ -21,11 +21,11 @@ fn words(rt: &impl Abort, values: &[i16]) -> Words {
 /// The records of the decimator, each at a place of its own.
 fn table(rt: &impl Abort, p: &Params) -> MemTab {
     let table = Decim.alg_alloc(p).expect(rt, "a table");
-    assert_eq!(rt; table.len(), 4);
+    assert!(rt; table.len() == 4);
     let table = table.with_base(1, 8);
-    assert_eq!(rt; table.len(), 4);
+    assert!(rt; table.len() == 4);
     let table = table.with_base(2, 24);
-    assert_eq!(rt; table.len(), 4);
+    assert!(rt; table.len() == 4);
     table.with_base(3, 16)
 }
 
@@ -84,179 +84,111 @@ fn control_awake(mem: &mut Lent<'_>, c: &Ctl) -> Status
     status
 }
 
-/// Performs the call with the records of the instance; the ring is overwritten first.
-fn perform(
-    call: Call<'_>,
-    table: &MemTab,
-    object: &mut [i16],
-    kept: &mut [i16],
-    constants: &mut [i16],
-    ring: &mut [i16],
-) -> Given {
-    let mut given = Given {
-        out: Block::new(),
-        status: Status::Done,
-        freed: None,
-    };
-    ring.fill(POISON);
-    let writable = matches!(call, Call::Start(_));
-    lend(
-        &call, table, writable, object, kept, constants, ring, &mut given,
-    );
-    given
+/// An instance in its records: the object, the kept words, the constants and the ring, of so many words.
+#[derive(Drop)]
+struct Instance<const KEPT: usize, const CONSTANTS: usize, const RING: usize> {
+    table: MemTab,
+    object: [i16; 4],
+    kept: [i16; KEPT],
+    constants: [i16; CONSTANTS],
+    ring: [i16; RING],
+}
+
+impl<const KEPT: usize, const CONSTANTS: usize, const RING: usize> Instance<KEPT, CONSTANTS, RING> {
+    /// Starts one with these parameters, over words that were anything.
+    fn start(rt: &impl Abort, p: &Params) -> Self {
+        let mut instance = Instance {
+            table: table(rt, p),
+            object: [0; 4],
+            kept: [POISON; KEPT],
+            constants: [POISON; CONSTANTS],
+            ring: [0; RING],
+        };
+        let _started = instance.perform(Call::Start(p));
+        instance
+    }
+
+    fn feed(&mut self, input: &[i16]) -> Block {
+        self.perform(Call::Feed(input)).out
+    }
+
+    fn control(&mut self, c: &Ctl) -> Status {
+        self.perform(Call::Give(c)).status
+    }
+
+    /// Moves the constants to another place.
+    fn move_constants(&mut self, rt: &impl Abort, base: u16) {
+        let table = self.table.copied();
+        assert!(rt; table.len() == 4);
+        self.table = table.with_base(2, base);
+        let _moved = self.perform(Call::Follow);
+    }
+
+    fn free(&mut self) -> Option<MemTab> {
+        self.perform(Call::Free).freed
+    }
+
+    /// Performs the call with the records of the instance; the ring is overwritten first.
+    fn perform(&mut self, call: Call<'_>) -> Given {
+        let mut given = Given {
+            out: Block::new(),
+            status: Status::Done,
+            freed: None,
+        };
+        self.ring.fill(POISON);
+        let writable = matches!(call, Call::Start(_));
+        lend(
+            &call,
+            &self.table,
+            writable,
+            &mut self.object,
+            &mut self.kept,
+            &mut self.constants,
+            &mut self.ring,
+            &mut given,
+        );
+        given
+    }
 }
 
 #[test]
 fn each_second_output_is_given(rt: HostRuntime) {
     let p = words(&rt, &[2, 16384, 16384]);
-    let table = table(&rt, &p);
-    let (mut object, mut kept, mut constants, mut ring) = (
-        [0; 4],
-        [POISON; 2],
-        [POISON; 3],
-        [0; 257],
-    );
-    let _started = perform(
-        Call::Start(&p),
-        &table,
-        &mut object,
-        &mut kept,
-        &mut constants,
-        &mut [],
-    );
-    assert_eq!(rt; object, [2, 8, 24, 16]);
-    assert_eq!(rt; constants, [2, 16384, 16384]);
-    let given = perform(
-        Call::Feed(&[2, 4, 6]),
-        &table,
-        &mut object,
-        &mut kept,
-        &mut constants,
-        &mut ring,
-    );
-    assert_eq!(rt; given.out.as_slice(), [3].as_slice());
-    let given = perform(
-        Call::Give(&Ctl::Get),
-        &table,
-        &mut object,
-        &mut kept,
-        &mut constants,
-        &mut ring,
-    );
-    assert_eq!(rt; given.status, Status::Words(words(&rt, &[1])));
-    let given = perform(
-        Call::Feed(&[8]),
-        &table,
-        &mut object,
-        &mut kept,
-        &mut constants,
-        &mut ring,
-    );
-    assert_eq!(rt; given.out.as_slice(), [7].as_slice());
+    let mut halver: Instance<2, 3, 257> = Instance::start(&rt, &p);
+    assert!(rt; halver.object == [2, 8, 24, 16]);
+    assert!(rt; halver.constants == [2, 16384, 16384]);
+    let out = halver.feed(&[2, 4, 6]);
+    assert!(rt; out.as_slice() == [3].as_slice());
+    let got = halver.control(&Ctl::Get);
+    assert!(rt; got == Status::Words(words(&rt, &[1])));
+    let out = halver.feed(&[8]);
+    assert!(rt; out.as_slice() == [7].as_slice());
 }
 
 #[test]
 fn a_reset_clears_the_phase(rt: HostRuntime) {
     let p = words(&rt, &[2, 16384, 16384]);
-    let table = table(&rt, &p);
-    let (mut object, mut kept, mut constants, mut ring) = ([0; 4], [0; 2], [0; 3], [0; 257]);
-    let _started = perform(
-        Call::Start(&p),
-        &table,
-        &mut object,
-        &mut kept,
-        &mut constants,
-        &mut [],
-    );
-    let _given = perform(
-        Call::Feed(&[2, 4, 6]),
-        &table,
-        &mut object,
-        &mut kept,
-        &mut constants,
-        &mut ring,
-    );
-    let given = perform(
-        Call::Give(&Ctl::Reset),
-        &table,
-        &mut object,
-        &mut kept,
-        &mut constants,
-        &mut ring,
-    );
-    assert_eq!(rt; given.status, Status::Done);
-    let given = perform(
-        Call::Feed(&[10]),
-        &table,
-        &mut object,
-        &mut kept,
-        &mut constants,
-        &mut ring,
-    );
-    assert!(rt; given.out.is_empty());
-    let given = perform(
-        Call::Feed(&[4]),
-        &table,
-        &mut object,
-        &mut kept,
-        &mut constants,
-        &mut ring,
-    );
-    assert_eq!(rt; given.out.as_slice(), [7].as_slice());
+    let mut halver: Instance<2, 3, 257> = Instance::start(&rt, &p);
+    let _out = halver.feed(&[2, 4, 6]);
+    assert!(rt; halver.control(&Ctl::Reset) == Status::Done);
+    let out = halver.feed(&[10]);
+    assert!(rt; out.is_empty());
+    let out = halver.feed(&[4]);
+    assert!(rt; out.as_slice() == [7].as_slice());
 }
 
 #[test]
 fn moved_and_freed(rt: HostRuntime) {
     let p = words(&rt, &[1, 16384, 16384]);
-    let first = table(&rt, &p);
-    let (mut object, mut kept, mut constants, mut ring) = ([0; 4], [0; 2], [0; 3], [0; 257]);
-    let _started = perform(
-        Call::Start(&p),
-        &first,
-        &mut object,
-        &mut kept,
-        &mut constants,
-        &mut [],
-    );
-    let given = perform(
-        Call::Feed(&[2, 4]),
-        &first,
-        &mut object,
-        &mut kept,
-        &mut constants,
-        &mut ring,
-    );
-    assert_eq!(rt; given.out.as_slice(), [1, 3].as_slice());
-    assert_eq!(rt; first.len(), 4);
-    let there = first.with_base(2, 40);
-    let _moved = perform(
-        Call::Follow,
-        &there,
-        &mut object,
-        &mut kept,
-        &mut constants,
-        &mut [],
-    );
-    assert_eq!(rt; object, [2, 8, 40, 16]);
-    let given = perform(
-        Call::Feed(&[6]),
-        &there,
-        &mut object,
-        &mut kept,
-        &mut constants,
-        &mut ring,
-    );
-    assert_eq!(rt; given.out.as_slice(), [5].as_slice());
-    let given = perform(
-        Call::Free,
-        &there,
-        &mut object,
-        &mut kept,
-        &mut constants,
-        &mut [],
-    );
-    let freed = given.freed.expect(&rt, "a table");
-    assert_eq!(rt; freed.records(), there.records());
+    let mut each: Instance<2, 3, 257> = Instance::start(&rt, &p);
+    let out = each.feed(&[2, 4]);
+    assert!(rt; out.as_slice() == [1, 3].as_slice());
+    each.move_constants(&rt, 40);
+    assert!(rt; each.object == [2, 8, 40, 16]);
+    let out = each.feed(&[6]);
+    assert!(rt; out.as_slice() == [5].as_slice());
+    let freed = each.free().expect(&rt, "a table");
+    assert!(rt; freed.records() == each.table.records());
 }
 
 /// The parameters of a decimator by `factor`, of 64 coefficients whose sums saturate over loud samples.
@@ -289,38 +221,22 @@ fn loud_samples(rt: &impl Abort, count: usize) -> Block {
 fn assert_thinned(rt: &impl Abort, factor: i16) {
     let values = loud_parameters(factor);
     let p = words(rt, &values);
-    let table = table(rt, &p);
-    let (mut object, mut kept, mut constants, mut ring) = ([0; 4], [0; 64], [0; 65], [0; 319]);
-    let _started = perform(
-        Call::Start(&p),
-        &table,
-        &mut object,
-        &mut kept,
-        &mut constants,
-        &mut [],
-    );
+    let mut decimator: Instance<64, 65, 319> = Instance::start(rt, &p);
     let (mut filter, mut line) = ([0; 127], [0; 319]);
     Fir::start(&values[1..], &mut filter);
     Fir::restore(&filter, &mut line);
     let mut number: i16 = 0;
     for count in [256, 100, 7, 1, 255, 256, 64] {
         let input = loud_samples(rt, count);
-        let given = perform(
-            Call::Feed(input.as_slice()),
-            &table,
-            &mut object,
-            &mut kept,
-            &mut constants,
-            &mut ring,
-        );
+        let out = decimator.feed(input.as_slice());
         let mut wanted = Block::new();
         Fir::run(&filter, &mut line, input.as_slice(), &mut wanted);
-        assert_eq!(rt; wanted.len(), count);
-        let mut outputs = given.out.as_slice().iter();
+        assert!(rt; wanted.len() == count);
+        let mut outputs = out.as_slice().iter();
         for value in wanted.as_slice() {
             number = number.wrapping_add(1);
             if number == factor {
-                assert_eq!(rt; outputs.next(), Some(value));
+                assert!(rt; outputs.next() == Some(value));
                 number = 0;
             }
         }
@@ -338,7 +254,7 @@ fn the_outputs_are_each_mth_of_the_filter(rt: HostRuntime) {
 #[test]
 fn other_parameters_are_refused(rt: HostRuntime) {
     decim_is_lawful();
-    assert_eq!(rt; Decim.alg_num_alloc(), 4);
+    assert!(rt; Decim.alg_num_alloc() == 4);
     assert!(rt; Decim.alg_alloc(&words(&rt, &[])).is_none());
     assert!(rt; Decim.alg_alloc(&words(&rt, &[2])).is_none());
     assert!(rt; Decim.alg_alloc(&words(&rt, &[0, 1])).is_none());
@@ -374,7 +290,7 @@ fn assert_table(rt: &impl Abort, parameters: usize, kept: u32, constants: u32, r
         record(constants, 8, Space::External, Attr::WriteOnce),
         record(ring, 16, Space::Daram, Attr::Scratch),
     ];
-    assert_eq!(rt; table.records(), wanted.as_slice());
+    assert!(rt; table.records() == wanted.as_slice());
 }
 
 #[test]

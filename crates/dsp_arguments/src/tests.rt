@@ -1,16 +1,30 @@
 //! Which word of a command line becomes which field, and what is refused.
 use crate::{ArgFault, arguments};
 use dsp_console::Sizes;
+use std::process::Abort;
 use std::test::Fail;
 
-const FULL: Sizes = Sizes {
-    daram: 65_536,
-    saram: 65_536,
-    external: 65_536,
-};
+/// The sizes of the three spaces.
+fn sizes(daram: u32, saram: u32, external: u32) -> Sizes {
+    Sizes {
+        daram,
+        saram,
+        external,
+    }
+}
+
+/// Reads a command line with the script `s` and the ports `a` and `b`, and compares the options.
+fn assert_read<R: Abort + AllocGlobal>(rt: &R, words: &[&str], sizes: Sizes, poison: Option<i16>) {
+    let Ok(given) = arguments(rt.alloc(), words) else {
+        panic!(rt; "refused");
+    };
+    assert!(rt; given.script == "s" && given.ports.as_slice() == [("a", "b")].as_slice());
+    assert!(rt; given.sizes == sizes);
+    assert!(rt; given.poison == poison);
+}
 
 #[test]
-fn reads_arguments(rt: HostRuntime) -> Result<(), Fail> {
+fn reads_arguments(rt: HostRuntime) {
     let words = [
         "--daram",
         "8",
@@ -24,29 +38,12 @@ fn reads_arguments(rt: HostRuntime) -> Result<(), Fail> {
         "a",
         "b",
     ];
-    let Ok(given) = arguments(rt.alloc(), &words) else {
-        panic!(rt; "refused");
-    };
-    assert_eq!(rt; given.script, "s");
-    let sizes = Sizes {
-        daram: 8,
-        saram: 12,
-        external: 16,
-    };
-    assert_eq!(rt; given.sizes, sizes);
-    assert_eq!(rt; given.poison, Some(-1));
-    assert_eq!(rt; given.ports.len(), 1);
-    assert!(rt; given.ports.as_slice()[0] == ("a", "b"));
-    let Ok(plain) = arguments(rt.alloc(), &["s", "a", "b"]) else {
-        panic!(rt; "refused");
-    };
-    assert_eq!(rt; plain.sizes, FULL);
-    assert_eq!(rt; plain.poison, None);
-    Ok(())
+    assert_read(&rt, &words, sizes(8, 12, 16), Some(-1));
+    assert_read(&rt, &["s", "a", "b"], sizes(65_536, 65_536, 65_536), None);
 }
 
 #[test]
-fn zero_is_a_size_and_a_poison_word(rt: HostRuntime) -> Result<(), Fail> {
+fn zero_is_a_size_and_a_poison_word(rt: HostRuntime) {
     let words = [
         "--external=0",
         "--saram=0",
@@ -56,51 +53,41 @@ fn zero_is_a_size_and_a_poison_word(rt: HostRuntime) -> Result<(), Fail> {
         "a",
         "b",
     ];
-    let Ok(given) = arguments(rt.alloc(), &words) else {
-        panic!(rt; "refused");
-    };
-    let none = Sizes {
-        daram: 0,
-        saram: 0,
-        external: 0,
-    };
-    assert_eq!(rt; given.sizes, none);
-    assert_eq!(rt; given.poison, Some(0));
-    let Ok(greatest) = arguments(rt.alloc(), &["--poison=32768", "s", "a", "b"]) else {
-        panic!(rt; "refused");
-    };
-    assert_eq!(rt; greatest.poison, Some(-32_768));
-    Ok(())
+    assert_read(&rt, &words, sizes(0, 0, 0), Some(0));
+    let words = ["--poison=32768", "s", "a", "b"];
+    assert_read(&rt, &words, sizes(65_536, 65_536, 65_536), Some(-32_768));
+}
+
+/// Whether these words, parted by blanks, aren't taken, and by `clap` or since the ports aren't in pairs.
+fn refused<R: Abort + AllocGlobal>(rt: &R, line: &str) -> Result<Option<bool>, Fail> {
+    let mut words = Vec::new(rt.alloc());
+    for word in line.split(' ') {
+        words.push(word)?;
+    }
+    match arguments(rt.alloc(), words.as_slice()) {
+        Ok(_) => Ok(None),
+        Err(ArgFault::Clap(_)) => Ok(Some(true)),
+        Err(ArgFault::Ports) => Ok(Some(false)),
+    }
 }
 
 #[test]
 fn refuses_arguments(rt: HostRuntime) -> Result<(), Fail> {
-    let clap: [&[&str]; 8] = [
-        &["--poison", "65536", "s", "a", "b"],
-        &["--poison", "-1", "s", "a", "b"],
-        &["--daram", "4294967296", "s", "a", "b"],
-        &["--daram", "x", "s", "a", "b"],
-        &["--flute", "s", "a", "b"],
-        &["--daram=4", "--daram=8", "s", "a", "b"],
+    assert!(rt; matches!(arguments(rt.alloc(), &[]), Err(ArgFault::Clap(_))));
+    for line in [
+        "--poison 65536 s a b",
+        "--poison -1 s a b",
+        "--daram 4294967296 s a b",
+        "--daram x s a b",
+        "--flute s a b",
+        "--daram=4 --daram=8 s a b",
         // The words are parsed before the ports are counted.
-        &[
-            "s", "a", "b", "c", "d", "e", "f", "g", "h", "i", "j", "k", "l", "--flute",
-        ],
-        &[],
-    ];
-    for words in clap {
-        let answer = arguments(rt.alloc(), words);
-        assert!(rt; matches!(answer, Err(ArgFault::Clap(_))));
+        "s a b c d e f g h i j k l --flute",
+    ] {
+        assert!(rt; refused(&rt, line)? == Some(true));
     }
-    let ports: [&[&str]; 4] = [
-        &["s"],
-        &["s", "a"],
-        &["s", "a", "b", "c"],
-        &["s", "a", "b", "c", "d"],
-    ];
-    for words in ports {
-        let answer = arguments(rt.alloc(), words);
-        assert!(rt; matches!(answer, Err(ArgFault::Ports)));
+    for line in ["s", "s a", "s a b c", "s a b c d"] {
+        assert!(rt; refused(&rt, line)? == Some(false));
     }
     Ok(())
 }

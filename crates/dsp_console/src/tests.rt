@@ -92,16 +92,16 @@ fn compare<R: Abort + AllocGlobal>(
         &mut outputs,
         &mut replies,
     );
-    assert_eq!(rt; answer, wanted.answer);
-    assert_eq!(rt; outputs.len(), 1);
-    assert_eq!(rt; outputs[0].held(), wanted.output);
-    assert_eq!(rt; replies.held(), wanted.replies);
+    assert!(rt; answer == wanted.answer);
+    assert!(rt; outputs.len() == 1);
+    assert!(rt; outputs[0].held() == wanted.output);
+    assert!(rt; replies.held() == wanted.replies);
     let told = if answer.is_ok() {
         wanted.replies.len()
     } else {
         0
     };
-    assert_eq!(rt; replies.passed(), told);
+    assert!(rt; replies.passed() == told);
     assert!(rt; answer.is_err() || outputs[0].passed() == wanted.output.len());
     Ok(())
 }
@@ -397,7 +397,7 @@ fn ends_runs(rt: HostRuntime) {
     ];
     for (answer, status, line) in cases {
         let (given_status, given_line) = outcome(&answer);
-        assert_eq!(rt; given_status, status);
+        assert!(rt; given_status == status);
         assert!(rt; given_line == line);
     }
 }
@@ -526,15 +526,15 @@ fn compare_shaky<R: Abort + AllocGlobal>(
         fuses.output < NEVER,
         fuses.replies < NEVER,
     );
-    assert_eq!(rt; seen.answer, wanted.answer);
-    assert_eq!(rt; seen.failed, broken);
-    assert_eq!(rt; seen.written.as_slice(), wanted.output);
-    assert_eq!(rt; seen.told.as_slice(), wanted.replies);
+    assert!(rt; seen.answer == wanted.answer);
+    assert!(rt; seen.failed == broken);
+    assert!(rt; seen.written.as_slice() == wanted.output);
+    assert!(rt; seen.told.as_slice() == wanted.replies);
     if seen.answer.is_ok() {
-        assert_eq!(rt; seen.flushes, (1, 1));
-        assert_eq!(rt; seen.flushed, (wanted.output.len(), wanted.replies.len()));
+        assert!(rt; seen.flushes == (1, 1));
+        assert!(rt; seen.flushed == (wanted.output.len(), wanted.replies.len()));
     } else {
-        assert_eq!(rt; seen.flushes.1, 0);
+        assert!(rt; seen.flushes.1 == 0);
     }
     Ok(())
 }
@@ -616,8 +616,8 @@ fn serves_octets(rt: HostRuntime) {
     let answer = serve_octets(rt.alloc(), row.script, row.input);
     assert!(rt; answer.is_ok());
     if let Ok(run) = answer {
-        assert_eq!(rt; run.output.as_slice(), row.output);
-        assert_eq!(rt; run.replies.as_slice(), row.replies);
-        assert_eq!(rt; run.refused, 0);
+        assert!(rt; run.output.as_slice() == row.output);
+        assert!(rt; run.replies.as_slice() == row.replies);
+        assert!(rt; run.refused == 0);
     }
 }

@@ -1,10 +1,13 @@
 -- What ports give and take in several calls.
-use Rattle.std.proofs.Common.{◌≡◌, ℕ, ◌+◌, ◌-◌, ◌≤◌, List, [], ◌++◌, length, take, refl, sym, ap, ◌∙◌, append_assoc, arith}
+use Rattle.std.proofs.Common.{◌≡◌, ℕ, ◌+◌, ◌-◌, ◌≤◌, List, [], ◌++◌, length, take, refl, sym, ap, ◌∙◌, length-append, append_assoc, arith}
 use Rattle.std.proofs.Math.Seq.{take-append-add}
 use Rattle.std.proofs.lemmas.List.{take-append-le}
 use borrow.Rule.Slice.PartMut.{put_mid, post_of}
 use Rattle.std.proofs.lemmas.Grind.{common_steps}
-use Rattle.octet_ports.specs.Ports.{Source, Sink, Gives, Holds, Waits, Takes, TakesFirst}
+use Rattle.std.specs.Prelude.{Bool, Option, None, Some}
+use Rattle.std.specs.Io.KnownBytes.{Appends}
+use Rattle.std.proofs.lemmas.Bool.{false≢true}
+use Rattle.octet_ports.specs.Ports.{Source, Sink, Gives, Holds, Waits, Takes, TakesFirst, sink_of, known_to_hold}
 
 pub gives_none : (s : Source) → Gives [] s s
 gives_none s = record { stays = λ h. h; given = λ h. refl }
@@ -17,6 +20,24 @@ waits_none s = record { stays = λ h. h; passed = λ h. refl }
 
 pub takes_none : (s : Sink) → Takes [] s s
 takes_none s = record { holds = holds_none s; waits = waits_none s }
+
+-- what an output over a writer is known to hold is what the writer is known to hold
+pub known_of_sink : (held : Option (List ℕ)) (waiting : ℕ) (failed : Bool) → held ≡ known_to_hold (sink_of held waiting failed)
+known_of_sink None waiting failed = refl
+known_of_sink (Some octets) waiting failed = refl
+
+-- the output over a writer took what was appended to the writer's octets
+pub takes_appended : (old new : Option (List ℕ)) (octets : List ℕ) (waiting count : ℕ) (failed : Bool) → Appends old new octets
+    → length octets ≡ count → Takes octets (sink_of old waiting failed) (sink_of new (waiting + count) failed)
+takes_appended None new octets waiting count failed h e = record {
+  holds = record { stays = λ honest. absurd (false≢true honest); taken = λ honest. absurd (false≢true honest) };
+  waits = record { stays = λ honest. absurd (false≢true honest); passed = λ honest. absurd (false≢true honest) };
+}
+takes_appended (Some xs) None octets waiting count failed h e = absurd h
+takes_appended (Some xs) (Some ys) octets waiting count failed h e = record {
+  holds = record { stays = λ honest. honest; taken = λ honest. h };
+  waits = record { stays = λ honest. honest; passed = λ honest. let l = length-append xs octets in rw h (omega arith) };
+}
 
 pub gives_more : {xs ys : List ℕ} {a b c : Source} → Gives xs a b → Gives ys b c → Gives (xs ++ ys) a c
 gives_more {xs} {ys} {a} {b} {c} g h = record {

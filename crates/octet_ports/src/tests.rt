@@ -74,12 +74,12 @@ fn a_tape_is_full_at_4096(rt: HostRuntime) {
     let mut tape = TapeOut::new(1000, NEVER);
     let answer = write_octets(&mut tape, &[7; TAPE_OCTETS]);
     assert!(rt; answer.is_ok());
-    assert_eq!(rt; tape.held(), [7u8; 4096].as_slice());
+    assert!(rt; tape.held() == [7u8; 4096].as_slice());
     let nothing = tape.put(b"");
-    assert_eq!(rt; nothing, Ok(0));
+    assert!(rt; nothing == Ok(0));
     let more = tape.put(b"x");
     assert!(rt; more.is_err() && tape.failed());
-    assert_eq!(rt; tape.held().len(), 4096);
+    assert!(rt; tape.held().len() == 4096);
 }
 
 #[test]
@@ -89,15 +89,15 @@ fn reads_lines_and_then_octets(rt: HostRuntime) {
     let mut text: ArrayVec<u8, 4> = ArrayVec::new();
     let full = read_line(&mut tape, &mut text, &mut left).expect(&rt, "a line");
     assert!(rt; !full.long && !full.last);
-    assert_eq!(rt; text.as_slice(), b"full".as_slice());
+    assert!(rt; text.as_slice() == b"full".as_slice());
     text.clear();
     let longer = read_line(&mut tape, &mut text, &mut left).expect(&rt, "a line");
     assert!(rt; longer.long && !longer.last);
-    assert_eq!(rt; left, 0);
+    assert!(rt; left == 0);
     let mut buffer = [0; 4];
     let whole = read_octets(&mut tape, &mut buffer).expect(&rt, "octets");
     assert!(rt; whole);
-    assert_eq!(rt; buffer, *b"rest");
+    assert!(rt; buffer == *b"rest");
     let ended = read_octets(&mut tape, &mut buffer).expect(&rt, "the end");
     assert!(rt; !ended);
 }
@@ -109,18 +109,18 @@ fn ports_fail_where_their_device_does(rt: HostRuntime) {
         let mut octets = [0; WIDE];
         let mut input = Reading::new(Shaky::new(0));
         let got = input.get(&mut octets[..count]);
-        assert_eq!(rt; got, Err(PortFault));
+        assert!(rt; got == Err(PortFault));
         assert!(rt; input.failed());
         let mut output = Writing::new(Shaky::new(0));
         let put = output.put(&octets[..count]);
-        assert_eq!(rt; put, Err(PortFault));
+        assert!(rt; put == Err(PortFault));
         assert!(rt; output.failed());
     }
     let mut output = Writing::new(Shaky::new(0));
     let flushed = output.flush();
-    assert_eq!(rt; flushed, Err(PortFault));
+    assert!(rt; flushed == Err(PortFault));
     assert!(rt; output.failed());
-    assert_eq!(rt; output.into_inner().flushes, 0);
+    assert!(rt; output.into_inner().flushes == 0);
 }
 
 #[test]
@@ -128,11 +128,11 @@ fn ports_take_long_buffers(rt: HostRuntime) {
     let mut octets = [0; WIDE];
     let mut input = Reading::new(Shaky::new(NEVER));
     let got = input.get(&mut octets);
-    assert_eq!(rt; got, Ok(WIDE));
-    assert_eq!(rt; octets, [7; WIDE]);
+    assert!(rt; got == Ok(WIDE));
+    assert!(rt; octets == [7; WIDE]);
     let mut output = Writing::new(Shaky::new(NEVER));
     let put = output.put(&octets);
-    assert_eq!(rt; put, Ok(WIDE));
+    assert!(rt; put == Ok(WIDE));
     assert!(rt; !input.failed() && !output.failed());
 }
 
@@ -145,7 +145,7 @@ fn a_million_octets_wait_for_a_flush(rt: HostRuntime) -> Result<(), Fail> {
     let flushed = output.flush();
     assert!(rt; flushed.is_ok());
     let device = output.into_inner();
-    assert_eq!(rt; device.written, 1_100_000);
-    assert_eq!(rt; device.flushes, 1);
+    assert!(rt; device.written == 1_100_000);
+    assert!(rt; device.flushes == 1);
     Ok(())
 }

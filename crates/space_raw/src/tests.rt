@@ -56,7 +56,7 @@ fn leave_and_return(rest: &mut Rest, place: u32, len: u32)
 fn a_region_is_one_piece_of_zeros(rt: HostRuntime) -> Result<(), Fail> {
     for words in [0u32, 4, 12, 65_536, 100_000] {
         let (region, all) = Region::make(rt.alloc(), words)?;
-        assert_eq!(rt; (all.place(), all.len()), (0, words));
+        assert!(rt; (all.place(), all.len()) == (0, words));
         assert!(rt; all.words().iter().all(|word| *word == 0));
         region.close(all);
     }
@@ -69,8 +69,8 @@ fn a_block_slides_over_itself(rt: HostRuntime) -> Result<(), Fail> {
     all.words_mut().copy_from_slice(&ONE_TO_TWELVE);
     let (hole, block) = all.split(4);
     let (block, hole) = Piece::slide(hole, block);
-    assert_eq!(rt; (block.place(), hole.place(), hole.len()), (0, 8, 4));
-    assert_eq!(rt; block.words(), [5i16, 6, 7, 8, 9, 10, 11, 12].as_slice());
+    assert!(rt; (block.place(), hole.place(), hole.len()) == (0, 8, 4));
+    assert!(rt; block.words() == [5i16, 6, 7, 8, 9, 10, 11, 12].as_slice());
     region.close(block.join(hole));
     Ok(())
 }
@@ -80,10 +80,10 @@ fn words_are_those_last_written(rt: HostRuntime) -> Result<(), Fail> {
     let (region, mut all) = Region::make(rt.alloc(), 4)?;
     fill(&mut all, 7);
     set(&mut all, 2, -1);
-    assert_eq!(rt; (get(&all, 0), get(&all, 2), get(&all, 3)), (7, -1, 7));
+    assert!(rt; (get(&all, 0), get(&all, 2), get(&all, 3)) == (7, -1, 7));
     let (mut left, mut right) = all.split(1);
     left.apart(&mut right);
-    assert_eq!(rt; right.words(), [7i16, -1, 7].as_slice());
+    assert!(rt; right.words() == [7i16, -1, 7].as_slice());
     region.close(left.join(right));
     Ok(())
 }
@@ -96,18 +96,15 @@ fn a_piece_leaves_the_rest_and_comes_back(rt: HostRuntime) -> Result<(), Fail> {
     leave_and_return(&mut rest, 1, 3);
     let mut piece = rest.carve(4, 3);
     rest.apart(&mut piece);
-    assert_eq!(rt; piece.place(), 4);
-    assert_eq!(rt; piece.words(), [5i16, 6, 7].as_slice());
+    assert!(rt; piece.place() == 4);
+    assert!(rt; piece.words() == [5i16, 6, 7].as_slice());
     tag_behind(&mut rest, 2, 7, (2, -1));
-    assert_eq!(rt; rest.tag(7), (2, -1));
-    assert_eq!(rt; rest.tag(2), (3, 4));
+    assert!(rt; rest.tag(7) == (2, -1));
+    assert!(rt; rest.tag(2) == (3, 4));
     piece.words_mut()[1] = 0;
     rest.absorb(piece);
     let all = rest.whole();
-    assert_eq!(rt;
-        all.words(),
-        [1i16, 2, 3, 4, 5, 0, 7, 2, -1, 10, 11, 12].as_slice()
-    );
+    assert!(rt; all.words() == [1i16, 2, 3, 4, 5, 0, 7, 2, -1, 10, 11, 12].as_slice());
     region.close(all);
     Ok(())
 }
@@ -144,14 +141,8 @@ fn ask(alloc: Global, words: u32, refused: u64) -> Asked {
 fn memory_is_asked_for_once_and_given_back_once(rt: HostRuntime) {
     for words in [0u32, 4, 12, 65_536, 100_000] {
         let granted = ask(rt.alloc(), words, 1);
-        assert_eq!(rt;
-            (granted.is_made, granted.requests, granted.calls),
-            (true, 1, 2)
-        );
+        assert!(rt; (granted.is_made, granted.requests, granted.calls) == (true, 1, 2));
         let refused = ask(rt.alloc(), words, 0);
-        assert_eq!(rt;
-            (refused.is_made, refused.requests, refused.calls),
-            (false, 1, 0)
-        );
+        assert!(rt; (refused.is_made, refused.requests, refused.calls) == (false, 1, 0));
     }
 }

@@ -50,8 +50,8 @@ fn parses_a_creation(rt: HostRuntime) -> Result<(), Fail> {
     else {
         return Err("it is a creation".into());
     };
-    assert_eq!(rt; (instance, kind, group), (3, 2, 4));
-    assert_eq!(rt; parameters.as_slice(), [5, -32_768].as_slice());
+    assert!(rt; (instance, kind, group) == (3, 2, 4));
+    assert!(rt; parameters.as_slice() == [5, -32_768].as_slice());
     Ok(())
 }
 
@@ -60,7 +60,7 @@ fn parses_a_chain(rt: HostRuntime) -> Result<(), Fail> {
     let Ok(Some(Command::<Pitch>::Chain { channel, member })) = parse(b"chain 7 255") else {
         return Err("it is a chain".into());
     };
-    assert_eq!(rt; (channel, member), (7, 255));
+    assert!(rt; (channel, member) == (7, 255));
     Ok(())
 }
 
@@ -69,7 +69,7 @@ fn parses_a_feed(rt: HostRuntime) -> Result<(), Fail> {
     let Ok(Some(Command::<Pitch>::Feed { channel, samples })) = parse(b"feed -0 256") else {
         return Err("it is a feed".into());
     };
-    assert_eq!(rt; (channel, samples.number()), (0, FEED_SAMPLES));
+    assert!(rt; (channel, samples.number()) == (0, FEED_SAMPLES));
     Ok(())
 }
 
@@ -80,7 +80,7 @@ fn takes_every_octet_as_a_line(rt: HostRuntime) {
         if matches!(octet, b'\t' | b' ' | b'\r') {
             assert!(rt; is_blank(&line));
         } else {
-            assert_eq!(rt; refused(&line), Some(Refusal::Syntax));
+            assert!(rt; refused(&line) == Some(Refusal::Syntax));
         }
     }
 }
@@ -98,7 +98,7 @@ fn refused_at_the_longest<R: Abort + AllocGlobal>(
     }
     line.push(b' ')?;
     line.push(last)?;
-    assert_eq!(rt; line.len(), LINE_OCTETS);
+    assert!(rt; line.len() == LINE_OCTETS);
     Ok(refused(line.as_slice()))
 }
 
@@ -106,41 +106,20 @@ fn refused_at_the_longest<R: Abort + AllocGlobal>(
 fn judges_the_longest_lines(rt: HostRuntime) -> Result<(), Fail> {
     let syntax = Some(Refusal::Syntax);
     let range = Some(Refusal::Range);
-    assert_eq!(rt; refused_at_the_longest(&rt, b"a ", b"b ", b'c')?, syntax);
-    assert_eq!(rt;
-        refused_at_the_longest(&rt, b"create 0 low 0", b" 1", b'1')?,
-        range
-    );
-    assert_eq!(rt;
-        refused_at_the_longest(&rt, b"create 0 low 0", b" 1", b'x')?,
-        syntax
-    );
-    assert_eq!(rt;
-        refused_at_the_longest(&rt, b"create 0 low 0", b" x", b'1')?,
-        syntax
-    );
-    assert_eq!(rt;
-        refused_at_the_longest(&rt, b"feed 0 1", b"11", b'1')?,
-        syntax
-    );
+    assert!(rt; refused_at_the_longest(&rt, b"a ", b"b ", b'c')? == syntax);
+    assert!(rt; refused_at_the_longest(&rt, b"create 0 low 0", b" 1", b'1')? == range);
+    assert!(rt; refused_at_the_longest(&rt, b"create 0 low 0", b" 1", b'x')? == syntax);
+    assert!(rt; refused_at_the_longest(&rt, b"create 0 low 0", b" x", b'1')? == syntax);
+    assert!(rt; refused_at_the_longest(&rt, b"feed 0 1", b"11", b'1')? == syntax);
     Ok(())
 }
 
 #[test]
 fn tells_each_reply(rt: HostRuntime) {
-    assert_eq!(rt; reply_text(&Reply::Done).as_slice(), b"ok\n".as_slice());
-    assert_eq!(rt;
-        reply_text(&Reply::Count(0)).as_slice(),
-        b"ok 0\n".as_slice()
-    );
-    assert_eq!(rt;
-        reply_text(&Reply::Count(u32::MAX)).as_slice(),
-        b"ok 4294967295\n".as_slice()
-    );
-    assert_eq!(rt;
-        reply_text(&Reply::No(Refusal::Short)).as_slice(),
-        b"no 10 short\n".as_slice()
-    );
+    assert!(rt; reply_text(&Reply::Done).as_slice() == b"ok\n".as_slice());
+    assert!(rt; reply_text(&Reply::Count(0)).as_slice() == b"ok 0\n".as_slice());
+    assert!(rt; reply_text(&Reply::Count(u32::MAX)).as_slice() == b"ok 4294967295\n".as_slice());
+    assert!(rt; reply_text(&Reply::No(Refusal::Short)).as_slice() == b"no 10 short\n".as_slice());
     assert!(rt; Reply::No(Refusal::Long).is_refusal());
     assert!(rt; !Reply::Count(1).is_refusal());
 }

@@ -14,3 +14,6 @@ loop-done-preserved g c =
       ready = search rules;
       given = rw (take-put_mid_more c.loop-done.done c.in_ok-count.count buffer c.get.new.buffer within count) (gives_more c.loop-done.invariant.given c.in_ok-count.ensures.octets);
     }
+
+pub returns-then-count-eq0-clause-filled : goal.returns-then-count-eq0-clause-filled
+returns-then-count-eq0-clause-filled g c = λ same. cc

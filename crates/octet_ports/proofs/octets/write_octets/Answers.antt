@@ -1,7 +1,7 @@
 use Rattle.std.proofs.Common.{rules, arith}
 use Rattle.std.proofs.Math.Seq.{take-add}
 use Rattle.std.proofs.lemmas.Grind.{common_steps}
-use Rattle.std.proofs.lemmas.List.{take-append-drop, take_rest}
+use Rattle.std.proofs.lemmas.List.{take-append-drop, take_all, take_rest}
 use Rattle.octet_ports.proofs.Ports.{takes_more, takes_some}
 use Rattle.octet_ports.proofs.octets.write_octets.Goals as goal
 
@@ -15,3 +15,6 @@ loop-done-preserved g c = record {
   ready = search rules;
   taken = rw (take-add c.loop-done.done c.in_ok-done.field-0 c.args.octets.now) (takes_more c.loop-done.invariant.taken (rw (take_rest c.args.octets.now c.loop-done.done) at c.in_ok-done.ensures.octets));
 }
+
+pub returns-clause-ok : goal.returns-clause-ok
+returns-clause-ok g c = λ _. rw (take_all c.loop-done.done c.args.octets.now c.loop-done-test.false) at c.loop-done.invariant.taken

@@ -5,3 +5,6 @@ use Rattle.voice_script.proofs.numbers.Number.samples.Goals as goal
 
 pub returns-then-value-from-clause-fits : goal.returns-then-value-from-clause-fits
 returns-then-value-from-clause-fits c = grind (arith, ints, nat_tests)
+
+pub new-requires-clause-few : goal.new-requires-clause-few
+new-requires-clause-few c = grind (arith, ints)

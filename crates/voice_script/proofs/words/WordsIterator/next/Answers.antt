@@ -1,4 +1,4 @@
-use Rattle.std.proofs.Common.{◌≡◌, false, ◌∷◌, refl, sym, ◌∙◌, arith}
+use Rattle.std.proofs.Common.{◌≡◌, true, false, ◌∷◌, refl, sym, ◌∙◌, arith}
 use Rattle.voice_script.specs.Script.{is_empty, words_of}
 use Rattle.voice_script.proofs.WordLemmas.{is_empty-length, words_of-parts, words_of-last}
 use Rattle.voice_script.proofs.words.WordsIterator.next.Goals as goal
@@ -23,3 +23,8 @@ pub returns-else-is_empty-clause-steps : goal.returns-else-is_empty-clause-steps
 returns-else-is_empty-clause-steps c =
     let some : is_empty c.loop-word.self.line.now ≡ false = sym (is_empty-length c.loop-word.self.line.now) ∙ sym c.is_empty-2.ensures ∙ c.if-is_empty.false in
     sym c.loop-word.invariant ∙ words_of-last _ c.in_default.ensures ∙ rw some refl
+
+pub returns-then-is_empty-clause-steps : goal.returns-then-is_empty-clause-steps
+returns-then-is_empty-clause-steps c =
+    let none : is_empty c.loop-word.self.line.now ≡ true = sym (is_empty-length c.loop-word.self.line.now) ∙ sym c.is_empty-2.ensures ∙ c.if-is_empty.true in
+    (sym c.loop-word.invariant ∙ words_of-last _ c.in_default.ensures ∙ rw none refl, refl)
