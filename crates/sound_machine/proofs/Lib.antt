@@ -1,0 +1,4 @@
+pub mod CallLemmas
+pub mod MoveLemmas
+pub mod RunLemmas
+pub mod LifeLemmas

@@ -1,0 +1,6 @@
+pub mod State
+pub mod Choices
+pub mod Steps
+pub mod Calls
+pub mod Runs
+pub mod Laws
