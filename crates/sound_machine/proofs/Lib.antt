@@ -2,3 +2,4 @@ pub mod CallLemmas
 pub mod MoveLemmas
 pub mod RunLemmas
 pub mod LifeLemmas
+pub mod AnswerLemmas

@@ -3,4 +3,5 @@ pub mod Choices
 pub mod Steps
 pub mod Calls
 pub mod Runs
+pub mod Answers
 pub mod Laws

@@ -5,9 +5,10 @@ ghost use Rattle.ialg.specs.declared.refusal.Refusal.{Refusal};
 ghost use Rattle.ialg.specs.declared.refusal.Refusal.TheVariants.{Room};
 ghost use Rattle.ialg.specs.Meaning.{Meaning};
 ghost use Rattle.sound_machine.specs.State.{State, Living};
-ghost use Rattle.sound_machine.specs.Calls.{Call, Does, refusal_of, subject_of};
+ghost use Rattle.sound_machine.specs.Calls.{Call, Does, Leads, refusal_of, subject_of};
 ghost use Rattle.sound_machine.specs.Calls.Call.{Step, Compact};
 ghost use Rattle.sound_machine.specs.Runs.{Life, Grows, history_of_run, outputs_in, statuses_in};
+ghost use Rattle.sound_machine.specs.Answers.{answered, all_answered, IsLawfulCall, AreLawful};
 ghost use Rattle.sound_machine.specs.Laws.{OthersLive, SameHost, OnlyMoves, IsCreation};
 
 /// The law that a refused call leaves the state as it was. The call does nothing: its contract is the law.
@@ -55,4 +56,13 @@ pub fn lives_agree<M>()
         → x.kind ≡ y.kind → x.params ≡ y.params → x.history ≡ y.history
         → history_of_run i x.history xs ≡ history_of_run j y.history ys
         → (outputs_in i xs ≡ outputs_in j ys) × (statuses_in i xs ≡ statuses_in j ys) }
+{}
+
+/// The law that nothing is free where the instance that a call is about is lawful: the machine is a function then, and computes its
+/// answers. The call does nothing.
+pub fn lawful_calls_are_computed<M>()
+    ensures call { (kinds : Meaning M) (before after : State M) (call : Call M)
+        → Does kinds before call after → IsLawfulCall kinds before call → (call, after) ≡ answered kinds before call }
+    ensures run { (kinds : Meaning M) (before after : State M) (calls : List (Call M))
+        → AreLawful kinds before.poison → Leads kinds before calls after → calls ≡ all_answered kinds before calls }
 {}
