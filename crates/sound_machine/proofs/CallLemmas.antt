@@ -5,10 +5,12 @@ use Rattle.mem_rec.specs.declared.Space.{Space}
 use Rattle.ialg.specs.declared.refusal.Refusal.{Refusal}
 use Rattle.ialg.specs.History.{Ctl}
 use Rattle.ialg.specs.Meaning.{Meaning, Status}
-use Rattle.host_spaces.specs.Picture.{Picture}
+use Rattle.space_blocks.specs.declared.placed.Placed.{Placed}
+use Rattle.space_blocks.specs.Moves.{next_block}
+use Rattle.host_spaces.specs.Picture.{Picture, blocks_in}
 use Rattle.host_spaces.specs.Creation.{created_picture}
 use Rattle.sound_machine.specs.State.{Living, State, with_living}
-use Rattle.sound_machine.specs.Steps.{Outcome, unless, with_room, with_memory, create, touching, controlled, control, given, without_instance, delete, release, stat}
+use Rattle.sound_machine.specs.Steps.{Outcome, unless, with_room, with_memory, create, touching, controlled, control, given, without_instance, delete, release, stat, moving}
 use Rattle.sound_machine.specs.Calls.{Call, Does, subject_of}
 use Rattle.sound_machine.specs.Calls.Call.{Create, Control, Process, Delete, Release, Step, Compact, Stat, Map, Lives, Copied}
 use Rattle.sound_machine.specs.Laws.{OthersLive, SameHost}
@@ -81,6 +83,10 @@ module _ {M : Type 0} (before : State M) where
   pub release_keeps : (g : ℕ) → KeepsAll before (release before g).1
   release_keeps g = unless_holds (KeepsAll before) before _ _ all_kept (record { host = record { sizes = refl; poison = refl }; living = refl })
 
+  pub moving_keeps : (space : Space) (next : Option Placed) → KeepsAll before (moving before space next).1
+  moving_keeps space None = all_kept
+  moving_keeps space (Some b) = record { host = record { sizes = refl; poison = refl }; living = refl }
+
   pub stat_keeps : (g : ℕ) → KeepsAll before (stat before g).1
   stat_keeps g = unless_holds (KeepsAll before) before _ _ all_kept all_kept
 
@@ -96,7 +102,7 @@ module _ {M : Type 0} (kinds : Meaning M) (before after : State M) where
   keeps_but (Process i block out) does = subst (Keeps i before) (sym does.outcome) (given_keeps i before (before.living i) block)
   keeps_but (Delete i answer) does = after_is (Keeps i before) answer after _ does (delete_keeps i before)
   keeps_but (Release g answer) does = after_is (KeepsAll before) answer after _ does (release_keeps before g)
-  keeps_but (Step space answer) does = after_is (KeepsAll before) answer after _ does (record { host = record { sizes = refl; poison = refl }; living = refl })
+  keeps_but (Step space answer) does = after_is (KeepsAll before) answer after _ does (moving_keeps before space (next_block (blocks_in before.picture space)))
   keeps_but (Compact space answer) does = after_is (KeepsAll before) answer after _ does (record { host = record { sizes = refl; poison = refl }; living = refl })
   keeps_but (Stat g answer) does = after_is (KeepsAll before) answer after _ does (stat_keeps before g)
   keeps_but (Map space answer) does = subst (KeepsAll before) (sym does.1) (all_kept before)

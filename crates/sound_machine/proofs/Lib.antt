@@ -3,3 +3,4 @@ pub mod MoveLemmas
 pub mod RunLemmas
 pub mod LifeLemmas
 pub mod AnswerLemmas
+pub mod CompactLemmas

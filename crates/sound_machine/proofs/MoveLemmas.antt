@@ -6,10 +6,10 @@ use Rattle.mem_rec.specs.declared.Space.TheVariants.{Daram, Saram, External}
 use Rattle.relocate.specs.declared.packing.Move.{Move}
 use Rattle.relocate.specs.Packing.{packed_from}
 use Rattle.space_blocks.specs.declared.placed.Placed.{Placed}
-use Rattle.space_blocks.specs.Moves.{spots_of, next_in, moved_to, moved_by, moved, at_places, packed}
+use Rattle.space_blocks.specs.Moves.{spots_of, next_in, next_block, moved_to, moved_by, moved, at_places, packed}
 use Rattle.host_spaces.specs.Picture.{Picture, blocks_in, with_blocks}
 use Rattle.sound_machine.specs.State.{State}
-use Rattle.sound_machine.specs.Steps.{step, compact}
+use Rattle.sound_machine.specs.Steps.{moving, step, compact}
 use Rattle.sound_machine.specs.Laws.{unplaced_block, OnlyMoves}
 
 -- the blocks without their places
@@ -42,14 +42,18 @@ same_picture picture External blocks e Saram = refl
 same_picture picture External blocks e External = e
 
 module _ {M : Type 0} (before : State M) (space : Space) where
-  pub step_moves : OnlyMoves before (step before space).1
-  step_moves = record {
+  moving_moves : (next : Option Placed) → OnlyMoves before (moving before space next).1
+  moving_moves None = record { living = refl; activity = refl; blocks = λ other. refl }
+  moving_moves (Some b) = record {
     living = refl;
     activity = refl;
     blocks =
         let blocks = blocks_in before.picture space in
         same_picture before.picture space (moved blocks) (same_moved_by (next_in blocks) blocks);
   }
+
+  pub step_moves : OnlyMoves before (step before space).1
+  step_moves = moving_moves (next_block (blocks_in before.picture space))
 
   pub compact_moves : OnlyMoves before (compact before space).1
   compact_moves = record {

@@ -1,9 +1,10 @@
 -- What a call leaves as it was.
-use Rattle.std.specs.Prelude.{◌≡◌, ◌≢◌, ℕ, Option, Some, map}
+use Rattle.std.specs.Prelude.{◌≡◌, ◌≢◌, ℕ, ◌+◌, true, false, Option, Some, map}
 use Rattle.mem_rec.specs.declared.Space.{Space}
 use Rattle.space_blocks.specs.declared.placed.Placed.{Placed}
 use Rattle.host_spaces.specs.Picture.{blocks_in}
 use Rattle.sound_machine.specs.State.{State}
+use Rattle.sound_machine.specs.Steps.{step, compact}
 use Rattle.sound_machine.specs.Calls.{Call}
 use Rattle.sound_machine.specs.Calls.Call.{Create}
 
@@ -29,3 +30,8 @@ pub record OnlyMoves {M : Type 0} (before after : State M) : Type 0 where
 abbrev pub IsCreation : {M : Type 0} → Call M → Type 0
 IsCreation (Create i kind g p answer) = Unit {0}
 IsCreation _ = ⊥
+
+-- a compaction is steps, one after the other, until no block moves
+pub record IsSteps {M : Type 0} (before : State M) (space : Space) : Type 0 where
+  pub last : (step before space).0 ≡ false → compact before space ≡ (0, before)
+  pub more : (step before space).0 ≡ true → compact before space ≡ (let rest = compact (step before space).1 space in (rest.0 + 1, rest.1))

@@ -1,5 +1,5 @@
 -- What each call answers, and the state after it.
-use Rattle.std.specs.Prelude.{ℕ, ℤ, ◌+◌, ◌-◌, ◌^◌, min, Bool, not, ◌&&◌, List, [], ◌∷◌, Option, Some, None, is_some, is_none, Result, Ok, Err, fold, if◌then◌else◌}
+use Rattle.std.specs.Prelude.{ℕ, ℤ, ◌+◌, ◌-◌, ◌^◌, min, Bool, true, false, not, ◌&&◌, List, [], ◌∷◌, Option, Some, None, is_some, is_none, Result, Ok, Err, fold, if◌then◌else◌}
 use Rattle.mem_rec.specs.declared.MemRec.{MemRec}
 use Rattle.mem_rec.specs.declared.Space.{Space}
 use Rattle.ialg.specs.declared.refusal.Refusal.{Refusal}
@@ -29,10 +29,6 @@ unless (Some refusal) before outcome = (Err refusal, before)
 -- the words that were moved, with so many more. They stay at the greatest number
 abbrev pub more_copied : ℕ → ℕ → ℕ
 more_copied copied words = min (copied + words) (2 ^ 64 - 1)
-
-abbrev pub words_of : Option Placed → ℕ
-words_of None = 0
-words_of (Some b) = b.size
 
 module _ {M : Type 0} (before : State M) where
   -- ---- creation
@@ -132,10 +128,12 @@ module _ {M : Type 0} (before : State M) where
   -- ---- moves
 
   -- whether a block moved
+  abbrev pub moving : Space → Option Placed → Bool × State M
+  moving space None = (false, before)
+  moving space (Some b) = (true, record before { picture = moved_in before.picture space; copied = more_copied before.copied b.size })
+
   abbrev pub step : Space → Bool × State M
-  step space =
-      let next = next_block (blocks_in before.picture space) in
-      (is_some next, record before { picture = moved_in before.picture space; copied = more_copied before.copied (words_of next) })
+  step space = moving space (next_block (blocks_in before.picture space))
 
   -- how many blocks moved
   abbrev pub compact : Space → ℕ × State M

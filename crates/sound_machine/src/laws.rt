@@ -1,5 +1,5 @@
 //! The laws of the machine.
-ghost use Rattle.std.specs.Prelude.{◌≡◌, ℕ, Bool, List, Some};
+ghost use Rattle.std.specs.Prelude.{◌≡◌, ◌<◌, ◌^◌, ℕ, Bool, List, Some};
 ghost use Rattle.mem_rec.specs.declared.Space.{Space};
 ghost use Rattle.ialg.specs.declared.refusal.Refusal.{Refusal};
 ghost use Rattle.ialg.specs.declared.refusal.Refusal.TheVariants.{Room};
@@ -9,7 +9,7 @@ ghost use Rattle.sound_machine.specs.Calls.{Call, Does, Leads, refusal_of, subje
 ghost use Rattle.sound_machine.specs.Calls.Call.{Step, Compact};
 ghost use Rattle.sound_machine.specs.Runs.{Life, Grows, history_of_run, outputs_in, statuses_in};
 ghost use Rattle.sound_machine.specs.Answers.{answered, all_answered, IsLawfulCall, AreLawful};
-ghost use Rattle.sound_machine.specs.Laws.{OthersLive, SameHost, OnlyMoves, IsCreation};
+ghost use Rattle.sound_machine.specs.Laws.{OthersLive, SameHost, OnlyMoves, IsSteps, IsCreation};
 
 /// The law that a refused call leaves the state as it was. The call does nothing: its contract is the law.
 pub fn refused_calls_change_nothing<M>()
@@ -65,4 +65,10 @@ pub fn lawful_calls_are_computed<M>()
         → Does kinds before call after → IsLawfulCall kinds before call → (call, after) ≡ answered kinds before call }
     ensures run { (kinds : Meaning M) (before after : State M) (calls : List (Call M))
         → AreLawful kinds before.poison → Leads kinds before calls after → calls ≡ all_answered kinds before calls }
+{}
+
+/// The law that a compaction is steps, one after the other, until no block moves: it moves as many blocks, and leaves the same state.
+/// The call does nothing.
+pub fn compactions_are_steps<M>()
+    ensures { (before : State M) (space : Space) → before.copied < 2 ^ 64 → IsSteps before space }
 {}

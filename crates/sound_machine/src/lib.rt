@@ -7,7 +7,7 @@
 mod laws;
 
 pub use laws::{
-    calls_keep_other_instances, lawful_calls_are_computed, lives_agree,
+    calls_keep_other_instances, compactions_are_steps, lawful_calls_are_computed, lives_agree,
     lives_go_by_their_histories, moves_change_places_alone, only_creations_lack_room,
     refused_calls_change_nothing,
 };
