@@ -4,3 +4,4 @@ pub mod RunLemmas
 pub mod LifeLemmas
 pub mod AnswerLemmas
 pub mod CompactLemmas
+pub mod OutcomeLemmas

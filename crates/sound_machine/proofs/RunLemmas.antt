@@ -12,7 +12,7 @@ use Rattle.ialg.specs.History.{History, Ctl, Sample, with_samples}
 use Rattle.ialg.specs.Meaning.{Meaning, Status, outputs_of, status_of}
 use Rattle.sound_machine.specs.State.{Living, State, with_living, is_instance_number, is_group_number}
 use Rattle.sound_machine.specs.Choices.{IsLawful, MayGive}
-use Rattle.sound_machine.specs.Steps.{Outcome, unless, with_memory, control_refusal, controlled, given, instance_refusal, without_instance}
+use Rattle.sound_machine.specs.Steps.{Outcome, unless, newborn, with_memory, control_refusal, controlled, given, instance_refusal, without_instance}
 use Rattle.sound_machine.specs.Calls.{Call, Does, Creates, Controls, Processes}
 use Rattle.sound_machine.specs.Calls.Call.{Create, Control, Process, Delete, Release, Step, Compact, Stat, Map, Lives, Copied}
 use Rattle.sound_machine.specs.Runs.{statuses_of, history_after, output_in, status_in, Spares, Grows}
@@ -91,7 +91,7 @@ module _ {M : Type 0} (kinds : Meaning M) (i : ℕ) (x : Living M) where
         (λ same.
         let taken : is_some (before.living j) ≡ true = ap (λ k. is_some (before.living k)) same.1 ∙ ap is_some there in
         by_refused (ap (λ o. o.1) does.outcome
-        ∙ taken_stays (not (is_instance_number j && is_group_number g)) (is_some (before.living j)) before (with_memory before j (record { kind = kind; params = p; group = g; history = [] }) does.table) taken))
+        ∙ taken_stays (not (is_instance_number j && is_group_number g)) (is_some (before.living j)) before (with_memory before j (newborn kind g p) does.table) taken))
         (λ apart. by_another j (keeps_but kinds before after (Create j kind g p answer) does) (λ e. apart.1 (sym e)))
 
     -- ---- controls

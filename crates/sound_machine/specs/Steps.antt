@@ -30,6 +30,10 @@ unless (Some refusal) before outcome = (Err refusal, before)
 abbrev pub more_copied : ℕ → ℕ → ℕ
 more_copied copied words = min (copied + words) (2 ^ 64 - 1)
 
+-- an instance that was given nothing yet
+abbrev pub newborn : {M : Type 0} → M → ℕ → List ℤ → Living M
+newborn kind g p = record { kind = kind; params = p; group = g; history = [] }
+
 module _ {M : Type 0} (before : State M) where
   -- ---- creation
 
@@ -42,16 +46,16 @@ module _ {M : Type 0} (before : State M) where
   activity_after_create g table =
       if replaces before.picture g table then with_activity before.activity g (rested (before.activity g)) else before.activity
 
+  abbrev pub created : ℕ → Living M → List MemRec → Picture → State M
+  created i x table picture = record before {
+    living = with_living before.living i (Some x);
+    picture = picture;
+    activity = activity_after_create x.group table;
+  }
+
   abbrev pub with_room : ℕ → Living M → List MemRec → Result Picture Space → Outcome M (Unit {0})
   with_room i x table (Err space) = (Err (Room space), before)
-  with_room i x table (Ok picture) = (
-    Ok tt,
-    record before {
-      living = with_living before.living i (Some x);
-      picture = picture;
-      activity = activity_after_create x.group table;
-    },
-  )
+  with_room i x table (Ok picture) = (Ok tt, created i x table picture)
 
   -- the kind asks for this memory, or refuses the parameters
   abbrev pub with_memory : ℕ → Living M → Option (List MemRec) → Outcome M (Unit {0})
@@ -59,8 +63,7 @@ module _ {M : Type 0} (before : State M) where
   with_memory i x (Some table) = with_room i x table (created_picture before.sizes before.picture i x.group table)
 
   abbrev pub create : ℕ → M → ℕ → List ℤ → Option (List MemRec) → Outcome M (Unit {0})
-  create i kind g p table =
-      unless (create_refusal i g) before (with_memory i (record { kind = kind; params = p; group = g; history = [] }) table)
+  create i kind g p table = unless (create_refusal i g) before (with_memory i (newborn kind g p) table)
 
   -- ---- controls and samples
 

@@ -5,9 +5,14 @@
 #![tactic(auto)]
 
 mod laws;
+mod outcomes;
 
 pub use laws::{
     calls_keep_other_instances, compactions_are_steps, lawful_calls_are_computed, lives_agree,
     lives_go_by_their_histories, moves_change_places_alone, only_creations_lack_room,
     refused_calls_change_nothing,
+};
+pub use outcomes::{
+    controls_answer_in_order, creations_answer_in_order, deletions_answer_in_order,
+    groups_answer_in_order, samples_touch,
 };
