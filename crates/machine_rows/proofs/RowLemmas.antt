@@ -1,0 +1,37 @@
+-- The worked rows, computed.
+use Rattle.std.proofs.Common.{refl}
+use Rattle.machine_rows.specs.VoiceRows.{VoiceRows}
+use Rattle.machine_rows.specs.CreationRows.{CreationRows}
+
+pub voices : VoiceRows
+voices = record {
+  turns = λ poison. refl;
+  no_room = λ poison. refl;
+  replaced = λ poison. refl;
+  not_replaced = λ poison. refl;
+  compacted = λ poison. refl;
+  packed = λ poison. refl;
+  anew = λ poison. refl;
+  missing = λ poison. refl;
+  untouched = λ poison. refl;
+  moved = λ poison. refl;
+  controlled = λ poison. refl;
+  phase = λ poison. refl;
+  refusals = λ poison. refl;
+}
+
+pub creations : CreationRows
+creations = record {
+  shared = λ poison. refl;
+  longer = λ poison. refl;
+  aligned = λ poison. refl;
+  keeps_alignment = λ poison. refl;
+  first_block = λ poison. refl;
+  first_beside_replaced = λ poison. refl;
+  another_group = λ poison. refl;
+  record_first = λ poison. refl;
+  spaces_in_order = λ poison. refl;
+  write_once = λ poison. refl;
+  last_member = λ poison. refl;
+  holes = λ poison. refl;
+}

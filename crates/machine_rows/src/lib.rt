@@ -1,0 +1,7 @@
+//! Worked rows of the machine, for tests: what a host of the hosted kinds answers to lists of calls, and a host of kinds that ask for
+//! any memory.
+#![tactic(auto)]
+
+mod rows;
+
+pub use rows::{creation_rows, voice_rows};

@@ -1,0 +1,14 @@
+//! Worked rows, checked on the definitions.
+ghost use Rattle.machine_rows.specs.VoiceRows.{VoiceRows};
+ghost use Rattle.machine_rows.specs.CreationRows.{CreationRows};
+
+/// The law that the machine of the hosted kinds answers what the worked rows say, under each poison word and under none. The call does
+/// nothing: its contract is the law.
+pub fn voice_rows()
+    ensures { VoiceRows }
+{}
+
+/// The law that creations place and replace blocks as the worked rows say, for kinds that ask for any memory. The call does nothing.
+pub fn creation_rows()
+    ensures { CreationRows }
+{}

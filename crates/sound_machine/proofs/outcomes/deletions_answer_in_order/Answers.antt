@@ -1,0 +1,11 @@
+use Rattle.sound_machine.proofs.OutcomeLemmas.{delete_granted, delete_missing, delete_range}
+use Rattle.sound_machine.proofs.outcomes.deletions_answer_in_order.Goals as goal
+
+pub returns-clause-range : goal.returns-clause-range
+returns-clause-range g c = delete_range
+
+pub returns-clause-missing : goal.returns-clause-missing
+returns-clause-missing g c = delete_missing
+
+pub returns-clause-granted : goal.returns-clause-granted
+returns-clause-granted g c = delete_granted
