@@ -3,3 +3,5 @@ pub mod Slots
 pub mod OnePlaced
 pub mod Needs
 pub mod Limits
+pub mod Steps
+pub mod Granting

@@ -45,6 +45,8 @@ impl Spaces {
         ensures refused { OnErr result (self.new ≡ self.old) }
         ensures stays { AreSameSpaces self.old self.new }
     {
+        // it has four records at most
+        let _records = table.records();
         let wants = wants(self, i, g, table, old);
         let granted = match place_from(self, &wants, 0, poison) {
             Ok(granted) => granted,

@@ -1,0 +1,198 @@
+-- What a creation needs, entry by entry.
+use Rattle.std.proofs.Common.{◌≡◌, ◌≢◌, ◌⊎◌, inl, inr, ℕ, zero, suc, ◌+◌, ◌<◌, ◌≤◌, ◌==◌, max, Bool, true, false, not, ◌&&◌, ◌||◌, if◌then◌else◌, cond, IsTrue, List, [], ◌∷◌, ◌++◌, length, drop, nat_lt, nat_le, nat_eq, Option, Some, None, filter_map, refl, sym, ap, subst, ◌∙◌, arith}
+use Rattle.std.specs.List.{cons_option}
+use Rattle.std.proofs.lemmas.Bool.{cases_lt}
+use Rattle.std.proofs.lemmas.Bool.Decides.{nat_tests}
+use Rattle.mem_rec.specs.declared.MemRec.{MemRec}
+use Rattle.mem_rec.specs.declared.Space.{Space}
+use Rattle.mem_rec.specs.declared.Space.TheVariants.{Daram, Saram, External}
+use Rattle.mem_rec.specs.declared.Attr.{Attr}
+use Rattle.mem_rec.specs.declared.Attr.TheVariants.{Persist, WriteOnce}
+use Rattle.mem_rec.specs.declared.Attr.TheVariants.{Scratch as ScratchRecord}
+use Rattle.mem_rec.specs.Records.{is_scratch, is_table, same_space}
+use Rattle.mem_rec.specs.Layout.{scratch_align, scratch_need}
+use Rattle.mem_rec.proofs.Valid.{within_limits}
+use Rattle.space_heap.specs.Places.{placed_size}
+use Rattle.space_heap.proofs.RangeTests.{true_or_false}
+use Rattle.ialg.specs.Records.{record_at}
+use Rattle.record_loans.specs.declared.block.ScratchBlock.{ScratchBlock}
+use Rattle.record_loans.specs.Blocks.{block_align, block_piece, block_words}
+use Rattle.scratch_group.specs.declared.group.Group.{Group}
+use Rattle.scratch_group.specs.declared.group.Need.{Need}
+use Rattle.scratch_group.specs.Blocks.{block_in, block_needed, serves}
+use Rattle.space_blocks.specs.declared.placed.Owner.{Owner}
+use Rattle.space_blocks.specs.declared.placed.Owner.TheVariants.{Record, Scratch}
+use Rattle.space_blocks.specs.declared.placed.Placed.{Placed}
+use Rattle.space_blocks.specs.Blocks.{block_of_piece, owned}
+use Rattle.host_spaces.specs.declared.wants.Wanted.{Wanted}
+use Rattle.host_spaces.specs.Picture.{Picture, all_spaces, blocks_in, first_block}
+use Rattle.host_spaces.specs.Creation.{block_wanted, group_wanted, own_wanted, record_wanted, scratch_wanted, wanted_by}
+use Rattle.host_spaces.specs.Pieces.{HasBlocks}
+use Rattle.host_spaces.specs.Wants.{AreApartWants, block_need, count_in, need_wanted, one_in, somes, want_at, wants_of}
+
+-- ---- whose each of them is
+
+record_by : (a : Attr) (x v : Wanted) → (if is_scratch a then None else Some x) ≡ Some v → x ≡ v
+record_by ScratchRecord x v e = absurd (let bad : None ≡ Some v = e in cc)
+record_by Persist x v e = let same : Some x ≡ Some v = e in cc
+record_by WriteOnce x v e = let same : Some x ≡ Some v = e in cc
+
+record_step : (i k : ℕ) (r : MemRec) (v : Wanted) → record_wanted i k r ≡ Some v → (v.owner ≡ Record i k) × (v.space ≡ r.space)
+record_step i k r v e =
+    let is = record_by r.attr (record { space = r.space; owner = Record i k; size = placed_size r.size; align = r.align }) v e in
+    (sym (ap (λ (w : Wanted). w.owner) is), sym (ap (λ (w : Wanted). w.space) is))
+
+need_step : (g : ℕ) (space : Space) (n : Option Need) (v : Wanted) → need_wanted g space n ≡ Some v → (v.owner ≡ Scratch g) × (v.space ≡ space)
+need_step g space None v e = absurd (let bad : None ≡ Some v = e in cc)
+need_step g space (Some n) v e =
+    let same : Some (record { space = space; owner = Scratch g; size = n.size; align = n.align }) ≡ Some v = e in
+    let is : record { space = space; owner = Scratch g; size = n.size; align = n.align } ≡ v = cc in
+    (sym (ap (λ (w : Wanted). w.owner) is), sym (ap (λ (w : Wanted). w.space) is))
+
+-- the entry of an owner in a space
+abbrev pub entry_of : Owner → Space → ℕ
+entry_of (Record i zero) space = 0
+entry_of (Record i (suc zero)) space = 1
+entry_of (Record i (suc (suc zero))) space = 2
+entry_of (Record i (suc (suc (suc zero)))) space = 3
+entry_of (Record i (suc (suc (suc (suc k))))) space = suc (suc (suc (suc (suc (suc (suc k))))))
+entry_of (Scratch g) Daram = 4
+entry_of (Scratch g) Saram = 5
+entry_of (Scratch g) External = 6
+
+entry_is : (v : Wanted) (o : Owner) (space : Space) (n : ℕ) → v.owner ≡ o → v.space ≡ space → entry_of o space ≡ n → entry_of v.owner v.space ≡ n
+entry_is v o space n owner there e = ap (λ x. entry_of x v.space) owner ∙ ap (entry_of o) there ∙ e
+
+module _ (i g : ℕ) (table : List MemRec) (group : Group) where
+  abbrev pub wants : List (Option Wanted)
+  wants = wants_of i g table group
+
+  pub owner_of_step : (j : ℕ) (v : Wanted) → want_at (wants_of i g table group) j ≡ Some v → (v.owner ≡ Record i j) ⊎ (v.owner ≡ Scratch g)
+  owner_of_step zero v e = inl (record_step i 0 (record_at table 0) v e).0
+  owner_of_step (suc zero) v e = inl (record_step i 1 (record_at table 1) v e).0
+  owner_of_step (suc (suc zero)) v e = inl (record_step i 2 (record_at table 2) v e).0
+  owner_of_step (suc (suc (suc zero))) v e = inl (record_step i 3 (record_at table 3) v e).0
+  owner_of_step (suc (suc (suc (suc zero)))) v e = inr (need_step g Daram (block_need table group Daram) v e).0
+  owner_of_step (suc (suc (suc (suc (suc zero))))) v e = inr (need_step g Saram (block_need table group Saram) v e).0
+  owner_of_step (suc (suc (suc (suc (suc (suc zero)))))) v e = inr (need_step g External (block_need table group External) v e).0
+  owner_of_step (suc (suc (suc (suc (suc (suc (suc j))))))) v e = absurd (let bad : None ≡ Some v = e in cc)
+
+  pub entry_of_step : (j : ℕ) (v : Wanted) → want_at (wants_of i g table group) j ≡ Some v → entry_of v.owner v.space ≡ j
+  entry_of_step zero v e = let s = record_step i 0 (record_at table 0) v e in entry_is v (Record i 0) (record_at table 0).space 0 s.0 s.1 refl
+  entry_of_step (suc zero) v e = let s = record_step i 1 (record_at table 1) v e in entry_is v (Record i 1) (record_at table 1).space 1 s.0 s.1 refl
+  entry_of_step (suc (suc zero)) v e = let s = record_step i 2 (record_at table 2) v e in entry_is v (Record i 2) (record_at table 2).space 2 s.0 s.1 refl
+  entry_of_step (suc (suc (suc zero))) v e = let s = record_step i 3 (record_at table 3) v e in entry_is v (Record i 3) (record_at table 3).space 3 s.0 s.1 refl
+  entry_of_step (suc (suc (suc (suc zero)))) v e = let s = need_step g Daram (block_need table group Daram) v e in entry_is v (Scratch g) Daram 4 s.0 s.1 refl
+  entry_of_step (suc (suc (suc (suc (suc zero))))) v e = let s = need_step g Saram (block_need table group Saram) v e in entry_is v (Scratch g) Saram 5 s.0 s.1 refl
+  entry_of_step (suc (suc (suc (suc (suc (suc zero)))))) v e = let s = need_step g External (block_need table group External) v e in entry_is v (Scratch g) External 6 s.0 s.1 refl
+  entry_of_step (suc (suc (suc (suc (suc (suc (suc j))))))) v e = absurd (let bad : None ≡ Some v = e in cc)
+
+  pub apart_wants : AreApartWants (wants_of i g table group)
+  apart_wants j l v u less at there space owner =
+      let same : j ≡ l = sym (entry_of_step j v at) ∙ ap (λ o. entry_of o v.space) owner ∙ ap (entry_of u.owner) space ∙ entry_of_step l u there in omega arith
+
+-- ---- how many there are in a space
+
+one_at_most : (space : Space) (w : Option Wanted) → one_in space w ≤ 1
+one_at_most space None = omega arith
+one_at_most space (Some w) = elim (true_or_false (same_space w.space space)) [
+  | inl is ↦ let e : one_in space (Some w) ≡ 1 = ap (λ t. if t then 1 else 0) is in omega arith
+  | inr out ↦ let e : one_in space (Some w) ≡ 0 = ap (λ t. if t then 1 else 0) out in omega arith
+]
+
+abbrev one_if : Bool → ℕ
+one_if t = if t then 1 else 0
+
+need_there : (space there : Space) (g : ℕ) (n : Option Need) → one_in space (need_wanted g there n) ≤ one_if (same_space there space)
+need_there space there g None = omega arith
+need_there space there g (Some n) = omega arith
+
+three_needs : (space : Space) → one_if (same_space Daram space) + (one_if (same_space Saram space) + one_if (same_space External space)) ≡ 1
+three_needs Daram = refl
+three_needs Saram = refl
+three_needs External = refl
+
+pub few_wants : (i g : ℕ) (table : List MemRec) (group : Group) (space : Space) → count_in space (wants_of i g table group) ≤ 5
+few_wants i g table group space =
+    let a = one_at_most space (record_wanted i 0 (record_at table 0)) in let b = one_at_most space (record_wanted i 1 (record_at table 1)) in
+    let c = one_at_most space (record_wanted i 2 (record_at table 2)) in let d = one_at_most space (record_wanted i 3 (record_at table 3)) in
+    let x = need_there space Daram g (block_need table group Daram) in let y = need_there space Saram g (block_need table group Saram) in
+    let z = need_there space External g (block_need table group External) in let three = three_needs space in omega arith
+
+-- ---- they are what the definition says
+
+last_option : (o : Option Wanted) (xs ys : List Wanted) → cons_option o (xs ++ ys) ≡ cons_option o xs ++ ys
+last_option None xs ys = refl
+last_option (Some w) xs ys = refl
+
+own_wants : (i : ℕ) (table : List MemRec) (rest : List Wanted) → length table ≤ 4
+    → cons_option (record_wanted i 0 (record_at table 0)) (cons_option (record_wanted i 1 (record_at table 1)) (cons_option (record_wanted i 2 (record_at table 2)) (cons_option (record_wanted i 3 (record_at table 3)) rest)))
+    ≡ own_wanted i 0 table ++ rest
+own_wants i [] rest few = refl
+own_wants i (a ∷ []) rest few = last_option (record_wanted i 0 a) [] rest
+own_wants i (a ∷ b ∷ []) rest few =
+    ap (cons_option (record_wanted i 0 a)) (last_option (record_wanted i 1 b) [] rest) ∙ last_option (record_wanted i 0 a) (own_wanted i 1 (b ∷ [])) rest
+own_wants i (a ∷ b ∷ c ∷ []) rest few =
+    ap (λ ws. cons_option (record_wanted i 0 a) (cons_option (record_wanted i 1 b) ws)) (last_option (record_wanted i 2 c) [] rest)
+    ∙ ap (cons_option (record_wanted i 0 a)) (last_option (record_wanted i 1 b) (own_wanted i 2 (c ∷ [])) rest)
+    ∙ last_option (record_wanted i 0 a) (own_wanted i 1 (b ∷ c ∷ [])) rest
+own_wants i (a ∷ b ∷ c ∷ d ∷ []) rest few =
+    ap (λ ws. cons_option (record_wanted i 0 a) (cons_option (record_wanted i 1 b) (cons_option (record_wanted i 2 c) ws))) (last_option (record_wanted i 3 d) [] rest)
+    ∙ ap (λ ws. cons_option (record_wanted i 0 a) (cons_option (record_wanted i 1 b) ws)) (last_option (record_wanted i 2 c) (own_wanted i 3 (d ∷ [])) rest)
+    ∙ ap (cons_option (record_wanted i 0 a)) (last_option (record_wanted i 1 b) (own_wanted i 2 (c ∷ d ∷ [])) rest)
+    ∙ last_option (record_wanted i 0 a) (own_wanted i 1 (b ∷ c ∷ d ∷ [])) rest
+own_wants i (a ∷ b ∷ c ∷ d ∷ e ∷ others) rest few = absurd (omega arith)
+
+not_le : (a b : ℕ) → nat_lt a b ≡ not (nat_le b a)
+not_le a b = elim (cases_lt a b) [
+  | inl lt ↦ grind (arith, nat_tests)
+  | inr ge ↦ grind (arith, nat_tests)
+]
+
+-- a block of so many words and that alignment is needed where the one that stands there is smaller or of a lower one
+over_old : (x y : Bool) (a : Option Wanted) → (if not x || not y then a else None) ≡ (if x && y then None else a)
+over_old true true a = refl
+over_old true false a = refl
+over_old false y a = refl
+
+chosen : (t : Bool) (g : ℕ) (space : Space) (n : Need) → (if t then None else need_wanted g space (Some n)) ≡ need_wanted g space (if t then None else Some n)
+chosen true g space n = refl
+chosen false g space n = refl
+
+wanted_here : (b : Option ScratchBlock) (g : ℕ) (space : Space) (need align : ℕ) →
+    block_wanted (first_block (block_of_piece (Scratch g) (block_align b) (block_piece b))) g space need align
+    ≡ need_wanted g space (if serves b need align then None else Some (record { size = max (length (block_words b)) need; align = max (block_align b) align }))
+wanted_here None g space need align =
+    let x : need ≡ max 0 need = omega arith in let y : align ≡ max 0 align = omega arith in
+    ap (λ n. let w : Wanted = record { space = space; owner = Scratch g; size = n; align = align } in Some w) x
+    ∙ ap (λ n. let w : Wanted = record { space = space; owner = Scratch g; size = max 0 need; align = n } in Some w) y
+wanted_here (Some b) g space need align =
+    let w : Wanted = record { space = space; owner = Scratch g; size = max (length b.piece.words) need; align = max b.align align } in
+    ap (λ t. if t || nat_lt b.align align then Some w else None) (not_le (length b.piece.words) need)
+    ∙ ap (λ t. if not (nat_le need (length b.piece.words)) || t then Some w else None) (not_le b.align align)
+    ∙ over_old (nat_le need (length b.piece.words)) (nat_le align b.align) (Some w)
+    ∙ chosen (nat_le need (length b.piece.words) && nat_le align b.align) g space (record { size = max (length b.piece.words) need; align = max b.align align })
+
+with_need : (t s : Bool) (g : ℕ) (space : Space) (a : Option Wanted) (n : Option Need) → a ≡ need_wanted g space (if s then None else n)
+    → (if t then None else a) ≡ need_wanted g space (if t || s then None else n)
+with_need true s g space a n e = refl
+with_need false s g space a n e = e
+
+scratch_is : (picture : Picture) (g : ℕ) (table : List MemRec) (group : Group) → HasBlocks picture g group → (space : Space)
+    → scratch_wanted picture g table space ≡ need_wanted g space (block_need table group space)
+scratch_is picture g table group has space =
+    let b = block_in group space in let need = scratch_need table space in let align = scratch_align table space in
+    ap (λ bs. group_wanted (first_block bs) g table space) (has space)
+    ∙ with_need (need == 0) (serves b need align) g space (block_wanted (first_block (block_of_piece (Scratch g) (block_align b) (block_piece b))) g space need align)
+        (Some (record { size = max (length (block_words b)) need; align = max (block_align b) align })) (wanted_here b g space need align)
+
+pub wants_is : (picture : Picture) (i g : ℕ) (table : List MemRec) (group : Group) → HasBlocks picture g group → IsTrue (is_table table)
+    → wanted_by picture i g table ≡ somes (drop 0 (wants_of i g table group))
+wants_is picture i g table group has t =
+    let few = (within_limits table t).few in
+    let rest : filter_map (scratch_wanted picture g table) all_spaces
+        ≡ cons_option (need_wanted g Daram (block_need table group Daram)) (cons_option (need_wanted g Saram (block_need table group Saram)) (cons_option (need_wanted g External (block_need table group External)) [])) =
+        ap (λ o. cons_option o (cons_option (scratch_wanted picture g table Saram) (cons_option (scratch_wanted picture g table External) []))) (scratch_is picture g table group has Daram)
+        ∙ ap (λ o. cons_option (need_wanted g Daram (block_need table group Daram)) (cons_option o (cons_option (scratch_wanted picture g table External) []))) (scratch_is picture g table group has Saram)
+        ∙ ap (λ o. cons_option (need_wanted g Daram (block_need table group Daram)) (cons_option (need_wanted g Saram (block_need table group Saram)) (cons_option o []))) (scratch_is picture g table group has External) in
+    ap (λ ws. own_wanted i 0 table ++ ws) rest ∙ sym (own_wants i table _ few)
