@@ -27,7 +27,8 @@ use Rattle.host_spaces.specs.declared.spaces.Spaces.{Spaces}
 use Rattle.host_spaces.specs.declared.wants.Wanted.{Wanted}
 use Rattle.host_spaces.specs.Picture.{blocks_in, picture_of, space_in}
 use Rattle.host_spaces.specs.Creation.{record_wanted}
-use Rattle.host_spaces.specs.Pieces.{ArePiecesOf, HasRecords, IsNeeded, IsPieceOf, IsPoisoned, as_block, is_write_once, kept_piece, lasting_piece, lent_piece, new_block, piece_of_record, placement_of, record_block, with_new}
+use Rattle.lifecycle.specs.Rooms.{lasting_piece, piece_of_record}
+use Rattle.host_spaces.specs.Pieces.{ArePiecesOf, HasRecords, IsNeeded, IsPieceOf, IsPoisoned, as_block, is_write_once, kept_piece, lent_piece, new_block, placement_of, record_block, with_new}
 use Rattle.host_spaces.specs.Wants.{IsFor, IsGranted, block_need, need_wanted, slot_at, want_at, wants_of}
 use Rattle.host_spaces.proofs.Pictures.{by_space, seen_blocks}
 use Rattle.host_spaces.proofs.Steps.{entry_of, entry_of_step, owner_of_step}

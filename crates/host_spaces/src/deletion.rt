@@ -7,7 +7,8 @@ ghost use Rattle.space_blocks.specs.declared.placed.Owner.TheVariants.{Record, S
 ghost use Rattle.space_blocks.specs.Blocks.{Owns, disowned, owned, without_piece};
 ghost use Rattle.ialg.specs.Records.{record_at};
 ghost use Rattle.host_spaces.specs.Picture.{AreSameSpaces, blocks_in, is_instance's, picture_of, space_in, without_owners};
-ghost use Rattle.host_spaces.specs.Pieces.{ArePiecesOf, HasRecords, lasting_piece, old_piece, record_block, without_pieces};
+ghost use Rattle.lifecycle.specs.Rooms.{lasting_piece};
+ghost use Rattle.host_spaces.specs.Pieces.{ArePiecesOf, HasRecords, old_piece, record_block, without_pieces};
 
 use crate::pieces::OldBlocks;
 use crate::spaces::Spaces;

@@ -5,5 +5,7 @@
 #![tactic(auto)]
 
 mod calls;
+mod moves;
 
 pub use calls::give_block;
+pub use moves::{compact, step};

@@ -1,0 +1,59 @@
+//! Moves, as the machine's.
+ghost use Rattle.std.specs.Prelude.{◌≡◌, ℤ, Option};
+ghost use Rattle.instance_table.specs.Table.{TablesOk, ArePoisoned};
+ghost use Rattle.sound_machine.specs.State.{State};
+ghost use Rattle.sound_machine.specs.Steps as steps;
+ghost use Rattle.placed_instances.specs.Standing.{AreStanding};
+ghost use Rattle.kept_machine.specs.Hosts.{HostKeeps};
+
+use host_spaces::Spaces;
+use ialg::Ialg;
+use instance_table::Member;
+use mem_rec::Space;
+use placed_instances::make_next_move;
+use record_loans::Pieces;
+use scratch_group::Group;
+
+/// Moves the first block of the space that isn't at its packed place there, as the machine does, and says whether a block moved.
+pub fn step<M: Ialg>(
+    slots: &mut Vec<Option<Member<M>>>,
+    once: &mut Vec<Pieces>,
+    groups: &mut Vec<Group>,
+    spaces: &mut Spaces,
+    space: Space,
+) -> bool
+    requires ok { TablesOk slots.old.items once.old.items groups.old.items }
+    requires standing { AreStanding slots.old.items once.old.items groups.old.items spaces.old }
+    ensures ok { TablesOk slots.new.items once.new.items groups.new.items }
+    ensures standing { AreStanding slots.new.items once.new.items groups.new.items spaces.new }
+    ensures poisoned { (w : Option ℤ) → ArePoisoned w groups.old.items → ArePoisoned w groups.new.items }
+    ensures machine { (before : State M) → HostKeeps M.meaning M.idle_keeps M.active_keeps slots.old.items once.old.items groups.old.items spaces.old before
+        → ((result, (steps.step before space).1) ≡ steps.step before space)
+        × HostKeeps M.meaning M.idle_keeps M.active_keeps slots.new.items once.new.items groups.new.items spaces.new (steps.step before space).1 }
+{
+    make_next_move(slots, once, groups, spaces, space)
+}
+
+/// Makes next moves of the space until all its blocks are packed, as the machine does, and says how many blocks moved: each moves once.
+pub fn compact<M: Ialg>(
+    slots: &mut Vec<Option<Member<M>>>,
+    once: &mut Vec<Pieces>,
+    groups: &mut Vec<Group>,
+    spaces: &mut Spaces,
+    space: Space,
+) -> u32
+    requires ok { TablesOk slots.old.items once.old.items groups.old.items }
+    requires standing { AreStanding slots.old.items once.old.items groups.old.items spaces.old }
+    ensures ok { TablesOk slots.new.items once.new.items groups.new.items }
+    ensures standing { AreStanding slots.new.items once.new.items groups.new.items spaces.new }
+    ensures poisoned { (w : Option ℤ) → ArePoisoned w groups.old.items → ArePoisoned w groups.new.items }
+    ensures machine { (before : State M) → HostKeeps M.meaning M.idle_keeps M.active_keeps slots.old.items once.old.items groups.old.items spaces.old before
+        → ((result, (steps.compact before space).1) ≡ steps.compact before space)
+        × HostKeeps M.meaning M.idle_keeps M.active_keeps slots.new.items once.new.items groups.new.items spaces.new (steps.compact before space).1 }
+{
+    let mut moved = 0;
+    while step(slots, once, groups, spaces, space) {
+        moved += 1;
+    }
+    moved
+}
