@@ -6,4 +6,4 @@
 
 mod calls;
 
-pub use calls::give_block;
+pub use calls::{give_block, give_control, put_to_rest};
