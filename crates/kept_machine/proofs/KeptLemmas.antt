@@ -1,24 +1,29 @@
 -- What the calls of a table leave is kept.
-use Rattle.std.proofs.Common.{◌≡◌, ◌≤◌, ℕ, ℤ, false, cond, List, ◌++◌, length, Option, Some, None, refl, ap, sym, ◌∙◌, subst}
-use Rattle.std.specs.Prelude.{nat_eq, IsSome, IsTrue}
+use Rattle.std.proofs.Common.{◌≡◌, ◌≤◌, ◌<◌, ℕ, ℤ, Bool, true, false, cond, List, ◌∷◌, ◌++◌, length, Option, Some, None, refl, ap, sym, ◌∙◌, subst}
+use Rattle.std.specs.Prelude.{nat_eq, is_some, IsSome, IsTrue, Ok, Err}
+use Rattle.space_blocks.specs.declared.TheConstants.{INSTANCES, GROUPS}
+use Rattle.ialg.specs.declared.refusal.Refusal.TheVariants.{Command}
 use Rattle.std.proofs.lemmas.Bool.{eq-eqb}
 use Rattle.std.proofs.lemmas.Bool.Decides.{eqb_tells}
 use Rattle.space_heap.proofs.RangeTests.{either}
-use Rattle.ialg.specs.History.{History, with_samples}
-use Rattle.ialg.specs.Meaning.{Meaning, outputs_of}
+use Rattle.ialg.specs.History.{History, Ctl, Control, with_samples}
+use Rattle.ialg.specs.Meaning.{Meaning, Status, outputs_of, status_of}
 use Rattle.record_loans.specs.declared.pieces.Pieces.{Pieces}
 use Rattle.scratch_group.specs.declared.group.Group.{Group}
-use Rattle.lifecycle.specs.States.{Relation, IsLawful, all_outputs}
+use Rattle.lifecycle.specs.States.{Relation, IsLawful, all_outputs, status_after}
 use Rattle.instance_table.specs.declared.member.Member.{Member}
-use Rattle.instance_table.specs.Table.{slot_at, once_at, group_of, instance_of, activity_at, touched, touched_by, with_activity}
+use Rattle.instance_table.specs.Table.{Activity, slot_at, once_at, group_at, group_of, instance_of, activity_at, touched, touched_by, rested, with_activity}
 use Rattle.instance_table.specs.Keeps.{Keeps, SlotKeeps, with_history}
 use Rattle.instance_table.specs.Frames.{SameSlot, SameTables}
 use Rattle.sound_machine.specs.State.{Living, State, with_living}
-use Rattle.sound_machine.specs.Choices.{MayGive}
-use Rattle.sound_machine.specs.Steps.{touching, processed}
-use Rattle.sound_machine.specs.Calls.{Processes}
-use Rattle.sound_machine.proofs.OutcomeLemmas.{process_some}
+use Rattle.sound_machine.specs.Choices.{MayGive, MayAnswer}
+use Rattle.sound_machine.specs.Steps.{Outcome, touching, processed, release}
+use Rattle.sound_machine.specs.Calls.{Processes, Controls}
+use Rattle.sound_machine.proofs.OutcomeLemmas.{process_some, release_granted, control_granted, control_command}
 use Rattle.kept_machine.specs.Kept.{IsInstance, IsLiving, history_of, TablesKeep}
+
+some_same : {A : Type 0} (a b : A) → Some a ≡ Some b → a ≡ b
+some_same a b e = cc
 
 -- the member in a slot, and the instance that it is
 pub record Found {M : Type 0} (slot : Option (Member M)) (living : Option (Living M)) : Type 0 where
@@ -172,3 +177,117 @@ module _ {M : Type 0} (meaning : Meaning M) (idle_keeps active_keeps : Relation 
         → Processes meaning before i block out (processed before i block) × Kept (processed before i block)
     block_given w block out e kept living same activity keeps output bounded some =
         given_kept kept block out same activity (subst (KeepsBy (λ h. with_samples h block)) (sym e) keeps) (subst (GivesBy block out) (sym e) output) bounded some living
+
+    -- the member was put to rest in group g
+    pub rested_kept : (w : Option ℤ) (g : ℕ) → before.poison ≡ w → TablesKeep meaning idle_keeps active_keeps slots once groups before
+        → SameTables slots once groups slots' once' groups'
+        → ((k : ℕ) → activity_at groups' k ≡ with_activity (activity_at groups) g (rested (activity_at groups g)) k)
+        → ((histories : ℕ → History) → Keeps meaning idle_keeps active_keeps w slots once groups histories
+        → Keeps meaning idle_keeps active_keeps w slots' once' groups' histories)
+        → Kept (record before { activity = with_activity before.activity g (rested (before.activity g)) })
+    rested_kept w g e kept same activity keeps = record {
+      living = λ j. same_living (slot_at slots j) (slot_at slots' j) (before.living j) (same.slot j) (kept.living j);
+      activity = λ k.
+          activity k
+          ∙ ap (λ a. with_activity (activity_at groups) g (rested a) k) (kept.activity g)
+          ∙ ap (λ a. cond (nat_eq k g) (rested (before.activity g)) a) (kept.activity k);
+      histories =
+          let histories : ℕ → History = λ j. history_of (before.living j) in
+          subst (λ v. Keeps meaning idle_keeps active_keeps v slots' once' groups' histories) (sym e)
+          (keeps histories (subst (λ v. Keeps meaning idle_keeps active_keeps v slots once groups histories) e kept.histories));
+    }
+
+    pub rest_answered : (g : ℕ) (result : Bool) → g < GROUPS → TablesKeep meaning idle_keeps active_keeps slots once groups before
+        → result ≡ is_some (group_at groups g).active
+        → ◌≡◌ {A = Outcome M Bool} (Ok result, record before { activity = with_activity before.activity g (rested (before.activity g)) }) (release before g)
+    rest_answered g result lt kept active =
+        let now : State M = record before { activity = with_activity before.activity g (rested (before.activity g)) } in
+        subst (λ b. ◌≡◌ {A = Outcome M Bool} (Ok b, now) (release before g)) (sym (active ∙ ap (λ (a : Activity). is_some a.active) (kept.activity g)))
+        (sym (release_granted before g lt))
+
+    -- ---- controls
+
+    -- whether the table's instance takes a control, and what it answers
+    abbrev pub TakesBy : Ctl → Bool → Option ℤ → Type 0
+    TakesBy c taken w = (m : Member M) → slot_at slots i ≡ Some m → IsLawful meaning (instance_of m.inst) w
+        → taken ≡ meaning.accepts (instance_of m.inst).kind (instance_of m.inst).params.items c
+
+    abbrev pub AnswersBy : Ctl → Status → Option ℤ → Type 0
+    AnswersBy c status w = (histories : ℕ → History) (m : Member M) → slot_at slots i ≡ Some m → IsLawful meaning (instance_of m.inst) w
+        → Keeps meaning idle_keeps active_keeps w slots once groups histories → status ≡ status_after meaning (instance_of m.inst) (histories i) c
+
+    module _ (kept : TablesKeep meaning idle_keeps active_keeps slots once groups before) (its : Found (slot_at slots i) (before.living i)) (c : Ctl) where
+      lawful_there : IsTrue (meaning.lawful its.instance.kind its.instance.params before.poison) → IsLawful meaning (instance_of its.member.inst) before.poison
+      lawful_there lawful =
+          subst (λ k. IsTrue (meaning.lawful k (instance_of its.member.inst).params.items before.poison)) (sym its.is.kind)
+          (subst (λ p. IsTrue (meaning.lawful its.instance.kind p before.poison)) (sym its.is.params) lawful)
+
+      taken_there : (taken : Bool) → TakesBy c taken before.poison → IsTrue (meaning.lawful its.instance.kind its.instance.params before.poison)
+          → taken ≡ meaning.accepts its.instance.kind its.instance.params c
+      taken_there taken takes lawful =
+          takes its.member its.there (lawful_there lawful)
+          ∙ ap (λ k. meaning.accepts k (instance_of its.member.inst).params.items c) its.is.kind ∙ ap (λ p. meaning.accepts its.instance.kind p c) its.is.params
+
+      status_there : (status : Status) → AnswersBy c status before.poison → IsTrue (meaning.lawful its.instance.kind its.instance.params before.poison)
+          → status ≡ status_of meaning its.instance.kind its.instance.params its.instance.history c
+      status_there status answers lawful =
+          answers (λ j. history_of (before.living j)) its.member its.there (lawful_there lawful) kept.histories
+          ∙ ap (λ k. status_of meaning k (instance_of its.member.inst).params.items (history_of (before.living i)) c) its.is.kind
+          ∙ ap (λ p. status_of meaning its.instance.kind p (history_of (before.living i)) c) its.is.params
+          ∙ ap (λ h. status_of meaning its.instance.kind its.instance.params h c) (ap history_of its.lives)
+
+      one_lives : (taken : Bool) (status : Status) → MayAnswer meaning before.poison its.instance c taken status
+          → (x : Living M) → before.living i ≡ Some x → MayAnswer meaning before.poison x c taken status
+      one_lives taken status may x lives = subst (λ y. MayAnswer meaning before.poison y c taken status) (some_same its.instance x (sym its.lives ∙ lives)) may
+
+      control_taken : (status : Status) → i < INSTANCES → TakesBy c true before.poison → AnswersBy c status before.poison
+          → SameTables slots once groups slots' once' groups' → ((k : ℕ) → activity_at groups' k ≡ touched_by slots groups i k)
+          → KeepsBy (λ h. Control c ∷ h) before.poison
+          → (after : State M) × Controls meaning before i c (Ok status) after × Kept after
+      control_taken status lt takes answers same activity keeps =
+          let h = Control c ∷ its.instance.history in (
+            touching before i (record its.instance { history = h }),
+            record {
+              taken = true;
+              status = status;
+              answers = one_lives true status (record { acceptance = taken_there true takes; answer = status_there status answers });
+              outcome = sym (control_granted before i c status its.instance lt its.lives);
+            },
+            kept_touching kept its h same activity
+                (subst (λ k. Keeps meaning idle_keeps active_keeps before.poison slots' once' groups' (with_history (λ j. history_of (before.living j)) i (Control c ∷ k))) (ap history_of its.lives)
+                (keeps (λ j. history_of (before.living j)) kept.histories)),
+          )
+
+      control_not_taken : i < INSTANCES → TakesBy c false before.poison → Controls meaning before i c (Err Command) before
+      control_not_taken lt takes =
+          let status = status_of meaning its.instance.kind its.instance.params its.instance.history c in
+          record {
+            taken = false;
+            status = status;
+            answers = one_lives false status (record { acceptance = taken_there false takes; answer = λ lawful. refl });
+            outcome = sym (control_command before i c status its.instance lt its.lives);
+          }
+
+    -- the same, in a host of poison word w
+    pub control_given : (w : Option ℤ) (c : Ctl) (status : Status) → before.poison ≡ w
+        → TablesKeep meaning idle_keeps active_keeps slots once groups before → IsSome (slot_at slots i) → i < INSTANCES
+        → TakesBy c true w → AnswersBy c status w
+        → SameTables slots once groups slots' once' groups' → ((k : ℕ) → activity_at groups' k ≡ touched_by slots groups i k)
+        → KeepsBy (λ h. Control c ∷ h) w
+        → (after : State M) × Controls meaning before i c (Ok status) after × Kept after
+    control_given w c status e kept living lt takes answers same activity keeps =
+        control_taken kept (found (slot_at slots i) (before.living i) living (kept.living i)) c status lt
+        (subst (TakesBy c true) (sym e) takes) (subst (AnswersBy c status) (sym e) answers) same activity (subst (KeepsBy (λ h. Control c ∷ h)) (sym e) keeps)
+
+    pub control_refused : (w : Option ℤ) (c : Ctl) → before.poison ≡ w
+        → TablesKeep meaning idle_keeps active_keeps slots once groups before → IsSome (slot_at slots i) → i < INSTANCES
+        → TakesBy c false w → Controls meaning before i c (Err Command) before
+    control_refused w c e kept living lt takes =
+        control_not_taken kept (found (slot_at slots i) (before.living i) living (kept.living i)) c lt (subst (TakesBy c false) (sym e) takes)
+
+    -- nothing has happened
+    pub same_kept : slots' ≡ slots → once' ≡ once → groups' ≡ groups → TablesKeep meaning idle_keeps active_keeps slots once groups before → Kept before
+    same_kept e f h kept =
+        subst (λ s. TablesKeep meaning idle_keeps active_keeps s once' groups' before) (sym e)
+        (subst (λ o. TablesKeep meaning idle_keeps active_keeps slots o groups' before) (sym f)
+        (subst (λ y. TablesKeep meaning idle_keeps active_keeps slots once y before) (sym h) kept))

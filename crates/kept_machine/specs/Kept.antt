@@ -1,7 +1,11 @@
 -- When the tables of instances and groups keep a state of the machine.
-use Rattle.std.specs.Prelude.{◌≡◌, ℕ, List, [], Option, Some, None}
+use Rattle.std.specs.Prelude.{◌≡◌, ℕ, List, [], Option, Some, None, Result, Ok, Err}
 use Rattle.ialg.specs.History.{History}
+use Rattle.ialg.specs.Meaning as meaning
 use Rattle.ialg.specs.Meaning.{Meaning}
+use Rattle.ialg.specs.Views.{answer_of}
+use Rattle.ialg.specs.declared.control.Status.{Status}
+use Rattle.ialg.specs.declared.refusal.Refusal.{Refusal}
 use Rattle.record_loans.specs.declared.pieces.Pieces.{Pieces}
 use Rattle.scratch_group.specs.declared.group.Group.{Group}
 use Rattle.lifecycle.specs.States.{Relation}
@@ -33,3 +37,8 @@ pub record TablesKeep {M : Type 0} (meaning : Meaning M) (idle_keeps active_keep
   pub living : (i : ℕ) → IsLiving (slot_at slots i) (state.living i)
   pub activity : (g : ℕ) → activity_at groups g ≡ state.activity g
   pub histories : Keeps meaning idle_keeps active_keeps state.poison slots once groups (λ i. history_of (state.living i))
+
+-- what a control is answered, as plain values
+abbrev pub told : Result Status Refusal → Result meaning.Status Refusal
+told (Ok status) = Ok (answer_of status)
+told (Err refusal) = Err refusal
