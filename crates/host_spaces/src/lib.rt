@@ -4,7 +4,6 @@
 #![tactic(auto)]
 
 mod creation;
-mod deletion;
 mod granted;
 mod pieces;
 mod placing;

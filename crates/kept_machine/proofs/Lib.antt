@@ -1,2 +1,1 @@
 pub mod KeptLemmas
-pub mod MovesKept

@@ -5,7 +5,5 @@
 #![tactic(auto)]
 
 mod calls;
-mod moves;
 
 pub use calls::{give_block, give_control, put_to_rest};
-pub use moves::{compact, step};

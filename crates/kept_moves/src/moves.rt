@@ -1,16 +1,19 @@
 //! Moves, as the machine's.
-ghost use Rattle.std.specs.Prelude.{◌≡◌, ℤ, Option};
+ghost use Rattle.std.specs.Prelude.{◌≡◌, ◌+◌, ℤ, Option, true};
 ghost use Rattle.instance_table.specs.Table.{TablesOk, ArePoisoned};
+ghost use Rattle.relocate.specs.Packing.{unpacked_count};
+ghost use Rattle.space_blocks.specs.Moves.{spots_of};
+ghost use Rattle.host_spaces.specs.Picture.{blocks_in, picture_of};
 ghost use Rattle.sound_machine.specs.State.{State};
 ghost use Rattle.sound_machine.specs.Steps as steps;
 ghost use Rattle.placed_instances.specs.Standing.{AreStanding};
-ghost use Rattle.kept_machine.specs.Hosts.{HostKeeps};
+ghost use Rattle.kept_moves.specs.Hosts.{HostKeeps};
 
 use host_spaces::Spaces;
 use ialg::Ialg;
 use instance_table::Member;
 use mem_rec::Space;
-use placed_instances::make_next_move;
+use placed_instances::{in_order, make_next_move};
 use record_loans::Pieces;
 use scratch_group::Group;
 
@@ -27,6 +30,7 @@ pub fn step<M: Ialg>(
     ensures ok { TablesOk slots.new.items once.new.items groups.new.items }
     ensures standing { AreStanding slots.new.items once.new.items groups.new.items spaces.new }
     ensures poisoned { (w : Option ℤ) → ArePoisoned w groups.old.items → ArePoisoned w groups.new.items }
+    ensures fewer { result ≡ true → unpacked_count (spots_of (blocks_in (picture_of spaces.new) space)) + 1 ≡ unpacked_count (spots_of (blocks_in (picture_of spaces.old) space)) }
     ensures machine { (before : State M) → HostKeeps M.meaning M.idle_keeps M.active_keeps slots.old.items once.old.items groups.old.items spaces.old before
         → ((result, (steps.step before space).1) ≡ steps.step before space)
         × HostKeeps M.meaning M.idle_keeps M.active_keeps slots.new.items once.new.items groups.new.items spaces.new (steps.step before space).1 }
@@ -51,6 +55,7 @@ pub fn compact<M: Ialg>(
         → ((result, (steps.compact before space).1) ≡ steps.compact before space)
         × HostKeeps M.meaning M.idle_keeps M.active_keeps slots.new.items once.new.items groups.new.items spaces.new (steps.compact before space).1 }
 {
+    in_order(spaces);
     let mut moved = 0;
     while step(slots, once, groups, spaces, space) {
         moved += 1;

@@ -17,7 +17,7 @@ use Rattle.placed_instances.specs.Moves.{HasMoved}
 use Rattle.sound_machine.specs.State.{Living, State}
 use Rattle.sound_machine.specs.Steps.{more_copied, moving, step}
 use Rattle.kept_machine.specs.Kept.{IsLiving, TablesKeep}
-use Rattle.kept_machine.specs.Hosts.{HostKeeps}
+use Rattle.kept_moves.specs.Hosts.{HostKeeps}
 
 still_living : {M : Type 0} (slot slot' : Option (Member M)) (living : Option (Living M)) → SlotIsSame slot slot' → IsLiving slot living → IsLiving slot' living
 still_living None slot' living same is = subst (λ s. IsLiving s living) (sym same) is

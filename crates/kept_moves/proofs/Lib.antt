@@ -1,0 +1,2 @@
+pub mod MovesKept
+pub mod Compactions

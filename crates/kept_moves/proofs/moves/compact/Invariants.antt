@@ -1,0 +1,23 @@
+use Rattle.std.proofs.Common.{◌≡◌, ℕ, ℤ, ◌+◌, Option}
+use Rattle.relocate.specs.Packing.{unpacked_count}
+use Rattle.space_blocks.specs.Moves.{spots_of}
+use Rattle.host_spaces.specs.Picture.{blocks_in, picture_of}
+use Rattle.instance_table.specs.Table.{TablesOk, ArePoisoned}
+use Rattle.placed_instances.specs.Standing.{AreStanding}
+use Rattle.sound_machine.specs.State.{State}
+use Rattle.kept_moves.specs.Hosts.{HostKeeps}
+use Rattle.kept_moves.proofs.Compactions.{IsAmid}
+use Rattle.kept_moves.proofs.moves.compact.Given as goal
+
+abbrev pub invariant-loop-space : goal.invariant-loop-space
+invariant-loop-space g l = record {
+  ok : TablesOk l.slots.items l.once.items l.groups.items;
+  standing : AreStanding l.slots.items l.once.items l.groups.items l.spaces;
+  poisoned : (w : Option ℤ) → ArePoisoned w l.fn.groups.items → ArePoisoned w l.groups.items;
+  counted : l.moved + unpacked_count (spots_of (blocks_in (picture_of l.spaces) l.space)) ≡ unpacked_count (spots_of (blocks_in (picture_of l.fn.spaces) l.space));
+  amid : (before : State _) → HostKeeps g.M.Ialg.meaning g.M.Ialg.idle_keeps g.M.Ialg.active_keeps l.fn.slots.items l.fn.once.items l.fn.groups.items l.fn.spaces before
+      → IsAmid g.M.Ialg.meaning g.M.Ialg.idle_keeps g.M.Ialg.active_keeps l.space l.slots.items l.once.items l.groups.items l.spaces l.moved before;
+}
+
+abbrev pub decreases-loop-space : goal.decreases-loop-space
+decreases-loop-space g l = unpacked_count (spots_of (blocks_in (picture_of l.spaces) l.space))
