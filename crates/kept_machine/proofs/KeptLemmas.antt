@@ -14,7 +14,7 @@ use Rattle.lifecycle.specs.States.{Relation, IsLawful, all_outputs, status_after
 use Rattle.instance_table.specs.declared.member.Member.{Member}
 use Rattle.instance_table.specs.Table.{Activity, slot_at, once_at, group_at, group_of, instance_of, activity_at, touched, touched_by, rested, with_activity}
 use Rattle.instance_table.specs.Keeps.{Keeps, SlotKeeps, with_history}
-use Rattle.instance_table.specs.Frames.{SameSlot, SameTables}
+use Rattle.instance_table.specs.Frames.{SameSlot, SameTables, IsSameMember, SameMembers}
 use Rattle.sound_machine.specs.State.{Living, State, with_living}
 use Rattle.sound_machine.specs.Choices.{MayGive, MayAnswer}
 use Rattle.sound_machine.specs.Steps.{Outcome, touching, processed, release}
@@ -48,6 +48,16 @@ module _ {M : Type 0} where
     kind = same.1.kind ∙ is.kind;
     params = ap (λ p. p.items) same.1.params ∙ is.params;
     group = same.0 ∙ is.group;
+  }
+
+  same_member : (slot slot' : Option (Member M)) (living : Option (Living M)) → IsSameMember slot slot' → IsLiving slot living → IsLiving slot' living
+  same_member None slot' living same is = subst (λ s. IsLiving s living) (sym same) is
+  same_member (Some m) None living same is = absurd same
+  same_member (Some m) (Some n) None same is = is
+  same_member (Some m) (Some n) (Some x) same is = record {
+    kind = same.kind ∙ is.kind;
+    params = ap (λ p. p.items) same.params ∙ is.params;
+    group = same.group ∙ is.group;
   }
 
   aged : (slot : Option (Member M)) (x : Living M) (h : History) → IsLiving slot (Some x) → IsLiving slot (Some (record x { history = h }))
@@ -291,3 +301,14 @@ module _ {M : Type 0} (meaning : Meaning M) (idle_keeps active_keeps : Relation 
         subst (λ s. TablesKeep meaning idle_keeps active_keeps s once' groups' before) (sym e)
         (subst (λ o. TablesKeep meaning idle_keeps active_keeps slots o groups' before) (sym f)
         (subst (λ y. TablesKeep meaning idle_keeps active_keeps slots once y before) (sym h) kept))
+
+    -- the members were told of a move
+    pub told_kept : SameMembers slots once groups slots' once' groups' → ((k : ℕ) → activity_at groups' k ≡ activity_at groups k)
+        → ((w : Option ℤ) (histories : ℕ → History) → Keeps meaning idle_keeps active_keeps w slots once groups histories
+        → Keeps meaning idle_keeps active_keeps w slots' once' groups' histories)
+        → TablesKeep meaning idle_keeps active_keeps slots once groups before → Kept before
+    told_kept same activity keeps kept = record {
+      living = λ j. same_member (slot_at slots j) (slot_at slots' j) (before.living j) (same.slot j) (kept.living j);
+      activity = λ k. activity k ∙ kept.activity k;
+      histories = keeps before.poison (λ j. history_of (before.living j)) kept.histories;
+    }

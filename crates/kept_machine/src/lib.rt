@@ -5,5 +5,7 @@
 #![tactic(auto)]
 
 mod calls;
+mod moves;
 
 pub use calls::{give_block, give_control, put_to_rest};
+pub use moves::tell;
