@@ -6,11 +6,13 @@
 mod creation;
 mod deletion;
 mod granted;
+mod laws;
 mod pieces;
 mod placing;
 mod spaces;
 mod wants;
 
+pub use laws::creations;
 pub use pieces::{NewBlocks, OldBlocks, Placement};
 pub use spaces::{Sizes, Spaces, StartError};
 pub use wants::Wanted;
