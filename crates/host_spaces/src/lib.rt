@@ -10,6 +10,8 @@ mod laws;
 mod pieces;
 mod placing;
 mod spaces;
+#[cfg(test)]
+mod tests;
 mod wants;
 
 pub use laws::creations;

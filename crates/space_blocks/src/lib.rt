@@ -7,6 +7,8 @@
 mod blocks;
 mod laws;
 mod placed;
+#[cfg(test)]
+mod tests;
 
 use mem_rec::TABLE_RECORDS;
 
