@@ -94,9 +94,10 @@ not_owned o b bs none = when_not (same_owner o b.owner) (λ is. let n = ap lengt
 
 four_agree : (i : ℕ) (bs : List Placed) → ((k : ℕ) → owned (Record i (suc (suc (suc (suc k))))) bs ≡ []) → Agree (four_stay i) (λ b. not (is_instance's i b.owner)) bs
 four_agree i [] none = tt
-four_agree i (b ∷ bs) none =
-    (four_test i b.owner (λ k. not_owned (Record i (suc (suc (suc (suc k))))) b bs (none k)),
-    four_agree i bs (λ k. let o = Record i (suc (suc (suc (suc k)))) in sym (dropped (λ c. same_owner o c.owner) b bs (not_owned o b bs (none k))) ∙ none k))
+four_agree i (b ∷ bs) none = (
+  four_test i b.owner (λ k. not_owned (Record i (suc (suc (suc (suc k))))) b bs (none k)),
+  four_agree i bs (λ k. let o = Record i (suc (suc (suc (suc k)))) in sym (dropped (λ c. same_owner o c.owner) b bs (not_owned o b bs (none k))) ∙ none k),
+)
 
 pub instance_gone : (i : ℕ) (bs : List Placed) → ((k : ℕ) → owned (Record i (suc (suc (suc (suc k))))) bs ≡ [])
     → disowned (Record i 3) (disowned (Record i 2) (disowned (Record i 1) (disowned (Record i 0) bs))) ≡ blocks_without (is_instance's i) bs

@@ -10,10 +10,9 @@ mod placed;
 #[cfg(test)]
 mod tests;
 
-use mem_rec::TABLE_RECORDS;
-
 pub use blocks::{Map, SpaceBlocks};
 pub use laws::{blocks_are_apart, blocks_are_few};
+use mem_rec::TABLE_RECORDS;
 pub use placed::{Owner, Placed};
 
 /// Instances have the numbers below this.

@@ -22,8 +22,14 @@ fn place_alone(space: &mut SpaceBlocks, owner: Owner, words: u32, align: u32) ->
 #[test]
 fn a_block_is_placed_and_taken_out(rt: HostRuntime) {
     let mut space = SpaceBlocks::new(rt.alloc(), 64).expect(&rt, "memory");
-    assert_eq!(rt; place_alone(&mut space, Owner::Record(3, 1), 5, 4), Some((0, 8)));
-    assert_eq!(rt; place_alone(&mut space, Owner::Scratch(7), 64, 1_024), Some((0, 64)));
+    assert_eq!(rt;
+        place_alone(&mut space, Owner::Record(3, 1), 5, 4),
+        Some((0, 8))
+    );
+    assert_eq!(rt;
+        place_alone(&mut space, Owner::Scratch(7), 64, 1_024),
+        Some((0, 64))
+    );
     assert_eq!(rt; place_alone(&mut space, Owner::Scratch(7), 65, 4), None);
     assert!(rt; space.map().is_empty());
     assert!(rt; space.next_move().is_none());
