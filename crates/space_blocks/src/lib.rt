@@ -11,7 +11,7 @@ mod placed;
 mod tests;
 
 pub use blocks::{Map, SpaceBlocks};
-pub use laws::{blocks_are_apart, blocks_are_few};
+pub use laws::{blocks_are_apart, blocks_are_few, moves_pack};
 use mem_rec::TABLE_RECORDS;
 pub use placed::{Owner, Placed};
 

@@ -3,7 +3,7 @@ ghost use Rattle.std.specs.Prelude.{◌≡◌, ◌<◌, ◌≤◌, []};
 ghost use Rattle.space_heap.specs.declared.limits.TheConstants.{GREATEST_NEED};
 ghost use Rattle.space_heap.specs.Pictures.{IsAlignment};
 
-use crate::{Owner, SpaceBlocks, blocks_are_apart, blocks_are_few};
+use crate::{Owner, SpaceBlocks, blocks_are_apart, blocks_are_few, moves_pack};
 use space_heap::HeapError;
 
 // Where a block of a space without blocks is placed, and how many words it has. It is taken out again.
@@ -54,4 +54,5 @@ fn a_bad_size_is_refused(rt: HostRuntime) {
 fn laws_are_stated(_rt: HostRuntime) {
     blocks_are_few();
     blocks_are_apart();
+    moves_pack();
 }
