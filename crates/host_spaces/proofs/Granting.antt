@@ -82,11 +82,11 @@ module _ (old new : Spaces) (word : Option ℤ) (i g : ℕ) (table : List MemRec
 
 -- ---- the blocks of the instance and of its group
 
-block_if : (t : Bool) (i k : ℕ) (r : MemRec) (space : Space) → (if t then block_of_piece (Record i k) r.align None else []) ≡ []
+pub block_if : (t : Bool) (i k : ℕ) (r : MemRec) (space : Space) → (if t then block_of_piece (Record i k) r.align None else []) ≡ []
 block_if true i k r space = refl
 block_if false i k r space = refl
 
-itself_space : (a : Space) → same_space a a ≡ true
+pub itself_space : (a : Space) → same_space a a ≡ true
 itself_space Daram = refl
 itself_space Saram = refl
 itself_space External = refl
@@ -94,7 +94,7 @@ itself_space External = refl
 same_is : (a b : Space) → a ≡ b → same_space a b ≡ true
 same_is a b e = subst (λ (x : Space). same_space a x ≡ true) e (itself_space a)
 
-other_is : (a b : Space) → b ≢ a → same_space a b ≡ false
+pub other_is : (a b : Space) → b ≢ a → same_space a b ≡ false
 other_is Daram Daram apart = absurd (apart refl)
 other_is Daram Saram apart = refl
 other_is Daram External apart = refl

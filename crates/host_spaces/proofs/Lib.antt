@@ -5,3 +5,4 @@ pub mod Needs
 pub mod Limits
 pub mod Steps
 pub mod Granting
+pub mod Leaving

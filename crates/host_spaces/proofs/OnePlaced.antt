@@ -136,9 +136,11 @@ among b (c ∷ cs) = elim (cases_lt c.place b.place) [
 ]
 
 pub its_owner : (old mid new : Spaces) (w : Wanted) (p : Span) → IsOne old mid w p → new ≡ mid → (o : Owner) × Owns (space_in new w.space).blocks o p
-its_owner old mid new w p m same =
-    (w.owner, subst (λ (s : Spaces). Owns (space_in s w.space).blocks w.owner p) (sym same)
-    (w.align, subst (λ xs. Contains xs (block_of w.owner w.align p)) (sym m.its) (among (block_of w.owner w.align p) (owned w.owner (space_in old w.space).blocks))))
+its_owner old mid new w p m same = (
+  w.owner,
+  subst (λ (s : Spaces). Owns (space_in s w.space).blocks w.owner p) (sym same)
+      (w.align, subst (λ xs. Contains xs (block_of w.owner w.align p)) (sym m.its) (among (block_of w.owner w.align p) (owned w.owner (space_in old w.space).blocks))),
+)
 
 pub taken_back : (old mid new last : Spaces) (w : Wanted) (p : Span) → IsOne old mid w p → new ≡ mid
     → (space_in last w.space).blocks ≡ without_at p.place (space_in new w.space).blocks → ((other : Space) → other ≢ w.space → space_in last other ≡ space_in new other)

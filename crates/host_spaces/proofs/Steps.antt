@@ -184,15 +184,15 @@ scratch_is picture g table group has space =
     let b = block_in group space in let need = scratch_need table space in let align = scratch_align table space in
     ap (λ bs. group_wanted (first_block bs) g table space) (has space)
     ∙ with_need (need == 0) (serves b need align) g space (block_wanted (first_block (block_of_piece (Scratch g) (block_align b) (block_piece b))) g space need align)
-        (Some (record { size = max (length (block_words b)) need; align = max (block_align b) align })) (wanted_here b g space need align)
+    (Some (record { size = max (length (block_words b)) need; align = max (block_align b) align })) (wanted_here b g space need align)
 
 pub wants_is : (picture : Picture) (i g : ℕ) (table : List MemRec) (group : Group) → HasBlocks picture g group → IsTrue (is_table table)
     → wanted_by picture i g table ≡ somes (drop 0 (wants_of i g table group))
 wants_is picture i g table group has t =
     let few = (within_limits table t).few in
     let rest : filter_map (scratch_wanted picture g table) all_spaces
-        ≡ cons_option (need_wanted g Daram (block_need table group Daram)) (cons_option (need_wanted g Saram (block_need table group Saram)) (cons_option (need_wanted g External (block_need table group External)) [])) =
-        ap (λ o. cons_option o (cons_option (scratch_wanted picture g table Saram) (cons_option (scratch_wanted picture g table External) []))) (scratch_is picture g table group has Daram)
-        ∙ ap (λ o. cons_option (need_wanted g Daram (block_need table group Daram)) (cons_option o (cons_option (scratch_wanted picture g table External) []))) (scratch_is picture g table group has Saram)
-        ∙ ap (λ o. cons_option (need_wanted g Daram (block_need table group Daram)) (cons_option (need_wanted g Saram (block_need table group Saram)) (cons_option o []))) (scratch_is picture g table group has External) in
+    ≡ cons_option (need_wanted g Daram (block_need table group Daram)) (cons_option (need_wanted g Saram (block_need table group Saram)) (cons_option (need_wanted g External (block_need table group External)) [])) =
+    ap (λ o. cons_option o (cons_option (scratch_wanted picture g table Saram) (cons_option (scratch_wanted picture g table External) []))) (scratch_is picture g table group has Daram)
+    ∙ ap (λ o. cons_option (need_wanted g Daram (block_need table group Daram)) (cons_option o (cons_option (scratch_wanted picture g table External) []))) (scratch_is picture g table group has Saram)
+    ∙ ap (λ o. cons_option (need_wanted g Daram (block_need table group Daram)) (cons_option (need_wanted g Saram (block_need table group Saram)) (cons_option o []))) (scratch_is picture g table group has External) in
     ap (λ ws. own_wanted i 0 table ++ ws) rest ∙ sym (own_wants i table _ few)

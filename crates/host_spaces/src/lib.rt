@@ -4,12 +4,17 @@
 #![tactic(auto)]
 
 mod creation;
+mod deletion;
 mod granted;
+mod laws;
 mod pieces;
 mod placing;
 mod spaces;
+#[cfg(test)]
+mod tests;
 mod wants;
 
+pub use laws::creations;
 pub use pieces::{NewBlocks, OldBlocks, Placement};
 pub use spaces::{Sizes, Spaces, StartError};
 pub use wants::Wanted;

@@ -41,9 +41,10 @@ AllOwners (b ∷ bs) = IsOwner b.owner × AllOwners bs
 
 all_owners : (bs : List Placed) → ((b : Placed) → Contains bs b → IsOwner b.owner) → AllOwners bs
 all_owners [] each = tt
-all_owners (b ∷ bs) each =
-    (each b (zero, (let n : zero < suc (length bs) = omega arith in n), refl),
-    all_owners bs (λ c it. let inside = it.1 in each c (suc it.0, (let n : suc it.0 < suc (length bs) = omega arith in n), it.2)))
+all_owners (b ∷ bs) each = (
+  each b (zero, (let n : zero < suc (length bs) = omega arith in n), refl),
+  all_owners bs (λ c it. let inside = it.1 in each c (suc it.0, (let n : suc it.0 < suc (length bs) = omega arith in n), it.2)),
+)
 
 -- no number of the list is this one
 abbrev Misses : ℕ → List ℕ → Type 0
@@ -53,9 +54,10 @@ none_numbered : (o : Owner) (bs : List Placed) → IsOwner o → AllOwners bs �
 none_numbered o [] is all none = tt
 none_numbered o (b ∷ bs) is all none = elim (true_or_false (same_owner o b.owner)) [
   | inl same ↦ let n = ap length (kept (λ c. same_owner o c.owner) b bs same) in absurd (omega arith)
-  | inr out ↦ let n = ap length (dropped (λ c. same_owner o c.owner) b bs out) in
-      (is_other (number o) (number b.owner) (λ e. clash (same_owner o b.owner) (ap (same_owner o) (sym (one_number o b.owner is all.0 e)) ∙ itself o) out),
-      none_numbered o bs is all.1 (omega arith))
+  | inr out ↦ let n = ap length (dropped (λ c. same_owner o c.owner) b bs out) in (
+    is_other (number o) (number b.owner) (λ e. clash (same_owner o b.owner) (ap (same_owner o) (sym (one_number o b.owner is all.0 e)) ∙ itself o) out),
+    none_numbered o bs is all.1 (omega arith),
+  )
 ]
 
 none_left : (o : Owner) (b : Placed) (bs : List Placed) → length (owned o (b ∷ bs)) ≤ 1 → length (owned o bs) ≤ 1

@@ -5,3 +5,4 @@ pub mod Keeping
 pub mod Moving
 pub mod MadeMoves
 pub mod Counting
+pub mod Packings

@@ -28,7 +28,7 @@ ranges_spots : (bs : List Placed) → ranges_of (spots_of bs) ≡ ranges bs
 ranges_spots [] = refl
 ranges_spots (b ∷ bs) = ap (λ rs. block_range b ∷ rs) (ranges_spots bs)
 
-spots_moved : (bs : List Placed) (k to : ℕ) → spots_of (moved_to bs k to) ≡ spot_moved (spots_of bs) k to
+pub spots_moved : (bs : List Placed) (k to : ℕ) → spots_of (moved_to bs k to) ≡ spot_moved (spots_of bs) k to
 spots_moved [] k to = refl
 spots_moved (b ∷ bs) zero to = refl
 spots_moved (b ∷ bs) (suc k) to = ap (λ ss. spot_of b ∷ ss) (spots_moved bs k to)

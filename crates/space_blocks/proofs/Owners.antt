@@ -177,3 +177,17 @@ module _ (from : ℕ) (bs : List Placed) (are : AreSortedFrom from bs) (owner o 
       let w = stands bs owner s it in
       ap (λ n. owned o (moved_to bs n to)) where_it_is
       ∙ moved_unseen o bs w.index to (block_of owner w.align s) w.inside not_its
+
+-- ---- without an owner's blocks
+
+-- an owner without blocks
+pub disowned_none : (owner : Owner) (bs : List Placed) → owned owner bs ≡ [] → disowned owner bs ≡ bs
+disowned_none owner bs none = none_passes (λ c. same_owner owner c.owner) bs (let n = ap length none in omega arith)
+
+pub owned_beside : (o q : Owner) (bs : List Placed) → o ≢ q → owned o (disowned q bs) ≡ owned o bs
+owned_beside o q [] apart = refl
+owned_beside o q (b ∷ bs) apart = elim (true_or_false (same_owner q b.owner)) [
+  | inl is ↦ ap (owned o) (dropped (λ c. not (same_owner q c.owner)) b bs (ap not is)) ∙ owned_beside o q bs apart
+      ∙ sym (dropped (λ c. same_owner o c.owner) b bs (ap (same_owner o) (sym (one_owner q b.owner is)) ∙ not_same o q apart))
+  | inr out ↦ ap (owned o) (kept (λ c. not (same_owner q c.owner)) b bs (ap not out)) ∙ ap (λ xs. cond (same_owner o b.owner) (b ∷ xs) xs) (owned_beside o q bs apart)
+]

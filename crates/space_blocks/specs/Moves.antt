@@ -1,5 +1,5 @@
 -- The next move of a space's blocks.
-use Rattle.std.specs.Prelude.{ℕ, zero, suc, List, [], ◌∷◌, map, Option, Some, None}
+use Rattle.std.specs.Prelude.{◌≡◌, ℕ, zero, suc, List, [], ◌∷◌, map, Option, Some, None}
 use Rattle.relocate.specs.declared.packing.Spot.{Spot}
 use Rattle.relocate.specs.declared.packing.Move.{Move}
 use Rattle.relocate.specs.Packing.{next_move_of, packed_places}
@@ -52,3 +52,8 @@ at_places _ _ = []
 -- the blocks once next moves were made until there was none
 abbrev pub packed : List Placed → List Placed
 packed blocks = at_places blocks (packed_places (spots_of blocks))
+
+-- after so many next moves there is none, and these are the blocks then
+abbrev pub IsPacking : List Placed → ℕ → List Placed → Type 0
+IsPacking blocks zero after = (next_in blocks ≡ None) × (after ≡ blocks)
+IsPacking blocks (suc n) after = (m : Move) × (next_in blocks ≡ Some m) × IsPacking (moved_to blocks m.index m.to) n after

@@ -7,7 +7,9 @@ ghost use Rattle.space_blocks.specs.declared.TheConstants.{INSTANCES, MAP_BLOCKS
 ghost use Rattle.space_blocks.specs.declared.placed.Owner.{Owner};
 ghost use Rattle.space_blocks.specs.declared.placed.Owner.TheVariants.{Record};
 ghost use Rattle.space_blocks.specs.declared.placed.Placed.{Placed};
+ghost use Rattle.relocate.specs.Packing.{unpacked_count};
 ghost use Rattle.space_blocks.specs.Blocks.{AreSingle, Owns, owned, ranges};
+ghost use Rattle.space_blocks.specs.Moves.{IsPacking, packed, spots_of};
 
 /// The law that where no owner has two blocks of a space a map has room for all of them; and for the records of one more instance, where
 /// an instance number has none. The call does nothing: its contract is the law.
@@ -21,4 +23,9 @@ pub fn blocks_are_few()
 pub fn blocks_are_apart()
     ensures { (words : ℕ) (blocks : List Placed) (o q : Owner) (s t : Span) → AreBlocks words (ranges blocks)
         → Owns blocks o s → Owns blocks q t → o ≢ q → Apart s t }
+{}
+
+/// The law that next moves come to the packed blocks, one move for each block that isn't at its packed place. The call does nothing.
+pub fn moves_pack()
+    ensures { (blocks : List Placed) (n : ℕ) (after : List Placed) → IsPacking blocks n after → (after ≡ packed blocks) × (n ≡ unpacked_count (spots_of blocks)) }
 {}

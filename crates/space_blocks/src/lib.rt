@@ -7,11 +7,12 @@
 mod blocks;
 mod laws;
 mod placed;
-
-use mem_rec::TABLE_RECORDS;
+#[cfg(test)]
+mod tests;
 
 pub use blocks::{Map, SpaceBlocks};
-pub use laws::{blocks_are_apart, blocks_are_few};
+pub use laws::{blocks_are_apart, blocks_are_few, moves_pack};
+use mem_rec::TABLE_RECORDS;
 pub use placed::{Owner, Placed};
 
 /// Instances have the numbers below this.

@@ -26,7 +26,14 @@ place_from-requires-2 g c =
     let old = c.args.spaces.now in let mid = c.place_filled.new.spaces in let wants = c.args.wants.now in let k = c.args.k in let w = c.in-Some.want in
     let p = c.in-Some-place_filled.piece in let told = c.in-Some-place_filled.ensures in
     let one : IsOne old mid w p = record {
-      place = told.place; piece = told.piece; blocks = told.blocks; its = told.owned; others = told.others; elsewhere = told.elsewhere; back = told.back; stays = told.stays;
+      place = told.place;
+      piece = told.piece;
+      blocks = told.blocks;
+      its = told.owned;
+      others = told.others;
+      elsewhere = told.elsewhere;
+      back = told.back;
+      stays = told.stays;
     } in
     let is = at_none wants k _ (Some w) c.if-k-wants.false c.in-Some.is in
     let fits : (space : Space) → length (space_in mid space).blocks + count_in space (drop (k + 1) wants) ≤ SPACE_BLOCKS =
@@ -38,7 +45,14 @@ pub take_out-requires-clause-owner : goal.take_out-requires-clause-owner
 take_out-requires-clause-owner g c =
     let told = c.in-Some-place_filled.ensures in
     let one : IsOne c.args.spaces.now c.place_filled.new.spaces c.in-Some.want c.in-Some-place_filled.piece = record {
-      place = told.place; piece = told.piece; blocks = told.blocks; its = told.owned; others = told.others; elsewhere = told.elsewhere; back = told.back; stays = told.stays;
+      place = told.place;
+      piece = told.piece;
+      blocks = told.blocks;
+      its = told.owned;
+      others = told.others;
+      elsewhere = told.elsewhere;
+      back = told.back;
+      stays = told.stays;
     } in
     its_owner c.args.spaces.now c.place_filled.new.spaces c.place_from-2.new.spaces c.in-Some.want c.in-Some-place_filled.piece one c.in-Err.ensures.refused
 
@@ -47,7 +61,14 @@ returns-in-Ok-clause-exact g c =
     let old = c.args.spaces.now in let mid = c.place_filled.new.spaces in let wants = c.args.wants.now in let k = c.args.k in let w = c.in-Some.want in
     let p = c.in-Some-place_filled.piece in let told = c.in-Some-place_filled.ensures in
     let one : IsOne old mid w p = record {
-      place = told.place; piece = told.piece; blocks = told.blocks; its = told.owned; others = told.others; elsewhere = told.elsewhere; back = told.back; stays = told.stays;
+      place = told.place;
+      piece = told.piece;
+      blocks = told.blocks;
+      its = told.owned;
+      others = told.others;
+      elsewhere = told.elsewhere;
+      back = told.back;
+      stays = told.stays;
     } in
     let is = at_none wants k _ (Some w) c.if-k-wants.false c.in-Some.is in
     ap (all_placed (sizes_of old) (picture_of old)) (after_some wants k w c.if-k-wants.false is)
@@ -60,7 +81,14 @@ returns-in-Ok-clause-granted g c =
     let old = c.args.spaces.now in let mid = c.place_filled.new.spaces in let new = c.place_from-2.new.spaces in let wants = c.args.wants.now in let k = c.args.k in let w = c.in-Some.want in
     let p = c.in-Some-place_filled.piece in let told = c.in-Some-place_filled.ensures in let made = c.in-Ok.granted in let word : Option ℤ = c.args.poison in
     let one : IsOne old mid w p = record {
-      place = told.place; piece = told.piece; blocks = told.blocks; its = told.owned; others = told.others; elsewhere = told.elsewhere; back = told.back; stays = told.stays;
+      place = told.place;
+      piece = told.piece;
+      blocks = told.blocks;
+      its = told.owned;
+      others = told.others;
+      elsewhere = told.elsewhere;
+      back = told.back;
+      stays = told.stays;
     } in
     let is = at_none wants k _ (Some w) c.if-k-wants.false c.in-Some.is in
     subst (λ (x : Granted). IsGranted old new word k wants x) (sym c.put.ensures)
@@ -72,7 +100,14 @@ returns-in-Err-clause-exact g c =
     let old = c.args.spaces.now in let mid = c.place_filled.new.spaces in let wants = c.args.wants.now in let k = c.args.k in let w = c.in-Some.want in
     let p = c.in-Some-place_filled.piece in let told = c.in-Some-place_filled.ensures in
     let one : IsOne old mid w p = record {
-      place = told.place; piece = told.piece; blocks = told.blocks; its = told.owned; others = told.others; elsewhere = told.elsewhere; back = told.back; stays = told.stays;
+      place = told.place;
+      piece = told.piece;
+      blocks = told.blocks;
+      its = told.owned;
+      others = told.others;
+      elsewhere = told.elsewhere;
+      back = told.back;
+      stays = told.stays;
     } in
     let is = at_none wants k _ (Some w) c.if-k-wants.false c.in-Some.is in
     ap (all_placed (sizes_of old) (picture_of old)) (after_some wants k w c.if-k-wants.false is)
@@ -84,7 +119,14 @@ pub returns-in-Err-clause-refused : goal.returns-in-Err-clause-refused
 returns-in-Err-clause-refused g c =
     let told = c.in-Some-place_filled.ensures in
     let one : IsOne c.args.spaces.now c.place_filled.new.spaces c.in-Some.want c.in-Some-place_filled.piece = record {
-      place = told.place; piece = told.piece; blocks = told.blocks; its = told.owned; others = told.others; elsewhere = told.elsewhere; back = told.back; stays = told.stays;
+      place = told.place;
+      piece = told.piece;
+      blocks = told.blocks;
+      its = told.owned;
+      others = told.others;
+      elsewhere = told.elsewhere;
+      back = told.back;
+      stays = told.stays;
     } in
     taken_back c.args.spaces.now c.place_filled.new.spaces c.place_from-2.new.spaces c.take_out.new.self c.in-Some.want c.in-Some-place_filled.piece one c.in-Err.ensures.refused
     c.take_out.ensures.blocks c.take_out.ensures.elsewhere c.take_out.ensures.stays

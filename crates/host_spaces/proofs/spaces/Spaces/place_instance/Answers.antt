@@ -70,7 +70,7 @@ returns-clause-needed c =
 pub returns-clause-blocks : goal.returns-clause-blocks
 returns-clause-blocks c =
     λ space. subst (λ (m : Placement). owned (Scratch c.args.g) (blocks_in (picture_of c.place_from.new.spaces) space)
-        ≡ with_new c.args.g (new_block m.blocks space) (owned (Scratch c.args.g) (blocks_in (picture_of c.args.self.now) space))) (made c)
+    ≡ with_new c.args.g (new_block m.blocks space) (owned (Scratch c.args.g) (blocks_in (picture_of c.args.self.now) space))) (made c)
     (blocks_made c.args.self.now c.place_from.new.spaces c.args.poison c.args.i c.args.g c.args.table.now c.args.old.now c.in-Ok.granted (granted c) (none c) space)
 
 pub returns-clause-others : goal.returns-clause-others

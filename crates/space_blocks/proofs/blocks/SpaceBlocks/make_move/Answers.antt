@@ -70,7 +70,7 @@ returns-clause-blocks c =
     let told = c.lower-moved.ensures in
     items c
     ∙ is_moved c.self.inside.heap c.self.inside.blocks.items c.self.invariant c.args.piece (next c) c.position-index.result (inside c) (there c)
-        c.align_of-align.result (align c) c.lower-moved.new.self c.lower-moved.result told.words.0 told.stays told.place told.taken told.slid
+    c.align_of-align.result (align c) c.lower-moved.new.self c.lower-moved.result told.words.0 told.stays told.place told.taken told.slid
     ∙ ap (λ (v : SpaceState). moved v.blocks) c.self.view_is
 
 pub returns-clause-place : goal.returns-clause-place
@@ -78,7 +78,7 @@ returns-clause-place c =
     let told = c.lower-moved.ensures in
     sym (ap (λ (v : SpaceState). option_map (λ (x : Move). x.to) (next_in v.blocks)) c.self.view_is)
     ∙ its_place c.self.inside.heap c.self.inside.blocks.items c.self.invariant c.args.piece (next c) c.position-index.result (inside c) (there c)
-        c.align_of-align.result (align c) c.lower-moved.new.self c.lower-moved.result told.words.0 told.stays told.place told.taken told.slid
+    c.align_of-align.result (align c) c.lower-moved.new.self c.lower-moved.result told.words.0 told.stays told.place told.taken told.slid
 
 pub returns-clause-owned : goal.returns-clause-owned
 returns-clause-owned c =
@@ -86,8 +86,8 @@ returns-clause-owned c =
     λ owner e one.
     ap (λ xs. owned owner xs) (items c)
     ∙ its_owner c.self.inside.heap c.self.inside.blocks.items c.self.invariant c.args.piece (next c) c.position-index.result (inside c) (there c)
-        c.align_of-align.result (align c) c.lower-moved.new.self c.lower-moved.result told.words.0 told.stays told.place told.taken told.slid owner e
-        (ap (λ (v : SpaceState). owned owner v.blocks) c.self.view_is ∙ one)
+    c.align_of-align.result (align c) c.lower-moved.new.self c.lower-moved.result told.words.0 told.stays told.place told.taken told.slid owner e
+    (ap (λ (v : SpaceState). owned owner v.blocks) c.self.view_is ∙ one)
 
 pub returns-clause-others : goal.returns-clause-others
 returns-clause-others c =
@@ -95,13 +95,13 @@ returns-clause-others c =
     λ owner o it apart.
     ap (λ xs. owned o xs) (items c)
     ∙ other_owners c.self.inside.heap c.self.inside.blocks.items c.self.invariant c.args.piece (next c) c.position-index.result (inside c) (there c)
-        c.align_of-align.result (align c) c.lower-moved.new.self c.lower-moved.result told.words.0 told.stays told.place told.taken told.slid owner o
-        (subst (λ (v : SpaceState). Owns v.blocks owner c.args.piece) (sym c.self.view_is) it) apart
+    c.align_of-align.result (align c) c.lower-moved.new.self c.lower-moved.result told.words.0 told.stays told.place told.taken told.slid owner o
+    (subst (λ (v : SpaceState). Owns v.blocks owner c.args.piece) (sym c.self.view_is) it) apart
     ∙ ap (λ (v : SpaceState). owned o v.blocks) c.self.view_is
 
 pub returns-clause-slid : goal.returns-clause-slid
 returns-clause-slid c =
     let told = c.lower-moved.ensures in
     counted c.self.inside.heap c.self.inside.blocks.items c.self.invariant c.args.piece (next c) c.position-index.result (inside c) (there c)
-        c.align_of-align.result (align c) c.lower-moved.new.self c.lower-moved.result told.words.0 told.stays told.place told.taken told.slid
+    c.align_of-align.result (align c) c.lower-moved.new.self c.lower-moved.result told.words.0 told.stays told.place told.taken told.slid
     ∙ ap (λ (v : SpaceState). min (v.slid + length c.args.piece.words) (2 ^ 64 - 1)) c.self.view_is

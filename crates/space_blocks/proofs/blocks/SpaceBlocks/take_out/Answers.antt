@@ -60,7 +60,7 @@ returns-clause-only c =
     λ owner align one.
     c.remove-block.ensures.items
     ∙ removed_only bs owner align c.args.piece c.position-index.result (inside c) (there c) (kept_sorted c.self.inside.heap bs c.self.invariant)
-        (ap (λ (v : SpaceState). owned owner v.blocks) c.self.view_is ∙ one)
+    (ap (λ (v : SpaceState). owned owner v.blocks) c.self.view_is ∙ one)
     ∙ ap (λ (v : SpaceState). disowned owner v.blocks) c.self.view_is
 
 pub returns-clause-others : goal.returns-clause-others

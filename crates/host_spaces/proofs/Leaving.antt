@@ -1,0 +1,271 @@
+-- Blocks that go back, by their owners and by their places.
+use Rattle.std.proofs.lemmas.Bool.{eq-eqb}
+use Rattle.std.proofs.Common.{◌≡◌, ◌≢◌, ℕ, zero, suc, ◌==◌, Bool, true, false, not, ◌&&◌, cond, if◌then◌else◌, List, [], ◌∷◌, filter, length, Option, Some, None, IfSome, IsSome, refl, sym, ap, subst, ◌∙◌, arith, inl, inr}
+use Rattle.std.specs.Prelude.{Result, Ok, Err}
+use Rattle.std.specs.Option.{option_map, option_or}
+use Rattle.mem_rec.specs.declared.MemRec.{MemRec}
+use Rattle.mem_rec.specs.declared.Space.{Space}
+use Rattle.mem_rec.specs.declared.Space.TheVariants.{Daram, Saram, External}
+use Rattle.mem_rec.specs.declared.Attr.{Attr}
+use Rattle.mem_rec.specs.declared.Attr.TheVariants.{Persist, WriteOnce}
+use Rattle.mem_rec.specs.declared.Attr.TheVariants.{Scratch as ScratchRecord}
+use Rattle.mem_rec.specs.Records.{is_persistent, same_space}
+use Rattle.space_raw.specs.Span.{Extent, Span}
+use Rattle.space_heap.specs.Places.{placed_size}
+use Rattle.ialg.specs.Records.{record_at}
+use Rattle.record_loans.specs.declared.pieces.Pieces.{Pieces}
+use Rattle.record_loans.specs.Pieces.{piece_at}
+use Rattle.space_heap.proofs.RangeTests.{clash, true_or_false, when_not}
+use Rattle.space_blocks.specs.declared.placed.Owner.{Owner}
+use Rattle.space_blocks.specs.declared.placed.Owner.TheVariants.{Record, Scratch}
+use Rattle.space_blocks.specs.declared.placed.Placed.{Placed}
+use Rattle.space_blocks.specs.Blocks.{Owns, block_of_piece, disowned, owned, same_owner, without_at, without_piece}
+use Rattle.space_blocks.specs.Spaces.{SpaceState}
+use Rattle.space_blocks.proofs.Orders.{dropped, kept}
+use Rattle.space_blocks.proofs.Owners.{disowned_none, owned_beside, owns_one}
+use Rattle.host_spaces.specs.declared.pieces.OldBlocks.{OldBlocks}
+use Rattle.host_spaces.specs.declared.spaces.Spaces.{Spaces}
+use Rattle.host_spaces.specs.Picture.{Picture, blocks_in, blocks_without, is_group's, is_instance's, picture_of, space_in, without_owners}
+use Rattle.host_spaces.specs.Creation.{replaced_block, result_map, without_block, without_replaced}
+use Rattle.lifecycle.specs.Rooms.{lasting_piece}
+use Rattle.host_spaces.specs.Pieces.{ArePiecesOf, HasRecords, IsPieceOf, is_write_once, old_piece, record_block, without_pieces}
+use Rattle.host_spaces.proofs.Pictures.{by_space, daram_external, daram_saram, pictures_equal, saram_external, seen_blocks}
+use Rattle.host_spaces.proofs.Granting.{block_if, itself_space, other_is}
+
+pub if_some : (o : Option Span) (P Q : Span → Type 0) → ((p : Span) → P p → Q p) → IfSome o P → IfSome o Q
+if_some None P Q f it = tt
+if_some (Some p) P Q f it = f p it
+
+-- ---- tests that agree
+
+abbrev Agree : (Placed → Bool) → (Placed → Bool) → List Placed → Type 0
+Agree p q [] = Unit {0}
+Agree p q (b ∷ bs) = (p b ≡ q b) × Agree p q bs
+
+filter_same : (p q : Placed → Bool) (bs : List Placed) → Agree p q bs → filter p bs ≡ filter q bs
+filter_same p q [] agree = refl
+filter_same p q (b ∷ bs) agree = ap (λ t. cond t (b ∷ filter p bs) (filter p bs)) agree.0 ∙ ap (λ xs. cond (q b) (b ∷ xs) xs) (filter_same p q bs agree.1)
+
+filter_both : (p q : Placed → Bool) (bs : List Placed) → filter p (filter q bs) ≡ filter (λ b. q b && p b) bs
+filter_both p q [] = refl
+filter_both p q (b ∷ bs) = elim (true_or_false (q b)) [
+  | inl is ↦ ap (filter p) (kept q b bs is) ∙ ap (λ xs. cond (p b) (b ∷ xs) xs) (filter_both p q bs)
+      ∙ sym (ap (λ t. cond (t && p b) (b ∷ filter (λ c. q c && p c) bs) (filter (λ c. q c && p c) bs)) is)
+  | inr out ↦ ap (filter p) (dropped q b bs out) ∙ filter_both p q bs
+      ∙ sym (ap (λ t. cond (t && p b) (b ∷ filter (λ c. q c && p c) bs) (filter (λ c. q c && p c) bs)) out)
+]
+
+-- ---- a group
+
+group_test : (g : ℕ) (o : Owner) → not (same_owner (Scratch g) o) ≡ not (is_group's g o)
+group_test g (Record i k) = refl
+group_test g (Scratch h) = refl
+
+group_agree : (g : ℕ) (bs : List Placed) → Agree (λ b. not (same_owner (Scratch g) b.owner)) (λ b. not (is_group's g b.owner)) bs
+group_agree g [] = tt
+group_agree g (b ∷ bs) = (group_test g b.owner, group_agree g bs)
+
+pub group_gone : (g : ℕ) (bs : List Placed) → disowned (Scratch g) bs ≡ blocks_without (is_group's g) bs
+group_gone g bs = filter_same (λ b. not (same_owner (Scratch g) b.owner)) (λ b. not (is_group's g b.owner)) bs (group_agree g bs)
+
+-- ---- an instance of four records at most
+
+abbrev stays : ℕ → ℕ → Placed → Bool
+stays i k b = not (same_owner (Record i k) b.owner)
+
+abbrev four_stay : ℕ → Placed → Bool
+four_stay i b = ((stays i 0 b && stays i 1 b) && stays i 2 b) && stays i 3 b
+
+numbered : (t : Bool) (l : ℕ) → ((k : ℕ) → (t && (suc (suc (suc (suc k))) == l)) ≡ false)
+    → (((not (t && (0 == l)) && not (t && (1 == l))) && not (t && (2 == l))) && not (t && (3 == l))) ≡ not t
+numbered false l none = refl
+numbered true zero none = refl
+numbered true (suc zero) none = refl
+numbered true (suc (suc zero)) none = refl
+numbered true (suc (suc (suc zero))) none = refl
+numbered true (suc (suc (suc (suc l)))) none = clash (suc (suc (suc (suc l))) == suc (suc (suc (suc l)))) (eq-eqb (suc (suc (suc (suc l)))) (suc (suc (suc (suc l)))) refl) (none l)
+
+four_test : (i : ℕ) (o : Owner) → ((k : ℕ) → same_owner (Record i (suc (suc (suc (suc k))))) o ≡ false)
+    → (((not (same_owner (Record i 0) o) && not (same_owner (Record i 1) o)) && not (same_owner (Record i 2) o)) && not (same_owner (Record i 3) o)) ≡ not (is_instance's i o)
+four_test i (Scratch g) none = refl
+four_test i (Record j l) none = numbered (i == j) l none
+
+not_owned : (o : Owner) (b : Placed) (bs : List Placed) → owned o (b ∷ bs) ≡ [] → same_owner o b.owner ≡ false
+not_owned o b bs none = when_not (same_owner o b.owner) (λ is. let n = ap length (sym (kept (λ c. same_owner o c.owner) b bs is) ∙ none) in omega arith)
+
+four_agree : (i : ℕ) (bs : List Placed) → ((k : ℕ) → owned (Record i (suc (suc (suc (suc k))))) bs ≡ []) → Agree (four_stay i) (λ b. not (is_instance's i b.owner)) bs
+four_agree i [] none = tt
+four_agree i (b ∷ bs) none = (
+  four_test i b.owner (λ k. not_owned (Record i (suc (suc (suc (suc k))))) b bs (none k)),
+  four_agree i bs (λ k. let o = Record i (suc (suc (suc (suc k)))) in sym (dropped (λ c. same_owner o c.owner) b bs (not_owned o b bs (none k))) ∙ none k),
+)
+
+pub instance_gone : (i : ℕ) (bs : List Placed) → ((k : ℕ) → owned (Record i (suc (suc (suc (suc k))))) bs ≡ [])
+    → disowned (Record i 3) (disowned (Record i 2) (disowned (Record i 1) (disowned (Record i 0) bs))) ≡ blocks_without (is_instance's i) bs
+instance_gone i bs none =
+    ap (λ xs. disowned (Record i 3) (disowned (Record i 2) xs)) (filter_both (stays i 1) (stays i 0) bs)
+    ∙ ap (disowned (Record i 3)) (filter_both (stays i 2) (λ b. stays i 0 b && stays i 1 b) bs)
+    ∙ filter_both (stays i 3) (λ b. (stays i 0 b && stays i 1 b) && stays i 2 b) bs
+    ∙ filter_same (four_stay i) (λ b. not (is_instance's i b.owner)) bs (four_agree i bs none)
+
+-- ---- a record's piece
+
+one_piece : (home : Extent) (n : ℕ) (a : Attr) (own shared : Option Span) → IsPieceOf home n (is_persistent a) own → IsPieceOf home n (is_write_once a) shared → option_or own shared ≡ lasting_piece a own shared
+one_piece home n ScratchRecord None None is it = refl
+one_piece home n ScratchRecord None (Some q) is it = clash false it.0 refl
+one_piece home n ScratchRecord (Some p) shared is it = clash false is.0 refl
+one_piece home n Persist None shared is it = clash true refl is
+one_piece home n Persist (Some p) shared is it = refl
+one_piece home n WriteOnce None shared is it = refl
+one_piece home n WriteOnce (Some p) shared is it = clash false is.0 refl
+
+no_some : (o : Option Span) → o ≡ None → IsSome o → ⊥
+no_some None e some = let bad : false ≡ true = some in cc
+no_some (Some p) e some = let bad : Some p ≡ None = e in cc
+
+pub not_both : (home : Extent) (n : ℕ) (a : Attr) (own shared : Option Span) → IsPieceOf home n (is_persistent a) own → IsPieceOf home n (is_write_once a) shared → IsSome own → shared ≡ None
+not_both home n a None shared is it some = absurd (no_some None refl some)
+not_both home n a (Some p) None is it some = refl
+not_both home n ScratchRecord (Some p) (Some q) is it some = clash false is.0 refl
+not_both home n Persist (Some p) (Some q) is it some = clash false it.0 refl
+not_both home n WriteOnce (Some p) (Some q) is it some = clash false is.0 refl
+
+home_of : (home : Extent) (n : ℕ) (a : Attr) (own shared : Option Span) → IsPieceOf home n (is_persistent a) own → IsPieceOf home n (is_write_once a) shared → IfSome (option_or own shared) (λ p. p.region ≡ home)
+home_of home n a None None is it = tt
+home_of home n a None (Some q) is it = it.1
+home_of home n a (Some p) shared is it = is.1
+
+-- its block in a space
+abbrev pub placed_in : Owner → Space → ℕ → Option Span → Space → List Placed
+placed_in o sp al q any = if same_space sp any then block_of_piece o al q else []
+
+module _ (old : Spaces) (i : ℕ) (table : List MemRec) (own shared : Pieces) (pieces : ArePiecesOf old table own shared) (records : HasRecords (picture_of old) i table own shared)
+    (k : ℕ) (sp : Space) (there : sp ≡ (record_at table k).space) (q : Option Span) (is : q ≡ option_or (piece_at own k) (piece_at shared k)) where
+  pub its_block : (any : Space) → owned (Record i k) (space_in old any).blocks ≡ placed_in (Record i k) sp (record_at table k).align q any
+  its_block any =
+      let home = (space_in old (record_at table k).space).region in let n = placed_size (record_at table k).size in
+      ap (owned (Record i k)) (sym (seen_blocks old any)) ∙ records k any
+      ∙ ap (record_block i k (record_at table k) any) (sym (is ∙ one_piece home n (record_at table k).attr (piece_at own k) (piece_at shared k) (pieces.persistent k) (pieces.write_once k)))
+      ∙ ap (λ x. placed_in (Record i k) x (record_at table k).align q any) (sym there)
+
+  pub its_home : IfSome q (λ p. p.region ≡ (space_in old sp).region)
+  its_home =
+      subst (λ x. IfSome q (λ p. p.region ≡ (space_in old x).region)) (sym there)
+      (subst (λ x. IfSome x (λ p. p.region ≡ (space_in old (record_at table k).space).region)) (sym is)
+      (home_of (space_in old (record_at table k).space).region (placed_size (record_at table k).size) (record_at table k).attr (piece_at own k) (piece_at shared k) (pieces.persistent k) (pieces.write_once k)))
+
+module _ (o : Owner) (sp : Space) (al : ℕ) (s : Spaces) where
+  owned_here : (q : Option Span) → ((any : Space) → owned o (space_in s any).blocks ≡ placed_in o sp al q any) → owned o (space_in s sp).blocks ≡ block_of_piece o al q
+  owned_here q its = its sp ∙ ap (λ t. if t then block_of_piece o al q else []) (itself_space sp)
+
+  pub owner_there : (q : Option Span) → ((any : Space) → owned o (space_in s any).blocks ≡ placed_in o sp al q any) → IfSome q (λ p. (owner : Owner) × Owns (space_in s sp).blocks owner p)
+  owner_there None its = tt
+  owner_there (Some p) its = (o, owns_one (space_in s sp).blocks o al p (owned_here (Some p) its))
+
+  pub one_gone : (q : Option Span) → ((any : Space) → owned o (space_in s any).blocks ≡ placed_in o sp al q any) → (t : Spaces)
+      → ((owner : Owner) (align : ℕ) → owned owner (space_in s sp).blocks ≡ block_of_piece owner align q → (space_in t sp).blocks ≡ disowned owner (space_in s sp).blocks)
+      → ((other : Space) → other ≢ sp → space_in t other ≡ space_in s other)
+      → (any : Space) → (space_in t any).blocks ≡ disowned o (space_in s any).blocks
+  one_gone q its t only elsewhere any =
+      by_space sp any (λ (x : Space). (space_in t x).blocks ≡ disowned o (space_in s x).blocks)
+      (only o al (owned_here q its))
+      (λ away. ap (λ (x : SpaceState). x.blocks) (elsewhere any away)
+      ∙ sym (disowned_none o (space_in s any).blocks (its any ∙ ap (λ t. if t then block_of_piece o al q else []) (other_is sp any away))))
+
+-- the blocks of another owner are there as before
+pub still_there : (s t : Spaces) (p q : Owner) (what : Space → List Placed) → p ≢ q → ((any : Space) → (space_in t any).blocks ≡ disowned q (space_in s any).blocks)
+    → ((any : Space) → owned p (space_in s any).blocks ≡ what any) → (any : Space) → owned p (space_in t any).blocks ≡ what any
+still_there s t p q what apart gone its any = ap (owned p) (gone any) ∙ owned_beside p q (space_in s any).blocks apart ∙ its any
+
+lasting_none : (a : Attr) → lasting_piece a None None ≡ None
+lasting_none ScratchRecord = refl
+lasting_none Persist = refl
+lasting_none WriteOnce = refl
+
+module _ (old new : Spaces) (i : ℕ) (table : List MemRec) (own shared : Pieces) (records : HasRecords (picture_of old) i table own shared)
+    (gone : (any : Space) → (space_in new any).blocks ≡ disowned (Record i 3) (disowned (Record i 2) (disowned (Record i 1) (disowned (Record i 0) (space_in old any).blocks)))) where
+  none_behind : (k : ℕ) (any : Space) → owned (Record i (suc (suc (suc (suc k))))) (space_in old any).blocks ≡ []
+  none_behind k any =
+      let n = suc (suc (suc (suc k))) in
+      ap (owned (Record i n)) (sym (seen_blocks old any)) ∙ records n any
+      ∙ ap (record_block i n (record_at table n) any) (lasting_none (record_at table n).attr)
+      ∙ block_if (same_space (record_at table n).space any) i n (record_at table n) any
+
+  left_in : (any : Space) → (space_in new any).blocks ≡ blocks_without (is_instance's i) (space_in old any).blocks
+  left_in any = gone any ∙ instance_gone i (space_in old any).blocks (λ k. none_behind k any)
+
+  pub picture_left : picture_of new ≡ without_owners (is_instance's i) (picture_of old)
+  picture_left = pictures_equal (picture_of new) (without_owners (is_instance's i) (picture_of old)) (left_in Daram) (left_in Saram) (left_in External)
+
+  pub others_left : (o : Owner) (space : Space) → ((k : ℕ) → o ≢ Record i k) → owned o (blocks_in (picture_of new) space) ≡ owned o (blocks_in (picture_of old) space)
+  others_left o space apart =
+      let bs = (space_in old space).blocks in
+      ap (owned o) (seen_blocks new space ∙ gone space)
+      ∙ owned_beside o (Record i 3) (disowned (Record i 2) (disowned (Record i 1) (disowned (Record i 0) bs))) (apart 3)
+      ∙ owned_beside o (Record i 2) (disowned (Record i 1) (disowned (Record i 0) bs)) (apart 2)
+      ∙ owned_beside o (Record i 1) (disowned (Record i 0) bs) (apart 1)
+      ∙ owned_beside o (Record i 0) bs (apart 0)
+      ∙ sym (ap (owned o) (seen_blocks old space))
+
+-- ---- a group's blocks
+
+module _ (old first second new : Spaces) (pieces : OldBlocks)
+    (daram : (space_in first Daram).blocks ≡ without_piece pieces.daram (space_in old Daram).blocks) (not_daram : (other : Space) → other ≢ Daram → space_in first other ≡ space_in old other)
+    (saram : (space_in second Saram).blocks ≡ without_piece pieces.saram (space_in first Saram).blocks) (not_saram : (other : Space) → other ≢ Saram → space_in second other ≡ space_in first other)
+    (external : (space_in new External).blocks ≡ without_piece pieces.external (space_in second External).blocks) (not_external : (other : Space) → other ≢ External → space_in new other ≡ space_in second other) where
+  at_daram : (space_in new Daram) ≡ space_in first Daram
+  at_daram = not_external Daram daram_external ∙ not_saram Daram daram_saram
+
+  at_saram : (space_in first Saram) ≡ space_in old Saram
+  at_saram = not_daram Saram (λ e. daram_saram (sym e))
+
+  at_external : (space_in second External) ≡ space_in old External
+  at_external = not_saram External (λ e. saram_external (sym e)) ∙ not_daram External (λ e. daram_external (sym e))
+
+  pub pieces_left : picture_of new ≡ without_pieces (picture_of old) pieces
+  pieces_left =
+      pictures_equal (picture_of new) (without_pieces (picture_of old) pieces)
+      (ap (λ (s : SpaceState). s.blocks) at_daram ∙ daram)
+      (ap (λ (s : SpaceState). s.blocks) (not_external Saram saram_external) ∙ saram ∙ ap (λ (s : SpaceState). without_piece pieces.saram s.blocks) at_saram)
+      (external ∙ ap (λ (s : SpaceState). without_piece pieces.external s.blocks) at_external)
+
+  pub group_left : (g : ℕ) → (space_in first Daram).blocks ≡ disowned (Scratch g) (space_in old Daram).blocks → (space_in second Saram).blocks ≡ disowned (Scratch g) (space_in first Saram).blocks
+      → (space_in new External).blocks ≡ disowned (Scratch g) (space_in second External).blocks → picture_of new ≡ without_owners (is_group's g) (picture_of old)
+  group_left g one two three =
+      pictures_equal (picture_of new) (without_owners (is_group's g) (picture_of old))
+      (ap (λ (s : SpaceState). s.blocks) at_daram ∙ one ∙ group_gone g old.daram.blocks)
+      (ap (λ (s : SpaceState). s.blocks) (not_external Saram saram_external) ∙ two ∙ ap (λ (s : SpaceState). disowned (Scratch g) s.blocks) at_saram ∙ group_gone g old.saram.blocks)
+      (three ∙ ap (λ (s : SpaceState). disowned (Scratch g) s.blocks) at_external ∙ group_gone g old.external.blocks)
+
+  pub group_others : (o : Owner) → owned o (space_in first Daram).blocks ≡ owned o (space_in old Daram).blocks → owned o (space_in second Saram).blocks ≡ owned o (space_in first Saram).blocks
+      → owned o (space_in new External).blocks ≡ owned o (space_in second External).blocks → (space : Space) → owned o (blocks_in (picture_of new) space) ≡ owned o (blocks_in (picture_of old) space)
+  group_others o one two three Daram = ap (λ (s : SpaceState). owned o s.blocks) at_daram ∙ one
+  group_others o one two three Saram = ap (λ (s : SpaceState). owned o s.blocks) (not_external Saram saram_external) ∙ two ∙ ap (λ (s : SpaceState). owned o s.blocks) at_saram
+  group_others o one two three External = three ∙ ap (λ (s : SpaceState). owned o s.blocks) at_external
+
+abbrev number_of : Owner → ℕ
+number_of (Record i k) = k
+number_of (Scratch g) = 0
+
+record_number : (i j k : ℕ) → Record i j ≡ Record i k → j ≡ k
+record_number i j k e = ap number_of e
+
+pub record_apart : (i j k : ℕ) → (j == k) ≡ false → Record i j ≢ Record i k
+record_apart i j k out e = clash (j == k) (eq-eqb j k (record_number i j k e)) out
+
+-- ---- a creation
+
+same_without : (o : Option Span) (b : Option Placed) (bs : List Placed) → option_map (λ (p : Span). p.place) o ≡ option_map (λ (c : Placed). c.place) b → without_block b bs ≡ without_piece o bs
+same_without None None bs e = refl
+same_without None (Some b) bs e = let bad : None ≡ Some b.place = e in cc
+same_without (Some p) None bs e = let bad : Some p.place ≡ None = e in cc
+same_without (Some p) (Some b) bs e = let same : Some p.place ≡ Some b.place = e in let at : b.place ≡ p.place = cc in ap (λ n. without_at n bs) at
+
+pub replaced_are : (picture placed : Picture) (g : ℕ) (table : List MemRec) (pieces : OldBlocks)
+    → ((space : Space) → option_map (λ (p : Span). p.place) (old_piece pieces space) ≡ option_map (λ (b : Placed). b.place) (replaced_block picture g table space))
+    → without_replaced picture g table placed ≡ without_pieces placed pieces
+replaced_are picture placed g table pieces same =
+    pictures_equal (without_replaced picture g table placed) (without_pieces placed pieces)
+    (same_without pieces.daram (replaced_block picture g table Daram) placed.daram (same Daram))
+    (same_without pieces.saram (replaced_block picture g table Saram) placed.saram (same Saram))
+    (same_without pieces.external (replaced_block picture g table External) placed.external (same External))

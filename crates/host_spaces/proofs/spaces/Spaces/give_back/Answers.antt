@@ -1,0 +1,12 @@
+use Rattle.std.proofs.Common.{◌≡◌, ◌≢◌, Option, Some, IfSome, sym, subst}
+use Rattle.space_raw.specs.Span.{Span}
+use Rattle.space_blocks.specs.Blocks.{Owns}
+use Rattle.space_blocks.proofs.Owners.{disowned_none}
+use Rattle.host_spaces.specs.Picture.{space_in}
+use Rattle.host_spaces.proofs.spaces.Spaces.give_back.Goals as goal
+
+pub returns-in-Some-clause-others : goal.returns-in-Some-clause-others
+returns-in-Some-clause-others c = rw (c.in-Some.is) c.take_out.ensures.others
+
+pub returns-in-None-clause-only : goal.returns-in-None-clause-only
+returns-in-None-clause-only c = rw (c.in-None.is) (λ owner align none. sym (disowned_none owner (space_in c.args.self.now c.args.space).blocks none))

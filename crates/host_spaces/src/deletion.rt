@@ -1,0 +1,105 @@
+//! Blocks that go back.
+ghost use Rattle.std.specs.Prelude.{◌≡◌, ◌≢◌, ℕ, None, IfSome, IsSome};
+ghost use Rattle.std.specs.Option.{option_or};
+ghost use Rattle.mem_rec.specs.declared.Space.{Space};
+ghost use Rattle.space_blocks.specs.declared.placed.Owner.{Owner};
+ghost use Rattle.space_blocks.specs.declared.placed.Owner.TheVariants.{Record, Scratch};
+ghost use Rattle.space_blocks.specs.Blocks.{Owns, block_of_piece, disowned, owned, without_piece};
+ghost use Rattle.ialg.specs.Records.{record_at};
+ghost use Rattle.host_spaces.specs.Picture.{AreSameSpaces, blocks_in, is_group's, is_instance's, picture_of, space_in, without_owners};
+ghost use Rattle.host_spaces.specs.Pieces.{ArePiecesOf, HasRecords, old_piece, without_pieces};
+
+use crate::pieces::OldBlocks;
+use crate::spaces::Spaces;
+use mem_rec::{MemTab, Space};
+use record_loans::Pieces;
+use space_raw::Piece;
+
+impl Spaces {
+    // A block of the space goes back, if there is one.
+    fn give_back(&mut self, space: Space, piece: Option<Piece>)
+        requires region { IfSome piece (λ p. p.region ≡ (space_in self.old space).region) }
+        requires owner { IfSome piece (λ p. (owner : Owner) × Owns (space_in self.old space).blocks owner p) }
+        ensures blocks { (space_in self.new space).blocks ≡ without_piece piece (space_in self.old space).blocks }
+        ensures only { (owner : Owner) (align : ℕ) → owned owner (space_in self.old space).blocks ≡ block_of_piece owner align piece
+            → (space_in self.new space).blocks ≡ disowned owner (space_in self.old space).blocks }
+        ensures others { (owner o : Owner) → IfSome piece (Owns (space_in self.old space).blocks owner) → o ≢ owner
+            → owned o (space_in self.new space).blocks ≡ owned o (space_in self.old space).blocks }
+        ensures elsewhere { (other : Space) → other ≢ space → space_in self.new other ≡ space_in self.old other }
+        ensures stays { AreSameSpaces self.old self.new }
+    {
+        match piece {
+            Some(piece) => self.take_out(space, piece),
+            None => {}
+        }
+    }
+
+    /// The blocks of group `g` that these pieces are go back: those that new ones replace, or all of them with its last member.
+    pub fn take_out_blocks(&mut self, g: u8, pieces: OldBlocks)
+        requires regions { (space : Space) → IfSome (old_piece pieces space) (λ p. p.region ≡ (space_in self.old space).region) }
+        requires owner { (space : Space) → IfSome (old_piece pieces space) (Owns (blocks_in (picture_of self.old) space) (Scratch g)) }
+        ensures picture { picture_of self.new ≡ without_pieces (picture_of self.old) pieces }
+        ensures last { (align : Space → ℕ) → ((space : Space) → owned (Scratch g) (blocks_in (picture_of self.old) space) ≡ block_of_piece (Scratch g) (align space) (old_piece pieces space))
+            → picture_of self.new ≡ without_owners (is_group's g) (picture_of self.old) }
+        ensures others { (o : Owner) (space : Space) → o ≢ Scratch g → owned o (blocks_in (picture_of self.new) space) ≡ owned o (blocks_in (picture_of self.old) space) }
+        ensures stays { AreSameSpaces self.old self.new }
+    {
+        let OldBlocks {
+            daram,
+            saram,
+            external,
+        } = pieces;
+        self.give_back(Space::Daram, daram);
+        self.give_back(Space::Saram, saram);
+        self.give_back(Space::External, external);
+    }
+
+    /// The pieces of the records of instance `i`, which has this table, go back.
+    pub fn take_out_records(&mut self, i: u8, table: &MemTab, own: Pieces, shared: Pieces)
+        requires pieces { ArePiecesOf self.old table.now own shared }
+        requires records { HasRecords (picture_of self.old) i table.now own shared }
+        ensures picture { picture_of self.new ≡ without_owners (is_instance's i) (picture_of self.old) }
+        ensures others { (o : Owner) (space : Space) → ((k : ℕ) → o ≢ Record i k) → owned o (blocks_in (picture_of self.new) space) ≡ owned o (blocks_in (picture_of self.old) space) }
+        ensures stays { AreSameSpaces self.old self.new }
+    {
+        let Pieces { p0, p1, p2, p3 } = own;
+        let Pieces {
+            p0: once0,
+            p1: once1,
+            p2: once2,
+            p3: once3,
+        } = shared;
+        self.give_back(space_of(table, 0), either_piece(p0, once0));
+        self.give_back(space_of(table, 1), either_piece(p1, once1));
+        self.give_back(space_of(table, 2), either_piece(p2, once2));
+        self.give_back(space_of(table, 3), either_piece(p3, once3));
+    }
+}
+
+// The space of record `k`.
+fn space_of(table: &MemTab, k: usize) -> Space
+    ensures { result ≡ (record_at table.now k).space }
+{
+    if k < table.len() {
+        table.get(k).space
+    } else {
+        Space::Daram
+    }
+}
+
+// A record's piece: its own, or the one that is lent. It doesn't have both.
+fn either_piece(own: Option<Piece>, shared: Option<Piece>) -> Option<Piece>
+    requires one { IsSome own → shared ≡ None }
+    ensures { result ≡ option_or own shared }
+{
+    match own {
+        Some(own) => {
+            match shared {
+                Some(_shared) => unreachable!(),
+                None => {}
+            }
+            Some(own)
+        }
+        None => shared,
+    }
+}
