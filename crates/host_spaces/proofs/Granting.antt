@@ -1,5 +1,5 @@
 -- What was granted to an instance and its group.
-use Rattle.std.proofs.Common.{◌≡◌, ◌≢◌, ◌⊎◌, inl, inr, ℕ, ℤ, zero, suc, ◌+◌, ◌<◌, ◌≤◌, Bool, true, false, if◌then◌else◌, IsTrue, List, [], ◌∷◌, length, get_or, Option, Some, None, IsSome, refl, sym, ap, subst, ◌∙◌, arith}
+use Rattle.std.proofs.Common.{◌≡◌, ◌≢◌, inl, inr, ℕ, ℤ, zero, suc, ◌≤◌, Bool, true, false, if◌then◌else◌, IsTrue, List, [], ◌∷◌, length, Option, Some, None, refl, sym, ap, subst, ◌∙◌, arith}
 use Rattle.std.proofs.Math.ListN.{get_or-eq_default}
 use Rattle.std.proofs.lemmas.List.Elements.{All-nil}
 use Rattle.mem_rec.specs.declared.MemRec.{MemRec}
@@ -13,21 +13,19 @@ use Rattle.mem_rec.proofs.Valid.{within_limits}
 use Rattle.space_raw.specs.Span.{Extent, Span}
 use Rattle.space_heap.specs.Places.{placed_size}
 use Rattle.ialg.specs.Records.{ArePoison, record_at}
-use Rattle.record_loans.specs.declared.block.ScratchBlock.{ScratchBlock}
 use Rattle.record_loans.specs.Blocks.{block_words}
 use Rattle.record_loans.specs.Pieces.{piece_at, piece_words}
 use Rattle.scratch_group.specs.declared.group.Group.{Group}
 use Rattle.scratch_group.specs.declared.group.Need.{Need}
 use Rattle.space_blocks.specs.declared.placed.Owner.{Owner}
 use Rattle.space_blocks.specs.declared.placed.Owner.TheVariants.{Record, Scratch}
-use Rattle.space_blocks.specs.declared.placed.Placed.{Placed}
 use Rattle.space_blocks.specs.Blocks.{block_of, block_of_piece, owned, with_block}
 use Rattle.host_spaces.specs.declared.granted.Granted.{Granted}
 use Rattle.host_spaces.specs.declared.spaces.Spaces.{Spaces}
 use Rattle.host_spaces.specs.declared.wants.Wanted.{Wanted}
 use Rattle.host_spaces.specs.Picture.{blocks_in, picture_of, space_in}
 use Rattle.host_spaces.specs.Creation.{record_wanted}
-use Rattle.lifecycle.specs.Rooms.{lasting_piece, piece_of_record}
+use Rattle.lifecycle.specs.Rooms.{lasting_piece}
 use Rattle.host_spaces.specs.Pieces.{ArePiecesOf, HasRecords, IsNeeded, IsPieceOf, IsPoisoned, as_block, is_write_once, kept_piece, lent_piece, new_block, placement_of, record_block, with_new}
 use Rattle.host_spaces.specs.Wants.{IsFor, IsGranted, block_need, need_wanted, slot_at, want_at, wants_of}
 use Rattle.host_spaces.proofs.Pictures.{by_space, seen_blocks}

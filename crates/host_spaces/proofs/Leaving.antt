@@ -1,7 +1,6 @@
 -- Blocks that go back, by their owners and by their places.
 use Rattle.std.proofs.lemmas.Bool.{eq-eqb}
 use Rattle.std.proofs.Common.{◌≡◌, ◌≢◌, ℕ, zero, suc, ◌==◌, Bool, true, false, not, ◌&&◌, cond, if◌then◌else◌, List, [], ◌∷◌, filter, length, Option, Some, None, IfSome, IsSome, refl, sym, ap, subst, ◌∙◌, arith, inl, inr}
-use Rattle.std.specs.Prelude.{Result, Ok, Err}
 use Rattle.std.specs.Option.{option_map, option_or}
 use Rattle.mem_rec.specs.declared.MemRec.{MemRec}
 use Rattle.mem_rec.specs.declared.Space.{Space}
@@ -26,7 +25,7 @@ use Rattle.space_blocks.proofs.Owners.{disowned_none, owned_beside, owns_one}
 use Rattle.host_spaces.specs.declared.pieces.OldBlocks.{OldBlocks}
 use Rattle.host_spaces.specs.declared.spaces.Spaces.{Spaces}
 use Rattle.host_spaces.specs.Picture.{Picture, blocks_in, blocks_without, is_group's, is_instance's, picture_of, space_in, without_owners}
-use Rattle.host_spaces.specs.Creation.{replaced_block, result_map, without_block, without_replaced}
+use Rattle.host_spaces.specs.Creation.{replaced_block, without_block, without_replaced}
 use Rattle.lifecycle.specs.Rooms.{lasting_piece}
 use Rattle.host_spaces.specs.Pieces.{ArePiecesOf, HasRecords, IsPieceOf, is_write_once, old_piece, record_block, without_pieces}
 use Rattle.host_spaces.proofs.Pictures.{by_space, daram_external, daram_saram, pictures_equal, saram_external, seen_blocks}

@@ -1,8 +1,7 @@
 -- What is asked for is within the limits of a block.
-use Rattle.std.proofs.Common.{◌≡◌, ℕ, zero, suc, ◌+◌, ◌%◌, ◌<◌, ◌≤◌, ◌==◌, ◌⊎◌, inl, inr, max, Bool, true, false, ◌&&◌, ◌||◌, if◌then◌else◌, IsTrue, List, [], ◌∷◌, length, get_or, nat_le, nat_eq, Option, Some, None, Contains, refl, sym, ap, subst, ◌∙◌, arith}
+use Rattle.std.proofs.Common.{◌≡◌, ℕ, zero, suc, ◌+◌, ◌%◌, ◌<◌, ◌≤◌, ◌⊎◌, inl, inr, max, Bool, true, false, ◌||◌, if◌then◌else◌, IsTrue, List, [], ◌∷◌, length, get_or, nat_le, nat_eq, Option, Some, None, refl, sym, ap, subst, ◌∙◌, arith}
 use Rattle.std.specs.List.{list_all}
 use Rattle.std.specs.Int.{next_multiple_of}
-use Rattle.std.proofs.lemmas.Bool.{eq-eqb}
 use Rattle.std.proofs.lemmas.Bool.Decides.{nat_tests}
 use Rattle.mem_rec.specs.declared.MemRec.{MemRec}
 use Rattle.mem_rec.specs.declared.Space.{Space}
@@ -10,23 +9,19 @@ use Rattle.mem_rec.specs.Records.{is_alignment, is_record, is_table}
 use Rattle.mem_rec.specs.Layout.{scratch_align, scratch_need}
 use Rattle.mem_rec.proofs.Valid.{within_limits}
 use Rattle.space_raw.specs.Span.{Span}
-use Rattle.space_heap.specs.Places.{Range}
 use Rattle.space_heap.specs.Pictures.{AreBlocks, IsAlignment, IsBlock}
 use Rattle.space_heap.proofs.RangeTests.{both_false, both_true, clash}
 use Rattle.relocate.specs.Spots.{AreSpotsFrom, IsSpot}
 use Rattle.record_loans.specs.declared.block.ScratchBlock.{ScratchBlock}
 use Rattle.record_loans.specs.Blocks.{block_align, block_piece, block_words}
-use Rattle.scratch_group.specs.declared.group.Group.{Group}
 use Rattle.scratch_group.specs.declared.group.Need.{Need}
-use Rattle.scratch_group.specs.Blocks.{block_in, block_needed, serves}
+use Rattle.scratch_group.specs.Blocks.{block_needed, serves}
 use Rattle.space_blocks.specs.declared.placed.Owner.{Owner}
-use Rattle.space_blocks.specs.declared.placed.Owner.TheVariants.{Record, Scratch}
 use Rattle.space_blocks.specs.declared.placed.Placed.{Placed}
 use Rattle.space_blocks.specs.Blocks.{block_of, block_of_piece, block_range, owned, ranges, same_owner}
 use Rattle.space_blocks.specs.Moves.{spot_of, spots_of}
 use Rattle.space_blocks.specs.Spaces.{AreInOrder}
 use Rattle.space_blocks.proofs.Owners.{passing}
-use Rattle.host_spaces.specs.declared.wants.Wanted.{Wanted}
 use Rattle.host_spaces.specs.Wants.{IsWithinLimits}
 use Rattle.host_spaces.proofs.Needs.{AreLimits, greater_limits, need_limits, record_power, size_bound, three}
 

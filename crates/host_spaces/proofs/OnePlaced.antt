@@ -1,8 +1,6 @@
 -- One block more is placed.
-use Rattle.std.proofs.Common.{◌≡◌, ◌≢◌, ◌⊎◌, inl, inr, ℕ, zero, suc, ◌+◌, ◌%◌, ◌<◌, ◌≤◌, ℤ, Bool, true, false, if◌then◌else◌, List, [], ◌∷◌, length, get_or, drop, Option, Some, None, Contains, refl, sym, ap, subst, ◌∙◌, arith}
+use Rattle.std.proofs.Common.{◌≡◌, ◌≢◌, ◌⊎◌, inl, inr, ℕ, zero, suc, ◌+◌, ◌<◌, ◌≤◌, ℤ, true, if◌then◌else◌, List, [], ◌∷◌, length, get_or, drop, Option, Some, None, Contains, refl, sym, ap, subst, ◌∙◌, arith}
 use Rattle.std.specs.Prelude.{Result, Ok, Err, IfOk}
-use Rattle.std.specs.List.{cons_option}
-use Rattle.std.specs.Option.{option_map}
 use Rattle.std.proofs.lemmas.Bool.{cases_eq, cases_lt}
 use Rattle.std.proofs.Math.ListN.{get_or-eq_default}
 use Rattle.std.proofs.lemmas.List.Elements.{All-nil}
@@ -10,7 +8,7 @@ use Rattle.std.proofs.Math.Seq.{drop-cons}
 use Rattle.mem_rec.specs.declared.Space.{Space}
 use Rattle.mem_rec.specs.declared.Space.TheVariants.{Daram, Saram, External}
 use Rattle.mem_rec.specs.Records.{same_space}
-use Rattle.space_raw.specs.Span.{Extent, Span}
+use Rattle.space_raw.specs.Span.{Span}
 use Rattle.space_heap.specs.Places.{least_place, placed_size}
 use Rattle.ialg.specs.Records.{ArePoison}
 use Rattle.record_loans.specs.Pieces.{piece_words}
@@ -20,12 +18,11 @@ use Rattle.space_blocks.specs.declared.placed.Placed.{Placed}
 use Rattle.space_blocks.specs.Blocks.{Owns, block_of, owned, ranges, with_block, without_at}
 use Rattle.space_blocks.specs.Spaces.{SpaceState}
 use Rattle.space_blocks.proofs.Orders.{before, behind, length_with}
-use Rattle.host_spaces.specs.declared.spaces.Sizes.{Sizes}
 use Rattle.host_spaces.specs.declared.spaces.Spaces.{Spaces}
 use Rattle.host_spaces.specs.declared.granted.Granted.{Granted}
 use Rattle.host_spaces.specs.declared.wants.Wanted.{Wanted}
-use Rattle.host_spaces.specs.Picture.{AreSameSpaces, Picture, blocks_in, picture_of, place_in, put_block, sizes_of, space_in, words_in}
-use Rattle.host_spaces.specs.Creation.{all_placed, goes_on, result_map}
+use Rattle.host_spaces.specs.Picture.{AreSameSpaces, blocks_in, picture_of, place_in, put_block, sizes_of, space_in, words_in}
+use Rattle.host_spaces.specs.Creation.{all_placed, goes_on}
 use Rattle.host_spaces.specs.Wants.{AreApartWants, IsFor, IsGranted, IsWithinLimits, count_in, one_in, slot_at, somes, want_at, with_slot}
 use Rattle.host_spaces.proofs.Pictures.{by_space, picture_with, same_then, seen_blocks, seen_words, sizes_same, spaces_equal}
 use Rattle.host_spaces.proofs.Slots.{slot_other, slot_same}

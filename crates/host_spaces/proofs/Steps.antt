@@ -1,5 +1,5 @@
 -- What a creation needs, entry by entry.
-use Rattle.std.proofs.Common.{◌≡◌, ◌≢◌, ◌⊎◌, inl, inr, ℕ, zero, suc, ◌+◌, ◌<◌, ◌≤◌, ◌==◌, max, Bool, true, false, not, ◌&&◌, ◌||◌, if◌then◌else◌, cond, IsTrue, List, [], ◌∷◌, ◌++◌, length, drop, nat_lt, nat_le, nat_eq, Option, Some, None, filter_map, refl, sym, ap, subst, ◌∙◌, arith}
+use Rattle.std.proofs.Common.{◌≡◌, ◌⊎◌, inl, inr, ℕ, zero, suc, ◌+◌, ◌≤◌, ◌==◌, max, Bool, true, false, not, ◌&&◌, ◌||◌, if◌then◌else◌, IsTrue, List, [], ◌∷◌, ◌++◌, length, drop, nat_lt, nat_le, Option, Some, None, filter_map, refl, sym, ap, ◌∙◌, arith}
 use Rattle.std.specs.List.{cons_option}
 use Rattle.std.proofs.lemmas.Bool.{cases_lt}
 use Rattle.std.proofs.lemmas.Bool.Decides.{nat_tests}
@@ -19,13 +19,12 @@ use Rattle.record_loans.specs.declared.block.ScratchBlock.{ScratchBlock}
 use Rattle.record_loans.specs.Blocks.{block_align, block_piece, block_words}
 use Rattle.scratch_group.specs.declared.group.Group.{Group}
 use Rattle.scratch_group.specs.declared.group.Need.{Need}
-use Rattle.scratch_group.specs.Blocks.{block_in, block_needed, serves}
+use Rattle.scratch_group.specs.Blocks.{block_in, serves}
 use Rattle.space_blocks.specs.declared.placed.Owner.{Owner}
 use Rattle.space_blocks.specs.declared.placed.Owner.TheVariants.{Record, Scratch}
-use Rattle.space_blocks.specs.declared.placed.Placed.{Placed}
-use Rattle.space_blocks.specs.Blocks.{block_of_piece, owned}
+use Rattle.space_blocks.specs.Blocks.{block_of_piece}
 use Rattle.host_spaces.specs.declared.wants.Wanted.{Wanted}
-use Rattle.host_spaces.specs.Picture.{Picture, all_spaces, blocks_in, first_block}
+use Rattle.host_spaces.specs.Picture.{Picture, all_spaces, first_block}
 use Rattle.host_spaces.specs.Creation.{block_wanted, group_wanted, own_wanted, record_wanted, scratch_wanted, wanted_by}
 use Rattle.host_spaces.specs.Pieces.{HasBlocks}
 use Rattle.host_spaces.specs.Wants.{AreApartWants, block_need, count_in, need_wanted, one_in, somes, want_at, wants_of}

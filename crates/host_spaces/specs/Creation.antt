@@ -6,7 +6,6 @@ use Rattle.mem_rec.specs.declared.Space.{Space}
 use Rattle.mem_rec.specs.Records.{is_scratch}
 use Rattle.mem_rec.specs.Layout.{scratch_need, scratch_align}
 use Rattle.space_heap.specs.Places.{placed_size}
-use Rattle.space_blocks.specs.declared.placed.Owner.{Owner}
 use Rattle.space_blocks.specs.declared.placed.Owner.TheVariants.{Record, Scratch}
 use Rattle.space_blocks.specs.declared.placed.Placed.{Placed}
 use Rattle.space_blocks.specs.Blocks.{without_at}

@@ -134,6 +134,7 @@ module _ {M : Type 0} (meaning : Meaning M) (idle_keeps active_keeps : Relation 
         let last = steps.last still in
         let there : (step amid.now space).1 ≡ amid.now = stopped (next_block (blocks_in amid.now.picture space)) amid.now still in
         let all : compact before space ≡ (moved, amid.now) = amid.same ∙ ap (λ (o : ℕ × State M). let p : ℕ × State M = (o.0 + moved, o.1) in p) last
-            ∙ ap (λ (n : ℕ). let p : ℕ × State M = (n, amid.now) in p) (let e : 0 + moved ≡ moved = omega arith in e) in
-        (ap (λ (o : ℕ × State M). let p : ℕ × State M = (moved, o.1) in p) all ∙ sym all,
-        subst (λ (s : State M). HostKeeps meaning idle_keeps active_keeps slots' once' groups' spaces' s) (sym (ap (λ (o : ℕ × State M). o.1) all)) (subst (λ (s : State M). HostKeeps meaning idle_keeps active_keeps slots' once' groups' spaces' s) there kept))
+        ∙ ap (λ (n : ℕ). let p : ℕ × State M = (n, amid.now) in p) (let e : 0 + moved ≡ moved = omega arith in e) in (
+          ap (λ (o : ℕ × State M). let p : ℕ × State M = (moved, o.1) in p) all ∙ sym all,
+          subst (λ (s : State M). HostKeeps meaning idle_keeps active_keeps slots' once' groups' spaces' s) (sym (ap (λ (o : ℕ × State M). o.1) all)) (subst (λ (s : State M). HostKeeps meaning idle_keeps active_keeps slots' once' groups' spaces' s) there kept),
+        )

@@ -62,9 +62,9 @@ module _ {M : Type 0} (space : Space) (g al : ℕ) (p q : Span) (slots : List (O
       elim (eqb_tells k g) [
         | inr e ↦ there k s (inl e.1)
         | inl e ↦ elim (either (same_space space s)) [
-            | inr other ↦ there k s (inr (other_space space s other))
-            | inl yes_same ↦ rw e.1 (subst (P g) (one_space space s yes_same) here)
-          ]
+          | inr other ↦ there k s (inr (other_space space s other))
+          | inl yes_same ↦ rw e.1 (subst (P g) (one_space space s yes_same) here)
+        ]
       ]
 
   alike_now : (k : ℕ) (s : Space) → IsAlike (block_in (group_at groups k) s) (block_in (group_at groups' k) s)
@@ -76,13 +76,13 @@ module _ {M : Type 0} (space : Space) (g al : ℕ) (p q : Span) (slots : List (O
   has_now k before s =
       by_block
       (λ l t. owned (GroupScratch l) (blocks_in (picture_of spaces) t) ≡ block_of_piece (GroupScratch l) (block_align (block_in (group_at groups l) t)) (block_piece (block_in (group_at groups l) t))
-        → owned (GroupScratch l) (blocks_in (picture_of spaces') t) ≡ block_of_piece (GroupScratch l) (block_align (block_in (group_at groups' l) t)) (block_piece (block_in (group_at groups' l) t)))
+      → owned (GroupScratch l) (blocks_in (picture_of spaces') t) ≡ block_of_piece (GroupScratch l) (block_align (block_in (group_at groups' l) t)) (block_piece (block_in (group_at groups' l) t)))
       (λ e. rw is (moves.here al (rw was at e)))
       (λ l t apart e. rw (same l t apart)
-        (elim apart [
-          | inl other ↦ other_owned space (GroupScratch g) p q spaces spaces' moves (GroupScratch l) (other_group g l other) t ∙ e
-          | inr other ↦ ap (owned (GroupScratch l)) (blocks_elsewhere spaces spaces' t (moves.elsewhere t other)) ∙ e
-        ]))
+      (elim apart [
+        | inl other ↦ other_owned space (GroupScratch g) p q spaces spaces' moves (GroupScratch l) (other_group g l other) t ∙ e
+        | inr other ↦ ap (owned (GroupScratch l)) (blocks_elsewhere spaces spaces' t (moves.elsewhere t other)) ∙ e
+      ]))
       k s (before s)
 
   pub standing_block : AreStanding slots once groups spaces → AreStanding slots once groups' spaces'

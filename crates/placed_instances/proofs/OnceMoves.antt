@@ -89,8 +89,10 @@ module _ {M : Type 0} (slots : List (Option (Member M))) (once : List Pieces) (g
       rw (attr, taken, its.of_space, space_itself space) at (home.records k space)
 
   owns : Owns (blocks_in (picture_of spaces) space) (Record i k) p
-  owns = ((record_at (table_of its.member) k).align,
-      subst (λ (bs : List Placed). Contains bs (block_of (Record i k) (record_at (table_of its.member) k).align p)) (sym owned_is) (only_one (block_of (Record i k) (record_at (table_of its.member) k).align p)))
+  owns = (
+    (record_at (table_of its.member) k).align,
+    subst (λ (bs : List Placed). Contains bs (block_of (Record i k) (record_at (table_of its.member) k).align p)) (sym owned_is) (only_one (block_of (Record i k) (record_at (table_of its.member) k).align p)),
+  )
 
   abbrev away : List Pieces
   away = set once i (with_piece (once_at once i) k None)

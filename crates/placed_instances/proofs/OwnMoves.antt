@@ -160,8 +160,10 @@ module _ {M : Type 0} (slots : List (Option (Member M))) (once : List Pieces) (g
       same_itself External = refl
 
   owns : Owns (blocks_in (picture_of spaces) space) (Record i k) p
-  owns = ((record_at (table_of its.member) k).align,
-      subst (λ (bs : List Placed). Contains bs (block_of (Record i k) (record_at (table_of its.member) k).align p)) (sym owned_is) (only_one (block_of (Record i k) (record_at (table_of its.member) k).align p)))
+  owns = (
+    (record_at (table_of its.member) k).align,
+    subst (λ (bs : List Placed). Contains bs (block_of (Record i k) (record_at (table_of its.member) k).align p)) (sym owned_is) (only_one (block_of (Record i k) (record_at (table_of its.member) k).align p)),
+  )
 
   abbrev away : Pieces
   away = with_piece (own_of (slot_at slots i)) k None

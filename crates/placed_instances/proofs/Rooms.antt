@@ -58,9 +58,9 @@ apart_ranges b c apart =
     elim (compare b.place (c.place + c.size)) [
       | inr h ↦ inr h
       | inl h ↦ elim (compare c.place (b.place + b.size)) [
-          | inr k ↦ inl k
-          | inl k ↦ absurd (true≢false (sym (meet_if (block_range b) (block_range c) h k) ∙ apart))
-        ]
+        | inr k ↦ inl k
+        | inl k ↦ absurd (true≢false (sym (meet_if (block_range b) (block_range c) h k) ∙ apart))
+      ]
     ]
 
 swapped : (b c : Placed) → Disjoint b c → Disjoint c b
@@ -102,19 +102,19 @@ two_apart words [] o q b c are two ob qc = absurd (no_head ob)
 two_apart words (d ∷ ds) o q b c are two ob qc =
     elim (either (same_owner o d.owner)) [
       | inl mine ↦ elim (either (same_owner q d.owner)) [
-          | inl its ↦ absurd (two d mine its)
-          | inr other ↦
-              let both : d ∷ owned o ds ≡ b ∷ [] = rw mine at ob in
-              let same : d ≡ b = cc in
-              subst (λ (x : Placed). Disjoint x c) same (head_apart d c ds q are.1 (rw other at qc))
-        ]
+        | inl its ↦ absurd (two d mine its)
+        | inr other ↦
+            let both : d ∷ owned o ds ≡ b ∷ [] = rw mine at ob in
+            let same : d ≡ b = cc in
+            subst (λ (x : Placed). Disjoint x c) same (head_apart d c ds q are.1 (rw other at qc))
+      ]
       | inr not_mine ↦ elim (either (same_owner q d.owner)) [
-          | inl its ↦
-              let both : d ∷ owned q ds ≡ c ∷ [] = rw its at qc in
-              let same : d ≡ c = cc in
-              swapped c b (subst (λ (x : Placed). Disjoint x b) same (head_apart d b ds o are.1 (rw not_mine at ob)))
-          | inr other ↦ two_apart words ds o q b c are.2 two (rw not_mine at ob) (rw other at qc)
-        ]
+        | inl its ↦
+            let both : d ∷ owned q ds ≡ c ∷ [] = rw its at qc in
+            let same : d ≡ c = cc in
+            swapped c b (subst (λ (x : Placed). Disjoint x b) same (head_apart d b ds o are.1 (rw not_mine at ob)))
+        | inr other ↦ two_apart words ds o q b c are.2 two (rw not_mine at ob) (rw other at qc)
+      ]
     ]
 
 -- ---- the records of an instance, and its group's block

@@ -1,5 +1,5 @@
 -- How many blocks there can be: each owner has a number of its own.
-use Rattle.std.proofs.Common.{◌≡◌, ◌≢◌, ℕ, zero, suc, ◌+◌, ◌*◌, ◌<◌, ◌≤◌, ◌||◌, ◌⊎◌, inl, inr, Bool, true, false, List, [], ◌∷◌, filter, length, get_or, map, eqb, Contains, refl, sym, ap, subst, ◌∙◌, arith}
+use Rattle.std.proofs.Common.{◌≡◌, ◌≢◌, ℕ, zero, suc, ◌+◌, ◌*◌, ◌<◌, ◌≤◌, ◌||◌, inl, inr, true, false, List, [], ◌∷◌, length, get_or, map, eqb, Contains, refl, sym, ap, ◌∙◌, arith}
 use Rattle.std.specs.List.{AllByRecursion, IsDistinct, list_any}
 use Rattle.std.proofs.lemmas.Bool.{cases_lt, eqb-true}
 use Rattle.std.proofs.lemmas.List.{length-map}
@@ -8,14 +8,14 @@ use Rattle.mem_rec.specs.declared.TheConstants.{TABLE_RECORDS}
 use Rattle.space_raw.specs.Span.{Apart, Span}
 use Rattle.space_heap.specs.Places.{Range, end_of, meets}
 use Rattle.space_heap.specs.Pictures.{AreBlocks, range_of}
-use Rattle.space_heap.proofs.RangeTests.{both_false, clash, meet_if, meet_sym, true_or_false, when_not}
-use Rattle.space_blocks.specs.declared.TheConstants.{GROUPS, INSTANCES, MAP_BLOCKS}
+use Rattle.space_heap.proofs.RangeTests.{both_false, clash, meet_if, meet_sym, true_or_false}
+use Rattle.space_blocks.specs.declared.TheConstants.{INSTANCES, MAP_BLOCKS}
 use Rattle.space_blocks.specs.declared.placed.Owner.{Owner}
 use Rattle.space_blocks.specs.declared.placed.Owner.TheVariants.{Record, Scratch}
 use Rattle.space_blocks.specs.declared.placed.Placed.{Placed}
 use Rattle.space_blocks.specs.Blocks.{AreSingle, IsOwner, Owns, block_of, block_range, owned, ranges, same_owner}
 use Rattle.space_blocks.proofs.Orders.{dropped, is_other, kept}
-use Rattle.space_blocks.proofs.Owners.{itself, one_owner, stands}
+use Rattle.space_blocks.proofs.Owners.{itself, stands}
 
 abbrev number : Owner → ℕ
 number (Record i k) = 4 * i + k

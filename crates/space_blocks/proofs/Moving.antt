@@ -1,16 +1,14 @@
 -- The next move of a space's blocks is one step of its heap.
-use Rattle.std.proofs.Common.{◌≡◌, ℕ, zero, suc, ◌+◌, ◌-◌, ◌^◌, ◌<◌, ◌≤◌, ◌==◌, min, false, cond, if◌then◌else◌, List, [], ◌∷◌, ◌++◌, length, get_or, set, take, drop, map, Option, Some, None, refl, sym, ◌∙◌, ap, subst, arith}
+use Rattle.std.proofs.Common.{◌≡◌, ℕ, zero, suc, ◌+◌, ◌-◌, ◌^◌, ◌<◌, ◌==◌, min, false, cond, if◌then◌else◌, List, [], ◌∷◌, ◌++◌, length, get_or, set, take, drop, Option, Some, None, refl, sym, ◌∙◌, ap, subst, arith}
 use Rattle.std.specs.Option.{option_map}
-use Rattle.std.specs.Int.{next_multiple_of}
 use Rattle.std.specs.List.{refill}
 use Rattle.std.proofs.Math.Seq.{take-append_seam}
 use Rattle.std.proofs.lemmas.Bool.{eqb-true}
-use Rattle.std.proofs.lemmas.List.{length-map, map-append, take-map}
+use Rattle.std.proofs.lemmas.List.{length-map, map-append}
 use Rattle.space_raw.specs.Span.{Extent, Span}
-use Rattle.space_heap.specs.Places.{Range, lower_place}
-use Rattle.space_heap.specs.Pictures.{HeapState, Holds, IsAlignment, IsBlock, IsSpaceSize, range_of}
+use Rattle.space_heap.specs.Places.{lower_place}
+use Rattle.space_heap.specs.Pictures.{HeapState, Holds, IsAlignment, IsSpaceSize, range_of}
 use Rattle.space_heap.proofs.RangeTests.{when_not}
-use Rattle.relocate.specs.declared.packing.Spot.{Spot}
 use Rattle.relocate.specs.declared.packing.Move.{Move}
 use Rattle.relocate.specs.Spots.{AreSpots, ranges_of}
 use Rattle.relocate.specs.Packing.{next_move_of, with_place as spot_moved}

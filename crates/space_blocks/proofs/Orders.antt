@@ -1,8 +1,8 @@
 -- Lists of blocks in place order: where a new one goes, and what is left without one.
-use Rattle.std.proofs.Common.{◌≡◌, ℕ, zero, suc, ◌+◌, ◌<◌, ◌≤◌, ◌==◌, ◌⊎◌, inl, inr, Bool, true, false, not, cond, nat_lt, if◌then◌else◌, List, [], ◌∷◌, ◌++◌, filter, length, get_or, take, drop, remove, insert, map, refl, sym, ap, subst, ◌∙◌, arith}
+use Rattle.std.proofs.Common.{◌≡◌, ℕ, zero, suc, ◌<◌, ◌≤◌, ◌==◌, ◌⊎◌, inl, inr, Bool, true, false, not, cond, nat_lt, if◌then◌else◌, List, [], ◌∷◌, ◌++◌, filter, length, get_or, remove, insert, refl, sym, ap, subst, ◌∙◌, arith}
 use Rattle.std.proofs.lemmas.Bool.{cases_lt, eq-eqb, eqb-true}
 use Rattle.std.proofs.lemmas.Bool.Decides.{nat_tests}
-use Rattle.space_heap.proofs.RangeTests.{either, true_or_false, when_not}
+use Rattle.space_heap.proofs.RangeTests.{true_or_false, when_not}
 use Rattle.space_blocks.specs.declared.placed.Placed.{Placed}
 use Rattle.space_blocks.specs.Blocks.{block_from, with_block, with_place, without_at}
 use Rattle.space_blocks.specs.Moves.{moved_to}

@@ -1,12 +1,12 @@
 -- The blocks of one owner.
-use Rattle.std.proofs.Common.{◌≡◌, ◌≢◌, ℕ, zero, suc, ◌+◌, ◌<◌, ◌≤◌, ◌==◌, ◌&&◌, ◌⊎◌, inl, inr, Bool, true, false, not, cond, if◌then◌else◌, List, [], ◌∷◌, ◌++◌, filter, length, get_or, remove, map, Contains, refl, sym, ap, subst, ◌∙◌, arith}
+use Rattle.std.proofs.Common.{◌≡◌, ◌≢◌, ℕ, zero, suc, ◌<◌, ◌≤◌, ◌==◌, ◌&&◌, inl, inr, Bool, true, false, not, cond, if◌then◌else◌, List, [], ◌∷◌, filter, length, get_or, remove, Contains, refl, sym, ap, subst, ◌∙◌, arith}
 use Rattle.std.proofs.lemmas.Bool.{eq-eqb, eqb-true}
 use Rattle.space_heap.proofs.RangeTests.{both_true, true_or_false, when_not}
 use Rattle.space_raw.specs.Span.{Span}
 use Rattle.space_blocks.specs.declared.placed.Owner.{Owner}
 use Rattle.space_blocks.specs.declared.placed.Owner.TheVariants.{Record, Scratch}
 use Rattle.space_blocks.specs.declared.placed.Placed.{Placed}
-use Rattle.space_blocks.specs.Blocks.{Owns, block_from, block_of, disowned, owned, same_owner, with_block, with_place, without_at}
+use Rattle.space_blocks.specs.Blocks.{Owns, block_from, block_of, disowned, owned, same_owner, with_block, with_place}
 use Rattle.space_blocks.specs.Moves.{moved_to}
 use Rattle.space_blocks.proofs.Orders.{AreSortedFrom, dropped, filter_in, filter_out, filter_removed, kept, same_index}
 

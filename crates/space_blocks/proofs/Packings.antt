@@ -1,15 +1,15 @@
 -- Next moves come to the packed blocks: by how the blocks stand, and by their owners.
-use Rattle.std.proofs.Common.{◌≡◌, ℕ, zero, suc, ◌+◌, List, [], ◌∷◌, map, length, Option, Some, None, refl, sym, ap, subst, ◌∙◌}
+use Rattle.std.proofs.Common.{◌≡◌, ℕ, zero, suc, ◌+◌, List, [], ◌∷◌, map, length, refl, sym, ap, subst, ◌∙◌}
 use Rattle.std.specs.Int.{next_multiple_of}
 use Rattle.relocate.specs.declared.packing.Spot.{Spot}
 use Rattle.relocate.specs.declared.packing.Move.{Move}
-use Rattle.relocate.specs.Packing.{packed_from, packed_places, packed_spots, unpacked_count}
+use Rattle.relocate.specs.Packing.{packed_from, unpacked_count}
 use Rattle.relocate.specs.Packing.{at_places as spots_at}
 use Rattle.relocate.specs.Compaction.{IsCompaction}
 use Rattle.relocate.proofs.CompactionLemmas.{packs_once}
 use Rattle.space_blocks.specs.declared.placed.Owner.{Owner}
 use Rattle.space_blocks.specs.declared.placed.Placed.{Placed}
-use Rattle.space_blocks.specs.Moves.{IsPacking, at_places, moved_to, next_in, packed, spot_of, spots_of}
+use Rattle.space_blocks.specs.Moves.{IsPacking, at_places, moved_to, packed, spot_of, spots_of}
 use Rattle.space_blocks.proofs.Moving.{spots_moved}
 
 abbrev owners : List Placed → List Owner

@@ -1,5 +1,5 @@
 -- The blocks of one space, with their owners.
-use Rattle.std.specs.Prelude.{◌≡◌, ℕ, ◌≤◌, ◌<◌, ◌&&◌, ◌==◌, Bool, false, not, List, [], ◌∷◌, map, filter, length, Option, Some, None, nat_lt, if◌then◌else◌}
+use Rattle.std.specs.Prelude.{ℕ, ◌≤◌, ◌<◌, ◌&&◌, ◌==◌, Bool, false, not, List, [], ◌∷◌, map, filter, length, Option, Some, None, nat_lt, if◌then◌else◌}
 use Rattle.std.specs.List.{Contains}
 use Rattle.mem_rec.specs.declared.TheConstants.{TABLE_RECORDS}
 use Rattle.space_raw.specs.Span.{Span}

@@ -1,5 +1,5 @@
 -- A space and its blocks.
-use Rattle.std.specs.Prelude.{◌≡◌, ℕ, ◌<◌, ◌^◌, List}
+use Rattle.std.specs.Prelude.{ℕ, ◌<◌, ◌^◌, List}
 use Rattle.space_raw.specs.Span.{Extent}
 use Rattle.space_heap.specs.Pictures.{AreBlocks, HeapState, Holds, IsSpaceSize}
 use Rattle.relocate.specs.Spots.{AreSpots}

@@ -27,7 +27,7 @@ idle_words_seen : (rs : List MemRec) (own own' shared shared' : Pieces) → Same
 idle_words_seen rs own own' shared shared' o s =
     let at : (k : ℕ) → idle_record_words rs own' shared' k ≡ idle_record_words rs own shared k =
     λ k. ap (λ (ws : List ℤ). lasting_words_by (record_at rs k).attr (record_at rs k).size ws (piece_words (piece_at shared' k))) (o k)
-        ∙ ap (λ (ws : List ℤ). lasting_words_by (record_at rs k).attr (record_at rs k).size (piece_words (piece_at own k)) ws) (s k) in
+    ∙ ap (λ (ws : List ℤ). lasting_words_by (record_at rs k).attr (record_at rs k).size (piece_words (piece_at own k)) ws) (s k) in
     let old = idle_record_words rs own shared in
     let new = idle_record_words rs own' shared' in
     ap (λ (ws : List ℤ). ws ∷ new 1 ∷ new 2 ∷ new 3 ∷ []) (at 0)

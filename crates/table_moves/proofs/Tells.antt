@@ -65,7 +65,7 @@ module _ {M : Type 0} (slots : List (Option (Member M))) (once : List Pieces) (g
 
     pub keeps_of_idle : (meaning : Meaning M) (idle_keeps active_keeps : Relation M) (w : Option ℤ) (histories : ℕ → History)
         → (InstKeeps meaning idle_keeps active_keeps w (member_back back m).inst (once_at once i) (group_at groups m.group) (histories i)
-          → SlotKeeps meaning idle_keeps active_keeps w (Some n) o groups (histories i))
+        → SlotKeeps meaning idle_keeps active_keeps w (Some n) o groups (histories i))
         → Keeps meaning idle_keeps active_keeps w with_piece_back once groups histories
         → Keeps meaning idle_keeps active_keeps w (set slots i (Some n)) (set once i o) groups histories
     keeps_of_idle meaning idle_keeps active_keeps w histories step keeps =

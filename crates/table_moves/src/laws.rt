@@ -48,6 +48,6 @@ pub fn poisoned()
     ensures { (w : Option ℤ) (groups groups' : List Group) → ArePoisoned w groups
         → ((k : ℕ) → activity_at groups' k ≡ activity_at groups k)
         → ((k : ℕ) (space : Space) → (block_words (block_in (group_at groups' k) space) ≡ block_words (block_in (group_at groups k) space))
-            ⊎ ArePoison w (block_words (block_in (group_at groups' k) space)))
+        ⊎ ArePoison w (block_words (block_in (group_at groups' k) space)))
         → ArePoisoned w groups' }
 {}

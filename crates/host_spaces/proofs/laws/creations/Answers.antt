@@ -1,4 +1,4 @@
-use Rattle.std.proofs.Common.{◌≡◌, Ok, ap, ◌∙◌}
+use Rattle.std.proofs.Common.{Ok, ap, ◌∙◌}
 use Rattle.host_spaces.specs.Creation.{result_map, without_replaced}
 use Rattle.host_spaces.proofs.Leaving.{replaced_are}
 use Rattle.host_spaces.proofs.laws.creations.Goals as goal

@@ -1,4 +1,4 @@
-use Rattle.std.proofs.Common.{List, IsTrue, sym, subst, ap, ◌∙◌}
+use Rattle.std.proofs.Common.{sym, ◌∙◌}
 use Rattle.space_blocks.specs.declared.placed.Owner.TheVariants.{Scratch}
 use Rattle.scratch_group.specs.Blocks.{block_in}
 use Rattle.host_spaces.specs.Picture.{blocks_in, picture_of, space_in}

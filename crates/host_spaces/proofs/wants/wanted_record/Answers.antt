@@ -1,5 +1,4 @@
-use Rattle.std.proofs.Common.{List, IsTrue, ◌<◌, length, get_or, sym, subst, ap, ◌∙◌}
-use Rattle.std.specs.Int.{next_multiple_of}
+use Rattle.std.proofs.Common.{List, IsTrue, sym, subst}
 use Rattle.mem_rec.specs.declared.MemRec.{MemRec}
 use Rattle.mem_rec.specs.Records.{is_table}
 use Rattle.host_spaces.proofs.Limits.{record_limits}

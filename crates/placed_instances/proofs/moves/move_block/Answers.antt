@@ -31,15 +31,15 @@ unreachable-requires g c =
 pub returns : goal.returns
 returns g c =
     let stand = stands _ _ _ _ _ c.args.g c.args.align c.requires.ok c.requires.standing c.requires.next c.requires.align _ (sym c.take_block.ensures.old ∙ c.in-Some.is)
-        c.make_move-moved.result _ _ _ c.make_move-moved.ensures.owned c.make_move-moved.ensures.others c.make_move-moved.ensures.elsewhere c.make_move-moved.ensures.regions
-        c.make_move-moved.ensures.words.0 c.make_move-moved.ensures.words.1 c.take_block.ensures.others c.put_block-old.ensures.others c.put_block-old.ensures.new in
+    c.make_move-moved.result _ _ _ c.make_move-moved.ensures.owned c.make_move-moved.ensures.others c.make_move-moved.ensures.elsewhere c.make_move-moved.ensures.regions
+    c.make_move-moved.ensures.words.0 c.make_move-moved.ensures.words.1 c.take_block.ensures.others c.put_block-old.ensures.others c.put_block-old.ensures.new in
     let words = words_now _ _ _ _ _ c.args.g c.args.align c.requires.ok c.requires.standing c.requires.next c.requires.align _ (sym c.take_block.ensures.old ∙ c.in-Some.is)
-        c.make_move-moved.result _ _ _ c.make_move-moved.ensures.owned c.make_move-moved.ensures.others c.make_move-moved.ensures.elsewhere c.make_move-moved.ensures.regions
-        c.make_move-moved.ensures.words.0 c.make_move-moved.ensures.words.1 c.take_block.ensures.others c.put_block-old.ensures.others c.put_block-old.ensures.new in
+    c.make_move-moved.result _ _ _ c.make_move-moved.ensures.owned c.make_move-moved.ensures.others c.make_move-moved.ensures.elsewhere c.make_move-moved.ensures.regions
+    c.make_move-moved.ensures.words.0 c.make_move-moved.ensures.words.1 c.take_block.ensures.others c.put_block-old.ensures.others c.put_block-old.ensures.new in
     let poisoned = poisoned_now _ _ _ _ _ c.args.g c.args.align c.requires.ok c.requires.standing c.requires.next c.requires.align _ (sym c.take_block.ensures.old ∙ c.in-Some.is)
-        c.make_move-moved.result _ _ _ c.make_move-moved.ensures.owned c.make_move-moved.ensures.others c.make_move-moved.ensures.elsewhere c.make_move-moved.ensures.regions
-        c.make_move-moved.ensures.words.0 c.make_move-moved.ensures.words.1 c.take_block.ensures.others c.put_block-old.ensures.others c.put_block-old.ensures.new
-        (λ k. c.put_block-old.ensures.activity k ∙ c.take_block.ensures.activity k) in
+    c.make_move-moved.result _ _ _ c.make_move-moved.ensures.owned c.make_move-moved.ensures.others c.make_move-moved.ensures.elsewhere c.make_move-moved.ensures.regions
+    c.make_move-moved.ensures.words.0 c.make_move-moved.ensures.words.1 c.take_block.ensures.others c.put_block-old.ensures.others c.put_block-old.ensures.new
+    (λ k. c.put_block-old.ensures.activity k ∙ c.take_block.ensures.activity k) in
     record {
       ok = c.tell_members.ensures.ok;
       standing = standing_stays _ _ _ _ _ _ _ c.tell_members.ensures.same stand;

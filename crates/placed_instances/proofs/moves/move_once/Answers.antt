@@ -35,11 +35,11 @@ returns g c =
     let same = rw (none_back c.args.slots.now.items c.args.i, once_is, c.take_once-piece.ensures.left, back) at c.tell.ensures.same in
     let keeps = rw (none_back c.args.slots.now.items c.args.i, once_is, c.take_once-piece.ensures.left, back) at c.tell.ensures.keeps in
     let stand = stands _ _ _ _ _ c.args.i c.args.k _ c.requires.ok c.requires.standing c.requires.next c.requires.number c.take_once-piece.ensures.piece c.make_move-moved.result _
-        c.make_move-moved.ensures.owned c.make_move-moved.ensures.others c.make_move-moved.ensures.elsewhere c.make_move-moved.ensures.regions
-        c.make_move-moved.ensures.words.0 c.make_move-moved.ensures.words.1 in
+    c.make_move-moved.ensures.owned c.make_move-moved.ensures.others c.make_move-moved.ensures.elsewhere c.make_move-moved.ensures.regions
+    c.make_move-moved.ensures.words.0 c.make_move-moved.ensures.words.1 in
     let words = words_now _ _ _ _ _ c.args.i c.args.k _ c.requires.ok c.requires.standing c.requires.next c.requires.number c.take_once-piece.ensures.piece c.make_move-moved.result _
-        c.make_move-moved.ensures.owned c.make_move-moved.ensures.others c.make_move-moved.ensures.elsewhere c.make_move-moved.ensures.regions
-        c.make_move-moved.ensures.words.0 c.make_move-moved.ensures.words.1 in
+    c.make_move-moved.ensures.owned c.make_move-moved.ensures.others c.make_move-moved.ensures.elsewhere c.make_move-moved.ensures.regions
+    c.make_move-moved.ensures.words.0 c.make_move-moved.ensures.words.1 in
     record {
       ok = c.tell.ensures.ok;
       standing = standing_stays _ _ _ _ _ _ _ same stand;

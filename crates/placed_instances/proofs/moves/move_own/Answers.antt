@@ -28,14 +28,14 @@ returns g c =
     let same = rw c.take_own-piece.ensures.left at c.tell.ensures.same in
     let keeps = rw c.take_own-piece.ensures.left at c.tell.ensures.keeps in
     let stands = stands_back _ _ _ _ _ c.args.i c.args.k _ c.requires.ok c.requires.standing c.requires.next c.take_own-piece.ensures.piece _ _
-        c.make_move-moved.ensures.owned c.make_move-moved.ensures.others c.make_move-moved.ensures.elsewhere c.make_move-moved.ensures.regions
-        c.make_move-moved.ensures.words.0 c.make_move-moved.ensures.words.1 in
+    c.make_move-moved.ensures.owned c.make_move-moved.ensures.others c.make_move-moved.ensures.elsewhere c.make_move-moved.ensures.regions
+    c.make_move-moved.ensures.words.0 c.make_move-moved.ensures.words.1 in
     let kinds = kinds_back _ _ _ _ _ c.args.i c.args.k _ c.requires.ok c.requires.standing c.requires.next c.take_own-piece.ensures.piece _ _
-        c.make_move-moved.ensures.owned c.make_move-moved.ensures.others c.make_move-moved.ensures.elsewhere c.make_move-moved.ensures.regions
-        c.make_move-moved.ensures.words.0 c.make_move-moved.ensures.words.1 in
+    c.make_move-moved.ensures.owned c.make_move-moved.ensures.others c.make_move-moved.ensures.elsewhere c.make_move-moved.ensures.regions
+    c.make_move-moved.ensures.words.0 c.make_move-moved.ensures.words.1 in
     let words = words_back _ _ _ _ _ c.args.i c.args.k _ c.requires.ok c.requires.standing c.requires.next c.take_own-piece.ensures.piece _ _
-        c.make_move-moved.ensures.owned c.make_move-moved.ensures.others c.make_move-moved.ensures.elsewhere c.make_move-moved.ensures.regions
-        c.make_move-moved.ensures.words.0 c.make_move-moved.ensures.words.1 in
+    c.make_move-moved.ensures.owned c.make_move-moved.ensures.others c.make_move-moved.ensures.elsewhere c.make_move-moved.ensures.regions
+    c.make_move-moved.ensures.words.0 c.make_move-moved.ensures.words.1 in
     record {
       ok = c.tell.ensures.ok;
       standing = standing_stays _ _ _ _ _ _ _ same stands;

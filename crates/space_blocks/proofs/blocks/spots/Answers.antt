@@ -1,4 +1,4 @@
-use Rattle.std.proofs.Common.{sym, ◌∙◌, ap, add-one, take, ◌∷◌, [], ◌++◌}
+use Rattle.std.proofs.Common.{sym, add-one}
 use Rattle.space_blocks.specs.declared.placed.Owner.TheVariants.{Record}
 use Rattle.space_blocks.specs.declared.placed.Placed.{Placed}
 use Rattle.space_blocks.proofs.Moving.{spots_next}

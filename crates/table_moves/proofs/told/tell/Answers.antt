@@ -109,8 +109,10 @@ module _ (g : Over) (c : After-groups-1 g) where
 pub returns-in-Running-clause-ok : goal.returns-in-Running-clause-ok
 returns-in-Running-clause-ok g c =
     ok_of_active _ _ _ c.args.i c.in-Some.member c.args.back c.requires.others (active_in_slot g c) c.requires.number (Running c.moved-in-Running.new.self) _ _ (active_alone g c) (active_now g c) (active_pieces g c) (active_blocks g c)
-    (rw (get_or-set_same c.args.once.now.items c.args.i c.moved-in-Running.new.shared no_pieces (omega (arith, c.requires.number, c.requires.others.once_count)),
-    get_or-set_same c.args.groups.now.items c.in-Some.member.group c.moved-in-Running.new.group no_group (omega (arith, (active_range g c), c.requires.others.group_count))) (active_housed g c))
+    (rw (
+      get_or-set_same c.args.once.now.items c.args.i c.moved-in-Running.new.shared no_pieces (omega (arith, c.requires.number, c.requires.others.once_count)),
+      get_or-set_same c.args.groups.now.items c.in-Some.member.group c.moved-in-Running.new.group no_group (omega (arith, (active_range g c), c.requires.others.group_count)),
+    ) (active_housed g c))
 
 pub returns-in-Running-clause-poisoned : goal.returns-in-Running-clause-poisoned
 returns-in-Running-clause-poisoned g c w before =

@@ -1,6 +1,4 @@
-use Rattle.std.proofs.Common.{◌≡◌, ◌≢◌, Option, Some, IfSome, sym, subst}
-use Rattle.space_raw.specs.Span.{Span}
-use Rattle.space_blocks.specs.Blocks.{Owns}
+use Rattle.std.proofs.Common.{sym}
 use Rattle.space_blocks.proofs.Owners.{disowned_none}
 use Rattle.host_spaces.specs.Picture.{space_in}
 use Rattle.host_spaces.proofs.spaces.Spaces.give_back.Goals as goal

@@ -1,7 +1,6 @@
 -- All that is needed was placed, as the definition says.
-use Rattle.std.proofs.Common.{◌≡◌, ◌≢◌, ◌+◌, ◌≤◌, ℕ, ℤ, List, [], length, drop, Option, sym, ◌∙◌, ap, subst, arith}
+use Rattle.std.proofs.Common.{◌≡◌, ℕ, List, [], length, drop, Option, sym, ◌∙◌, ap, subst, arith}
 use Rattle.mem_rec.specs.declared.Space.{Space}
-use Rattle.space_blocks.specs.declared.TheConstants.{SPACE_BLOCKS}
 use Rattle.space_blocks.specs.declared.placed.Owner.TheVariants.{Record, Scratch}
 use Rattle.space_blocks.specs.Blocks.{owned}
 use Rattle.host_spaces.specs.declared.pieces.Placement.{Placement}

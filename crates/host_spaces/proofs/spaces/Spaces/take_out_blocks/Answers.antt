@@ -1,13 +1,11 @@
 -- Each space has its block back.
-use Rattle.std.proofs.Common.{◌≡◌, ◌≢◌, ◌∙◌, IfSome, sym, ap, subst}
+use Rattle.std.proofs.Common.{◌≡◌, ◌∙◌, IfSome, sym, ap, subst}
 use Rattle.mem_rec.specs.declared.Space.TheVariants.{Daram, Saram, External}
-use Rattle.space_raw.specs.Span.{Extent, Span}
 use Rattle.space_blocks.specs.declared.placed.Owner.{Owner}
 use Rattle.space_blocks.specs.declared.placed.Owner.TheVariants.{Scratch}
-use Rattle.space_blocks.specs.Blocks.{Owns, block_of_piece, owned}
+use Rattle.space_blocks.specs.Blocks.{Owns, owned}
 use Rattle.space_blocks.specs.Spaces.{SpaceState}
-use Rattle.host_spaces.specs.declared.spaces.Spaces.{Spaces}
-use Rattle.host_spaces.specs.Picture.{blocks_in, picture_of, space_in}
+use Rattle.host_spaces.specs.Picture.{space_in}
 use Rattle.host_spaces.proofs.Leaving.{group_left, group_others, if_some, pieces_left}
 use Rattle.host_spaces.proofs.Pictures.{daram_external, daram_saram, saram_external}
 use Rattle.host_spaces.proofs.spaces.Spaces.take_out_blocks.Goals as goal

@@ -1,6 +1,5 @@
 -- The new block is put in its place.
-use Rattle.std.proofs.Common.{◌≡◌, ◌≢◌, List, sym, ◌∙◌, ap, subst}
-use Rattle.space_blocks.specs.declared.placed.Owner.{Owner}
+use Rattle.std.proofs.Common.{◌≡◌, List, sym, ◌∙◌, ap, subst}
 use Rattle.space_blocks.specs.declared.placed.Placed.{Placed}
 use Rattle.space_blocks.specs.Blocks.{block_of, owned, ranges, with_block, without_at}
 use Rattle.space_blocks.specs.Spaces.{AreKept, SpaceState}
