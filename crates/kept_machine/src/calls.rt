@@ -2,6 +2,7 @@
 ghost use Rattle.std.specs.Prelude.{◌≡◌, ◌≤◌, ◌<◌, [], length, IsSome, OnErr, is_some};
 ghost use Rattle.ialg.specs.Views.{control_of};
 ghost use Rattle.instance_table.specs.Table.{slot_at, TablesOk, ArePoisoned};
+ghost use Rattle.instance_table.specs.Frames.{SameTables};
 ghost use Rattle.sound_machine.specs.State.{State};
 ghost use Rattle.sound_machine.specs.Calls.{Processes, Controls, Does};
 ghost use Rattle.sound_machine.specs.Calls.Call.{Release};
@@ -31,6 +32,7 @@ pub fn give_block<M: Ialg>(
     requires within { length input.now ≤ BLOCK_SAMPLES }
     ensures ok { TablesOk slots.new.items once.new.items groups.new.items }
     ensures poisoned { ArePoisoned poison groups.new.items }
+    ensures same { SameTables slots.old.items once.old.items groups.old.items slots.new.items once.new.items groups.new.items }
     ensures machine { (before : State M) → before.poison ≡ poison
         → TablesKeep M.meaning M.idle_keeps M.active_keeps slots.old.items once.old.items groups.old.items before
         → Processes M.meaning before i input.now out.new.items (processed before i input.now)
@@ -64,6 +66,7 @@ pub fn give_control<M: Ialg>(
     requires poisoned { ArePoisoned poison groups.old.items }
     ensures ok { TablesOk slots.new.items once.new.items groups.new.items }
     ensures poisoned { ArePoisoned poison groups.new.items }
+    ensures same { SameTables slots.old.items once.old.items groups.old.items slots.new.items once.new.items groups.new.items }
     ensures refused { OnErr result ((slots.new ≡ slots.old) × (once.new ≡ once.old) × (groups.new ≡ groups.old)) }
     ensures machine { (before : State M) → before.poison ≡ poison
         → TablesKeep M.meaning M.idle_keeps M.active_keeps slots.old.items once.old.items groups.old.items before
@@ -95,6 +98,7 @@ pub fn put_to_rest<M: Ialg>(
     requires poisoned { ArePoisoned poison groups.old.items }
     ensures ok { TablesOk slots.new.items once.new.items groups.new.items }
     ensures poisoned { ArePoisoned poison groups.new.items }
+    ensures same { SameTables slots.old.items once.old.items groups.old.items slots.new.items once.new.items groups.new.items }
     ensures refused { OnErr result ((slots.new ≡ slots.old) × (once.new ≡ once.old) × (groups.new ≡ groups.old)) }
     ensures machine { (before : State M) → before.poison ≡ poison
         → TablesKeep M.meaning M.idle_keeps M.active_keeps slots.old.items once.old.items groups.old.items before

@@ -7,3 +7,4 @@ pub mod Nexts
 pub mod OwnMoves
 pub mod OnceMoves
 pub mod BlockMoves
+pub mod Maps

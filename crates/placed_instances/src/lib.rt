@@ -3,8 +3,10 @@
 //! The records of each instance, and the blocks of each group, stand where the memory picture shows them.
 #![tactic(auto)]
 
+mod laws;
 mod moves;
 mod order;
 
+pub use laws::{maps_have_room, nobody_stands, places_stay};
 pub use moves::make_next_move;
 pub use order::in_order;

@@ -1,0 +1,51 @@
+//! What an instance is given: controls and blocks of samples.
+ghost use Rattle.std.specs.Prelude.{◌≡◌, ◌≤◌, true, [], length, OnErr};
+ghost use Rattle.ialg.specs.Views.{control_of};
+ghost use Rattle.sound_machine.specs.Calls.Call.{Control, Process, Lives};
+ghost use Rattle.kept_machine.specs.Kept.{told};
+ghost use Rattle.alg_host.specs.Hosts.{lives, Serves};
+
+use crate::Host;
+use ialg::{BLOCK_SAMPLES, Block, Ctl, Ialg, Refusal, Status};
+use kept_machine::{give_block, give_control};
+use placed_instances::places_stay;
+
+impl<M: Ialg> Host<M> {
+    /// Whether an instance lives under the number.
+    pub fn living(&self, i: u8) -> bool
+        ensures value { result ≡ lives self.now i }
+        ensures machine { Serves M.meaning M.idle_keeps M.active_keeps (Lives i result) self.now self.now }
+    {
+        match self.slots.get(i as usize) {
+            Some(Some(_)) => true,
+            _ => false,
+        }
+    }
+
+    /// Gives instance `i` a control. It becomes the active member of its group, unless it is so already.
+    ///
+    /// # Errors
+    ///
+    /// `Range` where the number is past the last, `Missing` where no instance has it, and `Command` where its kind doesn't take the
+    /// control. A refused control changes nothing.
+    pub fn control(&mut self, i: u8, c: &Ctl) -> Result<Status, Refusal>
+        ensures refused { OnErr result (self.new ≡ self.old) }
+        ensures machine { Serves M.meaning M.idle_keeps M.active_keeps (Control i (control_of c.now) (told result)) self.old self.new }
+    {
+        places_stay::<M>();
+        give_control(&mut self.slots, &mut self.once, &mut self.groups, self.poison, i, c)
+    }
+
+    /// Gives instance `i` a block of samples, and pushes what it gives out, no more samples than it got. It becomes the active member of
+    /// its group, unless it is so already.
+    pub fn process(&mut self, i: u8, input: &[i16], out: &mut Block)
+        requires living { lives self.old i ≡ true }
+        requires empty { out.old.items ≡ [] }
+        requires some { 1 ≤ length input.now }
+        requires within { length input.now ≤ BLOCK_SAMPLES }
+        ensures machine { Serves M.meaning M.idle_keeps M.active_keeps (Process i input.now out.new.items) self.old self.new }
+    {
+        places_stay::<M>();
+        give_block(&mut self.slots, &mut self.once, &mut self.groups, self.poison, i, input, out);
+    }
+}

@@ -1,0 +1,83 @@
+//! The host: how it is made.
+ghost use Rattle.std.specs.Prelude.{◌≡◌, IfOk, IfErr, IsErrOf};
+ghost use Rattle.host_spaces.specs.Picture.{AreSizes};
+ghost use Rattle.sound_machine.specs.State.{new_state};
+ghost use Rattle.alg_host.specs.Hosts.{Keeps};
+
+use host_spaces::{Sizes, Spaces, StartError};
+use ialg::Ialg;
+use instance_table::{Member, empty_groups, empty_once, empty_slots, end_once, end_slots, in_order};
+use placed_instances::nothing_stands;
+use record_loans::Pieces;
+use scratch_group::Group;
+use std::alloc::Global;
+use std::marker::Model;
+
+/// A host of instances of the kinds `M`. It can't be copied, and must be given back by [`close`](Host::close).
+pub struct Host<M> {
+    pub(crate) slots: Vec<Option<Member<M>>>,
+    pub(crate) once: Vec<Pieces>,
+    pub(crate) groups: Vec<Group>,
+    pub(crate) spaces: Spaces,
+    pub(crate) poison: Option<i16>,
+}
+
+impl<M> Model for Host<M> {
+    ghost use Rattle.alg_host.specs.Hosts.{HostState, IsHost};
+
+    ghost Value = { HostState M };
+
+    ghost view = { λ h. record { slots = h.slots.items; once = h.once.items; groups = h.groups.items; spaces = h.spaces; poison = h.poison } };
+
+    ghost invariant = { λ h. IsHost (record { slots = h.slots.items; once = h.once.items; groups = h.groups.items; spaces = h.spaces; poison = h.poison }) };
+}
+
+impl<M: Ialg> Host<M> {
+    /// A host without instances over three spaces of these sizes, in words of 16 bits. Where there is a poison word, each block holds it
+    /// when it is placed, and a group's blocks hold it wherever no member is active. No later call asks for memory.
+    ///
+    /// # Errors
+    ///
+    /// `BadSize` where a size isn't a multiple of 4 up to 65,536, and otherwise `Memory` where a request for memory was refused. Nothing
+    /// is held then.
+    pub fn new(alloc: Global, sizes: Sizes, poison: Option<i16>) -> Result<Host<M>, StartError>
+        ensures bad_size { ¬ AreSizes sizes → IsErrOf result StartError.BadSize }
+        ensures memory { AreSizes sizes → IfErr result (λ e. e ≡ StartError.Memory) }
+        ensures host { IfOk result (λ h. Keeps M.meaning M.idle_keeps M.active_keeps h (new_state sizes poison)) }
+    {
+        let spaces = Spaces::new(alloc, sizes)?;
+        let slots = match empty_slots(alloc) {
+            Ok(slots) => slots,
+            Err(_refused) => {
+                spaces.close();
+                return Err(StartError::Memory);
+            }
+        };
+        let once = match empty_once(alloc) {
+            Ok(once) => once,
+            Err(_refused) => {
+                end_slots(slots);
+                spaces.close();
+                return Err(StartError::Memory);
+            }
+        };
+        let groups = match empty_groups(alloc) {
+            Ok(groups) => groups,
+            Err(_refused) => {
+                end_once(once);
+                end_slots(slots);
+                spaces.close();
+                return Err(StartError::Memory);
+            }
+        };
+        in_order(&slots, &once, &groups);
+        nothing_stands(&slots, &once, &groups, &spaces);
+        Ok(Host {
+            slots,
+            once,
+            groups,
+            spaces,
+            poison,
+        })
+    }
+}

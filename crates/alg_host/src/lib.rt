@@ -1,0 +1,13 @@
+//! A host of algorithms: instances in three spaces of memory, in groups that work in the same scratch words by turns.
+//!
+//! For each call there is one sentence: whatever state of the machine the host kept, the call is answered as the machine answers it
+//! there, and the host keeps a state that comes after it. No condition is put on the kinds that it hosts.
+#![tactic(auto)]
+
+mod calls;
+mod groups;
+mod host;
+mod moves;
+
+pub use groups::Stat;
+pub use host::Host;
