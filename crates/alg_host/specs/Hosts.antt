@@ -41,7 +41,7 @@ pub record Keeps {M : Type 0} (meaning : Meaning M) (idle_keeps active_keeps : R
 -- whatever state the host kept, the call was answered as the machine may answer it there, and the host keeps a state that comes after it
 abbrev pub Serves : {M : Type 0} → Meaning M → Relation M → Relation M → Call M → HostState M → HostState M → Type 0
 Serves {M} meaning idle_keeps active_keeps call old new = (before : State M) → Keeps meaning idle_keeps active_keeps old before
-    → (after : State M) × (Does meaning before call after × Keeps meaning idle_keeps active_keeps new after)
+    → (after : State M) × Does meaning before call after × Keeps meaning idle_keeps active_keeps new after
 
 -- what is told of a group
 abbrev pub activity_of : Stat → Activity

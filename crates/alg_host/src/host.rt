@@ -7,7 +7,7 @@ ghost use Rattle.alg_host.specs.Hosts.{Keeps};
 use host_spaces::{Sizes, Spaces, StartError};
 use ialg::Ialg;
 use instance_table::{Member, empty_groups, empty_once, empty_slots, end_once, end_slots, in_order};
-use placed_instances::nothing_stands;
+use placed_instances::nobody_stands;
 use record_loans::Pieces;
 use scratch_group::Group;
 use std::alloc::Global;
@@ -71,7 +71,7 @@ impl<M: Ialg> Host<M> {
             }
         };
         in_order(&slots, &once, &groups);
-        nothing_stands(&slots, &once, &groups, &spaces);
+        nobody_stands::<M>();
         Ok(Host {
             slots,
             once,

@@ -29,7 +29,7 @@ impl<M: Ialg> Host<M> {
     pub fn map(&self, space: Space) -> Map
         ensures machine { Serves M.meaning M.idle_keeps M.active_keeps (MapCall space result.items) self.now self.now }
     {
-        maps_have_room(&self.slots, &self.once, &self.groups, &self.spaces);
+        maps_have_room::<M>();
         self.spaces.map(space)
     }
 

@@ -1,0 +1,73 @@
+-- What a call leaves of the state, and that the host keeps what comes after it.
+use Rattle.std.proofs.Common.{◌≡◌, ℕ, ℤ, Bool, List, [], ◌∷◌, Option, Some, None, Ok, refl, ap, sym, ◌∙◌, subst}
+use Rattle.mem_rec.specs.declared.Space.{Space}
+use Rattle.ialg.specs.declared.refusal.Refusal.{Refusal}
+use Rattle.ialg.specs.History.{Ctl}
+use Rattle.ialg.specs.Meaning.{Meaning, Status}
+use Rattle.record_loans.specs.declared.pieces.Pieces.{Pieces}
+use Rattle.scratch_group.specs.declared.group.Group.{Group}
+use Rattle.lifecycle.specs.States.{Relation}
+use Rattle.instance_table.specs.declared.member.Member.{Member}
+use Rattle.instance_table.specs.Table.{rested, with_activity}
+use Rattle.space_blocks.specs.declared.placed.Placed.{Placed}
+use Rattle.space_blocks.specs.Moves.{next_block}
+use Rattle.host_spaces.specs.declared.spaces.Spaces.{Spaces}
+use Rattle.host_spaces.specs.Picture.{blocks_in}
+use Rattle.sound_machine.specs.State.{Living, State}
+use Rattle.sound_machine.specs.Steps.{Outcome, unless, control, control_refusal, controlled, given, processed, release, group_refusal, step, moving}
+use Rattle.sound_machine.specs.Calls.{Controls}
+use Rattle.kept_machine.specs.Kept.{TablesKeep}
+use Rattle.kept_moves.specs.Hosts.{HostKeeps}
+use Rattle.alg_host.specs.Hosts.{HostState, Keeps}
+
+-- the same picture in the same spaces
+pub record SamePlaces {M : Type 0} (before after : State M) : Type 0 where
+  pub picture : after.picture ≡ before.picture
+  pub sizes : after.sizes ≡ before.sizes
+  pub copied : after.copied ≡ before.copied
+  pub poison : after.poison ≡ before.poison
+
+itself : {M : Type 0} (s : State M) → SamePlaces s s
+itself s = record { picture = refl; sizes = refl; copied = refl; poison = refl }
+
+refused_or : {M A : Type 0} (before : State M) (r : Option Refusal) (o : Outcome M A) → SamePlaces before o.1 → SamePlaces before (unless r before o).1
+refused_or before None o same = same
+refused_or before (Some r) o same = itself before
+
+given_stays : {M : Type 0} (before : State M) (i : ℕ) (x : Option (Living M)) (block : List ℤ) → SamePlaces before (given before i x block)
+given_stays before i None block = itself before
+given_stays before i (Some x) [] = itself before
+given_stays before i (Some x) (s ∷ block) = record { picture = refl; sizes = refl; copied = refl; poison = refl }
+
+pub processed_stays : {M : Type 0} (before : State M) (i : ℕ) (block : List ℤ) → SamePlaces before (processed before i block)
+processed_stays before i block = given_stays before i (before.living i) block
+
+controlled_stays : {M : Type 0} (before : State M) (i : ℕ) (x : Option (Living M)) (c : Ctl) → SamePlaces before (controlled before i x c)
+controlled_stays before i None c = itself before
+controlled_stays before i (Some x) c = record { picture = refl; sizes = refl; copied = refl; poison = refl }
+
+pub controls_stay : {M : Type 0} (meaning : Meaning M) (before after : State M) (i : ℕ) (c : Ctl) (answer : _) → Controls meaning before i c answer after → SamePlaces before after
+controls_stay meaning before after i c answer did =
+    subst (λ s. SamePlaces before s) (sym (ap (λ o. o.1) did.outcome))
+    (refused_or before (control_refusal before i did.taken) (Ok did.status, controlled before i (before.living i) c) (controlled_stays before i (before.living i) c))
+
+pub release_stays : {M : Type 0} (before : State M) (g : ℕ) → SamePlaces before (release before g).1
+release_stays before g = refused_or before (group_refusal before g) _ (record { picture = refl; sizes = refl; copied = refl; poison = refl })
+
+moving_poison : {M : Type 0} (before : State M) (space : Space) (b : Option Placed) → (moving before space b).1.poison ≡ before.poison
+moving_poison before space None = refl
+moving_poison before space (Some b) = refl
+
+pub step_poison : {M : Type 0} (before : State M) (space : Space) → (step before space).1.poison ≡ before.poison
+step_poison before space = moving_poison before space (next_block (blocks_in before.picture space))
+
+-- the tables keep what comes after, and the spaces are as they were
+pub still_kept : {M : Type 0} (meaning : Meaning M) (idle_keeps active_keeps : Relation M) (slots slots' : List (Option (Member M))) (once once' : List Pieces)
+    (groups groups' : List Group) (spaces : Spaces) (before after : State M) → HostKeeps meaning idle_keeps active_keeps slots once groups spaces before
+    → SamePlaces before after → TablesKeep meaning idle_keeps active_keeps slots' once' groups' after → HostKeeps meaning idle_keeps active_keeps slots' once' groups' spaces after
+still_kept meaning idle_keeps active_keeps slots slots' once once' groups groups' spaces before after kept same tables = record {
+  tables = tables;
+  picture = kept.picture ∙ sym same.picture;
+  sizes = kept.sizes ∙ sym same.sizes;
+  copied = kept.copied ∙ sym same.copied;
+}

@@ -1,0 +1,22 @@
+use Rattle.std.proofs.Common.{◌≡◌, ◌∙◌, sym, subst}
+use Rattle.ialg.specs.Views.{control_of}
+use Rattle.kept_machine.specs.Kept.{told}
+use Rattle.alg_host.specs.Hosts.{Keeps}
+use Rattle.alg_host.proofs.Served.{controls_stay, still_kept}
+use Rattle.alg_host.proofs.host.Host.control.Goals as goal
+
+pub returns-clause-machine : goal.returns-clause-machine
+returns-clause-machine g c = λ before keeps.
+    let kept = subst (λ h. Keeps g.M.Ialg.meaning g.M.Ialg.idle_keeps g.M.Ialg.active_keeps h before) (sym c.self.view_is) keeps in
+    let did = c.give_control.ensures.machine before kept.poison kept.kept.tables in
+    let same = controls_stay g.M.Ialg.meaning before did.0 c.args.i (control_of c.args.c.now) (told c.give_control.result) did.1 in
+    (
+      did.0,
+      did.1,
+      record {
+        kept = still_kept g.M.Ialg.meaning g.M.Ialg.idle_keeps g.M.Ialg.active_keeps c.self.inside.slots.items c.give_control.new.slots.items
+            c.self.inside.once.items c.give_control.new.once.items c.self.inside.groups.items c.give_control.new.groups.items c.self.inside.spaces
+            before did.0 kept.kept same did.2;
+        poison = same.poison ∙ kept.poison;
+      },
+    )

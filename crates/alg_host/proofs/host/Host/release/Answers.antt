@@ -1,0 +1,20 @@
+use Rattle.std.proofs.Common.{◌≡◌, ◌∙◌, ap, sym, subst}
+use Rattle.alg_host.specs.Hosts.{Keeps}
+use Rattle.alg_host.proofs.Served.{SamePlaces, release_stays, still_kept}
+use Rattle.alg_host.proofs.host.Host.release.Goals as goal
+
+pub returns-clause-machine : goal.returns-clause-machine
+returns-clause-machine g c = λ before keeps.
+    let kept = subst (λ h. Keeps g.M.Ialg.meaning g.M.Ialg.idle_keeps g.M.Ialg.active_keeps h before) (sym c.self.view_is) keeps in
+    let did = c.put_to_rest.ensures.machine before kept.poison kept.kept.tables in
+    let same = subst (λ s. SamePlaces before s) (sym (ap (λ o. o.1) did.1)) (release_stays before c.args.group) in
+    (
+      did.0,
+      did.1,
+      record {
+        kept = still_kept g.M.Ialg.meaning g.M.Ialg.idle_keeps g.M.Ialg.active_keeps c.self.inside.slots.items c.put_to_rest.new.slots.items
+            c.self.inside.once.items c.put_to_rest.new.once.items c.self.inside.groups.items c.put_to_rest.new.groups.items c.self.inside.spaces
+            before did.0 kept.kept same did.2;
+        poison = same.poison ∙ kept.poison;
+      },
+    )
