@@ -28,7 +28,13 @@ impl<M: Ialg> Host<M> {
         ensures machine { Serves M.meaning M.idle_keeps M.active_keeps (Release group result) self.old self.new }
     {
         places_stay::<M>();
-        put_to_rest(&mut self.slots, &mut self.once, &mut self.groups, self.poison, group)
+        put_to_rest(
+            &mut self.slots,
+            &mut self.once,
+            &mut self.groups,
+            self.poison,
+            group,
+        )
     }
 
     /// The active member of the group and its count of activations.

@@ -6,7 +6,9 @@ ghost use Rattle.alg_host.specs.Hosts.{Keeps};
 
 use host_spaces::{Sizes, Spaces, StartError};
 use ialg::Ialg;
-use instance_table::{Member, empty_groups, empty_once, empty_slots, end_once, end_slots, in_order};
+use instance_table::{
+    Member, empty_groups, empty_once, empty_slots, end_once, end_slots, in_order,
+};
 use placed_instances::nobody_stands;
 use record_loans::Pieces;
 use scratch_group::Group;

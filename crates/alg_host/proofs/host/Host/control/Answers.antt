@@ -9,8 +9,7 @@ pub returns-clause-machine : goal.returns-clause-machine
 returns-clause-machine g c = λ before keeps.
     let kept = subst (λ h. Keeps g.M.Ialg.meaning g.M.Ialg.idle_keeps g.M.Ialg.active_keeps h before) (sym c.self.view_is) keeps in
     let did = c.give_control.ensures.machine before kept.poison kept.kept.tables in
-    let same = controls_stay g.M.Ialg.meaning before did.0 c.args.i (control_of c.args.c.now) (told c.give_control.result) did.1 in
-    (
+    let same = controls_stay g.M.Ialg.meaning before did.0 c.args.i (control_of c.args.c.now) (told c.give_control.result) did.1 in (
       did.0,
       did.1,
       record {

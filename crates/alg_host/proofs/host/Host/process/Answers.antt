@@ -16,8 +16,7 @@ returns g c = record {
   machine = λ before keeps.
       let kept = subst (λ h. Keeps g.M.Ialg.meaning g.M.Ialg.idle_keeps g.M.Ialg.active_keeps h before) (sym c.self.view_is) keeps in
       let did = c.give_block.ensures.machine before kept.poison kept.kept.tables in
-      let same = processed_stays before c.args.i c.args.input.now in
-      (
+      let same = processed_stays before c.args.i c.args.input.now in (
         processed before c.args.i c.args.input.now,
         did.0,
         record {

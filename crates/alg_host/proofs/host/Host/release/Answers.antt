@@ -7,8 +7,7 @@ pub returns-clause-machine : goal.returns-clause-machine
 returns-clause-machine g c = λ before keeps.
     let kept = subst (λ h. Keeps g.M.Ialg.meaning g.M.Ialg.idle_keeps g.M.Ialg.active_keeps h before) (sym c.self.view_is) keeps in
     let did = c.put_to_rest.ensures.machine before kept.poison kept.kept.tables in
-    let same = subst (λ s. SamePlaces before s) (sym (ap (λ o. o.1) did.1)) (release_stays before c.args.group) in
-    (
+    let same = subst (λ s. SamePlaces before s) (sym (ap (λ o. o.1) did.1)) (release_stays before c.args.group) in (
       did.0,
       did.1,
       record {
