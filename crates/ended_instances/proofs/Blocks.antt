@@ -1,6 +1,6 @@
 -- The blocks of a group without members go.
-use Rattle.std.proofs.Common.{◌≡◌, ◌≢◌, ℕ, ℤ, ◌<◌, ◌⊎◌, inl, inr, Bool, true, false, List, [], ◌∷◌, length, Option, Some, None, IfSome, refl, sym, ◌∙◌, ap, subst}
-use Rattle.std.proofs.lemmas.Bool.{eq-eqb, true≢false}
+use Rattle.std.proofs.Common.{◌≡◌, ◌≢◌, ℕ, ℤ, inl, inr, false, List, length, Option, Some, None, IfSome, refl, sym, ◌∙◌, ap, subst}
+use Rattle.std.proofs.lemmas.Bool.{eq-eqb}
 use Rattle.std.proofs.lemmas.Bool.Decides.{eqb_tells}
 use Rattle.std.proofs.lemmas.List.Elements.{All-nil}
 use Rattle.space_raw.specs.Span.{Span}
@@ -23,16 +23,15 @@ use Rattle.space_blocks.specs.Blocks.{Owns, block_of_piece, owned}
 use Rattle.space_blocks.proofs.Owners.{owns_one}
 use Rattle.host_spaces.specs.declared.spaces.Spaces.{Spaces}
 use Rattle.host_spaces.specs.declared.pieces.OldBlocks.{OldBlocks}
-use Rattle.host_spaces.specs.Picture.{AreSameSpaces, blocks_in, is_group's, picture_of, space_in, without_owners}
+use Rattle.host_spaces.specs.Picture.{AreSameSpaces, blocks_in, is_group's, picture_of, without_owners}
 use Rattle.host_spaces.specs.Pieces.{old_piece}
-use Rattle.instance_table.specs.declared.TheConstants.{GROUPS}
 use Rattle.instance_table.specs.declared.member.Member.{Member}
-use Rattle.instance_table.specs.Table.{Activity, slot_at, once_at, group_at, instance_of, is_member_of, activity_at, TablesOk, TablesTold, ArePoisoned}
+use Rattle.instance_table.specs.Table.{Activity, slot_at, once_at, group_at, instance_of, is_member_of, activity_at, TablesOk, ArePoisoned}
 use Rattle.instance_table.specs.Keeps.{Keeps}
 use Rattle.table_moves.specs.Moves.{BlockStays, WordsStay}
 use Rattle.table_moves.proofs.Owns.{told_later}
 use Rattle.table_moves.proofs.Seen.{words_seen}
-use Rattle.placed_instances.specs.Standing.{IsHome, IsOf, AreStanding, table_of}
+use Rattle.placed_instances.specs.Standing.{IsHome, AreStanding, table_of}
 use Rattle.placed_instances.proofs.Slots.{not_a_group, other_group}
 use Rattle.placed_instances.proofs.Homes.{IsAlike, home_stays, home_elsewhere}
 use Rattle.placed_instances.proofs.MovedBlocks.{alike_itself, block_stays_itself, member_stays_itself}

@@ -1,6 +1,6 @@
 -- The records of an instance go.
-use Rattle.std.proofs.Common.{◌≡◌, ◌≢◌, ℕ, ◌⊎◌, inl, inr, Bool, true, false, not, List, [], ◌∷◌, Option, Some, None, IsSome, refl, sym, ◌∙◌, ap, subst}
-use Rattle.std.proofs.lemmas.Option.{none-some, same_Some}
+use Rattle.std.proofs.Common.{◌≡◌, ◌≢◌, ℕ, inl, inr, Bool, true, false, List, [], ◌∷◌, Option, Some, None, IsSome, refl, sym, ◌∙◌, ap, subst}
+use Rattle.std.proofs.lemmas.Option.{none-some}
 use Rattle.std.proofs.lemmas.Bool.{eq-eqb, true≢false}
 use Rattle.std.proofs.lemmas.Bool.Decides.{eqb_tells}
 use Rattle.mem_rec.specs.declared.MemRec.{MemRec}
@@ -9,7 +9,7 @@ use Rattle.mem_rec.specs.declared.Space.TheVariants.{Daram, Saram, External}
 use Rattle.mem_rec.specs.Records.{is_persistent}
 use Rattle.space_heap.specs.Places.{placed_size}
 use Rattle.space_heap.proofs.RangeTests.{true_or_false}
-use Rattle.ialg.specs.Records.{record_at, unplaced}
+use Rattle.ialg.specs.Records.{unplaced}
 use Rattle.ialg.proofs.Tables.{record_at-unplaced}
 use Rattle.record_loans.specs.declared.pieces.Pieces.{Pieces}
 use Rattle.record_loans.specs.Pieces.{piece_at, SamePieces}
@@ -20,7 +20,7 @@ use Rattle.space_blocks.specs.declared.placed.Owner.{Owner}
 use Rattle.space_blocks.specs.declared.placed.Owner.TheVariants.{Record}
 use Rattle.space_blocks.specs.declared.placed.Owner.TheVariants.{Scratch as GroupScratch}
 use Rattle.space_blocks.specs.declared.placed.Placed.{Placed}
-use Rattle.space_blocks.specs.Blocks.{owned, same_owner}
+use Rattle.space_blocks.specs.Blocks.{owned}
 use Rattle.space_blocks.proofs.Owners.{not_same}
 use Rattle.host_spaces.specs.declared.spaces.Spaces.{Spaces}
 use Rattle.host_spaces.specs.Picture.{Picture, AreSameSpaces, blocks_in, blocks_without, is_instance's, picture_of, space_in, without_owners}

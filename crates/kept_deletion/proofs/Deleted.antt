@@ -1,10 +1,9 @@
 -- What a deletion leaves is kept.
-use Rattle.std.proofs.Common.{◌≡◌, ◌≢◌, ◌<◌, ◌+◌, ℕ, ℤ, zero, suc, ◌⊎◌, inl, inr, Bool, true, false, ◌||◌, cond, List, [], ◌∷◌, length, Option, Some, None, refl, ap, sym, ◌∙◌, subst, arith}
+use Rattle.std.proofs.Common.{◌≡◌, ◌<◌, ◌+◌, ℕ, ℤ, suc, inl, inr, Bool, true, false, ◌||◌, cond, List, [], ◌∷◌, length, Option, Some, None, refl, ap, sym, ◌∙◌, subst, arith}
 use Rattle.std.specs.Prelude.{nat_eq, IsSome, Ok, slice_index_or}
 use Rattle.std.specs.List.{list_any, range_with_len}
 use Rattle.std.proofs.lemmas.Bool.Decides.{eqb_tells}
 use Rattle.space_blocks.specs.declared.TheConstants.{INSTANCES}
-use Rattle.ialg.specs.History.{History}
 use Rattle.ialg.specs.Meaning.{Meaning}
 use Rattle.record_loans.specs.declared.pieces.Pieces.{Pieces}
 use Rattle.scratch_group.specs.declared.group.Group.{Group}
@@ -18,7 +17,7 @@ use Rattle.host_spaces.specs.Creation.{deleted_picture}
 use Rattle.sound_machine.specs.State.{Living, State, has_member, is_of_group, with_living}
 use Rattle.sound_machine.specs.Steps.{Outcome, delete, without_instance}
 use Rattle.sound_machine.proofs.OutcomeLemmas.{delete_granted}
-use Rattle.kept_machine.specs.Kept.{IsLiving, history_of, TablesKeep}
+use Rattle.kept_machine.specs.Kept.{IsLiving, history_of}
 use Rattle.kept_machine.proofs.KeptLemmas.{Found, found}
 use Rattle.kept_moves.specs.Hosts.{HostKeeps}
 use Rattle.kept_moves.proofs.MovesKept.{still_living}
@@ -126,8 +125,7 @@ pub deleted_kept : {M : Type 0} (meaning : Meaning M) (idle_keeps active_keeps :
     → (after : State M) × ◌≡◌ {A = Outcome M (Unit {0})} (Ok tt, after) (delete before i) × HostKeeps meaning idle_keeps active_keeps slots' once' groups' spaces' after
 deleted_kept meaning idle_keeps active_keeps i w slots slots' once once' groups groups' spaces spaces' before below some ended e kept =
     let its = found (slot_at slots i) (before.living i) some (kept.tables.living i) in
-    let here = subst (λ v. HasEnded meaning idle_keeps active_keeps v i slots once groups spaces slots' once' groups' spaces') (sym e) ended in
-    (
+    let here = subst (λ v. HasEnded meaning idle_keeps active_keeps v i slots once groups spaces slots' once' groups' spaces') (sym e) ended in (
       without_instance before i (Some its.instance),
       sym (delete_granted before i its.instance below its.lives),
       kept_after meaning idle_keeps active_keeps i slots slots' once once' groups groups' spaces spaces' before kept here its,

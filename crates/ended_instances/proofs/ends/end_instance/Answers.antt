@@ -1,9 +1,7 @@
-use Rattle.std.proofs.Common.{◌≡◌, true, false, sym, ◌∙◌, subst}
+use Rattle.std.proofs.Common.{sym, ◌∙◌}
 use Rattle.std.proofs.lemmas.Bool.{true≢false}
-use Rattle.host_spaces.specs.Picture.{is_group's, picture_of, without_owners}
-use Rattle.ended_instances.specs.Ends.{has_members}
-use Rattle.ended_instances.specs.Leaving.{AreStandingBut}
-use Rattle.ended_instances.proofs.Belonging.{none_left, none_there}
+use Rattle.host_spaces.specs.Picture.{picture_of}
+use Rattle.ended_instances.proofs.Belonging.{none_left}
 use Rattle.ended_instances.proofs.Blocks.{stand_all}
 use Rattle.ended_instances.proofs.Ended.{stay_then, sizes_stay, copied_stay, picture_with, picture_without}
 use Rattle.ended_instances.proofs.ends.end_instance.Goals as goal
