@@ -1,0 +1,4 @@
+pub mod Belonging
+pub mod Records
+pub mod Blocks
+pub mod Ended

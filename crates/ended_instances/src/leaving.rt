@@ -1,0 +1,95 @@
+//! What an instance leaves: its records, and with the last member of a group the group's blocks.
+ghost use Rattle.std.specs.Prelude.{◌≡◌, ◌≢◌, ◌<◌, ℕ, ℤ, false, length, Option, None, IsSome};
+ghost use Rattle.mem_rec.specs.declared.Space.{Space};
+ghost use Rattle.ialg.specs.History.{History};
+ghost use Rattle.record_loans.specs.Blocks.{block_piece};
+ghost use Rattle.scratch_group.specs.Blocks.{block_in};
+ghost use Rattle.instance_table.specs.declared.TheConstants.{GROUPS};
+ghost use Rattle.instance_table.specs.Table.{slot_at, group_at, group_of, is_member_of, activity_at, quieted_by, TablesOk, ArePoisoned};
+ghost use Rattle.instance_table.specs.Keeps.{Keeps};
+ghost use Rattle.host_spaces.specs.Picture.{AreSameSpaces, is_group's, is_instance's, picture_of, without_owners};
+ghost use Rattle.host_spaces.specs.Pieces.{old_piece};
+ghost use Rattle.placed_instances.specs.Standing.{AreStanding, SlotIsSame};
+ghost use Rattle.ended_instances.specs.Leaving.{AreStandingBut};
+
+use crate::members::table_copied;
+use host_spaces::{OldBlocks, Spaces};
+use ialg::Ialg;
+use instance_table::{Member, end};
+use mem_rec::Space;
+use record_loans::Pieces;
+use scratch_group::Group;
+use table_moves::take_block;
+
+/// Ends an instance, and gives its records back.
+pub(crate) fn give_records<M: Ialg>(
+    slots: &mut Vec<Option<Member<M>>>,
+    once: &mut Vec<Pieces>,
+    groups: &mut Vec<Group>,
+    spaces: &mut Spaces,
+    poison: Option<i16>,
+    i: u8,
+)
+    requires living { IsSome (slot_at slots.old.items i) }
+    requires ok { TablesOk slots.old.items once.old.items groups.old.items }
+    requires standing { AreStanding slots.old.items once.old.items groups.old.items spaces.old }
+    requires poisoned { ArePoisoned poison groups.old.items }
+    ensures ok { TablesOk slots.new.items once.new.items groups.new.items }
+    ensures standing { AreStandingBut (group_of (slot_at slots.old.items i)) slots.new.items once.new.items groups.new.items spaces.new }
+    ensures poisoned { ArePoisoned poison groups.new.items }
+    ensures gone { slot_at slots.new.items i ≡ None }
+    ensures others { (j : ℕ) → j ≢ i → SlotIsSame (slot_at slots.old.items j) (slot_at slots.new.items j) }
+    ensures activity { (k : ℕ) → activity_at groups.new.items k ≡ quieted_by slots.old.items groups.old.items i k }
+    ensures picture { picture_of spaces.new ≡ without_owners (is_instance's i) (picture_of spaces.old) }
+    ensures spaces { AreSameSpaces spaces.old spaces.new }
+    ensures keeps { (histories : ℕ → History) → Keeps M.meaning M.idle_keeps M.active_keeps poison slots.old.items once.old.items groups.old.items histories
+        → Keeps M.meaning M.idle_keeps M.active_keeps poison slots.new.items once.new.items groups.new.items histories }
+{
+    let table = table_copied(slots, i);
+    let (own, shared) = end(slots, once, groups, poison, i);
+    spaces.take_out_records(i, &table, own, shared);
+}
+
+/// Takes all blocks out of a group.
+fn take_blocks(groups: &mut Vec<Group>, g: u8) -> OldBlocks
+    requires { g < length groups.old.items }
+    ensures old { (space : Space) → old_piece result space ≡ block_piece (block_in (group_at groups.old.items g) space) }
+    ensures new { (space : Space) → block_in (group_at groups.new.items g) space ≡ None }
+    ensures others { (k : ℕ) (space : Space) → k ≢ g → block_in (group_at groups.new.items k) space ≡ block_in (group_at groups.old.items k) space }
+    ensures activity { (k : ℕ) → activity_at groups.new.items k ≡ activity_at groups.old.items k }
+    ensures length { length groups.new.items ≡ length groups.old.items }
+{
+    let daram = take_block(groups, g, Space::Daram);
+    let saram = take_block(groups, g, Space::Saram);
+    let external = take_block(groups, g, Space::External);
+    OldBlocks {
+        daram,
+        saram,
+        external,
+    }
+}
+
+/// Gives back the blocks of a group without members.
+pub(crate) fn give_blocks<M: Ialg>(
+    slots: &Vec<Option<Member<M>>>,
+    once: &Vec<Pieces>,
+    groups: &mut Vec<Group>,
+    spaces: &mut Spaces,
+    g: u8,
+)
+    requires number { g < GROUPS }
+    requires none { (j : ℕ) → is_member_of g (slot_at slots.now.items j) ≡ false }
+    requires ok { TablesOk slots.now.items once.now.items groups.old.items }
+    requires standing { AreStandingBut g slots.now.items once.now.items groups.old.items spaces.old }
+    ensures ok { TablesOk slots.now.items once.now.items groups.new.items }
+    ensures standing { AreStanding slots.now.items once.now.items groups.new.items spaces.new }
+    ensures poisoned { (w : Option ℤ) → ArePoisoned w groups.old.items → ArePoisoned w groups.new.items }
+    ensures activity { (k : ℕ) → activity_at groups.new.items k ≡ activity_at groups.old.items k }
+    ensures picture { picture_of spaces.new ≡ without_owners (is_group's g) (picture_of spaces.old) }
+    ensures spaces { AreSameSpaces spaces.old spaces.new }
+    ensures keeps { (w : Option ℤ) (histories : ℕ → History) → Keeps M.meaning M.idle_keeps M.active_keeps w slots.now.items once.now.items groups.old.items histories
+        → Keeps M.meaning M.idle_keeps M.active_keeps w slots.now.items once.now.items groups.new.items histories }
+{
+    let blocks = take_blocks(groups, g);
+    spaces.take_out_blocks(g, blocks);
+}
