@@ -1,5 +1,6 @@
 -- What a call leaves of the state, and that the host keeps what comes after it.
-use Rattle.std.proofs.Common.{◌≡◌, ℕ, ℤ, Bool, List, [], ◌∷◌, Option, Some, None, Ok, refl, ap, sym, ◌∙◌, subst}
+use Rattle.std.proofs.Common.{◌≡◌, ℕ, ℤ, Bool, true, false, List, [], ◌∷◌, Option, Some, None, is_some, Result, Ok, Err, OnErr, refl, ap, sym, ◌∙◌, subst}
+use Rattle.std.proofs.lemmas.Bool.{true≢false}
 use Rattle.mem_rec.specs.declared.Space.{Space}
 use Rattle.ialg.specs.declared.refusal.Refusal.{Refusal}
 use Rattle.ialg.specs.History.{Ctl}
@@ -14,7 +15,7 @@ use Rattle.space_blocks.specs.Moves.{next_block}
 use Rattle.host_spaces.specs.declared.spaces.Spaces.{Spaces}
 use Rattle.host_spaces.specs.Picture.{blocks_in}
 use Rattle.sound_machine.specs.State.{Living, State}
-use Rattle.sound_machine.specs.Steps.{Outcome, unless, control, control_refusal, controlled, given, processed, release, group_refusal, step, moving}
+use Rattle.sound_machine.specs.Steps.{Outcome, unless, control, control_refusal, controlled, given, processed, release, group_refusal, step, moving, delete, instance_refusal, without_instance}
 use Rattle.sound_machine.specs.Calls.{Controls}
 use Rattle.kept_machine.specs.Kept.{TablesKeep}
 use Rattle.kept_moves.specs.Hosts.{HostKeeps}
@@ -71,3 +72,24 @@ still_kept meaning idle_keeps active_keeps slots slots' once once' groups groups
   sizes = kept.sizes ∙ sym same.sizes;
   copied = kept.copied ∙ sym same.copied;
 }
+
+-- ---- deletions
+
+without_poison : {M : Type 0} (before : State M) (i : ℕ) (x : Option (Living M)) → (without_instance before i x).poison ≡ before.poison
+without_poison before i None = refl
+without_poison before i (Some x) = refl
+
+unless_poison : {M A : Type 0} (before : State M) (r : Option Refusal) (o : Outcome M A) → o.1.poison ≡ before.poison → (unless r before o).1.poison ≡ before.poison
+unless_poison before None o same = same
+unless_poison before (Some r) o same = refl
+
+pub delete_poison : {M : Type 0} (before : State M) (i : ℕ) → (delete before i).1.poison ≡ before.poison
+delete_poison before i = unless_poison before (instance_refusal before i) (Ok tt, without_instance before i (before.living i)) (without_poison before i (before.living i))
+
+pub on_refusal : {A E : Type 0} (r : Result A E) (P Q : Type 0) → (P → Q) → OnErr r P → OnErr r Q
+on_refusal (Ok a) P Q imp is = tt
+on_refusal (Err e) P Q imp is = imp is
+
+pub not_there : {A : Type 0} (o : Option A) → is_some o ≡ false → o ≡ None
+not_there None e = refl
+not_there (Some a) e = absurd (true≢false e)

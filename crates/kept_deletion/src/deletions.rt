@@ -1,5 +1,5 @@
 //! Deletions, as the machine's.
-ghost use Rattle.std.specs.Prelude.{◌≡◌, ◌<◌, length, OnErr, is_some};
+ghost use Rattle.std.specs.Prelude.{◌≡◌, ◌<◌, ℕ, length, None, OnErr, is_some};
 ghost use Rattle.instance_table.specs.Table.{slot_at, TablesOk, ArePoisoned};
 ghost use Rattle.sound_machine.specs.State.{State};
 ghost use Rattle.sound_machine.specs.Calls.{Does};
@@ -42,6 +42,8 @@ pub fn delete<M: Ialg>(
     ensures standing { AreStanding slots.new.items once.new.items groups.new.items spaces.new }
     ensures poisoned { ArePoisoned poison groups.new.items }
     ensures refused { OnErr result ((slots.new ≡ slots.old) × (once.new ≡ once.old) × (groups.new ≡ groups.old) × (spaces.new ≡ spaces.old)) }
+    ensures gone { slot_at slots.new.items i ≡ None }
+    ensures none { (j : ℕ) → slot_at slots.old.items j ≡ None → slot_at slots.new.items j ≡ None }
     ensures machine { (before : State M) → before.poison ≡ poison
         → HostKeeps M.meaning M.idle_keeps M.active_keeps slots.old.items once.old.items groups.old.items spaces.old before
         → (after : State M) × Does M.meaning before (Delete i result) after

@@ -1,0 +1,20 @@
+use Rattle.std.proofs.Common.{◌≡◌, false, ◌∙◌, ap, refl, sym, subst}
+use Rattle.instance_table.specs.Table.{slot_at}
+use Rattle.sound_machine.specs.Steps.{delete}
+use Rattle.alg_host.specs.Hosts.{HostState, Keeps, lives}
+use Rattle.alg_host.proofs.Served.{delete_poison, not_there, on_refusal}
+use Rattle.alg_host.proofs.host.Host.delete.Goals as goal
+
+pub returns-clause-refused : goal.returns-clause-refused
+returns-clause-refused g c = on_refusal c.delete.result _ _ (λ e. rw (e.0, e.1, e.2, e.3) c.self.view_is) c.delete.ensures.refused
+
+pub returns-clause-none : goal.returns-clause-none
+returns-clause-none g c = λ j dead.
+    let none = not_there (slot_at c.self.inside.slots.items j) (ap (λ h. lives h j) c.self.view_is ∙ dead) in
+    rw (c.delete.ensures.none j none) refl
+
+pub returns-clause-machine : goal.returns-clause-machine
+returns-clause-machine g c = λ before keeps.
+    let kept = subst (λ h. Keeps g.M.Ialg.meaning g.M.Ialg.idle_keeps g.M.Ialg.active_keeps h before) (sym c.self.view_is) keeps in
+    let did = c.delete.ensures.machine before kept.poison kept.kept in
+    (did.0, did.1, record { kept = did.2; poison = ap (λ o. o.1.poison) did.1 ∙ delete_poison before c.args.i ∙ kept.poison })
