@@ -44,7 +44,7 @@ alike_same None (Some c) e = absurd (none-some _ (sym e.0))
 alike_same (Some b) None e = absurd e.0
 alike_same (Some b) (Some c) e = (e.0.2, e.1)
 
-needed_alike : (b c : Option ScratchBlock) (need align : ℕ) → IsAlike b c → block_needed b need align ≡ None → block_needed c need align ≡ None
+pub needed_alike : (b c : Option ScratchBlock) (need align : ℕ) → IsAlike b c → block_needed b need align ≡ None → block_needed c need align ≡ None
 needed_alike None c need align e none = rw e none
 needed_alike (Some b) None need align e none = absurd e
 needed_alike (Some b) (Some c) need align e none = rw (e.0, e.1) none
@@ -119,37 +119,37 @@ members_of_same slots slots' once once' groups groups' same = record {
 }
 
 -- the member that stands there was there before
-before : {M : Type 0} (a : Option (Member M)) (n : Member M) → IsSameMember a (Some n) → (m : Member M) × ((a ≡ Some m) × SameMember m n)
+pub before : {M : Type 0} (a : Option (Member M)) (n : Member M) → IsSameMember a (Some n) → (m : Member M) × ((a ≡ Some m) × SameMember m n)
 before None n e = absurd (none-some _ (sym e))
 before (Some m) n e = (m, (refl, e))
 
-none_before : {M : Type 0} (a b : Option (Member M)) → IsSameMember a b → b ≡ None → a ≡ None
+pub none_before : {M : Type 0} (a b : Option (Member M)) → IsSameMember a b → b ≡ None → a ≡ None
 none_before None b e none = refl
 none_before (Some m) b e none = absurd (subst (λ x. IsSameMember (Some m) x) none e)
 
-member_before : {M : Type 0} (g : ℕ) (a b : Option (Member M)) → IsSameMember a b → is_member_of g a ≡ is_member_of g b
+pub member_before : {M : Type 0} (g : ℕ) (a b : Option (Member M)) → IsSameMember a b → is_member_of g a ≡ is_member_of g b
 member_before g None b e = rw e refl
 member_before g (Some m) None e = absurd e
 member_before g (Some m) (Some n) e = rw e.group refl
 
-pieces_none : (shared : Pieces) → SamePieces no_pieces shared → shared ≡ no_pieces
+pub pieces_none : (shared : Pieces) → SamePieces no_pieces shared → shared ≡ no_pieces
 pieces_none shared same =
     ap (λ (p : Option Span). let r : Pieces = record { p0 = p; p1 = shared.p1; p2 = shared.p2; p3 = shared.p3 } in r) same.p0
     ∙ ap (λ (p : Option Span). let r : Pieces = record { p0 = None; p1 = p; p2 = shared.p2; p3 = shared.p3 } in r) same.p1
     ∙ ap (λ (p : Option Span). let r : Pieces = record { p0 = None; p1 = None; p2 = p; p3 = shared.p3 } in r) same.p2
     ∙ ap (λ (p : Option Span). let r : Pieces = record { p0 = None; p1 = None; p2 = None; p3 = p } in r) same.p3
 
-is_of_same : (home : Extent) (p q : Option Span) → IsSamePiece p q → IsOf home p → IsOf home q
+pub is_of_same : (home : Extent) (p q : Option Span) → IsSamePiece p q → IsOf home p → IsOf home q
 is_of_same home None q e is = rw e tt
 is_of_same home (Some p) None e is = absurd e
 is_of_same home (Some p) (Some q) e is = e.0 ∙ is
 
-none_same : (b c : Option ScratchBlock) → IsSameBlock b c → b ≡ None → c ≡ None
+pub none_same : (b c : Option ScratchBlock) → IsSameBlock b c → b ≡ None → c ≡ None
 none_same None None e none = refl
 none_same None (Some c) e none = absurd (none-some _ (sym e.0))
 none_same (Some b) c e none = absurd (none-some _ (sym none))
 
-align_same : (b c : Option ScratchBlock) (o : Owner) → IsSameBlock b c → block_of_piece o (block_align c) (block_piece c) ≡ block_of_piece o (block_align b) (block_piece b)
+pub align_same : (b c : Option ScratchBlock) (o : Owner) → IsSameBlock b c → block_of_piece o (block_align c) (block_piece c) ≡ block_of_piece o (block_align b) (block_piece b)
 align_same b c o e = ap (λ n. block_of_piece o n (block_piece c)) e.1 ∙ block_alike o (block_align b) (block_piece b) (block_piece c) e.0
 
 pub standing_stays : {M : Type 0} (slots slots' : List (Option (Member M))) (once once' : List Pieces) (groups groups' : List Group) (spaces : Spaces)

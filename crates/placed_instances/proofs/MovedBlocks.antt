@@ -40,7 +40,7 @@ room_of_standing slots once groups spaces ordered standing i m at =
     (placed-unplaced (instance_of m.inst).table (instance_of m.inst).own (once_at once i) (group_at groups m.group))
     (room_at_home spaces i m.group (table_of m) (instance_of m.inst).own (once_at once i) (group_at groups m.group) ordered (standing.homes i m at) (standing.blocks m.group) (standing.regions m.group))
 
-alike_itself : (b : Option ScratchBlock) → IsAlike b b
+pub alike_itself : (b : Option ScratchBlock) → IsAlike b b
 alike_itself None = refl
 alike_itself (Some b) = (refl, refl)
 
@@ -48,7 +48,7 @@ pub block_stays_itself : (b : Option ScratchBlock) → BlockStays b b
 block_stays_itself None = tt
 block_stays_itself (Some b) = refl
 
-member_stays_itself : {M : Type 0} (slot : Option (Member M)) → SlotStays slot slot
+pub member_stays_itself : {M : Type 0} (slot : Option (Member M)) → SlotStays slot slot
 member_stays_itself None = refl
 member_stays_itself (Some m) = record { group = refl; state = refl; kind = refl; params = refl; table = refl; own = λ k. refl }
 
