@@ -31,11 +31,11 @@ abbrev pub IsIn : Placed → List Placed → Type 0
 IsIn b [] = ⊥
 IsIn b (c ∷ cs) = (b ≡ c) ⊎ IsIn b cs
 
-later_or : (t : Bool) (b c : Placed) (cs : List Placed) → IsIn b cs → IsIn b (if t then c ∷ cs else cs)
+pub later_or : (t : Bool) (b c : Placed) (cs : List Placed) → IsIn b cs → IsIn b (if t then c ∷ cs else cs)
 later_or true b c cs h = inr h
 later_or false b c cs h = h
 
-at_owned : (bs : List Placed) (n : ℕ) (b : Placed) → block_at bs n ≡ Some b → IsIn b (owned b.owner bs)
+pub at_owned : (bs : List Placed) (n : ℕ) (b : Placed) → block_at bs n ≡ Some b → IsIn b (owned b.owner bs)
 at_owned [] n b e = absurd (none-some _ e)
 at_owned (d ∷ ds) zero b e =
     let same : d ≡ b = same_Some d b e in
@@ -67,14 +67,14 @@ pub record IsNextRecord {M : Type 0} (slots : List (Option (Member M))) (once : 
   pub its : piece_of_record (table_of member) (instance_of member.inst).own (once_at once i) k ≡ Some piece
   pub next : next_block (blocks_in (picture_of spaces) space) ≡ Some (block_of (Record i k) (record_at (table_of member) k).align piece)
 
-in_space : (i k : ℕ) (r : MemRec) (space : Space) (p : Option Span) (b : Placed) → IsIn b (record_block i k r space p) → (r.space ≡ space) × IsIn b (block_of_piece (Record i k) r.align p)
+pub in_space : (i k : ℕ) (r : MemRec) (space : Space) (p : Option Span) (b : Placed) → IsIn b (record_block i k r space p) → (r.space ≡ space) × IsIn b (block_of_piece (Record i k) r.align p)
 in_space i k r space p b h =
     elim (either (same_space r.space space)) [
       | inl same ↦ (one_space r.space space same, rw same at h)
       | inr other ↦ absurd (let none : IsIn b [] = rw other at h in none)
     ]
 
-slot_of : {M : Type 0} (slot : Option (Member M)) → (slot ≡ None → ⊥) → (m : Member M) × (slot ≡ Some m)
+pub slot_of : {M : Type 0} (slot : Option (Member M)) → (slot ≡ None → ⊥) → (m : Member M) × (slot ≡ Some m)
 slot_of None none = absurd (none refl)
 slot_of (Some m) none = (m, refl)
 
