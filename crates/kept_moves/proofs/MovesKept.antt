@@ -19,7 +19,7 @@ use Rattle.sound_machine.specs.Steps.{more_copied, moving, step}
 use Rattle.kept_machine.specs.Kept.{IsLiving, TablesKeep}
 use Rattle.kept_moves.specs.Hosts.{HostKeeps}
 
-still_living : {M : Type 0} (slot slot' : Option (Member M)) (living : Option (Living M)) → SlotIsSame slot slot' → IsLiving slot living → IsLiving slot' living
+pub still_living : {M : Type 0} (slot slot' : Option (Member M)) (living : Option (Living M)) → SlotIsSame slot slot' → IsLiving slot living → IsLiving slot' living
 still_living None slot' living same is = subst (λ s. IsLiving s living) (sym same) is
 still_living (Some m) None living same is = absurd same
 still_living (Some m) (Some n) None same is = is
