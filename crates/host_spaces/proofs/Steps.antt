@@ -177,7 +177,7 @@ with_need : (t s : Bool) (g : ℕ) (space : Space) (a : Option Wanted) (n : Opti
 with_need true s g space a n e = refl
 with_need false s g space a n e = e
 
-scratch_is : (picture : Picture) (g : ℕ) (table : List MemRec) (group : Group) → HasBlocks picture g group → (space : Space)
+pub scratch_is : (picture : Picture) (g : ℕ) (table : List MemRec) (group : Group) → HasBlocks picture g group → (space : Space)
     → scratch_wanted picture g table space ≡ need_wanted g space (block_need table group space)
 scratch_is picture g table group has space =
     let b = block_in group space in let need = scratch_need table space in let align = scratch_align table space in

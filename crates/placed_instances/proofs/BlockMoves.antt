@@ -40,7 +40,7 @@ use Rattle.placed_instances.proofs.MovedBlocks.{room_of_standing, standing_block
 use Rattle.placed_instances.proofs.Nexts.{IsIn, IsNextRecord, next_owned, only_block}
 use Rattle.placed_instances.proofs.Slots.{only_one, piece_there}
 
-with_align : (b : Option ScratchBlock) (p : Span) → block_piece b ≡ Some p → b ≡ Some (record { piece = p; align = block_align b })
+pub with_align : (b : Option ScratchBlock) (p : Span) → block_piece b ≡ Some p → b ≡ Some (record { piece = p; align = block_align b })
 with_align None p e = absurd (none-some _ e)
 with_align (Some b) p e = ap (λ (s : Span). let c : ScratchBlock = record { piece = s; align = b.align } in Some c) (same_Some b.piece p e)
 
@@ -120,7 +120,7 @@ none_past Scratch = refl
 none_past Persist = refl
 none_past WriteOnce = refl
 
-few : (a : Attr) (own shared : Pieces) (k : ℕ) (p : Span) → lasting_piece a (piece_at own k) (piece_at shared k) ≡ Some p → k < 4
+pub few : (a : Attr) (own shared : Pieces) (k : ℕ) (p : Span) → lasting_piece a (piece_at own k) (piece_at shared k) ≡ Some p → k < 4
 few Scratch own shared k p e = absurd (none-some _ e)
 few Persist own shared k p e = piece_there own k p e
 few WriteOnce own shared k p e = piece_there shared k p e
@@ -140,7 +140,7 @@ module _ {M : Type 0} (slots : List (Option (Member M))) (once : List Pieces) (s
 
 -- ---- whose number it is
 
-past : (groups : List Group) (g : ℕ) → length groups ≤ g → group_at groups g ≡ no_group
+pub past : (groups : List Group) (g : ℕ) → length groups ≤ g → group_at groups g ≡ no_group
 past [] g h = refl
 past (y ∷ ys) zero h = absurd (none_less h)
   where
@@ -148,7 +148,7 @@ past (y ∷ ys) zero h = absurd (none_less h)
     none_less e = omega (arith, e)
 past (y ∷ ys) (suc g) h = past ys g (let less : length ys ≤ g = omega (arith, h) in less)
 
-no_block : (space : Space) → block_piece (block_in no_group space) ≡ None
+pub no_block : (space : Space) → block_piece (block_in no_group space) ≡ None
 no_block Daram = refl
 no_block Saram = refl
 no_block External = refl

@@ -44,7 +44,7 @@ alike_same None (Some c) e = absurd (none-some _ (sym e.0))
 alike_same (Some b) None e = absurd e.0
 alike_same (Some b) (Some c) e = (e.0.2, e.1)
 
-needed_alike : (b c : Option ScratchBlock) (need align : ℕ) → IsAlike b c → block_needed b need align ≡ None → block_needed c need align ≡ None
+pub needed_alike : (b c : Option ScratchBlock) (need align : ℕ) → IsAlike b c → block_needed b need align ≡ None → block_needed c need align ≡ None
 needed_alike None c need align e none = rw e none
 needed_alike (Some b) None need align e none = absurd e
 needed_alike (Some b) (Some c) need align e none = rw (e.0, e.1) none

@@ -35,7 +35,7 @@ pub later_or : (t : Bool) (b c : Placed) (cs : List Placed) → IsIn b cs → Is
 later_or true b c cs h = inr h
 later_or false b c cs h = h
 
-at_owned : (bs : List Placed) (n : ℕ) (b : Placed) → block_at bs n ≡ Some b → IsIn b (owned b.owner bs)
+pub at_owned : (bs : List Placed) (n : ℕ) (b : Placed) → block_at bs n ≡ Some b → IsIn b (owned b.owner bs)
 at_owned [] n b e = absurd (none-some _ e)
 at_owned (d ∷ ds) zero b e =
     let same : d ≡ b = same_Some d b e in

@@ -1,0 +1,4 @@
+pub mod Replaced
+pub mod Needed
+pub mod Grown
+pub mod Told

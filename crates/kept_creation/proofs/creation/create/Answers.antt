@@ -1,0 +1,53 @@
+use Rattle.std.proofs.Common.{◌≡◌, ◌<◌, ℤ, List, [], Option, Some, None, Ok, Err, rules, sym, ap, ◌∙◌, subst, arith}
+use Rattle.host_spaces.specs.Picture.{picture_of}
+use Rattle.instance_table.specs.Table.{slot_at}
+use Rattle.instance_table.specs.Keeps.{Keeps, with_history}
+use Rattle.sound_machine.specs.Steps.{created, newborn}
+use Rattle.started_instances.specs.Started.{IsNewborn}
+use Rattle.kept_machine.specs.Kept.{history_of}
+use Rattle.kept_creation.proofs.CreationsKept.{asks, created_kept, is_free, picture_is}
+use Rattle.kept_creation.proofs.creation.create.Goals as goal
+
+pub returns-in-Ok-clause-machine : goal.returns-in-Ok-clause-machine
+returns-in-Ok-clause-machine g c =
+    let below : c.args.i < 64 = omega arith in
+    let small : c.args.group < 8 = omega arith in
+    let empty : slot_at c.args.slots.now.items c.args.i ≡ None = search rules in
+    let same : c.copied-params.result.items ≡ c.args.p.now.items = c.copied-params.ensures ∙ c.as_slice.ensures.value in
+    λ before e kept. (
+      created before c.args.i (newborn c.args.kind c.args.group c.args.p.now.items) c.in-Some.table (picture_of c.start_in_spaces.new.spaces),
+      record {
+        table = Some c.in-Some.table;
+        asked = c.in-Some.ensures.allowed before.poison;
+        outcome = sym (c.creations_answer_in_order.ensures.granted before c.args.i c.args.group c.args.kind c.args.p.now.items c.in-Some.table (picture_of c.start_in_spaces.new.spaces) below small
+            (is_free g.M.Ialg.meaning g.M.Ialg.idle_keeps g.M.Ialg.active_keeps _ _ _ c.args.spaces.now before kept c.args.i c.args.group c.args.kind c.args.p.now.items c.in-Some.table empty)
+            (picture_is g.M.Ialg.meaning g.M.Ialg.idle_keeps g.M.Ialg.active_keeps _ _ _ c.args.spaces.now before kept c.args.i c.args.group c.args.kind c.args.p.now.items c.in-Some.table _ c.in-Ok.ensures.exact));
+      },
+      created_kept g.M.Ialg.meaning g.M.Ialg.idle_keeps g.M.Ialg.active_keeps _ _ _ c.args.spaces.now before kept c.args.i c.args.group c.args.kind c.args.p.now.items c.in-Some.table
+          _ _ _ c.start_in_spaces.new.spaces c.in-Ok.ensures.others
+          (subst (λ (xs : List ℤ). IsNewborn c.args.group c.args.kind xs (slot_at c.start_in_spaces.new.slots.items c.args.i)) same c.in-Ok.ensures.newborn)
+          c.in-Ok.ensures.activity
+          (subst (λ (w : Option ℤ). Keeps g.M.Ialg.meaning g.M.Ialg.idle_keeps g.M.Ialg.active_keeps w c.start_in_spaces.new.slots.items c.start_in_spaces.new.once.items c.start_in_spaces.new.groups.items (with_history (λ j. history_of (before.living j)) c.args.i [])) (sym e)
+          (c.in-Ok.ensures.keeps (λ j. history_of (before.living j))
+          (asks g.M.Ialg.meaning c.args.poison c.args.kind c.args.p.now.items c.copied-params.result.items c.in-Some.table same (c.in-Some.ensures.allowed c.args.poison) (c.in-Some.ensures.unplaced c.args.poison))
+          (subst (λ (w : Option ℤ). Keeps g.M.Ialg.meaning g.M.Ialg.idle_keeps g.M.Ialg.active_keeps w c.args.slots.now.items c.args.once.now.items c.args.groups.now.items (λ j. history_of (before.living j))) e kept.tables.histories)))
+          c.start_in_spaces.ensures.stays,
+    )
+
+pub returns-in-Err-clause-machine : goal.returns-in-Err-clause-machine
+returns-in-Err-clause-machine g c =
+    let below : c.args.i < 64 = omega arith in
+    let small : c.args.group < 8 = omega arith in
+    let empty : slot_at c.args.slots.now.items c.args.i ≡ None = search rules in
+    let still = c.in-Err.ensures.refused in
+    λ before e kept. (
+      before,
+      record {
+        table = Some c.in-Some.table;
+        asked = c.in-Some.ensures.allowed before.poison;
+        outcome = sym (c.creations_answer_in_order.ensures.room before c.args.i c.args.group c.args.kind c.args.p.now.items c.in-Some.table c.in-Err.space below small
+            (is_free g.M.Ialg.meaning g.M.Ialg.idle_keeps g.M.Ialg.active_keeps _ _ _ c.args.spaces.now before kept c.args.i c.args.group c.args.kind c.args.p.now.items c.in-Some.table empty)
+            (picture_is g.M.Ialg.meaning g.M.Ialg.idle_keeps g.M.Ialg.active_keeps _ _ _ c.args.spaces.now before kept c.args.i c.args.group c.args.kind c.args.p.now.items c.in-Some.table _ c.in-Err.ensures.exact));
+      },
+      rw (still.0, still.1, still.2, still.3) kept,
+    )

@@ -1,0 +1,89 @@
+//! A creation, as the machine's.
+ghost use Rattle.std.specs.Prelude.{◌≡◌, ◌<◌, ℤ, length, Option, Some, IsTrue, IfSome, OnErr, is_some};
+ghost use Rattle.ialg.specs.Records.{unplaced};
+ghost use Rattle.instance_table.specs.Table.{slot_at, TablesOk, ArePoisoned};
+ghost use Rattle.placed_instances.specs.Standing.{AreStanding};
+ghost use Rattle.sound_machine.specs.State.{State};
+ghost use Rattle.sound_machine.specs.Choices.{MayAsk};
+ghost use Rattle.sound_machine.specs.Calls.{Does};
+ghost use Rattle.sound_machine.specs.Calls.Call.{Create};
+ghost use Rattle.kept_moves.specs.Hosts.{HostKeeps};
+
+use host_spaces::Spaces;
+use ialg::{Ialg, Params, Refusal, copied};
+use instance_table::{GROUPS, INSTANCES, Member};
+use mem_rec::MemTab;
+use record_loans::Pieces;
+use scratch_group::Group;
+use sound_machine::creations_answer_in_order;
+use started_instances::start_in_spaces;
+
+/// Whether an instance has the number.
+fn lives<M: Ialg>(slots: &Vec<Option<Member<M>>>, i: u8) -> bool
+    requires { i < length slots.now.items }
+    ensures { result ≡ is_some (slot_at slots.now.items i) }
+{
+    match &slots[i as usize] {
+        Some(_) => true,
+        None => false,
+    }
+}
+
+/// The memory that the kind asks for with these parameters, None where it refuses them.
+fn asked_for<M: Ialg>(kind: M, p: &Params) -> Option<MemTab>
+    ensures allowed { (w : Option ℤ) → MayAsk M.meaning w kind p.now.items result }
+    ensures unplaced { (w : Option ℤ) → IsTrue (M.meaning.lawful kind p.now.items w) → IfSome result (λ t. unplaced t ≡ t) }
+{
+    let asked = kind.alg_alloc(p);
+    if let Some(table) = &asked {
+        // a table is valid, as its records say
+        let _records = table.records();
+    }
+    asked
+}
+
+/// Creates instance `i` of this kind in the group, or refuses it, as the machine does: a number out of range, one that is taken,
+/// parameters that the kind refuses, or the space of the first block that has no place. A refused creation changes nothing. The kind is
+/// asked for its memory before anything is placed, and the instance is called last.
+pub fn create<M: Ialg>(
+    slots: &mut Vec<Option<Member<M>>>,
+    once: &mut Vec<Pieces>,
+    groups: &mut Vec<Group>,
+    spaces: &mut Spaces,
+    poison: Option<i16>,
+    i: u8,
+    kind: M,
+    group: u8,
+    p: &Params,
+) -> Result<(), Refusal>
+    requires ok { TablesOk slots.old.items once.old.items groups.old.items }
+    requires standing { AreStanding slots.old.items once.old.items groups.old.items spaces.old }
+    requires poisoned { ArePoisoned poison groups.old.items }
+    ensures ok { TablesOk slots.new.items once.new.items groups.new.items }
+    ensures standing { AreStanding slots.new.items once.new.items groups.new.items spaces.new }
+    ensures poisoned { ArePoisoned poison groups.new.items }
+    ensures refused { OnErr result ((slots.new ≡ slots.old) × (once.new ≡ once.old) × (groups.new ≡ groups.old) × (spaces.new ≡ spaces.old)) }
+    ensures machine { (before : State M) → before.poison ≡ poison
+        → HostKeeps M.meaning M.idle_keeps M.active_keeps slots.old.items once.old.items groups.old.items spaces.old before
+        → (after : State M) × Does M.meaning before (Create i kind group p.now.items result) after
+        × HostKeeps M.meaning M.idle_keeps M.active_keeps slots.new.items once.new.items groups.new.items spaces.new after }
+{
+    creations_answer_in_order::<M>();
+    let asked = asked_for(kind, p);
+    if usize::from(i) >= INSTANCES || group >= GROUPS {
+        return Err(Refusal::Range);
+    }
+    if lives(slots, i) {
+        return Err(Refusal::Taken);
+    }
+    let Some(table) = asked else {
+        return Err(Refusal::Params);
+    };
+    let params = copied(p.as_slice());
+    match start_in_spaces(
+        slots, once, groups, spaces, poison, i, group, kind, params, table,
+    ) {
+        Ok(()) => Ok(()),
+        Err(space) => Err(Refusal::Room(space)),
+    }
+}

@@ -1,0 +1,6 @@
+//! Tables and spaces that keep a state of the machine: a creation leads to its next state.
+#![tactic(auto)]
+
+mod creation;
+
+pub use creation::create;

@@ -1,0 +1,5 @@
+pub mod Single
+pub mod Unplaced
+pub mod Begun
+pub mod Replaces
+pub mod Placing

@@ -1,0 +1,47 @@
+use Rattle.std.proofs.Common.{◌≡◌, Bool, Ok, inl, sym, ap, ◌∙◌, arith}
+use Rattle.ialg.specs.Records.{record_at}
+use Rattle.lifecycle.proofs.Words.{are_new}
+use Rattle.host_spaces.specs.Picture.{Picture, blocks_in, picture_of, sizes_of, space_in}
+use Rattle.instance_table.specs.Table.{group_at}
+use Rattle.grown_groups.specs.Blocks.{replaced_pieces}
+use Rattle.grown_groups.specs.Growth.{activity_grown}
+use Rattle.started_instances.proofs.Placing.{are_placed, is_home}
+use Rattle.started_instances.proofs.Replaces.{places_are, replaces_is}
+use Rattle.started_instances.proofs.starting.start_in_spaces.Goals as goal
+
+pub place-requires-clause-room : goal.place-requires-clause-room
+place-requires-clause-room g c space =
+    let few = c.blocks_are_few.ensures.room (blocks_in (picture_of c.args.spaces.now) space) c.args.i (c.are_single.ensures space) c.requires.number (λ k. c.requires.standing.gone c.args.i k space c.requires.empty) in
+    omega (arith, few)
+
+pub grow-requires-clause-placed : goal.grow-requires-clause-placed
+grow-requires-clause-placed g c =
+    are_placed c.args.i c.args.g c.args.table c.in-Ok.placed.blocks _ _ _ c.args.spaces.now c.place.new.spaces c.requires.empty c.requires.standing c.in-Ok.ensures.needed c.in-Ok.ensures.blocks
+    c.in-Ok.ensures.others c.place.ensures.stays
+
+pub begin-requires-clause-home : goal.begin-requires-clause-home
+begin-requires-clause-home g c =
+    is_home c.args.i c.args.g c.args.table c.in-Ok.placed.blocks _ c.args.once.now.items _ c.args.spaces.now c.place.new.spaces c.requires.empty c.requires.standing c.in-Ok.ensures.needed c.in-Ok.ensures.blocks
+    c.in-Ok.ensures.others c.place.ensures.stays c.in-Ok.placed.own c.in-Ok.placed.shared (group_at c.grow.new.groups.items c.args.g) c.grow.new.spaces c.records-records.ensures.table
+    c.in-Ok.ensures.records c.in-Ok.ensures.pieces (c.grow.ensures.need c.args.table) c.grow.ensures.others c.grow.ensures.stays
+
+pub returns-clause-exact : goal.returns-clause-exact
+returns-clause-exact g c =
+    c.creations.ensures.made (sizes_of c.args.spaces.now) (picture_of c.args.spaces.now) (picture_of c.place.new.spaces) c.args.i c.args.g c.args.table
+    (replaced_pieces c.in-Ok.placed.blocks (group_at c.args.groups.now.items c.args.g)) c.in-Ok.ensures.exact
+    (places_are (picture_of c.args.spaces.now) c.args.g c.args.table (group_at c.args.groups.now.items c.args.g) (λ space. (space_in c.args.spaces.now space).region) c.in-Ok.placed.blocks
+    (c.requires.standing.blocks c.args.g) c.in-Ok.ensures.needed)
+    ∙ ap Ok (sym c.grow.ensures.picture)
+
+pub returns-clause-activity : goal.returns-clause-activity
+returns-clause-activity g c k =
+    c.grow.ensures.activity k
+    ∙ ap (λ (t : Bool). activity_grown t c.args.groups.now.items c.args.g k)
+    (sym (replaces_is (picture_of c.args.spaces.now) c.args.g c.args.table (group_at c.args.groups.now.items c.args.g) (λ space. (space_in c.args.spaces.now space).region) c.in-Ok.placed.blocks
+    (c.requires.standing.blocks c.args.g) c.in-Ok.ensures.needed))
+
+pub returns-clause-keeps : goal.returns-clause-keeps
+returns-clause-keeps g c histories lawful before =
+    c.begin.ensures.keeps c.args.poison histories lawful
+    (are_new c.args.poison (g.M.Ialg.meaning.fill c.args.kind c.args.params.items) c.args.table c.in-Ok.placed.own c.in-Ok.placed.shared c.in-Ok.ensures.poison.own (λ k. inl (c.in-Ok.ensures.poison.shared k)))
+    (c.grow.ensures.keeps histories before)

@@ -1,0 +1,151 @@
+//! A new instance starts.
+ghost use Rattle.std.specs.Prelude.{◌≡◌, ◌≢◌, ◌+◌, ◌<◌, ℕ, ℤ, [], length, Option, Some, None, IsTrue, IfOk, OnOk, OnErr};
+ghost use Rattle.mem_rec.specs.declared.Space.{Space};
+ghost use Rattle.mem_rec.specs.declared.TheConstants.{TABLE_RECORDS};
+ghost use Rattle.ialg.specs.History.{History};
+ghost use Rattle.ialg.specs.Records.{unplaced, AreNew};
+ghost use Rattle.record_loans.specs.Pieces.{SamePieces};
+ghost use Rattle.scratch_group.specs.Words.{idle_words};
+ghost use Rattle.instance_table.specs.declared.TheConstants.{INSTANCES, GROUPS};
+ghost use Rattle.instance_table.specs.Table.{slot_at, group_at, activity_at, TablesOk, ArePoisoned};
+ghost use Rattle.instance_table.specs.Keeps.{Keeps, with_history};
+ghost use Rattle.space_blocks.specs.declared.TheConstants.{SPACE_BLOCKS};
+ghost use Rattle.space_blocks.specs.declared.placed.Owner.{Owner};
+ghost use Rattle.space_blocks.specs.declared.placed.Owner.TheVariants.{Record, Scratch};
+ghost use Rattle.space_blocks.specs.Blocks.{owned};
+ghost use Rattle.host_spaces.specs.Creation.{all_placed, created_picture, replaces, result_map, wanted_by};
+ghost use Rattle.host_spaces.specs.Picture.{AreSameSpaces, blocks_in, picture_of, sizes_of, space_in};
+ghost use Rattle.host_spaces.specs.Pieces.{ArePiecesOf, HasBlocks, HasRecords, IsNeeded, IsPoisoned, new_block, with_new};
+ghost use Rattle.host_spaces.specs.Wants.{block_need};
+ghost use Rattle.placed_instances.specs.Standing.{AreStanding, IsHome};
+ghost use Rattle.grown_groups.specs.Growth.{AreGrown, activity_grown};
+ghost use Rattle.started_instances.specs.Started.{IsNewborn, OthersAreSame};
+
+use crate::laws::are_single;
+use grown_groups::grow;
+use host_spaces::{Placement, Spaces, creations};
+use ialg::{Ialg, Params};
+use instance_table::{Member, start};
+use mem_rec::{MemTab, Space};
+use placed_instances::in_order;
+use record_loans::Pieces;
+use scratch_group::Group;
+use space_blocks::blocks_are_few;
+
+/// Places all blocks that a new instance needs, or says the space of the first one that has no place.
+fn place(
+    spaces: &mut Spaces,
+    i: u8,
+    g: u8,
+    table: &MemTab,
+    groups: &Vec<Group>,
+    poison: Option<i16>,
+) -> Result<Placement, Space>
+    requires group { g < length groups.now.items }
+    requires blocks { HasBlocks (picture_of spaces.old) g (group_at groups.now.items g) }
+    requires records { (k : ℕ) (space : Space) → owned (Record i k) (blocks_in (picture_of spaces.old) space) ≡ [] }
+    requires room { (space : Space) → length (blocks_in (picture_of spaces.old) space) + TABLE_RECORDS < SPACE_BLOCKS }
+    ensures exact { all_placed (sizes_of spaces.old) (picture_of spaces.old) (wanted_by (picture_of spaces.old) i g table.now) ≡ result_map (λ _. picture_of spaces.new) result }
+    ensures pieces { IfOk result (λ made. ArePiecesOf spaces.old table.now made.own made.shared) }
+    ensures records { IfOk result (λ made. HasRecords (picture_of spaces.new) i table.now made.own made.shared) }
+    ensures needed { IfOk result (λ made. (space : Space) → IsNeeded (space_in spaces.old space).region (block_need table.now (group_at groups.now.items g) space) (new_block made.blocks space)) }
+    ensures blocks { IfOk result (λ made. (space : Space) → owned (Scratch g) (blocks_in (picture_of spaces.new) space)
+        ≡ with_new g (new_block made.blocks space) (owned (Scratch g) (blocks_in (picture_of spaces.old) space))) }
+    ensures others { OnOk result ((o : Owner) (space : Space) → o ≢ Scratch g → ((k : ℕ) → o ≢ Record i k)
+        → owned o (blocks_in (picture_of spaces.new) space) ≡ owned o (blocks_in (picture_of spaces.old) space)) }
+    ensures poison { IfOk result (IsPoisoned poison) }
+    ensures refused { OnErr result (spaces.new ≡ spaces.old) }
+    ensures stays { AreSameSpaces spaces.old spaces.new }
+{
+    spaces.place_instance(i, g, table, &groups[g as usize], poison)
+}
+
+/// Starts an instance whose records are placed, and whose group has the blocks for it.
+fn begin<M: Ialg>(
+    slots: &mut Vec<Option<Member<M>>>,
+    once: &mut Vec<Pieces>,
+    groups: &Vec<Group>,
+    spaces: &Spaces,
+    i: u8,
+    g: u8,
+    kind: M,
+    params: Params,
+    table: MemTab,
+    own: Pieces,
+    shared: Pieces,
+)
+    requires number { i < INSTANCES }
+    requires group { g < GROUPS }
+    requires empty { slot_at slots.old.items i ≡ None }
+    requires ok { TablesOk slots.old.items once.old.items groups.now.items }
+    requires grown { AreGrown g slots.old.items once.old.items groups.now.items spaces.now }
+    requires home { IsHome spaces.now i table own shared (group_at groups.now.items g) }
+    requires gone { (j k : ℕ) (space : Space) → slot_at slots.old.items j ≡ None → j ≢ i → owned (Record j k) (blocks_in (picture_of spaces.now) space) ≡ [] }
+    ensures ok { TablesOk slots.new.items once.new.items groups.now.items }
+    ensures standing { AreStanding slots.new.items once.new.items groups.now.items spaces.now }
+    ensures others { (j : ℕ) → j ≢ i → slot_at slots.new.items j ≡ slot_at slots.old.items j }
+    ensures newborn { IsNewborn g kind params.items (slot_at slots.new.items i) }
+    ensures keeps { (w : Option ℤ) (histories : ℕ → History)
+        → (IsTrue (M.meaning.lawful kind params.items w) → M.meaning.table kind params.items ≡ Some (unplaced table))
+        → AreNew w (M.meaning.fill kind params.items) table (idle_words table own shared)
+        → Keeps M.meaning M.idle_keeps M.active_keeps w slots.old.items once.old.items groups.now.items histories
+        → Keeps M.meaning M.idle_keeps M.active_keeps w slots.new.items once.new.items groups.now.items (with_history histories i []) }
+{
+    in_order(spaces);
+    start(slots, once, groups, i, g, kind, params, table, own, shared);
+}
+
+/// Starts instance `i` of group `g` in an empty slot, with this table of its kind: all blocks that it needs are placed first, while the
+/// old ones of its group stand, and it is called last. Or says the space of the first block that has no place; then nothing has happened.
+pub fn start_in_spaces<M: Ialg>(
+    slots: &mut Vec<Option<Member<M>>>,
+    once: &mut Vec<Pieces>,
+    groups: &mut Vec<Group>,
+    spaces: &mut Spaces,
+    poison: Option<i16>,
+    i: u8,
+    g: u8,
+    kind: M,
+    params: Params,
+    table: MemTab,
+) -> Result<(), Space>
+    requires number { i < INSTANCES }
+    requires group { g < GROUPS }
+    requires empty { slot_at slots.old.items i ≡ None }
+    requires ok { TablesOk slots.old.items once.old.items groups.old.items }
+    requires standing { AreStanding slots.old.items once.old.items groups.old.items spaces.old }
+    requires poisoned { ArePoisoned poison groups.old.items }
+    ensures ok { TablesOk slots.new.items once.new.items groups.new.items }
+    ensures standing { AreStanding slots.new.items once.new.items groups.new.items spaces.new }
+    ensures poisoned { ArePoisoned poison groups.new.items }
+    ensures exact { created_picture (sizes_of spaces.old) (picture_of spaces.old) i g table ≡ result_map (λ _. picture_of spaces.new) result }
+    ensures refused { OnErr result ((slots.new ≡ slots.old) × (once.new ≡ once.old) × (groups.new ≡ groups.old) × (spaces.new ≡ spaces.old)) }
+    ensures stays { AreSameSpaces spaces.old spaces.new }
+    ensures others { OnOk result (OthersAreSame i slots.old.items slots.new.items) }
+    ensures newborn { OnOk result (IsNewborn g kind params.items (slot_at slots.new.items i)) }
+    ensures activity { OnOk result ((k : ℕ) → activity_at groups.new.items k ≡ activity_grown (replaces (picture_of spaces.old) g table) groups.old.items g k) }
+    ensures keeps { OnOk result ((histories : ℕ → History)
+        → (IsTrue (M.meaning.lawful kind params.items poison) → M.meaning.table kind params.items ≡ Some (unplaced table))
+        → Keeps M.meaning M.idle_keeps M.active_keeps poison slots.old.items once.old.items groups.old.items histories
+        → Keeps M.meaning M.idle_keeps M.active_keeps poison slots.new.items once.new.items groups.new.items (with_history histories i [])) }
+{
+    are_single(slots, once, groups, spaces);
+    blocks_are_few();
+    creations();
+    // a table is valid, as its records say
+    let _records = table.records();
+    let placed = match place(spaces, i, g, &table, groups, poison) {
+        Ok(placed) => placed,
+        Err(space) => return Err(space),
+    };
+    let Placement {
+        own,
+        shared,
+        blocks,
+    } = placed;
+    grow(slots, once, groups, spaces, poison, g, blocks);
+    begin(
+        slots, once, groups, spaces, i, g, kind, params, table, own, shared,
+    );
+    Ok(())
+}
