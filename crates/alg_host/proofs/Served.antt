@@ -1,6 +1,7 @@
 -- What a call leaves of the state, and that the host keeps what comes after it.
 use Rattle.std.proofs.Common.{◌≡◌, ℕ, ℤ, Bool, true, false, List, [], ◌∷◌, Option, Some, None, is_some, Result, Ok, Err, OnErr, refl, ap, sym, ◌∙◌, subst}
 use Rattle.std.proofs.lemmas.Bool.{true≢false}
+use Rattle.mem_rec.specs.declared.MemRec.{MemRec}
 use Rattle.mem_rec.specs.declared.Space.{Space}
 use Rattle.ialg.specs.declared.refusal.Refusal.{Refusal}
 use Rattle.ialg.specs.History.{Ctl}
@@ -13,10 +14,11 @@ use Rattle.instance_table.specs.Table.{rested, with_activity}
 use Rattle.space_blocks.specs.declared.placed.Placed.{Placed}
 use Rattle.space_blocks.specs.Moves.{next_block}
 use Rattle.host_spaces.specs.declared.spaces.Spaces.{Spaces}
-use Rattle.host_spaces.specs.Picture.{blocks_in}
+use Rattle.host_spaces.specs.Picture.{Picture, blocks_in}
+use Rattle.host_spaces.specs.Creation.{created_picture}
 use Rattle.sound_machine.specs.State.{Living, State}
-use Rattle.sound_machine.specs.Steps.{Outcome, unless, control, control_refusal, controlled, given, processed, release, group_refusal, step, moving, delete, instance_refusal, without_instance}
-use Rattle.sound_machine.specs.Calls.{Controls}
+use Rattle.sound_machine.specs.Steps.{Outcome, unless, control, control_refusal, controlled, given, processed, release, group_refusal, step, moving, delete, instance_refusal, without_instance, create_refusal, newborn, with_memory, with_room}
+use Rattle.sound_machine.specs.Calls.{Controls, Creates}
 use Rattle.kept_machine.specs.Kept.{TablesKeep}
 use Rattle.kept_moves.specs.Hosts.{HostKeeps}
 use Rattle.alg_host.specs.Hosts.{HostState, Keeps}
@@ -93,3 +95,19 @@ on_refusal (Err e) P Q imp is = imp is
 pub not_there : {A : Type 0} (o : Option A) → is_some o ≡ false → o ≡ None
 not_there None e = refl
 not_there (Some a) e = absurd (true≢false e)
+
+-- ---- creations
+
+with_room_poison : {M : Type 0} (before : State M) (i : ℕ) (x : Living M) (table : List MemRec) (r : Result Picture Space) → (with_room before i x table r).1.poison ≡ before.poison
+with_room_poison before i x table (Ok picture) = refl
+with_room_poison before i x table (Err space) = refl
+
+with_memory_poison : {M : Type 0} (before : State M) (i : ℕ) (x : Living M) (table : Option (List MemRec)) → (with_memory before i x table).1.poison ≡ before.poison
+with_memory_poison before i x None = refl
+with_memory_poison before i x (Some table) = with_room_poison before i x table (created_picture before.sizes before.picture i x.group table)
+
+pub creates_poison : {M : Type 0} (meaning : Meaning M) (before after : State M) (i : ℕ) (kind : M) (g : ℕ) (p : List ℤ) (answer : Result (Unit {0}) Refusal)
+    → Creates meaning before i kind g p answer after → after.poison ≡ before.poison
+creates_poison meaning before after i kind g p answer did =
+    ap (λ o. o.1.poison) did.outcome
+    ∙ unless_poison before (create_refusal before i g) (with_memory before i (newborn kind g p) did.table) (with_memory_poison before i (newborn kind g p) did.table)

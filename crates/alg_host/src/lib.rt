@@ -5,6 +5,7 @@
 #![tactic(auto)]
 
 mod calls;
+mod creation;
 mod deletion;
 mod groups;
 mod host;
