@@ -1,0 +1,5 @@
+//! For tests: hosts in which a kind that keeps no law stands beside the hosted kinds.
+#![tactic(auto)]
+
+#[cfg(test)]
+mod tests;
