@@ -1,5 +1,5 @@
 -- Whom the new blocks serve.
-use Rattle.std.proofs.Common.{◌≡◌, ◌≢◌, ℕ, ℤ, zero, suc, ◌<◌, ◌≤◌, ◌+◌, ◌⊎◌, ◌||◌, ◌&&◌, max, inl, inr, Bool, true, false, IsTrue, nat_eq, nat_le, List, [], ◌∷◌, length, Option, Some, None, refl, sym, ◌∙◌, ap, subst, arith, if◌then◌else◌}
+use Rattle.std.proofs.Common.{◌≡◌, ℕ, suc, ◌<◌, ◌≤◌, ◌+◌, ◌⊎◌, ◌||◌, max, inl, inr, Bool, true, false, IsTrue, nat_eq, List, [], ◌∷◌, length, Option, Some, None, refl, sym, ◌∙◌, ap, arith, if◌then◌else◌}
 use Rattle.std.proofs.lemmas.Bool.Decides.{nat_tests}
 use Rattle.space_raw.specs.Span.{Extent}
 use Rattle.mem_rec.specs.declared.MemRec.{MemRec}
@@ -8,7 +8,6 @@ use Rattle.mem_rec.specs.declared.Attr.{Attr}
 use Rattle.mem_rec.specs.declared.Attr.TheVariants.{Persist, WriteOnce}
 use Rattle.mem_rec.specs.declared.Attr.TheVariants.{Scratch as ScratchRecord}
 use Rattle.mem_rec.specs.Records.{is_table}
-use Rattle.mem_rec.specs.Layout.{scratch_need, scratch_align}
 use Rattle.mem_rec.proofs.Valid.{within_limits, bounded_at}
 use Rattle.ialg.specs.Records.{record_at}
 use Rattle.record_loans.specs.declared.pieces.Pieces.{Pieces}

@@ -1,14 +1,10 @@
 -- The blocks of a group's owner, once the old one was taken out.
-use Rattle.std.proofs.Common.{◌≡◌, ◌≢◌, ℕ, ℤ, zero, suc, ◌<◌, ◌≤◌, ◌==◌, ◌⊎◌, inl, inr, Bool, true, false, not, List, [], ◌∷◌, filter, length, Option, Some, None, is_some, refl, sym, ◌∙◌, ap, subst, arith}
+use Rattle.std.proofs.Common.{◌≡◌, ℕ, ℤ, suc, ◌==◌, inl, inr, Bool, not, List, [], ◌∷◌, filter, Option, Some, None, is_some, refl, sym, ◌∙◌, ap, subst, arith}
 use Rattle.std.proofs.lemmas.Bool.{cases_lt, eq-eqb}
 use Rattle.std.proofs.lemmas.Option.{none-some}
 use Rattle.space_heap.proofs.RangeTests.{true_or_false}
-use Rattle.space_raw.specs.Span.{Span}
-use Rattle.mem_rec.specs.declared.Space.{Space}
-use Rattle.mem_rec.specs.declared.Space.TheVariants.{Daram, Saram, External}
 use Rattle.ialg.specs.Records.{ArePoison}
 use Rattle.record_loans.specs.declared.block.ScratchBlock.{ScratchBlock}
-use Rattle.record_loans.specs.Pieces.{IsSamePiece}
 use Rattle.record_loans.specs.Blocks.{block_align, block_piece, block_words, IsSameBlock}
 use Rattle.space_blocks.specs.declared.placed.Owner.TheVariants.{Scratch}
 use Rattle.space_blocks.specs.declared.placed.Placed.{Placed}

@@ -1,5 +1,5 @@
 -- The members of a group that grows.
-use Rattle.std.proofs.Common.{◌≡◌, ◌≢◌, ℕ, ℤ, ◌<◌, ◌⊎◌, ◌||◌, inl, inr, Bool, true, false, IsTrue, List, [], ◌∷◌, length, Contains, Option, Some, None, IfSome, is_some, refl, sym, ◌∙◌, ap, subst, arith}
+use Rattle.std.proofs.Common.{◌≡◌, ◌≢◌, ℕ, ℤ, ◌<◌, ◌⊎◌, ◌||◌, inl, inr, Bool, true, false, List, [], ◌∷◌, length, Contains, Option, Some, None, IfSome, is_some, refl, sym, ◌∙◌, ap, subst, arith}
 use Rattle.std.proofs.lemmas.Option.{none-some}
 use Rattle.std.proofs.lemmas.Bool.{cases_lt, true≢false}
 use Rattle.std.proofs.lemmas.Bool.Decides.{eqb_tells}
@@ -7,7 +7,7 @@ use Rattle.mem_rec.specs.declared.MemRec.{MemRec}
 use Rattle.mem_rec.specs.declared.Space.{Space}
 use Rattle.mem_rec.specs.declared.Space.TheVariants.{Daram, Saram, External}
 use Rattle.mem_rec.specs.Layout.{scratch_need, scratch_align}
-use Rattle.ialg.specs.Records.{ArePoison, unplaced}
+use Rattle.ialg.specs.Records.{ArePoison}
 use Rattle.space_raw.specs.Span.{Extent, Span}
 use Rattle.record_loans.specs.declared.pieces.Pieces.{Pieces}
 use Rattle.record_loans.specs.declared.block.ScratchBlock.{ScratchBlock}
@@ -29,16 +29,16 @@ use Rattle.space_blocks.proofs.Orders.{before, behind}
 use Rattle.host_spaces.specs.declared.pieces.NewBlocks.{NewBlocks}
 use Rattle.host_spaces.specs.declared.pieces.OldBlocks.{OldBlocks}
 use Rattle.host_spaces.specs.declared.spaces.Spaces.{Spaces}
-use Rattle.host_spaces.specs.Picture.{AreSameSpaces, Picture, blocks_in, each_space, picture_of, space_in}
+use Rattle.host_spaces.specs.Picture.{AreSameSpaces, Picture, blocks_in, each_space, picture_of}
 use Rattle.host_spaces.specs.Pieces.{IsNeeded, new_block, old_piece, with_new, without_pieces}
 use Rattle.host_spaces.specs.Wants.{block_need}
 use Rattle.instance_table.specs.declared.TheConstants.{GROUPS}
 use Rattle.instance_table.specs.declared.member.Member.{Member}
-use Rattle.instance_table.specs.Table.{slot_at, once_at, group_at, instance_of, slot_active_in, Activity, activity_at, IsHoused, TablesOk, TablesTold, ArePoisoned}
+use Rattle.instance_table.specs.Table.{slot_at, once_at, group_at, instance_of, Activity, activity_at, IsHoused, TablesOk, TablesTold, ArePoisoned}
 use Rattle.instance_table.specs.Frames.{IsSameMember, SameMembers}
 use Rattle.table_moves.specs.Moves.{BlockStays, WordsStay}
 use Rattle.table_moves.proofs.Owns.{told_later}
-use Rattle.placed_instances.specs.Standing.{AreOrdered, AreStanding, IsHome, IsOf, table_of}
+use Rattle.placed_instances.specs.Standing.{AreOrdered, IsHome, IsOf, table_of}
 use Rattle.placed_instances.proofs.MovedBlocks.{block_stays_itself, member_stays_itself}
 use Rattle.grown_groups.specs.Blocks.{newer, replaced_piece, replaced_pieces, replaced_in}
 use Rattle.grown_groups.specs.Growth.{ArePlaced, AreGrown}
