@@ -11,7 +11,6 @@ use Rattle.ialg.specs.Records.{ArePoison}
 use Rattle.space_raw.specs.Span.{Extent, Span}
 use Rattle.record_loans.specs.declared.pieces.Pieces.{Pieces}
 use Rattle.record_loans.specs.declared.block.ScratchBlock.{ScratchBlock}
-use Rattle.record_loans.specs.Pieces.{IsSamePiece}
 use Rattle.record_loans.specs.Blocks.{block_align, block_piece, block_words, IsSameBlock}
 use Rattle.scratch_group.specs.declared.group.Group.{Group}
 use Rattle.scratch_group.specs.declared.group.Need.{Need}
@@ -20,7 +19,7 @@ use Rattle.scratch_group.specs.Words.{placed}
 use Rattle.lifecycle.specs.Moves.{HasRoom}
 use Rattle.lifecycle.specs.Rooms.{NoNeed}
 use Rattle.lifecycle.specs.States.{Fits}
-use Rattle.lifecycle.proofs.Frames.{placed-unplaced, same_pieces}
+use Rattle.lifecycle.proofs.Frames.{placed-unplaced, reflexive, same_pieces}
 use Rattle.space_blocks.specs.declared.placed.Owner.{Owner}
 use Rattle.space_blocks.specs.declared.placed.Owner.TheVariants.{Scratch}
 use Rattle.space_blocks.specs.declared.placed.Placed.{Placed}
@@ -48,10 +47,6 @@ use Rattle.grown_groups.proofs.Grown.{grown_now, room_of_grown}
 
 -- ---- nothing happened
 
-same_piece : (p : Option Span) → IsSamePiece p p
-same_piece None = refl
-same_piece (Some p) = (refl, refl, refl)
-
 same_member : {M : Type 0} (slot : Option (Member M)) → IsSameMember slot slot
 same_member None = refl
 same_member (Some m) = record { group = refl; kind = refl; params = refl; table = refl; own = same_pieces (instance_of m.inst).own }
@@ -60,7 +55,7 @@ pub members_itself : {M : Type 0} (slots : List (Option (Member M))) (once : Lis
 members_itself slots once groups = record {
   slot = λ i. same_member (slot_at slots i);
   pieces = λ i. same_pieces (once_at once i);
-  blocks = λ g space. (same_piece (block_piece (block_in (group_at groups g) space)), refl);
+  blocks = λ g space. (reflexive (block_piece (block_in (group_at groups g) space)), refl);
 }
 
 -- ---- one space after the other
