@@ -1,17 +1,16 @@
 -- What stands where a group has grown.
-use Rattle.std.proofs.Common.{◌≡◌, ◌≢◌, ℕ, ℤ, ◌<◌, ◌⊎◌, inl, inr, Bool, true, false, IsTrue, List, [], ◌∷◌, length, Option, Some, None, refl, sym, ◌∙◌, ap, subst, arith}
+use Rattle.std.proofs.Common.{◌≡◌, ◌≢◌, ℕ, inl, inr, List, Option, Some, None, refl, sym, ◌∙◌, ap, subst, arith}
 use Rattle.std.proofs.lemmas.Option.{none-some}
 use Rattle.std.proofs.lemmas.Bool.Decides.{eqb_tells}
 use Rattle.mem_rec.specs.declared.MemRec.{MemRec}
 use Rattle.mem_rec.specs.declared.Space.{Space}
 use Rattle.mem_rec.specs.declared.Space.TheVariants.{Daram, Saram, External}
 use Rattle.mem_rec.specs.Layout.{scratch_need, scratch_align}
-use Rattle.ialg.specs.Records.{ArePoison, unplaced}
 use Rattle.space_raw.specs.Span.{Extent, Span}
 use Rattle.record_loans.specs.declared.pieces.Pieces.{Pieces}
 use Rattle.record_loans.specs.declared.block.ScratchBlock.{ScratchBlock}
 use Rattle.record_loans.specs.Pieces.{SamePieces}
-use Rattle.record_loans.specs.Blocks.{block_align, block_piece, block_words, IsSameBlock}
+use Rattle.record_loans.specs.Blocks.{block_align, block_piece, IsSameBlock}
 use Rattle.scratch_group.specs.declared.group.Group.{Group}
 use Rattle.scratch_group.specs.Blocks.{block_in}
 use Rattle.lifecycle.specs.Moves.{HasRoom}
@@ -20,7 +19,6 @@ use Rattle.lifecycle.specs.States.{Fits}
 use Rattle.lifecycle.proofs.Frames.{placed-unplaced}
 use Rattle.space_blocks.specs.declared.placed.Owner.{Owner}
 use Rattle.space_blocks.specs.declared.placed.Owner.TheVariants.{Record, Scratch}
-use Rattle.space_blocks.specs.declared.placed.Placed.{Placed}
 use Rattle.space_blocks.specs.Blocks.{block_of_piece, owned, without_piece}
 use Rattle.space_blocks.proofs.Inserts.{sorted}
 use Rattle.host_spaces.specs.declared.pieces.NewBlocks.{NewBlocks}
@@ -29,9 +27,9 @@ use Rattle.host_spaces.specs.declared.spaces.Spaces.{Spaces}
 use Rattle.host_spaces.specs.Picture.{Picture, blocks_in, picture_of, space_in}
 use Rattle.host_spaces.specs.Pieces.{HasBlocks, new_block, old_piece, with_new, without_pieces}
 use Rattle.instance_table.specs.declared.member.Member.{Member}
-use Rattle.instance_table.specs.Table.{slot_at, once_at, group_at, no_pieces, instance_of, is_member_of}
+use Rattle.instance_table.specs.Table.{slot_at, once_at, group_at, instance_of}
 use Rattle.instance_table.specs.Frames.{IsSameMember, SameMembers}
-use Rattle.placed_instances.specs.Standing.{IsHome, IsOf, AreStanding, AreOrdered, table_of}
+use Rattle.placed_instances.specs.Standing.{IsHome, IsOf, AreOrdered, table_of}
 use Rattle.placed_instances.proofs.Homes.{alike_same, home_elsewhere, home_stays, before, none_before, member_before, pieces_none, is_of_same, none_same, align_same, standing_stays}
 use Rattle.placed_instances.proofs.Rooms.{room_at_home}
 use Rattle.placed_instances.proofs.Slots.{not_a_group, other_group}

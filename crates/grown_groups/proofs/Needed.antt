@@ -1,5 +1,5 @@
 -- Whom the new blocks serve.
-use Rattle.std.proofs.Common.{◌≡◌, ◌≢◌, ℕ, ℤ, zero, suc, ◌<◌, ◌≤◌, ◌+◌, ◌⊎◌, ◌||◌, ◌&&◌, max, inl, inr, Bool, true, false, IsTrue, nat_eq, nat_le, List, [], ◌∷◌, length, Option, Some, None, refl, sym, ◌∙◌, ap, subst, arith, if◌then◌else◌}
+use Rattle.std.proofs.Common.{◌≡◌, ℕ, suc, ◌<◌, ◌≤◌, ◌+◌, ◌⊎◌, ◌||◌, max, inl, inr, Bool, true, false, IsTrue, nat_eq, List, [], ◌∷◌, length, Option, Some, None, refl, ◌∙◌, ap, arith, if◌then◌else◌}
 use Rattle.std.proofs.lemmas.Bool.Decides.{nat_tests}
 use Rattle.space_raw.specs.Span.{Extent}
 use Rattle.mem_rec.specs.declared.MemRec.{MemRec}
@@ -8,8 +8,6 @@ use Rattle.mem_rec.specs.declared.Attr.{Attr}
 use Rattle.mem_rec.specs.declared.Attr.TheVariants.{Persist, WriteOnce}
 use Rattle.mem_rec.specs.declared.Attr.TheVariants.{Scratch as ScratchRecord}
 use Rattle.mem_rec.specs.Records.{is_table}
-use Rattle.mem_rec.specs.Layout.{scratch_need, scratch_align}
-use Rattle.mem_rec.proofs.Valid.{within_limits, bounded_at}
 use Rattle.ialg.specs.Records.{record_at}
 use Rattle.record_loans.specs.declared.pieces.Pieces.{Pieces}
 use Rattle.record_loans.specs.declared.block.ScratchBlock.{ScratchBlock}
@@ -19,16 +17,12 @@ use Rattle.scratch_group.specs.declared.group.Group.{Group}
 use Rattle.scratch_group.specs.declared.group.Need.{Need}
 use Rattle.scratch_group.specs.Blocks.{block_in, block_needed, serves}
 use Rattle.scratch_group.specs.Words.{place_by, placed, record_place, scratch_offset, with_bases}
-use Rattle.scratch_group.proofs.Ends.{any_default}
 use Rattle.lifecycle.specs.Rooms.{NoNeed}
-use Rattle.lifecycle.proofs.Needs.{scratch_inside}
+use Rattle.lifecycle.proofs.Needs.{scratch_inside, test_true}
+use Rattle.lifecycle.proofs.Places.{some_words}
 use Rattle.host_spaces.specs.Pieces.{IsNeeded}
 use Rattle.grown_groups.specs.Blocks.{newer}
 use Rattle.grown_groups.specs.Growth.{IsLarger}
-
-test_true : (t : Bool) (x : Need) → (if t then None else Some x) ≡ None → t ≡ true
-test_true true x h = refl
-test_true false x h = cc
 
 test_done : (t : Bool) (x : Need) → t ≡ true → (if t then None else Some x) ≡ None
 test_done t x h = rw h refl
@@ -73,9 +67,6 @@ larger_needed home old (Some c) need align is =
 -- the same block, or the first one there
 abbrev pub IsSameOrFirst : Group → Group → Type 0
 IsSameOrFirst y y' = (space : Space) → (block_in y' space ≡ block_in y space) ⊎ (block_in y space ≡ None)
-
-some_words : (rs : List MemRec) (k : ℕ) → IsTrue (is_table rs) → k < length rs → 1 ≤ (record_at rs k).size
-some_words rs k t h = (bounded_at rs k (record_at rs k) (record_at rs k) (within_limits rs t).valid h (sym (any_default rs k (record_at rs k) h))).some
 
 with_bases_to : (rs : List MemRec) (f h : ℕ → ℕ) → ((k : ℕ) → k < length rs → f k ≡ h k) → with_bases rs f ≡ with_bases rs h
 with_bases_to [] f h same = refl

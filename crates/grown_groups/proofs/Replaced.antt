@@ -1,30 +1,17 @@
 -- The blocks of a group's owner, once the old one was taken out.
-use Rattle.std.proofs.Common.{◌≡◌, ◌≢◌, ℕ, ℤ, zero, suc, ◌<◌, ◌≤◌, ◌==◌, ◌⊎◌, inl, inr, Bool, true, false, not, List, [], ◌∷◌, filter, length, Option, Some, None, is_some, refl, sym, ◌∙◌, ap, subst, arith}
+use Rattle.std.proofs.Common.{◌≡◌, ℕ, ℤ, ◌==◌, inl, inr, not, List, [], ◌∷◌, Option, Some, None, is_some, refl, sym, ◌∙◌, ap, subst, arith}
 use Rattle.std.proofs.lemmas.Bool.{cases_lt, eq-eqb}
 use Rattle.std.proofs.lemmas.Option.{none-some}
-use Rattle.space_heap.proofs.RangeTests.{true_or_false}
-use Rattle.space_raw.specs.Span.{Span}
-use Rattle.mem_rec.specs.declared.Space.{Space}
-use Rattle.mem_rec.specs.declared.Space.TheVariants.{Daram, Saram, External}
 use Rattle.ialg.specs.Records.{ArePoison}
 use Rattle.record_loans.specs.declared.block.ScratchBlock.{ScratchBlock}
-use Rattle.record_loans.specs.Pieces.{IsSamePiece}
 use Rattle.record_loans.specs.Blocks.{block_align, block_piece, block_words, IsSameBlock}
 use Rattle.space_blocks.specs.declared.placed.Owner.TheVariants.{Scratch}
 use Rattle.space_blocks.specs.declared.placed.Placed.{Placed}
 use Rattle.space_blocks.specs.Blocks.{block_of, block_of_piece, owned, same_owner, with_block, without_at, without_piece}
-use Rattle.space_blocks.proofs.Orders.{AreSortedFrom, before, behind, dropped, is_other, kept, sorted_lower}
+use Rattle.space_blocks.proofs.Orders.{AreSortedFrom, before, behind, dropped, is_other, kept, sorted_filter}
 use Rattle.space_blocks.proofs.Owners.{filters}
 use Rattle.host_spaces.specs.Pieces.{with_new}
 use Rattle.grown_groups.specs.Blocks.{newer, replaced_piece}
-
-module _ (p : Placed → Bool) where
-  sorted_filter : (from : ℕ) (bs : List Placed) → AreSortedFrom from bs → AreSortedFrom from (filter p bs)
-  sorted_filter from [] are = tt
-  sorted_filter from (b ∷ bs) are = elim (true_or_false (p b)) [
-    | inl is ↦ subst (AreSortedFrom from) (sym (kept p b bs is)) (are.0, sorted_filter (suc b.place) bs are.1)
-    | inr out ↦ subst (AreSortedFrom from) (sym (dropped p b bs out)) (let first = are.0 in sorted_lower (suc b.place) from (filter p bs) (sorted_filter (suc b.place) bs are.1) (omega arith))
-  ]
 
 -- of two blocks, the one that begins at the place goes
 one_left : (from : ℕ) (b o : Placed) → AreSortedFrom from (with_block b (o ∷ [])) → without_at o.place (with_block b (o ∷ [])) ≡ b ∷ []

@@ -1,5 +1,5 @@
 -- The members of a group that grows.
-use Rattle.std.proofs.Common.{◌≡◌, ◌≢◌, ℕ, ℤ, ◌<◌, ◌⊎◌, ◌||◌, inl, inr, Bool, true, false, IsTrue, List, [], ◌∷◌, length, Contains, Option, Some, None, IfSome, is_some, refl, sym, ◌∙◌, ap, subst, arith}
+use Rattle.std.proofs.Common.{◌≡◌, ◌≢◌, ℕ, ℤ, ◌<◌, ◌⊎◌, ◌||◌, inl, inr, Bool, true, false, List, [], ◌∷◌, length, Contains, Option, Some, None, IfSome, is_some, refl, sym, ◌∙◌, ap, subst, arith}
 use Rattle.std.proofs.lemmas.Option.{none-some}
 use Rattle.std.proofs.lemmas.Bool.{cases_lt, true≢false}
 use Rattle.std.proofs.lemmas.Bool.Decides.{eqb_tells}
@@ -7,11 +7,10 @@ use Rattle.mem_rec.specs.declared.MemRec.{MemRec}
 use Rattle.mem_rec.specs.declared.Space.{Space}
 use Rattle.mem_rec.specs.declared.Space.TheVariants.{Daram, Saram, External}
 use Rattle.mem_rec.specs.Layout.{scratch_need, scratch_align}
-use Rattle.ialg.specs.Records.{ArePoison, unplaced}
+use Rattle.ialg.specs.Records.{ArePoison}
 use Rattle.space_raw.specs.Span.{Extent, Span}
 use Rattle.record_loans.specs.declared.pieces.Pieces.{Pieces}
 use Rattle.record_loans.specs.declared.block.ScratchBlock.{ScratchBlock}
-use Rattle.record_loans.specs.Pieces.{IsSamePiece}
 use Rattle.record_loans.specs.Blocks.{block_align, block_piece, block_words, IsSameBlock}
 use Rattle.scratch_group.specs.declared.group.Group.{Group}
 use Rattle.scratch_group.specs.declared.group.Need.{Need}
@@ -20,7 +19,7 @@ use Rattle.scratch_group.specs.Words.{placed}
 use Rattle.lifecycle.specs.Moves.{HasRoom}
 use Rattle.lifecycle.specs.Rooms.{NoNeed}
 use Rattle.lifecycle.specs.States.{Fits}
-use Rattle.lifecycle.proofs.Frames.{placed-unplaced, same_pieces}
+use Rattle.lifecycle.proofs.Frames.{placed-unplaced, reflexive, same_pieces}
 use Rattle.space_blocks.specs.declared.placed.Owner.{Owner}
 use Rattle.space_blocks.specs.declared.placed.Owner.TheVariants.{Scratch}
 use Rattle.space_blocks.specs.declared.placed.Placed.{Placed}
@@ -29,16 +28,16 @@ use Rattle.space_blocks.proofs.Orders.{before, behind}
 use Rattle.host_spaces.specs.declared.pieces.NewBlocks.{NewBlocks}
 use Rattle.host_spaces.specs.declared.pieces.OldBlocks.{OldBlocks}
 use Rattle.host_spaces.specs.declared.spaces.Spaces.{Spaces}
-use Rattle.host_spaces.specs.Picture.{AreSameSpaces, Picture, blocks_in, each_space, picture_of, space_in}
+use Rattle.host_spaces.specs.Picture.{AreSameSpaces, Picture, blocks_in, each_space, picture_of}
 use Rattle.host_spaces.specs.Pieces.{IsNeeded, new_block, old_piece, with_new, without_pieces}
 use Rattle.host_spaces.specs.Wants.{block_need}
 use Rattle.instance_table.specs.declared.TheConstants.{GROUPS}
 use Rattle.instance_table.specs.declared.member.Member.{Member}
-use Rattle.instance_table.specs.Table.{slot_at, once_at, group_at, instance_of, slot_active_in, Activity, activity_at, IsHoused, TablesOk, TablesTold, ArePoisoned}
+use Rattle.instance_table.specs.Table.{slot_at, once_at, group_at, instance_of, Activity, activity_at, IsHoused, TablesOk, TablesTold, ArePoisoned}
 use Rattle.instance_table.specs.Frames.{IsSameMember, SameMembers}
 use Rattle.table_moves.specs.Moves.{BlockStays, WordsStay}
 use Rattle.table_moves.proofs.Owns.{told_later}
-use Rattle.placed_instances.specs.Standing.{AreOrdered, AreStanding, IsHome, IsOf, table_of}
+use Rattle.placed_instances.specs.Standing.{AreOrdered, IsHome, IsOf, table_of}
 use Rattle.placed_instances.proofs.MovedBlocks.{block_stays_itself, member_stays_itself}
 use Rattle.grown_groups.specs.Blocks.{newer, replaced_piece, replaced_pieces, replaced_in}
 use Rattle.grown_groups.specs.Growth.{ArePlaced, AreGrown}
@@ -48,10 +47,6 @@ use Rattle.grown_groups.proofs.Grown.{grown_now, room_of_grown}
 
 -- ---- nothing happened
 
-same_piece : (p : Option Span) → IsSamePiece p p
-same_piece None = refl
-same_piece (Some p) = (refl, refl, refl)
-
 same_member : {M : Type 0} (slot : Option (Member M)) → IsSameMember slot slot
 same_member None = refl
 same_member (Some m) = record { group = refl; kind = refl; params = refl; table = refl; own = same_pieces (instance_of m.inst).own }
@@ -60,7 +55,7 @@ pub members_itself : {M : Type 0} (slots : List (Option (Member M))) (once : Lis
 members_itself slots once groups = record {
   slot = λ i. same_member (slot_at slots i);
   pieces = λ i. same_pieces (once_at once i);
-  blocks = λ g space. (same_piece (block_piece (block_in (group_at groups g) space)), refl);
+  blocks = λ g space. (reflexive (block_piece (block_in (group_at groups g) space)), refl);
 }
 
 -- ---- one space after the other

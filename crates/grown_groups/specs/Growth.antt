@@ -1,6 +1,5 @@
 -- A group that gets the blocks for a new member.
 use Rattle.std.specs.Prelude.{ℕ, ◌≡◌, ◌≢◌, ◌≤◌, Bool, false, List, length, Option, Some, None, if◌then◌else◌}
-use Rattle.mem_rec.specs.declared.MemRec.{MemRec}
 use Rattle.mem_rec.specs.declared.Space.{Space}
 use Rattle.record_loans.specs.declared.pieces.Pieces.{Pieces}
 use Rattle.record_loans.specs.declared.block.ScratchBlock.{ScratchBlock}
@@ -16,7 +15,6 @@ use Rattle.host_spaces.specs.declared.spaces.Spaces.{Spaces}
 use Rattle.host_spaces.specs.Picture.{blocks_in, picture_of, space_in}
 use Rattle.host_spaces.specs.Pieces.{HasBlocks, new_block, with_new}
 use Rattle.placed_instances.specs.Standing.{AreStanding, IsHome, IsOf, table_of}
-use Rattle.grown_groups.specs.Blocks.{replaced_in}
 
 -- a new block is no smaller than the old one, and of no lower alignment
 abbrev pub IsLarger : Option ScratchBlock → Option ScratchBlock → Type 0

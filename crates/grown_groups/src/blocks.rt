@@ -30,12 +30,7 @@ pub fn replaces_any(group: &Group, blocks: &NewBlocks) -> bool
 }
 
 /// Puts a new block into a space of a group, if there is one, and gives back the one that stood there.
-fn put_new(
-    groups: &mut Vec<Group>,
-    g: u8,
-    space: Space,
-    new: Option<ScratchBlock>,
-) -> Option<Piece>
+fn put_new(groups: &mut Vec<Group>, g: u8, space: Space, new: Option<ScratchBlock>) -> Option<Piece>
     requires { g < length groups.old.items }
     ensures old { result ≡ replaced_piece new (block_in (group_at groups.old.items g) space) }
     ensures new { block_in (group_at groups.new.items g) space ≡ newer new (block_in (group_at groups.old.items g) space) }

@@ -1,5 +1,5 @@
 -- What a creation leaves is kept.
-use Rattle.std.proofs.Common.{◌≡◌, ◌≢◌, ℕ, ℤ, ◌<◌, ◌+◌, ◌-◌, ◌^◌, min, inl, inr, Bool, true, false, cond, nat_eq, IsTrue, IfSome, List, [], Option, Some, None, Result, Ok, Err, refl, sym, ◌∙◌, ap, subst}
+use Rattle.std.proofs.Common.{◌≡◌, ℕ, ℤ, ◌+◌, ◌-◌, ◌^◌, min, inl, inr, Bool, cond, IsTrue, List, [], Option, Some, None, Result, refl, sym, ◌∙◌, ap, subst}
 use Rattle.std.proofs.lemmas.Option.{none-some}
 use Rattle.std.proofs.lemmas.Bool.Decides.{eqb_tells}
 use Rattle.mem_rec.specs.declared.MemRec.{MemRec}
@@ -22,7 +22,7 @@ use Rattle.placed_instances.proofs.OwnMoves.{same_sizes}
 use Rattle.sound_machine.specs.State.{Living, State, with_living}
 use Rattle.sound_machine.specs.Choices.{MayAsk}
 use Rattle.sound_machine.specs.Steps.{activity_after_create, created, newborn}
-use Rattle.kept_machine.specs.Kept.{IsInstance, IsLiving, TablesKeep, history_of}
+use Rattle.kept_machine.specs.Kept.{IsLiving, history_of}
 use Rattle.kept_moves.specs.Hosts.{HostKeeps}
 use Rattle.kept_moves.proofs.MovesKept.{still_living}
 use Rattle.grown_groups.specs.Growth.{activity_grown}

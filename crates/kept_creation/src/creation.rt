@@ -44,7 +44,8 @@ fn asked_for<M: Ialg>(kind: M, p: &Params) -> Option<MemTab>
 
 /// Creates instance `i` of this kind in the group, or refuses it, as the machine does: a number out of range, one that is taken,
 /// parameters that the kind refuses, or the space of the first block that has no place. A refused creation changes nothing. The kind is
-/// asked for its memory before anything is placed, and the instance is called last.
+/// asked for its memory first, also where a number is refused then: only its answer says what it may ask for. All places are found before
+/// any instance is called, and the new one is called last.
 pub fn create<M: Ialg>(
     slots: &mut Vec<Option<Member<M>>>,
     once: &mut Vec<Pieces>,

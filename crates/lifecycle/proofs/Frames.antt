@@ -87,7 +87,7 @@ pub fits_stay : (rs : List MemRec) (own own' shared shared' : Pieces) (g g' : Gr
     → Fits rs own shared g → Fits rs own' shared' g'
 fits_stay rs own own' shared shared' g g' so ss sg f = fits_at rs own own' shared shared' g g' so ss (λ space. block_same g g' space sg) f
 
-reflexive : (p : Option Span) → IsSamePiece p p
+pub reflexive : (p : Option Span) → IsSamePiece p p
 reflexive None = refl
 reflexive (Some p) = (refl, refl, refl)
 

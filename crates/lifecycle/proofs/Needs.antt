@@ -37,7 +37,7 @@ more_records (r ∷ rs) (suc k) b space =
     let h = more_records rs k (if t then next_multiple_of b r.align + r.size else b) space in
     rw (one_more t b r (scratch_records (take k rs) space), one_more t b r (scratch_records rs space)) h
 
-test_true : (t : Bool) (x : Need) → (if t then None else Some x) ≡ None → t ≡ true
+pub test_true : (t : Bool) (x : Need) → (if t then None else Some x) ≡ None → t ≡ true
 test_true true x h = refl
 test_true false x h = cc
 

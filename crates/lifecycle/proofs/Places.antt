@@ -97,7 +97,7 @@ behind rs j k h same scratch =
     let more = later rs (suc j) k (record_at rs k).space (omega (arith, h)) in
     omega (arith, stop, more)
 
-some_words : (rs : List MemRec) (k : ℕ) → IsTrue (is_table rs) → k < length rs → 1 ≤ (record_at rs k).size
+pub some_words : (rs : List MemRec) (k : ℕ) → IsTrue (is_table rs) → k < length rs → 1 ≤ (record_at rs k).size
 some_words rs k t h = (bounded_at rs k (record_at rs k) (record_at rs k) (within_limits rs t).valid h (sym (any_default rs k (record_at rs k) h))).some
 
 other_places : (rs : List MemRec) (own shared : Pieces) (g : Group) (j k : ℕ) → IsTrue (is_table rs) → Separate rs own shared g

@@ -105,7 +105,7 @@ module _ (p : Placed → Bool) where
   pub dropped : (c : Placed) (cs : List Placed) → p c ≡ false → filter p (c ∷ cs) ≡ filter p cs
   dropped c cs is = ap (λ t. cond t (c ∷ filter p cs) (filter p cs)) is
 
-  sorted_filter : (from : ℕ) (bs : List Placed) → AreSortedFrom from bs → AreSortedFrom from (filter p bs)
+  pub sorted_filter : (from : ℕ) (bs : List Placed) → AreSortedFrom from bs → AreSortedFrom from (filter p bs)
   sorted_filter from [] are = tt
   sorted_filter from (b ∷ bs) are = elim (true_or_false (p b)) [
     | inl is ↦ subst (AreSortedFrom from) (sym (kept b bs is)) (are.0, sorted_filter (suc b.place) bs are.1)

@@ -1,5 +1,5 @@
 -- A new instance stands among the others.
-use Rattle.std.proofs.Common.{◌≡◌, ◌≢◌, ℕ, ◌<◌, inl, inr, Bool, true, false, nat_eq, List, [], Option, Some, None, refl, sym, ◌∙◌, ap, subst}
+use Rattle.std.proofs.Common.{◌≡◌, ◌≢◌, ℕ, inl, inr, true, false, List, [], Option, Some, None, refl, sym, ◌∙◌, ap, subst}
 use Rattle.std.proofs.lemmas.Option.{none-some, same_Some}
 use Rattle.std.proofs.lemmas.Bool.{eq-eqb, true≢false}
 use Rattle.std.proofs.lemmas.Bool.Decides.{eqb_tells}
@@ -10,7 +10,7 @@ use Rattle.record_loans.specs.declared.pieces.Pieces.{Pieces}
 use Rattle.record_loans.specs.Pieces.{SamePieces}
 use Rattle.scratch_group.specs.declared.group.Group.{Group}
 use Rattle.scratch_group.specs.Blocks.{block_in}
-use Rattle.scratch_group.specs.Words.{placed, record_place}
+use Rattle.scratch_group.specs.Words.{record_place}
 use Rattle.scratch_group.proofs.Tables.{unplaced-with_bases}
 use Rattle.lifecycle.specs.declared.instance.Instance.{Instance}
 use Rattle.lifecycle.specs.declared.instance.Inst.{Inst}

@@ -1,5 +1,5 @@
 -- What was placed for a new instance.
-use Rattle.std.proofs.Common.{◌≡◌, ◌≢◌, ℕ, ◌<◌, IsTrue, List, [], Option, Some, None, refl, sym, ◌∙◌, ap, subst}
+use Rattle.std.proofs.Common.{◌≡◌, ◌≢◌, ℕ, IsTrue, List, Option, Some, None, sym, ◌∙◌, ap}
 use Rattle.std.proofs.lemmas.Option.{none-some}
 use Rattle.space_raw.specs.Span.{Extent}
 use Rattle.mem_rec.specs.declared.MemRec.{MemRec}

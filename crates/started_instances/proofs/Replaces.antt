@@ -1,5 +1,5 @@
 -- The blocks that a creation replaces are those that the group gives up.
-use Rattle.std.proofs.Common.{◌≡◌, ℕ, ◌||◌, Bool, true, false, List, Option, Some, None, is_some, refl, sym, ◌∙◌, ap, if◌then◌else◌}
+use Rattle.std.proofs.Common.{◌≡◌, ℕ, ◌||◌, Bool, false, List, Option, Some, None, is_some, refl, sym, ◌∙◌, ap, if◌then◌else◌}
 use Rattle.std.specs.Option.{option_map}
 use Rattle.space_raw.specs.Span.{Extent, Span}
 use Rattle.mem_rec.specs.declared.MemRec.{MemRec}
@@ -12,11 +12,11 @@ use Rattle.scratch_group.specs.declared.group.Need.{Need}
 use Rattle.scratch_group.specs.Blocks.{block_in}
 use Rattle.space_blocks.specs.declared.placed.Owner.TheVariants.{Scratch}
 use Rattle.space_blocks.specs.declared.placed.Placed.{Placed}
-use Rattle.space_blocks.specs.Blocks.{block_of_piece, owned}
+use Rattle.space_blocks.specs.Blocks.{block_of_piece}
 use Rattle.host_spaces.specs.declared.pieces.NewBlocks.{NewBlocks}
 use Rattle.host_spaces.specs.declared.wants.Wanted.{Wanted}
 use Rattle.host_spaces.specs.Creation.{replaced_block, replaces}
-use Rattle.host_spaces.specs.Picture.{Picture, blocks_in, first_block, group_block}
+use Rattle.host_spaces.specs.Picture.{Picture, first_block, group_block}
 use Rattle.host_spaces.specs.Pieces.{HasBlocks, IsNeeded, new_block, old_piece}
 use Rattle.host_spaces.specs.Wants.{block_need, need_wanted}
 use Rattle.host_spaces.proofs.Steps.{scratch_is}
@@ -34,7 +34,6 @@ by_need g space (Some n) home (Some c) (Some o) b is e = rw e refl
 some_of : {A B : Type 0} (f : A → B) (x : Option A) → is_some (option_map f x) ≡ is_some x
 some_of f None = refl
 some_of f (Some a) = refl
-
 
 module _ (picture : Picture) (g : ℕ) (table : List MemRec) (y : Group) (homes : Space → Extent) (blocks : NewBlocks) (has : HasBlocks picture g y)
     (needed : (space : Space) → IsNeeded (homes space) (block_need table y space) (new_block blocks space)) where

@@ -1,8 +1,7 @@
 -- No owner has two blocks of a space.
-use Rattle.std.proofs.Common.{◌≡◌, ◌≢◌, ℕ, zero, suc, ◌<◌, ◌≤◌, ◌⊎◌, inl, inr, Bool, true, false, List, [], ◌∷◌, length, get_or, Contains, Option, Some, None, refl, sym, ◌∙◌, ap, subst, arith, if◌then◌else◌}
+use Rattle.std.proofs.Common.{◌≡◌, ℕ, zero, suc, ◌<◌, ◌≤◌, inl, inr, Bool, true, false, List, [], ◌∷◌, length, get_or, Option, Some, None, refl, sym, ◌∙◌, ap, subst, arith, if◌then◌else◌}
 use Rattle.std.proofs.lemmas.Option.{none-some}
 use Rattle.space_raw.specs.Span.{Span}
-use Rattle.mem_rec.specs.declared.MemRec.{MemRec}
 use Rattle.mem_rec.specs.declared.Space.{Space}
 use Rattle.mem_rec.specs.Records.{same_space}
 use Rattle.ialg.specs.Records.{record_at}
@@ -21,7 +20,6 @@ use Rattle.space_blocks.specs.Blocks.{AreSingle, IsOwner, block_of_piece, owned,
 use Rattle.space_blocks.proofs.Owners.{itself}
 use Rattle.host_spaces.specs.declared.spaces.Spaces.{Spaces}
 use Rattle.host_spaces.specs.Picture.{blocks_in, picture_of}
-use Rattle.host_spaces.specs.Pieces.{record_block}
 use Rattle.placed_instances.specs.Standing.{AreStanding, table_of}
 use Rattle.placed_instances.proofs.Rooms.{compare}
 use Rattle.placed_instances.proofs.Nexts.{IsIn, in_space, later_or, next_piece}

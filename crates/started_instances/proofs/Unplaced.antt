@@ -1,20 +1,19 @@
 -- Bases don't matter to where an instance is at home.
-use Rattle.std.proofs.Common.{◌≡◌, ℕ, ◌+◌, ◌&&◌, max, cond, Bool, true, false, IsTrue, List, [], ◌∷◌, filter, fold, Option, Some, None, refl, sym, ◌∙◌, ap, subst, if◌then◌else◌}
+use Rattle.std.proofs.Common.{◌≡◌, ℕ, ◌+◌, ◌&&◌, max, cond, Bool, true, false, List, [], ◌∷◌, refl, sym, ◌∙◌, ap, subst}
 use Rattle.std.specs.Int.{next_multiple_of}
-use Rattle.space_raw.specs.Span.{Span}
 use Rattle.mem_rec.specs.declared.MemRec.{MemRec}
 use Rattle.mem_rec.specs.declared.Space.{Space}
 use Rattle.mem_rec.specs.Records.{is_scratch, is_persistent, same_space}
 use Rattle.mem_rec.specs.Layout.{align_from, end_from, scratch_align, scratch_need, scratch_records}
 use Rattle.space_heap.specs.Places.{placed_size}
-use Rattle.ialg.specs.Records.{record_at, unplaced}
+use Rattle.ialg.specs.Records.{unplaced}
 use Rattle.ialg.proofs.Tables.{record_at-unplaced}
 use Rattle.ialg.proofs.Hosting.{is_table-unplaced}
 use Rattle.record_loans.specs.declared.pieces.Pieces.{Pieces}
 use Rattle.record_loans.specs.Pieces.{piece_at}
 use Rattle.scratch_group.specs.declared.group.Group.{Group}
 use Rattle.scratch_group.specs.Blocks.{block_in, block_needed}
-use Rattle.lifecycle.specs.Rooms.{NoNeed, lasting_piece, piece_of_record}
+use Rattle.lifecycle.specs.Rooms.{NoNeed, lasting_piece}
 use Rattle.space_blocks.specs.declared.placed.Owner.TheVariants.{Record}
 use Rattle.space_blocks.specs.Blocks.{owned}
 use Rattle.host_spaces.specs.declared.spaces.Spaces.{Spaces}

@@ -1,4 +1,4 @@
-use Rattle.std.proofs.Common.{◌≡◌, ◌⊎◌, inl, inr, true, false, None, sym, ap, ◌∙◌}
+use Rattle.std.proofs.Common.{◌≡◌, ◌⊎◌, inl, inr, false, None, sym, ap, ◌∙◌}
 use Rattle.host_spaces.specs.Picture.{blocks_in, picture_of, space_in}
 use Rattle.host_spaces.specs.Pieces.{new_block, with_new}
 use Rattle.instance_table.specs.Table.{group_at}
@@ -125,10 +125,10 @@ returns-clause-keeps g c histories before =
       regions = c.take_out_blocks.ensures.stays;
     } in
     let unseen : (replaced_in c.args.blocks (group_at c.rest_where.new.groups.items c.args.g) ≡ false) ⊎ ((group_at c.rest_where.new.groups.items c.args.g).active ≡ None) =
-        elim (either c.replaces_in-replaced.result) [
-          | inl some ↦ inr (c.rest_where.ensures.idle some)
-          | inr none ↦ inl (replaced_at c.args.blocks (group_at c.args.groups.now.items c.args.g) (group_at c.rest_where.new.groups.items c.args.g) (c.rest_where.ensures.same.blocks c.args.g) ∙ sym c.replaces_in-replaced.ensures ∙ none)
-        ] in
+    elim (either c.replaces_in-replaced.result) [
+      | inl some ↦ inr (c.rest_where.ensures.idle some)
+      | inr none ↦ inl (replaced_at c.args.blocks (group_at c.args.groups.now.items c.args.g) (group_at c.rest_where.new.groups.items c.args.g) (c.rest_where.ensures.same.blocks c.args.g) ∙ sym c.replaces_in-replaced.ensures ∙ none)
+    ] in
     c.tell_where.ensures.keeps c.args.poison histories
     (words_seen g.M.Ialg.meaning g.M.Ialg.idle_keeps g.M.Ialg.active_keeps c.args.poison histories _ _ _ _ _ _ c.rest_where.ensures.ok
     (words_now c.args.g c.args.blocks _ _ _ _ c.args.spaces.now c.take_out_blocks.new.self renewed c.rest_where.ensures.ok unseen) (c.rest_where.ensures.keeps histories before))

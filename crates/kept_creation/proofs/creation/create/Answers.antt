@@ -1,4 +1,4 @@
-use Rattle.std.proofs.Common.{◌≡◌, ◌<◌, ℤ, List, [], Option, Some, None, Ok, Err, rules, sym, ap, ◌∙◌, subst, arith}
+use Rattle.std.proofs.Common.{◌≡◌, ◌<◌, ℤ, List, [], Option, Some, None, rules, sym, ◌∙◌, subst, arith}
 use Rattle.host_spaces.specs.Picture.{picture_of}
 use Rattle.instance_table.specs.Table.{slot_at}
 use Rattle.instance_table.specs.Keeps.{Keeps, with_history}

@@ -1,4 +1,4 @@
-use Rattle.std.proofs.Common.{◌≡◌, sym, subst}
+use Rattle.std.proofs.Common.{sym, subst}
 use Rattle.mem_rec.specs.declared.Space.{Space}
 use Rattle.scratch_group.specs.declared.group.Group.{Group}
 use Rattle.host_spaces.specs.Picture.{space_in}

@@ -1,7 +1,6 @@
-use Rattle.std.proofs.Common.{◌≡◌, Bool, Ok, inl, sym, ap, ◌∙◌, arith}
-use Rattle.ialg.specs.Records.{record_at}
+use Rattle.std.proofs.Common.{Bool, Ok, inl, sym, ap, ◌∙◌, arith}
 use Rattle.lifecycle.proofs.Words.{are_new}
-use Rattle.host_spaces.specs.Picture.{Picture, blocks_in, picture_of, sizes_of, space_in}
+use Rattle.host_spaces.specs.Picture.{blocks_in, picture_of, sizes_of, space_in}
 use Rattle.instance_table.specs.Table.{group_at}
 use Rattle.grown_groups.specs.Blocks.{replaced_pieces}
 use Rattle.grown_groups.specs.Growth.{activity_grown}
