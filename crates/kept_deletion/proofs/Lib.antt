@@ -1,1 +1,2 @@
 pub mod Deleted
+pub mod Closed

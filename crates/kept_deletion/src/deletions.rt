@@ -1,10 +1,10 @@
 //! Deletions, as the machine's.
-ghost use Rattle.std.specs.Prelude.{◌≡◌, ◌<◌, ℕ, length, None, OnErr, is_some};
+ghost use Rattle.std.specs.Prelude.{◌≡◌, ◌≢◌, ◌<◌, ℕ, length, None, OnErr, is_some};
 ghost use Rattle.instance_table.specs.Table.{slot_at, TablesOk, ArePoisoned};
 ghost use Rattle.sound_machine.specs.State.{State};
 ghost use Rattle.sound_machine.specs.Calls.{Does};
 ghost use Rattle.sound_machine.specs.Calls.Call.{Delete};
-ghost use Rattle.placed_instances.specs.Standing.{AreStanding};
+ghost use Rattle.placed_instances.specs.Standing.{AreStanding, SlotIsSame};
 ghost use Rattle.kept_moves.specs.Hosts.{HostKeeps};
 
 use ended_instances::end_instance;
@@ -41,9 +41,9 @@ pub fn delete<M: Ialg>(
     ensures ok { TablesOk slots.new.items once.new.items groups.new.items }
     ensures standing { AreStanding slots.new.items once.new.items groups.new.items spaces.new }
     ensures poisoned { ArePoisoned poison groups.new.items }
-    ensures refused { OnErr result ((slots.new ≡ slots.old) × (once.new ≡ once.old) × (groups.new ≡ groups.old) × (spaces.new ≡ spaces.old)) }
     ensures gone { slot_at slots.new.items i ≡ None }
-    ensures none { (j : ℕ) → slot_at slots.old.items j ≡ None → slot_at slots.new.items j ≡ None }
+    ensures others { (j : ℕ) → j ≢ i → SlotIsSame (slot_at slots.old.items j) (slot_at slots.new.items j) }
+    ensures refused { OnErr result ((slots.new ≡ slots.old) × (once.new ≡ once.old) × (groups.new ≡ groups.old) × (spaces.new ≡ spaces.old)) }
     ensures machine { (before : State M) → before.poison ≡ poison
         → HostKeeps M.meaning M.idle_keeps M.active_keeps slots.old.items once.old.items groups.old.items spaces.old before
         → (after : State M) × Does M.meaning before (Delete i result) after
