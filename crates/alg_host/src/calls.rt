@@ -16,10 +16,7 @@ impl<M: Ialg> Host<M> {
         ensures value { result ≡ lives self.now i }
         ensures machine { Serves M.meaning M.idle_keeps M.active_keeps (Lives i result) self.now self.now }
     {
-        match self.slots.get(i as usize) {
-            Some(Some(_)) => true,
-            _ => false,
-        }
+        instance_table::lives(&self.slots, i)
     }
 
     /// Gives instance `i` a control. It becomes the active member of its group, unless it is so already.

@@ -1,11 +1,12 @@
 //! How instances go, and the host with them.
-ghost use Rattle.std.specs.Prelude.{◌≡◌, ℕ, false, OnErr};
+ghost use Rattle.std.specs.Prelude.{◌≡◌, false, OnErr};
 ghost use Rattle.sound_machine.specs.Calls.Call.{Delete};
 ghost use Rattle.alg_host.specs.Hosts.{lives, Serves};
 
 use crate::Host;
 use ialg::{Ialg, Refusal};
-use instance_table::{INSTANCES, end_groups, end_once, end_slots};
+use instance_table::{end_groups, end_once, end_slots};
+use kept_deletion::delete_all;
 use placed_instances::nobody_stands;
 
 impl<M: Ialg> Host<M> {
@@ -18,7 +19,6 @@ impl<M: Ialg> Host<M> {
     pub fn delete(&mut self, i: u8) -> Result<(), Refusal>
         ensures refused { OnErr result (self.new ≡ self.old) }
         ensures gone { lives self.new i ≡ false }
-        ensures none { (j : ℕ) → lives self.old j ≡ false → lives self.new j ≡ false }
         ensures machine { Serves M.meaning M.idle_keeps M.active_keeps (Delete i result) self.old self.new }
     {
         kept_deletion::delete(
@@ -31,28 +31,17 @@ impl<M: Ialg> Host<M> {
         )
     }
 
-    // Deletes every instance, in ascending number.
-    fn delete_all(&mut self)
-        ensures { (j : ℕ) → lives self.new j ≡ false }
-    {
-        for i in 0..INSTANCES {
-            let _gone = self.delete(i as u8);
-        }
-        let _slots = &self.slots;
-    }
-
     /// Deletes every instance, in ascending number, and gives all memory back.
     pub fn close(self) {
-        let mut host = self;
-        host.delete_all();
-        nobody_stands::<M>();
         let Host {
-            slots,
-            once,
-            groups,
-            spaces,
-            poison: _,
-        } = host;
+            mut slots,
+            mut once,
+            mut groups,
+            mut spaces,
+            poison,
+        } = self;
+        delete_all(&mut slots, &mut once, &mut groups, &mut spaces, poison);
+        nobody_stands::<M>();
         end_groups(groups);
         end_once(once);
         end_slots(slots);

@@ -14,7 +14,7 @@ mod tables;
 pub use activity::{quiet, rest, touch};
 pub use calls::{command, process};
 pub use life::{end, start};
-pub use member::Member;
+pub use member::{Member, lives};
 pub use moves::tell_members;
 pub use tables::{
     empty_groups, empty_once, empty_slots, end_groups, end_once, end_slots, in_order,

@@ -1,5 +1,5 @@
 //! Slots of the table of instances.
-ghost use Rattle.std.specs.Prelude.{◌≡◌, ◌≢◌, ℕ, ◌<◌, length, Option, Some, None, IsSome, IfSome, IfNone, OnSome, slice_set};
+ghost use Rattle.std.specs.Prelude.{◌≡◌, ◌≢◌, ℕ, ◌<◌, length, Option, Some, None, IsSome, is_some, IfSome, IfNone, OnSome, slice_set};
 ghost use Rattle.instance_table.specs.Table.{slot_at, no_pieces, group_of, slot_active_in};
 
 use ialg::Ialg;
@@ -12,6 +12,16 @@ use std::mem;
 pub struct Member<M> {
     pub group: u8,
     pub inst: Inst<M>,
+}
+
+/// Whether an instance has the number.
+pub fn lives<M: Ialg>(slots: &Vec<Option<Member<M>>>, i: u8) -> bool
+    ensures { result ≡ is_some (slot_at slots.now.items i) }
+{
+    match slots.get(i as usize) {
+        Some(Some(_)) => true,
+        _ => false,
+    }
 }
 
 /// Takes the instance out of its slot.

@@ -11,23 +11,12 @@ ghost use Rattle.kept_moves.specs.Hosts.{HostKeeps};
 
 use host_spaces::Spaces;
 use ialg::{Ialg, Params, Refusal, copied};
-use instance_table::{GROUPS, INSTANCES, Member};
+use instance_table::{GROUPS, INSTANCES, Member, lives};
 use mem_rec::MemTab;
 use record_loans::Pieces;
 use scratch_group::Group;
 use sound_machine::creations_answer_in_order;
 use started_instances::start_in_spaces;
-
-/// Whether an instance has the number.
-fn lives<M: Ialg>(slots: &Vec<Option<Member<M>>>, i: u8) -> bool
-    requires { i < length slots.now.items }
-    ensures { result ≡ is_some (slot_at slots.now.items i) }
-{
-    match &slots[i as usize] {
-        Some(_) => true,
-        None => false,
-    }
-}
 
 /// The memory that the kind asks for with these parameters, None where it refuses them.
 fn asked_for<M: Ialg>(kind: M, p: &Params) -> Option<MemTab>

@@ -10,20 +10,9 @@ ghost use Rattle.kept_moves.specs.Hosts.{HostKeeps};
 use ended_instances::end_instance;
 use host_spaces::Spaces;
 use ialg::{Ialg, Refusal};
-use instance_table::{INSTANCES, Member};
+use instance_table::{INSTANCES, Member, lives};
 use record_loans::Pieces;
 use scratch_group::Group;
-
-/// Whether an instance has the number.
-fn lives<M: Ialg>(slots: &Vec<Option<Member<M>>>, i: u8) -> bool
-    requires number { i < length slots.now.items }
-    ensures { result ≡ is_some (slot_at slots.now.items i) }
-{
-    match &slots[i as usize] {
-        Some(_) => true,
-        None => false,
-    }
-}
 
 /// Deletes an instance, as the machine does: its records go, and its group's blocks where no other member is left. It is active no more,
 /// where it was. A number out of range and an instance that isn't there are refused, and a refused call changes nothing.

@@ -10,7 +10,7 @@ ghost use Rattle.sound_machine.specs.Steps.{processed};
 ghost use Rattle.kept_machine.specs.Kept.{TablesKeep, told};
 
 use ialg::{BLOCK_SAMPLES, Block, Ctl, Ialg, Refusal, Status};
-use instance_table::{GROUPS, INSTANCES, Member, command, process, rest};
+use instance_table::{GROUPS, INSTANCES, Member, command, lives, process, rest};
 use record_loans::Pieces;
 use scratch_group::Group;
 
@@ -39,17 +39,6 @@ pub fn give_block<M: Ialg>(
         × TablesKeep M.meaning M.idle_keeps M.active_keeps slots.new.items once.new.items groups.new.items (processed before i input.now) }
 {
     process(slots, once, groups, poison, i, input, out);
-}
-
-/// Whether an instance has the number.
-fn lives<M: Ialg>(slots: &Vec<Option<Member<M>>>, i: u8) -> bool
-    requires number { i < length slots.now.items }
-    ensures { result ≡ is_some (slot_at slots.now.items i) }
-{
-    match &slots[i as usize] {
-        Some(_) => true,
-        None => false,
-    }
 }
 
 /// Gives the instance a control, or refuses it, as the machine does: a number out of range, an instance that isn't there, a control

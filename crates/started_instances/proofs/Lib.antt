@@ -1,4 +1,3 @@
-pub mod Single
 pub mod Unplaced
 pub mod Begun
 pub mod Replaces

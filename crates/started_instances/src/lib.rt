@@ -4,8 +4,6 @@
 //! starts last.
 #![tactic(auto)]
 
-mod laws;
 mod starting;
 
-pub use laws::are_single;
 pub use starting::start_in_spaces;

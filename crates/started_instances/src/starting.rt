@@ -21,13 +21,12 @@ ghost use Rattle.placed_instances.specs.Standing.{AreStanding, IsHome};
 ghost use Rattle.grown_groups.specs.Growth.{AreGrown, activity_grown};
 ghost use Rattle.started_instances.specs.Started.{IsNewborn, OthersAreSame};
 
-use crate::laws::are_single;
 use grown_groups::grow;
 use host_spaces::{Placement, Spaces, creations};
 use ialg::{Ialg, Params};
 use instance_table::{Member, start};
 use mem_rec::{MemTab, Space};
-use placed_instances::in_order;
+use placed_instances::{in_order, maps_have_room};
 use record_loans::Pieces;
 use scratch_group::Group;
 use space_blocks::blocks_are_few;
@@ -129,7 +128,7 @@ pub fn start_in_spaces<M: Ialg>(
         → Keeps M.meaning M.idle_keeps M.active_keeps poison slots.old.items once.old.items groups.old.items histories
         → Keeps M.meaning M.idle_keeps M.active_keeps poison slots.new.items once.new.items groups.new.items (with_history histories i [])) }
 {
-    are_single(slots, once, groups, spaces);
+    maps_have_room::<M>();
     blocks_are_few();
     creations();
     // a table is valid, as its records say

@@ -10,7 +10,7 @@ use Rattle.started_instances.proofs.starting.start_in_spaces.Goals as goal
 
 pub place-requires-clause-room : goal.place-requires-clause-room
 place-requires-clause-room g c space =
-    let few = c.blocks_are_few.ensures.room (blocks_in (picture_of c.args.spaces.now) space) c.args.i (c.are_single.ensures space) c.requires.number (λ k. c.requires.standing.gone c.args.i k space c.requires.empty) in
+    let few = c.blocks_are_few.ensures.room (blocks_in (picture_of c.args.spaces.now) space) c.args.i (c.maps_have_room.ensures.single c.args.slots.now.items c.args.once.now.items c.args.groups.now.items c.args.spaces.now space c.requires.ok c.requires.standing) c.requires.number (λ k. c.requires.standing.gone c.args.i k space c.requires.empty) in
     omega (arith, few)
 
 pub grow-requires-clause-placed : goal.grow-requires-clause-placed

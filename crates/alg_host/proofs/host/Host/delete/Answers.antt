@@ -8,11 +8,6 @@ use Rattle.alg_host.proofs.host.Host.delete.Goals as goal
 pub returns-clause-refused : goal.returns-clause-refused
 returns-clause-refused g c = on_refusal c.delete.result _ _ (λ e. rw (e.0, e.1, e.2, e.3) c.self.view_is) c.delete.ensures.refused
 
-pub returns-clause-none : goal.returns-clause-none
-returns-clause-none g c = λ j dead.
-    let none = not_there (slot_at c.self.inside.slots.items j) (ap (λ h. lives h j) c.self.view_is ∙ dead) in
-    rw (c.delete.ensures.none j none) refl
-
 pub returns-clause-machine : goal.returns-clause-machine
 returns-clause-machine g c = λ before keeps.
     let kept = subst (λ h. Keeps g.M.Ialg.meaning g.M.Ialg.idle_keeps g.M.Ialg.active_keeps h before) (sym c.self.view_is) keeps in
