@@ -3,7 +3,7 @@
 use Rattle.std.specs.Prelude.{ℕ, zero, suc, ◌+◌, ◌-◌, ◌*◌, ◌/◌, ◌%◌, ◌^◌, min, Bool, ◌&&◌, nat_le, nat_lt, ℤ, pos, negsuc, neg_ℤ, find, unwrap_or, bit_xor, List, map, if◌then◌else◌}
 use Rattle.std.specs.Int.Signed.{mag}
 use Rattle.std.specs.List.{range_with_len}
-use Rattle.alg_g711.specs.declared.TheConstants.{INTERVALS, CODES, BIAS, GREATEST_MAGNITUDE, EVEN_BITS}
+use Rattle.alg_g711.specs.declared.TheConstants.{INTERVALS, CODES, SIGN_BIT, STEPS, FINEST_A_STEP, BIAS, GREATEST_MAGNITUDE, EVEN_BITS}
 use Rattle.alg_g711.specs.declared.companding.Law.{Law}
 use Rattle.alg_g711.specs.declared.companding.Law.TheVariants.{A, Mu}
 
@@ -11,21 +11,21 @@ use Rattle.alg_g711.specs.declared.companding.Law.TheVariants.{A, Mu}
 
 -- how wide the steps of a segment are
 abbrev pub step_width : Law → ℕ → ℕ
-step_width A zero = 16
-step_width A (suc e) = 16 * 2 ^ e
+step_width A zero = FINEST_A_STEP
+step_width A (suc e) = FINEST_A_STEP * 2 ^ e
 step_width Mu e = 2 ^ (e + 1)
 
 -- where step m of segment e begins
 abbrev pub step_start : Law → ℕ → ℕ → ℕ
-step_start A zero m = 16 * m
-step_start A (suc e) m = step_width A (suc e) * (16 + m)
-step_start Mu e m = step_width Mu e * (16 + m)
+step_start A zero m = step_width A zero * m
+step_start A (suc e) m = step_width A (suc e) * (STEPS + m)
+step_start Mu e m = step_width Mu e * (STEPS + m)
 
 abbrev pub lower_end : Law → ℕ → ℕ
-lower_end law number = step_start law (number / 16) (number % 16)
+lower_end law number = step_start law (number / STEPS) (number % STEPS)
 
 abbrev pub width_of : Law → ℕ → ℕ
-width_of law number = step_width law (number / 16)
+width_of law number = step_width law (number / STEPS)
 
 abbrev pub holds : Law → ℕ → ℕ → Bool
 holds law magnitude number =
@@ -50,23 +50,23 @@ abbrev pub sample_of : Law → ℕ → ℕ
 sample_of A magnitude = magnitude
 sample_of Mu magnitude = 4 * (magnitude - BIAS)
 
--- ---- codes: bit 128 is set where the sample isn't negative
+-- ---- codes: the sign bit is set where the sample isn't negative
 
 -- the bits of an interval's number in its code, and the other way round: A-law turns the even bits, mu-law turns all
 abbrev pub turned : Law → ℕ → ℕ
 turned A bits = bit_xor bits EVEN_BITS
-turned Mu bits = 127 - bits
+turned Mu bits = INTERVALS - 1 - bits
 
 abbrev pub encoded : Law → ℤ → ℕ
-encoded law (pos n) = 128 + turned law (interval_of law (magnitude_of law (pos n)))
+encoded law (pos n) = SIGN_BIT + turned law (interval_of law (magnitude_of law (pos n)))
 encoded law (negsuc n) = turned law (interval_of law (magnitude_of law (negsuc n)))
 
 -- the interval of a code
 abbrev pub number_of : Law → ℕ → ℕ
-number_of law code = turned law (code % 128)
+number_of law code = turned law (code % SIGN_BIT)
 
 abbrev pub signed_by : ℕ → ℕ → ℤ
-signed_by code n = if nat_le 128 code then pos n else neg_ℤ (pos n)
+signed_by code n = if nat_le SIGN_BIT code then pos n else neg_ℤ (pos n)
 
 abbrev pub decoded : Law → ℕ → ℤ
 decoded law code = signed_by code (sample_of law (middle_of law (number_of law code)))

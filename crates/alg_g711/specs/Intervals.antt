@@ -1,6 +1,6 @@
 -- Laws of companding.
 use Rattle.std.specs.Prelude.{◌≡◌, ◌≢◌, ℕ, ◌+◌, ◌<◌, IsTrue, ℤ, ◌<ℤ◌, pos}
-use Rattle.alg_g711.specs.declared.TheConstants.{INTERVALS, CODES}
+use Rattle.alg_g711.specs.declared.TheConstants.{INTERVALS, CODES, SIGN_BIT}
 use Rattle.alg_g711.specs.declared.companding.Law.{Law}
 use Rattle.alg_g711.specs.declared.companding.Law.TheVariants.{A, Mu}
 use Rattle.alg_g711.specs.Companding.{holds, interval_of, magnitude_of, turned, encoded, decoded}
@@ -14,7 +14,7 @@ pub record LiesInOne (law : Law) (x : ℤ) : Type 0 where
 
 -- the sample of a higher interval is greater, or less where the samples are negative
 pub record IsMonotone (law : Law) (low high : ℕ) : Type 0 where
-  pub positive : decoded law (128 + turned law low) <ℤ decoded law (128 + turned law high)
+  pub positive : decoded law (SIGN_BIT + turned law low) <ℤ decoded law (SIGN_BIT + turned law high)
   pub negative : decoded law (turned law high) <ℤ decoded law (turned law low)
 
 -- each code comes back from its sample, but mu-law's code of the negative zero, whose sample is that of the positive zero

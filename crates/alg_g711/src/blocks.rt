@@ -1,14 +1,15 @@
 //! Companding of blocks, over plain words.
-ghost use Rattle.std.specs.Prelude.{◌≡◌, ◌<◌, ◌≤◌, ◌%◌, ℕ, length, pos, FitsSigned, slice_index_or};
+ghost use Rattle.std.specs.Prelude.{◌≡◌, ◌+◌, ◌<◌, ◌≤◌, ◌%◌, ℕ, ℤ, length, pos, FitsSigned, slice_index_or};
 ghost use Rattle.std.specs.List.{All};
 ghost use Rattle.std.specs.Int.{w16, cast_unsigned};
 ghost use Rattle.ialg.specs.History.{word_at};
-ghost use Rattle.ialg.specs.declared.TheConstants.{BLOCK_SAMPLES};
 ghost use Rattle.alg_g711.specs.Companding.{encoded, samples_of_codes};
 
 use crate::CODES;
 use crate::companding::{Law, decode, encode};
-use ialg::BLOCK_SAMPLES;
+
+/// How many codes are looked up in a run.
+const RUN: usize = 16;
 
 /// Writes the codes of the samples, each in the lower octet of its word.
 pub(crate) fn encode_words(law: Law, samples: &[i16], codes: &mut [i16])
@@ -23,43 +24,35 @@ pub(crate) fn encode_words(law: Law, samples: &[i16], codes: &mut [i16])
 
 /// Writes the samples of the codes in the lower octets of the words, by the samples of all codes.
 ///
-/// In two passes: where one loop takes a word's lower octet and looks it up, LLVM loads the word, cuts off its octet and looks
-/// that up, one by one. The octets of a block are taken sixteen at a time, and each is then loaded as what it is.
+/// Runs of a fixed length go first: LLVM writes out such a run, so that no word of it costs a step of a loop.
 pub(crate) fn decode_words(table: &[i16], codes: &[i16], samples: &mut [i16])
     requires all { length table.now ≡ CODES }
-    requires within { length codes.now ≤ BLOCK_SAMPLES }
     requires room { length samples.old ≡ length codes.now }
     ensures samples { (k : ℕ) → k < length codes.now
         → word_at samples.new k ≡ word_at table.now (cast_unsigned w16 (word_at codes.now k) % CODES) }
     ensures read { All (FitsSigned w16) codes.now }
 {
-    let mut octets = [0u8; BLOCK_SAMPLES];
-    take_octets(codes, &mut octets);
-    look_up(table, &octets, samples);
-}
-
-/// Takes the lower octets of the words.
-fn take_octets(words: &[i16], octets: &mut [u8])
-    requires room { length words.now ≤ length octets.old }
-    ensures size { length octets.new ≡ length octets.old }
-    ensures octets { (k : ℕ) → k < length words.now
-        → slice_index_or octets.new k 0 ≡ cast_unsigned w16 (word_at words.now k) % CODES }
-    ensures read { All (FitsSigned w16) words.now }
-{
-    for k in 0..words.len() {
-        octets[k] = (words[k].cast_unsigned() as usize % CODES) as u8;
+    let runs = codes.len() / RUN;
+    for run in 0..runs {
+        look_up(table, codes, samples, RUN * run, RUN);
     }
+    look_up(table, codes, samples, RUN * runs, codes.len() % RUN);
 }
 
-/// Writes the table's word of each octet.
-fn look_up(table: &[i16], octets: &[u8], samples: &mut [i16])
+/// Writes the samples of `count` codes from `start` on, and leaves the words before them.
+#[inline]
+fn look_up(table: &[i16], codes: &[i16], samples: &mut [i16], start: usize, count: usize)
     requires all { length table.now ≡ CODES }
-    requires room { length samples.old ≤ length octets.now }
+    requires room { length samples.old ≡ length codes.now }
+    requires within { start + count ≤ length codes.now }
     ensures size { length samples.new ≡ length samples.old }
-    ensures samples { (k : ℕ) → k < length samples.old → word_at samples.new k ≡ word_at table.now (slice_index_or octets.now k 0) }
+    ensures before { (k : ℕ) → k < start → word_at samples.new k ≡ word_at samples.old k }
+    ensures samples { (k : ℕ) → start ≤ k → k < start + count
+        → word_at samples.new k ≡ word_at table.now (cast_unsigned w16 (word_at codes.now k) % CODES) }
+    ensures read { (k : ℕ) (d : ℤ) → start ≤ k → k < start + count → FitsSigned w16 (slice_index_or codes.now k d) }
 {
-    for k in 0..samples.len() {
-        samples[k] = table[octets[k] as usize];
+    for j in 0..count {
+        samples[start + j] = table[codes[start + j].cast_unsigned() as usize % CODES];
     }
 }
 

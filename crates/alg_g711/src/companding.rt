@@ -3,7 +3,7 @@ ghost use Rattle.std.specs.Prelude.{◌≡◌, ◌≤◌, ◌<◌, ◌+◌, ◌/
 ghost use Rattle.alg_g711.specs.Companding.{decoded, encoded, interval_of, lower_end, magnitude_of, middle_of, sample_of, step_width, turned};
 ghost use Rattle.alg_g711.specs.declared.companding.Law.TheVariants.{A, Mu};
 
-use crate::{BIAS, EVEN_BITS, GREATEST_MAGNITUDE, INTERVALS};
+use crate::{BIAS, EVEN_BITS, FINEST_A_STEP, GREATEST_MAGNITUDE, INTERVALS, SIGN_BIT, STEPS};
 
 /// The two laws of G.711, 3.2.
 #[derive(Clone, Copy, PartialEq, Eq, Debug)]
@@ -14,13 +14,13 @@ pub enum Law {
     Mu,
 }
 
-/// The code of a sample (G.711, 3.2), 0 to 255: bit 128 for the sign, and below it the number of the interval that holds
+/// The code of a sample (G.711, 3.2), 0 to 255: the sign bit, and below it the number of the interval that holds
 /// the magnitude, with the bits that the law turns. A-law's magnitudes have 15 bits here, and mu-law's 13.
 #[inline]
 pub fn encode(law: Law, x: i16) -> u8
     ensures { result ≡ encoded law x }
 {
-    let sign = if x < 0 { 0 } else { 128 };
+    let sign = if x < 0 { 0 } else { SIGN_BIT };
     let bits = turn(law, interval(law, magnitude(law, x)));
     (sign + bits) as u8
 }
@@ -29,9 +29,10 @@ pub fn encode(law: Law, x: i16) -> u8
 pub fn decode(law: Law, code: u8) -> i16
     ensures { result ≡ decoded law code }
 {
-    let number = turn(law, u32::from(code % 128));
+    let bits = u32::from(code);
+    let number = turn(law, bits % SIGN_BIT);
     let n = middle_sample(law, number) as i16;
-    if code < 128 { -n } else { n }
+    if bits < SIGN_BIT { -n } else { n }
 }
 
 /// The magnitude of a sample that the law's intervals hold. That of a negative sample is that of -1 - x, so that no sample
@@ -73,7 +74,7 @@ fn a_interval(magnitude: u32) -> u32
     ensures within { result < INTERVALS }
 {
     let shift = bits_past_five(magnitude.max(256));
-    16 * shift + (magnitude >> shift) - 64
+    STEPS * shift + (magnitude >> shift) - 4 * STEPS
 }
 
 /// The number of the interval of mu-law that holds the magnitude, whose five leading bits are a step and a bit that
@@ -86,13 +87,13 @@ fn mu_interval(magnitude: u32) -> u32
     ensures within { result < INTERVALS }
 {
     let shift = bits_past_five(magnitude);
-    16 * shift + (magnitude >> shift) - 32
+    STEPS * shift + (magnitude >> shift) - 2 * STEPS
 }
 
 /// How many bits stand below the five leading bits.
 #[inline]
 fn bits_past_five(n: u32) -> u32
-    requires { 16 ≤ n }
+    requires { 2 ^ 4 ≤ n }
     ensures low { 2 ^ (result + 4) ≤ n }
     ensures high { n < 2 ^ (result + 5) }
 {
@@ -108,7 +109,7 @@ fn turn(law: Law, bits: u32) -> u32
 {
     match law {
         Law::A => bits ^ EVEN_BITS,
-        Law::Mu => 127 - bits,
+        Law::Mu => INTERVALS as u32 - 1 - bits,
     }
 }
 
@@ -118,7 +119,7 @@ fn middle_sample(law: Law, number: u32) -> u32
     ensures value { result ≡ sample_of law (middle_of law number) }
     ensures fits { result < 32768 }
 {
-    let width = step_width(law, number / 16);
+    let width = step_width(law, number / STEPS);
     let middle = lower_end(law, number, width) + width / 2;
     match law {
         Law::A => middle,
@@ -133,7 +134,7 @@ fn step_width(law: Law, segment: u32) -> u32
     ensures bounded { result ≤ 1024 }
 {
     match law {
-        Law::A => 16 << segment.saturating_sub(1),
+        Law::A => FINEST_A_STEP << segment.saturating_sub(1),
         Law::Mu => 2 << segment,
     }
 }
@@ -141,13 +142,13 @@ fn step_width(law: Law, segment: u32) -> u32
 /// Where an interval begins whose segment has steps of this width.
 fn lower_end(law: Law, number: u32, width: u32) -> u32
     requires within { number < INTERVALS }
-    requires width { width ≡ step_width law (number / 16) }
+    requires width { width ≡ step_width law (number / STEPS) }
     ensures { result ≡ lower_end law number }
 {
-    let step = number % 16;
-    if law == Law::A && number < 16 {
+    let step = number % STEPS;
+    if law == Law::A && number < STEPS {
         width * step
     } else {
-        width * (16 + step)
+        width * (STEPS + step)
     }
 }

@@ -21,6 +21,15 @@ pub const INTERVALS: usize = 128;
 /// The codes of a law: one of each sign for an interval.
 pub const CODES: usize = 256;
 
+/// The bit of a code that is set where the sample isn't negative.
+pub const SIGN_BIT: u32 = 128;
+
+/// The steps of a segment.
+pub const STEPS: u32 = 16;
+
+/// The width of A-law's finest steps, in samples of 16 bits.
+pub const FINEST_A_STEP: u32 = 16;
+
 /// The bias of mu-law's magnitudes (G.711, tables 2a and 2b).
 pub const BIAS: u32 = 33;
 

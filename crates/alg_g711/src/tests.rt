@@ -135,6 +135,20 @@ fn decoders_give_samples(rt: HostRuntime) {
     assert_eq!(rt; out.as_slice(), [32124, -32124, 0, 0].as_slice());
 }
 
+/// Runs of codes and the rest behind them, in the order of a block.
+#[test]
+fn a_block_is_decoded_to_its_end(rt: HostRuntime) {
+    let mut codes = [0i16; 250];
+    for k in 0..250 {
+        codes[k] = k as i16;
+    }
+    let out = decoded_by(&rt, 0, &codes);
+    for k in 0..250 {
+        assert!(rt; out.as_slice().get(k) == Some(&decode(Law::A, k as u8)));
+    }
+    assert!(rt; out.len() == 250);
+}
+
 #[test]
 fn a_decoder_ignores_the_upper_octet(rt: HostRuntime) {
     let out = decoded_by(&rt, 1, &[0x7f80, -1, -256]);

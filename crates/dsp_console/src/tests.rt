@@ -7,9 +7,8 @@ ghost use Rattle.dsp_console.specs.Kinds.{kind_meaning, kind_named};
 use crate::{Config, Fault, Kind, Sizes, Summary, kinds_are_servable, outcome, run};
 use arrayvec::ArrayVec;
 use octet_ports::{PortIn, PortOut, Reading, TapeIn, TapeOut, Writing};
+use shaky_device::{HELD_OCTETS, Shaky};
 use std::alloc::{AllocError, Global};
-use std::io;
-use std::io::{ErrorKind, Read, Write};
 use std::process::Abort;
 use std::test::Fail;
 
@@ -402,83 +401,24 @@ fn ends_runs(rt: HostRuntime) {
     }
 }
 
-/// A reader or a writer of an octet a call. The call of the number `fuse`, from 0, is interrupted, and the next would go on.
-#[derive(Drop)]
-struct Shaky<'a> {
-    rest: &'a [u8],
-    held: ArrayVec<u8, 64>,
-    fuse: u64,
-    /// How often it was flushed, and how much it held at the last time.
-    flushes: u32,
-    flushed: usize,
-}
-
-impl<'a> Shaky<'a> {
-    fn new(rest: &'a [u8], fuse: u64) -> Self {
-        Shaky {
-            rest,
-            held: ArrayVec::new(),
-            fuse,
-            flushes: 0,
-            flushed: 0,
-        }
-    }
-
-    fn step(&mut self) -> io::Result<()> {
-        let breaks = self.fuse == 0;
-        self.fuse = self.fuse.wrapping_sub(1);
-        if breaks {
-            return Err(io::Error::from(ErrorKind::Interrupted));
-        }
-        Ok(())
-    }
-}
-
-impl Read for Shaky<'_> {
-    fn read(&mut self, buf: &mut [u8]) -> io::Result<usize> {
-        self.step()?;
-        let count = buf.len().min(self.rest.len()).min(1);
-        let (given, rest) = self.rest.split_at(count);
-        buf[..count].copy_from_slice(given);
-        self.rest = rest;
-        Ok(count)
-    }
-}
-
-impl Write for Shaky<'_> {
-    fn write(&mut self, buf: &[u8]) -> io::Result<usize> {
-        self.step()?;
-        let count = buf.len().min(1);
-        let _ = self.held.try_extend_from_slice(&buf[..count]);
-        Ok(count)
-    }
-
-    fn flush(&mut self) -> io::Result<()> {
-        self.step()?;
-        self.flushes = self.flushes.saturating_add(1);
-        self.flushed = self.held.len();
-        Ok(())
-    }
-}
-
 /// What is seen of a run over shaky devices: the script's, the input's, the output's and the replies'.
 #[derive(Drop)]
 struct Seen {
     answer: Result<Summary, Fault>,
     failed: (bool, bool, bool, bool),
-    written: ArrayVec<u8, 64>,
-    told: ArrayVec<u8, 64>,
+    written: ArrayVec<u8, HELD_OCTETS>,
+    told: ArrayVec<u8, HELD_OCTETS>,
     /// How often the output and the replies were flushed, and how much they held at the last time.
     flushes: (u32, u32),
-    flushed: (usize, usize),
+    flushed: (u64, u64),
 }
 
 /// Runs that script over shaky devices, each with its fuse.
 fn run_shaky(alloc: Global, fuses: Fuses) -> Result<Option<Seen>, AllocError> {
-    let mut script = Reading::new(Shaky::new(REFUSING.script, fuses.script));
-    let mut inputs = vec![in alloc; Reading::new(Shaky::new(REFUSING.input, fuses.input))]?;
-    let mut outputs = vec![in alloc; Writing::new(Shaky::new(b"", fuses.output))]?;
-    let mut replies = Writing::new(Shaky::new(b"", fuses.replies));
+    let mut script = Reading::new(Shaky::new(REFUSING.script, 1, fuses.script));
+    let mut inputs = vec![in alloc; Reading::new(Shaky::new(REFUSING.input, 1, fuses.input))]?;
+    let mut outputs = vec![in alloc; Writing::new(Shaky::new(b"", 1, fuses.output))]?;
+    let mut replies = Writing::new(Shaky::new(b"", 1, fuses.replies));
     let config = Config {
         sizes: FULL,
         poison: None,
@@ -532,7 +472,8 @@ fn compare_shaky<R: Abort + AllocGlobal>(
     assert!(rt; seen.told.as_slice() == wanted.replies);
     if seen.answer.is_ok() {
         assert!(rt; seen.flushes == (1, 1));
-        assert!(rt; seen.flushed == (wanted.output.len(), wanted.replies.len()));
+        let all = (wanted.output.len() as u64, wanted.replies.len() as u64);
+        assert!(rt; seen.flushed == all);
     } else {
         assert!(rt; seen.flushes.1 == 0);
     }

@@ -1,6 +1,8 @@
 //! What records are lent for.
-ghost use Rattle.std.specs.Prelude.{ℤ, Bool, List, [], ◌∷◌};
+ghost use Rattle.std.specs.Prelude.{◌≡◌, ℕ, ℤ, Bool, false, List, [], ◌∷◌};
 ghost use Rattle.mem_rec.specs.declared.MemRec.{MemRec};
+ghost use Rattle.mem_rec.specs.declared.Attr.TheVariants.{WriteOnce};
+ghost use Rattle.ialg.specs.Records.{record_at, words_of};
 ghost use Rattle.ialg.specs.Loans.{lent_words, SameLoans};
 
 use crate::memory::Lent;
@@ -20,7 +22,8 @@ pub trait Step<O> {
         ensures done { done self.now mem.old.table.now mem.old.writable (lent_words mem.old) (lent_words mem.new) out.old out.new };
 }
 
-/// Performs the step with these records: those of the table, an empty slice for each that isn't lent.
+/// Performs the step with these records: those of the table, an empty slice for each that isn't lent. Where nothing
+/// write-once is lent for writing, each write-once record has the same words after it, whatever the step is.
 pub fn lend<O, S: Step<O>>(
     step: &S,
     table: &MemTab,
@@ -32,7 +35,9 @@ pub fn lend<O, S: Step<O>>(
     out: &mut O,
 )
     requires { S.can step.now out.old }
-    ensures { S.done step.now table.now writable (r0.old ∷ r1.old ∷ r2.old ∷ r3.old ∷ []) (r0.new ∷ r1.new ∷ r2.new ∷ r3.new ∷ []) out.old out.new }
+    ensures done { S.done step.now table.now writable (r0.old ∷ r1.old ∷ r2.old ∷ r3.old ∷ []) (r0.new ∷ r1.new ∷ r2.new ∷ r3.new ∷ []) out.old out.new }
+    ensures once { (k : ℕ) → (record_at table.now k).attr ≡ WriteOnce → writable ≡ false
+        → words_of (r0.new ∷ r1.new ∷ r2.new ∷ r3.new ∷ []) k ≡ words_of (r0.old ∷ r1.old ∷ r2.old ∷ r3.old ∷ []) k }
 {
     let mut mem = Lent {
         table,

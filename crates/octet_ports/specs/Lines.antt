@@ -1,19 +1,20 @@
 -- What comes from an input: lines, and so many octets.
 use Rattle.std.specs.Prelude.{◌≡◌, ◌≢◌, ℕ, ◌+◌, ◌<◌, ◌≤◌, Bool, true, false, nat_lt, List, [], ◌∷◌, ◌++◌, length, All}
 use Rattle.octet_ports.specs.Ports.{Source, Gives, IsAtEnd}
+use Rattle.octet_ports.specs.declared.TheConstants.{LINE_FEED}
 use Rattle.octet_ports.specs.declared.octets.LineFault.{LineFault}
 use Rattle.octet_ports.specs.declared.octets.LineFault.TheVariants.{Port, Limit}
 
 -- what ends a line: nothing ends the last one
 abbrev pub ending : Bool → List ℕ
 ending true = []
-ending false = 10 ∷ []
+ending false = LINE_FEED ∷ []
 
 abbrev pub IsNoFeed : ℕ → Type 0
-IsNoFeed b = b ≢ 10
+IsNoFeed b = b ≢ LINE_FEED
 
 abbrev pub ended : List ℕ → List ℕ
-ended line = line ++ 10 ∷ []
+ended line = line ++ LINE_FEED ∷ []
 
 -- a line's octets as they are kept: the text, where it isn't long
 pub record IsLine (most : ℕ) (text : List ℕ) (long : Bool) (octets : List ℕ) : Type 0 where

@@ -12,3 +12,6 @@ pub use device::{Reading, Writing};
 pub use octets::{LineFault, ReadLine, read_line, read_octets, write_octets};
 pub use port::{PortFault, PortIn, PortOut};
 pub use tape::{TAPE_OCTETS, TapeIn, TapeOut};
+
+/// The octet that ends a line.
+pub const LINE_FEED: u8 = b'\n';

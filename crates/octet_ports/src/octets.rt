@@ -4,6 +4,7 @@ ghost use Rattle.std.specs.Result.{is_err};
 ghost use Rattle.octet_ports.specs.Ports.{Gives, GivesWithin, Takes, TakesFirst};
 ghost use Rattle.octet_ports.specs.Lines.{LineCame, LineFails, EndsWithin};
 
+use crate::LINE_FEED;
 use crate::port::{PortFault, PortIn, PortOut};
 use arrayvec::ArrayVec;
 
@@ -84,7 +85,7 @@ pub fn read_line<S: PortIn, const MOST: usize>(
         }
         *left -= 1;
         let [octet] = octet;
-        if octet == b'\n' {
+        if octet == LINE_FEED {
             return Ok(ReadLine { long, last: false });
         }
         if text.is_full() {

@@ -4,9 +4,7 @@ use crate::{
     read_octets, write_octets,
 };
 use arrayvec::ArrayVec;
-use std::io;
-use std::io::{ErrorKind, Read, Write};
-use std::process::Abort;
+use shaky_device::Shaky;
 use std::test::Fail;
 
 const NEVER: u64 = u64::MAX;
@@ -16,58 +14,6 @@ const WIDE: usize = 512;
 
 /// More octets than wait in any run between two flushes.
 const MILLION_AND_MORE: usize = 1_100_000;
-
-/// A reader of sevens, and a writer. The call of the number `fuse`, from 0, is interrupted, and the next would go on.
-#[derive(Drop)]
-struct Shaky {
-    fuse: u64,
-    /// How many octets were written, and how often it was flushed.
-    written: u64,
-    flushes: u32,
-}
-
-impl Shaky {
-    fn new(fuse: u64) -> Self {
-        Shaky {
-            fuse,
-            written: 0,
-            flushes: 0,
-        }
-    }
-
-    fn step(&mut self) -> io::Result<()> {
-        let breaks = self.fuse == 0;
-        self.fuse = self.fuse.wrapping_sub(1);
-        if breaks {
-            return Err(io::Error::from(ErrorKind::Interrupted));
-        }
-        Ok(())
-    }
-}
-
-impl Read for Shaky {
-    fn read(&mut self, buf: &mut [u8]) -> io::Result<usize> {
-        self.step()?;
-        let count = buf.len().min(WIDE);
-        buf[..count].fill(7);
-        Ok(count)
-    }
-}
-
-impl Write for Shaky {
-    fn write(&mut self, buf: &[u8]) -> io::Result<usize> {
-        self.step()?;
-        let count = buf.len().min(WIDE);
-        self.written = self.written.saturating_add(count as u64);
-        Ok(count)
-    }
-
-    fn flush(&mut self) -> io::Result<()> {
-        self.step()?;
-        self.flushes = self.flushes.saturating_add(1);
-        Ok(())
-    }
-}
 
 #[test]
 fn a_tape_is_full_at_4096(rt: HostRuntime) {
@@ -107,16 +53,16 @@ fn ports_fail_where_their_device_does(rt: HostRuntime) {
     // Calls of no octets too.
     for count in [0, 1, WIDE] {
         let mut octets = [0; WIDE];
-        let mut input = Reading::new(Shaky::new(0));
+        let mut input = Reading::new(Shaky::new(b"", WIDE, 0));
         let got = input.get(&mut octets[..count]);
         assert!(rt; got == Err(PortFault));
         assert!(rt; input.failed());
-        let mut output = Writing::new(Shaky::new(0));
+        let mut output = Writing::new(Shaky::new(b"", WIDE, 0));
         let put = output.put(&octets[..count]);
         assert!(rt; put == Err(PortFault));
         assert!(rt; output.failed());
     }
-    let mut output = Writing::new(Shaky::new(0));
+    let mut output = Writing::new(Shaky::new(b"", WIDE, 0));
     let flushed = output.flush();
     assert!(rt; flushed == Err(PortFault));
     assert!(rt; output.failed());
@@ -125,12 +71,13 @@ fn ports_fail_where_their_device_does(rt: HostRuntime) {
 
 #[test]
 fn ports_take_long_buffers(rt: HostRuntime) {
+    let sevens = [7; WIDE];
     let mut octets = [0; WIDE];
-    let mut input = Reading::new(Shaky::new(NEVER));
+    let mut input = Reading::new(Shaky::new(&sevens, WIDE, NEVER));
     let got = input.get(&mut octets);
     assert!(rt; got == Ok(WIDE));
-    assert!(rt; octets == [7; WIDE]);
-    let mut output = Writing::new(Shaky::new(NEVER));
+    assert!(rt; octets == sevens);
+    let mut output = Writing::new(Shaky::new(b"", WIDE, NEVER));
     let put = output.put(&octets);
     assert!(rt; put == Ok(WIDE));
     assert!(rt; !input.failed() && !output.failed());
@@ -139,7 +86,7 @@ fn ports_take_long_buffers(rt: HostRuntime) {
 #[test]
 fn a_million_octets_wait_for_a_flush(rt: HostRuntime) -> Result<(), Fail> {
     let octets = vec![in rt.alloc(); 7u8; MILLION_AND_MORE]?;
-    let mut output = Writing::new(Shaky::new(NEVER));
+    let mut output = Writing::new(Shaky::new(b"", WIDE, NEVER));
     let answer = write_octets(&mut output, &octets);
     assert!(rt; answer.is_ok());
     let flushed = output.flush();

@@ -1,10 +1,10 @@
 -- The block of a group moves.
-use Rattle.std.proofs.Common.{◌≡◌, ◌≢◌, ℕ, ℤ, zero, suc, ◌<◌, ◌≤◌, ◌⊎◌, inl, inr, Bool, true, false, List, [], ◌∷◌, length, Option, Some, None, IsSome, is_some, refl, sym, ◌∙◌, ap, subst, arith}
+use Rattle.std.proofs.Common.{◌≡◌, ◌≢◌, ℕ, ℤ, zero, suc, ◌<◌, ◌≤◌, ◌⊎◌, inl, inr, true, false, List, [], ◌∷◌, length, Option, Some, None, IsSome, is_some, refl, sym, ◌∙◌, ap, subst, arith}
 use Rattle.std.specs.Option.{option_map}
 use Rattle.std.specs.List.{Contains}
 use Rattle.std.proofs.lemmas.Option.{none-some, same_Some}
 use Rattle.std.proofs.lemmas.Bool.{true≢false}
-use Rattle.space_raw.specs.Span.{Extent, Span}
+use Rattle.space_raw.specs.Span.{Span}
 use Rattle.mem_rec.specs.declared.Space.{Space}
 use Rattle.mem_rec.specs.declared.Space.TheVariants.{Daram, Saram, External}
 use Rattle.mem_rec.specs.declared.Attr.{Attr}
@@ -14,12 +14,11 @@ use Rattle.ialg.specs.Records.{ArePoison, record_at}
 use Rattle.record_loans.specs.declared.pieces.Pieces.{Pieces}
 use Rattle.record_loans.specs.declared.block.ScratchBlock.{ScratchBlock}
 use Rattle.record_loans.specs.Pieces.{piece_at}
-use Rattle.record_loans.specs.Blocks.{block_piece, block_align, block_words}
+use Rattle.record_loans.specs.Blocks.{block_piece, block_align}
 use Rattle.scratch_group.specs.declared.group.Group.{Group}
 use Rattle.scratch_group.specs.Blocks.{block_in}
-use Rattle.lifecycle.specs.Rooms.{lasting_piece, piece_of_record}
+use Rattle.lifecycle.specs.Rooms.{lasting_piece}
 use Rattle.space_blocks.specs.declared.placed.Owner.{Owner}
-use Rattle.space_blocks.specs.declared.placed.Owner.TheVariants.{Record}
 use Rattle.space_blocks.specs.declared.placed.Owner.TheVariants.{Scratch as GroupScratch}
 use Rattle.space_blocks.specs.declared.placed.Placed.{Placed}
 use Rattle.space_blocks.specs.Blocks.{Owns, block_of, block_of_piece, block_range, owned}

@@ -1,7 +1,6 @@
 -- Instances that stay where the picture shows them.
-use Rattle.std.proofs.Common.{◌≡◌, ◌≢◌, ℕ, ℤ, zero, suc, ◌<◌, ◌⊎◌, inl, inr, Bool, true, false, List, [], ◌∷◌, length, Option, Some, None, refl, sym, ◌∙◌, ap, subst, arith, if◌then◌else◌}
-use Rattle.std.proofs.lemmas.Option.{none-some, same_Some}
-use Rattle.std.proofs.lemmas.Bool.Decides.{eqb_tells}
+use Rattle.std.proofs.Common.{◌≡◌, ℕ, Bool, List, [], ◌∷◌, length, Option, Some, None, refl, sym, ◌∙◌, ap, subst, if◌then◌else◌}
+use Rattle.std.proofs.lemmas.Option.{none-some}
 use Rattle.space_raw.specs.Span.{Extent, Span}
 use Rattle.mem_rec.specs.declared.MemRec.{MemRec}
 use Rattle.mem_rec.specs.declared.Space.{Space}
@@ -12,13 +11,12 @@ use Rattle.mem_rec.specs.Layout.{scratch_need, scratch_align}
 use Rattle.ialg.specs.Records.{record_at, unplaced}
 use Rattle.record_loans.specs.declared.pieces.Pieces.{Pieces}
 use Rattle.record_loans.specs.declared.block.ScratchBlock.{ScratchBlock}
-use Rattle.record_loans.specs.Pieces.{piece_at, piece_words, IsSamePiece, SamePieces}
-use Rattle.record_loans.specs.Blocks.{block_piece, block_align, block_words, IsSameBlock}
+use Rattle.record_loans.specs.Pieces.{piece_at, IsSamePiece, SamePieces}
+use Rattle.record_loans.specs.Blocks.{block_piece, block_align, IsSameBlock}
 use Rattle.scratch_group.specs.declared.group.Group.{Group}
 use Rattle.scratch_group.specs.Blocks.{block_in, block_needed}
 use Rattle.lifecycle.specs.Rooms.{NoNeed, lasting_piece, piece_of_record}
-use Rattle.lifecycle.specs.States.{SameInstance}
-use Rattle.lifecycle.proofs.Frames.{piece_same, same_pieces}
+use Rattle.lifecycle.proofs.Frames.{piece_same}
 use Rattle.space_blocks.specs.declared.placed.Owner.{Owner}
 use Rattle.space_blocks.specs.declared.placed.Owner.TheVariants.{Record}
 use Rattle.space_blocks.specs.declared.placed.Owner.TheVariants.{Scratch as GroupScratch}
@@ -26,11 +24,11 @@ use Rattle.space_blocks.specs.declared.placed.Placed.{Placed}
 use Rattle.space_blocks.specs.Blocks.{block_of, block_of_piece, owned}
 use Rattle.host_spaces.specs.declared.spaces.Spaces.{Spaces}
 use Rattle.host_spaces.specs.Picture.{blocks_in, picture_of, space_in}
-use Rattle.host_spaces.specs.Pieces.{HasRecords, HasBlocks, ArePiecesOf, IsPieceOf, record_block}
+use Rattle.host_spaces.specs.Pieces.{IsPieceOf, record_block}
 use Rattle.instance_table.specs.declared.member.Member.{Member}
 use Rattle.instance_table.specs.Table.{slot_at, once_at, group_at, no_pieces, instance_of, is_member_of}
 use Rattle.instance_table.specs.Frames.{SameSlot, SameMember, IsSameMember, SameMembers, SameTables}
-use Rattle.placed_instances.specs.Standing.{IsHome, IsOf, AreStanding, table_of, IsSameKind, SlotIsSame, SameInstances}
+use Rattle.placed_instances.specs.Standing.{IsHome, IsOf, AreStanding, table_of, SlotIsSame}
 
 -- a block of the same size and alignment, wherever it lies
 abbrev pub IsAlike : Option ScratchBlock → Option ScratchBlock → Type 0

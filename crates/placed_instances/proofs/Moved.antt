@@ -1,5 +1,5 @@
 -- A record of an instance lies elsewhere.
-use Rattle.std.proofs.Common.{◌≡◌, ◌≢◌, ℕ, ℤ, zero, suc, ◌<◌, ◌⊎◌, inl, inr, Bool, true, false, List, [], ◌∷◌, length, Option, Some, None, set, get_or-set_same, get_or-set_other, refl, sym, ◌∙◌, ap, subst, arith, if◌then◌else◌}
+use Rattle.std.proofs.Common.{◌≡◌, ◌≢◌, ℕ, ◌<◌, inl, inr, Bool, List, [], ◌∷◌, length, Option, Some, None, set, get_or-set_same, get_or-set_other, refl, sym, ◌∙◌, ap, subst, if◌then◌else◌}
 use Rattle.std.proofs.lemmas.Option.{none-some, same_Some}
 use Rattle.std.proofs.lemmas.Bool.Decides.{eqb_tells}
 use Rattle.space_raw.specs.Span.{Extent, Span}
@@ -15,21 +15,19 @@ use Rattle.record_loans.specs.Pieces.{piece_at, with_piece}
 use Rattle.record_loans.specs.Blocks.{block_piece}
 use Rattle.scratch_group.specs.declared.group.Group.{Group}
 use Rattle.scratch_group.specs.Blocks.{block_in}
-use Rattle.lifecycle.specs.Rooms.{lasting_piece, piece_of_record}
 use Rattle.space_blocks.specs.declared.placed.Owner.{Owner}
 use Rattle.space_blocks.specs.declared.placed.Owner.TheVariants.{Record}
 use Rattle.space_blocks.specs.declared.placed.Owner.TheVariants.{Scratch as GroupScratch}
-use Rattle.space_blocks.specs.declared.placed.Placed.{Placed}
-use Rattle.space_blocks.specs.Blocks.{block_of, block_of_piece, owned}
+use Rattle.space_blocks.specs.Blocks.{block_of, owned}
 use Rattle.host_spaces.specs.declared.spaces.Spaces.{Spaces}
 use Rattle.host_spaces.specs.Picture.{blocks_in, picture_of, space_in}
-use Rattle.host_spaces.specs.Pieces.{HasRecords, HasBlocks, ArePiecesOf, IsPieceOf, record_block, is_write_once}
+use Rattle.host_spaces.specs.Pieces.{HasRecords, HasBlocks, IsPieceOf, is_write_once}
 use Rattle.instance_table.specs.declared.member.Member.{Member}
 use Rattle.instance_table.specs.Table.{slot_at, once_at, group_at, no_pieces, instance_of, is_member_of}
-use Rattle.table_moves.specs.Moves.{inst_with, slot_with, own_set}
+use Rattle.table_moves.specs.Moves.{inst_with, own_set}
 use Rattle.table_moves.proofs.Owns.{own_set_same, own_set_other}
 use Rattle.placed_instances.specs.Standing.{IsHome, IsOf, AreStanding, table_of}
-use Rattle.placed_instances.proofs.Rooms.{either, space_itself}
+use Rattle.placed_instances.proofs.Rooms.{either}
 use Rattle.placed_instances.proofs.Homes.{home_elsewhere}
 use Rattle.placed_instances.proofs.Slots.{piece_there, piece_with_same, piece_with_other, one_space, other_space, persists, written_once, other_instance, other_record, not_a_group, inst_is}
 

@@ -1,12 +1,11 @@
 -- A group's block lies elsewhere.
-use Rattle.std.proofs.Common.{◌≡◌, ◌≢◌, ℕ, ◌<◌, ◌⊎◌, inl, inr, true, false, List, [], ◌∷◌, length, Option, Some, None, refl, sym, ◌∙◌, ap, subst, arith}
-use Rattle.std.proofs.lemmas.Option.{none-some, same_Some}
+use Rattle.std.proofs.Common.{◌≡◌, ◌≢◌, ℕ, ◌⊎◌, inl, inr, List, length, Option, Some, None, refl, sym, ◌∙◌, ap, subst}
+use Rattle.std.proofs.lemmas.Option.{none-some}
 use Rattle.std.proofs.lemmas.Bool.Decides.{eqb_tells}
-use Rattle.space_raw.specs.Span.{Extent, Span}
+use Rattle.space_raw.specs.Span.{Span}
 use Rattle.mem_rec.specs.declared.MemRec.{MemRec}
 use Rattle.mem_rec.specs.declared.Space.{Space}
 use Rattle.mem_rec.specs.Records.{same_space}
-use Rattle.ialg.specs.Records.{unplaced}
 use Rattle.record_loans.specs.declared.pieces.Pieces.{Pieces}
 use Rattle.record_loans.specs.declared.block.ScratchBlock.{ScratchBlock}
 use Rattle.record_loans.specs.Blocks.{block_piece, block_align, block_words}
@@ -17,16 +16,14 @@ use Rattle.lifecycle.specs.States.{Fits}
 use Rattle.lifecycle.proofs.Frames.{same_pieces, placed-unplaced}
 use Rattle.space_blocks.specs.declared.placed.Owner.TheVariants.{Record}
 use Rattle.space_blocks.specs.declared.placed.Owner.TheVariants.{Scratch as GroupScratch}
-use Rattle.space_blocks.specs.declared.placed.Placed.{Placed}
 use Rattle.space_blocks.specs.Blocks.{block_of_piece, owned}
 use Rattle.host_spaces.specs.declared.spaces.Spaces.{Spaces}
 use Rattle.host_spaces.specs.Picture.{blocks_in, picture_of, space_in}
 use Rattle.host_spaces.specs.Pieces.{HasBlocks}
 use Rattle.instance_table.specs.declared.member.Member.{Member}
-use Rattle.instance_table.specs.Table.{slot_at, once_at, group_at, instance_of, is_member_of, slot_active_in}
-use Rattle.instance_table.specs.Frames.{SameMembers}
-use Rattle.table_moves.specs.Moves.{BlockStays, SlotStays, MemberStays, SameWords, WordsStay}
-use Rattle.placed_instances.specs.Standing.{IsHome, IsOf, AreStanding, AreOrdered, table_of}
+use Rattle.instance_table.specs.Table.{slot_at, once_at, group_at, instance_of}
+use Rattle.table_moves.specs.Moves.{BlockStays, SlotStays, WordsStay}
+use Rattle.placed_instances.specs.Standing.{IsOf, AreStanding, AreOrdered, table_of}
 use Rattle.placed_instances.proofs.Rooms.{either, room_at_home}
 use Rattle.placed_instances.proofs.Homes.{IsAlike, home_stays, home_elsewhere}
 use Rattle.placed_instances.proofs.Slots.{one_space, other_space, not_a_group, other_group}

@@ -1,12 +1,11 @@
 -- A write-once record of an instance moves.
-use Rattle.std.proofs.Common.{◌≡◌, ◌≢◌, ℕ, zero, suc, ◌<◌, ◌⊎◌, inl, inr, true, List, [], ◌∷◌, length, Option, Some, None, set, get_or-set_same, get_or-set_other, refl, sym, ◌∙◌, ap, subst, arith}
+use Rattle.std.proofs.Common.{◌≡◌, ◌≢◌, ℕ, zero, suc, ◌<◌, inl, inr, List, [], ◌∷◌, length, Option, Some, None, set, get_or-set_same, get_or-set_other, refl, sym, ◌∙◌, ap, subst}
 use Rattle.std.specs.Option.{option_map}
 use Rattle.std.specs.List.{Contains}
 use Rattle.std.proofs.lemmas.Option.{same_Some}
 use Rattle.std.proofs.lemmas.Bool.Decides.{eqb_tells}
-use Rattle.space_raw.specs.Span.{Extent, Span}
+use Rattle.space_raw.specs.Span.{Span}
 use Rattle.mem_rec.specs.declared.Space.{Space}
-use Rattle.mem_rec.specs.Records.{same_space}
 use Rattle.space_heap.specs.Pictures.{range_of}
 use Rattle.space_heap.specs.Places.{placed_size}
 use Rattle.ialg.specs.Records.{record_at}
@@ -15,7 +14,6 @@ use Rattle.record_loans.specs.Pieces.{piece_at, piece_words, with_piece}
 use Rattle.scratch_group.specs.declared.group.Group.{Group}
 use Rattle.lifecycle.specs.declared.instance.Inst.{Inst}
 use Rattle.lifecycle.specs.declared.instance.Inst.TheVariants.{Idling, Running}
-use Rattle.lifecycle.specs.declared.instance.Instance.{Instance}
 use Rattle.lifecycle.specs.Moves.{restored, with_back, HasRoom}
 use Rattle.space_blocks.specs.declared.placed.Owner.{Owner}
 use Rattle.space_blocks.specs.declared.placed.Owner.TheVariants.{Record}
@@ -28,7 +26,7 @@ use Rattle.host_spaces.specs.Pieces.{IsPieceOf, is_write_once}
 use Rattle.instance_table.specs.declared.member.Member.{Member}
 use Rattle.instance_table.specs.Table.{slot_at, once_at, group_at, no_pieces, instance_of, own_of, TablesOk}
 use Rattle.table_moves.specs.Moves.{inst_with, slot_with, own_set, TablesBut, SameWords, WordsStay}
-use Rattle.table_moves.proofs.Owns.{set_again, own_set_same, but_all, but_shared}
+use Rattle.table_moves.proofs.Owns.{set_again, but_all, but_shared}
 use Rattle.placed_instances.specs.Standing.{IsHome, AreOrdered, AreStanding, table_of}
 use Rattle.placed_instances.specs.Moves.{IsNextOf}
 use Rattle.placed_instances.proofs.Rooms.{space_itself}

@@ -1,5 +1,5 @@
 -- An instance's own record moves.
-use Rattle.std.proofs.Common.{◌≡◌, ◌≢◌, ℕ, ℤ, ◌<◌, ◌+◌, ◌-◌, ◌^◌, min, ◌⊎◌, inl, inr, Bool, true, false, List, [], ◌∷◌, length, Option, Some, None, set, refl, sym, ◌∙◌, ap, subst, arith}
+use Rattle.std.proofs.Common.{◌≡◌, ◌≢◌, ℕ, ◌+◌, ◌-◌, ◌^◌, min, inl, inr, true, List, [], ◌∷◌, length, Option, Some, None, set, refl, sym, ◌∙◌, ap, subst}
 use Rattle.std.specs.Option.{option_map}
 use Rattle.std.specs.List.{Contains}
 use Rattle.std.proofs.lemmas.Option.{none-some, same_Some}
@@ -17,7 +17,6 @@ use Rattle.lifecycle.specs.declared.instance.Inst.{Inst}
 use Rattle.lifecycle.specs.declared.instance.Inst.TheVariants.{Idling, Running}
 use Rattle.lifecycle.specs.declared.instance.Instance.{Instance}
 use Rattle.lifecycle.specs.Moves.{restored, with_back, HasRoom}
-use Rattle.lifecycle.specs.Rooms.{piece_of_record}
 use Rattle.space_blocks.specs.declared.placed.Owner.{Owner}
 use Rattle.space_blocks.specs.declared.placed.Owner.TheVariants.{Record}
 use Rattle.space_blocks.specs.declared.placed.Placed.{Placed}
@@ -25,12 +24,12 @@ use Rattle.space_blocks.specs.Blocks.{Owns, block_of, block_range, owned}
 use Rattle.space_blocks.specs.Moves.{next_block}
 use Rattle.host_spaces.specs.declared.spaces.Spaces.{Spaces}
 use Rattle.host_spaces.specs.declared.spaces.Sizes.{Sizes}
-use Rattle.host_spaces.specs.Picture.{blocks_in, copied_in, picture_of, sizes_of, space_in}
+use Rattle.host_spaces.specs.Picture.{blocks_in, picture_of, sizes_of, space_in}
 use Rattle.host_spaces.specs.Pieces.{IsPieceOf}
 use Rattle.instance_table.specs.declared.member.Member.{Member}
-use Rattle.instance_table.specs.Table.{slot_at, once_at, group_at, instance_of, own_of, active_in, TablesOk}
-use Rattle.instance_table.specs.Frames.{SameMember, IsSameMember, SameMembers}
-use Rattle.table_moves.specs.Moves.{inst_with, slot_with, own_set, TablesBut, BlockStays, MemberStays, SlotStays, SameWords, WordsStay}
+use Rattle.instance_table.specs.Table.{slot_at, once_at, group_at, instance_of, own_of, TablesOk}
+use Rattle.instance_table.specs.Frames.{SameMembers}
+use Rattle.table_moves.specs.Moves.{inst_with, slot_with, own_set, TablesBut, MemberStays, SlotStays, SameWords, WordsStay}
 use Rattle.table_moves.proofs.Owns.{set_again, active_with, own_set_same, own_set_other, but_all, but_own}
 use Rattle.placed_instances.specs.Standing.{IsHome, AreOrdered, AreStanding, table_of, IsSameKind, SlotIsSame, SameInstances}
 use Rattle.placed_instances.specs.Moves.{IsNextOf}

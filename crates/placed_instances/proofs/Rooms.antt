@@ -1,30 +1,27 @@
 -- Where an instance's blocks stand in the picture, its records fit.
-use Rattle.std.proofs.Common.{◌≡◌, ◌≢◌, ℕ, ℤ, zero, suc, ◌+◌, ◌<◌, ◌≤◌, ◌⊎◌, ◌||◌, ◌==◌, inl, inr, Bool, true, false, IsTrue, List, [], ◌∷◌, length, take, filter, map, Option, Some, None, refl, sym, ◌∙◌, ap, subst, arith, length-take, if◌then◌else◌}
+use Rattle.std.proofs.Common.{◌≡◌, ℕ, zero, suc, ◌+◌, ◌<◌, ◌≤◌, ◌⊎◌, ◌||◌, ◌==◌, inl, inr, Bool, true, false, List, [], ◌∷◌, length, Option, Some, None, refl, sym, ◌∙◌, subst, arith, length-take}
 use Rattle.std.specs.List.{list_any}
-use Rattle.std.specs.Int.{next_multiple_of}
-use Rattle.std.proofs.lemmas.Option.{none-some, same_Some}
 use Rattle.std.proofs.lemmas.Bool.{true≢false}
-use Rattle.space_raw.specs.Span.{Extent, Span, Apart}
+use Rattle.space_raw.specs.Span.{Extent, Span}
 use Rattle.mem_rec.specs.declared.MemRec.{MemRec}
 use Rattle.mem_rec.specs.declared.Space.{Space}
 use Rattle.mem_rec.specs.declared.Space.TheVariants.{Daram, Saram, External}
 use Rattle.mem_rec.specs.declared.Attr.{Attr}
 use Rattle.mem_rec.specs.declared.Attr.TheVariants.{Scratch, Persist, WriteOnce}
-use Rattle.mem_rec.specs.Records.{is_table, is_persistent, same_space}
+use Rattle.mem_rec.specs.Records.{is_persistent, same_space}
 use Rattle.mem_rec.proofs.Valid.{within_limits}
-use Rattle.ialg.specs.Records.{record_at, words_of, idle_size}
-use Rattle.space_heap.specs.Places.{Range, meets, placed_size}
-use Rattle.space_heap.specs.Pictures.{AreBlocks, IsSpaceSize}
+use Rattle.ialg.specs.Records.{record_at, idle_size}
+use Rattle.space_heap.specs.Places.{meets, placed_size}
+use Rattle.space_heap.specs.Pictures.{AreBlocks}
 use Rattle.space_heap.proofs.RangeTests.{meet_if, both_true}
 use Rattle.std.proofs.lemmas.Bool.{eqb-true}
 use Rattle.record_loans.specs.declared.pieces.Pieces.{Pieces}
-use Rattle.record_loans.specs.declared.block.ScratchBlock.{ScratchBlock}
 use Rattle.record_loans.specs.Pieces.{piece_at, piece_words, IsInSpace}
 use Rattle.record_loans.specs.Blocks.{block_piece, block_align}
 use Rattle.scratch_group.specs.declared.group.Group.{Group}
 use Rattle.scratch_group.specs.Blocks.{block_in}
-use Rattle.scratch_group.specs.Words.{placed, HasPieces, InSpaces, idle_words, idle_record_words, lasting_words_by}
-use Rattle.lifecycle.specs.Rooms.{NoNeed, Separate, AreSeparate, piece_of_record}
+use Rattle.scratch_group.specs.Words.{placed, HasPieces, idle_record_words, lasting_words_by}
+use Rattle.lifecycle.specs.Rooms.{Separate, AreSeparate, piece_of_record}
 use Rattle.lifecycle.specs.States.{Fits}
 use Rattle.lifecycle.proofs.Places.{there_is_room}
 use Rattle.scratch_group.proofs.Ends.{blank_at}
@@ -35,7 +32,7 @@ use Rattle.space_blocks.specs.declared.placed.Placed.{Placed}
 use Rattle.space_blocks.specs.Blocks.{block_of, block_of_piece, block_range, owned, ranges, same_owner}
 use Rattle.host_spaces.specs.declared.spaces.Spaces.{Spaces}
 use Rattle.host_spaces.specs.Picture.{blocks_in, picture_of, space_in}
-use Rattle.host_spaces.specs.Pieces.{HasRecords, HasBlocks, ArePiecesOf, IsPieceOf, is_write_once, record_block}
+use Rattle.host_spaces.specs.Pieces.{HasBlocks, IsPieceOf, is_write_once}
 use Rattle.placed_instances.specs.Standing.{IsHome, IsOf, AreOrdered}
 
 -- ---- two blocks of a space do not meet

@@ -1,5 +1,6 @@
 //! Moves: the next block of a space is slid down to its packed place, and whoever has records in it is told.
 ghost use Rattle.std.specs.Prelude.{◌≡◌, ◌<◌, length, true, false, Some, None, IsSome, is_some};
+ghost use Rattle.mem_rec.specs.declared.TheConstants.{TABLE_RECORDS};
 ghost use Rattle.record_loans.specs.Pieces.{piece_at};
 ghost use Rattle.instance_table.specs.declared.TheConstants.{INSTANCES, GROUPS};
 ghost use Rattle.instance_table.specs.Table.{slot_at, once_at, own_of, TablesOk};
@@ -112,7 +113,7 @@ fn end_none(piece: Option<Piece>)
 /// Whether record `k` of the instance is a write-once one, which has its piece with those that are lent.
 fn has_once(once: &Vec<Pieces>, i: u8, k: u8) -> bool
     requires number { i < length once.now.items }
-    requires record { k < 4 }
+    requires record { k < TABLE_RECORDS }
     ensures { result ≡ is_some (piece_at (once_at once.now.items i) k) }
 {
     once[i as usize].piece(k as usize).is_some()

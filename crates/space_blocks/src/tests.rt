@@ -22,18 +22,15 @@ fn place_alone(space: &mut SpaceBlocks, owner: Owner, words: u32, align: u32) ->
 #[test]
 fn a_block_is_placed_and_taken_out(rt: HostRuntime) {
     let mut space = SpaceBlocks::new(rt.alloc(), 64).expect(&rt, "memory");
-    assert_eq!(rt;
-        place_alone(&mut space, Owner::Record(3, 1), 5, 4),
-        Some((0, 8))
-    );
-    assert_eq!(rt;
-        place_alone(&mut space, Owner::Scratch(7), 64, 1_024),
-        Some((0, 64))
-    );
-    assert_eq!(rt; place_alone(&mut space, Owner::Scratch(7), 65, 4), None);
+    let rounded = place_alone(&mut space, Owner::Record(3, 1), 5, 4);
+    assert!(rt; rounded == Some((0, 8)));
+    let full = place_alone(&mut space, Owner::Scratch(7), 64, 1_024);
+    assert!(rt; full == Some((0, 64)));
+    let refused = place_alone(&mut space, Owner::Scratch(7), 65, 4);
+    assert!(rt; refused.is_none());
     assert!(rt; space.map().is_empty());
     assert!(rt; space.next_move().is_none());
-    assert_eq!(rt; (space.size(), space.slid()), (64, 0));
+    assert!(rt; space.size() == 64 && space.slid() == 0);
     space.close();
 }
 

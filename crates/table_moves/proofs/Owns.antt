@@ -1,5 +1,5 @@
 -- The pieces of one instance change.
-use Rattle.std.proofs.Common.{◌≡◌, ◌≢◌, ℕ, ◌<◌, zero, suc, inl, inr, List, [], ◌∷◌, length, Option, Some, None, IsSome, set, get_or-set_other, refl, sym, ◌∙◌, ap, subst, arith}
+use Rattle.std.proofs.Common.{◌≡◌, ◌≢◌, ℕ, ◌<◌, zero, suc, inl, inr, List, [], ◌∷◌, length, Option, Some, None, set, get_or-set_other, refl, sym, ◌∙◌, ap, subst, arith}
 use Rattle.std.proofs.lemmas.List.{length-set}
 use Rattle.std.proofs.lemmas.Bool.Decides.{eqb_tells}
 use Rattle.std.proofs.lemmas.Option.{none-some, same_Some}
@@ -14,11 +14,11 @@ use Rattle.lifecycle.specs.declared.instance.Inst.{Inst}
 use Rattle.lifecycle.specs.declared.instance.Inst.TheVariants.{Idling, Running}
 use Rattle.lifecycle.specs.Moves.{restored, HasRoom}
 use Rattle.lifecycle.proofs.Frames.{same_pieces, same_group}
-use Rattle.instance_table.specs.declared.TheConstants.{INSTANCES, GROUPS}
+use Rattle.instance_table.specs.declared.TheConstants.{GROUPS}
 use Rattle.instance_table.specs.declared.member.Member.{Member}
-use Rattle.instance_table.specs.Table.{slot_at, once_at, group_at, no_pieces, own_of, instance_of, active_in, slot_active_in, activity_at, Activity, IsHoused, IsTold, Tables, TablesOk, TablesTold}
-use Rattle.instance_table.proofs.Housing.{same_blocks, room_of_housed, housed_stays}
-use Rattle.table_moves.specs.Moves.{inst_with, slot_with, own_set, IsHousedBut, TablesBut}
+use Rattle.instance_table.specs.Table.{slot_at, once_at, group_at, no_pieces, own_of, instance_of, active_in, slot_active_in, activity_at, Activity, IsHoused, TablesOk, TablesTold}
+use Rattle.instance_table.proofs.Housing.{same_blocks, housed_stays}
+use Rattle.table_moves.specs.Moves.{inst_with, slot_with, own_set, TablesBut}
 
 pub set_again : {A : Type 0} (xs : List A) (i : ℕ) (a b : A) → set (set xs i a) i b ≡ set xs i b
 set_again [] i a b = refl

@@ -1,5 +1,5 @@
 -- The words of an instance's records, wherever they lie.
-use Rattle.std.proofs.Common.{◌≡◌, ◌≢◌, ℕ, ℤ, zero, suc, ◌<◌, List, [], ◌∷◌, length, take, drop, Option, Some, None, refl, sym, ◌∙◌, ap, arith, length-take, length-drop}
+use Rattle.std.proofs.Common.{◌≡◌, ℕ, ℤ, zero, suc, List, [], ◌∷◌, length, take, drop, Option, Some, None, refl, sym, ◌∙◌, ap, arith, length-take, length-drop}
 use Rattle.std.proofs.lemmas.Option.{none-some}
 use Rattle.mem_rec.specs.declared.MemRec.{MemRec}
 use Rattle.mem_rec.specs.declared.Space.{Space}
@@ -21,7 +21,7 @@ use Rattle.lifecycle.specs.States.{Relation}
 use Rattle.instance_table.specs.declared.member.Member.{Member}
 use Rattle.instance_table.specs.Table.{slot_at, once_at, group_at, instance_of, active_in, slot_active_in, IsHoused, TablesOk}
 use Rattle.instance_table.specs.Keeps.{InstKeeps, SlotKeeps, Keeps}
-use Rattle.table_moves.specs.Moves.{SameWords, MemberStays, SlotStays, BlockStays, WordsStay}
+use Rattle.table_moves.specs.Moves.{SameWords, SlotStays, BlockStays, WordsStay}
 
 idle_words_seen : (rs : List MemRec) (own own' shared shared' : Pieces) → SameWords own own' → SameWords shared shared' → idle_words rs own' shared' ≡ idle_words rs own shared
 idle_words_seen rs own own' shared shared' o s =

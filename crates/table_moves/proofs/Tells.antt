@@ -1,5 +1,5 @@
 -- An instance is told where its records lie, with the piece that comes back.
-use Rattle.std.proofs.Common.{◌≡◌, ◌≢◌, ℕ, ℤ, ◌<◌, List, length, Option, Some, None, set, refl, sym, ◌∙◌, ap, subst, arith}
+use Rattle.std.proofs.Common.{◌≡◌, ℕ, ℤ, ◌<◌, List, length, Option, Some, None, set, refl, ◌∙◌, ap, subst, arith}
 use Rattle.space_raw.specs.Span.{Span}
 use Rattle.mem_rec.specs.declared.Space.{Space}
 use Rattle.ialg.specs.Meaning.{Meaning}

@@ -7,7 +7,6 @@ use Rattle.record_loans.specs.Pieces.{piece_at, piece_words}
 use Rattle.record_loans.specs.Blocks.{block_words}
 use Rattle.scratch_group.specs.declared.group.Group.{Group}
 use Rattle.scratch_group.specs.Blocks.{block_in}
-use Rattle.lifecycle.specs.declared.instance.Instance.{Instance}
 use Rattle.lifecycle.specs.declared.instance.Inst.{Inst}
 use Rattle.lifecycle.specs.declared.instance.Inst.TheVariants.{Idling, Running}
 use Rattle.instance_table.specs.declared.member.Member.{Member}

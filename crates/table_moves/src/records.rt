@@ -1,5 +1,6 @@
 //! The pieces of an instance's records, taken out and put back.
 ghost use Rattle.std.specs.Prelude.{◌≡◌, ◌<◌, length, Some, None, IsSome, slice_set};
+ghost use Rattle.mem_rec.specs.declared.TheConstants.{TABLE_RECORDS};
 ghost use Rattle.record_loans.specs.Pieces.{piece_at, with_piece};
 ghost use Rattle.instance_table.specs.Table.{slot_at, once_at, own_of};
 ghost use Rattle.table_moves.specs.Moves.{own_set};
@@ -37,7 +38,7 @@ pub fn take_once(once: &mut Vec<Pieces>, i: u8, k: usize) -> Piece
 /// Puts the piece of write-once record `k` of an instance back. [`tell`](crate::tell) has to follow.
 pub fn put_once(once: &mut Vec<Pieces>, i: u8, k: usize, piece: Piece)
     requires number { i < length once.old.items }
-    requires record { k < 4 }
+    requires record { k < TABLE_RECORDS }
     requires empty { piece_at (once_at once.old.items i) k ≡ None }
     ensures { once.new.items ≡ slice_set once.old.items i (with_piece (once_at once.old.items i) k (Some piece)) }
 {

@@ -1,5 +1,5 @@
 -- What the words of a slicer keep.
-use Rattle.std.proofs.Common.{◌≡◌, ℕ, ℤ, zero, suc, pos, lit<, lit≤, List, [], ◌∷◌, ◌++◌, length, map, refl, sym, ◌∙◌, arith, append-nil, append_assoc}
+use Rattle.std.proofs.Common.{◌≡◌, ℕ, ℤ, zero, suc, lit<, lit≤, List, [], ◌∷◌, ◌++◌, length, map, refl, sym, ◌∙◌, arith, append-nil, append_assoc}
 use Rattle.mem_rec.specs.declared.MemRec.{MemRec}
 use Rattle.mem_rec.specs.declared.Space.TheVariants.{Daram, Saram, External}
 use Rattle.mem_rec.specs.declared.Attr.TheVariants.{WriteOnce}
@@ -8,6 +8,7 @@ use Rattle.ialg.specs.History.{History, Sample, with_samples, word_at, outputs_b
 use Rattle.ialg.specs.Records.{record_at, words_of, lasting, unplaced, AreApart}
 use Rattle.ialg.specs.Objects.{Names, NamedAt}
 use Rattle.ialg.proofs.Tables.{attr_of, lasting_at}
+use Rattle.trial_kinds.specs.declared.TheConstants.{SLICER_KIND}
 use Rattle.trial_kinds.proofs.Kept.{once_lasts}
 use Rattle.trial_kinds.specs.Slicer.{slicer_records, slicer_fill, slicer_gives, sliced, HoldsLevels, SpreadsLevels, IsSpread}
 
@@ -48,7 +49,7 @@ levels_of p rs wss h keeps = keeps.once 1 (attr_of rs slicer_records keeps.objec
 
 -- the object was written anew, and the levels are the same
 pub moved : (p : List ℤ) (before rs : List MemRec) (wss wss' : List (List ℤ)) (h : History) → unplaced before ≡ unplaced rs → HoldsLevels p before wss h
-    → Names (pos 10) (unplaced rs) rs (words_of wss' 0) → words_of wss' 1 ≡ words_of wss 1 → HoldsLevels p rs wss' h
+    → Names SLICER_KIND (unplaced rs) rs (words_of wss' 0) → words_of wss' 1 ≡ words_of wss 1 → HoldsLevels p rs wss' h
 moved p before rs wss wss' h same keeps names first =
     let records : unplaced rs ≡ slicer_records = sym same ∙ keeps.object.on_table in
     record {
@@ -62,15 +63,15 @@ moved p before rs wss wss' h same keeps names first =
 pub goes_on : (p : List ℤ) (rs : List MemRec) (wss : List (List ℤ)) (h after : History) → IsWordHistory after → HoldsLevels p rs wss h → HoldsLevels p rs wss after
 goes_on p rs wss h after words keeps = record { two = keeps.two; history = words; object = keeps.object; once = keeps.once }
 
-module _ (m : Lent) (names : Names (pos 10) slicer_records m.table.now m.r0.now) (apart : AreApart m.table.now) where
+module _ (m : Lent) (names : Names SLICER_KIND slicer_records m.table.now m.r0.now) (apart : AreApart m.table.now) where
   -- the records are found
-  pub levels_named : length m.r1.now ≡ 2 → NamedAt m External 1 (pos 10) slicer_records
+  pub levels_named : length m.r1.now ≡ 2 → NamedAt m External 1 SLICER_KIND slicer_records
   levels_named size = record { names = names; apart = apart; not_the_object = lit≤ tt; within = lit< tt; few = lit≤ tt; its_space = refl; lent = omega arith }
 
-  pub low_named : length m.r2.now ≡ 5 → NamedAt m Daram 2 (pos 10) slicer_records
+  pub low_named : length m.r2.now ≡ 5 → NamedAt m Daram 2 SLICER_KIND slicer_records
   low_named size = record { names = names; apart = apart; not_the_object = lit≤ tt; within = lit< tt; few = lit≤ tt; its_space = refl; lent = omega arith }
 
-  pub high_named : length m.r3.now ≡ 3 → NamedAt m Saram 3 (pos 10) slicer_records
+  pub high_named : length m.r3.now ≡ 3 → NamedAt m Saram 3 SLICER_KIND slicer_records
   high_named size = record { names = names; apart = apart; not_the_object = lit≤ tt; within = lit< tt; few = lit≤ tt; its_space = refl; lent = omega arith }
 
 -- both scratch records were written

@@ -9,7 +9,7 @@ use Rattle.ialg.specs.History.{History, Sample, Ctl, Set, Reset, Get, IsWordHist
 use Rattle.ialg.specs.Meaning.{Meaning}
 use Rattle.ialg.specs.Records.{words_of, HoldFill}
 use Rattle.ialg.specs.Objects.{Names, object_memory}
-use Rattle.trial_kinds.specs.declared.TheConstants.{HIGH_ALIGNMENT, HIGH_WORDS, LEVELS, LOW_WORDS}
+use Rattle.trial_kinds.specs.declared.TheConstants.{HIGH, HIGH_ALIGNMENT, HIGH_WORDS, LEVELS, LOW, LOW_WORDS, ONCE, SLICER_KIND, SLICER_RECORDS}
 use Rattle.trial_kinds.specs.declared.slicer.Slicer.{Slicer}
 
 -- the object, the levels, which are written once, and a scratch record for each level
@@ -23,7 +23,7 @@ slicer_records =
 
 -- the parameters are written once
 abbrev pub slicer_fill : List ℤ → ℕ → List ℤ
-slicer_fill p k = if k == 1 then p else []
+slicer_fill p k = if k == ONCE then p else []
 
 -- the low level for a sample below 0, else the high one
 abbrev pub sliced : ℤ → ℤ → ℤ → ℤ
@@ -41,7 +41,7 @@ slicer_accepts Get = true
 
 abbrev pub slicer_meaning : Meaning Slicer
 slicer_meaning = record {
-  bound = λ _. 4;
+  bound = λ _. SLICER_RECORDS;
   table = λ _ p. if length p == LEVELS then Some slicer_records else None;
   fill = λ _ p k. slicer_fill p k;
   gives = λ _ p h. slicer_gives p h;
@@ -54,14 +54,14 @@ slicer_meaning = record {
 pub record HoldsLevels (p : List ℤ) (rs : List MemRec) (wss : List (List ℤ)) (h : History) : Type 0 where
   pub two : length p ≡ LEVELS
   pub history : IsWordHistory h
-  pub object : Names (pos 10) slicer_records rs (words_of wss 0)
+  pub object : Names SLICER_KIND slicer_records rs (words_of wss 0)
   pub once : HoldFill (slicer_fill p) rs wss
 
 -- and each scratch record has one of them, in all its words
 pub record SpreadsLevels (p : List ℤ) (rs : List MemRec) (wss : List (List ℤ)) (h : History) : Type 0 where
   pub levels : HoldsLevels p rs wss h
-  pub low : All (λ x. x ≡ word_at p 0) (words_of wss 2)
-  pub high : All (λ x. x ≡ word_at p 1) (words_of wss 3)
+  pub low : All (λ x. x ≡ word_at p 0) (words_of wss LOW)
+  pub high : All (λ x. x ≡ word_at p 1) (words_of wss HIGH)
 
 -- each word of record k is this one now, and every other record has what it had
 pub record IsSpread (k : ℕ) (v : ℤ) (old new : List (List ℤ)) : Type 0 where

@@ -18,6 +18,6 @@ returns-clause-law g c p h lawful keeps =
     let l1 : length (take c.get-kept.result.size c.args.saram.now) ≡ (record_at t 1).size = grind (arith, common_steps) in
     let l2 : length (take c.get-scratch.result.size c.args.daram.now) ≡ (record_at t 2).size = grind (arith, common_steps) in
     let before = kept_by_records (λ ws. g.M.Ialg.idle_keeps c.args.kind p t ws h) t c.requires.fits _ _ (take c.get-scratch.result.size c.args.daram.now) _ _ s0 s1 keeps in
-    let ran = c.lend.ensures.0 p h lawful refl (all_in_slots t c.requires.fits _ _ _ l0 l1 l2) before in
+    let ran = c.lend.ensures.done.0 p h lawful refl (all_in_slots t c.requires.fits _ _ _ l0 l1 l2) before in
     let none = nil_from_length c.lend.new.r3 c.lend.auto.r3 in
     (kept_in_slots (λ ws. g.M.Ialg.idle_keeps c.args.kind p t ws (with_samples h c.args.block.now)) t c.requires.fits _ _ _ _ _ (c.lend.auto.r0 ∙ l0) (c.lend.auto.r1 ∙ l1) (rw none at ran.0), ran.1)

@@ -16,4 +16,4 @@ returns g c lawful table =
     let l1 : length (take c.get-kept.result.size c.args.saram.now) ≡ (record_at t 1).size = grind (arith, common_steps) in
     let none = nil_from_length c.lend.new.r3 c.lend.auto.r3 in
     kept_in_slots (λ ws. g.M.Ialg.idle_keeps c.args.kind c.args.parameters.now.items t ws []) t c.requires _ _ _ _ _ (c.lend.auto.r0 ∙ l0) (c.lend.auto.r1 ∙ l1)
-    (rw none at (c.lend.ensures lawful table refl (lasting_in_slots t c.requires _ _ l0 l1)))
+    (rw none at (c.lend.ensures.done lawful table refl (lasting_in_slots t c.requires _ _ l0 l1)))

@@ -28,7 +28,7 @@ octets-preserved-then-is_full g c =
     let full : length c.octets.text.items ≡ g.row.MOST = grind (arith, nat_tests) in
     record {
       ready = search rules;
-      came = so_far_more (get_or buffer 0 0) came (is_line_long c.octets.long (get_or buffer 0 0) came.line c.if-octet-eq10.false full) (rw one at c.in-Ok.ensures.octets) c.if-left-eq0.false;
+      came = so_far_more (get_or buffer 0 0) came (is_line_long c.octets.long (get_or buffer 0 0) came.line c.if-octet-eq-LINE_FEED.false full) (rw one at c.in-Ok.ensures.octets) c.if-left-eq0.false;
     }
 
 pub octets-preserved : goal.octets-preserved
@@ -40,5 +40,5 @@ octets-preserved g c =
     let fits : length c.octets.text.items ≤ g.row.MOST = search rules in
     record {
       ready = search rules;
-      came = rw c.push.ensures.items (so_far_more (get_or buffer 0 0) came (is_line_more c.octets.long (get_or buffer 0 0) came.line c.if-octet-eq10.false room fits) (rw one at c.in-Ok.ensures.octets) c.if-left-eq0.false);
+      came = rw c.push.ensures.items (so_far_more (get_or buffer 0 0) came (is_line_more c.octets.long (get_or buffer 0 0) came.line c.if-octet-eq-LINE_FEED.false room fits) (rw one at c.in-Ok.ensures.octets) c.if-left-eq0.false);
     }

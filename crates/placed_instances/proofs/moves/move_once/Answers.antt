@@ -1,4 +1,3 @@
-use Rattle.std.proofs.Common.{refl, sym, ◌∙◌, arith}
 use Rattle.host_spaces.specs.Picture.{blocks_in, picture_of}
 use Rattle.table_moves.proofs.Seen.{words_seen}
 use Rattle.placed_instances.proofs.Homes.{standing_stays}
@@ -6,7 +5,6 @@ use Rattle.placed_instances.proofs.OwnMoves.{kind_itself, then_same, same_sizes,
 use Rattle.placed_instances.proofs.OnceMoves.{none_back, next_is, region_is, range_is, back_is, told_others, stands, room_now, words_now}
 use Rattle.placed_instances.proofs.moves.move_once.Goals as goal
 use Rattle.placed_instances.proofs.moves.move_once.Goals.{After-put_once}
-use Rattle.placed_instances.proofs.moves.move_once.Given.{Over}
 
 pub make_move-moved-requires-clause-region : goal.make_move-moved-requires-clause-region
 make_move-moved-requires-clause-region g c =

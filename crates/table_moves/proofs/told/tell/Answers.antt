@@ -1,4 +1,4 @@
-use Rattle.std.proofs.Common.{◌≡◌, ◌≢◌, ℕ, ◌<◌, Option, Some, None, length, set, get_or-set_same, refl, sym, ◌∙◌, ap, subst, arith}
+use Rattle.std.proofs.Common.{◌≡◌, ℕ, ◌<◌, Some, None, get_or-set_same, refl, sym, ◌∙◌, arith}
 use Rattle.std.proofs.lemmas.Option.{same_Some, none-some}
 use Rattle.mem_rec.specs.declared.Space.{Space}
 use Rattle.record_loans.specs.Pieces.{SamePieces}
@@ -7,7 +7,6 @@ use Rattle.scratch_group.specs.Blocks.{block_in}
 use Rattle.lifecycle.specs.declared.instance.Inst.TheVariants.{Idling, Running}
 use Rattle.lifecycle.specs.Moves.{with_back}
 use Rattle.instance_table.specs.declared.TheConstants.{GROUPS}
-use Rattle.instance_table.specs.declared.member.Member.{Member}
 use Rattle.instance_table.specs.Table.{slot_at, once_at, group_at, no_group, no_pieces, slot_active_in, activity_at, IsHoused}
 use Rattle.instance_table.proofs.Housing.{same_blocks, settled_stays, settled_at}
 use Rattle.instance_table.proofs.Changes.{read_ok_slot, read_ok_once, read_ok_group}

@@ -1,6 +1,6 @@
-use Rattle.std.proofs.Common.{pos}
 use Rattle.ialg.specs.Loans.{lent_words}
 use Rattle.ialg.proofs.Tables.{lent_size}
+use Rattle.trial_kinds.specs.declared.TheConstants.{SLICER_KIND}
 use Rattle.trial_kinds.specs.Slicer.{slicer_records}
 use Rattle.trial_kinds.proofs.Levels.{levels_named}
 use Rattle.trial_kinds.proofs.slicer.kept_levels.Goals as goal
@@ -9,4 +9,4 @@ pub returns-in-None : goal.returns-in-None
 returns-in-None c p h lent keeps =
     let m = c.args.mem.now in
     let sizes = lent_size m.table.now slicer_records keeps.object.on_table (lent_words m) lent in
-    absurd (c.in-None.ensures.named (pos 10) slicer_records (levels_named m keeps.object lent.apart (sizes 1)))
+    absurd (c.in-None.ensures.named SLICER_KIND slicer_records (levels_named m keeps.object lent.apart (sizes 1)))

@@ -1,4 +1,4 @@
-use Rattle.std.proofs.Common.{◌≡◌, pos, ap, sym, ◌∙◌, ◌++◌, rules, to_z, of_z}
+use Rattle.std.proofs.Common.{◌≡◌, ap, sym, ◌∙◌, ◌++◌, rules, to_z, of_z}
 use Rattle.std.proofs.lemmas.Int.{to_z-of_z}
 use mir.Val.{SFits}
 use mir.Syntax.{w16}
@@ -6,6 +6,7 @@ use Rattle.ialg.specs.History.{with_samples, word_at, outputs_by}
 use Rattle.ialg.specs.Loans.{lent_words}
 use Rattle.ialg.proofs.Histories.{IsWordHistory-with_samples}
 use Rattle.ialg.proofs.Tables.{lent_size}
+use Rattle.trial_kinds.specs.declared.TheConstants.{SLICER_KIND}
 use Rattle.trial_kinds.specs.Slicer.{slicer_records, slicer_gives}
 use Rattle.trial_kinds.proofs.Levels.{goes_on, high_named, low_named, outputs-with_samples}
 use Rattle.trial_kinds.proofs.slicer.SlicerIalg.process.Goals as goal
@@ -16,8 +17,8 @@ returns-clause-law c p w h lawful closed lent keeps =
     let xs = c.args.input.now in
     let object = keeps.levels.object in
     let sizes = lent_size m.table.now slicer_records object.on_table (lent_words m) lent in
-    let low = c.level-low.ensures (pos 10) slicer_records (word_at p 0) (low_named m object lent.apart (sizes 2)) keeps.low in
-    let high = c.level-high.ensures (pos 10) slicer_records (word_at p 1) (high_named m object lent.apart (sizes 3)) keeps.high in
+    let low = c.level-low.ensures SLICER_KIND slicer_records (word_at p 0) (low_named m object lent.apart (sizes 2)) keeps.low in
+    let high = c.level-high.ensures SLICER_KIND slicer_records (word_at p 1) (high_named m object lent.apart (sizes 3)) keeps.high in
     let low_fits : SFits w16 c.level-low.result = search rules in
     let high_fits : SFits w16 c.level-high.result = search rules in
     let low_is : to_z w16 (of_z w16 c.level-low.result) ≡ word_at p 0 = to_z-of_z w16 c.level-low.result low_fits ∙ low in
