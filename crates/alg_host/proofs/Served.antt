@@ -1,27 +1,25 @@
 -- What a call leaves of the state, and that the host keeps what comes after it.
-use Rattle.std.proofs.Common.{◌≡◌, ℕ, ℤ, Bool, true, false, List, [], ◌∷◌, Option, Some, None, is_some, Result, Ok, Err, OnErr, refl, ap, sym, ◌∙◌, subst}
+use Rattle.std.proofs.Common.{◌≡◌, ℕ, ℤ, false, List, [], ◌∷◌, Option, Some, None, is_some, Result, Ok, Err, OnErr, refl, ap, sym, ◌∙◌, subst}
 use Rattle.std.proofs.lemmas.Bool.{true≢false}
 use Rattle.mem_rec.specs.declared.MemRec.{MemRec}
 use Rattle.mem_rec.specs.declared.Space.{Space}
 use Rattle.ialg.specs.declared.refusal.Refusal.{Refusal}
 use Rattle.ialg.specs.History.{Ctl}
-use Rattle.ialg.specs.Meaning.{Meaning, Status}
+use Rattle.ialg.specs.Meaning.{Meaning}
 use Rattle.record_loans.specs.declared.pieces.Pieces.{Pieces}
 use Rattle.scratch_group.specs.declared.group.Group.{Group}
 use Rattle.lifecycle.specs.States.{Relation}
 use Rattle.instance_table.specs.declared.member.Member.{Member}
-use Rattle.instance_table.specs.Table.{rested, with_activity}
 use Rattle.space_blocks.specs.declared.placed.Placed.{Placed}
 use Rattle.space_blocks.specs.Moves.{next_block}
 use Rattle.host_spaces.specs.declared.spaces.Spaces.{Spaces}
 use Rattle.host_spaces.specs.Picture.{Picture, blocks_in}
 use Rattle.host_spaces.specs.Creation.{created_picture}
 use Rattle.sound_machine.specs.State.{Living, State}
-use Rattle.sound_machine.specs.Steps.{Outcome, unless, control, control_refusal, controlled, given, processed, release, group_refusal, step, moving, delete, instance_refusal, without_instance, create_refusal, newborn, with_memory, with_room}
+use Rattle.sound_machine.specs.Steps.{Outcome, unless, control_refusal, controlled, given, processed, release, group_refusal, step, moving, delete, instance_refusal, without_instance, create_refusal, newborn, with_memory, with_room}
 use Rattle.sound_machine.specs.Calls.{Controls, Creates}
 use Rattle.kept_machine.specs.Kept.{TablesKeep}
 use Rattle.kept_moves.specs.Hosts.{HostKeeps}
-use Rattle.alg_host.specs.Hosts.{HostState, Keeps}
 
 -- the same picture in the same spaces
 pub record SamePlaces {M : Type 0} (before after : State M) : Type 0 where

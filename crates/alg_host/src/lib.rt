@@ -13,3 +13,6 @@ mod moves;
 
 pub use groups::Stat;
 pub use host::Host;
+// what its calls take and answer
+pub use host_spaces::{Sizes, StartError};
+pub use space_blocks::{Map, Owner, Placed};

@@ -41,13 +41,27 @@ fn controlled(rt: &impl Print, answer: Result<Status, Refusal>) -> io::Result<()
 }
 
 fn flag(rt: &impl Print, answer: bool) -> io::Result<()> {
-    if answer { println!(rt; "ok 1") } else { println!(rt; "ok 0") }
+    if answer {
+        println!(rt; "ok 1")
+    } else {
+        println!(rt; "ok 0")
+    }
 }
 
 fn told(rt: &impl Print, answer: Result<Stat, Refusal>) -> io::Result<()> {
     match answer {
-        Ok(Stat { active: Some(i), activations }) => println!(rt; "ok {i} {activations}"),
-        Ok(Stat { active: None, activations }) => println!(rt; "ok - {activations}"),
+        Ok(
+            Stat {
+                active: Some(i),
+                activations,
+            },
+        ) => println!(rt; "ok {i} {activations}"),
+        Ok(
+            Stat {
+                active: None,
+                activations,
+            },
+        ) => println!(rt; "ok - {activations}"),
         Err(refusal) => refused(rt, refusal),
     }
 }

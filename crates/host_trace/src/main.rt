@@ -10,8 +10,7 @@ use alg_host::Host;
 use answers::answer;
 use call::{Call, parse};
 use std::alloc::Global;
-use std::io;
-use std::mem;
+use std::{io, mem};
 use voice_set::Voice;
 
 fn close(host: Option<Host<Voice>>) {
@@ -22,7 +21,12 @@ fn close(host: Option<Host<Voice>>) {
 }
 
 // Answers a line.
-fn serve(rt: &impl Print, alloc: Global, host: &mut Option<Host<Voice>>, line: &str) -> io::Result<()> {
+fn serve(
+    rt: &impl Print,
+    alloc: Global,
+    host: &mut Option<Host<Voice>>,
+    line: &str,
+) -> io::Result<()> {
     match parse(line) {
         Some(Call::Host(sizes, poison)) => {
             close(mem::replace(host, None));

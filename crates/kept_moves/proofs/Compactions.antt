@@ -1,5 +1,5 @@
 -- A compaction is steps, one after the other.
-use Rattle.std.proofs.Common.{◌≡◌, ℕ, zero, suc, ◌+◌, ◌-◌, ◌^◌, ◌<◌, ◌≤◌, ◌==◌, min, Bool, true, false, List, [], ◌∷◌, length, map, Option, Some, None, is_some, refl, ap, sym, ◌∙◌, subst, arith, if◌then◌else◌}
+use Rattle.std.proofs.Common.{◌≡◌, ℕ, suc, ◌+◌, ◌^◌, ◌<◌, ◌≤◌, ◌==◌, Bool, true, false, List, [], ◌∷◌, length, Option, Some, None, is_some, refl, ap, sym, ◌∙◌, subst, arith, if◌then◌else◌}
 use Rattle.std.proofs.lemmas.Bool.{true≢false}
 use Rattle.std.proofs.lemmas.List.{length-map}
 use Rattle.mem_rec.specs.declared.Space.{Space}
@@ -17,9 +17,9 @@ use Rattle.space_blocks.specs.Blocks.{ranges}
 use Rattle.space_blocks.specs.Moves.{next_block, spots_of}
 use Rattle.space_blocks.specs.Spaces.{AreInOrder}
 use Rattle.host_spaces.specs.declared.spaces.Spaces.{Spaces}
-use Rattle.host_spaces.specs.Picture.{Picture, blocks_in, copied_in, moved_in, picture_of, sizes_of}
+use Rattle.host_spaces.specs.Picture.{blocks_in, moved_in, picture_of, sizes_of}
 use Rattle.instance_table.specs.Table.{untouched}
-use Rattle.sound_machine.specs.State.{Living, State}
+use Rattle.sound_machine.specs.State.{State}
 use Rattle.sound_machine.specs.Steps.{moving, step, compact}
 use Rattle.sound_machine.specs.Laws.{IsSteps}
 use Rattle.sound_machine.proofs.CompactLemmas.{steps_compact}

@@ -1,6 +1,5 @@
 -- What a move leaves is kept.
-use Rattle.std.proofs.Common.{◌≡◌, ℕ, ◌<◌, ◌+◌, ◌-◌, ◌^◌, min, Bool, true, false, List, Option, Some, None, is_some, refl, ap, sym, ◌∙◌, subst, arith}
-use Rattle.std.proofs.lemmas.Bool.{true≢false}
+use Rattle.std.proofs.Common.{◌≡◌, Bool, true, false, List, Option, Some, None, is_some, refl, ap, sym, ◌∙◌, subst}
 use Rattle.mem_rec.specs.declared.Space.{Space}
 use Rattle.ialg.specs.Meaning.{Meaning}
 use Rattle.record_loans.specs.declared.pieces.Pieces.{Pieces}
@@ -11,12 +10,12 @@ use Rattle.instance_table.specs.Table.{slot_at}
 use Rattle.space_blocks.specs.declared.placed.Placed.{Placed}
 use Rattle.space_blocks.specs.Moves.{next_block}
 use Rattle.host_spaces.specs.declared.spaces.Spaces.{Spaces}
-use Rattle.host_spaces.specs.Picture.{blocks_in, copied_in, moved_in, picture_of}
+use Rattle.host_spaces.specs.Picture.{blocks_in, moved_in, picture_of}
 use Rattle.placed_instances.specs.Standing.{SlotIsSame}
 use Rattle.placed_instances.specs.Moves.{HasMoved}
 use Rattle.sound_machine.specs.State.{Living, State}
 use Rattle.sound_machine.specs.Steps.{more_copied, moving, step}
-use Rattle.kept_machine.specs.Kept.{IsLiving, TablesKeep}
+use Rattle.kept_machine.specs.Kept.{IsLiving}
 use Rattle.kept_moves.specs.Hosts.{HostKeeps}
 
 pub still_living : {M : Type 0} (slot slot' : Option (Member M)) (living : Option (Living M)) → SlotIsSame slot slot' → IsLiving slot living → IsLiving slot' living

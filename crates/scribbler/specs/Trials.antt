@@ -1,5 +1,5 @@
 -- A lawful kind, and one that keeps no law.
-use Rattle.std.specs.Prelude.{ℕ, ℤ, Bool, true, false, List, [], Option, None}
+use Rattle.std.specs.Prelude.{ℤ, false, List, [], None}
 use Rattle.mem_rec.specs.declared.MemRec.{MemRec}
 use Rattle.ialg.specs.History.{History, IsWordHistory}
 use Rattle.ialg.specs.Records.{HoldFill}

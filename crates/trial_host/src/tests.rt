@@ -97,7 +97,14 @@ fn a_first_block_deactivates_nobody(rt: HostRuntime) {
     assert!(rt; is_stat(&host, 3, Some(0), 1));
     give(&rt, &mut host, 0, &[4], &[3]);
     // a first block in one space beside a replaced one in another
-    create(&rt, &mut host, 2, Trial::Scribbler, 3, &[0, 264, 4, 2, 12, 4]);
+    create(
+        &rt,
+        &mut host,
+        2,
+        Trial::Scribbler,
+        3,
+        &[0, 264, 4, 2, 12, 4],
+    );
     assert!(rt; is_stat(&host, 3, None, 1));
     assert!(rt; is_map(&host, Space::Daram, &[scratch(3, 272, 264, 16)]));
     give(&rt, &mut host, 2, &[-1], &[-1]);
@@ -127,8 +134,9 @@ fn filter_beside_a_scribbler(rt: &impl Abort, host: &mut Host<Trial>) {
 #[test]
 fn a_scribbler_spoils_no_neighbour(rt: HostRuntime) {
     for poison in [None, Some(0), Some(21_845), Some(-1)] {
-        let mut host =
-            Host::new(rt.alloc(), sizes(1_024, 1_024, 1_024), poison).expect(&rt, "memory");
+        let mut host = Host::new(rt.alloc(), sizes(1_024, 1_024, 1_024), poison).expect(
+            &rt, "memory",
+        );
         filter_beside_a_scribbler(&rt, &mut host);
         host.close();
     }
@@ -152,8 +160,9 @@ fn spaces_of_no_words_have_room_for_nothing(rt: HostRuntime) {
         (1_024, 64, 0, Space::External),
         (0, 0, 0, Space::External),
     ] {
-        let mut host =
-            Host::new(rt.alloc(), sizes(daram, saram, external), None).expect(&rt, "memory");
+        let mut host = Host::new(rt.alloc(), sizes(daram, saram, external), None).expect(
+            &rt, "memory",
+        );
         is_full(&rt, &mut host, space);
         host.close();
     }
@@ -166,8 +175,26 @@ fn refusals_come_in_their_order(rt: HostRuntime) {
     assert!(rt; is_refused(&rt, &mut host, 64, FIR, &[], Refusal::Range));
     assert!(rt; is_refused(&rt, &mut host, 63, FIR, &[], Refusal::Taken));
     assert!(rt; is_refused(&rt, &mut host, 0, FIR, &[], Refusal::Params));
-    assert!(rt; is_refused(&rt, &mut host, 0, Trial::Scribbler, &[0, 264, 4], Refusal::Room(Space::Daram)));
-    assert!(rt; is_refused(&rt, &mut host, 0, Trial::Scribbler, &[0, 264, 3], Refusal::Params));
+    assert!(rt;
+        is_refused(
+            &rt,
+            &mut host,
+            0,
+            Trial::Scribbler,
+            &[0, 264, 4],
+            Refusal::Room(Space::Daram)
+        )
+    );
+    assert!(rt;
+        is_refused(
+            &rt,
+            &mut host,
+            0,
+            Trial::Scribbler,
+            &[0, 264, 3],
+            Refusal::Params
+        )
+    );
     assert!(rt; host.delete(64) == Err(Refusal::Range));
     assert!(rt; host.delete(0) == Err(Refusal::Missing));
     assert!(rt; host.release(8) == Err(Refusal::Range));

@@ -1,8 +1,5 @@
-use Rattle.std.proofs.Common.{◌≡◌, ℕ, ◌+◌, ◌≤◌, sym, ◌∙◌, arith}
-use Rattle.relocate.specs.Packing.{unpacked_count}
-use Rattle.space_blocks.specs.Moves.{spots_of}
-use Rattle.host_spaces.specs.Picture.{blocks_in, picture_of}
-use Rattle.kept_moves.proofs.Compactions.{count_small, amid_start, amid_next, amid_end}
+use Rattle.std.proofs.Common.{◌≡◌, ℕ, ◌+◌, ◌≤◌, arith}
+use Rattle.kept_moves.proofs.Compactions.{count_small, amid_next, amid_end}
 use Rattle.kept_moves.proofs.moves.compact.Goals as goal
 
 all_of : (n left all : ℕ) → n + left ≡ all → all ≤ 65536 → n + 1 ≤ 65537

@@ -1,4 +1,4 @@
-use Rattle.std.proofs.Common.{◌≡◌, ℕ, ℤ, ◌+◌, Option}
+use Rattle.std.proofs.Common.{◌≡◌, ℤ, ◌+◌, Option}
 use Rattle.relocate.specs.Packing.{unpacked_count}
 use Rattle.space_blocks.specs.Moves.{spots_of}
 use Rattle.host_spaces.specs.Picture.{blocks_in, picture_of}

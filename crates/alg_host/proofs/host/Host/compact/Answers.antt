@@ -1,4 +1,4 @@
-use Rattle.std.proofs.Common.{◌≡◌, sym, subst}
+use Rattle.std.proofs.Common.{sym, subst}
 use Rattle.sound_machine.specs.Steps.{compact}
 use Rattle.alg_host.specs.Hosts.{Keeps}
 use Rattle.alg_host.proofs.host.Host.compact.Goals as goal

@@ -1,4 +1,4 @@
-use Rattle.std.proofs.Common.{◌≡◌, ◌∙◌, sym, subst}
+use Rattle.std.proofs.Common.{◌∙◌, sym, subst}
 use Rattle.ialg.specs.Views.{control_of}
 use Rattle.kept_machine.specs.Kept.{told}
 use Rattle.alg_host.specs.Hosts.{Keeps}

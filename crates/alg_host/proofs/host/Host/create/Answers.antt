@@ -1,4 +1,4 @@
-use Rattle.std.proofs.Common.{◌≡◌, ◌∙◌, sym, subst}
+use Rattle.std.proofs.Common.{◌∙◌, sym, subst}
 use Rattle.alg_host.specs.Hosts.{Keeps}
 use Rattle.alg_host.proofs.Served.{creates_poison, on_refusal}
 use Rattle.alg_host.proofs.host.Host.create.Goals as goal
@@ -9,8 +9,7 @@ returns-clause-refused g c = on_refusal c.create.result _ _ (λ e. rw (e.0, e.1,
 pub returns-clause-machine : goal.returns-clause-machine
 returns-clause-machine g c = λ before keeps.
     let kept = subst (λ h. Keeps g.M.Ialg.meaning g.M.Ialg.idle_keeps g.M.Ialg.active_keeps h before) (sym c.self.view_is) keeps in
-    let did = c.create.ensures.machine before kept.poison kept.kept in
-    (
+    let did = c.create.ensures.machine before kept.poison kept.kept in (
       did.0,
       did.1,
       record {

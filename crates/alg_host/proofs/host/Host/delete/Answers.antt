@@ -1,8 +1,6 @@
-use Rattle.std.proofs.Common.{◌≡◌, false, ◌∙◌, ap, refl, sym, subst}
-use Rattle.instance_table.specs.Table.{slot_at}
-use Rattle.sound_machine.specs.Steps.{delete}
-use Rattle.alg_host.specs.Hosts.{HostState, Keeps, lives}
-use Rattle.alg_host.proofs.Served.{delete_poison, not_there, on_refusal}
+use Rattle.std.proofs.Common.{◌∙◌, ap, sym, subst}
+use Rattle.alg_host.specs.Hosts.{Keeps}
+use Rattle.alg_host.proofs.Served.{delete_poison, on_refusal}
 use Rattle.alg_host.proofs.host.Host.delete.Goals as goal
 
 pub returns-clause-refused : goal.returns-clause-refused

@@ -1,4 +1,3 @@
-use Rattle.std.proofs.Common.{◌≡◌, sym, subst}
 use Rattle.alg_host.proofs.host.Host.new.Goals as goal
 
 pub invariant_of-result : goal.invariant_of-result

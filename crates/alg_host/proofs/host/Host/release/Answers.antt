@@ -1,4 +1,4 @@
-use Rattle.std.proofs.Common.{◌≡◌, ◌∙◌, ap, sym, subst}
+use Rattle.std.proofs.Common.{◌∙◌, ap, sym, subst}
 use Rattle.alg_host.specs.Hosts.{Keeps}
 use Rattle.alg_host.proofs.Served.{SamePlaces, release_stays, still_kept}
 use Rattle.alg_host.proofs.host.Host.release.Goals as goal

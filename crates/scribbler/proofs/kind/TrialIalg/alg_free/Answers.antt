@@ -1,4 +1,4 @@
-use Rattle.std.proofs.Common.{◌≡◌, IsTrue, subst}
+use Rattle.std.proofs.Common.{IsTrue, subst}
 use Rattle.ialg.specs.Records.{lasting}
 use Rattle.ialg.specs.Loans.{lent_words}
 use Rattle.scribbler.specs.Trials.{meaning_by, IsIdle}
