@@ -1,5 +1,5 @@
 -- What a contract sees of parsed lines.
-use Rattle.std.specs.Prelude.{[], ◌∷◌, Option, Some, None, Result, Ok, Err}
+use Rattle.std.specs.Prelude.{Option, Some, None, Result, Ok, Err}
 use Rattle.ialg.specs.declared.refusal.Refusal.{Refusal}
 use Rattle.script_grammar.specs.Script as script
 use Rattle.script_grammar.specs.declared.commands.Command.{Command}

@@ -27,29 +27,56 @@ pub enum Command<M> {
         parameters: Params,
     },
     /// These words come into force.
-    Set { instance: u8, words: ControlWords },
+    Set {
+        instance: u8,
+        words: ControlWords,
+    },
     /// The past samples are forgotten.
-    Reset { instance: u8 },
+    Reset {
+        instance: u8,
+    },
     /// The instance's words are asked for.
-    Get { instance: u8 },
+    Get {
+        instance: u8,
+    },
     /// The instance ends.
-    Delete { instance: u8 },
+    Delete {
+        instance: u8,
+    },
     /// A new channel of these instances.
-    Chain { channel: u8, members: Members },
+    Chain {
+        channel: u8,
+        members: Members,
+    },
     /// The channel ends; its members stay.
-    Unchain { channel: u8 },
+    Unchain {
+        channel: u8,
+    },
     /// So many samples of the channel's input go through its members.
-    Feed { channel: u8, samples: FeedSamples },
+    Feed {
+        channel: u8,
+        samples: FeedSamples,
+    },
     /// All blocks of the space move as low as they can.
-    Compact { space: Space },
+    Compact {
+        space: Space,
+    },
     /// One block of the space moves, if one can.
-    Step { space: Space },
+    Step {
+        space: Space,
+    },
     /// The active member of the group is deactivated.
-    Release { group: u8 },
+    Release {
+        group: u8,
+    },
     /// The blocks of the space are asked for.
-    Map { space: Space },
+    Map {
+        space: Space,
+    },
     /// The active member of the group and its activations are asked for.
-    Stat { group: u8 },
+    Stat {
+        group: u8,
+    },
 }
 
 /// `create` I KIND G W*
@@ -155,23 +182,37 @@ fn command_of<M: Named + Copy>(name: &[u8], words: Words<'_>) -> Result<Command<
     } else if name == b"control".as_slice() {
         control_row(words)
     } else if name == b"delete".as_slice() {
-        Ok(Command::Delete { instance: words.only_number()? })
+        Ok(Command::Delete {
+            instance: words.only_number()?,
+        })
     } else if name == b"chain".as_slice() {
         chain_row(words)
     } else if name == b"unchain".as_slice() {
-        Ok(Command::Unchain { channel: words.only_number()? })
+        Ok(Command::Unchain {
+            channel: words.only_number()?,
+        })
     } else if name == b"feed".as_slice() {
         feed_row(words)
     } else if name == b"compact".as_slice() {
-        Ok(Command::Compact { space: words.only_space()? })
+        Ok(Command::Compact {
+            space: words.only_space()?,
+        })
     } else if name == b"step".as_slice() {
-        Ok(Command::Step { space: words.only_space()? })
+        Ok(Command::Step {
+            space: words.only_space()?,
+        })
     } else if name == b"release".as_slice() {
-        Ok(Command::Release { group: words.only_number()? })
+        Ok(Command::Release {
+            group: words.only_number()?,
+        })
     } else if name == b"map".as_slice() {
-        Ok(Command::Map { space: words.only_space()? })
+        Ok(Command::Map {
+            space: words.only_space()?,
+        })
     } else if name == b"stat".as_slice() {
-        Ok(Command::Stat { group: words.only_number()? })
+        Ok(Command::Stat {
+            group: words.only_number()?,
+        })
     } else {
         Err(Refusal::Syntax)
     }

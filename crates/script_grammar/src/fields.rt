@@ -3,7 +3,6 @@ ghost use Rattle.std.specs.Prelude.{◌≡◌, Ok, Err, true, false, ◌&&◌, �
 ghost use Rattle.std.specs.List.{list_all};
 ghost use Rattle.script_grammar.specs.Script.{is_number, value_of, natural, fits_byte, fits_word, fit_words, fit_members, only_number, only_space, space_named};
 ghost use Rattle.script_grammar.specs.Readings.{begins_with_number, kind_first, at_end, to_come};
-
 ghost use Rattle.script_grammar.specs.declared.limits.TheConstants.{MEMBERS};
 
 use crate::commands::Members;
@@ -113,7 +112,11 @@ impl<'a> Words<'a> {
             };
             fit = fit && keep_member(&mut members, number);
         }
-        if fit { Ok(members) } else { Err(Refusal::Range) }
+        if fit {
+            Ok(members)
+        } else {
+            Err(Refusal::Range)
+        }
     }
 
     /// The only word that is left, the number of an instance, a group or a channel.

@@ -8,6 +8,7 @@ mod numbers;
 mod replies;
 mod rows;
 mod samples;
+pub mod stat;
 #[cfg(test)]
 mod tests;
 mod words;
