@@ -7,7 +7,7 @@ use Rattle.ialg.specs.Refusals.{refusal_number, refusal_name}
 use Rattle.space_blocks.specs.declared.placed.Owner.{Owner}
 use Rattle.space_blocks.specs.declared.placed.Owner.TheVariants.{Record, Scratch}
 use Rattle.space_blocks.specs.declared.placed.Placed.{Placed}
-use Rattle.script_grammar.specs.declared.stat.Stat.{Stat as GroupStat}
+use Rattle.alg_host.specs.declared.groups.Stat.{Stat as GroupStat}
 
 pub data Reply : Type 0 where
   Done : Reply

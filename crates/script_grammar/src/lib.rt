@@ -8,7 +8,6 @@ mod numbers;
 mod replies;
 mod rows;
 mod samples;
-pub mod stat;
 #[cfg(test)]
 mod tests;
 mod words;

@@ -8,7 +8,7 @@ ghost use Rattle.script_grammar.specs.Replies.{active_text, owner_text, block_te
 use crate::limits::{
     BYTE_DIGITS, ENTRY_OCTETS, NUMBER_DIGITS, OWNER_OCTETS, REPLY_OCTETS, WORD_OCTETS,
 };
-use crate::stat::Stat;
+use alg_host::Stat;
 use arrayvec::ArrayVec;
 use ialg::{Refusal, Words};
 use space_blocks::{Map, Owner, Placed};

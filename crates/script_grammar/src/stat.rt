@@ -1,6 +1,0 @@
-//! dev
-#[derive(Clone, Copy, PartialEq, Eq, Debug)]
-pub struct Stat {
-    pub active: Option<u8>,
-    pub activations: u32,
-}
