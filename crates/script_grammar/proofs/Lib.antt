@@ -1,0 +1,4 @@
+pub mod ReadingLemmas
+pub mod ReplyLemmas
+pub mod RowLemmas
+pub mod WordLemmas

@@ -1,0 +1,12 @@
+use Rattle.std.proofs.Common.{lit<, arith}
+use Rattle.std.proofs.lemmas.Fmt.{length-decimal-le}
+use Rattle.script_grammar.specs.declared.limits.TheConstants.{NUMBER_DIGITS}
+use Rattle.script_grammar.proofs.replies.push_number.Goals as goal
+
+pub push_digits-requires : goal.push_digits-requires
+push_digits-requires c =
+    let few = length-decimal-le NUMBER_DIGITS c.args.number (lit< tt) (omega arith) (omega arith) in
+    omega arith
+
+pub returns-clause-few : goal.returns-clause-few
+returns-clause-few c = length-decimal-le NUMBER_DIGITS c.args.number (lit< tt) (omega arith) (omega arith)

@@ -1,0 +1,44 @@
+-- What the clauses of private functions alone name: a line as it is cut, and words as they are read one by one.
+use Rattle.std.specs.Prelude.{◌≡◌, ℕ, Bool, true, false, List, [], ◌∷◌, ◌++◌, All, ℤ, pos, neg_ℤ, ◌≤ℤ◌, ◌<ℤ◌, Option, Some, None, Result, Ok, Err}
+use Rattle.ialg.specs.declared.refusal.Refusal.{Refusal}
+use Rattle.ialg.specs.declared.refusal.Refusal.TheVariants.{Syntax}
+use Rattle.script_grammar.specs.Script as script
+use Rattle.script_grammar.specs.declared.words.Words.{Words}
+use Rattle.script_grammar.specs.declared.limits.TheConstants.{GREATEST_MAGNITUDE}
+
+abbrev pub IsNoBlank : ℕ → Type 0
+IsNoBlank b = script.is_blank b ≡ false
+
+-- the line is the word, a blank and what follows, and the word has no blank
+pub record PartsAtBlank (line word after : List ℕ) : Type 0 where
+  pub blank : ℕ
+  pub is_blank : script.is_blank blank ≡ true
+  pub no_blanks : All IsNoBlank word
+  pub parts : line ≡ word ++ blank ∷ after
+
+-- the words that are still to come
+abbrev pub to_come : Words → List (List ℕ)
+to_come words = script.words_of words.line.now
+
+-- as far as 16 bits and more, a number itself, and beyond it the limit
+pub record Limits (z n : ℤ) : Type 0 where
+  pub within : neg_ℤ (pos GREATEST_MAGNITUDE) ≤ℤ z → z ≤ℤ pos GREATEST_MAGNITUDE → n ≡ z
+  pub below : z <ℤ neg_ℤ (pos GREATEST_MAGNITUDE) → n ≡ neg_ℤ (pos GREATEST_MAGNITUDE)
+  pub above : pos GREATEST_MAGNITUDE <ℤ z → n ≡ pos GREATEST_MAGNITUDE
+
+abbrev pub begins_with_number : List (List ℕ) → Bool
+begins_with_number [] = false
+begins_with_number (w ∷ ws) = script.is_number w
+
+abbrev pub named_before : {M : Type 0} → Option M → List (List ℕ) → Result (M × List (List ℕ)) Refusal
+named_before None ws = Err Syntax
+named_before (Some kind) ws = Ok (kind, ws)
+
+-- the first of the words, a name, and the others
+abbrev pub kind_first : {M : Type 0} → (List ℕ → Option M) → List (List ℕ) → Result (M × List (List ℕ)) Refusal
+kind_first named [] = Err Syntax
+kind_first named (w ∷ ws) = named_before (named w) ws
+
+abbrev pub at_end : List (List ℕ) → Result Unit Refusal
+at_end [] = Ok tt
+at_end (w ∷ ws) = Err Syntax

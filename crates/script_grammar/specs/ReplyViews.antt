@@ -1,0 +1,20 @@
+-- What a contract sees of replies.
+use Rattle.std.specs.Prelude.{Result, Ok, Err}
+use Rattle.ialg.specs.declared.refusal.Refusal.{Refusal}
+use Rattle.script_grammar.specs.Replies as replies
+use Rattle.script_grammar.specs.declared.replies.Reply.{Reply}
+use Rattle.script_grammar.specs.declared.replies.Reply.TheVariants.{Done, Words, Count, Flag, Stat, Map, No}
+
+abbrev pub reply_of : Reply → replies.Reply
+reply_of Done = replies.Done
+reply_of (Words words) = replies.Words words.items
+reply_of (Count count) = replies.Count count
+reply_of (Flag flag) = replies.Flag flag
+reply_of (Stat stat) = replies.Stat stat
+reply_of (Map blocks) = replies.Map blocks.items
+reply_of (No refusal) = replies.No refusal
+
+-- what is told of a command that gives nothing
+abbrev pub told_for : {A : Type 0} → Result A Refusal → replies.Reply
+told_for (Ok x) = replies.Done
+told_for (Err refusal) = replies.No refusal

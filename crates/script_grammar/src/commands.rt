@@ -1,0 +1,230 @@
+//! Commands, and the lines that ask them.
+ghost use Rattle.std.specs.Prelude.{◌≡◌};
+ghost use Rattle.script_grammar.specs.Script.{create_row, set_row, reset_row, get_row, control_row, chain_row, feed_row, command_of, parsed};
+ghost use Rattle.script_grammar.specs.Readings.{to_come};
+ghost use Rattle.script_grammar.specs.Commands.{line_of};
+ghost use Rattle.script_grammar.specs.RowViews.{row_of};
+
+use crate::limits::MEMBERS;
+use crate::numbers::Number;
+use crate::samples::FeedSamples;
+use crate::words::{Words, without_return};
+use arrayvec::ArrayVec;
+use ialg::{Named, Params, Refusal, Words as ControlWords};
+use mem_rec::Space;
+
+/// The numbers of a channel's members, one or more, in their order.
+pub type Members = ArrayVec<u8, MEMBERS>;
+
+/// What a line asks: a variant for each row of the grammar.
+#[derive(Drop)]
+pub enum Command<M> {
+    /// A new instance.
+    Create {
+        instance: u8,
+        kind: M,
+        group: u8,
+        parameters: Params,
+    },
+    /// These words come into force.
+    Set {
+        instance: u8,
+        words: ControlWords,
+    },
+    /// The past samples are forgotten.
+    Reset {
+        instance: u8,
+    },
+    /// The instance's words are asked for.
+    Get {
+        instance: u8,
+    },
+    /// The instance ends.
+    Delete {
+        instance: u8,
+    },
+    /// A new channel of these instances.
+    Chain {
+        channel: u8,
+        members: Members,
+    },
+    /// The channel ends; its members stay.
+    Unchain {
+        channel: u8,
+    },
+    /// So many samples of the channel's input go through its members.
+    Feed {
+        channel: u8,
+        samples: FeedSamples,
+    },
+    /// All blocks of the space move as low as they can.
+    Compact {
+        space: Space,
+    },
+    /// One block of the space moves, if one can.
+    Step {
+        space: Space,
+    },
+    /// The active member of the group is deactivated.
+    Release {
+        group: u8,
+    },
+    /// The blocks of the space are asked for.
+    Map {
+        space: Space,
+    },
+    /// The active member of the group and its activations are asked for.
+    Stat {
+        group: u8,
+    },
+}
+
+/// `create` I KIND G W*
+fn create_row<M: Named + Copy>(mut words: Words<'_>) -> Result<Command<M>, Refusal>
+    ensures { row_of result ≡ create_row M.named (to_come words.entry) }
+{
+    let instance = words.number()?;
+    let kind = words.kind()?;
+    let group = words.number()?;
+    let parameters = words.parameters()?;
+    Ok(Command::Create {
+        instance: instance.byte()?,
+        kind,
+        group: group.byte()?,
+        parameters,
+    })
+}
+
+/// `control` I `set` W*
+fn set_row<M: Copy>(instance: Number<'_>, words: Words<'_>) -> Result<Command<M>, Refusal>
+    ensures { row_of result ≡ set_row instance.entry.word.now (to_come words.entry) }
+{
+    let words = words.parameters()?;
+    Ok(Command::Set {
+        instance: instance.byte()?,
+        words,
+    })
+}
+
+/// `control` I `reset`
+fn reset_row<M: Copy>(instance: Number<'_>, words: Words<'_>) -> Result<Command<M>, Refusal>
+    ensures { row_of result ≡ reset_row instance.entry.word.now (to_come words.entry) }
+{
+    words.end()?;
+    Ok(Command::Reset {
+        instance: instance.byte()?,
+    })
+}
+
+/// `control` I `get`
+fn get_row<M: Copy>(instance: Number<'_>, words: Words<'_>) -> Result<Command<M>, Refusal>
+    ensures { row_of result ≡ get_row instance.entry.word.now (to_come words.entry) }
+{
+    words.end()?;
+    Ok(Command::Get {
+        instance: instance.byte()?,
+    })
+}
+
+/// `control` I and the word behind it
+fn control_row<M: Copy>(mut words: Words<'_>) -> Result<Command<M>, Refusal>
+    ensures { row_of result ≡ control_row (to_come words.entry) }
+{
+    let instance = words.number()?;
+    let Some(control) = words.next() else {
+        return Err(Refusal::Syntax);
+    };
+    if control == b"set".as_slice() {
+        set_row(instance, words)
+    } else if control == b"reset".as_slice() {
+        reset_row(instance, words)
+    } else if control == b"get".as_slice() {
+        get_row(instance, words)
+    } else {
+        Err(Refusal::Syntax)
+    }
+}
+
+/// `chain` C I+
+fn chain_row<M: Copy>(mut words: Words<'_>) -> Result<Command<M>, Refusal>
+    ensures { row_of result ≡ chain_row (to_come words.entry) }
+{
+    let channel = words.number()?;
+    let members = words.members()?;
+    if members.is_empty() {
+        return Err(Refusal::Syntax);
+    }
+    Ok(Command::Chain {
+        channel: channel.byte()?,
+        members,
+    })
+}
+
+/// `feed` C N
+fn feed_row<M: Copy>(mut words: Words<'_>) -> Result<Command<M>, Refusal>
+    ensures { row_of result ≡ feed_row (to_come words.entry) }
+{
+    let channel = words.number()?;
+    let samples = words.number()?;
+    words.end()?;
+    Ok(Command::Feed {
+        channel: channel.byte()?,
+        samples: samples.samples()?,
+    })
+}
+
+/// The command of a line that begins with this word.
+fn command_of<M: Named + Copy>(name: &[u8], words: Words<'_>) -> Result<Command<M>, Refusal>
+    ensures { row_of result ≡ command_of M.named name.now (to_come words.entry) }
+{
+    if name == b"create".as_slice() {
+        create_row(words)
+    } else if name == b"control".as_slice() {
+        control_row(words)
+    } else if name == b"delete".as_slice() {
+        Ok(Command::Delete {
+            instance: words.only_number()?,
+        })
+    } else if name == b"chain".as_slice() {
+        chain_row(words)
+    } else if name == b"unchain".as_slice() {
+        Ok(Command::Unchain {
+            channel: words.only_number()?,
+        })
+    } else if name == b"feed".as_slice() {
+        feed_row(words)
+    } else if name == b"compact".as_slice() {
+        Ok(Command::Compact {
+            space: words.only_space()?,
+        })
+    } else if name == b"step".as_slice() {
+        Ok(Command::Step {
+            space: words.only_space()?,
+        })
+    } else if name == b"release".as_slice() {
+        Ok(Command::Release {
+            group: words.only_number()?,
+        })
+    } else if name == b"map".as_slice() {
+        Ok(Command::Map {
+            space: words.only_space()?,
+        })
+    } else if name == b"stat".as_slice() {
+        Ok(Command::Stat {
+            group: words.only_number()?,
+        })
+    } else {
+        Err(Refusal::Syntax)
+    }
+}
+
+/// The command of a line that isn't long: None for a blank one.
+pub fn parse<M: Named + Copy>(line: &[u8]) -> Result<Option<Command<M>>, Refusal>
+    ensures { line_of result ≡ parsed M.named line.now }
+{
+    let mut words = Words::of(without_return(line));
+    let Some(name) = words.next() else {
+        return Ok(None);
+    };
+    Ok(Some(command_of(name, words)?))
+}

@@ -1,0 +1,152 @@
+//! The words of a row, by what each stands for.
+ghost use Rattle.std.specs.Prelude.{◌≡◌, Ok, Err, true, false, ◌&&◌, ◌++◌, ◌∷◌, [], nat_lt, length, map, IfOk, IfErr, is_ok, IsErr, if◌then◌else◌};
+ghost use Rattle.std.specs.List.{list_all};
+ghost use Rattle.script_grammar.specs.Script.{is_number, value_of, natural, fits_byte, fits_word, fit_words, fit_members, only_number, only_space, space_named};
+ghost use Rattle.script_grammar.specs.Readings.{begins_with_number, kind_first, at_end, to_come};
+ghost use Rattle.script_grammar.specs.declared.limits.TheConstants.{MEMBERS};
+
+use crate::commands::Members;
+use crate::numbers::Number;
+use crate::words::Words;
+use arrayvec::ArrayVec;
+use ialg::{Named, PARAMETER_WORDS, Params, Refusal};
+use mem_rec::Space;
+
+/// Keeps one parameter more: false where it is out of its range or there are too many, and nothing is kept.
+fn keep(parameters: &mut Params, number: Number<'_>) -> bool
+    ensures fits { result ≡ (fits_word number.entry.word.now && nat_lt (length parameters.old.items) PARAMETER_WORDS) }
+    ensures kept { result ≡ true → parameters.new.items ≡ parameters.old.items ++ value_of number.entry.word.now ∷ [] }
+    ensures same { result ≡ false → parameters.new ≡ parameters.old }
+{
+    match number.sample() {
+        Ok(parameter) => parameters.try_push(parameter).is_ok(),
+        Err(_) => false,
+    }
+}
+
+/// Keeps one member more: false where its number is out of its range or there are too many, and nothing is kept.
+fn keep_member(members: &mut Members, number: Number<'_>) -> bool
+    ensures fits { result ≡ (fits_byte number.entry.word.now && nat_lt (length members.old.items) MEMBERS) }
+    ensures kept { result ≡ true → members.new.items ≡ members.old.items ++ natural number.entry.word.now ∷ [] }
+    ensures same { result ≡ false → members.new ≡ members.old }
+{
+    match number.byte() {
+        Ok(member) => members.try_push(member).is_ok(),
+        Err(_) => false,
+    }
+}
+
+/// The space of this name: `syntax` for every other word.
+fn space_named(word: &[u8]) -> Result<Space, Refusal>
+    ensures { result ≡ space_named word.now }
+{
+    if word == b"daram".as_slice() {
+        Ok(Space::Daram)
+    } else if word == b"saram".as_slice() {
+        Ok(Space::Saram)
+    } else if word == b"external".as_slice() {
+        Ok(Space::External)
+    } else {
+        Err(Refusal::Syntax)
+    }
+}
+
+impl<'a> Words<'a> {
+    /// The next word, a number: `syntax` where it is none, or there is none.
+    pub(crate) fn number(&mut self) -> Result<Number<'a>, Refusal>
+        ensures number { IfOk result (λ number. to_come self.old ≡ number.word.now ∷ to_come self.new) }
+        ensures none { IsErr result → begins_with_number (to_come self.old) ≡ false }
+        ensures refusal { IfErr result (λ refusal. refusal ≡ Refusal.Syntax) }
+    {
+        let Some(word) = self.next() else {
+            return Err(Refusal::Syntax);
+        };
+        Number::of(word).ok_or(Refusal::Syntax)
+    }
+
+    /// The next word, a kind's name: `syntax` where it is none, or there is none.
+    pub(crate) fn kind<M: Named + Copy>(&mut self) -> Result<M, Refusal>
+        ensures kind { IfOk result (λ kind. kind_first M.named (to_come self.old) ≡ Ok (kind, to_come self.new)) }
+        ensures refusal { IfErr result (λ refusal. kind_first M.named (to_come self.old) ≡ Err refusal) }
+    {
+        let Some(word) = self.next() else {
+            return Err(Refusal::Syntax);
+        };
+        M::of_name(word).ok_or(Refusal::Syntax)
+    }
+
+    /// All words that are left, as parameters: `syntax` where one is no number, and else `range` where one
+    /// is out of its range or there are too many.
+    pub(crate) fn parameters(self) -> Result<Params, Refusal>
+        ensures fits { is_ok result ≡ (list_all is_number (to_come self.entry) && fit_words (to_come self.entry)) }
+        ensures value { IfOk result (λ parameters. parameters.items ≡ map value_of (to_come self.entry)) }
+        ensures refusal { IfErr result (λ refusal. refusal ≡ (if list_all is_number (to_come self.entry) then Refusal.Range else Refusal.Syntax)) }
+    {
+        let mut parameters = ArrayVec::new();
+        let mut fit = true;
+        for word in self {
+            let Some(number) = Number::of(word) else {
+                return Err(Refusal::Syntax);
+            };
+            fit = fit && keep(&mut parameters, number);
+        }
+        if fit {
+            Ok(parameters)
+        } else {
+            Err(Refusal::Range)
+        }
+    }
+
+    /// All words that are left, as the numbers of members: `syntax` where one is no number, and else `range`
+    /// where one is out of its range or there are too many.
+    pub(crate) fn members(self) -> Result<Members, Refusal>
+        ensures fits { is_ok result ≡ (list_all is_number (to_come self.entry) && fit_members (to_come self.entry)) }
+        ensures value { IfOk result (λ members. members.items ≡ map natural (to_come self.entry)) }
+        ensures refusal { IfErr result (λ refusal. refusal ≡ (if list_all is_number (to_come self.entry) then Refusal.Range else Refusal.Syntax)) }
+    {
+        let mut members = ArrayVec::new();
+        let mut fit = true;
+        for word in self {
+            let Some(number) = Number::of(word) else {
+                return Err(Refusal::Syntax);
+            };
+            fit = fit && keep_member(&mut members, number);
+        }
+        if fit {
+            Ok(members)
+        } else {
+            Err(Refusal::Range)
+        }
+    }
+
+    /// The only word that is left, the number of an instance, a group or a channel.
+    pub(crate) fn only_number(mut self) -> Result<u8, Refusal>
+        ensures { result ≡ only_number (to_come self.entry) }
+    {
+        let number = self.number()?;
+        self.end()?;
+        number.byte()
+    }
+
+    /// The only word that is left, a space.
+    pub(crate) fn only_space(mut self) -> Result<Space, Refusal>
+        ensures { result ≡ only_space (to_come self.entry) }
+    {
+        let Some(word) = self.next() else {
+            return Err(Refusal::Syntax);
+        };
+        let space = space_named(word)?;
+        self.end()?;
+        Ok(space)
+    }
+
+    /// `syntax` where a word is left.
+    pub(crate) fn end(mut self) -> Result<(), Refusal>
+        ensures { result ≡ at_end (to_come self.entry) }
+    {
+        match self.next() {
+            None => Ok(()),
+            Some(_) => Err(Refusal::Syntax),
+        }
+    }
+}

@@ -1,0 +1,16 @@
+//! Rows on both sides of every limit, checked on the definitions.
+ghost use Rattle.script_grammar.specs.Rows.{CreationRows, RangeRows, NumberRows, LineRows, NameRows, ControlRows, ChainRows, OneNumberRows, OneSpaceRows, ReplyRows};
+
+/// The law that the definitions give what the rows say. The call does nothing: its contract is the law.
+pub fn grammar_rows()
+    ensures creations { CreationRows }
+    ensures ranges { RangeRows }
+    ensures numbers { NumberRows }
+    ensures lines { LineRows }
+    ensures names { NameRows }
+    ensures controls { ControlRows }
+    ensures chains { ChainRows }
+    ensures one_numbers { OneNumberRows }
+    ensures one_spaces { OneSpaceRows }
+    ensures replies { ReplyRows }
+{}

@@ -1,0 +1,68 @@
+//! The words of a line.
+ghost use Rattle.std.specs.Prelude.{◌≡◌, length, All, MatchOption};
+ghost use Rattle.std.specs.Iterator.{YieldsFirstRef, item_count};
+ghost use Rattle.script_grammar.specs.Script.{without_return, is_blank};
+ghost use Rattle.script_grammar.specs.Readings.{IsNoBlank, PartsAtBlank, to_come};
+
+/// The line less one carriage return at its end.
+pub(crate) fn without_return(line: &[u8]) -> &[u8]
+    ensures { result.now ≡ without_return line.now }
+{
+    let Some((last, text)) = line.split_last() else {
+        return line;
+    };
+    if *last == b'\r' { text } else { line }
+}
+
+fn is_blank(octet: u8) -> bool
+    ensures { result ≡ is_blank octet }
+{
+    octet == b' ' || octet == b'\t'
+}
+
+/// What stands before the first blank, and behind it.
+fn split_at_blank(line: &[u8]) -> Option<(&[u8], &[u8])>
+    ensures { MatchOption result (All IsNoBlank line.now) (λ parts. PartsAtBlank line.now parts.0.now parts.1.now) }
+{
+    for (end, octet) in line.iter().enumerate() {
+        if is_blank(*octet) {
+            return Some((&line[..end], &line[end + 1..]));
+        }
+    }
+    None
+}
+
+/// The words of a line that are still to come.
+#[derive(Drop)]
+pub(crate) struct Words<'a> {
+    line: &'a [u8],
+}
+
+impl<'a> Words<'a> {
+    /// The words of this line.
+    pub(crate) fn of(line: &'a [u8]) -> Words<'a>
+        ensures { result.line.now ≡ line.now }
+    {
+        Words { line }
+    }
+}
+
+impl<'a> Iterator for Words<'a> {
+    type Item = &'a [u8];
+
+    ghost next_gives = { YieldsFirstRef to_come };
+
+    ghost remaining = { item_count to_come };
+
+    fn next(&mut self) -> Option<&'a [u8]> {
+        while let Some((word, after)) = split_at_blank(self.line) {
+            self.line = after;
+            if !word.is_empty() {
+                return Some(word);
+            }
+        }
+        let word = self.line;
+        self.line = &[];
+        if word.is_empty() { None } else { Some(word) }
+    }
+}
