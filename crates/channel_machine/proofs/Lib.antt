@@ -1,0 +1,2 @@
+pub mod OutcomeLemmas
+pub mod RefusalLemmas
