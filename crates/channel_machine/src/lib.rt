@@ -8,5 +8,5 @@
 mod laws;
 mod outcomes;
 
-pub use laws::refused_calls_change_nothing;
+pub use laws::{members_live_in_one_channel, refused_calls_change_nothing};
 pub use outcomes::{chains_answer_in_order, deletions_answer_in_order, unchains_answer_in_order};
