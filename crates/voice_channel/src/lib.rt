@@ -6,6 +6,7 @@
 
 mod channels;
 mod host_calls;
+mod members;
 
 use arrayvec::ArrayVec;
 pub use channels::Channels;
