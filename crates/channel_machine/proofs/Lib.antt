@@ -1,0 +1,4 @@
+pub mod OutcomeLemmas
+pub mod RefusalLemmas
+pub mod LivingLemmas
+pub mod HoldingLemmas

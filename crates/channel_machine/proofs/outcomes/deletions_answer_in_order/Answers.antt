@@ -1,0 +1,14 @@
+use Rattle.channel_machine.proofs.OutcomeLemmas.{delete_range, delete_missing, delete_busy, delete_granted}
+use Rattle.channel_machine.proofs.outcomes.deletions_answer_in_order.Goals as goal
+
+pub returns-clause-range : goal.returns-clause-range
+returns-clause-range g c = delete_range
+
+pub returns-clause-missing : goal.returns-clause-missing
+returns-clause-missing g c = delete_missing
+
+pub returns-clause-busy : goal.returns-clause-busy
+returns-clause-busy g c = delete_busy
+
+pub returns-clause-granted : goal.returns-clause-granted
+returns-clause-granted g c = delete_granted

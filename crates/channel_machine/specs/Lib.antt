@@ -1,0 +1,4 @@
+pub mod Channels
+pub mod Steps
+pub mod Calls
+pub mod Laws

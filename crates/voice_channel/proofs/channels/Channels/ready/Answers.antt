@@ -1,0 +1,12 @@
+use Rattle.std.proofs.Common.{Ok, ◌∙◌, ap, sym}
+use Rattle.channel_machine.specs.Steps.{unless}
+use Rattle.voice_channel.proofs.channels.Channels.ready.Goals as goal
+
+pub returns : goal.returns
+returns g c = record {
+  machine = λ before keeps. (
+    before,
+    c.answered.ensures before ∙ ap (λ r. unless r before (Ok tt, before)) (sym (c.refusal.ensures before keeps.chained)),
+    keeps,
+  );
+}

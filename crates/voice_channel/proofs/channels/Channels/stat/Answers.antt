@@ -1,0 +1,10 @@
+use Rattle.std.specs.Prelude.{map}
+use Rattle.alg_host.specs.Hosts.{stat_told}
+use Rattle.sound_machine.specs.Calls.Call.{Stat}
+use Rattle.voice_channel.proofs.Served.{read}
+use Rattle.voice_channel.proofs.channels.Channels.stat.Goals as goal
+
+pub returns : goal.returns
+returns g c = record {
+  machine = read g.M.Ialg.meaning g.M.Ialg.idle_keeps g.M.Ialg.active_keeps (c.members_live_in_one_channel.ensures.kept g.M.Ialg.meaning) (Stat c.args.group (stat_told c.stat.result)) tt c.self.inside.host (map (λ m. m.items) c.self.inside.channels.items) c.args.self.now c.self.view_is c.stat.ensures.machine;
+}

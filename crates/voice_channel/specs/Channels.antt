@@ -1,0 +1,25 @@
+-- What channels are, and when they keep a state of the machine.
+use Rattle.std.specs.Prelude.{ℕ, ◌≡◌, List}
+use Rattle.ialg.specs.Meaning.{Meaning}
+use Rattle.lifecycle.specs.States.{Relation}
+use Rattle.alg_host.specs.Hosts.{HostState}
+use Rattle.alg_host.specs.Hosts as hosts
+use Rattle.channel_machine.specs.Channels.{Channels}
+use Rattle.channel_machine.specs.Calls.{Call, Does}
+use Rattle.channel_machine.specs.Laws.{AreHeld}
+
+-- a host, and the members of each channel; one that isn't chained has none
+pub record ChannelsState (M : Type 0) : Type 0 where
+  pub host : HostState M
+  pub chained : List (List ℕ)
+
+-- the channels keep a state: the host does, the channels have its members, and these live, each in one channel
+pub record Keeps {M : Type 0} (meaning : Meaning M) (idle_keeps active_keeps : Relation M) (channels : ChannelsState M) (state : Channels M) : Type 0 where
+  pub host : hosts.Keeps meaning idle_keeps active_keeps channels.host state.host
+  pub chained : state.chained ≡ channels.chained
+  pub held : AreHeld state
+
+-- whatever state the channels kept, the call was answered as the machine may answer it there, and they keep a state that comes after it
+abbrev pub Serves : {M : Type 0} → Meaning M → Relation M → Relation M → Call M → ChannelsState M → ChannelsState M → Type 0
+Serves {M} meaning idle_keeps active_keeps call old new = (before : Channels M) → Keeps meaning idle_keeps active_keeps old before
+    → (after : Channels M) × Does meaning before call after × Keeps meaning idle_keeps active_keeps new after

@@ -1,0 +1,65 @@
+//! The channels: how they are made and unmade.
+ghost use Rattle.std.specs.Prelude.{◌≡◌, ◌≤◌, ℕ, false, [], map, replicate};
+ghost use Rattle.sound_machine.specs.State.{State};
+ghost use Rattle.alg_host.specs.Hosts.{lives};
+ghost use Rattle.alg_host.specs.Hosts as hosts;
+ghost use Rattle.voice_channel.specs.Channels.{Keeps};
+
+use crate::{CHANNELS, Members};
+use alg_host::Host;
+use arrayvec::ArrayVec;
+use channel_machine::members_live_in_one_channel;
+use ialg::{Ialg, Refusal};
+use std::marker::Model;
+
+/// Channels over a host of instances of the kinds `M`. They can't be copied, and must be given back by [`close`](Channels::close).
+pub struct Channels<M> {
+    pub(crate) host: Host<M>,
+    pub(crate) channels: ArrayVec<Members, CHANNELS>,
+}
+
+impl<M> Model for Channels<M> {
+    ghost use Rattle.std.specs.Prelude.{map};
+    ghost use Rattle.voice_channel.specs.Channels.{ChannelsState};
+
+    ghost Value = { ChannelsState M };
+
+    ghost view = { λ c. record { host = c.host; chained = map (λ m. m.items) c.channels.items } };
+}
+
+/// So many channels, none of them chained.
+fn unchained(count: u8) -> ArrayVec<Members, CHANNELS>
+    requires most { count ≤ CHANNELS }
+    ensures { map (λ m. m.items) result.items ≡ replicate count [] }
+{
+    let mut channels = ArrayVec::new();
+    for _ in 0..count {
+        channels.push(Members::new());
+    }
+    channels
+}
+
+impl<M: Ialg> Channels<M> {
+    /// So many channels over a host without instances, none of them chained.
+    pub fn new(host: Host<M>, count: u8) -> Channels<M>
+        requires least { 1 ≤ count }
+        requires most { count ≤ CHANNELS }
+        requires empty { (i : ℕ) → lives host i ≡ false }
+        ensures host { result.host ≡ host }
+        ensures unchained { result.chained ≡ replicate count [] }
+        ensures keeps { (state : State M) → hosts.Keeps M.meaning M.idle_keeps M.active_keeps host state
+            → Keeps M.meaning M.idle_keeps M.active_keeps result (record { host = state; chained = replicate count [] }) }
+    {
+        members_live_in_one_channel::<M>();
+        Channels {
+            host,
+            channels: unchained(count),
+        }
+    }
+
+    /// Deletes every instance, in ascending number, and gives all memory back.
+    pub fn close(self) {
+        let Channels { host, channels: _ } = self;
+        host.close();
+    }
+}

@@ -1,0 +1,100 @@
+//! The calls of the host, which change no channel.
+ghost use Rattle.std.specs.Prelude.{◌≡◌, OnErr};
+ghost use Rattle.ialg.specs.Views.{control_of};
+ghost use Rattle.sound_machine.specs.Calls.Call.{Create, Control, Release, Step, Compact, Stat as StatCall, Map as MapCall, Copied};
+ghost use Rattle.kept_machine.specs.Kept.{told};
+ghost use Rattle.alg_host.specs.Hosts.{stat_told};
+ghost use Rattle.channel_machine.specs.Calls.Call.{OfHost};
+ghost use Rattle.voice_channel.specs.Channels.{Serves};
+
+use crate::Channels;
+use alg_host::Stat;
+use channel_machine::members_live_in_one_channel;
+use ialg::{Ctl, Ialg, Params, Refusal, Status};
+use mem_rec::Space;
+use space_blocks::Map;
+
+impl<M: Ialg> Channels<M> {
+    /// Creates instance `i` of this kind in the group, as [`Host::create`](alg_host::Host::create) does.
+    ///
+    /// # Errors
+    ///
+    /// `Range`, `Taken`, `Params` and `Room`, as the host's. A refused call changes nothing.
+    pub fn create(&mut self, i: u8, kind: M, group: u8, p: &Params) -> Result<(), Refusal>
+        ensures refused { OnErr result (self.new ≡ self.old) }
+        ensures machine { Serves M.meaning M.idle_keeps M.active_keeps (OfHost (Create i kind group p.now.items result)) self.old self.new }
+    {
+        members_live_in_one_channel::<M>();
+        self.host.create(i, kind, group, p)
+    }
+
+    /// Gives instance `i` a control, whether it is in a channel or not.
+    ///
+    /// # Errors
+    ///
+    /// `Range`, `Missing` and `Command`, as the host's. A refused call changes nothing.
+    pub fn control(&mut self, i: u8, c: &Ctl) -> Result<Status, Refusal>
+        ensures refused { OnErr result (self.new ≡ self.old) }
+        ensures machine { Serves M.meaning M.idle_keeps M.active_keeps (OfHost (Control i (control_of c.now) (told result))) self.old self.new }
+    {
+        members_live_in_one_channel::<M>();
+        self.host.control(i, c)
+    }
+
+    /// Deactivates the active member of the group, and says whether there was one.
+    ///
+    /// # Errors
+    ///
+    /// `Range` where the number is past the last group's. Nothing has happened then.
+    pub fn release(&mut self, group: u8) -> Result<bool, Refusal>
+        ensures refused { OnErr result (self.new ≡ self.old) }
+        ensures machine { Serves M.meaning M.idle_keeps M.active_keeps (OfHost (Release group result)) self.old self.new }
+    {
+        members_live_in_one_channel::<M>();
+        self.host.release(group)
+    }
+
+    /// Moves the first block of the space that can be moved down, and says whether one moved.
+    pub fn step(&mut self, space: Space) -> bool
+        ensures machine { Serves M.meaning M.idle_keeps M.active_keeps (OfHost (Step space result)) self.old self.new }
+    {
+        members_live_in_one_channel::<M>();
+        self.host.step(space)
+    }
+
+    /// Steps until no block of the space moves, and says how many blocks moved.
+    pub fn compact(&mut self, space: Space) -> u32
+        ensures machine { Serves M.meaning M.idle_keeps M.active_keeps (OfHost (Compact space result)) self.old self.new }
+    {
+        members_live_in_one_channel::<M>();
+        self.host.compact(space)
+    }
+
+    /// The active member of the group and its count of activations.
+    ///
+    /// # Errors
+    ///
+    /// `Range` where the number is past the last group's.
+    pub fn stat(&self, group: u8) -> Result<Stat, Refusal>
+        ensures machine { Serves M.meaning M.idle_keeps M.active_keeps (OfHost (StatCall group (stat_told result))) self.now self.now }
+    {
+        members_live_in_one_channel::<M>();
+        self.host.stat(group)
+    }
+
+    /// The blocks of the space in place order.
+    pub fn map(&self, space: Space) -> Map
+        ensures machine { Serves M.meaning M.idle_keeps M.active_keeps (OfHost (MapCall space result.items)) self.now self.now }
+    {
+        members_live_in_one_channel::<M>();
+        self.host.map(space)
+    }
+
+    /// The words that moves have copied. It stays at the greatest `u64`.
+    pub fn copied(&self) -> u64
+        ensures machine { Serves M.meaning M.idle_keeps M.active_keeps (OfHost (Copied result)) self.now self.now }
+    {
+        members_live_in_one_channel::<M>();
+        self.host.copied()
+    }
+}

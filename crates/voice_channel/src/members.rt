@@ -1,0 +1,46 @@
+//! Which instances are in which channel.
+ghost use Rattle.std.specs.Prelude.{◌≡◌, Ok};
+ghost use Rattle.channel_machine.specs.Channels.{Channels as State};
+ghost use Rattle.channel_machine.specs.Steps.{channel_refusal, unless};
+ghost use Rattle.channel_machine.specs.Calls.Call.{Ready};
+ghost use Rattle.voice_channel.specs.Channels.{Serves};
+
+use crate::Channels;
+use ialg::{Ialg, Refusal};
+
+// What a call that changes nothing answers.
+fn answered<M>(refusal: Option<Refusal>) -> Result<(), Refusal>
+    ensures { (state : State M) → (result, state) ≡ unless refusal state (Ok tt, state) }
+{
+    match refusal {
+        Some(refusal) => Err(refusal),
+        None => Ok(()),
+    }
+}
+
+impl<M: Ialg> Channels<M> {
+    // Why a channel can't be fed.
+    fn refusal(&self, c: u8) -> Option<Refusal>
+        ensures { (state : State M) → state.chained ≡ self.now.chained → channel_refusal state c ≡ result }
+    {
+        let c = c as usize;
+        if c >= self.channels.len() {
+            return Some(Refusal::Range);
+        }
+        if self.channels[c].is_empty() {
+            return Some(Refusal::Missing);
+        }
+        None
+    }
+
+    /// Whether a channel can be fed.
+    ///
+    /// # Errors
+    ///
+    /// `Range` where the number isn't below the number of channels, and `Missing` where the channel has no members.
+    pub fn ready(&self, c: u8) -> Result<(), Refusal>
+        ensures machine { Serves M.meaning M.idle_keeps M.active_keeps (Ready c result) self.now self.now }
+    {
+        answered::<M>(self.refusal(c))
+    }
+}
