@@ -1,0 +1,56 @@
+-- Lists of calls of a host, with what was answered to them.
+use Rattle.std.specs.Prelude.{◌≡◌, ℕ, ℤ, false, List, [], ◌∷◌, map, Option, Some, None, Err}
+use Rattle.std.specs.List.{flat_map}
+use Rattle.ialg.specs.Views.{control_of}
+use Rattle.ialg.specs.declared.refusal.Refusal.TheVariants.{Range}
+use Rattle.ialg.specs.Meaning.{Meaning}
+use Rattle.lifecycle.specs.States.{Relation}
+use Rattle.kept_machine.specs.Kept.{told}
+use Rattle.sound_machine.specs.State.{State, Living}
+use Rattle.sound_machine.specs.Choices.{IsLawful}
+use Rattle.sound_machine.specs.Calls as calls
+use Rattle.sound_machine.specs.Calls.{Call, Leads}
+use Rattle.sound_machine.specs.Runs.{AllSpare, Grows, history_of_run, outputs_in, statuses_in}
+use Rattle.alg_host.specs.Hosts.{HostState, Keeps}
+use Rattle.host_calls.specs.declared.request.Request.{Request}
+use Rattle.host_calls.specs.declared.request.Request.TheVariants.{Create, Control, Process, Delete, Release, Step, Compact}
+
+-- a block that nobody was given: no instance has the number, or it is empty, and then nothing was called
+abbrev pub not_given : {M : Type 0} → ℕ → List ℤ → List (Call M)
+not_given i [] = []
+not_given i (x ∷ xs) = calls.Call.Lives i false ∷ []
+
+-- the call that was made, with its answer
+abbrev pub made : {M : Type 0} → Request M → List (Call M)
+made (Create i kind g p answer) = calls.Call.Create i kind g p.items answer ∷ []
+made (Control i c answer) = calls.Call.Control i (control_of c) (told answer) ∷ []
+made (Process i input (Some output)) = calls.Call.Process i input.items output.items ∷ []
+made (Process i input None) = not_given i input.items
+made (Delete i answer) = calls.Call.Delete i answer ∷ []
+made (Release g answer) = calls.Call.Release g answer ∷ []
+made (Step space answer) = calls.Call.Step space answer ∷ []
+made (Compact space answer) = calls.Call.Compact space answer ∷ []
+
+abbrev pub all_made : {M : Type 0} → List (Request M) → List (Call M)
+all_made requests = flat_map made requests
+
+-- what is asked, whatever was answered
+abbrev pub asked : {M : Type 0} → Request M → Request M
+asked (Create i kind g p answer) = Create i kind g p (Err Range)
+asked (Control i c answer) = Control i c (Err Range)
+asked (Process i input output) = Process i input None
+asked (Delete i answer) = Delete i (Err Range)
+asked (Release g answer) = Release g (Err Range)
+asked (Step space answer) = Step space false
+asked (Compact space answer) = Compact space 0
+
+-- from every state that the host kept, the calls lead to one that it keeps
+abbrev pub AreServed : {M : Type 0} → Meaning M → Relation M → Relation M → List (Call M) → HostState M → HostState M → Type 0
+AreServed {M} meaning idle_keeps active_keeps calls old new = (before : State M) → Keeps meaning idle_keeps active_keeps old before
+    → (after : State M) × Leads meaning before calls after × Keeps meaning idle_keeps active_keeps new after
+
+-- each lawful instance that lived before, and wasn't deleted, gave the outputs of its history, and answered by it
+abbrev pub EachGrows : {M : Type 0} → Meaning M → Relation M → Relation M → List (Call M) → HostState M → Type 0
+EachGrows {M} meaning idle_keeps active_keeps calls old = (before : State M) → Keeps meaning idle_keeps active_keeps old before
+    → (i : ℕ) (x : Living M) → before.living i ≡ Some x → IsLawful meaning before.poison x → AllSpare i calls
+    → Grows meaning x (history_of_run i x.history calls) (outputs_in i calls) (statuses_in i calls)
