@@ -6,6 +6,7 @@
 
 mod chaining;
 mod channels;
+mod feeding;
 mod host_calls;
 mod lists;
 mod members;
