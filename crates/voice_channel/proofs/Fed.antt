@@ -1,16 +1,14 @@
 -- Blocks of samples that pass through members.
-use Rattle.std.proofs.Common.{◌≡◌, ◌<◌, ◌≤◌, ℕ, ℤ, zero, suc, Bool, true, false, List, [], ◌∷◌, length, map, Option, Some, None, refl, ap, sym, ◌∙◌, subst, nat_eq, arith}
+use Rattle.std.proofs.Common.{◌≡◌, ◌<◌, ◌≤◌, ℕ, ℤ, zero, suc, Bool, true, List, [], ◌∷◌, length, None, refl, ap, sym, ◌∙◌, subst, nat_eq, arith}
 use Rattle.std.specs.Prelude.{not}
 use Rattle.std.specs.List.{list_all}
 use Rattle.std.proofs.Math.Nat.{not-suc-le-zero}
 use Rattle.std.proofs.lemmas.Bool.{lt-ltb, false≢true, and_from}
-use Rattle.std.proofs.lemmas.List.{length-map}
-use Rattle.space_heap.proofs.RangeTests.{clash, both_true, left_true, right_true}
+use Rattle.space_heap.proofs.RangeTests.{both_true, left_true, right_true}
 use Rattle.ialg.specs.declared.refusal.Refusal.TheVariants.{Range, Missing}
 use Rattle.ialg.specs.Refusals.{first_refusal}
 use Rattle.ialg.specs.Meaning.{Meaning}
 use Rattle.lifecycle.specs.States.{Relation}
-use Rattle.sound_machine.specs.State.{State}
 use Rattle.sound_machine.specs.Calls.Call.{Process}
 use Rattle.alg_host.specs.Hosts.{HostState}
 use Rattle.alg_host.specs.Hosts as hosts
@@ -21,7 +19,6 @@ use Rattle.channel_machine.specs.Calls.Call.{Feed}
 use Rattle.channel_machine.proofs.LivingLemmas.{passes_live}
 use Rattle.voice_channel.specs.Channels.{ChannelsState, PassesThrough, Serves}
 use Rattle.voice_channel.proofs.Served.{HoldsOn}
-use Rattle.voice_channel.proofs.Chained.{lives_alike}
 
 -- ---- lists
 
@@ -44,10 +41,6 @@ number_of [] c e = absurd (false≢true e)
 number_of (is ∷ chained) zero e = omega arith
 number_of (is ∷ chained) (suc c) e = let below = number_of chained c e in omega arith
 
-pub in_bounds : {X : Type 0} (f : X → List ℕ) (xs : List X) (chained : List (List ℕ)) (c : ℕ) → map f xs ≡ chained
-    → is_chained (members_at chained c) ≡ true → c < length xs
-in_bounds f xs chained c e some = subst (λ n. c < n) (ap length (sym e) ∙ length-map xs f) (number_of chained c some)
-
 ready_of : {M : Type 0} (before : Channels M) (c : ℕ) → is_chained (members_at before.chained c) ≡ true → channel_refusal before c ≡ None
 ready_of before c some =
     ap (λ b. first_refusal ((not b, Range) ∷ (not (is_chained (members_at before.chained c)), Missing) ∷ []))
@@ -56,21 +49,6 @@ ready_of before c some =
 
 module _ {M : Type 0} (meaning : Meaning M) (idle_keeps active_keeps : Relation M) where
   -- ---- one member
-
-  pub none_left : (block out : List ℤ) (host : HostState M) → out ≡ block → PassesThrough meaning idle_keeps active_keeps [] block out host host
-  none_left block out host e = λ before keeps live. (before, (e, refl), keeps)
-
-  pub nothing_given : (i : ℕ) (is : List ℕ) (block out : List ℤ) (host : HostState M) → block ≡ [] → out ≡ []
-      → PassesThrough meaning idle_keeps active_keeps (i ∷ is) block out host host
-  nothing_given i is block out host empty e =
-      subst (λ b. PassesThrough meaning idle_keeps active_keeps (i ∷ is) b out host host) (sym empty) (λ before keeps live. (before, (e, refl), keeps))
-
-  -- members live, so this isn't so
-  pub nobody_there : (i : ℕ) (is : List ℕ) (block out : List ℤ) (host : HostState M) → hosts.lives host i ≡ false
-      → PassesThrough meaning idle_keeps active_keeps (i ∷ is) block out host host
-  nobody_there i is block out host dead = λ before keeps live.
-      clash (lives before i) (both_true (lives before i) (all_live before is) live).0
-      (lives_alike meaning idle_keeps active_keeps host before keeps i ∙ dead)
 
   pub passes_on : (i : ℕ) (is : List ℕ) (block given out : List ℤ) (old between new : HostState M) → 1 ≤ length block
       → hosts.Serves meaning idle_keeps active_keeps (Process i block given) old between

@@ -39,6 +39,7 @@ fn pass<M: Ialg>(host: &mut Host<M>, members: &[u8], block: &[i16], out: &mut Bl
     if block.is_empty() {
         return;
     }
+    // Members live in every state that the channels keep, so this is never so.
     if !host.living(*member) {
         return;
     }

@@ -1,4 +1,4 @@
-use Rattle.std.proofs.Common.{◌≡◌, ◌≤◌, ◌∷◌, length, arith, subst, sym}
+use Rattle.std.proofs.Common.{◌≤◌, length, arith, subst, sym}
 use Rattle.voice_channel.specs.Channels.{PassesThrough}
 use Rattle.voice_channel.proofs.Fed.{passes_on}
 use Rattle.voice_channel.proofs.feeding.+pass.Goals as goal
