@@ -1,1 +1,3 @@
 pub mod Served
+pub mod Chained
+pub mod Fed

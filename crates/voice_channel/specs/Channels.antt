@@ -1,11 +1,12 @@
 -- What channels are, and when they keep a state of the machine.
-use Rattle.std.specs.Prelude.{ℕ, ◌≡◌, List}
+use Rattle.std.specs.Prelude.{ℕ, ℤ, ◌≡◌, true, List}
 use Rattle.ialg.specs.Meaning.{Meaning}
 use Rattle.lifecycle.specs.States.{Relation}
 use Rattle.alg_host.specs.Hosts.{HostState}
 use Rattle.alg_host.specs.Hosts as hosts
-use Rattle.channel_machine.specs.Channels.{Channels}
-use Rattle.channel_machine.specs.Calls.{Call, Does}
+use Rattle.sound_machine.specs.State.{State}
+use Rattle.channel_machine.specs.Channels.{Channels, all_live}
+use Rattle.channel_machine.specs.Calls.{Call, Does, Passes}
 use Rattle.channel_machine.specs.Laws.{AreHeld}
 
 -- a host, and the members of each channel; one that isn't chained has none
@@ -23,3 +24,9 @@ pub record Keeps {M : Type 0} (meaning : Meaning M) (idle_keeps active_keeps : R
 abbrev pub Serves : {M : Type 0} → Meaning M → Relation M → Relation M → Call M → ChannelsState M → ChannelsState M → Type 0
 Serves {M} meaning idle_keeps active_keeps call old new = (before : Channels M) → Keeps meaning idle_keeps active_keeps old before
     → (after : Channels M) × Does meaning before call after × Keeps meaning idle_keeps active_keeps new after
+
+-- whatever state the host kept in which the members live, the block passed through them, and the host keeps what comes after it
+abbrev pub PassesThrough : {M : Type 0} → Meaning M → Relation M → Relation M → List ℕ → (block out : List ℤ) → (old new : HostState M) → Type 0
+PassesThrough {M} meaning idle_keeps active_keeps members block out old new = (before : State M)
+    → hosts.Keeps meaning idle_keeps active_keeps old before → all_live before members ≡ true
+    → (after : State M) × Passes meaning before members block out after × hosts.Keeps meaning idle_keeps active_keeps new after

@@ -4,8 +4,11 @@
 //! there, and the channels keep a state that comes after it. No condition is put on the kinds that the host has.
 #![tactic(auto)]
 
+mod chaining;
 mod channels;
+mod feeding;
 mod host_calls;
+mod lists;
 mod members;
 
 use arrayvec::ArrayVec;

@@ -1,5 +1,5 @@
 //! Which instances are in which channel.
-ghost use Rattle.std.specs.Prelude.{◌≡◌, Ok};
+ghost use Rattle.std.specs.Prelude.{◌≡◌, ◌<◌, Ok, IfNone, length};
 ghost use Rattle.channel_machine.specs.Channels.{Channels as State};
 ghost use Rattle.channel_machine.specs.Steps.{channel_refusal, unless};
 ghost use Rattle.channel_machine.specs.Calls.Call.{Ready};
@@ -20,8 +20,9 @@ fn answered<M>(refusal: Option<Refusal>) -> Result<(), Refusal>
 
 impl<M: Ialg> Channels<M> {
     // Why a channel can't be fed.
-    fn refusal(&self, c: u8) -> Option<Refusal>
-        ensures { (state : State M) → state.chained ≡ self.now.chained → channel_refusal state c ≡ result }
+    pub(crate) fn refusal(&self, c: u8) -> Option<Refusal>
+        ensures refusal { (state : State M) → state.chained ≡ self.now.chained → channel_refusal state c ≡ result }
+        ensures number { IfNone result (c < length self.now.chained) }
     {
         let c = c as usize;
         if c >= self.channels.len() {

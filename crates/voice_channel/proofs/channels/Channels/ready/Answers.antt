@@ -6,7 +6,7 @@ pub returns : goal.returns
 returns g c = record {
   machine = λ before keeps. (
     before,
-    c.answered.ensures before ∙ ap (λ r. unless r before (Ok tt, before)) (sym (c.refusal.ensures before keeps.chained)),
+    c.answered.ensures before ∙ ap (λ r. unless r before (Ok tt, before)) (sym (c.refusal.ensures.refusal before keeps.chained)),
     keeps,
   );
 }
