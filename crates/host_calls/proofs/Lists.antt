@@ -1,5 +1,5 @@
 -- Lists of requests, made one after the other.
-use Rattle.std.proofs.Common.{◌≡◌, ℕ, ℤ, false, zero, suc, ◌<◌, ◌≤◌, List, [], ◌∷◌, ◌++◌, length, map, take, refl, sym, ap, ◌∙◌, subst, arith, set, get_or, append-nil, append_assoc}
+use Rattle.std.proofs.Common.{◌≡◌, ℕ, ℤ, false, zero, suc, ◌+◌, ◌<◌, ◌≤◌, List, [], ◌∷◌, ◌++◌, length, map, take, refl, sym, ap, ◌∙◌, subst, arith, set, get_or, append-nil, append_assoc}
 use Rattle.std.proofs.lemmas.List.{length-map}
 use Rattle.std.specs.List.{flat_map}
 use Rattle.ialg.specs.Meaning.{Meaning}
@@ -28,12 +28,18 @@ pub served_none : {M : Type 0} (meaning : Meaning M) (idle_keeps active_keeps : 
 served_none meaning idle_keeps active_keeps a before keeps = (before, refl, keeps)
 
 -- one request of a list was made
-pub made_more : {M : Type 0} (requests : List (Request M)) (k : ℕ) (r : Request M) → k < length requests
+made_more : {M : Type 0} (requests : List (Request M)) (k : ℕ) (r : Request M) → k < length requests
     → all_made (take (suc k) (set requests k r)) ≡ all_made (take k requests) ++ made r
 made_more [] k r lt = absurd (omega arith)
 made_more (q ∷ qs) zero r lt = append-nil (made r)
 made_more (q ∷ qs) (suc k) r lt =
     ap (λ cs. made q ++ cs) (made_more qs k r (omega arith)) ∙ sym (append_assoc (made q) (all_made (take k qs)) (made r))
+
+pub made_next : {M : Type 0} (requests : List (Request M)) (k : ℕ) (r : Request M) → k < length requests
+    → all_made (take (k + 1) (set requests k r)) ≡ all_made (take k requests) ++ made r
+made_next requests k r lt =
+    let next : k + 1 ≡ suc k = omega arith in
+    ap (λ n. all_made (take n (set requests k r))) next ∙ made_more requests k r lt
 
 pub asked_still : {M : Type 0} (requests : List (Request M)) (k : ℕ) (r d : Request M) → k < length requests → asked r ≡ asked (get_or requests k d)
     → map asked (set requests k r) ≡ map asked requests

@@ -1,6 +1,6 @@
 use Rattle.std.proofs.Common.{◌≡◌, ◌<◌, ◌≤◌, length, refl, sym, ap, ◌∙◌, subst, arith}
 use Rattle.host_calls.specs.Requests.{all_made, AreServed}
-use Rattle.host_calls.proofs.Lists.{as_many, asked_still, made_more, served_more, served_none, take_all}
+use Rattle.host_calls.proofs.Lists.{as_many, asked_still, made_next, served_more, served_none, take_all}
 use Rattle.host_calls.proofs.calls.make_all.Goals as goal
 
 pub loop-k-init : goal.loop-k-init
@@ -20,7 +20,7 @@ loop-k-preserved g c =
     record {
       same = same;
       count = as_many c.args.requests.now _ same;
-      served = subst (λ cs. AreServed g.M.Ialg.meaning g.M.Ialg.idle_keeps g.M.Ialg.active_keeps cs c.args.host.now c.make.new.host) (sym (made_more requests k made_now lt))
+      served = subst (λ cs. AreServed g.M.Ialg.meaning g.M.Ialg.idle_keeps g.M.Ialg.active_keeps cs c.args.host.now c.make.new.host) (sym (made_next requests k made_now lt))
           (served_more g.M.Ialg.meaning g.M.Ialg.idle_keeps g.M.Ialg.active_keeps _ _ _ _ _ c.loop-k.invariant.served c.make.ensures.served);
     }
 
