@@ -142,7 +142,7 @@ fn a_scribbler_spoils_no_neighbour(rt: HostRuntime) {
     }
 }
 
-// A filter is refused for want of room in this space. A coder without scratch records goes where there are words.
+// A filter is refused for want of room in this space, and nothing is there then.
 fn is_full(rt: &impl Abort, host: &mut Host<Trial>, space: Space) {
     assert!(rt; is_refused(rt, host, 0, FIR, &[1], Refusal::Room(space)));
     assert!(rt; is_map(host, Space::Daram, &[]));
