@@ -12,7 +12,7 @@ use Rattle.placed_instances.specs.Standing.{AreStanding}
 use Rattle.sound_machine.specs.State.{State}
 use Rattle.sound_machine.specs.Calls.{Call, Does}
 use Rattle.kept_moves.specs.Hosts.{HostKeeps}
-use Rattle.alg_host.specs.declared.groups.Stat.{Stat}
+use Rattle.scratch_group.specs.declared.group.Stat.{Stat}
 
 -- the tables of instances, of write-once pieces and of groups, the three spaces, and the poison word, if there is one
 pub record HostState (M : Type 0) : Type 0 where

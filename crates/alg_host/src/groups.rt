@@ -8,14 +8,7 @@ use ialg::{Ialg, Refusal};
 use instance_table::GROUPS;
 use kept_machine::put_to_rest;
 use placed_instances::places_stay;
-
-/// The number of a group's active member, if one is active, and how often a member of the group was activated; this count stays at the
-/// greatest `u32`.
-#[derive(Clone, Copy, PartialEq, Eq, Debug)]
-pub struct Stat {
-    pub active: Option<u8>,
-    pub activations: u32,
-}
+use scratch_group::Stat;
 
 impl<M: Ialg> Host<M> {
     /// Deactivates the active member of the group, and says whether there was one. The count of activations stays.

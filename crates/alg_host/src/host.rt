@@ -1,8 +1,8 @@
 //! The host: how it is made.
-ghost use Rattle.std.specs.Prelude.{◌≡◌, IfOk, IfErr, IsErrOf};
+ghost use Rattle.std.specs.Prelude.{◌≡◌, ℕ, false, IfOk, IfErr, IsErrOf};
 ghost use Rattle.host_spaces.specs.Picture.{AreSizes};
 ghost use Rattle.sound_machine.specs.State.{new_state};
-ghost use Rattle.alg_host.specs.Hosts.{Keeps};
+ghost use Rattle.alg_host.specs.Hosts.{Keeps, lives};
 
 use host_spaces::{Sizes, Spaces, StartError};
 use ialg::Ialg;
@@ -45,6 +45,7 @@ impl<M: Ialg> Host<M> {
     pub fn new(alloc: Global, sizes: Sizes, poison: Option<i16>) -> Result<Host<M>, StartError>
         ensures bad_size { ¬ AreSizes sizes → IsErrOf result StartError.BadSize }
         ensures memory { AreSizes sizes → IfErr result (λ e. e ≡ StartError.Memory) }
+        ensures empty { IfOk result (λ h. (i : ℕ) → lives h i ≡ false) }
         ensures host { IfOk result (λ h. Keeps M.meaning M.idle_keeps M.active_keeps h (new_state sizes poison)) }
     {
         let spaces = Spaces::new(alloc, sizes)?;

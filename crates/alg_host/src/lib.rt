@@ -11,8 +11,8 @@ mod groups;
 mod host;
 mod moves;
 
-pub use groups::Stat;
 pub use host::Host;
 // what its calls take and answer
 pub use host_spaces::{Sizes, StartError};
+pub use scratch_group::Stat;
 pub use space_blocks::{Map, Owner, Placed};

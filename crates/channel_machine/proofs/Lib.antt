@@ -2,3 +2,9 @@ pub mod OutcomeLemmas
 pub mod RefusalLemmas
 pub mod LivingLemmas
 pub mod HoldingLemmas
+pub mod AnswerLemmas
+pub mod PoisonLemmas
+pub mod FlowLemmas
+pub mod TurnLemmas
+pub mod FeedLemmas
+pub mod AlikeLemmas

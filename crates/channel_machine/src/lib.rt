@@ -5,8 +5,13 @@
 //! gave. What an instance gives is by its kind's meaning where it is lawful, and free where it isn't.
 #![tactic(auto)]
 
+mod cuts;
 mod laws;
 mod outcomes;
 
-pub use laws::{members_live_in_one_channel, refused_calls_change_nothing};
+pub use cuts::{controls_agree_where_all_is_alike, cuts_do_not_show};
+pub use laws::{
+    lawful_calls_are_computed, members_live_in_one_channel, poison_words_change_nothing,
+    refused_calls_change_nothing,
+};
 pub use outcomes::{chains_answer_in_order, deletions_answer_in_order, unchains_answer_in_order};

@@ -2,15 +2,17 @@
 use crate::PORT_PAIRS;
 use arrayvec::ArrayVec;
 use clap::Error;
-use dsp_console::Sizes;
+use host_spaces::Sizes;
 
 /// What a command line asks: the paths of the script and of the ports, and the options.
 #[derive(Drop)]
 pub struct Arguments<'a> {
     pub script: &'a str,
+    /// In words of 16 bits, as they are given, whether a space can have so many or not.
     pub sizes: Sizes,
+    /// What new and resting memory is filled with, if with anything.
     pub poison: Option<i16>,
-    /// Each input with its output; for the time being there is one pair.
+    /// Each channel's input and output, from channel 0.
     pub ports: ArrayVec<(&'a str, &'a str), PORT_PAIRS>,
 }
 

@@ -1,11 +1,13 @@
 //! The words of the command line.
-ghost use Rattle.std.specs.Prelude.{◌≡◌, ◌*◌, length, map, is_some, nat_eq, IfOk, IfSome};
+ghost use Rattle.std.specs.Prelude.{◌≡◌, ◌≤◌, ◌*◌, ◌%◌, length, is_some, IfOk, IfSome};
+ghost use Rattle.std.specs.List.{flat_map};
+ghost use Rattle.dsp_arguments.specs.Pairs.{is_pairs, both};
 
 use crate::PORT_PAIRS;
 use crate::asked::{ArgFault, Arguments};
 use arrayvec::ArrayVec;
 use clap::{Arg, ArgAction, ArgMatches, Command, Error};
-use dsp_console::{CHANNELS, Sizes};
+use host_spaces::Sizes;
 use space_heap::SPACE_WORDS;
 use std::alloc::Global;
 
@@ -13,7 +15,10 @@ use std::alloc::Global;
 fn space_option(alloc: Global, space: &'static str) -> Arg<'static> {
     Arg::new(alloc, space)
         .long(space)
-        .help("The words of the space, 65536 if not given")
+        .value_name("WORDS")
+        .help(
+            "The size of the space in words of 16 bits: 0 to 65536, a multiple of 4; without it 65536",
+        )
         .action(ArgAction::Set)
         .value_parser(clap::value_parser!(u32))
 }
@@ -22,19 +27,26 @@ fn space_option(alloc: Global, space: &'static str) -> Arg<'static> {
 fn matches<'a>(alloc: Global, words: &'a [&'a str]) -> Result<ArgMatches<'a>, Error> {
     let poison = Arg::new(alloc, "poison")
         .long("poison")
-        .help("The bits of the word that memory is filled with")
+        .value_name("WORD")
+        .help(
+            "Fill new and resting memory with this word of 16 bits: 0 to 65535; without it nothing is filled",
+        )
         .action(ArgAction::Set)
         .value_parser(clap::value_parser!(u16));
     let script = Arg::new(alloc, "SCRIPT")
-        .help("The commands, a line each")
+        .help("The file of commands, a line each")
         .required(true)
         .action(ArgAction::Set);
     let ports = Arg::new(alloc, "PORTS")
-        .help("The samples of each channel: a file to read and one to write")
+        .value_name("IN OUT")
+        .help(
+            "1 to 16 pairs of files of samples of 16 bits, the low octet first: pair n, from 0 on, is what channel n reads and what it writes",
+        )
         .num_args(0..)
         .action(ArgAction::Append);
     Command::new(alloc, "dsp_console")
         .no_binary_name(true)
+        .override_usage("dsp_console [OPTIONS] <SCRIPT> <IN OUT> [IN OUT]...")
         .arg(space_option(alloc, "daram"))?
         .arg(space_option(alloc, "saram"))?
         .arg(space_option(alloc, "external"))?
@@ -49,22 +61,37 @@ fn size_of(matches: &ArgMatches<'_>, space: &str) -> u32 {
     matches.get_one(space).unwrap_or(SPACE_WORDS)
 }
 
-/// The words in pairs, where they are one pair.
-fn pairs<'a>(words: &[&'a str]) -> Option<ArrayVec<(&'a str, &'a str), PORT_PAIRS>>
-    ensures fits { is_some result ≡ nat_eq (length words.now) (2 * CHANNELS) }
-    ensures one { IfSome result (λ ports. length ports.items ≡ CHANNELS) }
+/// The words in pairs, in their order.
+fn paired<'a>(words: &[&'a str]) -> ArrayVec<(&'a str, &'a str), PORT_PAIRS>
+    requires even { length words.now % 2 ≡ 0 }
+    requires few { length words.now ≤ 2 * PORT_PAIRS }
+    ensures order { flat_map both result.items ≡ words.now }
+    ensures count { 2 * length result.items ≡ length words.now }
 {
-    let [input, output] = words else {
-        return None;
-    };
-    let mut ports = ArrayVec::new();
-    ports.push((*input, *output));
-    Some(ports)
+    let mut ports: ArrayVec<(&'a str, &'a str), PORT_PAIRS> = ArrayVec::new();
+    for pair in words.chunks_exact(2) {
+        ports.push((pair[0], pair[1]));
+    }
+    ports
 }
 
-/// Parses the words of a command line, the program's name not among them.
+/// The words in pairs, where they are 1 to [`PORT_PAIRS`] pairs.
+fn pairs<'a>(words: &[&'a str]) -> Option<ArrayVec<(&'a str, &'a str), PORT_PAIRS>>
+    ensures fits { is_some result ≡ is_pairs (length words.now) }
+    ensures order { IfSome result (λ ports. flat_map both ports.items ≡ words.now) }
+    ensures some { IfSome result (λ ports. 1 ≤ length ports.items) }
+{
+    if words.is_empty() || words.len() % 2 != 0 || words.len() > 2 * PORT_PAIRS {
+        return None;
+    }
+    Some(paired(words))
+}
+
+/// Parses the words of a command line, the program's name not among them: options, SCRIPT, and the ports behind it in pairs.
+///
+/// [`ArgFault::Ports`] is for any other count of ports than 1 to [`PORT_PAIRS`] pairs, [`ArgFault::Clap`] for what `clap` refuses, and for `--help`.
 pub fn arguments<'a>(alloc: Global, words: &'a [&'a str]) -> Result<Arguments<'a>, ArgFault>
-    ensures { IfOk result (λ a. length a.ports.items ≡ CHANNELS) }
+    ensures { IfOk result (λ a. 1 ≤ length a.ports.items) }
 {
     let matches = match matches(alloc, words) {
         Ok(matches) => matches,

@@ -1,6 +1,7 @@
 //! Which word of a command line becomes which field, and what is refused.
 use crate::{ArgFault, arguments};
-use dsp_console::Sizes;
+use clap::error::ErrorKind;
+use host_spaces::Sizes;
 use std::process::Abort;
 use std::test::Fail;
 
@@ -86,8 +87,102 @@ fn refuses_arguments(rt: HostRuntime) -> Result<(), Fail> {
     ] {
         assert!(rt; refused(&rt, line)? == Some(true));
     }
-    for line in ["s", "s a", "s a b c", "s a b c d"] {
+    for line in ["s", "s a", "s a b c"] {
         assert!(rt; refused(&rt, line)? == Some(false));
+    }
+    Ok(())
+}
+
+/// Seventeen pairs, one more than are taken.
+const PAIRS: [(&str, &str); 17] = [
+    ("i0", "o0"),
+    ("i1", "o1"),
+    ("i2", "o2"),
+    ("i3", "o3"),
+    ("i4", "o4"),
+    ("i5", "o5"),
+    ("i6", "o6"),
+    ("i7", "o7"),
+    ("i8", "o8"),
+    ("i9", "o9"),
+    ("i10", "o10"),
+    ("i11", "o11"),
+    ("i12", "o12"),
+    ("i13", "o13"),
+    ("i14", "o14"),
+    ("i15", "o15"),
+    ("i16", "o16"),
+];
+
+/// A command line with the script `s` and these pairs.
+fn line_with<R: AllocGlobal>(
+    rt: &R,
+    pairs: &[(&'static str, &'static str)],
+) -> Result<Vec<&'static str>, Fail> {
+    let mut words = Vec::new(rt.alloc());
+    words.push("s")?;
+    for (input, output) in pairs {
+        words.push(*input)?;
+        words.push(*output)?;
+    }
+    Ok(words)
+}
+
+#[test]
+fn pair_n_is_of_channel_n(rt: HostRuntime) -> Result<(), Fail> {
+    for count in [1, 2, 16] {
+        let words = line_with(&rt, &PAIRS[..count])?;
+        let Ok(given) = arguments(rt.alloc(), words.as_slice()) else {
+            panic!(rt; "refused");
+        };
+        assert!(rt; given.script == "s" && given.ports.as_slice() == &PAIRS[..count]);
+    }
+    Ok(())
+}
+
+#[test]
+fn no_port_and_seventeen_pairs_are_refused(rt: HostRuntime) -> Result<(), Fail> {
+    for count in [0, 17] {
+        let words = line_with(&rt, &PAIRS[..count])?;
+        assert!(rt;
+            matches!(
+                arguments(rt.alloc(), words.as_slice()),
+                Err(ArgFault::Ports)
+            )
+        );
+    }
+    Ok(())
+}
+
+#[test]
+fn an_odd_count_of_ports_is_refused(rt: HostRuntime) -> Result<(), Fail> {
+    for count in [1, 2, 16, 17] {
+        let mut words = line_with(&rt, &PAIRS[..count])?;
+        words.pop();
+        assert!(rt;
+            matches!(
+                arguments(rt.alloc(), words.as_slice()),
+                Err(ArgFault::Ports)
+            )
+        );
+    }
+    Ok(())
+}
+
+#[test]
+fn help_names_the_words_and_their_units(rt: HostRuntime) -> Result<(), Fail> {
+    let Err(ArgFault::Clap(help)) = arguments(rt.alloc(), &["--help"]) else {
+        panic!(rt; "no help");
+    };
+    assert!(rt; help.kind() == ErrorKind::DisplayHelp);
+    let shown = format!(in rt.alloc(); "{help}")?;
+    for part in [
+        "Usage: dsp_console [OPTIONS] <SCRIPT> <IN OUT> [IN OUT]...\n",
+        "  [IN OUT]...  1 to 16 pairs of files of samples of 16 bits, the low octet first",
+        "--daram <WORDS>     The size of the space in words of 16 bits: 0 to 65536, a multiple of 4",
+        "--poison <WORD>     Fill new and resting memory with this word of 16 bits: 0 to 65535",
+    ] {
+        assert!(rt; shown.contains(part));
     }
     Ok(())
 }

@@ -1,5 +1,3 @@
-pub mod ConsoleLemmas
-pub mod KindLemmas
-pub mod SampleLemmas
-pub mod RowLemmas
-pub mod SlotLemmas
+pub mod LawfulLemmas
+pub mod LivesLemmas
+pub mod StartLemmas

@@ -1,44 +1,30 @@
 //! Runs of the engine.
-ghost use Rattle.std.specs.Prelude.{◌≡◌, ◌+◌, ◌⊎◌, ◌↔◌, IsTrue, true, false, map, length, IfOk, IsErrOf};
-ghost use Rattle.std.specs.Result.{is_err};
+ghost use Rattle.std.specs.Prelude.{◌≡◌, ◌+◌, ◌≤◌, ◌⊎◌, ◌↔◌, false, map, length, All, IfOk, IfErr, IsErrOf};
 ghost use Rattle.octet_ports.specs.Ports.{GivesWithin};
-ghost use Rattle.dsp_console.specs.Sizes.{AreSpaceSizes};
-ghost use Rattle.dsp_console.specs.Servable.{IsServable};
-ghost use Rattle.dsp_console.specs.Console.{machine_of, start};
-ghost use Rattle.script_server.specs.Runs.{AreReady, EndsWell, EndsByRead, EndsByWrite, IsUnused, known_of, octets_to_come};
+ghost use Rattle.host_spaces.specs.Picture.{AreSizes};
+ghost use Rattle.sound_machine.specs.Answers.{AreLawful};
+ghost use Rattle.console_machine.specs.Console.{console_machine, start};
+ghost use Rattle.script_server.specs.Runs.{AreReady, EndsWell, EndsByRead, EndsByWrite, IsHonest, IsUnused, known_of, octets_to_come, run_of};
+ghost use Rattle.voice_console.specs.Consoles.{Keeps, channels_of};
+ghost use Rattle.dsp_console.specs.Fresh.{fresh};
+ghost use Rattle.dsp_console.specs.Lawful.{ServesLawfully};
 
-use crate::console::Console;
-use crate::limits::CHANNELS;
+use alg_host::{Host, Sizes, StartError};
+use console_machine::lawful_consoles_serve_one_answer;
 use ialg::{Ialg, Named};
 use octet_ports::{PortIn, PortOut};
 use script_server::{PortsFault, SCRIPT_OCTETS, serve};
-use space_heap::is_space_size;
 use std::alloc::Global;
 use thiserror::Error;
-
-/// How many words each space has.
-#[derive(Clone, Copy, PartialEq, Eq, Debug)]
-pub struct Sizes {
-    pub daram: u32,
-    pub saram: u32,
-    pub external: u32,
-}
-
-impl Sizes {
-    /// Whether each space may have its words.
-    fn are_valid(&self) -> bool
-        ensures { IsTrue result ↔ AreSpaceSizes self.now }
-    {
-        is_space_size(self.daram) && is_space_size(self.saram) && is_space_size(self.external)
-    }
-}
+use voice_channel::CHANNELS;
+use voice_console::Console;
 
 /// What a run is told beside its ports.
 #[derive(Clone, Copy, PartialEq, Eq, Debug)]
 pub struct Config {
     /// The sizes of the spaces.
     pub sizes: Sizes,
-    /// The word that new records and resting scratch are filled with. It has no effect yet.
+    /// The word that each new block is filled with, and a group's blocks whenever a member is deactivated; without it nothing is filled.
     pub poison: Option<i16>,
 }
 
@@ -66,14 +52,47 @@ pub struct Summary {
     pub refused: u64,
 }
 
-/// Serves the lines of the script in order, over one pair of ports.
+/// Serves the script by a console that was just made.
+fn serve_console<M: Ialg + Named, S: PortIn, I: PortIn, O: PortOut, P: PortOut>(
+    console: &mut Console<M>,
+    script: &mut S,
+    inputs: &mut Vec<I>,
+    outputs: &mut Vec<O>,
+    replies: &mut P,
+) -> Result<Summary, Fault>
+    requires kept { Keeps M.meaning M.idle_keeps M.active_keeps console.old (fresh console.old (map I.source inputs.old.items)) }
+    requires script { (S.source script.old).failed ≡ false }
+    requires one { length inputs.old.items ≡ channels_of console.old }
+    requires pairs { length outputs.old.items ≡ channels_of console.old }
+    requires ready { AreReady (map I.source inputs.old.items) (map O.sink outputs.old.items) (P.sink replies.old) }
+    ensures few { GivesWithin (SCRIPT_OCTETS + 1) (S.source script.old) (S.source script.new) }
+    ensures used { IfErr result (λ fault. (fault ≡ Fault.Read) ⊎ (fault ≡ Fault.Write)) }
+    ensures ok { IfOk result (λ summary. EndsWell (console_machine M.meaning M.named) (run_of (fresh console.old (map I.source inputs.old.items)) (map I.source inputs.old.items)) summary.refused
+        (known_of S.source I.source O.sink P.sink script.old inputs.old.items outputs.old.items replies.old)
+        (known_of S.source I.source O.sink P.sink script.new inputs.new.items outputs.new.items replies.new)) }
+    ensures read { IsErrOf result Fault.Read → EndsByRead (console_machine M.meaning M.named) (run_of (fresh console.old (map I.source inputs.old.items)) (map I.source inputs.old.items))
+        (known_of S.source I.source O.sink P.sink script.old inputs.old.items outputs.old.items replies.old)
+        (known_of S.source I.source O.sink P.sink script.new inputs.new.items outputs.new.items replies.new) }
+    ensures write { IsErrOf result Fault.Write → EndsByWrite (console_machine M.meaning M.named) (run_of (fresh console.old (map I.source inputs.old.items)) (map I.source inputs.old.items))
+        (known_of S.source I.source O.sink P.sink script.old inputs.old.items outputs.old.items replies.old)
+        (known_of S.source I.source O.sink P.sink script.new inputs.new.items outputs.new.items replies.new) }
+{
+    match serve(console, script, inputs, outputs, replies) {
+        Ok(refused) => Ok(Summary { refused }),
+        Err(PortsFault::Read) => Err(Fault::Read),
+        Err(PortsFault::Write) => Err(Fault::Write),
+    }
+}
+
+/// Serves the lines of the script in order, over 1 to 16 pairs of ports: the n-th input and the n-th output are channel n's, from 0.
 ///
 /// A feed reads its samples from the channel's input, writes what the channel gives to the channel's output, and then its
 /// reply; it is refused as short at the input's end, and what was read of it is gone. Every other command writes its reply
-/// alone. At the end the output and then the replies are flushed. A fault ends the run.
+/// alone. At the end the outputs in ascending number and then the replies are flushed. A fault ends the run.
 ///
-/// The three sizes are checked first, and memory is asked for next; no device is used before both. Each kind has to keep
-/// the laws of `Ialg` for all parameters, and its tables have to fit an instance's slots.
+/// The three sizes are checked first, and memory is asked for next; no device is used before both. No condition is put on the kinds:
+/// what is served is an answer that the machine of `console_machine` may give, and where every kind is lawful the one that it gives,
+/// in which the poison word doesn't occur.
 ///
 /// After `Read` or `Write` what was served before stands in the outputs and the replies, and the port that failed says so.
 pub fn run<M: Ialg + Named, S: PortIn, I: PortIn, O: PortOut, P: PortOut>(
@@ -84,15 +103,15 @@ pub fn run<M: Ialg + Named, S: PortIn, I: PortIn, O: PortOut, P: PortOut>(
     outputs: &mut Vec<O>,
     replies: &mut P,
 ) -> Result<Summary, Fault>
-    requires servable { IsServable M.meaning }
     requires script { (S.source script.old).failed ≡ false }
-    requires one { length inputs.old.items ≡ CHANNELS }
-    requires pairs { length outputs.old.items ≡ CHANNELS }
+    requires some { 1 ≤ length inputs.old.items }
+    requires few { length inputs.old.items ≤ CHANNELS }
+    requires pairs { length outputs.old.items ≡ length inputs.old.items }
     requires ready { AreReady (map I.source inputs.old.items) (map O.sink outputs.old.items) (P.sink replies.old) }
 
     // Before any device is used.
-    ensures size { IsErrOf result Fault.Size ↔ (¬ AreSpaceSizes config.sizes) }
-    ensures sizes { IsErrOf result Fault.Size ⊎ AreSpaceSizes config.sizes }
+    ensures size { IsErrOf result Fault.Size ↔ (¬ AreSizes config.sizes) }
+    ensures sizes { IsErrOf result Fault.Size ⊎ AreSizes config.sizes }
     ensures unused { IsErrOf result Fault.Size ⊎ IsErrOf result Fault.Memory
         → IsUnused script.old script.new inputs.old inputs.new outputs.old outputs.new replies.old replies.new }
 
@@ -100,25 +119,30 @@ pub fn run<M: Ialg + Named, S: PortIn, I: PortIn, O: PortOut, P: PortOut>(
     ensures few { GivesWithin (SCRIPT_OCTETS + 1) (S.source script.old) (S.source script.new) }
 
     // Between honest ports what is served is written: all of it, or that of exactly the lines that were begun.
-    ensures ok { IfOk result (λ summary. EndsWell (machine_of M.meaning M.named) (start (octets_to_come (map I.source inputs.old.items))) summary.refused
+    ensures ok { IfOk result (λ summary. EndsWell (console_machine M.meaning M.named) (start config.sizes config.poison (octets_to_come (map I.source inputs.old.items))) summary.refused
         (known_of S.source I.source O.sink P.sink script.old inputs.old.items outputs.old.items replies.old)
         (known_of S.source I.source O.sink P.sink script.new inputs.new.items outputs.new.items replies.new)) }
-    ensures read { IsErrOf result Fault.Read → EndsByRead (machine_of M.meaning M.named) (start (octets_to_come (map I.source inputs.old.items)))
+    ensures read { IsErrOf result Fault.Read → EndsByRead (console_machine M.meaning M.named) (start config.sizes config.poison (octets_to_come (map I.source inputs.old.items)))
         (known_of S.source I.source O.sink P.sink script.old inputs.old.items outputs.old.items replies.old)
         (known_of S.source I.source O.sink P.sink script.new inputs.new.items outputs.new.items replies.new) }
-    ensures write { IsErrOf result Fault.Write → EndsByWrite (machine_of M.meaning M.named) (start (octets_to_come (map I.source inputs.old.items)))
+    ensures write { IsErrOf result Fault.Write → EndsByWrite (console_machine M.meaning M.named) (start config.sizes config.poison (octets_to_come (map I.source inputs.old.items)))
         (known_of S.source I.source O.sink P.sink script.old inputs.old.items outputs.old.items replies.old)
         (known_of S.source I.source O.sink P.sink script.new inputs.new.items outputs.new.items replies.new) }
+
+    // Where the kinds are lawful, nothing is free, and the poison word tells nothing.
+    ensures lawful { AreLawful M.meaning config.poison → IsHonest (S.source script.old) → All IsHonest (map I.source inputs.old.items)
+        → IfOk result (λ summary. ServesLawfully M.meaning M.named config.sizes summary.refused
+        (known_of S.source I.source O.sink P.sink script.old inputs.old.items outputs.old.items replies.old)
+        (known_of S.source I.source O.sink P.sink script.new inputs.new.items outputs.new.items replies.new)) }
 {
-    if !config.sizes.are_valid() {
-        return Err(Fault::Size);
-    }
-    let Ok(mut console) = Console::<M>::new(alloc) else {
-        return Err(Fault::Memory);
+    lawful_consoles_serve_one_answer::<M>();
+    let host = match Host::<M>::new(alloc, config.sizes, config.poison) {
+        Ok(host) => host,
+        Err(StartError::BadSize) => return Err(Fault::Size),
+        Err(StartError::Memory) => return Err(Fault::Memory),
     };
-    match serve(&mut console, script, inputs, outputs, replies) {
-        Ok(refused) => Ok(Summary { refused }),
-        Err(PortsFault::Read) => Err(Fault::Read),
-        Err(PortsFault::Write) => Err(Fault::Write),
-    }
+    let mut console = Console::new(host, inputs.len() as u8);
+    let served = serve_console(&mut console, script, inputs, outputs, replies);
+    console.close();
+    served
 }

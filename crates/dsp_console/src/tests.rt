@@ -1,16 +1,18 @@
 //! Runs over tapes and over devices that fail, and a caller that is proved from the contracts alone.
 ghost use Rattle.std.specs.Prelude.{◌≡◌, ◌<◌, ◌∷◌, [], None, Some, IfOk};
-ghost use Rattle.script_server.specs.Served.{held_by, order_of, refusals};
-ghost use Rattle.dsp_console.specs.Console.{served};
-ghost use Rattle.dsp_console.specs.Kinds.{kind_meaning, kind_named};
+ghost use Rattle.line_machine.specs.Served.{held_by, order_of, refusals};
+ghost use Rattle.console_machine.specs.Answers.{served};
+ghost use Rattle.voice_set.specs.Voices.{voice_meaning, voice_named};
+ghost use Rattle.dsp_console.specs.declared.tests.TheConstants.{FULL};
 
-use crate::{Config, Fault, Kind, Sizes, Summary, kinds_are_servable, outcome, run};
+use crate::{Config, Fault, Sizes, Summary, outcome, run};
 use arrayvec::ArrayVec;
 use octet_ports::{PortIn, PortOut, Reading, TapeIn, TapeOut, Writing};
 use shaky_device::{HELD_OCTETS, Shaky};
 use std::alloc::{AllocError, Global};
 use std::process::Abort;
 use std::test::Fail;
+use voice_set::{Voice, voices_are_lawful};
 
 const NEVER: u64 = u64::MAX;
 
@@ -83,7 +85,7 @@ fn compare<R: Abort + AllocGlobal>(
     let mut inputs = vec![in rt.alloc(); TapeIn::new(input, step, fuses.input)]?;
     let mut outputs = vec![in rt.alloc(); TapeOut::new(step, fuses.output)]?;
     let mut replies = TapeOut::new(step, fuses.replies);
-    let answer = run::<Kind, _, _, _, _>(
+    let answer = run::<Voice, _, _, _, _>(
         rt.alloc(),
         Config { sizes, poison },
         &mut script,
@@ -170,10 +172,10 @@ fn rows() -> [Row; 9] {
         },
         // The refusals, in their order.
         Row {
-            script: b"create 64 fir 0 1\ncreate 999 fir 0 1\ncreate 0 fir 8 1\ncreate 0 fir 0 1\ncreate 0 fir 0\ncreate 1 fir 0\ncreate 1 flute 0 1\ncreate 1 fir 0 40000\ncreate 999 fir 0 x\nfeed 0 0\nfeed 0 257\nfeed 0 +1\nfeed 999\nfeed -0 1\nfeed 1 1\nchain 0 1\nchain 0 64\nchain 1 0\nchain 0 0\nchain 0 5\nchain 0 0 0\nfeed 0 99999999999999999999999999\n",
+            script: b"create 64 fir 0 1\ncreate 999 fir 0 1\ncreate 0 fir 8 1\ncreate 0 fir 0 1\ncreate 0 fir 0\ncreate 1 fir 0\ncreate 1 flute 0 1\ncreate 1 fir 0 40000\ncreate 999 fir 0 x\nfeed 0 0\nfeed 0 257\nfeed 0 +1\nfeed 999\nfeed -0 1\nfeed 1 1\nchain 0 1\nchain 0 64\nchain 1 0\nchain 0 0\nchain 0 5\nunchain 0\nchain 0 0 0\nfeed 0 99999999999999999999999999\n",
             input: b"",
             output: b"",
-            replies: b"no 3 range\nno 3 range\nno 3 range\nok\nno 4 taken\nno 6 params\nno 2 syntax\nno 3 range\nno 2 syntax\nno 3 range\nno 3 range\nno 2 syntax\nno 2 syntax\nno 5 missing\nno 3 range\nno 5 missing\nno 3 range\nno 3 range\nok\nno 4 taken\nno 2 syntax\nno 3 range\n",
+            replies: b"no 3 range\nno 3 range\nno 3 range\nok\nno 4 taken\nno 6 params\nno 2 syntax\nno 3 range\nno 2 syntax\nno 3 range\nno 3 range\nno 2 syntax\nno 2 syntax\nno 5 missing\nno 3 range\nno 5 missing\nno 3 range\nno 3 range\nok\nno 4 taken\nok\nno 8 busy\nno 3 range\n",
             refused: 20,
         },
         Row {
@@ -209,6 +211,41 @@ fn serves_rows(rt: HostRuntime) -> Result<(), Fail> {
             };
             compare(&rt, setting, row.script, row.input, &wanted)?;
         }
+    }
+    Ok(())
+}
+
+/// Two filters of one group by turns, each fed by its own channel, in a space that has room for one scratch block.
+const BY_TURNS: &[u8] =
+    b"create 0 fir 0 16384 16384\ncreate 1 fir 0 16384 16384\nchain 0 0\nchain 1 1\nfeed 0 1\nfeed 1 1\nfeed 0 1\nfeed 1 1\nstat 0\nmap daram\nrelease 0\nrelease 0\nstat 0\n";
+
+const BY_TURNS_REPLIES: &[u8] =
+    b"ok\nok\nok\nok\nok 1\nok 1\nok 1\nok 1\nok 1 4\nok g0@0+260\nok 1\nok 0\nok - 4\n";
+
+#[test]
+fn channels_have_their_own_ports(rt: HostRuntime) -> Result<(), Fail> {
+    let sizes = Sizes { daram: 260, ..FULL };
+    for poison in [None, Some(21_845), Some(-1)] {
+        let mut script = TapeIn::new(BY_TURNS, WIDE, NEVER);
+        let mut inputs = vec![in rt.alloc();
+            TapeIn::new(b"\x02\x00\x04\x00", 1, NEVER),
+            TapeIn::new(b"\x0a\x00\x14\x00", WIDE, NEVER),
+        ]?;
+        let mut outputs = vec![in rt.alloc(); TapeOut::new(WIDE, NEVER), TapeOut::new(1, NEVER)]?;
+        let mut replies = TapeOut::new(WIDE, NEVER);
+        let answer = run::<Voice, _, _, _, _>(
+            rt.alloc(),
+            Config { sizes, poison },
+            &mut script,
+            &mut inputs,
+            &mut outputs,
+            &mut replies,
+        );
+        assert!(rt; answer == Ok(Summary { refused: 0 }));
+        assert!(rt; outputs.len() == 2);
+        assert!(rt; outputs[0].held() == b"\x01\x00\x03\x00".as_slice());
+        assert!(rt; outputs[1].held() == b"\x05\x00\x0f\x00".as_slice());
+        assert!(rt; replies.held() == BY_TURNS_REPLIES);
     }
     Ok(())
 }
@@ -423,7 +460,7 @@ fn run_shaky(alloc: Global, fuses: Fuses) -> Result<Option<Seen>, AllocError> {
         sizes: FULL,
         poison: None,
     };
-    let answer = run::<Kind, _, _, _, _>(
+    let answer = run::<Voice, _, _, _, _>(
         alloc,
         config,
         &mut script,
@@ -518,11 +555,11 @@ struct Served {
 
 // Devices over memory: from the contracts alone the vectors hold what is served for the octets.
 fn serve_octets(alloc: Global, script: &[u8], input: &[u8]) -> Result<Served, Fault>
-    ensures output { IfOk result (λ run. run.output.items ≡ held_by (Some 0) (order_of (served kind_meaning kind_named script.now (input.now ∷ [])).written)) }
-    ensures replies { IfOk result (λ run. run.replies.items ≡ held_by None (order_of (served kind_meaning kind_named script.now (input.now ∷ [])).written)) }
-    ensures refused { IfOk result (λ run. refusals (served kind_meaning kind_named script.now (input.now ∷ [])).written ≡ run.refused) }
+    ensures output { IfOk result (λ run. run.output.items ≡ held_by (Some 0) (order_of (served voice_meaning voice_named FULL script.now (input.now ∷ [])).written)) }
+    ensures replies { IfOk result (λ run. run.replies.items ≡ held_by None (order_of (served voice_meaning voice_named FULL script.now (input.now ∷ [])).written)) }
+    ensures refused { IfOk result (λ run. refusals (served voice_meaning voice_named FULL script.now (input.now ∷ [])).written ≡ run.refused) }
 {
-    kinds_are_servable();
+    voices_are_lawful();
     let mut lines = Reading::new(script);
     let Ok(mut inputs) = vec![in alloc; Reading::new(input)] else {
         return Err(Fault::Memory);
@@ -535,7 +572,7 @@ fn serve_octets(alloc: Global, script: &[u8], input: &[u8]) -> Result<Served, Fa
         sizes: FULL,
         poison: None,
     };
-    let summary = run::<Kind, _, _, _, _>(
+    let summary = run::<Voice, _, _, _, _>(
         alloc,
         config,
         &mut lines,

@@ -1,43 +1,84 @@
 //! The program: opens the files of the command line, serves the script over them, and ends with the run's status.
 #![tactic(auto)]
 
-ghost use Rattle.std.specs.Prelude.{◌≡◌, length};
+ghost use Rattle.std.specs.Prelude.{◌≡◌, ◌+◌, ◌≤◌, length, map, All, IfOk, IsOk};
+ghost use Rattle.script_server.specs.Runs.{IsReadyIn, IsReadyOut};
 
 #[cfg(test)]
 mod tests;
 
 use clap::error::ErrorKind;
 use dsp_arguments::{ArgFault, Arguments, arguments};
-use dsp_console::{Config, Fault, Kind, Reading, Summary, Writing, outcome, run};
+use dsp_console::{Config, Fault, PortIn, PortOut, Reading, Summary, Writing, outcome, run};
 use std::env;
 use std::fs::File;
 use std::io::{self, BufReader};
 use std::process::ExitCode;
+use voice_set::Voice;
 
 /// The status where the command line isn't taken.
 const USAGE: u8 = 2;
 
-/// Serves the script over the files. SCRIPT and IN are read through buffers; OUT and the replies are written at once.
-fn serve(rt: &HostRuntime, arguments: &Arguments<'_>) -> Result<Summary, Fault>
-    requires { length arguments.now.ports.items ≡ 1 }
+/// A file that is read through a buffer.
+type Source = Reading<BufReader<File>>;
+
+/// A file that is written at once.
+type Sink = Writing<File>;
+
+/// Opens a file to read.
+fn open(rt: &HostRuntime, path: &str) -> Result<Source, Fault>
+    ensures { IfOk result (λ port. IsReadyIn (⟦<Source as PortIn>⟧.source port)) }
 {
-    let alloc = rt.alloc();
-    let script = File::open(rt, arguments.script).map_err(|_| Fault::Read)?;
-    let script = BufReader::new(alloc, script).map_err(|_| Fault::Memory)?;
-    let mut script = Reading::new(script);
-    let (input, output) = arguments.ports.as_slice()[0];
-    let input = File::open(rt, input).map_err(|_| Fault::Read)?;
-    let input = BufReader::new(alloc, input).map_err(|_| Fault::Memory)?;
-    let output = File::create(rt, output).map_err(|_| Fault::Write)?;
-    let mut inputs = vec![in alloc; Reading::new(input)].map_err(|_| Fault::Memory)?;
-    let mut outputs = vec![in alloc; Writing::new(output)].map_err(|_| Fault::Memory)?;
+    let file = File::open(rt, path).map_err(|_| Fault::Read)?;
+    let buffer = BufReader::new(rt.alloc(), file).map_err(|_| Fault::Memory)?;
+    Ok(Reading::new(buffer))
+}
+
+/// Makes a file anew to write.
+fn create(rt: &HostRuntime, path: &str) -> Result<Sink, Fault>
+    ensures { IfOk result (λ port. IsReadyOut (⟦<Sink as PortOut>⟧.sink port)) }
+{
+    let file = File::create(rt, path).map_err(|_| Fault::Write)?;
+    Ok(Writing::new(file))
+}
+
+/// Opens the pairs of ports in order behind those that are open, of each pair the input first.
+fn open_ports(
+    rt: &HostRuntime,
+    ports: &[(&str, &str)],
+    inputs: &mut Vec<Source>,
+    outputs: &mut Vec<Sink>,
+) -> Result<(), Fault>
+    ensures inputs { IsOk result → length inputs.new.items ≡ length inputs.old.items + length ports.now }
+    ensures outputs { IsOk result → length outputs.new.items ≡ length outputs.old.items + length ports.now }
+    ensures to_read { IsOk result → All IsReadyIn (map (⟦<Source as PortIn>⟧.source) inputs.old.items) → All IsReadyIn (map (⟦<Source as PortIn>⟧.source) inputs.new.items) }
+    ensures to_write { IsOk result → All IsReadyOut (map (⟦<Sink as PortOut>⟧.sink) outputs.old.items) → All IsReadyOut (map (⟦<Sink as PortOut>⟧.sink) outputs.new.items) }
+{
+    let Some(((input, output), further)) = ports.split_first() else {
+        return Ok(());
+    };
+    inputs.push(open(rt, input)?).map_err(|_| Fault::Memory)?;
+    outputs
+        .push(create(rt, output)?)
+        .map_err(|_| Fault::Memory)?;
+    open_ports(rt, further, inputs, outputs)
+}
+
+/// Serves the script over the files. SCRIPT and the INs are read through buffers; the OUTs and the replies are written at once.
+fn serve(rt: &HostRuntime, arguments: &Arguments<'_>) -> Result<Summary, Fault>
+    requires { 1 ≤ length arguments.now.ports.items }
+{
+    let mut script = open(rt, arguments.script)?;
+    let mut inputs = Vec::new(rt.alloc());
+    let mut outputs = Vec::new(rt.alloc());
+    open_ports(rt, arguments.ports.as_slice(), &mut inputs, &mut outputs)?;
     let mut replies = Writing::new(io::writer(rt));
     let config = Config {
         sizes: arguments.sizes,
         poison: arguments.poison,
     };
-    run::<Kind, _, _, _, _>(
-        alloc,
+    run::<Voice, _, _, _, _>(
+        rt.alloc(),
         config,
         &mut script,
         &mut inputs,

@@ -19,6 +19,14 @@ pub struct Need {
     pub align: u32,
 }
 
+/// The number of a group's active member, if one is active, and how often a member of the group was activated; this count stays at the
+/// greatest `u32`.
+#[derive(Clone, Copy, PartialEq, Eq, Debug)]
+pub struct Stat {
+    pub active: Option<u8>,
+    pub activations: u32,
+}
+
 /// The scratch memory of a group: a block in each space, or none there. At most one member is active, and only that one is lent
 /// records of the blocks. The group can't be dropped: [`end`](Group::end) ends it.
 pub struct Group {

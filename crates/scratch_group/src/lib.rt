@@ -13,5 +13,5 @@ mod plan;
 mod tests;
 
 pub use bases::{lends_at_the_layout, placed};
-pub use group::{Group, Need};
+pub use group::{Group, Need, Stat};
 pub use lasting::lend_lasting;

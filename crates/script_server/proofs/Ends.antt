@@ -9,28 +9,26 @@ use Rattle.octet_ports.specs.declared.octets.LineFault.{LineFault}
 use Rattle.octet_ports.specs.declared.octets.LineFault.TheVariants.{Port, Limit}
 use Rattle.octet_ports.proofs.Ports.{gives_more}
 use Rattle.octet_ports.specs.Lines.{ended, IsNoFeed}
-use Rattle.script_server.specs.Served.{Machine, Run, line_answer, lines_answer, order_of}
-use Rattle.voice_script.specs.Script.{lines_of}
+use Rattle.line_machine.specs.Served.{Machine, Run, LineAnswer, then_answer, order_of}
 use Rattle.script_server.specs.Runs.{Devices, IsHonest, HasFailedIn, GoesOn, ServedAll, ServedFirst, ServedUpTo, InScript, AtLimit, InFeed, Writes, run_of}
 use Rattle.script_server.specs.LineRuns.{IsServed, IsCut, IsUnfed}
 use Rattle.script_server.proofs.SoFar.{Consumes, ServedSoFar}
 use Rattle.voice_script.specs.declared.limits.TheConstants.{LINE_OCTETS}
 use Rattle.script_server.specs.declared.limits.TheConstants.{SCRIPT_OCTETS}
-use Rattle.script_server.proofs.Writes.{writes_more}
-use Rattle.script_server.proofs.Scripts.{ended_more, order_push, order_more, run_is, run_more, refusals_more, next_line, last_line, last_line_of, ended_lines_of}
+use Rattle.script_server.proofs.Writes.{writes_more, order_of-append}
+use Rattle.script_server.proofs.Scripts.{push_answer, last_answer, answer_there, refusals-append, ended_more, next_line, last_line, last_line_of, ended_lines_of}
 
 module _ {S : Type 0} (m : Machine S) (start : Run S) where
   pub served_more : {keeps new_keeps : S → Type 0} {refused new_refused left new_left : ℕ} {is_refused : Bool} {script a b : Source} {sources new_sources : List Source}
       {outputs mid_outputs new_outputs : List Sink} {replies mid_replies new_replies : Sink} {text : List ℕ} {long : Bool}
       → (served : ServedSoFar m keeps start refused left script a sources outputs mid_outputs replies mid_replies)
       → (came : LineCame LINE_OCTETS text long false left new_left a b)
-      → IsServed new_keeps (line_answer m (run_of (lines_answer m start served.lines).run.state sources) came.octets) is_refused new_sources mid_outputs new_outputs mid_replies new_replies
+      → IsServed new_keeps (LineAnswer m (run_of served.answer.run.state sources) came.octets) is_refused new_sources mid_outputs new_outputs mid_replies new_replies
       → new_refused ≡ refused + (if is_refused then 1 else 0)
       → ServedSoFar m new_keeps start new_refused new_left script b new_sources outputs new_outputs replies new_replies
   served_more {new_keeps = new_keeps} {left = left} {new_left = new_left} {sources = sources} served came line count =
       let lines = served.lines in
       let octets = came.octets in
-      let inputs = served.inputs in
       record {
         lines = lines ++ octets ∷ [];
         no_feeds = All-push (λ line. All IsNoFeed line) lines octets served.no_feeds came.line.no_feed;
@@ -40,11 +38,13 @@ module _ {S : Type 0} (m : Machine S) (start : Run S) where
             let v : left ≡ length (octets ++ 10 ∷ []) + new_left = came.used in
             let l : length (flat_map ended lines ++ (octets ++ 10 ∷ [])) ≡ length (flat_map ended lines) + length (octets ++ 10 ∷ []) = length-append (flat_map ended lines) (octets ++ 10 ∷ []) in
             rw (ended_more lines octets) (omega arith);
-        kept = rw (run_more m start lines sources octets inputs) line.kept;
+        answer = then_answer served.answer.written line.answer;
+        is_answer = push_answer m lines start served.answer served.is_answer (answer_there m served.answer sources served.inputs line.is_answer);
+        kept = line.kept;
         honest = line.honest;
-        inputs = ap (λ r. r.inputs) (run_more m start lines sources octets inputs) ∙ line.inputs;
-        writes = rw (order_more m start lines sources octets inputs) (writes_more served.writes line.writes);
-        counted = rw (refusals_more m start lines sources octets inputs, served.counted, line.counted) (sym count);
+        inputs = line.inputs;
+        writes = rw (order_of-append served.answer.written line.answer.written) (writes_more served.writes line.writes);
+        counted = rw (refusals-append served.answer.written line.answer.written, served.counted, line.counted) (sym count);
       }
 
   pub served_all : {keeps new_keeps : S → Type 0} {refused new_refused left new_left : ℕ} {is_refused : Bool} {a : Source} {sources : List Source}
@@ -52,19 +52,20 @@ module _ {S : Type 0} (m : Machine S) (start : Run S) where
       → IsHonest old.script
       → (served : ServedSoFar m keeps start refused left old.script a sources old.outputs mid_outputs old.replies mid_replies)
       → (came : LineCame LINE_OCTETS text long true left new_left a new.script)
-      → IsServed new_keeps (line_answer m (run_of (lines_answer m start served.lines).run.state sources) came.octets) is_refused new.inputs mid_outputs new.outputs mid_replies new.replies
+      → IsServed new_keeps (LineAnswer m (run_of served.answer.run.state sources) came.octets) is_refused new.inputs mid_outputs new.outputs mid_replies new.replies
       → new_refused ≡ refused + (if is_refused then 1 else 0)
       → ServedAll m start new_refused old new
   served_all {a = a} {sources = sources} old new h served came line count =
       let lines = served.lines in
       let octets = came.octets in
-      let inputs = served.inputs in
       let all = last_line lines octets old.script a new.script served.no_feeds came.line.no_feed h served.gives came.gives (came.at_end refl) in
       record {
         at_end = came.at_end refl (came.gives.stays (served.gives.stays h));
-        inputs = rw all (ap (λ r. r.inputs) (run_more m start lines sources octets inputs) ∙ line.inputs);
-        writes = rw (all, order_more m start lines sources octets inputs) (writes_more served.writes line.writes);
-        counted = rw (all, refusals_more m start lines sources octets inputs, served.counted, line.counted) (sym count);
+        answer = then_answer served.answer.written line.answer;
+        is_answer = rw all (push_answer m lines start served.answer served.is_answer (answer_there m served.answer sources served.inputs line.is_answer));
+        inputs = line.inputs;
+        writes = rw (order_of-append served.answer.written line.answer.written) (writes_more served.writes line.writes);
+        counted = rw (refusals-append served.answer.written line.answer.written, served.counted, line.counted) (sym count);
       }
 
   pub script_cut : {keeps : S → Type 0} {refused left new_left : ℕ} {a : Source} {sources : List Source}
@@ -72,22 +73,25 @@ module _ {S : Type 0} (m : Machine S) (start : Run S) where
       → IsHonest old.script
       → (served : ServedSoFar m keeps start refused left old.script a sources old.outputs mid_outputs old.replies mid_replies)
       → (came : LineCame LINE_OCTETS text long last left new_left a new.script)
-      → IsCut (line_answer m (run_of (lines_answer m start served.lines).run.state sources) came.octets) new.inputs mid_outputs new.outputs mid_replies new.replies
+      → IsCut (LineAnswer m (run_of served.answer.run.state sources) came.octets) new.inputs mid_outputs new.outputs mid_replies new.replies
       → ServedFirst m start old new
   script_cut {a = a} {sources = sources} {last = last} old new h served came cut =
       let lines = served.lines in
       let octets = came.octets in
-      let inputs = served.inputs in
       let next = next_line lines octets last old.script a new.script served.no_feeds came.line.no_feed h served.gives came.gives came.at_end in
       record {
         whole = lines;
         last = octets;
         more = next.0;
         are_first = next.1;
-        inputs = ap (λ r. r.inputs) (run_more m start lines sources octets inputs) ∙ cut.inputs;
+        answer = served.answer;
+        is_answer = served.is_answer;
+        cut = cut.answer;
+        is_cut = answer_there m served.answer sources served.inputs cut.is_answer;
+        inputs = cut.inputs;
         first = cut.writes.first;
         later = cut.writes.later;
-        is_first = ap (λ r. order_of (line_answer m r octets).written) (run_is m start (lines_answer m start lines).run sources inputs) ∙ cut.writes.is_first;
+        is_first = cut.writes.is_first;
         writes = writes_more served.writes cut.writes.writes;
       }
 
@@ -99,6 +103,8 @@ module _ {S : Type 0} (m : Machine S) (start : Run S) where
     lines = served.lines;
     no_feeds = served.no_feeds;
     are_ended = λ rest n. ended_lines_of served.lines rest served.no_feeds n;
+    answer = served.answer;
+    is_answer = served.is_answer;
     sources = new.inputs;
     inputs = served.inputs;
     stops = InScript f.1.0 f.1.1.no_feed (gives_more served.gives f.1.1.gives) f.0 refl;
@@ -114,6 +120,8 @@ module _ {S : Type 0} (m : Machine S) (start : Run S) where
         lines = lines;
         no_feeds = served.no_feeds;
         are_ended = λ after n. ended_lines_of lines after served.no_feeds n;
+        answer = served.answer;
+        is_answer = served.is_answer;
         sources = new.inputs;
         inputs = served.inputs;
         stops = AtLimit rest f.1.1 f.1.2 (omega arith) (rw (append_assoc (flat_map ended lines) rest (f.1.1 ∷ [])) (gives_more served.gives f.1.3)) refl;
@@ -124,16 +132,18 @@ module _ {S : Type 0} (m : Machine S) (start : Run S) where
       {mid_outputs : List Sink} {mid_replies : Sink} {text : List ℕ} {long last : Bool} (old new : Devices)
       → (served : ServedSoFar m keeps start refused left old.script a sources old.outputs mid_outputs old.replies mid_replies)
       → (came : LineCame LINE_OCTETS text long last left new_left a new.script)
-      → IsUnfed m (lines_answer m start served.lines).run.state came.octets sources new.inputs mid_outputs new.outputs mid_replies new.replies
+      → IsUnfed m served.answer.run.state came.octets sources new.inputs mid_outputs new.outputs mid_replies new.replies
       → ServedUpTo m start old new
   stops_in_feed {sources = sources} {last = last} old new served came unfed = record {
     lines = served.lines;
     no_feeds = served.no_feeds;
     are_ended = λ rest n. ended_lines_of served.lines rest served.no_feeds n;
+    answer = served.answer;
+    is_answer = served.is_answer;
     sources = sources;
     inputs = served.inputs;
-    stops = InFeed came.octets last unfed.channel unfed.count came.line.no_feed unfed.fits unfed.asked (gives_more served.gives came.gives) came.at_end unfed.input;
-    writes = rw (append-nil (order_of (lines_answer m start served.lines).written)) at (writes_more served.writes unfed.writes);
+    stops = InFeed came.octets last unfed.channel unfed.count unfed.after came.line.no_feed unfed.fits unfed.asks (gives_more served.gives came.gives) came.at_end unfed.input;
+    writes = rw (append-nil (order_of served.answer.written)) at (writes_more served.writes unfed.writes);
   }
 
   -- ---- the end of a run
@@ -143,25 +153,31 @@ module _ {S : Type 0} (m : Machine S) (start : Run S) where
       → Writes [] mid.outputs outputs mid.replies replies → ServedAll m start refused old (record mid { outputs = outputs; replies = replies })
   all_passed_on {old = old} all none = record {
     at_end = all.at_end;
+    answer = all.answer;
+    is_answer = all.is_answer;
     inputs = all.inputs;
-    writes = rw (append-nil (order_of (lines_answer m start (lines_of old.script.coming)).written)) at (writes_more all.writes none);
+    writes = rw (append-nil (order_of all.answer.written)) at (writes_more all.writes none);
     counted = all.counted;
   }
 
   pub all_is_first : {refused : ℕ} {old new : Devices} → ServedAll m start refused old new → ServedFirst m start old new
   all_is_first {old = old} all =
       let split = last_line_of old.script.coming in
-      let answer = line_answer m (lines_answer m start split.0).run split.1 in
+      let parts = last_answer m split.0 start (rw split.2 at all.is_answer) in
       record {
         whole = split.0;
         last = split.1;
         more = [];
         are_first = split.2;
-        inputs = rw split.2 at all.inputs;
-        first = order_of answer.written;
+        answer = parts.0;
+        is_answer = parts.1;
+        cut = parts.2;
+        is_cut = parts.3;
+        inputs = rw parts.4 at all.inputs;
+        first = order_of parts.2.written;
         later = [];
-        is_first = sym (append-nil (order_of answer.written));
-        writes = rw (split.2, order_push m start split.0 split.1) at all.writes;
+        is_first = sym (append-nil (order_of parts.2.written));
+        writes = rw (parts.4, order_of-append parts.0.written parts.2.written) at all.writes;
       }
 
 -- ---- how much of a script is read

@@ -1,12 +1,11 @@
 -- A feed's answer, by what came of its input.
-use Rattle.std.proofs.Common.{◌≡◌, ℕ, ◌<◌, ◌≤◌, true, false, List, [], ◌++◌, map, length, take, drop, cond, nat_lt, All, slice_index_or, slice_set, refl, sym, subst, ap, ◌∙◌, arith}
+use Rattle.std.proofs.Common.{◌≡◌, ℕ, ◌<◌, ◌≤◌, true, false, List, [], ◌++◌, map, length, take, drop, All, slice_index_or, slice_set, refl, sym, ap, ◌∙◌, arith}
 use Rattle.std.proofs.lemmas.List.{map-set, get_or-map}
 use Rattle.std.proofs.lemmas.List.Elements.{All-set, All-get_or}
 use Rattle.std.proofs.lemmas.Grind.{common_steps}
-use Rattle.std.proofs.lemmas.Bool.Decides.{nat_tests}
 use Rattle.octet_ports.specs.Ports.{Source, Sink, Gives, Takes, TakesFirst}
 use Rattle.octet_ports.specs.Lines.{EndsWithin}
-use Rattle.script_server.specs.Served.{Machine, Answer, feed_answer, fed_answer, replies, short_text, refusals}
+use Rattle.line_machine.specs.Served.{Machine, FeedAnswer, replies, gives, short_text, refusals}
 use Rattle.script_server.specs.Runs.{StepsAt, IsHonest, no_source, no_sink, run_of}
 use Rattle.script_server.specs.LineRuns.{IsServed, IsCut}
 use Rattle.script_server.proofs.Writes.{writes_more, writes_reply, writes_output, step_holds, first_more, first_longer, first_reply, first_output, order_of_reply, order_of_feed, octets_to}
@@ -33,99 +32,110 @@ drop_few count xs h = grind (arith, common_steps)
 
 pub feed_short : {S : Type 0} (m : Machine S) (state : S) {count c : ℕ} {sources new_sources : List Source} → c < length sources → All IsHonest sources
     → StepsAt (EndsWithin count) c no_source sources new_sources
-    → feed_answer m (run_of state sources) c count ≡ replies (run_of state new_sources) short_text true
+    → FeedAnswer m (run_of state sources) c count (replies (run_of state new_sources) short_text true)
 feed_short m state {count} {c} {sources} {new_sources} there h s =
     let left = slice_index_or (map coming_of sources) c [] in
     let honest = honest_at sources c there h in
     let is_left : left ≡ (slice_index_or sources c no_source).coming = left_at sources c there in
     let few : length left < count = rw is_left (s.step.few honest) in
-    let test : nat_lt (length left) count ≡ true = grind (arith, nat_tests) in
     let rest : drop count left ≡ s.after.coming = drop_few count left few ∙ sym (s.step.at_end (s.step.stays honest)) in
     let inputs : slice_set (map coming_of sources) c (drop count left) ≡ map coming_of new_sources =
     ap (λ r. slice_set (map coming_of sources) c r) rest ∙ sym (map-set coming_of sources c s.after) ∙ ap (map coming_of) (sym s.others) in
-    ap (λ t. cond t (replies (record { state = state; inputs = slice_set (map coming_of sources) c (drop count left) }) short_text true) (fed_answer m (record { state = state; inputs = slice_set (map coming_of sources) c (drop count left) }) c (take count left))) test
-    ∙ ap (λ i. replies (record { state = state; inputs = i }) short_text true) inputs
+    record {
+      short = λ few. ap (λ i. replies (record { state = state; inputs = i }) short_text true) (sym inputs);
+      whole = λ enough. absurd (omega arith);
+    }
 
 take_drop_whole : (count : ℕ) (xs ys zs : List ℕ) → xs ≡ ys ++ zs → length ys ≡ count → (take count xs ≡ ys) × (drop count xs ≡ zs) × (count ≤ length xs)
 take_drop_whole count xs ys zs e l = rw e (grind (arith, common_steps), grind (arith, common_steps), grind (arith, common_steps))
 
-pub feed_whole : {S : Type 0} (m : Machine S) (state : S) {octets : List ℕ} {count c : ℕ} {sources new_sources : List Source} → c < length sources → All IsHonest sources
+pub feed_whole : {S : Type 0} (m : Machine S) (state : S) {after : S} {octets output told : List ℕ} {count c : ℕ} {sources new_sources : List Source} → c < length sources → All IsHonest sources
     → length octets ≡ count → StepsAt (Gives octets) c no_source sources new_sources
-    → feed_answer m (run_of state sources) c count ≡ fed_answer m (run_of state new_sources) c octets
-feed_whole m state {octets} {count} {c} {sources} {new_sources} there h l s =
+    → m.Gives state c octets output told after
+    → FeedAnswer m (run_of state sources) c count (gives (run_of after new_sources) c output told)
+feed_whole m state {after} {octets} {output} {told} {count} {c} {sources} {new_sources} there h l s given =
     let left = slice_index_or (map coming_of sources) c [] in
     let honest = honest_at sources c there h in
     let is_left : left ≡ octets ++ s.after.coming = left_at sources c there ∙ s.step.given honest in
     let parts = take_drop_whole count left octets s.after.coming is_left l in
     let enough : count ≤ length left = parts.2 in
-    let test : nat_lt (length left) count ≡ false = grind (arith, nat_tests) in
     let inputs : slice_set (map coming_of sources) c (drop count left) ≡ map coming_of new_sources =
     ap (λ r. slice_set (map coming_of sources) c r) parts.1 ∙ sym (map-set coming_of sources c s.after) ∙ ap (map coming_of) (sym s.others) in
-    ap (λ t. cond t (replies (record { state = state; inputs = slice_set (map coming_of sources) c (drop count left) }) short_text true) (fed_answer m (record { state = state; inputs = slice_set (map coming_of sources) c (drop count left) }) c (take count left))) test
-    ∙ ap (λ i. fed_answer m (record { state = state; inputs = i }) c (take count left)) inputs
-    ∙ ap (λ o. fed_answer m (run_of state new_sources) c o) parts.0
+    record {
+      short = λ few. absurd (omega arith);
+      whole = λ _. record {
+        output = output;
+        told = told;
+        state = after;
+        taken = rw parts.0 given;
+        answered = ap (λ i. gives (record { state = after; inputs = i }) c output told) (sym inputs);
+      };
+    }
 
 -- ---- what the ports took
 
-pub served_short : {S : Type 0} (keeps : S → Type 0) (m : Machine S) (state : S) {count c : ℕ} {sources new_sources : List Source} (outputs : List Sink) {reply new_reply : Sink}
-    → keeps state → c < length sources → All IsHonest sources → StepsAt (EndsWithin count) c no_source sources new_sources → Takes short_text reply new_reply
-    → IsServed keeps (feed_answer m (run_of state sources) c count) true new_sources outputs outputs reply new_reply
-unfolding refusals
-served_short {S = S} keeps m state {count} {c} {sources} {new_sources} outputs {reply} {new_reply} k there h s t =
-    subst (λ (a : Answer S). IsServed keeps a true new_sources outputs outputs reply new_reply) (sym (feed_short m state there h s)) (record {
-      kept = k;
-      honest = honest_short there h s;
-      inputs = refl;
-      writes = rw (order_of_reply short_text true) (writes_reply outputs t.holds);
-      counted = refl;
-    })
+module _ {S : Type 0} (m : Machine S) (state : S) {count c : ℕ} {sources new_sources : List Source} where
+  pub served_short : (keeps : S → Type 0) (outputs : List Sink) {reply new_reply : Sink}
+      → keeps state → c < length sources → All IsHonest sources → StepsAt (EndsWithin count) c no_source sources new_sources → Takes short_text reply new_reply
+      → IsServed keeps (FeedAnswer m (run_of state sources) c count) true new_sources outputs outputs reply new_reply
+  unfolding refusals
+  served_short keeps outputs k there h s t = record {
+    answer = replies (run_of state new_sources) short_text true;
+    is_answer = feed_short m state there h s;
+    kept = k;
+    honest = honest_short there h s;
+    inputs = refl;
+    writes = rw (order_of_reply short_text true) (writes_reply outputs t.holds);
+    counted = refl;
+  }
 
-pub cut_short : {S : Type 0} (m : Machine S) (state : S) {count c : ℕ} {sources new_sources : List Source} (outputs : List Sink) {reply new_reply : Sink}
-    → c < length sources → All IsHonest sources → StepsAt (EndsWithin count) c no_source sources new_sources → TakesFirst short_text reply new_reply
-    → IsCut (feed_answer m (run_of state sources) c count) new_sources outputs outputs reply new_reply
-cut_short {S = S} m state {count} {c} {sources} {new_sources} outputs {reply} {new_reply} there h s t =
-    subst (λ (a : Answer S). IsCut a new_sources outputs outputs reply new_reply) (sym (feed_short m state there h s)) (record {
-      inputs = refl;
-      writes = rw (order_of_reply short_text true) (first_reply outputs t);
-    })
+  pub cut_short : (outputs : List Sink) {reply new_reply : Sink}
+      → c < length sources → All IsHonest sources → StepsAt (EndsWithin count) c no_source sources new_sources → TakesFirst short_text reply new_reply
+      → IsCut (FeedAnswer m (run_of state sources) c count) new_sources outputs outputs reply new_reply
+  cut_short outputs there h s t = record {
+    answer = replies (run_of state new_sources) short_text true;
+    is_answer = feed_short m state there h s;
+    inputs = refl;
+    writes = rw (order_of_reply short_text true) (first_reply outputs t);
+  }
 
-pub served_whole : {S : Type 0} (keeps : S → Type 0) (m : Machine S) (state : S) {octets output told : List ℕ} {count c : ℕ} {sources new_sources : List Source} {outputs new_outputs : List Sink} {reply new_reply : Sink}
-    → keeps (m.fed state c octets) → c < length sources → length outputs ≡ length sources → All IsHonest sources → length octets ≡ count
-    → StepsAt (Gives octets) c no_source sources new_sources
-    → output ≡ m.output state c octets → told ≡ m.told state c octets
-    → StepsAt (Takes output) c no_sink outputs new_outputs → Takes told reply new_reply
-    → IsServed keeps (feed_answer m (run_of state sources) c count) false new_sources outputs new_outputs reply new_reply
-unfolding refusals
-served_whole {S = S} keeps m state {octets} {output} {told} {count} {c} {sources} {new_sources} {outputs} {new_outputs} {reply} {new_reply} k there pairs h l s is_output is_told o t =
-    subst (λ (a : Answer S). IsServed keeps a false new_sources outputs new_outputs reply new_reply) (sym (feed_whole m state there h l s)) (record {
+  module _ {after : S} {octets output told : List ℕ} {outputs new_outputs : List Sink} where
+    pub served_whole : (keeps : S → Type 0) {reply new_reply : Sink}
+        → keeps after → c < length sources → length outputs ≡ length sources → All IsHonest sources → length octets ≡ count
+        → StepsAt (Gives octets) c no_source sources new_sources → m.Gives state c octets output told after
+        → StepsAt (Takes output) c no_sink outputs new_outputs → Takes told reply new_reply
+        → IsServed keeps (FeedAnswer m (run_of state sources) c count) false new_sources outputs new_outputs reply new_reply
+    unfolding refusals
+    served_whole keeps {reply} k there pairs h l s given o t = record {
+      answer = gives (run_of after new_sources) c output told;
+      is_answer = feed_whole m state there h l s given;
       kept = k;
       honest = honest_whole there h s;
       inputs = refl;
-      writes = rw (order_of_feed c (m.output state c octets) (m.told state c octets) false, ← is_output, ← is_told)
-          (writes_more (writes_output reply (rw pairs there) (step_holds o)) (writes_reply new_outputs t.holds));
+      writes = rw (order_of_feed c output told false) (writes_more (writes_output reply (rw pairs there) (step_holds o)) (writes_reply new_outputs t.holds));
       counted = refl;
-    })
+    }
 
-pub cut_output : {S : Type 0} (m : Machine S) (state : S) {octets output : List ℕ} {count c : ℕ} {sources new_sources : List Source} {outputs new_outputs : List Sink} (reply : Sink)
-    → c < length sources → length outputs ≡ length sources → All IsHonest sources → length octets ≡ count
-    → StepsAt (Gives octets) c no_source sources new_sources → output ≡ m.output state c octets
-    → StepsAt (TakesFirst output) c no_sink outputs new_outputs
-    → IsCut (feed_answer m (run_of state sources) c count) new_sources outputs new_outputs reply reply
-cut_output {S = S} m state {octets} {output} {count} {c} {sources} {new_sources} {outputs} {new_outputs} reply there pairs h l s is_output o =
-    subst (λ (a : Answer S). IsCut a new_sources outputs new_outputs reply reply) (sym (feed_whole m state there h l s)) (record {
+    pub cut_output : (reply : Sink)
+        → c < length sources → length outputs ≡ length sources → All IsHonest sources → length octets ≡ count
+        → StepsAt (Gives octets) c no_source sources new_sources → m.Gives state c octets output told after
+        → StepsAt (TakesFirst output) c no_sink outputs new_outputs
+        → IsCut (FeedAnswer m (run_of state sources) c count) new_sources outputs new_outputs reply reply
+    cut_output reply there pairs h l s given o = record {
+      answer = gives (run_of after new_sources) c output told;
+      is_answer = feed_whole m state there h l s given;
       inputs = refl;
-      writes = rw (order_of_feed c (m.output state c octets) (m.told state c octets) false, ← is_output)
-          (first_longer (octets_to _ (m.told state c octets)) (first_output reply (rw pairs there) o));
-    })
+      writes = rw (order_of_feed c output told false) (first_longer (octets_to _ told) (first_output reply (rw pairs there) o));
+    }
 
-pub cut_told : {S : Type 0} (m : Machine S) (state : S) {octets output told : List ℕ} {count c : ℕ} {sources new_sources : List Source} {outputs new_outputs : List Sink} {reply new_reply : Sink}
-    → c < length sources → length outputs ≡ length sources → All IsHonest sources → length octets ≡ count
-    → StepsAt (Gives octets) c no_source sources new_sources → output ≡ m.output state c octets → told ≡ m.told state c octets
-    → StepsAt (Takes output) c no_sink outputs new_outputs → TakesFirst told reply new_reply
-    → IsCut (feed_answer m (run_of state sources) c count) new_sources outputs new_outputs reply new_reply
-cut_told {S = S} m state {octets} {output} {told} {count} {c} {sources} {new_sources} {outputs} {new_outputs} {reply} {new_reply} there pairs h l s is_output is_told o t =
-    subst (λ (a : Answer S). IsCut a new_sources outputs new_outputs reply new_reply) (sym (feed_whole m state there h l s)) (record {
+    pub cut_told : {reply new_reply : Sink}
+        → c < length sources → length outputs ≡ length sources → All IsHonest sources → length octets ≡ count
+        → StepsAt (Gives octets) c no_source sources new_sources → m.Gives state c octets output told after
+        → StepsAt (Takes output) c no_sink outputs new_outputs → TakesFirst told reply new_reply
+        → IsCut (FeedAnswer m (run_of state sources) c count) new_sources outputs new_outputs reply new_reply
+    cut_told {reply} there pairs h l s given o t = record {
+      answer = gives (run_of after new_sources) c output told;
+      is_answer = feed_whole m state there h l s given;
       inputs = refl;
-      writes = rw (order_of_feed c (m.output state c octets) (m.told state c octets) false, ← is_output, ← is_told)
-          (first_more (writes_output reply (rw pairs there) (step_holds o)) (first_reply new_outputs t));
-    })
+      writes = rw (order_of_feed c output told false) (first_more (writes_output reply (rw pairs there) (step_holds o)) (first_reply new_outputs t));
+    }

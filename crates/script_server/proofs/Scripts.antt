@@ -1,5 +1,5 @@
 -- Lines served one after another.
-use Rattle.std.proofs.Common.{◌≡◌, ◌≢◌, ℕ, suc, slice_index_or, ◌+◌, ◌<◌, Bool, true, false, List, [], ◌∷◌, ◌++◌, map, length, refl, sym, ap, ◌∙◌, append_assoc, length-append, arith, eqb}
+use Rattle.std.proofs.Common.{◌≡◌, ◌≢◌, ℕ, suc, slice_index_or, ◌+◌, ◌<◌, Bool, true, false, List, [], ◌∷◌, ◌++◌, map, length, refl, sym, subst, ap, ◌∙◌, append_assoc, length-append, arith, eqb}
 use Rattle.std.specs.List.{All, flat_map}
 use Rattle.std.proofs.lemmas.List.{append-nil}
 use Rattle.std.proofs.lemmas.List.Elements.{All-nil, All-weaker}
@@ -10,38 +10,63 @@ use Rattle.octet_ports.specs.Ports.{Source, Sink, Gives, IsAtEnd}
 use Rattle.octet_ports.specs.Lines.{LineCame}
 use Rattle.octet_ports.proofs.Ports.{gives_none, gives_more}
 use Rattle.octet_ports.specs.Lines.{IsNoFeed, ending, ended}
-use Rattle.script_server.specs.Served.{Machine, Run, Written, line_answer, lines_answer, then_answer, order_of, refusals, ended_lines}
+use Rattle.line_machine.specs.Served.{Machine, Run, Answer, Written, LineAnswer, LinesAnswer, then_answer, order_of, refusals, ended_lines}
 use Rattle.voice_script.specs.Script.{lines_of}
 use Rattle.script_server.specs.Runs.{IsHonest, run_of}
 use Rattle.script_server.proofs.SoFar.{ServedSoFar, Consumes}
 use Rattle.voice_script.specs.declared.limits.TheConstants.{LINE_OCTETS}
 use Rattle.script_server.specs.declared.limits.TheConstants.{SCRIPT_OCTETS}
-use Rattle.script_server.proofs.Writes.{writes_none, order_of-append}
+use Rattle.script_server.proofs.Writes.{writes_none}
 
 -- ---- answers
 
-pub lines_answer-append : {S : Type 0} (m : Machine S) (run : Run S) (xs ys : List (List ℕ))
-    → lines_answer m run (xs ++ ys) ≡ then_answer m (lines_answer m run xs).written (lines_answer m (lines_answer m run xs).run ys)
-unfolding lines_answer
-lines_answer-append m run [] ys = refl
-lines_answer-append m run (x ∷ xs) ys =
-    let a = line_answer m run x in
-    ap (then_answer m a.written) (lines_answer-append m a.run xs ys)
-    ∙ ap (λ w. record { run = (lines_answer m (lines_answer m a.run xs).run ys).run; written = w })
-    (sym (append_assoc a.written (lines_answer m a.run xs).written (lines_answer m (lines_answer m a.run xs).run ys).written))
+module _ {S : Type 0} (m : Machine S) where
+  -- what answers lines, and then what answers one more
+  pub push_answer : (lines : List (List ℕ)) (run : Run S) (answer : Answer S) {line : List ℕ} {last : Answer S} → LinesAnswer m run lines answer → LineAnswer m answer.run line last
+      → LinesAnswer m run (lines ++ line ∷ []) (then_answer answer.written last)
+  push_answer [] run answer {line} {last} is_answer is_last = (
+    last,
+    subst (λ (a : Answer S). LineAnswer m a.run line last) is_answer is_last,
+    record { run = last.run; written = [] },
+    refl,
+    ap (λ (a : Answer S). then_answer a.written last) is_answer ∙ ap (λ w. record { run = last.run; written = w }) (sym (append-nil last.written)),
+  )
+  push_answer (first ∷ lines) run answer {line} {last} is_answer is_last =
+      let begun : Answer S = is_answer.0 in
+      let rest : Answer S = is_answer.2 in (
+        begun,
+        is_answer.1,
+        then_answer rest.written last,
+        push_answer lines begun.run rest is_answer.3 (subst (λ (a : Answer S). LineAnswer m a.run line last) is_answer.4 is_last),
+        ap (λ (a : Answer S). then_answer a.written last) is_answer.4 ∙ ap (λ w. record { run = last.run; written = w }) (append_assoc begun.written rest.written last.written),
+      )
 
-pub lines_answer-first : {S : Type 0} (m : Machine S) (run : Run S) (x : List ℕ) (xs : List (List ℕ))
-    → lines_answer m run (x ∷ xs) ≡ then_answer m (line_answer m run x).written (lines_answer m (line_answer m run x).run xs)
-unfolding lines_answer
-lines_answer-first m run x xs = refl
+  -- what answers the last of lines
+  pub last_answer : (lines : List (List ℕ)) (run : Run S) {line : List ℕ} {all : Answer S} → LinesAnswer m run (lines ++ line ∷ []) all
+      → (answer : Answer S) × LinesAnswer m run lines answer × (last : Answer S) × LineAnswer m answer.run line last × (all ≡ then_answer answer.written last)
+  last_answer [] run is_answer =
+      let last : Answer S = is_answer.0 in (
+        record { run = run; written = [] },
+        refl,
+        last,
+        is_answer.1,
+        is_answer.4 ∙ ap (then_answer last.written) is_answer.3 ∙ ap (λ w. record { run = last.run; written = w }) (append-nil last.written),
+      )
+  last_answer (first ∷ lines) run is_answer =
+      let begun : Answer S = is_answer.0 in
+      let parts = last_answer lines begun.run is_answer.3 in (
+        then_answer begun.written parts.0,
+        (begun, is_answer.1, parts.0, parts.1, refl),
+        parts.2,
+        parts.3,
+        is_answer.4 ∙ ap (then_answer begun.written) parts.4 ∙ ap (λ w. record { run = parts.2.run; written = w }) (sym (append_assoc begun.written parts.0.written parts.2.written)),
+      )
 
-pub lines_answer-one : {S : Type 0} (m : Machine S) (run : Run S) (x : List ℕ) → lines_answer m run (x ∷ []) ≡ line_answer m run x
-unfolding lines_answer
-lines_answer-one m run x = ap (λ w. record { run = (line_answer m run x).run; written = w }) (append-nil (line_answer m run x).written)
-
-pub lines_answer-push : {S : Type 0} (m : Machine S) (run : Run S) (xs : List (List ℕ)) (x : List ℕ)
-    → lines_answer m run (xs ++ x ∷ []) ≡ then_answer m (lines_answer m run xs).written (line_answer m (lines_answer m run xs).run x)
-lines_answer-push m run xs x = lines_answer-append m run xs (x ∷ []) ∙ ap (then_answer m (lines_answer m run xs).written) (lines_answer-one m (lines_answer m run xs).run x)
+  -- after an answer with these inputs left, a line is answered
+  pub answer_there : (answer : Answer S) (sources : List Source) {line : List ℕ} {last : Answer S} → answer.run.inputs ≡ map (λ s. s.coming) sources
+      → LineAnswer m (run_of answer.run.state sources) line last → LineAnswer m answer.run line last
+  answer_there answer sources {line} {last} e is_last =
+      subst (λ (r : Run S). LineAnswer m r line last) (ap (λ i. record { state = answer.run.state; inputs = i }) (sym e)) is_last
 
 pub refusals-append : (xs ys : List Written) → refusals (xs ++ ys) ≡ refusals xs + refusals ys
 unfolding refusals
@@ -70,12 +95,14 @@ lines_of_ended (line ∷ lines) rest n =
 
 pub served_none : {S : Type 0} (m : Machine S) (keeps : S → Type 0) (state : S) (script : Source) (sources : List Source) (outputs : List Sink) (replies : Sink)
     → keeps state → All IsHonest sources → ServedSoFar m keeps (run_of state sources) 0 SCRIPT_OCTETS script script sources outputs outputs replies replies
-unfolding lines_answer order_of refusals
+unfolding order_of refusals
 served_none m keeps state script sources outputs replies k h = record {
   lines = [];
   no_feeds = All-nil (λ line. All IsNoFeed line);
   gives = gives_none script;
   used = refl;
+  answer = record { run = run_of state sources; written = [] };
+  is_answer = refl;
   kept = k;
   honest = h;
   inputs = refl;
@@ -93,39 +120,6 @@ consumes_more {left = left} {new_left = new_left} {last = last} c line = record 
       let l : length (c.octets ++ (line.octets ++ ending last)) ≡ length c.octets + length (line.octets ++ ending last) = length-append c.octets (line.octets ++ ending last) in
       omega arith;
 }
-
--- what lines and one more write
-pub order_push : {S : Type 0} (m : Machine S) (start : Run S) (lines : List (List ℕ)) (octets : List ℕ)
-    → order_of (lines_answer m start (lines ++ octets ∷ [])).written
-    ≡ order_of (lines_answer m start lines).written ++ order_of (line_answer m (lines_answer m start lines).run octets).written
-order_push m start lines octets =
-    ap (λ a. order_of a.written) (lines_answer-push m start lines octets)
-    ∙ order_of-append (lines_answer m start lines).written (line_answer m (lines_answer m start lines).run octets).written
-
-module _ {S : Type 0} (m : Machine S) (start : Run S) where
-  pub run_is : (run : Run S) (sources : List Source) → run.inputs ≡ map (λ s. s.coming) sources → run ≡ run_of run.state sources
-  run_is run sources e = ap (λ i. record { state = run.state; inputs = i }) e
-
-  -- what the lines so far and one more write
-  pub order_more : (lines : List (List ℕ)) (sources : List Source) (octets : List ℕ) → (lines_answer m start lines).run.inputs ≡ map (λ s. s.coming) sources
-      → order_of (lines_answer m start (lines ++ octets ∷ [])).written
-      ≡ order_of (lines_answer m start lines).written ++ order_of (line_answer m (run_of (lines_answer m start lines).run.state sources) octets).written
-  order_more lines sources octets e =
-      order_push m start lines octets
-      ∙ ap (λ r. order_of (lines_answer m start lines).written ++ order_of (line_answer m r octets).written) (run_is (lines_answer m start lines).run sources e)
-
-  pub run_more : (lines : List (List ℕ)) (sources : List Source) (octets : List ℕ) → (lines_answer m start lines).run.inputs ≡ map (λ s. s.coming) sources
-      → (lines_answer m start (lines ++ octets ∷ [])).run ≡ (line_answer m (run_of (lines_answer m start lines).run.state sources) octets).run
-  run_more lines sources octets e =
-      ap (λ a. a.run) (lines_answer-push m start lines octets) ∙ ap (λ r. (line_answer m r octets).run) (run_is (lines_answer m start lines).run sources e)
-
-  pub refusals_more : (lines : List (List ℕ)) (sources : List Source) (octets : List ℕ) → (lines_answer m start lines).run.inputs ≡ map (λ s. s.coming) sources
-      → refusals (lines_answer m start (lines ++ octets ∷ [])).written
-      ≡ refusals (lines_answer m start lines).written + refusals (line_answer m (run_of (lines_answer m start lines).run.state sources) octets).written
-  refusals_more lines sources octets e =
-      ap (λ a. refusals a.written) (lines_answer-push m start lines octets)
-      ∙ refusals-append (lines_answer m start lines).written (line_answer m (lines_answer m start lines).run octets).written
-      ∙ ap (λ r. refusals (lines_answer m start lines).written + refusals (line_answer m r octets).written) (run_is (lines_answer m start lines).run sources e)
 
 -- a script has a last line
 pub last_of : {A : Type 0} (xs : List A) → 0 < length xs → (front : List A) × (last : A) × (xs ≡ front ++ last ∷ [])

@@ -3,7 +3,7 @@ use Rattle.std.proofs.Common.{◌≡◌, ℕ, ◌+◌, List, length, map}
 use Rattle.std.specs.List.{All, flat_map}
 use Rattle.octet_ports.specs.Ports.{Source, Sink, Gives}
 use Rattle.octet_ports.specs.Lines.{ended, IsNoFeed}
-use Rattle.script_server.specs.Served.{Machine, Run, order_of, refusals, lines_answer}
+use Rattle.line_machine.specs.Served.{Machine, Run, Answer, order_of, refusals, LinesAnswer}
 use Rattle.script_server.specs.Runs.{IsHonest, Writes}
 use Rattle.script_server.specs.declared.limits.TheConstants.{SCRIPT_OCTETS}
 
@@ -20,8 +20,10 @@ pub record ServedSoFar {S : Type 0} (machine : Machine S) (keeps : S → Type 0)
   pub no_feeds : All (λ line. All IsNoFeed line) lines
   pub gives : Gives (flat_map ended lines) script new_script
   pub used : SCRIPT_OCTETS ≡ length (flat_map ended lines) + left
-  pub kept : keeps (lines_answer machine start lines).run.state
+  pub answer : Answer S
+  pub is_answer : LinesAnswer machine start lines answer
+  pub kept : keeps answer.run.state
   pub honest : All IsHonest sources
-  pub inputs : (lines_answer machine start lines).run.inputs ≡ map (λ s. s.coming) sources
-  pub writes : Writes (order_of (lines_answer machine start lines).written) outputs new_outputs replies new_replies
-  pub counted : refusals (lines_answer machine start lines).written ≡ refused
+  pub inputs : answer.run.inputs ≡ map (λ s. s.coming) sources
+  pub writes : Writes (order_of answer.written) outputs new_outputs replies new_replies
+  pub counted : refusals answer.written ≡ refused

@@ -1,4 +1,2 @@
-pub mod Asks
 pub mod LineRuns
 pub mod Runs
-pub mod Served

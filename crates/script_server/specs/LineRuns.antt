@@ -1,7 +1,7 @@
 -- For private clauses alone: what a line did to the ports.
 use Rattle.std.specs.Prelude.{◌≡◌, ℕ, ◌≤◌, Bool, List, [], ◌++◌, map, length, All, if◌then◌else◌}
 use Rattle.octet_ports.specs.Ports.{Source, Sink}
-use Rattle.script_server.specs.Served.{Machine, Answer, Octet, order_of, refusals, Feed}
+use Rattle.line_machine.specs.Served.{Machine, Answer, Octet, order_of, refusals, Feed}
 use Rattle.script_server.specs.Runs.{IsHonest, Writes, StepsAt, FailsWithin, no_source}
 use Rattle.voice_script.specs.declared.limits.TheConstants.{LINE_OCTETS}
 
@@ -12,17 +12,21 @@ pub record WritesFirst (order : List Octet) (outputs new_outputs : List Sink) (r
   pub is_first : order ≡ first ++ later
   pub writes : Writes first outputs new_outputs replies new_replies
 
--- an answer was given whole
-pub record IsServed {S : Type 0} (keeps : S → Type 0) (answer : Answer S) (refused : Bool)
+-- such an answer was given whole
+pub record IsServed {S : Type 0} (keeps : S → Type 0) (MayAnswer : Answer S → Type 0) (refused : Bool)
     (sources : List Source) (outputs new_outputs : List Sink) (replies new_replies : Sink) : Type 0 where
+  pub answer : Answer S
+  pub is_answer : MayAnswer answer
   pub kept : keeps answer.run.state
   pub honest : All IsHonest sources
   pub inputs : answer.run.inputs ≡ map (λ s. s.coming) sources
   pub writes : Writes (order_of answer.written) outputs new_outputs replies new_replies
   pub counted : refusals answer.written ≡ (if refused then 1 else 0)
 
--- an answer was cut: its input was read, and the first of what it has was written
-pub record IsCut {S : Type 0} (answer : Answer S) (sources : List Source) (outputs new_outputs : List Sink) (replies new_replies : Sink) : Type 0 where
+-- such an answer was cut: its input was read, and the first of what it has was written
+pub record IsCut {S : Type 0} (MayAnswer : Answer S → Type 0) (sources : List Source) (outputs new_outputs : List Sink) (replies new_replies : Sink) : Type 0 where
+  pub answer : Answer S
+  pub is_answer : MayAnswer answer
   pub inputs : answer.run.inputs ≡ map (λ s. s.coming) sources
   pub writes : WritesFirst (order_of answer.written) outputs new_outputs replies new_replies
 
@@ -32,6 +36,7 @@ pub record IsUnfed {S : Type 0} (machine : Machine S) (state : S) (line : List �
   pub fits : length line ≤ LINE_OCTETS
   pub channel : ℕ
   pub count : ℕ
-  pub asked : machine.asked state line ≡ Feed channel count
+  pub after : S
+  pub asks : machine.Asks state line (Feed channel count) after
   pub input : StepsAt (FailsWithin count) channel no_source sources new_sources
   pub writes : Writes [] outputs new_outputs replies new_replies

@@ -3,7 +3,7 @@ use Rattle.std.specs.Prelude.{◌≡◌, ◌⊎◌, ℕ, ◌<◌, ◌≤◌, Boo
 use Rattle.std.specs.List.{flat_map}
 use Rattle.octet_ports.specs.Ports.{Source, Sink, Gives, GivesWithin, Holds, Waits, IsAtEnd, HasPassedAll}
 use Rattle.octet_ports.specs.Lines.{IsNoFeed, ending, ended}
-use Rattle.script_server.specs.Served.{Machine, Run, Octet, held_by, order_of, refusals, line_answer, lines_answer, ended_lines, Feed}
+use Rattle.line_machine.specs.Served.{Machine, Run, Answer, Octet, held_by, order_of, refusals, LineAnswer, LinesAnswer, ended_lines, Feed}
 use Rattle.voice_script.specs.Script.{lines_of}
 use Rattle.voice_script.specs.declared.limits.TheConstants.{LINE_OCTETS}
 use Rattle.script_server.specs.declared.limits.TheConstants.{SCRIPT_OCTETS}
@@ -105,12 +105,14 @@ GoesOn script = IsHonest script → SCRIPT_OCTETS < length script.coming
 -- ---- how a run ended
 
 module _ {S : Type 0} (machine : Machine S) (start : Run S) where
-  -- all of an honest script was served, between honest ports
+  -- all of an honest script was served, between honest ports: by an answer that the machine may give
   pub record ServedAll (refused : ℕ) (old new : Devices) : Type 0 where
     pub at_end : new.script.coming ≡ []
-    pub inputs : (lines_answer machine start (lines_of old.script.coming)).run.inputs ≡ octets_to_come new.inputs
-    pub writes : Writes (order_of (lines_answer machine start (lines_of old.script.coming)).written) old.outputs new.outputs old.replies new.replies
-    pub counted : refusals (lines_answer machine start (lines_of old.script.coming)).written ≡ refused
+    pub answer : Answer S
+    pub is_answer : LinesAnswer machine start (lines_of old.script.coming) answer
+    pub inputs : answer.run.inputs ≡ octets_to_come new.inputs
+    pub writes : Writes (order_of answer.written) old.outputs new.outputs old.replies new.replies
+    pub counted : refusals answer.written ≡ refused
 
   pub record ServesAll (refused : ℕ) (old new : Devices) : Type 0 where
     pub script : IsReadyIn new.script
@@ -129,11 +131,15 @@ module _ {S : Type 0} (machine : Machine S) (start : Run S) where
     pub last : List ℕ
     pub more : List (List ℕ)
     pub are_first : lines_of old.script.coming ≡ whole ++ last ∷ more
-    pub inputs : (lines_answer machine start (whole ++ last ∷ [])).run.inputs ≡ octets_to_come new.inputs
+    pub answer : Answer S
+    pub is_answer : LinesAnswer machine start whole answer
+    pub cut : Answer S
+    pub is_cut : LineAnswer machine answer.run last cut
+    pub inputs : cut.run.inputs ≡ octets_to_come new.inputs
     pub first : List Octet
     pub later : List Octet
-    pub is_first : order_of (line_answer machine (lines_answer machine start whole).run last).written ≡ first ++ later
-    pub writes : Writes (order_of (lines_answer machine start whole).written ++ first) old.outputs new.outputs old.replies new.replies
+    pub is_first : order_of cut.written ≡ first ++ later
+    pub writes : Writes (order_of answer.written ++ first) old.outputs new.outputs old.replies new.replies
 
   -- an output or the replies failed; what was passed on was passed on by the outputs in ascending number, and then by the replies
   pub record EndsByWrite (old new : Devices) : Type 0 where
@@ -142,20 +148,20 @@ module _ {S : Type 0} (machine : Machine S) (start : Run S) where
     pub order : InAscendingOrder old.outputs new.outputs
     pub served : IsHonest old.script → All IsHonest old.inputs → ServedFirst old new
 
-  -- why no more lines were read than these, and what was read of the inputs
-  pub data Stops (script new_script : Source) (lines : List (List ℕ)) (sources new_sources : List Source) : Type 0 where
+  -- why no more lines were read than these, which led to this state, and what was read of the inputs
+  pub data Stops (script new_script : Source) (lines : List (List ℕ)) (state : S) (sources new_sources : List Source) : Type 0 where
     -- the script failed within a line
     InScript : (rest : List ℕ) → All IsNoFeed rest → Gives (flat_map ended lines ++ rest) script new_script → HasFailedIn new_script
-        → new_sources ≡ sources → Stops script new_script lines sources new_sources
+        → new_sources ≡ sources → Stops script new_script lines state sources new_sources
     -- the script goes on after so many octets
     AtLimit : (rest : List ℕ) (next : ℕ) → All IsNoFeed rest → length (flat_map ended lines ++ rest) ≡ SCRIPT_OCTETS
         → Gives ((flat_map ended lines ++ rest) ++ next ∷ []) script new_script
-        → new_sources ≡ sources → Stops script new_script lines sources new_sources
+        → new_sources ≡ sources → Stops script new_script lines state sources new_sources
     -- the input of the next line's feed failed
-    InFeed : (line : List ℕ) (last : Bool) (channel count : ℕ) → All IsNoFeed line → length line ≤ LINE_OCTETS
-        → machine.asked (lines_answer machine start lines).run.state line ≡ Feed channel count
+    InFeed : (line : List ℕ) (last : Bool) (channel count : ℕ) (after : S) → All IsNoFeed line → length line ≤ LINE_OCTETS
+        → machine.Asks state line (Feed channel count) after
         → Gives (flat_map ended lines ++ (line ++ ending last)) script new_script → (last ≡ true → IsAtEnd new_script)
-        → StepsAt (FailsWithin count) channel no_source sources new_sources → Stops script new_script lines sources new_sources
+        → StepsAt (FailsWithin count) channel no_source sources new_sources → Stops script new_script lines state sources new_sources
 
   -- exactly these lines were served, from honest inputs
   pub record ServedUpTo (old new : Devices) : Type 0 where
@@ -163,11 +169,13 @@ module _ {S : Type 0} (machine : Machine S) (start : Run S) where
     pub no_feeds : All (λ line. All IsNoFeed line) lines
     -- with any part of a line that may follow them, they are the lines that ended
     pub are_ended : (rest : List ℕ) → All IsNoFeed rest → ended_lines (flat_map ended lines ++ rest) ≡ lines
+    pub answer : Answer S
+    pub is_answer : LinesAnswer machine start lines answer
     -- the inputs after these lines
     pub sources : List Source
-    pub inputs : (lines_answer machine start lines).run.inputs ≡ octets_to_come sources
-    pub stops : Stops old.script new.script lines sources new.inputs
-    pub writes : Writes (order_of (lines_answer machine start lines).written) old.outputs new.outputs old.replies new.replies
+    pub inputs : answer.run.inputs ≡ octets_to_come sources
+    pub stops : Stops old.script new.script lines answer.run.state sources new.inputs
+    pub writes : Writes (order_of answer.written) old.outputs new.outputs old.replies new.replies
 
   -- the script or an input failed, or the script goes on after the limit; nothing was passed on
   pub record EndsByRead (old new : Devices) : Type 0 where

@@ -3,9 +3,8 @@
 
 mod limits;
 mod line;
-mod machine;
 mod serving;
 
-pub use limits::{BLOCK_OCTETS, SAMPLE_OCTETS, SCRIPT_OCTETS};
-pub use machine::{Ask, LineMachine};
+pub use limits::SCRIPT_OCTETS;
+pub use line_machine::{BLOCK_OCTETS, SAMPLE_OCTETS};
 pub use serving::{PortsFault, serve};

@@ -3,19 +3,25 @@ ghost use Rattle.std.specs.Prelude.{◌≡◌, ◌<◌, ◌≤◌, ◌*◌, ◌�
 ghost use Rattle.std.specs.Result.{is_err};
 ghost use Rattle.octet_ports.specs.Ports.{Sink, Gives, Holds, Takes, TakesFirst, HasPassedAll};
 ghost use Rattle.octet_ports.specs.Lines.{IsLine, EndsWithin};
-ghost use Rattle.script_server.specs.Asks.{IsReady};
+ghost use Rattle.line_machine.specs.Asks.{IsReady};
+ghost use Rattle.line_machine.specs.Served.{FeedAnswer, LineAnswer};
 ghost use Rattle.voice_script.specs.Replies.{reply_text};
 ghost use Rattle.voice_script.specs.ReplyViews.{reply_of};
-ghost use Rattle.script_server.specs.Served.{feed_answer, line_answer};
 ghost use Rattle.script_server.specs.Runs.{StepsAt, no_source, no_sink, IsHonest, IsReadyIn, IsReadyOut, HasFailedIn, HasFailedOut, AreReady, Writes, AllWait, FailsWithin, run_of, InAscendingOrder};
 ghost use Rattle.script_server.specs.LineRuns.{IsServed, IsCut, IsUnfed};
 
-use crate::limits::{BLOCK_OCTETS, SAMPLE_OCTETS};
-use crate::machine::{Ask, LineMachine};
 use crate::serving::PortsFault;
 use ialg::Refusal;
+use line_machine::{Ask, BLOCK_OCTETS, LineMachine, SAMPLE_OCTETS};
 use octet_ports::{PortFault, PortIn, PortOut, read_octets, write_octets};
-use voice_script::{FeedSamples, LINE_OCTETS, Reply, reply_text};
+use voice_script::{FeedSamples, LINE_OCTETS, Reply, ReplyText, write_reply};
+
+/// The reply that stands ready, and its line as it is written. Both are thousands of octets, so a run has one of each.
+#[derive(Drop)]
+pub(crate) struct Desk {
+    pub(crate) reply: Reply,
+    pub(crate) text: ReplyText,
+}
 
 /// Reads from the input of this number.
 fn read_from<I: PortIn>(
@@ -27,6 +33,7 @@ fn read_from<I: PortIn>(
     requires ready { All IsReadyIn (map I.source inputs.old.items) }
     ensures filled { result ≡ Ok true → StepsAt (Gives octets.new) channel no_source (map I.source inputs.old.items) (map I.source inputs.new.items) }
     ensures short { result ≡ Ok false → StepsAt (EndsWithin (length octets.old)) channel no_source (map I.source inputs.old.items) (map I.source inputs.new.items) }
+    ensures count { length inputs.new.items ≡ length inputs.old.items }
     ensures ready { IsOk result → All IsReadyIn (map I.source inputs.new.items) }
     ensures fault { is_err result ≡ true → StepsAt (FailsWithin (length octets.old)) channel no_source (map I.source inputs.old.items) (map I.source inputs.new.items) }
     ensures failed { is_err result ≡ true → Any HasFailedIn (map I.source inputs.new.items) }
@@ -44,22 +51,23 @@ fn write_to<O: PortOut>(
     requires ready { All IsReadyOut (map O.sink outputs.old.items) }
     ensures ok { IsOk result → StepsAt (Takes octets.now) channel no_sink (map O.sink outputs.old.items) (map O.sink outputs.new.items) }
     ensures fault { is_err result ≡ true → StepsAt (TakesFirst octets.now) channel no_sink (map O.sink outputs.old.items) (map O.sink outputs.new.items) }
+    ensures count { length outputs.new.items ≡ length outputs.old.items }
     ensures ready { IsOk result → All IsReadyOut (map O.sink outputs.new.items) }
     ensures failed { is_err result ≡ true → Any HasFailedOut (map O.sink outputs.new.items) }
 {
     write_octets(&mut outputs[channel], octets)
 }
 
-/// Writes a reply.
-fn tell<P: PortOut>(replies: &mut P, reply: &Reply) -> Result<(), PortsFault>
+/// Writes the reply that stands ready.
+fn tell<P: PortOut>(replies: &mut P, desk: &mut Desk) -> Result<(), PortsFault>
     requires { (P.sink replies.old).failed ≡ false }
-    ensures ok { IsOk result → Takes (reply_text (reply_of reply.now)) (P.sink replies.old) (P.sink replies.new) }
-    ensures fault { is_err result ≡ true → TakesFirst (reply_text (reply_of reply.now)) (P.sink replies.old) (P.sink replies.new) }
+    ensures ok { IsOk result → Takes (reply_text (reply_of desk.old.reply)) (P.sink replies.old) (P.sink replies.new) }
+    ensures fault { is_err result ≡ true → TakesFirst (reply_text (reply_of desk.old.reply)) (P.sink replies.old) (P.sink replies.new) }
     ensures failed { (P.sink replies.new).failed ≡ is_err result }
     ensures write { is_err result ≡ true → IsErrOf result PortsFault.Write }
 {
-    let text = reply_text(reply);
-    if write_octets(replies, text.as_slice()).is_err() {
+    write_reply(&desk.reply, &mut desk.text);
+    if write_octets(replies, desk.text.as_slice()).is_err() {
         return Err(PortsFault::Write);
     }
     Ok(())
@@ -71,26 +79,26 @@ fn serve_feed<T: LineMachine, I: PortIn, O: PortOut, P: PortOut>(
     machine: &mut T,
     channel: u8,
     samples: FeedSamples,
+    desk: &mut Desk,
     inputs: &mut Vec<I>,
     outputs: &mut Vec<O>,
     replies: &mut P,
 ) -> Result<bool, PortsFault>
-    requires lawful { T.is_lawful }
     requires channel { IsReady T.takes_feeds T.channels machine.old channel }
-    requires one { length inputs.old.items ≡ T.channels }
-    requires pairs { length outputs.old.items ≡ T.channels }
+    requires one { length inputs.old.items ≡ T.channels machine.old }
+    requires pairs { length outputs.old.items ≡ T.channels machine.old }
     requires ready { AreReady (map I.source inputs.old.items) (map O.sink outputs.old.items) (P.sink replies.old) }
-    ensures inputs { IsOk result → length inputs.new.items ≡ T.channels }
-    ensures outputs { IsOk result → length outputs.new.items ≡ T.channels }
+    ensures inputs { IsOk result → length inputs.new.items ≡ T.channels machine.new }
+    ensures outputs { IsOk result → length outputs.new.items ≡ T.channels machine.new }
     ensures ready { IsOk result → AreReady (map I.source inputs.new.items) (map O.sink outputs.new.items) (P.sink replies.new) }
     ensures read { IsErrOf result PortsFault.Read → Any HasFailedIn (map I.source inputs.new.items) }
     ensures write { IsErrOf result PortsFault.Write → Any HasFailedOut (map O.sink outputs.new.items) ⊎ HasFailedOut (P.sink replies.new) }
     ensures waits { AllWait (map O.sink outputs.old.items) (map O.sink outputs.new.items) (P.sink replies.old) (P.sink replies.new) }
     ensures served { IfOk result (λ refused. (s : T.State) → T.keeps machine.old s → All IsHonest (map I.source inputs.old.items)
-        → IsServed (T.keeps machine.new) (feed_answer T.machine (run_of s (map I.source inputs.old.items)) channel (SAMPLE_OCTETS * samples.number)) refused
+        → IsServed (T.keeps machine.new) (FeedAnswer T.machine (run_of s (map I.source inputs.old.items)) channel (SAMPLE_OCTETS * samples.number)) refused
         (map I.source inputs.new.items) (map O.sink outputs.old.items) (map O.sink outputs.new.items) (P.sink replies.old) (P.sink replies.new)) }
     ensures cut { IsErrOf result PortsFault.Write → (s : T.State) → T.keeps machine.old s → All IsHonest (map I.source inputs.old.items)
-        → IsCut (feed_answer T.machine (run_of s (map I.source inputs.old.items)) channel (SAMPLE_OCTETS * samples.number))
+        → IsCut (FeedAnswer T.machine (run_of s (map I.source inputs.old.items)) channel (SAMPLE_OCTETS * samples.number))
         (map I.source inputs.new.items) (map O.sink outputs.old.items) (map O.sink outputs.new.items) (P.sink replies.old) (P.sink replies.new) }
     ensures unread { IsErrOf result PortsFault.Read → StepsAt (FailsWithin (SAMPLE_OCTETS * samples.number)) channel no_source (map I.source inputs.old.items) (map I.source inputs.new.items) }
     ensures unfed { IsErrOf result PortsFault.Read → Writes [] (map O.sink outputs.old.items) (map O.sink outputs.new.items) (P.sink replies.old) (P.sink replies.new) }
@@ -103,7 +111,8 @@ fn serve_feed<T: LineMachine, I: PortIn, O: PortOut, P: PortOut>(
         Err(_) => return Err(PortsFault::Read),
     };
     if !whole {
-        return match tell(replies, &Reply::No(Refusal::Short)) {
+        desk.reply = Reply::No(Refusal::Short);
+        return match tell(replies, desk) {
             Ok(()) => Ok(true),
             Err(fault) => Err(fault),
         };
@@ -113,7 +122,8 @@ fn serve_feed<T: LineMachine, I: PortIn, O: PortOut, P: PortOut>(
     if write_to(outputs, c, &output[..SAMPLE_OCTETS * count]).is_err() {
         return Err(PortsFault::Write);
     }
-    match tell(replies, &Reply::Count(count as u32)) {
+    desk.reply = Reply::Count(count as u32);
+    match tell(replies, desk) {
         Ok(()) => Ok(false),
         Err(fault) => Err(fault),
     }
@@ -124,45 +134,49 @@ pub(crate) fn serve_line<T: LineMachine, I: PortIn, O: PortOut, P: PortOut>(
     machine: &mut T,
     line: &[u8],
     long: bool,
+    desk: &mut Desk,
     inputs: &mut Vec<I>,
     outputs: &mut Vec<O>,
     replies: &mut P,
 ) -> Result<bool, PortsFault>
-    requires lawful { T.is_lawful }
     requires short { length line.now ≤ LINE_OCTETS }
-    requires one { length inputs.old.items ≡ T.channels }
-    requires pairs { length outputs.old.items ≡ T.channels }
+    requires one { length inputs.old.items ≡ T.channels machine.old }
+    requires pairs { length outputs.old.items ≡ T.channels machine.old }
     requires ready { AreReady (map I.source inputs.old.items) (map O.sink outputs.old.items) (P.sink replies.old) }
-    ensures inputs { IsOk result → length inputs.new.items ≡ T.channels }
-    ensures outputs { IsOk result → length outputs.new.items ≡ T.channels }
+    ensures inputs { IsOk result → length inputs.new.items ≡ T.channels machine.new }
+    ensures outputs { IsOk result → length outputs.new.items ≡ T.channels machine.new }
     ensures ready { IsOk result → AreReady (map I.source inputs.new.items) (map O.sink outputs.new.items) (P.sink replies.new) }
     ensures read { IsErrOf result PortsFault.Read → Any HasFailedIn (map I.source inputs.new.items) }
     ensures write { IsErrOf result PortsFault.Write → Any HasFailedOut (map O.sink outputs.new.items) ⊎ HasFailedOut (P.sink replies.new) }
     ensures waits { AllWait (map O.sink outputs.old.items) (map O.sink outputs.new.items) (P.sink replies.old) (P.sink replies.new) }
     ensures served { IfOk result (λ refused. (octets : List ℕ) (s : T.State) → IsLine LINE_OCTETS line.now long octets → T.keeps machine.old s → All IsHonest (map I.source inputs.old.items)
-        → IsServed (T.keeps machine.new) (line_answer T.machine (run_of s (map I.source inputs.old.items)) octets) refused
+        → IsServed (T.keeps machine.new) (LineAnswer T.machine (run_of s (map I.source inputs.old.items)) octets) refused
         (map I.source inputs.new.items) (map O.sink outputs.old.items) (map O.sink outputs.new.items) (P.sink replies.old) (P.sink replies.new)) }
     ensures cut { IsErrOf result PortsFault.Write → (octets : List ℕ) (s : T.State) → IsLine LINE_OCTETS line.now long octets → T.keeps machine.old s → All IsHonest (map I.source inputs.old.items)
-        → IsCut (line_answer T.machine (run_of s (map I.source inputs.old.items)) octets)
+        → IsCut (LineAnswer T.machine (run_of s (map I.source inputs.old.items)) octets)
         (map I.source inputs.new.items) (map O.sink outputs.old.items) (map O.sink outputs.new.items) (P.sink replies.old) (P.sink replies.new) }
     ensures unfed { IsErrOf result PortsFault.Read → (octets : List ℕ) (s : T.State) → IsLine LINE_OCTETS line.now long octets → T.keeps machine.old s
         → IsUnfed T.machine s octets (map I.source inputs.old.items) (map I.source inputs.new.items)
         (map O.sink outputs.old.items) (map O.sink outputs.new.items) (P.sink replies.old) (P.sink replies.new) }
 {
     if long {
-        return match tell(replies, &Reply::No(Refusal::Long)) {
+        desk.reply = Reply::No(Refusal::Long);
+        return match tell(replies, desk) {
             Ok(()) => Ok(true),
             Err(fault) => Err(fault),
         };
     }
-    match machine.ask(line) {
+    match machine.ask(line, &mut desk.reply) {
         Ask::Nothing => Ok(false),
-        Ask::Tell(reply) => match tell(replies, &reply) {
-            Ok(()) => Ok(reply.is_refusal()),
-            Err(fault) => Err(fault),
-        },
+        Ask::Tell => {
+            let refused = desk.reply.is_refusal();
+            match tell(replies, desk) {
+                Ok(()) => Ok(refused),
+                Err(fault) => Err(fault),
+            }
+        }
         Ask::Feed { channel, samples } => {
-            serve_feed(machine, channel, samples, inputs, outputs, replies)
+            serve_feed(machine, channel, samples, desk, inputs, outputs, replies)
         }
     }
 }

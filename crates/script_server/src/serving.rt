@@ -4,11 +4,11 @@ ghost use Rattle.octet_ports.specs.Ports.{GivesWithin};
 ghost use Rattle.script_server.specs.Runs.{AreReady, AllWait, ServesAll, EndsWell, EndsByRead, EndsByWrite, known_of, run_of};
 
 use crate::limits::SCRIPT_OCTETS;
-use crate::line::{flush_outputs, serve_line};
-use crate::machine::LineMachine;
+use crate::line::{Desk, flush_outputs, serve_line};
 use arrayvec::ArrayVec;
+use line_machine::LineMachine;
 use octet_ports::{PortIn, PortOut, read_line};
-use voice_script::LINE_OCTETS;
+use voice_script::{LINE_OCTETS, Reply};
 
 /// Which ports ended a run.
 #[derive(Clone, Copy, PartialEq, Eq, Debug)]
@@ -28,11 +28,10 @@ fn serve_script<T: LineMachine, S: PortIn, I: PortIn, O: PortOut, P: PortOut>(
     replies: &mut P,
 ) -> Result<u64, PortsFault>
     ghost state: { T.State }
-    requires lawful { T.is_lawful }
     requires kept { T.keeps machine.old state }
     requires script { (S.source script.old).failed ≡ false }
-    requires one { length inputs.old.items ≡ T.channels }
-    requires pairs { length outputs.old.items ≡ T.channels }
+    requires one { length inputs.old.items ≡ T.channels machine.old }
+    requires pairs { length outputs.old.items ≡ T.channels machine.old }
     requires ready { AreReady (map I.source inputs.old.items) (map O.sink outputs.old.items) (P.sink replies.old) }
     ensures few { GivesWithin (SCRIPT_OCTETS + 1) (S.source script.old) (S.source script.new) }
     ensures waits { AllWait (map O.sink outputs.old.items) (map O.sink outputs.new.items) (P.sink replies.old) (P.sink replies.new) }
@@ -49,6 +48,10 @@ fn serve_script<T: LineMachine, S: PortIn, I: PortIn, O: PortOut, P: PortOut>(
     let mut left = SCRIPT_OCTETS;
     let mut refused: u64 = 0;
     let mut text: ArrayVec<u8, LINE_OCTETS> = ArrayVec::new();
+    let mut desk = Desk {
+        reply: Reply::Done,
+        text: ArrayVec::new(),
+    };
     'lines: loop {
         text.clear();
         let line = match read_line(script, &mut text, &mut left) {
@@ -59,6 +62,7 @@ fn serve_script<T: LineMachine, S: PortIn, I: PortIn, O: PortOut, P: PortOut>(
             machine,
             text.as_slice(),
             line.long,
+            &mut desk,
             inputs,
             outputs,
             replies,
@@ -89,11 +93,10 @@ pub fn serve<T: LineMachine, S: PortIn, I: PortIn, O: PortOut, P: PortOut>(
     replies: &mut P,
 ) -> Result<u64, PortsFault>
     ghost state: { T.State }
-    requires lawful { T.is_lawful }
     requires kept { T.keeps machine.old state }
     requires script { (S.source script.old).failed ≡ false }
-    requires one { length inputs.old.items ≡ T.channels }
-    requires pairs { length outputs.old.items ≡ T.channels }
+    requires one { length inputs.old.items ≡ T.channels machine.old }
+    requires pairs { length outputs.old.items ≡ T.channels machine.old }
     requires ready { AreReady (map I.source inputs.old.items) (map O.sink outputs.old.items) (P.sink replies.old) }
     ensures few { GivesWithin (SCRIPT_OCTETS + 1) (S.source script.old) (S.source script.new) }
     ensures ok { IfOk result (λ refused. EndsWell T.machine (run_of state (map I.source inputs.old.items)) refused

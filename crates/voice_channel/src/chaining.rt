@@ -78,6 +78,7 @@ impl<M: Ialg> Channels<M> {
         requires least { 1 ≤ length members.now }
         requires most { length members.now ≤ MEMBERS }
         ensures refused { OnErr result (self.new ≡ self.old) }
+        ensures count { length self.new.chained ≡ length self.old.chained }
         ensures machine { Serves M.meaning M.idle_keeps M.active_keeps (Chain c members.now result) self.old self.new }
     {
         members_live_in_one_channel::<M>();
@@ -96,6 +97,7 @@ impl<M: Ialg> Channels<M> {
     /// changes nothing.
     pub fn unchain(&mut self, c: u8) -> Result<(), Refusal>
         ensures refused { OnErr result (self.new ≡ self.old) }
+        ensures count { length self.new.chained ≡ length self.old.chained }
         ensures machine { Serves M.meaning M.idle_keeps M.active_keeps (Unchain c result) self.old self.new }
     {
         members_live_in_one_channel::<M>();
@@ -113,6 +115,7 @@ impl<M: Ialg> Channels<M> {
     /// `Range` and `Missing` as the host's, then `Busy` where the instance is in a channel. A refused call changes nothing.
     pub fn delete(&mut self, i: u8) -> Result<(), Refusal>
         ensures refused { OnErr result (self.new ≡ self.old) }
+        ensures chained { self.new.chained ≡ self.old.chained }
         ensures machine { Serves M.meaning M.idle_keeps M.active_keeps (Remove i result) self.old self.new }
     {
         members_live_in_one_channel::<M>();

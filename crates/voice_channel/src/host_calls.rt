@@ -22,6 +22,7 @@ impl<M: Ialg> Channels<M> {
     /// `Range`, `Taken`, `Params` and `Room`, as the host's. A refused call changes nothing.
     pub fn create(&mut self, i: u8, kind: M, group: u8, p: &Params) -> Result<(), Refusal>
         ensures refused { OnErr result (self.new ≡ self.old) }
+        ensures chained { self.new.chained ≡ self.old.chained }
         ensures machine { Serves M.meaning M.idle_keeps M.active_keeps (OfHost (Create i kind group p.now.items result)) self.old self.new }
     {
         members_live_in_one_channel::<M>();
@@ -35,6 +36,7 @@ impl<M: Ialg> Channels<M> {
     /// `Range`, `Missing` and `Command`, as the host's. A refused call changes nothing.
     pub fn control(&mut self, i: u8, c: &Ctl) -> Result<Status, Refusal>
         ensures refused { OnErr result (self.new ≡ self.old) }
+        ensures chained { self.new.chained ≡ self.old.chained }
         ensures machine { Serves M.meaning M.idle_keeps M.active_keeps (OfHost (Control i (control_of c.now) (told result))) self.old self.new }
     {
         members_live_in_one_channel::<M>();
@@ -48,6 +50,7 @@ impl<M: Ialg> Channels<M> {
     /// `Range` where the number is past the last group's. Nothing has happened then.
     pub fn release(&mut self, group: u8) -> Result<bool, Refusal>
         ensures refused { OnErr result (self.new ≡ self.old) }
+        ensures chained { self.new.chained ≡ self.old.chained }
         ensures machine { Serves M.meaning M.idle_keeps M.active_keeps (OfHost (Release group result)) self.old self.new }
     {
         members_live_in_one_channel::<M>();
@@ -56,6 +59,7 @@ impl<M: Ialg> Channels<M> {
 
     /// Moves the first block of the space that can be moved down, and says whether one moved.
     pub fn step(&mut self, space: Space) -> bool
+        ensures chained { self.new.chained ≡ self.old.chained }
         ensures machine { Serves M.meaning M.idle_keeps M.active_keeps (OfHost (Step space result)) self.old self.new }
     {
         members_live_in_one_channel::<M>();
@@ -64,6 +68,7 @@ impl<M: Ialg> Channels<M> {
 
     /// Steps until no block of the space moves, and says how many blocks moved.
     pub fn compact(&mut self, space: Space) -> u32
+        ensures chained { self.new.chained ≡ self.old.chained }
         ensures machine { Serves M.meaning M.idle_keeps M.active_keeps (OfHost (Compact space result)) self.old self.new }
     {
         members_live_in_one_channel::<M>();

@@ -1,6 +1,6 @@
 //! Which instances are in which channel.
-ghost use Rattle.std.specs.Prelude.{◌≡◌, ◌<◌, Ok, IfNone, length};
-ghost use Rattle.channel_machine.specs.Channels.{Channels as State};
+ghost use Rattle.std.specs.Prelude.{◌≡◌, ◌<◌, true, Ok, None, IfNone, IsOk, length};
+ghost use Rattle.channel_machine.specs.Channels.{Channels as State, members_at, is_chained};
 ghost use Rattle.channel_machine.specs.Steps.{channel_refusal, unless};
 ghost use Rattle.channel_machine.specs.Calls.Call.{Ready};
 ghost use Rattle.voice_channel.specs.Channels.{Serves};
@@ -10,7 +10,8 @@ use ialg::{Ialg, Refusal};
 
 // What a call that changes nothing answers.
 fn answered<M>(refusal: Option<Refusal>) -> Result<(), Refusal>
-    ensures { (state : State M) → (result, state) ≡ unless refusal state (Ok tt, state) }
+    ensures granted { IsOk result → refusal ≡ None }
+    ensures answer { (state : State M) → (result, state) ≡ unless refusal state (Ok tt, state) }
 {
     match refusal {
         Some(refusal) => Err(refusal),
@@ -23,6 +24,7 @@ impl<M: Ialg> Channels<M> {
     pub(crate) fn refusal(&self, c: u8) -> Option<Refusal>
         ensures refusal { (state : State M) → state.chained ≡ self.now.chained → channel_refusal state c ≡ result }
         ensures number { IfNone result (c < length self.now.chained) }
+        ensures able { IfNone result (is_chained (members_at self.now.chained c) ≡ true) }
     {
         let c = c as usize;
         if c >= self.channels.len() {
@@ -40,6 +42,8 @@ impl<M: Ialg> Channels<M> {
     ///
     /// `Range` where the number isn't below the number of channels, and `Missing` where the channel has no members.
     pub fn ready(&self, c: u8) -> Result<(), Refusal>
+        ensures there { IsOk result → c < length self.now.chained }
+        ensures able { IsOk result → is_chained (members_at self.now.chained c) ≡ true }
         ensures machine { Serves M.meaning M.idle_keeps M.active_keeps (Ready c result) self.now self.now }
     {
         answered::<M>(self.refusal(c))

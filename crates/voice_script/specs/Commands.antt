@@ -1,14 +1,24 @@
 -- What a contract sees of parsed lines.
-use Rattle.std.specs.Prelude.{[], ◌∷◌, Option, Some, None, Result, Ok, Err}
+use Rattle.std.specs.Prelude.{Option, Some, None, Result, Ok, Err}
 use Rattle.ialg.specs.declared.refusal.Refusal.{Refusal}
 use Rattle.voice_script.specs.Script as script
 use Rattle.voice_script.specs.declared.commands.Command.{Command}
-use Rattle.voice_script.specs.declared.commands.Command.TheVariants.{Create, Chain, Feed}
+use Rattle.voice_script.specs.declared.commands.Command.TheVariants.{Create, Set, Reset, Get, Delete, Chain, Unchain, Feed, Compact, Step, Release, Map, Stat}
 
 abbrev pub command_of : {M : Type 0} → Command M → script.Command M
 command_of (Create instance kind group parameters) = script.Create instance kind group parameters.items
-command_of (Chain channel member) = script.Chain channel (member ∷ [])
+command_of (Set instance words) = script.Set instance words.items
+command_of (Reset instance) = script.Reset instance
+command_of (Get instance) = script.Get instance
+command_of (Delete instance) = script.Delete instance
+command_of (Chain channel members) = script.Chain channel members.numbers.items
+command_of (Unchain channel) = script.Unchain channel
 command_of (Feed channel samples) = script.Feed channel samples.number
+command_of (Compact space) = script.Compact space
+command_of (Step space) = script.Step space
+command_of (Release group) = script.Release group
+command_of (Map space) = script.Map space
+command_of (Stat group) = script.Stat group
 
 abbrev pub line_of : {M : Type 0} → Result (Option (Command M)) Refusal → Result (Option (script.Command M)) Refusal
 line_of (Ok (Some command)) = Ok (Some (command_of command))

@@ -1,11 +1,15 @@
 -- Rows on both sides of every limit: what lines ask, and the texts of replies.
-use Rattle.std.specs.Prelude.{◌≡◌, ℕ, List, [], ◌∷◌, ◌++◌, fold, replicate, pos, negsuc, Option, Some, None, Result, Ok, Err, if◌then◌else◌, bytes_eq, codes}
+use Rattle.std.specs.Prelude.{◌≡◌, ℕ, List, [], ◌∷◌, ◌++◌, fold, replicate, length, true, false, pos, negsuc, Option, Some, None, Result, Ok, Err, if◌then◌else◌, bytes_eq, codes}
 use Prim.Native.String.{String}
 use Rattle.ialg.specs.declared.refusal.Refusal.{Refusal}
 use Rattle.ialg.specs.declared.refusal.Refusal.TheVariants.{Long, Syntax, Range, Taken, Missing, Params, Room, Busy, Command, Short}
+use Rattle.mem_rec.specs.declared.Space.TheVariants.{Daram, Saram, External}
+use Rattle.space_blocks.specs.declared.placed.Owner.{Owner}
+use Rattle.space_blocks.specs.declared.placed.Owner.TheVariants.{Record, Scratch}
+use Rattle.space_blocks.specs.declared.placed.Placed.{Placed}
 use Rattle.voice_script.specs.Script as script
-use Rattle.voice_script.specs.Script.{Create, Chain, Feed, parsed}
-use Rattle.voice_script.specs.Replies.{Reply, Done, Count, No, reply_text}
+use Rattle.voice_script.specs.Script.{Create, Set, Reset, Get, Delete, Chain, Unchain, Feed, Compact, Step, Release, Map, Stat, parsed}
+use Rattle.voice_script.specs.Replies.{Reply, Done, Words, Count, Flag, Stat as Told, Map as Mapped, No, reply_text}
 
 -- ---- lines
 
@@ -106,19 +110,122 @@ pub record NameRows : Type 0 where
   pub feed_in_capitals : Refuses (codes "FEED 0 1") Syntax
   pub longer_name : Refuses (codes "feeds 0 1") Syntax
   pub shorter_name : Refuses (codes "fee 0 1") Syntax
-  pub unknown : Refuses (codes "stat 0") Syntax
+  pub unknown : Refuses (codes "status 0") Syntax
   pub chain_without_member : Refuses (codes "chain 0") Syntax
-  pub chain_with_two_members : Refuses (codes "chain 0 0 0") Syntax
   pub feed_without_samples : Refuses (codes "feed 0") Syntax
   pub feed_with_a_third_word : Refuses (codes "feed 0 1 2") Syntax
   pub third_word_before_range : Refuses (codes "feed 256 0 x") Syntax
+
+pub record ControlRows : Type 0 where
+  pub set_no_words : Asks (codes "control 3 set") (Set 3 [])
+  pub set_words : Asks (codes "control 3 set 5 -6") (Set 3 (pos 5 ∷ negsuc 5 ∷ []))
+  pub set_72_words : Asks (codes "control 3 set" ++ times 72 " 9") (Set 3 (replicate 72 (pos 9)))
+  pub set_73_words : Refuses (codes "control 3 set" ++ times 73 " 9") Range
+  pub last_of_73_no_number : Refuses (codes "control 3 set" ++ times 72 " 9" ++ codes " x") Syntax
+  pub set_least_word : Asks (codes "control 3 set -32768") (Set 3 (negsuc 32767 ∷ []))
+  pub set_below_words : Refuses (codes "control 3 set -32769") Range
+  pub set_greatest_word : Asks (codes "control 3 set 32767") (Set 3 (pos 32767 ∷ []))
+  pub set_above_words : Refuses (codes "control 3 set 32768") Range
+  pub set_of_255 : Asks (codes "control 255 set") (Set 255 [])
+  pub set_of_256 : Refuses (codes "control 256 set") Range
+  pub set_of_256_no_number : Refuses (codes "control 256 set x") Syntax
+  pub reset : Asks (codes "control 255 reset") (Reset 255)
+  pub reset_of_256 : Refuses (codes "control 256 reset") Range
+  pub reset_with_a_word : Refuses (codes "control 256 reset 0") Syntax
+  pub get : Asks (codes "control 255 get") (Get 255)
+  pub get_of_256 : Refuses (codes "control 256 get") Range
+  pub get_with_a_word : Refuses (codes "control 3 get 0") Syntax
+  pub no_control : Refuses (codes "control 3") Syntax
+  pub unknown_control : Refuses (codes "control 256 put") Syntax
+  pub control_of_no_number : Refuses (codes "control x get") Syntax
+  pub control_in_capitals : Refuses (codes "control 3 GET") Syntax
+
+pub record ChainRows : Type 0 where
+  pub one_member : Asks (codes "chain 0 7") (Chain 0 (7 ∷ []))
+  pub two_members : Asks (codes "chain 2 7 3") (Chain 2 (7 ∷ 3 ∷ []))
+  pub member_twice : Asks (codes "chain 2 7 7") (Chain 2 (7 ∷ 7 ∷ []))
+  pub members_8 : Asks (codes "chain 0" ++ times 8 " 9") (Chain 0 (replicate 8 9))
+  pub members_9 : Refuses (codes "chain 0" ++ times 9 " 9") Range
+  pub last_of_9_no_number : Refuses (codes "chain 0" ++ times 8 " 9" ++ codes " x") Syntax
+  pub last_of_8_is_256 : Refuses (codes "chain 0" ++ times 7 " 9" ++ codes " 256") Range
+  pub channel_256_without_member : Refuses (codes "chain 256") Syntax
+
+pub record OneNumberRows : Type 0 where
+  pub delete_0 : Asks (codes "delete 0") (Delete 0)
+  pub delete_255 : Asks (codes "delete 255") (Delete 255)
+  pub delete_256 : Refuses (codes "delete 256") Range
+  pub delete_below_0 : Refuses (codes "delete -1") Range
+  pub delete_alone : Refuses (codes "delete") Syntax
+  pub delete_with_two_words : Refuses (codes "delete 256 x") Syntax
+  pub delete_of_no_number : Refuses (codes "delete x") Syntax
+  pub unchain_0 : Asks (codes "unchain 0") (Unchain 0)
+  pub unchain_255 : Asks (codes "unchain 255") (Unchain 255)
+  pub unchain_256 : Refuses (codes "unchain 256") Range
+  pub unchain_below_0 : Refuses (codes "unchain -1") Range
+  pub unchain_alone : Refuses (codes "unchain") Syntax
+  pub unchain_with_two_words : Refuses (codes "unchain 256 x") Syntax
+  pub unchain_of_no_number : Refuses (codes "unchain x") Syntax
+  pub release_0 : Asks (codes "release 0") (Release 0)
+  pub release_255 : Asks (codes "release 255") (Release 255)
+  pub release_256 : Refuses (codes "release 256") Range
+  pub release_below_0 : Refuses (codes "release -1") Range
+  pub release_alone : Refuses (codes "release") Syntax
+  pub release_with_two_words : Refuses (codes "release 256 x") Syntax
+  pub release_of_no_number : Refuses (codes "release x") Syntax
+  pub stat_0 : Asks (codes "stat 0") (Stat 0)
+  pub stat_255 : Asks (codes "stat 255") (Stat 255)
+  pub stat_256 : Refuses (codes "stat 256") Range
+  pub stat_below_0 : Refuses (codes "stat -1") Range
+  pub stat_alone : Refuses (codes "stat") Syntax
+  pub stat_with_two_words : Refuses (codes "stat 256 x") Syntax
+  pub stat_of_no_number : Refuses (codes "stat x") Syntax
+
+pub record OneSpaceRows : Type 0 where
+  pub compact_daram : Asks (codes "compact daram") (Compact Daram)
+  pub compact_saram : Asks (codes "compact saram") (Compact Saram)
+  pub compact_external : Asks (codes "compact external") (Compact External)
+  pub compact_alone : Refuses (codes "compact") Syntax
+  pub compact_with_two_words : Refuses (codes "compact daram daram") Syntax
+  pub compact_in_capitals : Refuses (codes "compact DARAM") Syntax
+  pub compact_of_a_number : Refuses (codes "compact 0") Syntax
+  pub step_daram : Asks (codes "step daram") (Step Daram)
+  pub step_saram : Asks (codes "step saram") (Step Saram)
+  pub step_external : Asks (codes "step external") (Step External)
+  pub step_alone : Refuses (codes "step") Syntax
+  pub step_with_two_words : Refuses (codes "step daram daram") Syntax
+  pub step_in_capitals : Refuses (codes "step DARAM") Syntax
+  pub step_of_a_number : Refuses (codes "step 0") Syntax
+  pub map_daram : Asks (codes "map daram") (Map Daram)
+  pub map_saram : Asks (codes "map saram") (Map Saram)
+  pub map_external : Asks (codes "map external") (Map External)
+  pub map_alone : Refuses (codes "map") Syntax
+  pub map_with_two_words : Refuses (codes "map daram daram") Syntax
+  pub map_in_capitals : Refuses (codes "map DARAM") Syntax
+  pub map_of_a_number : Refuses (codes "map 0") Syntax
 
 -- ---- replies
 
 abbrev pub IsTold : Reply → String → Type 0
 IsTold reply text = reply_text reply ≡ codes text ++ 10 ∷ []
 
+abbrev pub block : Owner → ℕ → ℕ → Placed
+block owner place size = record { owner = owner; place = place; size = size; align = 4 }
+
 pub record ReplyRows : Type 0 where
+  pub no_words : IsTold (Words []) "ok"
+  pub words : IsTold (Words (pos 0 ∷ negsuc 0 ∷ pos 10 ∷ [])) "ok 0 -1 10"
+  pub least_word : IsTold (Words (negsuc 32767 ∷ [])) "ok -32768"
+  pub greatest_word : IsTold (Words (pos 32767 ∷ [])) "ok 32767"
+  pub words_72 : reply_text (Words (replicate 72 (negsuc 8))) ≡ codes "ok" ++ times 72 " -9" ++ 10 ∷ []
+  pub yes : IsTold (Flag true) "ok 1"
+  pub no : IsTold (Flag false) "ok 0"
+  pub no_active : IsTold (Told None 0) "ok - 0"
+  pub active_0 : IsTold (Told (Some 0) 1) "ok 0 1"
+  pub active_63 : IsTold (Told (Some 63) 4294967295) "ok 63 4294967295"
+  pub empty_map : IsTold (Mapped []) "ok"
+  pub scratch : IsTold (Mapped (block (Scratch 0) 272 260 ∷ [])) "ok g0@272+260"
+  pub two_blocks : IsTold (Mapped (block (Record 63 3) 0 4 ∷ block (Scratch 7) 4 196608 ∷ [])) "ok i63.r3@0+4 g7@4+196608"
+  pub longest_map : length (reply_text (Mapped (replicate 264 (block (Record 255 255) 4294967295 4294967295)))) ≡ 8451
   pub done : IsTold Done "ok"
   pub least_count : IsTold (Count 0) "ok 0"
   pub ten : IsTold (Count 10) "ok 10"

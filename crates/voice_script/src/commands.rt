@@ -1,30 +1,77 @@
 //! Commands, and the lines that ask them.
 ghost use Rattle.std.specs.Prelude.{◌≡◌};
-ghost use Rattle.voice_script.specs.Script.{create_row, chain_row, feed_row, command_of, parsed};
+ghost use Rattle.voice_script.specs.Script.{create_row, set_row, reset_row, get_row, control_row, chain_row, feed_row, command_of, parsed};
 ghost use Rattle.voice_script.specs.Readings.{to_come};
 ghost use Rattle.voice_script.specs.Commands.{line_of};
 ghost use Rattle.voice_script.specs.RowViews.{row_of};
 
+use crate::members::Members;
+use crate::numbers::Number;
 use crate::samples::FeedSamples;
 use crate::words::{Words, without_return};
-use ialg::{Named, Params, Refusal};
+use ialg::{Named, Params, Refusal, Words as ControlWords};
+use mem_rec::Space;
 
-/// What a line asks.
+/// What a line asks: a variant for each row of the grammar.
 #[derive(Drop)]
 pub enum Command<M> {
+    /// A new instance.
     Create {
         instance: u8,
         kind: M,
         group: u8,
         parameters: Params,
     },
+    /// These words come into force.
+    Set {
+        instance: u8,
+        words: ControlWords,
+    },
+    /// The past samples are forgotten.
+    Reset {
+        instance: u8,
+    },
+    /// The instance's words are asked for.
+    Get {
+        instance: u8,
+    },
+    /// The instance ends.
+    Delete {
+        instance: u8,
+    },
+    /// A new channel of these instances.
     Chain {
         channel: u8,
-        member: u8,
+        members: Members,
     },
+    /// The channel ends; its members stay.
+    Unchain {
+        channel: u8,
+    },
+    /// So many samples of the channel's input go through its members.
     Feed {
         channel: u8,
         samples: FeedSamples,
+    },
+    /// All blocks of the space move as low as they can.
+    Compact {
+        space: Space,
+    },
+    /// One block of the space moves, if one can.
+    Step {
+        space: Space,
+    },
+    /// The active member of the group is deactivated.
+    Release {
+        group: u8,
+    },
+    /// The blocks of the space are asked for.
+    Map {
+        space: Space,
+    },
+    /// The active member of the group and its activations are asked for.
+    Stat {
+        group: u8,
     },
 }
 
@@ -44,16 +91,67 @@ fn create_row<M: Named + Copy>(mut words: Words<'_>) -> Result<Command<M>, Refus
     })
 }
 
-/// `chain` C I
+/// `control` I `set` W*
+fn set_row<M: Copy>(instance: Number<'_>, words: Words<'_>) -> Result<Command<M>, Refusal>
+    ensures { row_of result ≡ set_row instance.entry.word.now (to_come words.entry) }
+{
+    let words = words.parameters()?;
+    Ok(Command::Set {
+        instance: instance.byte()?,
+        words,
+    })
+}
+
+/// `control` I `reset`
+fn reset_row<M: Copy>(instance: Number<'_>, words: Words<'_>) -> Result<Command<M>, Refusal>
+    ensures { row_of result ≡ reset_row instance.entry.word.now (to_come words.entry) }
+{
+    words.end()?;
+    Ok(Command::Reset {
+        instance: instance.byte()?,
+    })
+}
+
+/// `control` I `get`
+fn get_row<M: Copy>(instance: Number<'_>, words: Words<'_>) -> Result<Command<M>, Refusal>
+    ensures { row_of result ≡ get_row instance.entry.word.now (to_come words.entry) }
+{
+    words.end()?;
+    Ok(Command::Get {
+        instance: instance.byte()?,
+    })
+}
+
+/// `control` I and the word behind it
+fn control_row<M: Copy>(mut words: Words<'_>) -> Result<Command<M>, Refusal>
+    ensures { row_of result ≡ control_row (to_come words.entry) }
+{
+    let instance = words.number()?;
+    let Some(control) = words.next() else {
+        return Err(Refusal::Syntax);
+    };
+    if control == b"set".as_slice() {
+        set_row(instance, words)
+    } else if control == b"reset".as_slice() {
+        reset_row(instance, words)
+    } else if control == b"get".as_slice() {
+        get_row(instance, words)
+    } else {
+        Err(Refusal::Syntax)
+    }
+}
+
+/// `chain` C I+
 fn chain_row<M: Copy>(mut words: Words<'_>) -> Result<Command<M>, Refusal>
     ensures { row_of result ≡ chain_row (to_come words.entry) }
 {
     let channel = words.number()?;
-    let member = words.number()?;
-    words.end()?;
+    let Some(members) = Members::of(words.members()?) else {
+        return Err(Refusal::Syntax);
+    };
     Ok(Command::Chain {
         channel: channel.byte()?,
-        member: member.byte()?,
+        members,
     })
 }
 
@@ -76,10 +174,40 @@ fn command_of<M: Named + Copy>(name: &[u8], words: Words<'_>) -> Result<Command<
 {
     if name == b"create".as_slice() {
         create_row(words)
+    } else if name == b"control".as_slice() {
+        control_row(words)
+    } else if name == b"delete".as_slice() {
+        Ok(Command::Delete {
+            instance: words.only_number()?,
+        })
     } else if name == b"chain".as_slice() {
         chain_row(words)
+    } else if name == b"unchain".as_slice() {
+        Ok(Command::Unchain {
+            channel: words.only_number()?,
+        })
     } else if name == b"feed".as_slice() {
         feed_row(words)
+    } else if name == b"compact".as_slice() {
+        Ok(Command::Compact {
+            space: words.only_space()?,
+        })
+    } else if name == b"step".as_slice() {
+        Ok(Command::Step {
+            space: words.only_space()?,
+        })
+    } else if name == b"release".as_slice() {
+        Ok(Command::Release {
+            group: words.only_number()?,
+        })
+    } else if name == b"map".as_slice() {
+        Ok(Command::Map {
+            space: words.only_space()?,
+        })
+    } else if name == b"stat".as_slice() {
+        Ok(Command::Stat {
+            group: words.only_number()?,
+        })
     } else {
         Err(Refusal::Syntax)
     }

@@ -1,13 +1,16 @@
 //! The words of a row, by what each stands for.
 ghost use Rattle.std.specs.Prelude.{◌≡◌, Ok, Err, true, false, ◌&&◌, ◌++◌, ◌∷◌, [], nat_lt, length, map, IfOk, IfErr, is_ok, IsErr, if◌then◌else◌};
 ghost use Rattle.std.specs.List.{list_all};
-ghost use Rattle.voice_script.specs.Script.{is_number, value_of, fits_word, fit_words};
+ghost use Rattle.voice_script.specs.Script.{is_number, value_of, natural, fits_byte, fits_word, fit_words, fit_members, only_number, only_space, space_named};
 ghost use Rattle.voice_script.specs.Readings.{begins_with_number, kind_first, at_end, to_come};
+ghost use Rattle.voice_script.specs.declared.limits.TheConstants.{MEMBERS};
 
+use crate::members::MemberNumbers;
 use crate::numbers::Number;
 use crate::words::Words;
 use arrayvec::ArrayVec;
 use ialg::{Named, PARAMETER_WORDS, Params, Refusal};
+use mem_rec::Space;
 
 /// Keeps one parameter more: false where it is out of its range or there are too many, and nothing is kept.
 fn keep(parameters: &mut Params, number: Number<'_>) -> bool
@@ -18,6 +21,33 @@ fn keep(parameters: &mut Params, number: Number<'_>) -> bool
     match number.sample() {
         Ok(parameter) => parameters.try_push(parameter).is_ok(),
         Err(_) => false,
+    }
+}
+
+/// Keeps one member more: false where its number is out of its range or there are too many, and nothing is kept.
+fn keep_member(members: &mut MemberNumbers, number: Number<'_>) -> bool
+    ensures fits { result ≡ (fits_byte number.entry.word.now && nat_lt (length members.old.items) MEMBERS) }
+    ensures kept { result ≡ true → members.new.items ≡ members.old.items ++ natural number.entry.word.now ∷ [] }
+    ensures same { result ≡ false → members.new ≡ members.old }
+{
+    match number.byte() {
+        Ok(member) => members.try_push(member).is_ok(),
+        Err(_) => false,
+    }
+}
+
+/// The space of this name: `syntax` for every other word.
+fn space_named(word: &[u8]) -> Result<Space, Refusal>
+    ensures { result ≡ space_named word.now }
+{
+    if word == b"daram".as_slice() {
+        Ok(Space::Daram)
+    } else if word == b"saram".as_slice() {
+        Ok(Space::Saram)
+    } else if word == b"external".as_slice() {
+        Ok(Space::External)
+    } else {
+        Err(Refusal::Syntax)
     }
 }
 
@@ -65,6 +95,49 @@ impl<'a> Words<'a> {
         } else {
             Err(Refusal::Range)
         }
+    }
+
+    /// All words that are left, as the numbers of members: `syntax` where one is no number, and else `range`
+    /// where one is out of its range or there are too many.
+    pub(crate) fn members(self) -> Result<MemberNumbers, Refusal>
+        ensures fits { is_ok result ≡ (list_all is_number (to_come self.entry) && fit_members (to_come self.entry)) }
+        ensures value { IfOk result (λ members. members.items ≡ map natural (to_come self.entry)) }
+        ensures refusal { IfErr result (λ refusal. refusal ≡ (if list_all is_number (to_come self.entry) then Refusal.Range else Refusal.Syntax)) }
+    {
+        let mut members = ArrayVec::new();
+        let mut fit = true;
+        for word in self {
+            let Some(number) = Number::of(word) else {
+                return Err(Refusal::Syntax);
+            };
+            fit = fit && keep_member(&mut members, number);
+        }
+        if fit {
+            Ok(members)
+        } else {
+            Err(Refusal::Range)
+        }
+    }
+
+    /// The only word that is left, the number of an instance, a group or a channel.
+    pub(crate) fn only_number(mut self) -> Result<u8, Refusal>
+        ensures { result ≡ only_number (to_come self.entry) }
+    {
+        let number = self.number()?;
+        self.end()?;
+        number.byte()
+    }
+
+    /// The only word that is left, a space.
+    pub(crate) fn only_space(mut self) -> Result<Space, Refusal>
+        ensures { result ≡ only_space (to_come self.entry) }
+    {
+        let Some(word) = self.next() else {
+            return Err(Refusal::Syntax);
+        };
+        let space = space_named(word)?;
+        self.end()?;
+        Ok(space)
     }
 
     /// `syntax` where a word is left.

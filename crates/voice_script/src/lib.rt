@@ -4,6 +4,7 @@
 mod commands;
 mod fields;
 mod limits;
+mod members;
 mod numbers;
 mod replies;
 mod rows;
@@ -13,7 +14,8 @@ mod tests;
 mod words;
 
 pub use commands::{Command, parse};
-pub use limits::{FEED_SAMPLES, LINE_OCTETS, REPLY_OCTETS};
-pub use replies::{Reply, ReplyText, reply_text};
+pub use limits::{FEED_SAMPLES, LINE_OCTETS, MEMBERS, REPLY_OCTETS};
+pub use members::Members;
+pub use replies::{Reply, ReplyText, reply_text, write_reply};
 pub use rows::grammar_rows;
 pub use samples::FeedSamples;

@@ -1,22 +1,36 @@
 //! Replies and their texts.
-ghost use Rattle.std.specs.Prelude.{◌≡◌, ◌≤◌, ◌+◌, ◌++◌, ◌<◌, [], length, decimal};
+ghost use Rattle.std.specs.Prelude.{◌≡◌, ◌≤◌, ◌+◌, ◌*◌, ◌++◌, ◌<◌, [], length, decimal};
+ghost use Rattle.std.specs.List.{flat_map};
+ghost use Rattle.std.specs.Fmt.{signed_decimal};
 ghost use Rattle.arrayvec.specs.ArrayVec.{array_vec_len};
-ghost use Rattle.voice_script.specs.Replies.{line_text, reply_text, is_refusal};
+ghost use Rattle.voice_script.specs.Replies.{active_text, owner_text, block_text, word_text, entry_text, line_text, reply_text, is_refusal, Stat as told_stat, No as told_no};
 
-use crate::limits::{NUMBER_DIGITS, REPLY_OCTETS};
+use crate::limits::{
+    BYTE_DIGITS, ENTRY_OCTETS, NUMBER_DIGITS, OWNER_OCTETS, REPLY_OCTETS, WORD_OCTETS,
+};
 use arrayvec::ArrayVec;
-use ialg::Refusal;
+use ialg::{Refusal, Words};
+use scratch_group::Stat;
+use space_blocks::{Map, Owner, Placed};
 
 /// The line of a reply.
 pub type ReplyText = ArrayVec<u8, REPLY_OCTETS>;
 
 /// What is replied to a command.
-#[derive(Clone, Copy, PartialEq, Eq, Debug)]
+#[derive(PartialEq, Eq, Debug, Drop)]
 pub enum Reply {
     /// It is done.
     Done,
-    /// A feed gave so many samples.
+    /// An instance's words.
+    Words(Words),
+    /// So many samples were output, or so many blocks were moved.
     Count(u32),
+    /// Whether something was there to do.
+    Flag(bool),
+    /// A group's active member and activations.
+    Stat(Stat),
+    /// The blocks of a space, in the order of their places.
+    Map(Map),
     /// It is refused.
     No(Refusal),
 }
@@ -48,6 +62,117 @@ fn push_number(text: &mut ReplyText, number: u32)
     push_digits(text, number);
 }
 
+/// Puts the number of an instance, a record or a group.
+fn push_byte(text: &mut ReplyText, number: u8)
+    requires { array_vec_len text.old + BYTE_DIGITS ≤ REPLY_OCTETS }
+    ensures text { text.new.items ≡ text.old.items ++ decimal number }
+    ensures few { length (decimal number) ≤ BYTE_DIGITS }
+{
+    push_digits(text, u32::from(number));
+}
+
+/// Puts a space and the word.
+fn push_word(text: &mut ReplyText, word: i16)
+    requires { array_vec_len text.old + WORD_OCTETS ≤ REPLY_OCTETS }
+    ensures text { text.new.items ≡ text.old.items ++ word_text word }
+    ensures room { array_vec_len text.new ≤ array_vec_len text.old + WORD_OCTETS }
+{
+    push_all(text, b" ");
+    if word < 0 {
+        push_all(text, b"-");
+    }
+    push_number(text, u32::from(word.unsigned_abs()));
+}
+
+/// Puts each word after one space.
+fn push_words(text: &mut ReplyText, words: &[i16])
+    requires { array_vec_len text.old + length words.now * WORD_OCTETS ≤ REPLY_OCTETS }
+    ensures text { text.new.items ≡ text.old.items ++ flat_map word_text words.now }
+    ensures room { array_vec_len text.new ≤ array_vec_len text.old + length words.now * WORD_OCTETS }
+{
+    for word in words {
+        push_word(text, *word);
+    }
+}
+
+fn push_owner(text: &mut ReplyText, owner: Owner)
+    requires { array_vec_len text.old + OWNER_OCTETS ≤ REPLY_OCTETS }
+    ensures text { text.new.items ≡ text.old.items ++ owner_text owner }
+    ensures room { array_vec_len text.new ≤ array_vec_len text.old + OWNER_OCTETS }
+{
+    match owner {
+        Owner::Record(instance, record) => {
+            push_all(text, b"i");
+            push_byte(text, instance);
+            push_all(text, b".r");
+            push_byte(text, record);
+        }
+        Owner::Scratch(group) => {
+            push_all(text, b"g");
+            push_byte(text, group);
+        }
+    }
+}
+
+/// Puts a space and the block.
+fn push_entry(text: &mut ReplyText, block: Placed)
+    requires { array_vec_len text.old + ENTRY_OCTETS ≤ REPLY_OCTETS }
+    ensures text { text.new.items ≡ text.old.items ++ entry_text block }
+    ensures room { array_vec_len text.new ≤ array_vec_len text.old + ENTRY_OCTETS }
+{
+    push_all(text, b" ");
+    push_owner(text, block.owner);
+    push_all(text, b"@");
+    push_number(text, block.place);
+    push_all(text, b"+");
+    push_number(text, block.size);
+}
+
+/// Puts each block after one space.
+fn push_map(text: &mut ReplyText, blocks: &[Placed])
+    requires { array_vec_len text.old + length blocks.now * ENTRY_OCTETS ≤ REPLY_OCTETS }
+    ensures text { text.new.items ≡ text.old.items ++ flat_map entry_text blocks.now }
+    ensures room { array_vec_len text.new ≤ array_vec_len text.old + length blocks.now * ENTRY_OCTETS }
+{
+    for block in blocks {
+        push_entry(text, *block);
+    }
+}
+
+/// Puts the number of the active member, or a minus.
+fn push_active(text: &mut ReplyText, active: Option<u8>)
+    requires { array_vec_len text.old + BYTE_DIGITS ≤ REPLY_OCTETS }
+    ensures text { text.new.items ≡ text.old.items ++ active_text active }
+    ensures room { array_vec_len text.new ≤ array_vec_len text.old + BYTE_DIGITS }
+{
+    match active {
+        Some(member) => push_byte(text, member),
+        None => push_all(text, b"-"),
+    }
+}
+
+fn push_stat(text: &mut ReplyText, stat: Stat)
+    requires { text.old.items ≡ [] }
+    ensures line { text.new.items ≡ line_text (told_stat stat.active stat.activations) }
+    ensures room { array_vec_len text.new < REPLY_OCTETS }
+{
+    push_all(text, b"ok ");
+    push_active(text, stat.active);
+    push_all(text, b" ");
+    push_number(text, stat.activations);
+}
+
+fn push_refusal(text: &mut ReplyText, refusal: Refusal)
+    requires { text.old.items ≡ [] }
+    ensures line { text.new.items ≡ line_text (told_no refusal) }
+    ensures room { array_vec_len text.new < REPLY_OCTETS }
+{
+    push_all(text, b"no ");
+    push_number(text, u32::from(refusal.number()));
+    push_all(text, b" ");
+    push_all(text, refusal.name().as_bytes());
+}
+
 impl Reply {
     ghost use Rattle.voice_script.specs.ReplyViews.{reply_of};
 
@@ -59,16 +184,21 @@ impl Reply {
     {
         match self {
             Reply::Done => push_all(text, b"ok"),
+            Reply::Words(words) => {
+                push_all(text, b"ok");
+                push_words(text, words.as_slice());
+            }
             Reply::Count(count) => {
                 push_all(text, b"ok ");
                 push_number(text, *count);
             }
-            Reply::No(refusal) => {
-                push_all(text, b"no ");
-                push_number(text, u32::from(refusal.number()));
-                push_all(text, b" ");
-                push_all(text, refusal.name().as_bytes());
+            Reply::Flag(flag) => push_all(text, if *flag { b"ok 1" } else { b"ok 0" }),
+            Reply::Stat(stat) => push_stat(text, *stat),
+            Reply::Map(blocks) => {
+                push_all(text, b"ok");
+                push_map(text, blocks.as_slice());
             }
+            Reply::No(refusal) => push_refusal(text, *refusal),
         }
     }
 
@@ -82,12 +212,20 @@ impl Reply {
 
 ghost use Rattle.voice_script.specs.ReplyViews.{reply_of};
 
+/// Puts the line of a reply, with its line feed, in place of what the text held.
+pub fn write_reply(reply: &Reply, text: &mut ReplyText)
+    ensures { text.new.items ≡ reply_text (reply_of reply.now) }
+{
+    text.clear();
+    reply.push_line(text);
+    text.push(b'\n');
+}
+
 /// The line that is written for a reply, with its line feed.
 pub fn reply_text(reply: &Reply) -> ReplyText
     ensures { result.items ≡ reply_text (reply_of reply.now) }
 {
     let mut text = ArrayVec::new();
-    reply.push_line(&mut text);
-    text.push(b'\n');
+    write_reply(reply, &mut text);
     text
 }

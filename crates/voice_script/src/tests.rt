@@ -57,10 +57,11 @@ fn parses_a_creation(rt: HostRuntime) -> Result<(), Fail> {
 
 #[test]
 fn parses_a_chain(rt: HostRuntime) -> Result<(), Fail> {
-    let Ok(Some(Command::<Pitch>::Chain { channel, member })) = parse(b"chain 7 255") else {
+    let Ok(Some(Command::<Pitch>::Chain { channel, members })) = parse(b"chain 7 255 0") else {
         return Err("it is a chain".into());
     };
-    assert!(rt; (channel, member) == (7, 255));
+    assert!(rt; channel == 7);
+    assert!(rt; members.as_slice() == [255, 0].as_slice());
     Ok(())
 }
 
@@ -120,6 +121,8 @@ fn tells_each_reply(rt: HostRuntime) {
     assert!(rt; reply_text(&Reply::Count(0)).as_slice() == b"ok 0\n".as_slice());
     assert!(rt; reply_text(&Reply::Count(u32::MAX)).as_slice() == b"ok 4294967295\n".as_slice());
     assert!(rt; reply_text(&Reply::No(Refusal::Short)).as_slice() == b"no 10 short\n".as_slice());
+    assert!(rt; reply_text(&Reply::Flag(true)).as_slice() == b"ok 1\n".as_slice());
+    assert!(rt; reply_text(&Reply::Flag(false)).as_slice() == b"ok 0\n".as_slice());
     assert!(rt; Reply::No(Refusal::Long).is_refusal());
     assert!(rt; !Reply::Count(1).is_refusal());
 }

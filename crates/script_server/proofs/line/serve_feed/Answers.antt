@@ -1,6 +1,6 @@
 use Rattle.std.proofs.Common.{◌≡◌, ◌<◌, ◌*◌, length, true, false, arith, ◌∙◌, Ok, refl, sym, subst}
 use Rattle.std.proofs.lemmas.Grind.{common_steps}
-use Rattle.script_server.specs.declared.limits.TheConstants.{SAMPLE_OCTETS}
+use Rattle.line_machine.specs.declared.limits.TheConstants.{SAMPLE_OCTETS}
 use Rattle.script_server.proofs.Steps.{there_in, same_length}
 use Rattle.script_server.proofs.Writes.{writes_none, wait_none, wait_more, wait_reply, wait_took, wait_took_first}
 use Rattle.script_server.proofs.Feeds.{served_short, cut_short, served_whole, cut_output, cut_told}
@@ -16,7 +16,7 @@ returns-in-Ok-tell-clause-served g c = λ s k h.
     let answer : c.read_from.result ≡ Ok false = cc in
     let count : length c.read_from.new.octets ≡ SAMPLE_OCTETS * c.args.samples.number = grind (arith, common_steps, c.read_from.auto.octets) in
     let same = c.read_from.auto.octets in
-    served_short (g.T.LineMachine.keeps c.args.machine.now) g.T.LineMachine.machine s _ k there h
+    served_short g.T.LineMachine.machine s (g.T.LineMachine.keeps c.args.machine.now) _ k there h
     (rw (number, sym same ∙ count) at (c.read_from.ensures.short answer)) (c.in-Ok-tell.ensures.ok refl)
 
 pub returns-in-Err-tell-clause-cut : goal.returns-in-Err-tell-clause-cut
@@ -35,7 +35,8 @@ returns-then-is_err-clause-cut g c = λ is s k h.
     let pairs = same_length g.O.PortOut.sink g.I.PortIn.source c.args.outputs.now.items c.args.inputs.now.items c.requires.pairs c.requires.one in
     let answer : c.read_from.result ≡ Ok true = cc in
     let count : length c.read_from.new.octets ≡ SAMPLE_OCTETS * c.args.samples.number = grind (arith, common_steps, c.read_from.auto.octets) in
-    cut_output g.T.LineMachine.machine s _ there pairs h count (rw number at (c.read_from.ensures.filled answer)) (c.feed-count.ensures.output s k)
+    let given = c.feed-count.ensures.gives s k in
+    cut_output g.T.LineMachine.machine s _ there pairs h count (rw number at (c.read_from.ensures.filled answer)) given.1
     (rw number at (c.write_to.ensures.fault (sym c.is_err.ensures.value ∙ c.if-is_err.true)))
 
 pub returns-in-Ok-tell-2-clause-served : goal.returns-in-Ok-tell-2-clause-served
@@ -45,8 +46,9 @@ returns-in-Ok-tell-2-clause-served g c = λ s k h.
     let pairs = same_length g.O.PortOut.sink g.I.PortIn.source c.args.outputs.now.items c.args.inputs.now.items c.requires.pairs c.requires.one in
     let answer : c.read_from.result ≡ Ok true = cc in
     let count : length c.read_from.new.octets ≡ SAMPLE_OCTETS * c.args.samples.number = grind (arith, common_steps, c.read_from.auto.octets) in
-    served_whole (g.T.LineMachine.keeps c.feed-count.new.self) g.T.LineMachine.machine s (c.feed-count.ensures.after s k) there pairs h count
-    (rw number at (c.read_from.ensures.filled answer)) (c.feed-count.ensures.output s k) (c.feed-count.ensures.told s k)
+    let given = c.feed-count.ensures.gives s k in
+    served_whole g.T.LineMachine.machine s (g.T.LineMachine.keeps c.feed-count.new.self) given.2 there pairs h count
+    (rw number at (c.read_from.ensures.filled answer)) given.1
     (rw number at (c.write_to.ensures.ok c.if-is_err.ensures.negation)) (c.in-Ok-tell-2.ensures.ok refl)
 
 pub returns-in-Err-tell-2-clause-cut : goal.returns-in-Err-tell-2-clause-cut
@@ -56,8 +58,8 @@ returns-in-Err-tell-2-clause-cut g c = λ is s k h.
     let pairs = same_length g.O.PortOut.sink g.I.PortIn.source c.args.outputs.now.items c.args.inputs.now.items c.requires.pairs c.requires.one in
     let answer : c.read_from.result ≡ Ok true = cc in
     let count : length c.read_from.new.octets ≡ SAMPLE_OCTETS * c.args.samples.number = grind (arith, common_steps, c.read_from.auto.octets) in
-    cut_told g.T.LineMachine.machine s there pairs h count (rw number at (c.read_from.ensures.filled answer)) (c.feed-count.ensures.output s k)
-    (c.feed-count.ensures.told s k) (rw number at (c.write_to.ensures.ok c.if-is_err.ensures.negation)) (c.in-Err-tell-2.ensures.fault refl)
+    let given = c.feed-count.ensures.gives s k in
+    cut_told g.T.LineMachine.machine s there pairs h count (rw number at (c.read_from.ensures.filled answer)) given.1 (rw number at (c.write_to.ensures.ok c.if-is_err.ensures.negation)) (c.in-Err-tell-2.ensures.fault refl)
 
 -- ---- nothing is passed on
 
@@ -72,15 +74,15 @@ returns-in-Err-tell-clause-waits g c = wait_reply _ (c.in-Err-tell.ensures.fault
 
 pub returns-then-is_err-clause-waits : goal.returns-then-is_err-clause-waits
 returns-then-is_err-clause-waits g c =
-    let there = there_in g.O.PortOut.sink c.args.outputs.now.items c.requires.pairs (subst (λ n. n < g.T.LineMachine.channels) (sym c.from-c.ensures) c.requires.channel.there) in
+    let there = there_in g.O.PortOut.sink c.args.outputs.now.items c.requires.pairs (subst (λ n. n < g.T.LineMachine.channels c.args.machine.now) (sym c.from-c.ensures) c.requires.channel.there) in
     wait_took_first _ there (c.write_to.ensures.fault (sym c.is_err.ensures.value ∙ c.if-is_err.true))
 
 pub returns-in-Ok-tell-2-clause-waits : goal.returns-in-Ok-tell-2-clause-waits
 returns-in-Ok-tell-2-clause-waits g c =
-    let there = there_in g.O.PortOut.sink c.args.outputs.now.items c.requires.pairs (subst (λ n. n < g.T.LineMachine.channels) (sym c.from-c.ensures) c.requires.channel.there) in
+    let there = there_in g.O.PortOut.sink c.args.outputs.now.items c.requires.pairs (subst (λ n. n < g.T.LineMachine.channels c.args.machine.now) (sym c.from-c.ensures) c.requires.channel.there) in
     wait_more (wait_took _ there (c.write_to.ensures.ok c.if-is_err.ensures.negation)) (wait_reply _ (c.in-Ok-tell-2.ensures.ok refl).waits)
 
 pub returns-in-Err-tell-2-clause-waits : goal.returns-in-Err-tell-2-clause-waits
 returns-in-Err-tell-2-clause-waits g c =
-    let there = there_in g.O.PortOut.sink c.args.outputs.now.items c.requires.pairs (subst (λ n. n < g.T.LineMachine.channels) (sym c.from-c.ensures) c.requires.channel.there) in
+    let there = there_in g.O.PortOut.sink c.args.outputs.now.items c.requires.pairs (subst (λ n. n < g.T.LineMachine.channels c.args.machine.now) (sym c.from-c.ensures) c.requires.channel.there) in
     wait_more (wait_took _ there (c.write_to.ensures.ok c.if-is_err.ensures.negation)) (wait_reply _ (c.in-Err-tell-2.ensures.fault refl).first.waits)

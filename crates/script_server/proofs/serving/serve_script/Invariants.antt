@@ -7,8 +7,8 @@ use Rattle.script_server.proofs.serving.serve_script.Given as goal
 abbrev pub invariant-lines : goal.invariant-lines
 invariant-lines g l = record {
   script : (g.S.PortIn.source l.script).failed ≡ false;
-  one : length l.inputs.items ≡ g.T.LineMachine.channels;
-  pairs : length l.outputs.items ≡ g.T.LineMachine.channels;
+  one : length l.inputs.items ≡ g.T.LineMachine.channels l.machine;
+  pairs : length l.outputs.items ≡ g.T.LineMachine.channels l.machine;
   ready : AreReady (map g.I.PortIn.source l.inputs.items) (map g.O.PortOut.sink l.outputs.items) (g.P.PortOut.sink l.replies);
   few : l.refused + l.left ≤ SCRIPT_OCTETS;
   came : Consumes l.left (g.S.PortIn.source l.initial.script) (g.S.PortIn.source l.script);

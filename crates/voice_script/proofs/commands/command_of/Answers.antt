@@ -7,8 +7,11 @@ returns-then-eq c = grind arith
 pub returns-then-eq-2 : goal.returns-then-eq-2
 returns-then-eq-2 c = grind arith
 
-pub returns-then-eq-3 : goal.returns-then-eq-3
-returns-then-eq-3 c = grind arith
+pub returns-then-eq-4 : goal.returns-then-eq-4
+returns-then-eq-4 c = grind arith
 
-pub returns-else-eq-3 : goal.returns-else-eq-3
-returns-else-eq-3 c = grind arith
+pub returns-then-eq-6 : goal.returns-then-eq-6
+returns-then-eq-6 c = grind arith
+
+pub returns-else-eq-11 : goal.returns-else-eq-11
+returns-else-eq-11 c = grind arith

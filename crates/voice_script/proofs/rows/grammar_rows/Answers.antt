@@ -18,3 +18,15 @@ returns-clause-names c = lemmas.names
 
 pub returns-clause-replies : goal.returns-clause-replies
 returns-clause-replies c = lemmas.replies
+
+pub returns-clause-controls : goal.returns-clause-controls
+returns-clause-controls c = lemmas.controls
+
+pub returns-clause-chains : goal.returns-clause-chains
+returns-clause-chains c = lemmas.chains
+
+pub returns-clause-one_numbers : goal.returns-clause-one_numbers
+returns-clause-one_numbers c = lemmas.one_numbers
+
+pub returns-clause-one_spaces : goal.returns-clause-one_spaces
+returns-clause-one_spaces c = lemmas.one_spaces

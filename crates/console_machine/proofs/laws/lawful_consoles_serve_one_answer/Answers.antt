@@ -1,0 +1,9 @@
+use Rattle.voice_script.specs.Script.{lines_of}
+use Rattle.console_machine.proofs.AnswerLemmas.{lines_same}
+use Rattle.console_machine.proofs.laws.lawful_consoles_serve_one_answer.Goals as goal
+
+pub returns-clause-lines : goal.returns-clause-lines
+returns-clause-lines g c = λ kinds named sizes poison lines inputs answer lawful a. lines_same kinds poison lawful named sizes lines inputs answer a
+
+pub returns-clause-script : goal.returns-clause-script
+returns-clause-script g c = λ kinds named sizes poison script inputs answer lawful a. lines_same kinds poison lawful named sizes (lines_of script) inputs answer a

@@ -1,0 +1,77 @@
+-- What a console serves where the kinds are lawful: then nothing is free, and it is a function. No poison word occurs in it.
+use Rattle.std.specs.Prelude.{ℕ, ℤ, List, length, Option, Some, None, Result, Ok, Err}
+use Rattle.ialg.specs.declared.refusal.Refusal.{Refusal}
+use Rattle.ialg.specs.History as history
+use Rattle.ialg.specs.Meaning.{Meaning}
+use Rattle.host_spaces.specs.declared.spaces.Sizes.{Sizes}
+use Rattle.host_spaces.specs.Picture.{blocks_in}
+use Rattle.sound_machine.specs.State.{State}
+use Rattle.sound_machine.specs.Steps as host
+use Rattle.sound_machine.specs.Answers.{accepted, status_at}
+use Rattle.channel_machine.specs.Channels.{Channels, members_at}
+use Rattle.channel_machine.specs.Steps as channels
+use Rattle.channel_machine.specs.Steps.{on_host}
+use Rattle.channel_machine.specs.Answers.{passed}
+use Rattle.voice_script.specs.Script.{Command, Create, Set, Reset, Get, Delete, Chain, Unchain, Feed, Compact, Step, Release, Map, Stat, lines_of, parsed}
+use Rattle.voice_script.specs.Replies as replies
+use Rattle.voice_script.specs.Replies.{Reply, No, reply_text}
+use Rattle.line_machine.specs.Served.{Asked, Nothing, Answer, tells}
+use Rattle.line_machine.specs.Computed.{Computed, lines_answer}
+use Rattle.console_machine.specs.Samples.{octets_of, samples_of}
+use Rattle.console_machine.specs.Console.{done, status_told, flag_told, activity_told, feed_asked, start}
+
+module _ {M : Type 0} where
+  -- the answer is told, of a call of the channels or of their host
+  abbrev pub tell : {A : Type 0} → (A → Reply) → A × Channels M → Asked × Channels M
+  tell reply outcome = (tells (reply outcome.0), outcome.1)
+
+  abbrev pub tell_of_host : {A : Type 0} → Channels M → (A → Reply) → A × State M → Asked × Channels M
+  tell_of_host before reply outcome = (tells (reply outcome.0), on_host before outcome.1)
+
+module _ {M : Type 0} (kinds : Meaning M) where
+  abbrev pub control_asks : Channels M → ℕ → history.Ctl → Asked × Channels M
+  control_asks before i c =
+      let x = before.host.living i in
+      tell_of_host before status_told (host.control before.host i c (accepted kinds x c) (status_at kinds x c))
+
+  -- what the command asks, and the channels after it
+  abbrev pub command_asks : Channels M → Command M → Asked × Channels M
+  command_asks before (Create i kind g words) = tell_of_host before done (host.create before.host i kind g words (kinds.table kind words))
+  command_asks before (Set i words) = control_asks before i (history.Set words)
+  command_asks before (Reset i) = control_asks before i history.Reset
+  command_asks before (Get i) = control_asks before i history.Get
+  command_asks before (Delete i) = tell done (channels.delete before i)
+  command_asks before (Chain c is) = tell done (channels.chain before c is)
+  command_asks before (Unchain c) = tell done (channels.unchain before c)
+  command_asks before (Feed c n) = let o = channels.ready before c in (feed_asked c n o.0, o.1)
+  command_asks before (Compact space) = tell_of_host before replies.Count (host.compact before.host space)
+  command_asks before (Step space) = tell_of_host before replies.Flag (host.step before.host space)
+  command_asks before (Release g) = tell_of_host before flag_told (host.release before.host g)
+  command_asks before (Map space) = (tells (replies.Map (blocks_in before.host.picture space)), before)
+  command_asks before (Stat g) = tell_of_host before activity_told (host.stat before.host g)
+
+  abbrev pub line_asks : Channels M → Result (Option (Command M)) Refusal → Asked × Channels M
+  line_asks before (Ok (Some command)) = command_asks before command
+  line_asks before (Ok None) = (Nothing, before)
+  line_asks before (Err refusal) = (tells (No refusal), before)
+
+  -- what a channel gives for a block of samples, and the host after it
+  abbrev pub feed_passed : Channels M → ℕ → List ℕ → List ℤ × State M
+  feed_passed before c octets = passed kinds before.host (members_at before.chained c) (samples_of octets)
+
+  abbrev pub computed_console : (List ℕ → Option M) → Computed (Channels M)
+  computed_console named = record {
+    asked = λ before line. (line_asks before (parsed named line)).0;
+    after = λ before line. (line_asks before (parsed named line)).1;
+    output = λ before c octets. octets_of (feed_passed before c octets).0;
+    told = λ before c octets. reply_text (replies.Count (length (feed_passed before c octets).0));
+    fed = λ before c octets. on_host before (feed_passed before c octets).1;
+  }
+
+  -- what is served for lines and the octets of the inputs: what is written, in order, and what is left of the inputs
+  abbrev pub lines_served : (List ℕ → Option M) → Sizes → List (List ℕ) → List (List ℕ) → Answer (Channels M)
+  lines_served named sizes lines inputs = lines_answer (computed_console named) (start sizes None inputs) lines
+
+  -- for a whole script
+  abbrev pub served : (List ℕ → Option M) → Sizes → List ℕ → List (List ℕ) → Answer (Channels M)
+  served named sizes script inputs = lines_served named sizes (lines_of script) inputs

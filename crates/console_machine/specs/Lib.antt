@@ -1,0 +1,3 @@
+pub mod Console
+pub mod Samples
+pub mod Answers

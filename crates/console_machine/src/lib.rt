@@ -1,0 +1,6 @@
+//! What a console does with the lines of a script, as a machine over plain values.
+#![tactic(auto)]
+
+mod laws;
+
+pub use laws::lawful_consoles_serve_one_answer;

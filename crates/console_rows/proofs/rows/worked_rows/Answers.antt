@@ -1,0 +1,11 @@
+use Rattle.console_rows.proofs.RowLemmas as lemmas
+use Rattle.console_rows.proofs.rows.worked_rows.Goals as goal
+
+pub returns-clause-rows : goal.returns-clause-rows
+returns-clause-rows c = lemmas.worked_rows
+
+pub returns-clause-refusals : goal.returns-clause-refusals
+returns-clause-refusals c = lemmas.refusal_rows
+
+pub returns-clause-order : goal.returns-clause-order
+returns-clause-order c = lemmas.output_order

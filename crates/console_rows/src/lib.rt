@@ -1,0 +1,6 @@
+//! Worked rows of what a console of the hosted kinds serves, for tests.
+#![tactic(auto)]
+
+mod rows;
+
+pub use rows::worked_rows;

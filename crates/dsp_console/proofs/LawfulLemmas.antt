@@ -1,0 +1,39 @@
+-- Where the kinds are lawful, what a run served is what is served.
+use Rattle.std.proofs.Common.{◌≡◌, ℕ, ℤ, List, Option, All, Result, Ok, Err, IfOk, ap, subst, sym, ◌∙◌}
+use Rattle.dsp_console.specs.declared.serving.Summary.{Summary}
+use Rattle.dsp_console.specs.declared.serving.Fault.{Fault}
+use Rattle.ialg.specs.Meaning.{Meaning}
+use Rattle.host_spaces.specs.declared.spaces.Sizes.{Sizes}
+use Rattle.sound_machine.specs.Answers.{AreLawful}
+use Rattle.channel_machine.specs.Channels.{Channels}
+use Rattle.voice_script.specs.Script.{lines_of}
+use Rattle.line_machine.specs.Served.{Answer, LinesAnswer, order_of, refusals}
+use Rattle.script_server.specs.Runs.{Devices, EndsWell, IsHonest, Writes, octets_to_come}
+use Rattle.console_machine.specs.Console.{console_machine, start}
+use Rattle.console_machine.specs.Answers.{served}
+use Rattle.dsp_console.specs.Lawful.{ServesLawfully}
+
+-- a console of lawful kinds serves one answer
+abbrev pub ServesOne : Type 0 → Type 0
+ServesOne M = (kinds : Meaning M) (named : List ℕ → Option M) (sizes : Sizes) (poison : Option ℤ) (script : List ℕ) (inputs : List (List ℕ)) (answer : Answer (Channels M))
+    → AreLawful kinds poison → LinesAnswer (console_machine kinds named) (start sizes poison inputs) (lines_of script) answer
+    → (answer.written ≡ (served kinds named sizes script inputs).written) × (answer.run.inputs ≡ (served kinds named sizes script inputs).run.inputs)
+
+serves_lawfully : {M : Type 0} (kinds : Meaning M) (named : List ℕ → Option M) (sizes : Sizes) (poison : Option ℤ) (refused : ℕ) (old new : Devices)
+    → ServesOne M → AreLawful kinds poison → IsHonest old.script → All IsHonest old.inputs
+    → EndsWell (console_machine kinds named) (start sizes poison (octets_to_come old.inputs)) refused old new → ServesLawfully kinds named sizes refused old new
+serves_lawfully kinds named sizes poison refused old new law lawful script inputs ends =
+    let all = ends.serves.served script inputs in
+    let one = law kinds named sizes poison old.script.coming (octets_to_come old.inputs) all.answer lawful all.is_answer in
+    record {
+      writes = subst (λ written. Writes (order_of written) old.outputs new.outputs old.replies new.replies) one.0 all.writes;
+      inputs = sym one.1 ∙ all.inputs;
+      counted = ap refusals (sym one.0) ∙ all.counted;
+    }
+
+pub serve_lawfully : {M : Type 0} (kinds : Meaning M) (named : List ℕ → Option M) (sizes : Sizes) (poison : Option ℤ) (result : Result Summary Fault) (old new : Devices)
+    → ServesOne M → AreLawful kinds poison → IsHonest old.script → All IsHonest old.inputs
+    → IfOk result (λ summary. EndsWell (console_machine kinds named) (start sizes poison (octets_to_come old.inputs)) summary.refused old new)
+    → IfOk result (λ summary. ServesLawfully kinds named sizes summary.refused old new)
+serve_lawfully kinds named sizes poison (Ok summary) old new law lawful script inputs ends = serves_lawfully kinds named sizes poison summary.refused old new law lawful script inputs ends
+serve_lawfully kinds named sizes poison (Err fault) old new law lawful script inputs ends = tt

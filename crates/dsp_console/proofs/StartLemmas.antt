@@ -1,0 +1,54 @@
+-- A console that was just made keeps the first state, of the sizes and the poison word that its host has.
+use Rattle.std.proofs.Common.{◌≡◌, ℕ, ℤ, List, [], replicate, Option, Result, IfOk, ap, length, map, subst, sym, ◌∙◌}
+use Rattle.dsp_console.specs.declared.serving.Summary.{Summary}
+use Rattle.dsp_console.specs.declared.serving.Fault.{Fault}
+use Rattle.std.proofs.lemmas.List.{length-map}
+use Rattle.ialg.specs.Meaning.{Meaning}
+use Rattle.lifecycle.specs.States.{Relation}
+use Rattle.host_spaces.specs.declared.spaces.Sizes.{Sizes}
+use Rattle.host_spaces.specs.Picture.{sizes_of}
+use Rattle.sound_machine.specs.State.{State, new_state}
+use Rattle.alg_host.specs.Hosts.{HostState}
+use Rattle.alg_host.specs.Hosts as hosts
+use Rattle.octet_ports.specs.Ports.{Source}
+use Rattle.script_server.specs.Runs.{Devices, EndsByRead, EndsByWrite, EndsWell, octets_to_come, run_of}
+use Rattle.console_machine.specs.Console.{console_machine, new_channels, start}
+use Rattle.voice_console.specs.declared.console.Console.{Console}
+use Rattle.voice_console.specs.Consoles.{Keeps}
+use Rattle.dsp_console.specs.Fresh.{fresh}
+
+module _ {M : Type 0} (meaning : Meaning M) (idle_keeps active_keeps : Relation M) (console : Console M) (host : HostState M) (sizes : Sizes) (poison : Option ℤ) (sources : List Source)
+    (same : console.channels.host ≡ host) (keeps : hosts.Keeps meaning idle_keeps active_keeps host (new_state sizes poison)) where
+  is_fresh : fresh console sources ≡ new_channels sizes poison (length (octets_to_come sources))
+  is_fresh =
+      let its_sizes : sizes_of console.channels.host.spaces ≡ sizes = ap (λ h. sizes_of h.spaces) same ∙ keeps.kept.sizes in
+      let its_poison : console.channels.host.poison ≡ poison = ap (λ h. h.poison) same ∙ sym keeps.poison in
+      ap (λ z. new_channels z console.channels.host.poison (length (octets_to_come sources))) its_sizes ∙ ap (λ w. new_channels sizes w (length (octets_to_come sources))) its_poison
+
+  -- the run starts there
+  pub starts : run_of (fresh console sources) sources ≡ start sizes poison (octets_to_come sources)
+  starts = ap (λ s. run_of s sources) is_fresh
+
+  -- the console keeps it
+  pub kept : (count : ℕ) → length (octets_to_come sources) ≡ count
+      → ((state : State M) → hosts.Keeps meaning idle_keeps active_keeps host state → Keeps meaning idle_keeps active_keeps console (record { host = state; chained = replicate count [] }))
+      → Keeps meaning idle_keeps active_keeps console (fresh console sources)
+  kept count counted made = subst (Keeps meaning idle_keeps active_keeps console) (sym (is_fresh ∙ ap (new_channels sizes poison) counted)) (made (new_state sizes poison) keeps)
+
+  -- and ends from there
+  pub well : (named : List ℕ → Option M) (result : Result Summary Fault) (old new : Devices)
+      → IfOk result (λ summary. EndsWell (console_machine meaning named) (run_of (fresh console sources) sources) summary.refused old new)
+      → IfOk result (λ summary. EndsWell (console_machine meaning named) (start sizes poison (octets_to_come sources)) summary.refused old new)
+  well named result old new = subst (λ r. IfOk result (λ summary. EndsWell (console_machine meaning named) r summary.refused old new)) starts
+
+  pub by_read : (named : List ℕ → Option M) (A : Type 0) (old new : Devices) → (A → EndsByRead (console_machine meaning named) (run_of (fresh console sources) sources) old new)
+      → A → EndsByRead (console_machine meaning named) (start sizes poison (octets_to_come sources)) old new
+  by_read named A old new ends a = subst (λ r. EndsByRead (console_machine meaning named) r old new) starts (ends a)
+
+  pub by_write : (named : List ℕ → Option M) (A : Type 0) (old new : Devices) → (A → EndsByWrite (console_machine meaning named) (run_of (fresh console sources) sources) old new)
+      → A → EndsByWrite (console_machine meaning named) (start sizes poison (octets_to_come sources)) old new
+  by_write named A old new ends a = subst (λ r. EndsByWrite (console_machine meaning named) r old new) starts (ends a)
+
+-- each port has its octets to come
+pub as_many : {I : Type 0} (ports : List I) (source : I → Source) (count : ℕ) → count ≡ length ports → length (octets_to_come (map source ports)) ≡ count
+as_many ports source count counted = length-map (map source ports) (λ s. s.coming) ∙ length-map ports source ∙ sym counted

@@ -1,0 +1,27 @@
+use Rattle.std.proofs.Common.{◌∙◌, map}
+use Rattle.dsp_console.proofs.LawfulLemmas.{serve_lawfully}
+use Rattle.dsp_console.proofs.StartLemmas.{as_many, by_read, by_write, kept, well}
+use Rattle.dsp_console.proofs.serving.run.Goals as goal
+
+pub serve_console-served-requires-clause-kept : goal.serve_console-served-requires-clause-kept
+serve_console-served-requires-clause-kept g c =
+    kept g.M.Ialg.meaning g.M.Ialg.idle_keeps g.M.Ialg.active_keeps c.new-console.result c.in-Ok.host c.args.config.sizes c.args.config.poison (map g.I.PortIn.source c.args.inputs.now.items) c.new-console.ensures.host c.in-Ok.ensures.host c.len.result
+    (as_many c.args.inputs.now.items g.I.PortIn.source c.len.result (c.len.ensures ∙ c.args.inputs.now.ok.0))
+    c.new-console.ensures.keeps
+
+pub returns-clause-ok : goal.returns-clause-ok
+returns-clause-ok g c =
+    well g.M.Ialg.meaning g.M.Ialg.idle_keeps g.M.Ialg.active_keeps c.new-console.result c.in-Ok.host c.args.config.sizes c.args.config.poison (map g.I.PortIn.source c.args.inputs.now.items) c.new-console.ensures.host c.in-Ok.ensures.host _ _ _ _ c.serve_console-served.ensures.ok
+
+pub returns-clause-read : goal.returns-clause-read
+returns-clause-read g c =
+    by_read g.M.Ialg.meaning g.M.Ialg.idle_keeps g.M.Ialg.active_keeps c.new-console.result c.in-Ok.host c.args.config.sizes c.args.config.poison (map g.I.PortIn.source c.args.inputs.now.items) c.new-console.ensures.host c.in-Ok.ensures.host _ _ _ _ c.serve_console-served.ensures.read
+
+pub returns-clause-write : goal.returns-clause-write
+returns-clause-write g c =
+    by_write g.M.Ialg.meaning g.M.Ialg.idle_keeps g.M.Ialg.active_keeps c.new-console.result c.in-Ok.host c.args.config.sizes c.args.config.poison (map g.I.PortIn.source c.args.inputs.now.items) c.new-console.ensures.host c.in-Ok.ensures.host _ _ _ _ c.serve_console-served.ensures.write
+
+pub returns-clause-lawful : goal.returns-clause-lawful
+returns-clause-lawful g c = λ lawful script inputs.
+    serve_lawfully g.M.Ialg.meaning g.M.Named.named c.args.config.sizes c.args.config.poison _ _ _ c.lawful_consoles_serve_one_answer.ensures.script lawful script inputs
+    (well g.M.Ialg.meaning g.M.Ialg.idle_keeps g.M.Ialg.active_keeps c.new-console.result c.in-Ok.host c.args.config.sizes c.args.config.poison (map g.I.PortIn.source c.args.inputs.now.items) c.new-console.ensures.host c.in-Ok.ensures.host _ _ _ _ c.serve_console-served.ensures.ok)

@@ -1,0 +1,3 @@
+pub mod Asks
+pub mod Served
+pub mod Computed

@@ -1,0 +1,137 @@
+-- What may be served for a script's lines and the octets of the inputs, by what a machine may do with a line.
+use Rattle.std.specs.Prelude.{ℕ, ◌≡◌, ◌≤◌, ◌<◌, ◌-◌, Bool, true, false, List, [], ◌∷◌, ◌++◌, map, filter, length, drop, take, Option, Some, None, ◌==◌, slice_index_or, slice_set}
+use Rattle.std.specs.List.{flat_map, count_by}
+use Rattle.ialg.specs.declared.refusal.Refusal.TheVariants.{Long, Short}
+use Rattle.voice_script.specs.declared.limits.TheConstants.{LINE_OCTETS}
+use Rattle.voice_script.specs.Script.{lines_of}
+use Rattle.voice_script.specs.Replies.{Reply, No, is_refusal, reply_text}
+
+-- what a line asks: nothing, a reply, or so many octets of a channel's input
+pub data Asked : Type 0 where
+  Nothing : Asked
+  Tell : (text : List ℕ) (refused : Bool) → Asked
+  Feed : (channel count : ℕ) → Asked
+
+abbrev pub tells : Reply → Asked
+tells reply = Tell (reply_text reply) (is_refusal reply)
+
+-- what a machine may do with lines, by its state
+pub record Machine (S : Type 0) : Type 1 where
+  -- a line may ask this, and lead to this state
+  pub Asks : S → (line : List ℕ) → Asked → S → Type 0
+  -- to the octets that a line asked for, the channel may give this output and this reply, and lead to this state
+  pub Gives : S → (channel : ℕ) → (octets output told : List ℕ) → S → Type 0
+
+-- what is written for a line, in order
+pub data Written : Type 0 where
+  Output : (channel : ℕ) (octets : List ℕ) → Written
+  Replied : (text : List ℕ) (refused : Bool) → Written
+
+-- the machine's state, and the octets left on each input
+pub record Run (S : Type 0) : Type 0 where
+  pub state : S
+  pub inputs : List (List ℕ)
+
+pub record Answer (S : Type 0) : Type 0 where
+  pub run : Run S
+  pub written : List Written
+
+abbrev pub long_text : List ℕ
+long_text = reply_text (No Long)
+
+abbrev pub short_text : List ℕ
+short_text = reply_text (No Short)
+
+module _ {S : Type 0} where
+  abbrev pub replies : Run S → List ℕ → Bool → Answer S
+  replies run text refused = record { run = run; written = Replied text refused ∷ [] }
+
+  abbrev pub gives : Run S → ℕ → (output told : List ℕ) → Answer S
+  gives run channel output told = record { run = run; written = Output channel output ∷ Replied told false ∷ [] }
+
+  abbrev pub at_state : Run S → S → Run S
+  at_state run state = record run { state = state }
+
+  abbrev pub octets_left : Run S → ℕ → List ℕ
+  octets_left run channel = slice_index_or run.inputs channel []
+
+  -- what is read is gone
+  abbrev pub after_reading : Run S → ℕ → ℕ → Run S
+  after_reading run channel count =
+      record run { inputs = slice_set run.inputs channel (drop count (octets_left run channel)) }
+
+  abbrev pub then_answer : List Written → Answer S → Answer S
+  then_answer written answer = record { run = answer.run; written = written ++ answer.written }
+
+module _ {S : Type 0} (machine : Machine S) where
+  -- the channel took the octets
+  pub record FedAnswer (run : Run S) (channel : ℕ) (octets : List ℕ) (answer : Answer S) : Type 0 where
+    pub output : List ℕ
+    pub told : List ℕ
+    pub state : S
+    pub taken : machine.Gives run.state channel octets output told state
+    pub answered : answer ≡ gives (at_state run state) channel output told
+
+  -- too few octets are used up
+  pub record FeedAnswer (run : Run S) (channel count : ℕ) (answer : Answer S) : Type 0 where
+    pub short : length (octets_left run channel) < count → answer ≡ replies (after_reading run channel count) short_text true
+    pub whole : count ≤ length (octets_left run channel) → FedAnswer (after_reading run channel count) channel (take count (octets_left run channel)) answer
+
+  abbrev pub AskedAnswer : Run S → Asked → Answer S → Type 0
+  AskedAnswer run Nothing answer = answer ≡ record { run = run; written = [] }
+  AskedAnswer run (Tell text refused) answer = answer ≡ replies run text refused
+  AskedAnswer run (Feed channel count) answer = FeedAnswer run channel count answer
+
+  -- the line asked something, and that was answered
+  pub record ServedAnswer (run : Run S) (line : List ℕ) (answer : Answer S) : Type 0 where
+    pub asked : Asked
+    pub state : S
+    pub asks : machine.Asks run.state line asked state
+    pub answered : AskedAnswer (at_state run state) asked answer
+
+  -- a long line asks for nothing
+  pub record LineAnswer (run : Run S) (line : List ℕ) (answer : Answer S) : Type 0 where
+    pub long : LINE_OCTETS < length line → answer ≡ replies run long_text true
+    pub fits : length line ≤ LINE_OCTETS → ServedAnswer run line answer
+
+  -- the lines, one after the other
+  abbrev pub LinesAnswer : Run S → List (List ℕ) → Answer S → Type 0
+  LinesAnswer run [] answer = answer ≡ record { run = run; written = [] }
+  LinesAnswer run (line ∷ lines) answer =
+      (first : Answer S) × LineAnswer run line first × (rest : Answer S) × LinesAnswer first.run lines rest × (answer ≡ then_answer first.written rest)
+
+-- ---- the script
+
+-- the lines that a line feed ended
+abbrev pub ended_lines : List ℕ → List (List ℕ)
+ended_lines script = take (length (lines_of script) - 1) (lines_of script)
+
+-- ---- the octets
+
+-- an octet, and the output that it goes to: none is the replies
+abbrev pub Octet : Type 0
+Octet = Option ℕ × ℕ
+
+abbrev pub octets_written : Written → List Octet
+octets_written (Output channel octets) = map (λ b. (Some channel, b)) octets
+octets_written (Replied text refused) = map (λ b. (None, b)) text
+
+abbrev pub same_port : Option ℕ → Option ℕ → Bool
+same_port None None = true
+same_port (Some c) (Some d) = c == d
+same_port (Some c) None = false
+same_port None (Some d) = false
+
+-- what one port holds of octets in their order
+unfoldable pub held_by : Option ℕ → List Octet → List ℕ
+held_by port octets = map (λ o. o.1) (filter (λ o. same_port port o.0) octets)
+
+unfoldable pub order_of : List Written → List Octet
+order_of written = flat_map octets_written written
+
+abbrev pub is_refused : Written → Bool
+is_refused (Output channel octets) = false
+is_refused (Replied text refused) = refused
+
+unfoldable pub refusals : List Written → ℕ
+refusals written = count_by is_refused written

@@ -1,0 +1,8 @@
+//! What answers the lines of a script: what a line asks of the ports, and what is then given and told.
+#![tactic(auto)]
+
+mod limits;
+mod machine;
+
+pub use limits::{BLOCK_OCTETS, SAMPLE_OCTETS};
+pub use machine::{Ask, LineMachine};

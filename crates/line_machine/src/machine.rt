@@ -1,0 +1,65 @@
+//! What answers lines.
+ghost use Rattle.std.specs.Prelude.{◌≡◌, ◌≤◌, ◌*◌, ℕ, length, take};
+ghost use Rattle.ialg.specs.declared.TheConstants.{BLOCK_SAMPLES};
+ghost use Rattle.voice_script.specs.declared.limits.TheConstants.{LINE_OCTETS};
+ghost use Rattle.voice_script.specs.Replies.{Count, reply_text};
+ghost use Rattle.voice_script.specs.ReplyViews.{reply_of};
+ghost use Rattle.line_machine.specs.declared.limits.TheConstants.{SAMPLE_OCTETS};
+ghost use Rattle.line_machine.specs.Served.{Machine};
+ghost use Rattle.line_machine.specs.Asks.{asked_of, IsReady, AskIsReady};
+
+use crate::limits::BLOCK_OCTETS;
+use voice_script::{FeedSamples, Reply};
+
+/// What a line asks of the ports.
+#[derive(Clone, Copy, PartialEq, Eq, Debug)]
+pub enum Ask {
+    /// Nothing.
+    Nothing,
+    /// The reply that stands ready.
+    Tell,
+    /// The octets of so many samples of the channel's input.
+    Feed { channel: u8, samples: FeedSamples },
+}
+
+/// What answers a script's lines, and takes the samples that they ask for.
+pub trait LineMachine {
+    /// What it is, whatever memory it keeps that in.
+    ghost State: { Type 0 };
+
+    /// What it may do with lines.
+    ghost machine: { Machine State };
+
+    /// Its memory keeps this state.
+    ghost keeps: { Self → State → Type 0 };
+
+    /// Channels have the numbers below this.
+    ghost channels: { Self → ℕ };
+
+    /// A feed may give samples to the channel of this number.
+    ghost takes_feeds: { Self → ℕ → Type 0 };
+
+    /// Does what the line asks; a feed's samples are yet to come. Where a reply is asked for, it stands in `reply` then.
+    fn ask(&mut self, line: &[u8], reply: &mut Reply) -> Ask
+        requires short { length line.now ≤ LINE_OCTETS }
+        ensures channels { channels self.new ≡ channels self.old }
+        ensures ready { AskIsReady takes_feeds channels self.new result }
+        ensures asks { (s : State) → keeps self.old s
+            → (t : State) × machine.Asks s line.now (asked_of result (reply_of reply.new)) t × keeps self.new t };
+
+    /// Gives the samples of a feed to the channel. The octets of what it gives stand at the beginning of `output`; it
+    /// answers how many samples that are.
+    fn feed(
+        &mut self,
+        channel: u8,
+        samples: FeedSamples,
+        octets: &[u8],
+        output: &mut [u8; BLOCK_OCTETS],
+    ) -> usize
+        requires ready { IsReady takes_feeds channels self.old channel }
+        requires whole { length octets.now ≡ SAMPLE_OCTETS * samples.number }
+        ensures channels { channels self.new ≡ channels self.old }
+        ensures bounded { result ≤ BLOCK_SAMPLES }
+        ensures gives { (s : State) → keeps self.old s
+            → (t : State) × machine.Gives s channel octets.now (take (SAMPLE_OCTETS * result) output.new) (reply_text (Count result)) t × keeps self.new t };
+}

@@ -1,4 +1,0 @@
-pub mod ReadingLemmas
-pub mod ReplyLemmas
-pub mod RowLemmas
-pub mod WordLemmas

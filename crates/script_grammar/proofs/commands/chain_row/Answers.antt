@@ -1,7 +1,0 @@
-use Rattle.std.proofs.Common.{arith}
-use Rattle.std.proofs.lemmas.Bool.{and_parts}
-use Rattle.script_grammar.proofs.ReadingLemmas.{unfit}
-use Rattle.script_grammar.proofs.commands.chain_row.Goals as goal
-
-pub returns-in_err-channel : goal.returns-in_err-channel
-returns-in_err-channel c = grind (arith, and_parts, unfit)

@@ -1,5 +1,0 @@
-use Rattle.std.proofs.Common.{arith}
-use Rattle.script_grammar.proofs.commands.parse.Goals as goal
-
-pub returns : goal.returns
-returns c = grind arith

@@ -1,0 +1,2 @@
+pub mod SampleLemmas
+pub mod Served

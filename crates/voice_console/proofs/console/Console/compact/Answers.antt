@@ -1,0 +1,11 @@
+use Rattle.std.proofs.Common.{refl}
+use Rattle.channel_machine.specs.Calls.Call.{OfHost}
+use Rattle.sound_machine.specs.Calls.Call.{Compact}
+use Rattle.voice_script.specs.Replies.{Count}
+use Rattle.line_machine.specs.Served.{tells}
+use Rattle.voice_console.proofs.Served.{called}
+use Rattle.voice_console.proofs.console.Console.compact.Goals as goal
+
+pub returns-clause-asks : goal.returns-clause-asks
+returns-clause-asks g c =
+    called g.M.Ialg.meaning g.M.Ialg.idle_keeps g.M.Ialg.active_keeps (λ a. OfHost (Compact c.args.space a)) (λ a. tells (Count a)) c.compact.result _ _ _ c.compact.ensures.machine refl

@@ -1,0 +1,12 @@
+use Rattle.std.proofs.Common.{refl}
+use Rattle.channel_machine.specs.Calls.Call.{OfHost}
+use Rattle.sound_machine.specs.Calls.Call.{Map}
+use Rattle.voice_script.specs.Replies.{Map as Told}
+use Rattle.line_machine.specs.Served.{tells}
+use Rattle.voice_console.proofs.Served.{called}
+use Rattle.voice_console.proofs.console.Console.map.Goals as goal
+
+pub returns : goal.returns
+returns g c = record {
+  asks = called g.M.Ialg.meaning g.M.Ialg.idle_keeps g.M.Ialg.active_keeps (λ a. OfHost (Map c.args.space a)) (λ a. tells (Told a)) c.map.result.items _ _ _ c.map.ensures.machine refl;
+}

@@ -1,0 +1,11 @@
+use Rattle.std.proofs.Common.{refl}
+use Rattle.channel_machine.specs.Calls.Call.{OfHost}
+use Rattle.sound_machine.specs.Calls.Call.{Step}
+use Rattle.voice_script.specs.Replies.{Flag}
+use Rattle.line_machine.specs.Served.{tells}
+use Rattle.voice_console.proofs.Served.{called}
+use Rattle.voice_console.proofs.console.Console.step.Goals as goal
+
+pub returns-clause-asks : goal.returns-clause-asks
+returns-clause-asks g c =
+    called g.M.Ialg.meaning g.M.Ialg.idle_keeps g.M.Ialg.active_keeps (λ a. OfHost (Step c.args.space a)) (λ a. tells (Flag a)) c.step.result _ _ _ c.step.ensures.machine refl

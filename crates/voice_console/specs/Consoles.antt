@@ -1,0 +1,24 @@
+-- When a console keeps a state of the machine.
+use Rattle.std.specs.Prelude.{ℕ, ◌≡◌, true, length}
+use Rattle.ialg.specs.Meaning.{Meaning}
+use Rattle.lifecycle.specs.States.{Relation}
+use Rattle.channel_machine.specs.Channels.{Channels, members_at, is_chained}
+use Rattle.voice_channel.specs.Channels as channels
+use Rattle.line_machine.specs.Served.{Asked}
+use Rattle.voice_console.specs.declared.console.Console.{Console}
+
+-- as many channels as it was made with
+abbrev pub channels_of : {M : Type 0} → Console M → ℕ
+channels_of console = length console.channels.chained
+
+-- the channel has members
+abbrev pub TakesFeeds : {M : Type 0} → Console M → ℕ → Type 0
+TakesFeeds console c = is_chained (members_at console.channels.chained c) ≡ true
+
+abbrev pub Keeps : {M : Type 0} → Meaning M → Relation M → Relation M → Console M → Channels M → Type 0
+Keeps meaning idle_keeps active_keeps console state = channels.Keeps meaning idle_keeps active_keeps console.channels state
+
+-- whatever state the console kept, this was asked as it may be asked there, and the console keeps a state that comes after it
+abbrev pub Serves : {M : Type 0} → Meaning M → Relation M → Relation M → (Channels M → Asked → Channels M → Type 0) → Asked → Console M → Console M → Type 0
+Serves {M} meaning idle_keeps active_keeps Asks asked old new = (before : Channels M) → Keeps meaning idle_keeps active_keeps old before
+    → (after : Channels M) × Asks before asked after × Keeps meaning idle_keeps active_keeps new after

@@ -1,0 +1,38 @@
+//! The console: how it is made.
+ghost use Rattle.std.specs.Prelude.{◌≡◌, ◌≤◌, ℕ, false, [], replicate, length};
+ghost use Rattle.sound_machine.specs.State.{State};
+ghost use Rattle.alg_host.specs.Hosts.{lives};
+ghost use Rattle.alg_host.specs.Hosts as hosts;
+ghost use Rattle.voice_console.specs.Consoles.{Keeps, channels_of};
+
+use alg_host::Host;
+use ialg::Ialg;
+use voice_channel::{CHANNELS, Channels};
+
+/// A console over channels. It can't be copied, and must be given back by [`close`](Console::close).
+pub struct Console<M> {
+    pub(crate) channels: Channels<M>,
+}
+
+impl<M: Ialg> Console<M> {
+    /// A console with so many channels over a host without instances.
+    pub fn new(host: Host<M>, count: u8) -> Console<M>
+        requires least { 1 ≤ count }
+        requires most { count ≤ CHANNELS }
+        requires empty { (i : ℕ) → lives host i ≡ false }
+        ensures host { result.channels.host ≡ host }
+        ensures count { channels_of result ≡ count }
+        ensures keeps { (state : State M) → hosts.Keeps M.meaning M.idle_keeps M.active_keeps host state
+            → Keeps M.meaning M.idle_keeps M.active_keeps result (record { host = state; chained = replicate count [] }) }
+    {
+        Console {
+            channels: Channels::new(host, count),
+        }
+    }
+
+    /// Deletes every instance, in ascending number, and gives all memory back.
+    pub fn close(self) {
+        let Console { channels } = self;
+        channels.close();
+    }
+}

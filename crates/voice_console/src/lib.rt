@@ -1,0 +1,11 @@
+//! A console over channels of instances: it does what the lines of a script ask, and takes the samples of feeds.
+#![tactic(auto)]
+
+mod commands;
+mod console;
+mod lines;
+mod obeying;
+mod replies;
+mod samples;
+
+pub use console::Console;

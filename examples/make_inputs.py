@@ -1,0 +1,52 @@
+#!/usr/bin/env python3
+"""Makes the inputs of the examples, and prints the coefficients that their scripts name.
+
+Samples are words of 16 bits, the low octet first, at 8000 per second.
+"""
+
+from math import cos, pi, sin
+from pathlib import Path
+from struct import pack
+
+HERE = Path(__file__).parent
+RATE = 8000
+
+
+def write(name, samples):
+    (HERE / name).write_bytes(pack(f"<{len(samples)}h", *samples))
+
+
+def tone(frequency, level, count):
+    """A sine of this peak value."""
+    return [round(level * sin(2 * pi * frequency * n / RATE)) for n in range(count)]
+
+
+def mixed(*parts):
+    return [sum(samples) for samples in zip(*parts)]
+
+
+def low_pass(taps, cutoff):
+    """A windowed sinc in Q15 with a gain of 1 at 0 Hz, its cutoff in Hz."""
+    middle = (taps - 1) / 2
+    x = [2 * pi * cutoff / RATE * (n - middle) for n in range(taps)]
+    window = [0.54 - 0.46 * cos(2 * pi * n / (taps - 1)) for n in range(taps)]
+    values = [w * (sin(v) / v if v else 1) for w, v in zip(window, x)]
+    return [round(32768 * v / sum(values)) for v in values]
+
+
+def goertzel(frequency, rate):
+    """The k of a detector: the cosine in Q15."""
+    return round(32768 * cos(2 * pi * frequency / rate))
+
+
+write("shared_scratch/input0.raw", mixed(tone(300, 8000, 64), tone(3000, 8000, 64)))
+write("shared_scratch/input1.raw", [0, 16000] * 32)
+write("no_room/input.raw", [1000, 0, 0, 0, 0, 0, 0, 0])
+write("compaction/input.raw", tone(400, 10000, 96))
+write("companded_line/input.raw", mixed([0, -1, 32767, -32768] + [0] * 156, [0] * 4 + [x * n // 156 for n, x in enumerate(tone(440, 30000, 156))]))
+write("dtmf_digit/input.raw", mixed(tone(770, 8000, 204), tone(1336, 8000, 204)) + [0] * 204)
+write("chain_of_three/input.raw", mixed(tone(250, 9000, 160), tone(50, 9000, 160)))
+
+print("dtmf_digit, low pass:", *low_pass(24, 1900))
+for pitch in (697, 770, 852, 941, 1209, 1336, 1477, 1633):
+    print(f"dtmf_digit, {pitch} Hz at 4000 per second:", goertzel(pitch, RATE / 2))
