@@ -8,8 +8,8 @@ use Rattle.lifecycle.specs.States.{Relation}
 use Rattle.host_spaces.specs.declared.spaces.Sizes.{Sizes}
 use Rattle.host_spaces.specs.Picture.{sizes_of}
 use Rattle.sound_machine.specs.State.{State, new_state}
-use Rattle.alg_host.specs.Hosts.{HostState}
-use Rattle.alg_host.specs.Hosts as hosts
+use Rattle.voice_console.specs.Hosts.{HostState}
+use Rattle.voice_console.specs.Hosts as hosts
 use Rattle.octet_ports.specs.Ports.{Source}
 use Rattle.script_server.specs.Runs.{Devices, EndsByRead, EndsByWrite, EndsWell, octets_to_come, run_of}
 use Rattle.console_machine.specs.Console.{console_machine, new_channels, start}

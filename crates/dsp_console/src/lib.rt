@@ -6,9 +6,8 @@ mod serving;
 #[cfg(test)]
 mod tests;
 
-pub use alg_host::Sizes;
 pub use ending::outcome;
 pub use octet_ports::{PortFault, PortIn, PortOut, Reading, TAPE_OCTETS, TapeIn, TapeOut, Writing};
 pub use script_server::SCRIPT_OCTETS;
 pub use serving::{Config, Fault, Summary, run};
-pub use voice_channel::CHANNELS;
+pub use voice_console::{CHANNELS, Sizes};

@@ -9,15 +9,13 @@ ghost use Rattle.voice_console.specs.Consoles.{Keeps, channels_of};
 ghost use Rattle.dsp_console.specs.Fresh.{fresh};
 ghost use Rattle.dsp_console.specs.Lawful.{ServesLawfully};
 
-use alg_host::{Host, Sizes, StartError};
 use console_machine::lawful_consoles_serve_one_answer;
 use ialg::{Ialg, Named};
 use octet_ports::{PortIn, PortOut};
 use script_server::{PortsFault, SCRIPT_OCTETS, serve};
 use std::alloc::Global;
 use thiserror::Error;
-use voice_channel::CHANNELS;
-use voice_console::Console;
+use voice_console::{CHANNELS, Console, Host, Sizes, StartError};
 
 /// What a run is told beside its ports.
 #[derive(Clone, Copy, PartialEq, Eq, Debug)]

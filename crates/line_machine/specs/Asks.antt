@@ -1,16 +1,15 @@
 -- What a line asks of the ports.
 use Rattle.std.specs.Prelude.{ℕ, ◌*◌, ◌<◌}
 use Rattle.line_machine.specs.Served as served
-use Rattle.voice_script.specs.Replies.{Reply}
+use Rattle.voice_script.specs.ReplyViews.{reply_of}
 use Rattle.line_machine.specs.declared.limits.TheConstants.{SAMPLE_OCTETS}
 use Rattle.line_machine.specs.declared.machine.Ask.{Ask}
 use Rattle.line_machine.specs.declared.machine.Ask.TheVariants.{Nothing, Tell, Feed}
 
--- with the reply that stands ready
-abbrev pub asked_of : Ask → Reply → served.Asked
-asked_of Nothing reply = served.Nothing
-asked_of Tell reply = served.tells reply
-asked_of (Feed channel samples) reply = served.Feed channel (SAMPLE_OCTETS * samples.number)
+abbrev pub asked_of : Ask → served.Asked
+asked_of Nothing = served.Nothing
+asked_of (Tell reply) = served.tells (reply_of reply)
+asked_of (Feed channel samples) = served.Feed channel (SAMPLE_OCTETS * samples.number)
 
 -- the channel is one of so many, and takes feeds
 pub record IsReady {X : Type 0} (takes_feeds : X → ℕ → Type 0) (channels : X → ℕ) (machine : X) (channel : ℕ) : Type 0 where
@@ -20,5 +19,5 @@ pub record IsReady {X : Type 0} (takes_feeds : X → ℕ → Type 0) (channels :
 -- a channel that is asked to feed is ready
 abbrev pub AskIsReady : {X : Type 0} → (X → ℕ → Type 0) → (X → ℕ) → X → Ask → Type 0
 AskIsReady takes_feeds channels machine Nothing = Unit {0}
-AskIsReady takes_feeds channels machine Tell = Unit {0}
+AskIsReady takes_feeds channels machine (Tell reply) = Unit {0}
 AskIsReady takes_feeds channels machine (Feed channel samples) = IsReady takes_feeds channels machine channel

@@ -3,21 +3,21 @@ ghost use Rattle.std.specs.Prelude.{◌≡◌, ◌≤◌, ◌*◌, ℕ, length, 
 ghost use Rattle.ialg.specs.declared.TheConstants.{BLOCK_SAMPLES};
 ghost use Rattle.voice_script.specs.declared.limits.TheConstants.{LINE_OCTETS};
 ghost use Rattle.voice_script.specs.Replies.{Count, reply_text};
-ghost use Rattle.voice_script.specs.ReplyViews.{reply_of};
 ghost use Rattle.line_machine.specs.declared.limits.TheConstants.{SAMPLE_OCTETS};
 ghost use Rattle.line_machine.specs.Served.{Machine};
 ghost use Rattle.line_machine.specs.Asks.{asked_of, IsReady, AskIsReady};
 
 use crate::limits::BLOCK_OCTETS;
+use space_blocks::Map;
 use voice_script::{FeedSamples, Reply};
 
 /// What a line asks of the ports.
-#[derive(Clone, Copy, PartialEq, Eq, Debug)]
-pub enum Ask {
+#[derive(PartialEq, Eq, Debug, Drop)]
+pub enum Ask<'a> {
     /// Nothing.
     Nothing,
-    /// The reply that stands ready.
-    Tell,
+    /// This reply.
+    Tell(Reply<'a>),
     /// The octets of so many samples of the channel's input.
     Feed { channel: u8, samples: FeedSamples },
 }
@@ -39,13 +39,13 @@ pub trait LineMachine {
     /// A feed may give samples to the channel of this number.
     ghost takes_feeds: { Self → ℕ → Type 0 };
 
-    /// Does what the line asks; a feed's samples are yet to come. Where a reply is asked for, it stands in `reply` then.
-    fn ask(&mut self, line: &[u8], reply: &mut Reply) -> Ask
+    /// Does what the line asks; a feed's samples are yet to come. A map that is told of stands in `map` then.
+    fn ask<'a>(&mut self, line: &[u8], map: &'a mut Map) -> Ask<'a>
         requires short { length line.now ≤ LINE_OCTETS }
         ensures channels { channels self.new ≡ channels self.old }
         ensures ready { AskIsReady takes_feeds channels self.new result }
         ensures asks { (s : State) → keeps self.old s
-            → (t : State) × machine.Asks s line.now (asked_of result (reply_of reply.new)) t × keeps self.new t };
+            → (t : State) × machine.Asks s line.now (asked_of result) t × keeps self.new t };
 
     /// Gives the samples of a feed to the channel. The octets of what it gives stand at the beginning of `output`; it
     /// answers how many samples that are.

@@ -14,12 +14,13 @@ use crate::serving::PortsFault;
 use ialg::Refusal;
 use line_machine::{Ask, BLOCK_OCTETS, LineMachine, SAMPLE_OCTETS};
 use octet_ports::{PortFault, PortIn, PortOut, read_octets, write_octets};
+use space_blocks::Map;
 use voice_script::{FeedSamples, LINE_OCTETS, Reply, ReplyText, write_reply};
 
-/// The reply that stands ready, and its line as it is written. Both are thousands of octets, so a run has one of each.
+/// Room for a map that is told of, and for a reply's line. Both are thousands of octets, so a run has one of each.
 #[derive(Drop)]
 pub(crate) struct Desk {
-    pub(crate) reply: Reply,
+    pub(crate) map: Map,
     pub(crate) text: ReplyText,
 }
 
@@ -58,16 +59,20 @@ fn write_to<O: PortOut>(
     write_octets(&mut outputs[channel], octets)
 }
 
-/// Writes the reply that stands ready.
-fn tell<P: PortOut>(replies: &mut P, desk: &mut Desk) -> Result<(), PortsFault>
+/// Writes the reply.
+fn tell<P: PortOut>(
+    replies: &mut P,
+    reply: &Reply<'_>,
+    text: &mut ReplyText,
+) -> Result<(), PortsFault>
     requires { (P.sink replies.old).failed ≡ false }
-    ensures ok { IsOk result → Takes (reply_text (reply_of desk.old.reply)) (P.sink replies.old) (P.sink replies.new) }
-    ensures fault { is_err result ≡ true → TakesFirst (reply_text (reply_of desk.old.reply)) (P.sink replies.old) (P.sink replies.new) }
+    ensures ok { IsOk result → Takes (reply_text (reply_of reply.now)) (P.sink replies.old) (P.sink replies.new) }
+    ensures fault { is_err result ≡ true → TakesFirst (reply_text (reply_of reply.now)) (P.sink replies.old) (P.sink replies.new) }
     ensures failed { (P.sink replies.new).failed ≡ is_err result }
     ensures write { is_err result ≡ true → IsErrOf result PortsFault.Write }
 {
-    write_reply(&desk.reply, &mut desk.text);
-    if write_octets(replies, desk.text.as_slice()).is_err() {
+    write_reply(reply, text);
+    if write_octets(replies, text.as_slice()).is_err() {
         return Err(PortsFault::Write);
     }
     Ok(())
@@ -79,7 +84,7 @@ fn serve_feed<T: LineMachine, I: PortIn, O: PortOut, P: PortOut>(
     machine: &mut T,
     channel: u8,
     samples: FeedSamples,
-    desk: &mut Desk,
+    text: &mut ReplyText,
     inputs: &mut Vec<I>,
     outputs: &mut Vec<O>,
     replies: &mut P,
@@ -111,8 +116,7 @@ fn serve_feed<T: LineMachine, I: PortIn, O: PortOut, P: PortOut>(
         Err(_) => return Err(PortsFault::Read),
     };
     if !whole {
-        desk.reply = Reply::No(Refusal::Short);
-        return match tell(replies, desk) {
+        return match tell(replies, &Reply::No(Refusal::Short), text) {
             Ok(()) => Ok(true),
             Err(fault) => Err(fault),
         };
@@ -122,8 +126,7 @@ fn serve_feed<T: LineMachine, I: PortIn, O: PortOut, P: PortOut>(
     if write_to(outputs, c, &output[..SAMPLE_OCTETS * count]).is_err() {
         return Err(PortsFault::Write);
     }
-    desk.reply = Reply::Count(count as u32);
-    match tell(replies, desk) {
+    match tell(replies, &Reply::Count(count as u32), text) {
         Ok(()) => Ok(false),
         Err(fault) => Err(fault),
     }
@@ -160,23 +163,30 @@ pub(crate) fn serve_line<T: LineMachine, I: PortIn, O: PortOut, P: PortOut>(
         (map O.sink outputs.old.items) (map O.sink outputs.new.items) (P.sink replies.old) (P.sink replies.new) }
 {
     if long {
-        desk.reply = Reply::No(Refusal::Long);
-        return match tell(replies, desk) {
+        return match tell(replies, &Reply::No(Refusal::Long), &mut desk.text) {
             Ok(()) => Ok(true),
             Err(fault) => Err(fault),
         };
     }
-    match machine.ask(line, &mut desk.reply) {
+    match machine.ask(line, &mut desk.map) {
         Ask::Nothing => Ok(false),
-        Ask::Tell => {
-            let refused = desk.reply.is_refusal();
-            match tell(replies, desk) {
+        Ask::Tell(reply) => {
+            let refused = reply.is_refusal();
+            match tell(replies, &reply, &mut desk.text) {
                 Ok(()) => Ok(refused),
                 Err(fault) => Err(fault),
             }
         }
         Ask::Feed { channel, samples } => {
-            serve_feed(machine, channel, samples, desk, inputs, outputs, replies)
+            serve_feed(
+                machine,
+                channel,
+                samples,
+                &mut desk.text,
+                inputs,
+                outputs,
+                replies,
+            )
         }
     }
 }

@@ -8,7 +8,8 @@ use crate::line::{Desk, flush_outputs, serve_line};
 use arrayvec::ArrayVec;
 use line_machine::LineMachine;
 use octet_ports::{PortIn, PortOut, read_line};
-use voice_script::{LINE_OCTETS, Reply};
+use space_blocks::Map;
+use voice_script::LINE_OCTETS;
 
 /// Which ports ended a run.
 #[derive(Clone, Copy, PartialEq, Eq, Debug)]
@@ -49,7 +50,7 @@ fn serve_script<T: LineMachine, S: PortIn, I: PortIn, O: PortOut, P: PortOut>(
     let mut refused: u64 = 0;
     let mut text: ArrayVec<u8, LINE_OCTETS> = ArrayVec::new();
     let mut desk = Desk {
-        reply: Reply::Done,
+        map: Map::new(),
         text: ArrayVec::new(),
     };
     'lines: loop {

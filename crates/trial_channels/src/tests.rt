@@ -1,14 +1,13 @@
 //! Channels of trial kinds, by numbers.
 
 use crate::feed_in_two;
-use alg_host::{Host, Stat};
 use host_spaces::Sizes;
 use ialg::{BLOCK_SAMPLES, Block, Ctl, PARAMETER_WORDS, Params, Refusal, Status, copied};
 use mem_rec::Space;
 use scribbler::Trial;
 use space_blocks::{Owner, Placed};
 use std::process::Abort;
-use voice_channel::{Channels, MEMBERS};
+use voice_channel::{Channels, Host, MEMBERS, Stat};
 use voice_set::Voice;
 
 const FIR: Trial = Trial::Lawful(Voice::Fir);

@@ -11,6 +11,8 @@ mod host_calls;
 mod lists;
 mod members;
 
+// what channels stand over
+pub use alg_host::{Host, Map, Sizes, StartError, Stat};
 use arrayvec::ArrayVec;
 pub use channels::Channels;
 

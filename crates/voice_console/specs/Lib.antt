@@ -1,1 +1,2 @@
 pub mod Consoles
+pub mod Hosts

@@ -3,7 +3,7 @@ ghost use Rattle.std.specs.Prelude.{◌≡◌};
 ghost use Rattle.voice_script.specs.ReplyViews.{reply_of};
 ghost use Rattle.voice_script.specs.Script as script;
 ghost use Rattle.line_machine.specs.Asks.{asked_of, AskIsReady};
-ghost use Rattle.line_machine.specs.declared.machine.Ask.TheVariants.{Tell};
+ghost use Rattle.line_machine.specs.Served.{tells};
 ghost use Rattle.ialg.specs.Views.{control_of};
 ghost use Rattle.console_machine.specs.Console.{ControlAsks, CommandAsks};
 ghost use Rattle.voice_console.specs.Consoles.{channels_of, TakesFeeds, Serves};
@@ -13,98 +13,91 @@ use crate::replies::{tell_done, tell_flag, tell_stat, tell_status};
 use ialg::{Ctl, Ialg, Params};
 use line_machine::Ask;
 use mem_rec::Space;
+use voice_channel::Map;
 use voice_script::{FeedSamples, Members, Reply};
 
 impl<M: Ialg> Console<M> {
-    pub(crate) fn create(
-        &mut self,
-        i: u8,
-        kind: M,
-        group: u8,
-        parameters: &Params,
-        reply: &mut Reply,
-    )
+    pub(crate) fn create<'a>(&mut self, i: u8, kind: M, group: u8, parameters: &Params) -> Reply<'a>
         ensures channels { channels_of self.new ≡ channels_of self.old }
-        ensures asks { Serves M.meaning M.idle_keeps M.active_keeps (CommandAsks M.meaning (script.Create i kind group parameters.now.items)) (asked_of Tell (reply_of reply.new)) self.old self.new }
+        ensures asks { Serves M.meaning M.idle_keeps M.active_keeps (CommandAsks M.meaning (script.Create i kind group parameters.now.items)) (tells (reply_of result)) self.old self.new }
     {
-        tell_done(self.channels.create(i, kind, group, parameters), reply);
+        tell_done(self.channels.create(i, kind, group, parameters))
     }
 
-    pub(crate) fn control(&mut self, i: u8, control: &Ctl, reply: &mut Reply)
+    pub(crate) fn control<'a>(&mut self, i: u8, control: &Ctl) -> Reply<'a>
         ensures channels { channels_of self.new ≡ channels_of self.old }
-        ensures asks { Serves M.meaning M.idle_keeps M.active_keeps (ControlAsks M.meaning i (control_of control.now)) (asked_of Tell (reply_of reply.new)) self.old self.new }
+        ensures asks { Serves M.meaning M.idle_keeps M.active_keeps (ControlAsks M.meaning i (control_of control.now)) (tells (reply_of result)) self.old self.new }
     {
-        tell_status(self.channels.control(i, control), reply);
+        tell_status(self.channels.control(i, control))
     }
 
-    pub(crate) fn delete(&mut self, i: u8, reply: &mut Reply)
+    pub(crate) fn delete<'a>(&mut self, i: u8) -> Reply<'a>
         ensures channels { channels_of self.new ≡ channels_of self.old }
-        ensures asks { Serves M.meaning M.idle_keeps M.active_keeps (CommandAsks M.meaning (script.Delete i)) (asked_of Tell (reply_of reply.new)) self.old self.new }
+        ensures asks { Serves M.meaning M.idle_keeps M.active_keeps (CommandAsks M.meaning (script.Delete i)) (tells (reply_of result)) self.old self.new }
     {
-        tell_done(self.channels.delete(i), reply);
+        tell_done(self.channels.delete(i))
     }
 
-    pub(crate) fn chain(&mut self, c: u8, members: &Members, reply: &mut Reply)
+    pub(crate) fn chain<'a>(&mut self, c: u8, members: &Members) -> Reply<'a>
         ensures channels { channels_of self.new ≡ channels_of self.old }
-        ensures asks { Serves M.meaning M.idle_keeps M.active_keeps (CommandAsks M.meaning (script.Chain c members.now.numbers.items)) (asked_of Tell (reply_of reply.new)) self.old self.new }
+        ensures asks { Serves M.meaning M.idle_keeps M.active_keeps (CommandAsks M.meaning (script.Chain c members.now.numbers.items)) (tells (reply_of result)) self.old self.new }
     {
-        tell_done(self.channels.chain(c, members.as_slice()), reply);
+        tell_done(self.channels.chain(c, members.as_slice()))
     }
 
-    pub(crate) fn unchain(&mut self, c: u8, reply: &mut Reply)
+    pub(crate) fn unchain<'a>(&mut self, c: u8) -> Reply<'a>
         ensures channels { channels_of self.new ≡ channels_of self.old }
-        ensures asks { Serves M.meaning M.idle_keeps M.active_keeps (CommandAsks M.meaning (script.Unchain c)) (asked_of Tell (reply_of reply.new)) self.old self.new }
+        ensures asks { Serves M.meaning M.idle_keeps M.active_keeps (CommandAsks M.meaning (script.Unchain c)) (tells (reply_of result)) self.old self.new }
     {
-        tell_done(self.channels.unchain(c), reply);
+        tell_done(self.channels.unchain(c))
     }
 
     /// Asks for a feed's samples, where the channel is ready.
-    pub(crate) fn feed_asked(&self, c: u8, samples: FeedSamples, reply: &mut Reply) -> Ask
+    pub(crate) fn feed_asked<'a>(&self, c: u8, samples: FeedSamples) -> Ask<'a>
         ensures ready { AskIsReady TakesFeeds channels_of self.now result }
-        ensures asks { Serves M.meaning M.idle_keeps M.active_keeps (CommandAsks M.meaning (script.Feed c samples.number)) (asked_of result (reply_of reply.new)) self.now self.now }
+        ensures asks { Serves M.meaning M.idle_keeps M.active_keeps (CommandAsks M.meaning (script.Feed c samples.number)) (asked_of result) self.now self.now }
     {
         match self.channels.ready(c) {
             Ok(()) => Ask::Feed {
                 channel: c,
                 samples,
             },
-            Err(refusal) => {
-                *reply = Reply::No(refusal);
-                Ask::Tell
-            }
+            Err(refusal) => Ask::Tell(Reply::No(refusal)),
         }
     }
 
-    pub(crate) fn compact(&mut self, space: Space, reply: &mut Reply)
+    pub(crate) fn compact<'a>(&mut self, space: Space) -> Reply<'a>
         ensures channels { channels_of self.new ≡ channels_of self.old }
-        ensures asks { Serves M.meaning M.idle_keeps M.active_keeps (CommandAsks M.meaning (script.Compact space)) (asked_of Tell (reply_of reply.new)) self.old self.new }
+        ensures asks { Serves M.meaning M.idle_keeps M.active_keeps (CommandAsks M.meaning (script.Compact space)) (tells (reply_of result)) self.old self.new }
     {
-        *reply = Reply::Count(self.channels.compact(space));
+        Reply::Count(self.channels.compact(space))
     }
 
-    pub(crate) fn step(&mut self, space: Space, reply: &mut Reply)
+    pub(crate) fn step<'a>(&mut self, space: Space) -> Reply<'a>
         ensures channels { channels_of self.new ≡ channels_of self.old }
-        ensures asks { Serves M.meaning M.idle_keeps M.active_keeps (CommandAsks M.meaning (script.Step space)) (asked_of Tell (reply_of reply.new)) self.old self.new }
+        ensures asks { Serves M.meaning M.idle_keeps M.active_keeps (CommandAsks M.meaning (script.Step space)) (tells (reply_of result)) self.old self.new }
     {
-        *reply = Reply::Flag(self.channels.step(space));
+        Reply::Flag(self.channels.step(space))
     }
 
-    pub(crate) fn release(&mut self, group: u8, reply: &mut Reply)
+    pub(crate) fn release<'a>(&mut self, group: u8) -> Reply<'a>
         ensures channels { channels_of self.new ≡ channels_of self.old }
-        ensures asks { Serves M.meaning M.idle_keeps M.active_keeps (CommandAsks M.meaning (script.Release group)) (asked_of Tell (reply_of reply.new)) self.old self.new }
+        ensures asks { Serves M.meaning M.idle_keeps M.active_keeps (CommandAsks M.meaning (script.Release group)) (tells (reply_of result)) self.old self.new }
     {
-        tell_flag(self.channels.release(group), reply);
+        tell_flag(self.channels.release(group))
     }
 
-    pub(crate) fn map(&self, space: Space, reply: &mut Reply)
-        ensures asks { Serves M.meaning M.idle_keeps M.active_keeps (CommandAsks M.meaning (script.Map space)) (asked_of Tell (reply_of reply.new)) self.now self.now }
+    /// Puts the blocks of the space in place of what the map held.
+    pub(crate) fn map<'a>(&self, space: Space, map: &'a mut Map) -> Reply<'a>
+        ensures asks { Serves M.meaning M.idle_keeps M.active_keeps (CommandAsks M.meaning (script.Map space)) (tells (reply_of result)) self.now self.now }
     {
-        *reply = Reply::Map(self.channels.map(space));
+        *map = self.channels.map(space);
+        Reply::Map(map)
     }
 
-    pub(crate) fn stat(&self, group: u8, reply: &mut Reply)
-        ensures asks { Serves M.meaning M.idle_keeps M.active_keeps (CommandAsks M.meaning (script.Stat group)) (asked_of Tell (reply_of reply.new)) self.now self.now }
+    pub(crate) fn stat<'a>(&self, group: u8) -> Reply<'a>
+        ensures asks { Serves M.meaning M.idle_keeps M.active_keeps (CommandAsks M.meaning (script.Stat group)) (tells (reply_of result)) self.now self.now }
     {
-        tell_stat(self.channels.stat(group), reply);
+        tell_stat(self.channels.stat(group))
     }
 }

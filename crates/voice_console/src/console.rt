@@ -1,13 +1,12 @@
 //! The console: how it is made.
 ghost use Rattle.std.specs.Prelude.{◌≡◌, ◌≤◌, ℕ, false, [], replicate, length};
 ghost use Rattle.sound_machine.specs.State.{State};
-ghost use Rattle.alg_host.specs.Hosts.{lives};
-ghost use Rattle.alg_host.specs.Hosts as hosts;
+ghost use Rattle.voice_channel.specs.Hosts.{lives};
+ghost use Rattle.voice_channel.specs.Hosts as hosts;
 ghost use Rattle.voice_console.specs.Consoles.{Keeps, channels_of};
 
-use alg_host::Host;
 use ialg::Ialg;
-use voice_channel::{CHANNELS, Channels};
+use voice_channel::{CHANNELS, Channels, Host};
 
 /// A console over channels. It can't be copied, and must be given back by [`close`](Console::close).
 pub struct Console<M> {

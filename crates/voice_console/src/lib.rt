@@ -9,3 +9,5 @@ mod replies;
 mod samples;
 
 pub use console::Console;
+// what a console stands over
+pub use voice_channel::{CHANNELS, Host, Sizes, StartError};

@@ -5,6 +5,7 @@ use crate::Console;
 use crate::samples::{read_samples, write_samples};
 use ialg::{BLOCK_SAMPLES, Block, Ialg, Named};
 use line_machine::{Ask, BLOCK_OCTETS, LineMachine, SAMPLE_OCTETS};
+use voice_channel::Map;
 use voice_script::{FeedSamples, Reply, parse};
 
 impl<M: Ialg + Named> LineMachine for Console<M> {
@@ -22,14 +23,11 @@ impl<M: Ialg + Named> LineMachine for Console<M> {
 
     ghost takes_feeds = { TakesFeeds };
 
-    fn ask(&mut self, line: &[u8], reply: &mut Reply) -> Ask {
+    fn ask<'a>(&mut self, line: &[u8], map: &'a mut Map) -> Ask<'a> {
         match parse(line) {
-            Ok(Some(command)) => self.obey(command, reply),
+            Ok(Some(command)) => self.obey(command, map),
             Ok(None) => Ask::Nothing,
-            Err(refusal) => {
-                *reply = Reply::No(refusal);
-                Ask::Tell
-            }
+            Err(refusal) => Ask::Tell(Reply::No(refusal)),
         }
     }
 

@@ -1,7 +1,6 @@
 //! Which call a command is.
 ghost use Rattle.std.specs.Prelude.{◌≡◌};
 ghost use Rattle.voice_script.specs.Commands.{command_of};
-ghost use Rattle.voice_script.specs.ReplyViews.{reply_of};
 ghost use Rattle.line_machine.specs.Asks.{asked_of, AskIsReady};
 ghost use Rattle.console_machine.specs.Console.{CommandAsks};
 ghost use Rattle.voice_console.specs.Consoles.{channels_of, TakesFeeds, Serves};
@@ -9,14 +8,15 @@ ghost use Rattle.voice_console.specs.Consoles.{channels_of, TakesFeeds, Serves};
 use crate::Console;
 use ialg::{Ctl, Ialg};
 use line_machine::Ask;
-use voice_script::{Command, Reply};
+use voice_channel::Map;
+use voice_script::Command;
 
 impl<M: Ialg> Console<M> {
     /// Does what a command asks; a feed's samples are yet to come.
-    pub(crate) fn obey(&mut self, command: Command<M>, reply: &mut Reply) -> Ask
+    pub(crate) fn obey<'a>(&mut self, command: Command<M>, map: &'a mut Map) -> Ask<'a>
         ensures channels { channels_of self.new ≡ channels_of self.old }
         ensures ready { AskIsReady TakesFeeds channels_of self.new result }
-        ensures asks { Serves M.meaning M.idle_keeps M.active_keeps (CommandAsks M.meaning (command_of command)) (asked_of result (reply_of reply.new)) self.old self.new }
+        ensures asks { Serves M.meaning M.idle_keeps M.active_keeps (CommandAsks M.meaning (command_of command)) (asked_of result) self.old self.new }
     {
         match command {
             Command::Create {
@@ -24,20 +24,19 @@ impl<M: Ialg> Console<M> {
                 kind,
                 group,
                 parameters,
-            } => self.create(instance, kind, group, &parameters, reply),
-            Command::Set { instance, words } => self.control(instance, &Ctl::Set(words), reply),
-            Command::Reset { instance } => self.control(instance, &Ctl::Reset, reply),
-            Command::Get { instance } => self.control(instance, &Ctl::Get, reply),
-            Command::Delete { instance } => self.delete(instance, reply),
-            Command::Chain { channel, members } => self.chain(channel, &members, reply),
-            Command::Unchain { channel } => self.unchain(channel, reply),
-            Command::Feed { channel, samples } => return self.feed_asked(channel, samples, reply),
-            Command::Compact { space } => self.compact(space, reply),
-            Command::Step { space } => self.step(space, reply),
-            Command::Release { group } => self.release(group, reply),
-            Command::Map { space } => self.map(space, reply),
-            Command::Stat { group } => self.stat(group, reply),
+            } => Ask::Tell(self.create(instance, kind, group, &parameters)),
+            Command::Set { instance, words } => Ask::Tell(self.control(instance, &Ctl::Set(words))),
+            Command::Reset { instance } => Ask::Tell(self.control(instance, &Ctl::Reset)),
+            Command::Get { instance } => Ask::Tell(self.control(instance, &Ctl::Get)),
+            Command::Delete { instance } => Ask::Tell(self.delete(instance)),
+            Command::Chain { channel, members } => Ask::Tell(self.chain(channel, &members)),
+            Command::Unchain { channel } => Ask::Tell(self.unchain(channel)),
+            Command::Feed { channel, samples } => self.feed_asked(channel, samples),
+            Command::Compact { space } => Ask::Tell(self.compact(space)),
+            Command::Step { space } => Ask::Tell(self.step(space)),
+            Command::Release { group } => Ask::Tell(self.release(group)),
+            Command::Map { space } => Ask::Tell(self.map(space, map)),
+            Command::Stat { group } => Ask::Tell(self.stat(group)),
         }
-        Ask::Tell
     }
 }

@@ -1,6 +1,4 @@
 -- What a contract sees of replies.
-use Rattle.std.specs.Prelude.{Result, Ok, Err}
-use Rattle.ialg.specs.declared.refusal.Refusal.{Refusal}
 use Rattle.voice_script.specs.Replies as replies
 use Rattle.voice_script.specs.declared.replies.Reply.{Reply}
 use Rattle.voice_script.specs.declared.replies.Reply.TheVariants.{Done, Words, Count, Flag, Stat, Map, No}
@@ -11,10 +9,5 @@ reply_of (Words words) = replies.Words words.items
 reply_of (Count count) = replies.Count count
 reply_of (Flag flag) = replies.Flag flag
 reply_of (Stat stat) = replies.Stat stat.active stat.activations
-reply_of (Map blocks) = replies.Map blocks.items
+reply_of (Map blocks) = replies.Map blocks.now.items
 reply_of (No refusal) = replies.No refusal
-
--- what is told of a command that gives nothing
-abbrev pub told_for : {A : Type 0} → Result A Refusal → replies.Reply
-told_for (Ok x) = replies.Done
-told_for (Err refusal) = replies.No refusal

@@ -16,9 +16,9 @@ use space_blocks::{Map, Owner, Placed};
 /// The line of a reply.
 pub type ReplyText = ArrayVec<u8, REPLY_OCTETS>;
 
-/// What is replied to a command.
+/// What is replied to a command. A map is thousands of octets, so its reply names it where it stands.
 #[derive(PartialEq, Eq, Debug, Drop)]
-pub enum Reply {
+pub enum Reply<'a> {
     /// It is done.
     Done,
     /// An instance's words.
@@ -30,7 +30,7 @@ pub enum Reply {
     /// A group's active member and activations.
     Stat(Stat),
     /// The blocks of a space, in the order of their places.
-    Map(Map),
+    Map(&'a Map),
     /// It is refused.
     No(Refusal),
 }
@@ -173,7 +173,7 @@ fn push_refusal(text: &mut ReplyText, refusal: Refusal)
     push_all(text, refusal.name().as_bytes());
 }
 
-impl Reply {
+impl Reply<'_> {
     ghost use Rattle.voice_script.specs.ReplyViews.{reply_of};
 
     /// Puts the line without its line feed.
@@ -213,7 +213,7 @@ impl Reply {
 ghost use Rattle.voice_script.specs.ReplyViews.{reply_of};
 
 /// Puts the line of a reply, with its line feed, in place of what the text held.
-pub fn write_reply(reply: &Reply, text: &mut ReplyText)
+pub fn write_reply(reply: &Reply<'_>, text: &mut ReplyText)
     ensures { text.new.items ≡ reply_text (reply_of reply.now) }
 {
     text.clear();
@@ -222,7 +222,7 @@ pub fn write_reply(reply: &Reply, text: &mut ReplyText)
 }
 
 /// The line that is written for a reply, with its line feed.
-pub fn reply_text(reply: &Reply) -> ReplyText
+pub fn reply_text(reply: &Reply<'_>) -> ReplyText
     ensures { result.items ≡ reply_text (reply_of reply.now) }
 {
     let mut text = ArrayVec::new();

@@ -1,5 +1,5 @@
 use Rattle.std.proofs.Common.{ap}
-use Rattle.alg_host.specs.Hosts.{stat_told}
+use Rattle.voice_channel.specs.Hosts.{stat_told}
 use Rattle.channel_machine.specs.Calls.Call.{OfHost}
 use Rattle.sound_machine.specs.Calls.Call.{Stat}
 use Rattle.console_machine.specs.Console.{activity_told}
