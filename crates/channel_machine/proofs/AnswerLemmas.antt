@@ -1,15 +1,12 @@
 -- Lawful kinds leave nothing free.
-use Rattle.std.proofs.Common.{◌≡◌, ℕ, ℤ, List, [], ◌∷◌, Option, Some, None, refl, ap, sym, ◌∙◌, subst}
-use Rattle.std.specs.Prelude.{IfSome}
+use Rattle.std.proofs.Common.{◌≡◌, ℕ, ℤ, List, [], ◌∷◌, refl, ap, sym, ◌∙◌, subst}
 use Rattle.ialg.specs.Meaning.{Meaning}
 use Rattle.sound_machine.specs.State.{State}
-use Rattle.sound_machine.specs.Choices.{IsLawful}
 use Rattle.sound_machine.specs.Calls as host_calls
-use Rattle.sound_machine.specs.Calls.{Processes}
-use Rattle.sound_machine.specs.Calls.Call.{Create, Control, Process, Delete, Release, Step, Compact, Stat, Map, Lives, Copied}
+use Rattle.sound_machine.specs.Calls.Call.{Process}
 use Rattle.sound_machine.specs.Answers as host_answers
-use Rattle.sound_machine.specs.Answers.{output_at, IsLawfulCall, AreLawful}
-use Rattle.sound_machine.proofs.AnswerLemmas as host_lemmas
+use Rattle.sound_machine.specs.Answers.{AreLawful}
+use Rattle.sound_machine.proofs.AnswerLemmas.{one_computed}
 use Rattle.sound_machine.proofs.CallLemmas.{host_stays}
 use Rattle.channel_machine.specs.Channels.{Channels, members_at}
 use Rattle.channel_machine.specs.Steps.{on_host, chain, unchain, delete, ready}
@@ -32,29 +29,7 @@ with_answer call answer after outcome e = told call answer outcome.0 after outco
 moved : {M : Type 0} (before after : Channels M) (host : State M) → after.host ≡ host → after.chained ≡ before.chained → after ≡ on_host before host
 moved before after host e f = ap (λ chained. record after { chained = chained }) f ∙ ap (λ h. on_host before h) e
 
--- an instance that lives is lawful
-if_lives : {A : Type 0} (Holds : A → Type 0) → ((x : A) → Holds x) → (y : Option A) → IfSome y Holds
-if_lives Holds all None = tt
-if_lives Holds all (Some x) = all x
-
 module _ {M : Type 0} (kinds : Meaning M) where
-  lawful_call : (before : State M) → AreLawful kinds before.poison → (call : host_calls.Call M) → IsLawfulCall kinds before call
-  lawful_call before lawful (Create i kind g p answer) = lawful kind p
-  lawful_call before lawful (Control i c answer) = if_lives (IsLawful kinds before.poison) (λ x. lawful x.kind x.params) (before.living i)
-  lawful_call before lawful (Process i block out) = if_lives (IsLawful kinds before.poison) (λ x. lawful x.kind x.params) (before.living i)
-  lawful_call before lawful (Delete i answer) = tt
-  lawful_call before lawful (Release g answer) = tt
-  lawful_call before lawful (Step space answer) = tt
-  lawful_call before lawful (Compact space answer) = tt
-  lawful_call before lawful (Stat g answer) = tt
-  lawful_call before lawful (Map space answer) = tt
-  lawful_call before lawful (Lives i answer) = tt
-  lawful_call before lawful (Copied answer) = tt
-
-  host_answered : (before after : State M) → AreLawful kinds before.poison → (call : host_calls.Call M) → host_calls.Does kinds before call after
-      → (call, after) ≡ host_answers.answered kinds before call
-  host_answered before after lawful call does = host_lemmas.computed kinds before after call does (lawful_call before lawful call)
-
   abbrev output_of_call : host_calls.Call M → List ℤ
   output_of_call (Process i block out) = out
   output_of_call _ = []
@@ -75,7 +50,7 @@ module _ {M : Type 0} (kinds : Meaning M) where
   block_passed (i ∷ is) before after (s ∷ block) out lawful passes =
       let first = passes.0 in
       let between = passes.1 in
-      let one = host_answered before between lawful (Process i (s ∷ block) first) passes.2 in
+      let one = one_computed kinds before between lawful (Process i (s ∷ block) first) passes.2 in
       let still : AreLawful kinds between.poison = subst (AreLawful kinds) (sym (host_stays kinds before between (Process i (s ∷ block) first) passes.2).poison) lawful in
       block_passed is between after first out still passes.3
       ∙ ap (λ o. passed kinds o.1 is (output_of_call o.0)) one
@@ -92,5 +67,5 @@ module _ {M : Type 0} (kinds : Meaning M) where
         told (λ o. Feed c block o) out next.0 after (on_host before next.1) (ap (λ o. o.0) e) (moved before after next.1 (ap (λ o. o.1) e) does.chained)
     computed (OfHost call) does =
         let next = host_answers.answered kinds before.host call in
-        let e = host_answered before.host after.host lawful call does.does in
+        let e = one_computed kinds before.host after.host lawful call does.does in
         told (λ o. OfHost o) call next.0 after (on_host before next.1) (ap (λ o. o.0) e) (moved before after next.1 (ap (λ o. o.1) e) does.chained)

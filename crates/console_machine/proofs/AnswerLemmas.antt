@@ -18,7 +18,8 @@ use Rattle.voice_script.specs.Replies as replies
 use Rattle.voice_script.specs.Replies.{reply_text}
 use Rattle.line_machine.specs.Served as asks
 use Rattle.line_machine.specs.Served.{Asked, Answer, LinesAnswer, tells}
-use Rattle.line_machine.proofs.ComputedLemmas.{IsComputed, lines_are}
+use Rattle.line_machine.specs.Computed.{IsComputed}
+use Rattle.line_machine.proofs.ComputedLemmas.{lines_are}
 use Rattle.console_machine.specs.Samples.{octets_of, samples_of}
 use Rattle.console_machine.specs.Console.{done, status_told, flag_told, activity_told, feed_asked, Calls, CommandAsks, LineAsks, console_machine, start}
 use Rattle.console_machine.specs.Answers.{command_asks, line_asks, computed_console, lines_served}
@@ -82,7 +83,7 @@ module _ {M : Type 0} (kinds : Meaning M) (poison : Option ℤ) (lawful : AreLaw
     line_did (Ok None) asked a = a
     line_did (Err refusal) asked a = a
 
-  is_computed : (named : List ℕ → Option M) → IsComputed (console_machine kinds named) (computed_console kinds named) (with_poison poison)
+  pub is_computed : (named : List ℕ → Option M) → IsComputed (console_machine kinds named) (computed_console kinds named) (with_poison poison)
   is_computed named = record {
     asks = λ before line asked after a. line_did before after (parsed named line) asked a;
     gives = λ before c octets output told after a.

@@ -15,8 +15,8 @@ use Rattle.channel_machine.specs.Answers.{passed}
 use Rattle.voice_script.specs.Script.{Command, Create, Set, Reset, Get, Delete, Chain, Unchain, Feed, Compact, Step, Release, Map, Stat, lines_of, parsed}
 use Rattle.voice_script.specs.Replies as replies
 use Rattle.voice_script.specs.Replies.{Reply, No, reply_text}
-use Rattle.line_machine.specs.Served.{Asked, Nothing, Answer, tells}
-use Rattle.line_machine.specs.Computed.{Computed, lines_answer}
+use Rattle.line_machine.specs.Served.{Asked, Nothing, Machine, Answer, tells}
+use Rattle.line_machine.specs.Computed.{Computed, lines_answer, machine_of}
 use Rattle.console_machine.specs.Samples.{octets_of, samples_of}
 use Rattle.console_machine.specs.Console.{done, status_told, flag_told, activity_told, feed_asked, start}
 
@@ -67,6 +67,10 @@ module _ {M : Type 0} (kinds : Meaning M) where
     told = λ before c octets. reply_text (replies.Count (length (feed_passed before c octets).0));
     fed = λ before c octets. on_host before (feed_passed before c octets).1;
   }
+
+  -- the machine of consoles where the kinds are lawful
+  abbrev pub lawful_console : (List ℕ → Option M) → Machine (Channels M)
+  lawful_console named = machine_of (computed_console named)
 
   -- what is served for lines and the octets of the inputs: what is written, in order, and what is left of the inputs
   abbrev pub lines_served : (List ℕ → Option M) → Sizes → List (List ℕ) → List (List ℕ) → Answer (Channels M)

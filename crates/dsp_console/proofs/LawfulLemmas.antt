@@ -1,5 +1,5 @@
 -- Where the kinds are lawful, what a run served is what is served.
-use Rattle.std.proofs.Common.{◌≡◌, ℕ, ℤ, List, Option, All, Result, Ok, Err, IfOk, ap, subst, sym, ◌∙◌}
+use Rattle.std.proofs.Common.{◌≡◌, ℕ, ℤ, List, Option, None, All, Result, Ok, Err, IfOk, ap, subst, sym, ◌∙◌}
 use Rattle.dsp_console.specs.declared.serving.Summary.{Summary}
 use Rattle.dsp_console.specs.declared.serving.Fault.{Fault}
 use Rattle.ialg.specs.Meaning.{Meaning}
@@ -8,10 +8,13 @@ use Rattle.sound_machine.specs.Answers.{AreLawful}
 use Rattle.channel_machine.specs.Channels.{Channels}
 use Rattle.voice_script.specs.Script.{lines_of}
 use Rattle.line_machine.specs.Served.{Answer, LinesAnswer, order_of, refusals}
-use Rattle.script_server.specs.Runs.{Devices, EndsWell, IsHonest, Writes, octets_to_come}
+use Rattle.line_machine.specs.Computed.{IsComputed}
+use Rattle.script_server.specs.Runs.{Devices, EndsByRead, EndsByWrite, EndsWell, IsHonest, Writes, octets_to_come}
+use Rattle.script_server.proofs.ComputedEnds as computed_ends
+use Rattle.channel_machine.specs.Laws.{with_poison}
 use Rattle.console_machine.specs.Console.{console_machine, start}
-use Rattle.console_machine.specs.Answers.{served}
-use Rattle.dsp_console.specs.Lawful.{ServesLawfully}
+use Rattle.console_machine.specs.Answers.{computed_console, served}
+use Rattle.dsp_console.specs.Lawful.{EndsLawfullyByRead, EndsLawfullyByWrite, ServesLawfully}
 
 -- a console of lawful kinds serves one answer
 abbrev pub ServesOne : Type 0 → Type 0
@@ -37,3 +40,12 @@ pub serve_lawfully : {M : Type 0} (kinds : Meaning M) (named : List ℕ → Opti
     → IfOk result (λ summary. ServesLawfully kinds named sizes summary.refused old new)
 serve_lawfully kinds named sizes poison (Ok summary) old new law lawful script inputs ends = serves_lawfully kinds named sizes poison summary.refused old new law lawful script inputs ends
 serve_lawfully kinds named sizes poison (Err fault) old new law lawful script inputs ends = tt
+
+-- and what it served where a fault ended it is what that machine serves
+module _ {M : Type 0} (kinds : Meaning M) (named : List ℕ → Option M) (sizes : Sizes) (poison : Option ℤ) (old new : Devices)
+    (is : IsComputed (console_machine kinds named) (computed_console kinds named) (with_poison poison)) where
+  pub lawfully_by_read : EndsByRead (console_machine kinds named) (start sizes poison (octets_to_come old.inputs)) old new → EndsLawfullyByRead kinds named sizes old new
+  lawfully_by_read = computed_ends.by_read (console_machine kinds named) (computed_console kinds named) (with_poison poison) is (start sizes None (octets_to_come old.inputs)) old new
+
+  pub lawfully_by_write : EndsByWrite (console_machine kinds named) (start sizes poison (octets_to_come old.inputs)) old new → EndsLawfullyByWrite kinds named sizes old new
+  lawfully_by_write = computed_ends.by_write (console_machine kinds named) (computed_console kinds named) (with_poison poison) is (start sizes None (octets_to_come old.inputs)) old new

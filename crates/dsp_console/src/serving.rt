@@ -7,7 +7,7 @@ ghost use Rattle.console_machine.specs.Console.{console_machine, start};
 ghost use Rattle.script_server.specs.Runs.{AreReady, EndsWell, EndsByRead, EndsByWrite, IsHonest, IsUnused, known_of, octets_to_come, run_of};
 ghost use Rattle.voice_console.specs.Consoles.{Keeps, channels_of};
 ghost use Rattle.dsp_console.specs.Fresh.{fresh};
-ghost use Rattle.dsp_console.specs.Lawful.{ServesLawfully};
+ghost use Rattle.dsp_console.specs.Lawful.{EndsLawfullyByRead, EndsLawfullyByWrite, ServesLawfully};
 
 use console_machine::lawful_consoles_serve_one_answer;
 use ialg::{Ialg, Named};
@@ -132,6 +132,12 @@ pub fn run<M: Ialg + Named, S: PortIn, I: PortIn, O: PortOut, P: PortOut>(
         → IfOk result (λ summary. ServesLawfully M.meaning M.named config.sizes summary.refused
         (known_of S.source I.source O.sink P.sink script.old inputs.old.items outputs.old.items replies.old)
         (known_of S.source I.source O.sink P.sink script.new inputs.new.items outputs.new.items replies.new)) }
+    ensures lawful_read { AreLawful M.meaning config.poison → IsErrOf result Fault.Read → EndsLawfullyByRead M.meaning M.named config.sizes
+        (known_of S.source I.source O.sink P.sink script.old inputs.old.items outputs.old.items replies.old)
+        (known_of S.source I.source O.sink P.sink script.new inputs.new.items outputs.new.items replies.new) }
+    ensures lawful_write { AreLawful M.meaning config.poison → IsErrOf result Fault.Write → EndsLawfullyByWrite M.meaning M.named config.sizes
+        (known_of S.source I.source O.sink P.sink script.old inputs.old.items outputs.old.items replies.old)
+        (known_of S.source I.source O.sink P.sink script.new inputs.new.items outputs.new.items replies.new) }
 {
     lawful_consoles_serve_one_answer::<M>();
     let host = match Host::<M>::new(alloc, config.sizes, config.poison) {

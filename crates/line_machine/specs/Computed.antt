@@ -1,7 +1,7 @@
 -- What is served where the machine is a function.
-use Rattle.std.specs.Prelude.{ℕ, List, [], ◌∷◌, length, take, true, nat_lt, if◌then◌else◌}
+use Rattle.std.specs.Prelude.{◌≡◌, ℕ, List, [], ◌∷◌, length, take, true, nat_lt, if◌then◌else◌}
 use Rattle.voice_script.specs.declared.limits.TheConstants.{LINE_OCTETS}
-use Rattle.line_machine.specs.Served.{Asked, Nothing, Tell, Feed, Run, Answer, long_text, short_text, replies, gives, at_state, octets_left, after_reading, then_answer}
+use Rattle.line_machine.specs.Served.{Asked, Nothing, Tell, Feed, Machine, Run, Answer, long_text, short_text, replies, gives, at_state, octets_left, after_reading, then_answer}
 
 -- what a machine does with lines, by its state
 pub record Computed (S : Type 0) : Type 0 where
@@ -42,3 +42,19 @@ module _ {S : Type 0} (machine : Computed S) where
   lines_answer run [] = record { run = run; written = [] }
   lines_answer run (line ∷ lines) =
       then_answer (line_answer run line).written (lines_answer (line_answer run line).run lines)
+
+-- the machine that does this and nothing else
+abbrev pub machine_of : {S : Type 0} → Computed S → Machine S
+machine_of computed = record {
+  Asks = λ before line asked after. (asked ≡ computed.asked before line) × (after ≡ computed.after before line);
+  Gives = λ before channel octets output told after.
+      (output ≡ computed.output before channel octets) × (told ≡ computed.told before channel octets) × (after ≡ computed.fed before channel octets);
+}
+
+-- in the states that stand for those of the computed machine, the machine does no more than that one does
+pub record IsComputed {S T : Type 0} (machine : Machine S) (computed : Computed T) (standing : T → S) : Type 0 where
+  pub asks : (state : T) (line : List ℕ) (asked : Asked) (after : S) → machine.Asks (standing state) line asked after
+      → (asked ≡ computed.asked state line) × (after ≡ standing (computed.after state line))
+  pub gives : (state : T) (channel : ℕ) (octets output told : List ℕ) (after : S) → machine.Gives (standing state) channel octets output told after
+      → (output ≡ computed.output state channel octets) × (told ≡ computed.told state channel octets)
+      × (after ≡ standing (computed.fed state channel octets))

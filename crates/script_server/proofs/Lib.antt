@@ -1,3 +1,4 @@
+pub mod ComputedEnds
 pub mod Ends
 pub mod Feeds
 pub mod LineAnswers

@@ -96,12 +96,15 @@ module _ {M : Type 0} (kinds : Meaning M) where
   lawful_call before lawful (Lives i answer) = tt
   lawful_call before lawful (Copied answer) = tt
 
+  pub one_computed : (before after : State M) → AreLawful kinds before.poison → (call : Call M) → Does kinds before call after → (call, after) ≡ answered kinds before call
+  one_computed before after lawful call does = computed kinds before after call does (lawful_call before lawful call)
+
   pub all_computed : (calls : List (Call M)) (before after : State M) → AreLawful kinds before.poison → Leads kinds before calls after
       → calls ≡ all_answered kinds before calls
   all_computed [] before after lawful leads = refl
   all_computed (call ∷ calls) before after lawful leads =
       let between = leads.0 in
-      let one = computed kinds before between call leads.1 (lawful_call before lawful call) in
+      let one = one_computed before between lawful call leads.1 in
       let still : AreLawful kinds between.poison = subst (AreLawful kinds) (sym (host_stays kinds before between call leads.1).poison) lawful in
       ap (λ o. o.0 ∷ calls) one ∙ ap (λ rest. (answered kinds before call).0 ∷ rest)
       (all_computed calls between after still leads.2 ∙ ap (λ o. all_answered kinds o.1 calls) one)

@@ -1,6 +1,9 @@
 use Rattle.voice_script.specs.Script.{lines_of}
-use Rattle.console_machine.proofs.AnswerLemmas.{lines_same}
+use Rattle.console_machine.proofs.AnswerLemmas.{is_computed, lines_same}
 use Rattle.console_machine.proofs.laws.lawful_consoles_serve_one_answer.Goals as goal
+
+pub returns-clause-computed : goal.returns-clause-computed
+returns-clause-computed g c = λ kinds named poison lawful. is_computed kinds poison lawful named
 
 pub returns-clause-lines : goal.returns-clause-lines
 returns-clause-lines g c = λ kinds named sizes poison lines inputs answer lawful a. lines_same kinds poison lawful named sizes lines inputs answer a

@@ -1,5 +1,5 @@
 use Rattle.std.proofs.Common.{◌∙◌, map}
-use Rattle.dsp_console.proofs.LawfulLemmas.{serve_lawfully}
+use Rattle.dsp_console.proofs.LawfulLemmas.{lawfully_by_read, lawfully_by_write, serve_lawfully}
 use Rattle.dsp_console.proofs.StartLemmas.{as_many, by_read, by_write, kept, well}
 use Rattle.dsp_console.proofs.serving.run.Goals as goal
 
@@ -25,3 +25,13 @@ pub returns-clause-lawful : goal.returns-clause-lawful
 returns-clause-lawful g c = λ lawful script inputs.
     serve_lawfully g.M.Ialg.meaning g.M.Named.named c.args.config.sizes c.args.config.poison _ _ _ c.lawful_consoles_serve_one_answer.ensures.script lawful script inputs
     (well g.M.Ialg.meaning g.M.Ialg.idle_keeps g.M.Ialg.active_keeps c.new-console.result c.in-Ok.host c.args.config.sizes c.args.config.poison (map g.I.PortIn.source c.args.inputs.now.items) c.new-console.ensures.host c.in-Ok.ensures.host _ _ _ _ c.serve_console-served.ensures.ok)
+
+pub returns-clause-lawful_read : goal.returns-clause-lawful_read
+returns-clause-lawful_read g c = λ lawful fault.
+    lawfully_by_read g.M.Ialg.meaning g.M.Named.named c.args.config.sizes c.args.config.poison _ _ (c.lawful_consoles_serve_one_answer.ensures.computed g.M.Ialg.meaning g.M.Named.named c.args.config.poison lawful)
+    (by_read g.M.Ialg.meaning g.M.Ialg.idle_keeps g.M.Ialg.active_keeps c.new-console.result c.in-Ok.host c.args.config.sizes c.args.config.poison (map g.I.PortIn.source c.args.inputs.now.items) c.new-console.ensures.host c.in-Ok.ensures.host _ _ _ _ c.serve_console-served.ensures.read fault)
+
+pub returns-clause-lawful_write : goal.returns-clause-lawful_write
+returns-clause-lawful_write g c = λ lawful fault.
+    lawfully_by_write g.M.Ialg.meaning g.M.Named.named c.args.config.sizes c.args.config.poison _ _ (c.lawful_consoles_serve_one_answer.ensures.computed g.M.Ialg.meaning g.M.Named.named c.args.config.poison lawful)
+    (by_write g.M.Ialg.meaning g.M.Ialg.idle_keeps g.M.Ialg.active_keeps c.new-console.result c.in-Ok.host c.args.config.sizes c.args.config.poison (map g.I.PortIn.source c.args.inputs.now.items) c.new-console.ensures.host c.in-Ok.ensures.host _ _ _ _ c.serve_console-served.ensures.write fault)
