@@ -4,11 +4,10 @@ ghost use Rattle.host_spaces.specs.Picture.{AreSizes};
 ghost use Rattle.sound_machine.specs.State.{new_state};
 ghost use Rattle.alg_host.specs.Hosts.{Keeps, lives};
 
+use crate::memory::{HostMemory, Tables};
 use host_spaces::{Sizes, Spaces, StartError};
 use ialg::Ialg;
-use instance_table::{
-    Member, empty_groups, empty_once, empty_slots, end_once, end_slots, in_order,
-};
+use instance_table::{Member, in_order};
 use placed_instances::nobody_stands;
 use record_loans::Pieces;
 use scratch_group::Group;
@@ -35,8 +34,8 @@ impl<M> Model for Host<M> {
 }
 
 impl<M: Ialg> Host<M> {
-    /// A host without instances over three spaces of these sizes, in words of 16 bits. Where there is a poison word, each block holds it
-    /// when it is placed, and a group's blocks hold it wherever no member is active. No later call asks for memory.
+    /// A host without instances over three spaces of these sizes, in words of 16 bits: in a new [`HostMemory`], and no later call asks for
+    /// memory. Where there is a poison word, each block holds it when it is placed, and a group's blocks hold it wherever no member is active.
     ///
     /// # Errors
     ///
@@ -48,31 +47,13 @@ impl<M: Ialg> Host<M> {
         ensures empty { IfOk result (λ h. (i : ℕ) → lives h i ≡ false) }
         ensures host { IfOk result (λ h. Keeps M.meaning M.idle_keeps M.active_keeps h (new_state sizes poison)) }
     {
-        let spaces = Spaces::new(alloc, sizes)?;
-        let slots = match empty_slots(alloc) {
-            Ok(slots) => slots,
-            Err(_refused) => {
-                spaces.close();
-                return Err(StartError::Memory);
-            }
-        };
-        let once = match empty_once(alloc) {
-            Ok(once) => once,
-            Err(_refused) => {
-                end_slots(slots);
-                spaces.close();
-                return Err(StartError::Memory);
-            }
-        };
-        let groups = match empty_groups(alloc) {
-            Ok(groups) => groups,
-            Err(_refused) => {
-                end_once(once);
-                end_slots(slots);
-                spaces.close();
-                return Err(StartError::Memory);
-            }
-        };
+        let HostMemory { spaces, tables } = HostMemory::new(alloc, sizes)?;
+        let Tables {
+            slots,
+            once,
+            groups,
+        } = tables;
+        let spaces = Spaces::of(spaces);
         in_order(&slots, &once, &groups);
         nobody_stands::<M>();
         Ok(Host {

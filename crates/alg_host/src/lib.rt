@@ -9,9 +9,11 @@ mod creation;
 mod deletion;
 mod groups;
 mod host;
+mod memory;
 mod moves;
 
 pub use host::Host;
+pub use memory::HostMemory;
 // what its calls take and answer
 pub use host_spaces::{Sizes, StartError};
 pub use scratch_group::Stat;

@@ -10,11 +10,13 @@ mod laws;
 mod pieces;
 mod placing;
 mod spaces;
+mod start;
 #[cfg(test)]
 mod tests;
 mod wants;
 
 pub use laws::creations;
 pub use pieces::{NewBlocks, OldBlocks, Placement};
-pub use spaces::{Sizes, Spaces, StartError};
+pub use spaces::{Sizes, Spaces};
+pub use start::{EmptySpaces, StartError};
 pub use wants::Wanted;

@@ -12,13 +12,12 @@ ghost use Rattle.space_blocks.specs.Spaces.{AreInOrder};
 ghost use Rattle.host_spaces.specs.Picture.{AreSameSpaces, AreSizes, blocks_in, copied_in, empty_picture, moved_in, picture_of, sizes_of, space_in};
 ghost use Rattle.host_spaces.specs.Wants.{IsWithinLimits};
 
+use crate::start::{EmptySpaces, StartError};
 use crate::wants::Wanted;
 use mem_rec::Space;
 use space_blocks::{Map, Placed, SpaceBlocks};
-use space_heap::{HeapError, is_space_size};
 use space_raw::Piece;
 use std::alloc::Global;
-use thiserror::Error;
 
 /// How many words of 16 bits each space has: a multiple of 4 up to 65,536.
 #[derive(Clone, Copy, PartialEq, Eq, Debug)]
@@ -26,17 +25,6 @@ pub struct Sizes {
     pub daram: u32,
     pub saram: u32,
     pub external: u32,
-}
-
-/// Why the spaces aren't made. Nothing is held then.
-#[derive(Clone, Copy, PartialEq, Eq, Debug, Error)]
-pub enum StartError {
-    /// The size of a space isn't a multiple of 4 up to 65,536.
-    #[error("a space is 0 to 65536 words, a multiple of 4")]
-    BadSize,
-    /// A request for memory was refused.
-    #[error("out of memory")]
-    Memory,
 }
 
 /// The three spaces and their blocks. The pieces of the blocks are held elsewhere. They can't be copied, and must be given back by
@@ -47,17 +35,6 @@ pub struct Spaces {
     pub(crate) external: SpaceBlocks,
 }
 
-// What it means to a host that a space isn't made.
-fn start_error(refusal: HeapError) -> StartError
-    ensures bad_size { refusal ≡ HeapError.BadSize → result ≡ StartError.BadSize }
-    ensures memory { refusal ≡ HeapError.Memory → result ≡ StartError.Memory }
-{
-    match refusal {
-        HeapError::BadSize => StartError::BadSize,
-        HeapError::Memory => StartError::Memory,
-    }
-}
-
 impl Spaces {
     /// Spaces of these sizes, all of whose words are free.
     pub fn new(alloc: Global, sizes: Sizes) -> Result<Spaces, StartError>
@@ -65,36 +42,25 @@ impl Spaces {
         ensures memory { AreSizes sizes → IfErr result (λ e. e ≡ StartError.Memory) }
         ensures spaces { IfOk result (λ s. (sizes_of s ≡ sizes) × (picture_of s ≡ empty_picture) × (copied_in s ≡ 0)) }
     {
-        let Sizes {
+        EmptySpaces::new(alloc, sizes).map(Spaces::of)
+    }
+
+    /// These spaces, in which blocks are placed from now on.
+    pub fn of(empty: EmptySpaces) -> Spaces
+        ensures sizes { sizes_of result ≡ empty.sizes }
+        ensures picture { picture_of result ≡ empty_picture }
+        ensures copied { copied_in result ≡ 0 }
+    {
+        let EmptySpaces {
+            sizes: _,
             daram,
             saram,
             external,
-        } = sizes;
-        if !is_space_size(daram) || !is_space_size(saram) || !is_space_size(external) {
-            return Err(StartError::BadSize);
-        }
-        let daram = match SpaceBlocks::new(alloc, daram) {
-            Ok(daram) => daram,
-            Err(refusal) => return Err(start_error(refusal)),
-        };
-        let saram = match SpaceBlocks::new(alloc, saram) {
-            Ok(saram) => saram,
-            Err(refusal) => {
-                daram.close();
-                return Err(start_error(refusal));
-            }
-        };
-        match SpaceBlocks::new(alloc, external) {
-            Ok(external) => Ok(Spaces {
-                daram,
-                saram,
-                external,
-            }),
-            Err(refusal) => {
-                saram.close();
-                daram.close();
-                Err(start_error(refusal))
-            }
+        } = empty;
+        Spaces {
+            daram,
+            saram,
+            external,
         }
     }
 

@@ -12,10 +12,10 @@ use crate::{GROUPS, INSTANCES};
 use ialg::Ialg;
 use record_loans::Pieces;
 use scratch_group::Group;
-use std::alloc::{AllocError, Global};
+use std::alloc::{AllocError, Allocator};
 
-/// A slot for each instance number, each of them empty.
-pub fn empty_slots<M: Ialg>(alloc: Global) -> Result<Vec<Option<Member<M>>>, AllocError>
+/// A slot for each instance number, each of them empty. This table and the two below stand over any allocator, and ask it once each.
+pub fn empty_slots<M: Ialg, A: Allocator>(alloc: A) -> Result<Vec<Option<Member<M>>, A>, AllocError>
     ensures count { IfOk result (λ v. length v.items ≡ INSTANCES) }
     ensures empty { IfOk result (λ v. (i : ℕ) → slot_at v.items i ≡ None) }
 {
@@ -27,7 +27,7 @@ pub fn empty_slots<M: Ialg>(alloc: Global) -> Result<Vec<Option<Member<M>>>, All
 }
 
 /// For each instance number the pieces of its write-once records, of which there are none.
-pub fn empty_once(alloc: Global) -> Result<Vec<Pieces>, AllocError>
+pub fn empty_once<A: Allocator>(alloc: A) -> Result<Vec<Pieces, A>, AllocError>
     ensures count { IfOk result (λ v. length v.items ≡ INSTANCES) }
     ensures empty { IfOk result (λ v. (i : ℕ) → once_at v.items i ≡ no_pieces) }
 {
@@ -39,7 +39,7 @@ pub fn empty_once(alloc: Global) -> Result<Vec<Pieces>, AllocError>
 }
 
 /// Groups without blocks and members.
-pub fn empty_groups(alloc: Global) -> Result<Vec<Group>, AllocError>
+pub fn empty_groups<A: Allocator>(alloc: A) -> Result<Vec<Group, A>, AllocError>
     ensures count { IfOk result (λ v. length v.items ≡ GROUPS) }
     ensures blocks { IfOk result (λ v. (g : ℕ) (space : Space) → block_in (group_at v.items g) space ≡ None) }
     ensures activity { IfOk result (λ v. (g : ℕ) → activity_at v.items g ≡ untouched) }
@@ -52,7 +52,7 @@ pub fn empty_groups(alloc: Global) -> Result<Vec<Group>, AllocError>
 }
 
 /// Ends a table of empty slots.
-pub fn end_slots<M: Ialg>(slots: Vec<Option<Member<M>>>)
+pub fn end_slots<M: Ialg, A: Allocator>(slots: Vec<Option<Member<M>>, A>)
     requires { (i : ℕ) → slot_at slots.items i ≡ None }
 {
     let mut slots = slots;
@@ -66,7 +66,7 @@ pub fn end_slots<M: Ialg>(slots: Vec<Option<Member<M>>>)
 }
 
 /// Ends a table of no pieces.
-pub fn end_once(once: Vec<Pieces>)
+pub fn end_once<A: Allocator>(once: Vec<Pieces, A>)
     requires { (i : ℕ) → once_at once.items i ≡ no_pieces }
 {
     let mut once = once;
@@ -77,7 +77,7 @@ pub fn end_once(once: Vec<Pieces>)
 }
 
 /// Ends groups whose blocks were all taken out.
-pub fn end_groups(groups: Vec<Group>)
+pub fn end_groups<A: Allocator>(groups: Vec<Group, A>)
     requires { (g : ℕ) (space : Space) → block_in (group_at groups.items g) space ≡ None }
 {
     let mut groups = groups;

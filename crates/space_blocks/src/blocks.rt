@@ -17,19 +17,20 @@ use arrayvec::ArrayVec;
 use relocate::{Move, Spot, next_move};
 use space_heap::{Heap, HeapError};
 use space_raw::Piece;
-use std::alloc::Global;
+use std::alloc::{Allocator, Global};
 use std::marker::Model;
 
 /// The blocks of a space, in place order.
 pub type Map = ArrayVec<Placed, MAP_BLOCKS>;
 
-/// A space and its blocks. The pieces of the blocks are held elsewhere. It can't be copied, and must be given back by `close`.
-pub struct SpaceBlocks {
-    heap: Heap,
+/// A space and its blocks. The pieces of the blocks are held elsewhere. The space is of the allocator `A`, the system's by default. It can't
+/// be copied, and must be given back by `close`.
+pub struct SpaceBlocks<A: Allocator = Global> {
+    heap: Heap<A>,
     blocks: ArrayVec<Placed, SPACE_BLOCKS>,
 }
 
-impl Model for SpaceBlocks {
+impl<A: Allocator> Model for SpaceBlocks<A> {
     ghost use Rattle.space_blocks.specs.Spaces.{AreKept, SpaceState};
 
     ghost Value = { SpaceState };
@@ -39,9 +40,9 @@ impl Model for SpaceBlocks {
     ghost invariant = { λ s. AreKept s.heap s.blocks.items };
 }
 
-impl SpaceBlocks {
-    /// A space of that many words, all of them free.
-    pub fn new(alloc: Global, words: u32) -> Result<SpaceBlocks, HeapError>
+impl<A: Allocator> SpaceBlocks<A> {
+    /// A space of that many words, all of them free. The one request for memory of its life is made here.
+    pub fn new(alloc: A, words: u32) -> Result<SpaceBlocks<A>, HeapError>
         ensures bad_size { ¬ IsSpaceSize words → IsErrOf result HeapError.BadSize }
         ensures memory { IsSpaceSize words → IfErr result (λ e. e ≡ HeapError.Memory) }
         ensures space { IfOk result (λ s. (s.region.size ≡ words) × (s.slid ≡ 0) × (s.blocks ≡ [])) }
@@ -55,6 +56,16 @@ impl SpaceBlocks {
         }
     }
 
+    /// The space goes back to the allocator. All blocks were taken out.
+    pub fn close(self)
+        requires none { self.blocks ≡ [] }
+    {
+        let SpaceBlocks { heap, blocks: _ } = self;
+        heap.close();
+    }
+}
+
+impl SpaceBlocks {
     /// A block for the owner: `words` words, rounded up to a multiple of 4, at the least multiple of `align` at which it lies within the
     /// space and meets no block. `None` exactly where there is no such place. The block's words are unknown.
     pub fn place(&mut self, owner: Owner, words: u32, align: u32) -> Option<Piece>
@@ -154,14 +165,6 @@ impl SpaceBlocks {
         ensures value { result ≡ self.now.slid }
     {
         self.heap.slid()
-    }
-
-    /// The space goes back to the allocator. All blocks were taken out.
-    pub fn close(self)
-        requires none { self.blocks ≡ [] }
-    {
-        let SpaceBlocks { heap, blocks: _ } = self;
-        heap.close();
     }
 }
 

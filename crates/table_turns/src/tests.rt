@@ -6,7 +6,7 @@ use instance_table::{
 
 #[test]
 fn tables_are_made_and_ended(rt: HostRuntime) {
-    let mut slots = empty_slots::<G711>(rt.alloc()).expect(&rt, "memory");
+    let mut slots = empty_slots::<G711, _>(rt.alloc()).expect(&rt, "memory");
     let mut once = empty_once(rt.alloc()).expect(&rt, "memory");
     let mut groups = empty_groups(rt.alloc()).expect(&rt, "memory");
     in_order(&slots, &once, &groups);

@@ -2,4 +2,6 @@
 #![tactic(auto)]
 
 #[cfg(test)]
+mod start_tests;
+#[cfg(test)]
 mod tests;

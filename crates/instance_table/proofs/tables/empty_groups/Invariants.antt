@@ -6,9 +6,9 @@ use Rattle.instance_table.specs.Table.{group_at, activity_at, untouched}
 use Rattle.instance_table.proofs.tables.empty_groups.Given as goal
 
 abbrev pub invariant-loop : goal.invariant-loop
-invariant-loop l = record {
+invariant-loop g l = record {
   count : length l.groups.items ≡ l.counter;
   room : GROUPS ≤ vec_capacity l.groups;
-  blocks : (g : ℕ) (space : Space) → block_in (group_at l.groups.items g) space ≡ None;
-  activity : (g : ℕ) → activity_at l.groups.items g ≡ untouched;
+  blocks : (k : ℕ) (space : Space) → block_in (group_at l.groups.items k) space ≡ None;
+  activity : (k : ℕ) → activity_at l.groups.items k ≡ untouched;
 }

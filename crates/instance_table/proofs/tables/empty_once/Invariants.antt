@@ -4,7 +4,7 @@ use Rattle.instance_table.specs.Table.{once_at, no_pieces}
 use Rattle.instance_table.proofs.tables.empty_once.Given as goal
 
 abbrev pub invariant-loop : goal.invariant-loop
-invariant-loop l = record {
+invariant-loop g l = record {
   count : length l.once.items ≡ l.counter;
   room : INSTANCES ≤ vec_capacity l.once;
   empty : (i : ℕ) → once_at l.once.items i ≡ no_pieces;

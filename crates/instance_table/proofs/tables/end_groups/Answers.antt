@@ -7,5 +7,5 @@ use Rattle.instance_table.proofs.Ends.{last_of}
 use Rattle.instance_table.proofs.tables.end_groups.Goals as goal
 
 pub end-requires : goal.end-requires
-end-requires c =
-    last_of no_group (λ (g : Group). (space : Space) → block_in g space ≡ None) c.pop.new.self.items c.in-Some.group (rw c.in-Some.ensures.items at c.loop-group.invariant)
+end-requires g c =
+    last_of no_group (λ (x : Group). (space : Space) → block_in x space ≡ None) c.pop.new.self.items c.in-Some.group (rw c.in-Some.ensures.items at c.loop-group.invariant)

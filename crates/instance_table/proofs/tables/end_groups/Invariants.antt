@@ -5,7 +5,7 @@ use Rattle.instance_table.specs.Table.{group_at}
 use Rattle.instance_table.proofs.tables.end_groups.Given as goal
 
 abbrev pub invariant-loop-group : goal.invariant-loop-group
-invariant-loop-group l = (g : ℕ) (space : Space) → block_in (group_at l.groups.items g) space ≡ None
+invariant-loop-group g l = (k : ℕ) (space : Space) → block_in (group_at l.groups.items k) space ≡ None
 
 abbrev pub decreases-loop-group : goal.decreases-loop-group
-decreases-loop-group l = length l.groups.items
+decreases-loop-group g l = length l.groups.items
