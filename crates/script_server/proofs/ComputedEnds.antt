@@ -22,7 +22,7 @@ module _ {S T : Type 0} (machine : Machine S) (computed : Computed T) (standing 
       let last = line_answer computed whole.run s.last in
       let all : s.answer ≡ shown whole = lines_are machine computed standing is s.whole start s.answer s.is_answer in
       let cut : s.cut ≡ shown last =
-          line_is machine computed standing is whole.run s.last s.cut (subst (λ r. LineAnswer machine r s.last s.cut) (ap (λ o. o.run) all) s.is_cut) in
+      line_is machine computed standing is whole.run s.last s.cut (subst (λ r. LineAnswer machine r s.last s.cut) (ap (λ o. o.run) all) s.is_cut) in
       record {
         whole = s.whole;
         last = s.last;
