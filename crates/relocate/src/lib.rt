@@ -12,5 +12,5 @@ mod rows;
 mod tests;
 
 pub use laws::{compactions, lowering_moves, moves_go_down};
-pub use packing::{Move, Spot, next_move};
+pub use packing::{Move, Spot, Standing, next_move};
 pub use rows::packing_rows;

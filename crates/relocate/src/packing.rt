@@ -1,5 +1,6 @@
 //! The next move of a space's blocks.
-ghost use Rattle.std.specs.Prelude.{◌≡◌, ◌↔◌, IfSome, IsNone};
+ghost use Rattle.std.specs.Prelude.{◌≡◌, ◌↔◌, map, IfSome, IsNone};
+ghost use Rattle.relocate.specs.declared.packing.Spot.{Spot};
 ghost use Rattle.relocate.specs.Spots.{AreSpots};
 ghost use Rattle.relocate.specs.Packing.{IsNextMove, IsPacked, next_move_of};
 
@@ -11,6 +12,24 @@ pub struct Spot {
     pub align: u32,
 }
 
+/// A block, whatever else it says of itself.
+pub trait Standing {
+    ghost stands: { Self → Spot };
+
+    /// How it stands in its space.
+    fn spot(&self) -> Spot
+        ensures { result ≡ stands self.now };
+}
+
+/// A spot stands as it says.
+impl Standing for Spot {
+    ghost stands = { λ s. s };
+
+    fn spot(&self) -> Spot {
+        *self
+    }
+}
+
 /// The block of that index, in place order from 0, goes to the place `to`.
 #[derive(Clone, Copy, PartialEq, Eq, Debug)]
 pub struct Move {
@@ -20,14 +39,15 @@ pub struct Move {
 
 /// The first block that isn't at its packed place goes there. `None` exactly where every block is at its packed place, as it is
 /// without blocks. The blocks are in place order, at multiples of their alignments, and none meets another.
-pub fn next_move(spots: &[Spot]) -> Option<Move>
-    requires spots { AreSpots spots.now }
-    ensures first { IfSome result (IsNextMove spots.now) }
-    ensures packed { IsNone result ↔ IsPacked spots.now }
-    ensures value { result ≡ next_move_of spots.now }
+pub fn next_move<B: Standing>(blocks: &[B]) -> Option<Move>
+    requires spots { AreSpots (map B.stands blocks.now) }
+    ensures first { IfSome result (IsNextMove (map B.stands blocks.now)) }
+    ensures packed { IsNone result ↔ IsPacked (map B.stands blocks.now) }
+    ensures value { result ≡ next_move_of (map B.stands blocks.now) }
 {
     let mut end: u32 = 0;
-    for (index, spot) in spots.iter().enumerate() {
+    for (index, block) in blocks.iter().enumerate() {
+        let spot = block.spot();
         let to = end.next_multiple_of(spot.align);
         if spot.place != to {
             return Some(Move { index, to });

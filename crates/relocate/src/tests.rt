@@ -11,7 +11,7 @@ fn spot(place: u32, size: u32, align: u32) -> Spot
 
 #[test]
 fn the_first_unpacked_block_moves(rt: HostRuntime) {
-    assert!(rt; next_move(&[]).is_none());
+    assert!(rt; next_move::<Spot>(&[]).is_none());
     let one = [spot(16, 260, 16)];
     assert!(rt; next_move(&one) == Some(Move { index: 0, to: 0 }));
     let two = [spot(0, 4, 4), spot(16, 4, 8), spot(20, 4, 4)];

@@ -128,11 +128,6 @@ counted_words now was old words new lt e =
     let differs : (now == was) ≡ false = when_not (now == was) (λ is. let same = eqb-true now was is in omega arith) in
     e ∙ ap (λ t. min (old + cond t 0 words) (2 ^ 64 - 1)) differs
 
-pub spots_next : (bs : List Placed) (i : ℕ) (d : Placed) → i < length bs → take (suc i) (spots_of bs) ≡ take i (spots_of bs) ++ spot_of (get_or bs i d) ∷ []
-spots_next [] i d lt = absurd (omega arith)
-spots_next (b ∷ bs) zero d lt = refl
-spots_next (b ∷ bs) (suc i) d lt = ap (λ xs. spot_of b ∷ xs) (spots_next bs i d (omega arith))
-
 pub next_found : (bs : List Placed) (m : Move) (d : Placed) → AreSpots (spots_of bs) → next_in bs ≡ Some m → Some (get_or bs m.index d) ≡ next_block bs
 next_found bs m d order e =
     sym (ap (λ o. block_to_move o bs) e ∙ block_inside bs m.index d (move_inside bs m order e))

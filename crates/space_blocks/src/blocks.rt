@@ -7,14 +7,14 @@ ghost use Rattle.space_heap.specs.declared.limits.TheConstants.{GREATEST_NEED};
 ghost use Rattle.space_blocks.specs.declared.TheConstants.{MAP_BLOCKS, SPACE_BLOCKS};
 ghost use Rattle.space_blocks.specs.declared.placed.Owner.{Owner};
 ghost use Rattle.space_blocks.specs.declared.placed.Placed.{Placed};
-ghost use Rattle.space_blocks.specs.Blocks.{Owns, block_of, block_range, disowned, owned, ranges, with_block, with_place, without_at};
-ghost use Rattle.space_blocks.specs.Moves.{moved, moved_to, next_block, next_in, spot_of, spots_of};
+ghost use Rattle.space_blocks.specs.Blocks.{Owns, block_of, block_range, disowned, owned, ranges, with_block, without_at};
+ghost use Rattle.space_blocks.specs.Moves.{moved, moved_to, next_block, next_in};
 ghost use Rattle.space_blocks.specs.Spaces.{AreInOrder};
 
 use crate::placed::{Owner, Placed};
 use crate::{MAP_BLOCKS, SPACE_BLOCKS};
 use arrayvec::ArrayVec;
-use relocate::{Move, Spot, next_move};
+use relocate::{Move, next_move};
 use space_heap::{Heap, HeapError};
 use space_raw::Piece;
 use std::alloc::{Allocator, Global};
@@ -110,7 +110,7 @@ impl SpaceBlocks {
     pub fn next_move(&self) -> Option<Placed>
         ensures value { result ≡ next_block self.now.blocks }
     {
-        match next_move(spots(self.blocks.as_slice()).as_slice()) {
+        match next_move(self.blocks.as_slice()) {
             Some(Move { index, to: _ }) => Some(self.blocks.as_slice()[index]),
             None => None,
         }
@@ -210,27 +210,4 @@ fn put_at(blocks: &mut ArrayVec<Placed, SPACE_BLOCKS>, index: usize, place: u32)
     let mut block = blocks.as_slice()[index];
     block.place = place;
     blocks.as_mut_slice()[index] = block;
-}
-
-// How the block stands.
-fn spot(block: &Placed) -> Spot
-    ensures value { result ≡ spot_of block.now }
-{
-    Spot {
-        place: block.place,
-        size: block.size,
-        align: block.align,
-    }
-}
-
-// How the blocks stand.
-fn spots(blocks: &[Placed]) -> ArrayVec<Spot, SPACE_BLOCKS>
-    requires few { length blocks.now ≤ SPACE_BLOCKS }
-    ensures value { result.items ≡ spots_of blocks.now }
-{
-    let mut spots = ArrayVec::new();
-    for block in blocks {
-        spots.push(spot(block));
-    }
-    spots
 }

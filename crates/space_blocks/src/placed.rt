@@ -1,4 +1,7 @@
 //! Blocks as a map shows them.
+ghost use Rattle.space_blocks.specs.Moves.{spot_of};
+
+use relocate::{Spot, Standing};
 
 /// Whose block it is.
 #[derive(Clone, Copy, PartialEq, Eq, Debug)]
@@ -23,4 +26,16 @@ pub struct Placed {
     pub place: u32,
     pub size: u32,
     pub align: u32,
+}
+
+impl Standing for Placed {
+    ghost stands = { spot_of };
+
+    fn spot(&self) -> Spot {
+        Spot {
+            place: self.place,
+            size: self.size,
+            align: self.align,
+        }
+    }
 }

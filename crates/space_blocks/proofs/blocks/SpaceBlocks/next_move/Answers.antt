@@ -15,7 +15,7 @@ blank = record { owner = Record 0 0; place = 0; size = 0; align = 0 }
 pub returns-in-Some : goal.returns-in-Some
 returns-in-Some c =
     let bs = c.self.inside.blocks.items in let m = c.in-Some.field-0 in
-    let same = c.as_slice-2.ensures.value ∙ c.spots.ensures.value ∙ ap spots_of c.as_slice.ensures.value in
+    let same = ap spots_of c.as_slice.ensures.value in
     let is : next_in bs ≡ Some m = sym (ap next_move_of same) ∙ sym c.next_move.ensures.value ∙ c.in-Some.is in
     record {
       value = ap (λ (xs : List Placed). Some (get_or xs m.index blank)) c.as_slice-in-Some.ensures.value ∙ next_found bs m blank c.self.invariant.order is
