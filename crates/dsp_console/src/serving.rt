@@ -92,6 +92,9 @@ fn serve_console<M: Ialg + Named, S: PortIn, I: PortIn, O: PortOut, P: PortOut>(
 /// what is served is an answer that the machine of `console_machine` may give, and where every kind is lawful the one that it gives,
 /// in which the poison word doesn't occur.
 ///
+/// The script is read ahead, by 4,096 octets at most, and asked for more only where no whole line is left of what was read. So where an
+/// input, an output or the replies failed, some of the script behind the last line that was served may be gone.
+///
 /// After `Read` or `Write` what was served before stands in the outputs and the replies, and the port that failed says so.
 pub fn run<M: Ialg + Named, S: PortIn, I: PortIn, O: PortOut, P: PortOut>(
     alloc: Global,

@@ -345,17 +345,54 @@ const LINES: [(u64, usize, usize); 6] = [
 
 #[test]
 fn stops_where_the_script_fails(rt: HostRuntime) -> Result<(), Fail> {
-    for step in [1, WIDE] {
-        for script in 0..56 {
-            let (mut outputs, mut replies) = (0, 0);
-            for (end, written, told) in LINES {
-                if script >= end {
-                    (outputs, replies) = (written, told);
-                }
+    for script in 0..56 {
+        let (mut outputs, mut replies) = (0, 0);
+        for (end, written, told) in LINES {
+            if script >= end {
+                (outputs, replies) = (written, told);
             }
-            let fuses = Fuses { script, ..UNBROKEN };
-            compare_fault(&rt, step, fuses, Fault::Read, outputs, replies)?;
         }
+        let fuses = Fuses { script, ..UNBROKEN };
+        compare_fault(&rt, 1, fuses, Fault::Read, outputs, replies)?;
+    }
+    // The second call is made once all lines that the first gave are served.
+    for (script, outputs, replies) in [(0, 0, 0), (1, 4, 35)] {
+        let fuses = Fuses { script, ..UNBROKEN };
+        compare_fault(&rt, WIDE, fuses, Fault::Read, outputs, replies)?;
+    }
+    Ok(())
+}
+
+// One call gives all of it, and a second one tells that it has ended.
+#[test]
+fn a_short_script_takes_two_calls(rt: HostRuntime) -> Result<(), Fail> {
+    let row = &rows()[0];
+    let wanted = Wanted {
+        answer: Ok(Summary { refused: 0 }),
+        output: row.output,
+        replies: row.replies,
+    };
+    let fuses = Fuses {
+        script: 2,
+        ..UNBROKEN
+    };
+    let setting = Setting { fuses, ..PLAIN };
+    compare(&rt, setting, row.script, row.input, &wanted)
+}
+
+#[test]
+fn the_pieces_of_a_script_change_no_reply(rt: HostRuntime) -> Result<(), Fail> {
+    let row = &rows()[7];
+    let wanted = Wanted {
+        answer: Ok(Summary {
+            refused: row.refused,
+        }),
+        output: row.output,
+        replies: row.replies,
+    };
+    for step in 1..=40 {
+        let setting = Setting { step, ..PLAIN };
+        compare(&rt, setting, row.script, row.input, &wanted)?;
     }
     Ok(())
 }

@@ -1,11 +1,16 @@
 -- A line as it comes, an octet at a time.
-use Rattle.std.proofs.Common.{◌≡◌, ◌≢◌, ℕ, ◌+◌, ◌-◌, ◌≤◌, Bool, true, false, List, [], ◌∷◌, ◌++◌, length, take, get_or, refl, ap, length-append, arith}
+use Rattle.std.proofs.Common.{◌≡◌, ◌≢◌, ℕ, ◌+◌, ◌≤◌, Bool, true, false, List, [], ◌∷◌, ◌++◌, length, refl, ap, length-append, arith}
 use Rattle.std.specs.List.{All}
+use Rattle.std.proofs.lemmas.Bool.{false≢true}
+use Rattle.std.proofs.lemmas.List.{append-nil}
 use Rattle.std.proofs.lemmas.List.Elements.{All-push}
 use Rattle.std.proofs.lemmas.Grind.{common_steps}
 use Rattle.std.proofs.lemmas.Bool.Decides.{nat_tests}
-use Rattle.octet_ports.specs.Ports.{Source, Gives}
-use Rattle.octet_ports.specs.Lines.{IsLine, IsNoFeed}
+use Rattle.octet_ports.specs.Ports.{Source, Gives, IsAtEnd}
+use Rattle.octet_ports.specs.Lines.{IsLine, IsNoFeed, LineCame, LineFails}
+use Rattle.octet_ports.specs.Readers.{RefusesFor}
+use Rattle.octet_ports.specs.declared.reader.LineFault.{LineFault}
+use Rattle.octet_ports.specs.declared.reader.LineFault.TheVariants.{Port, Limit}
 use Rattle.octet_ports.proofs.Ports.{gives_more}
 
 -- as much of a line as has come, of so many octets that may
@@ -14,11 +19,6 @@ pub record LineSoFar (most : ℕ) (text : List ℕ) (long : Bool) (limit left : 
   pub line : IsLine most text long octets
   pub gives : Gives octets old new
   pub used : limit ≡ length octets + left
-
-pub one_octet : (n : ℕ) (xs : List ℕ) → n ≤ length xs → length xs ≡ 1 → (n ≡ 0 → ⊥) → take n xs ≡ get_or xs 0 0 ∷ []
-one_octet n [] h e z = absurd (z (grind (arith, common_steps)))
-one_octet n (x ∷ []) h e z = let one : n ≡ 1 = omega arith in rw one refl
-one_octet n (x ∷ y ∷ ys) h e z = absurd (omega arith)
 
 pub no_feed_more : (xs : List ℕ) (x : ℕ) → All IsNoFeed xs → x ≢ 10 → All IsNoFeed (xs ++ x ∷ [])
 no_feed_more xs x a n = All-push IsNoFeed xs x a n
@@ -51,12 +51,59 @@ is_line_long {most} {text} {octets} false x line n f =
       is_text = λ e. cc;
     }
 
-pub so_far_more : {most limit left : ℕ} {text new_text : List ℕ} {long new_long : Bool} {a b c : Source} (x : ℕ)
-    (came : LineSoFar most text long limit left a b) → IsLine most new_text new_long (came.octets ++ x ∷ []) → Gives (x ∷ []) b c → (left ≡ 0 → ⊥)
-    → LineSoFar most new_text new_long limit (left - 1) a c
-so_far_more {most} {limit} {left} x came line gives z = record {
+pub so_far_more : {most limit left new_left : ℕ} {text new_text : List ℕ} {long new_long : Bool} {a b c : Source} (x : ℕ)
+    (came : LineSoFar most text long limit left a b) → IsLine most new_text new_long (came.octets ++ x ∷ []) → Gives (x ∷ []) b c → left ≡ new_left + 1
+    → LineSoFar most new_text new_long limit new_left a c
+so_far_more {most} {limit} {left} {new_left} x came line gives e = record {
   octets = came.octets ++ x ∷ [];
   line = line;
   gives = gives_more came.gives gives;
   used = let u = came.used in let l = length-append came.octets (x ∷ []) in omega arith;
 }
+
+-- a line feed came behind it
+pub line_came : {most limit left new_left : ℕ} {text : List ℕ} {long : Bool} {a b c : Source}
+    → LineSoFar most text long limit left a b → Gives (10 ∷ []) b c → left ≡ new_left + 1 → LineCame most text long false limit new_left a c
+line_came {most} {limit} {left} {new_left} came gives e = record {
+  octets = came.octets;
+  line = came.line;
+  gives = gives_more came.gives gives;
+  used = let u = came.used in let l = length-append came.octets (10 ∷ []) in omega arith;
+  at_end = λ bad. absurd (false≢true bad);
+}
+
+-- the input's end came behind it
+pub line_last : {most limit left : ℕ} {text : List ℕ} {long : Bool} {a b c : Source}
+    → LineSoFar most text long limit left a b → Gives [] b c → IsAtEnd c → LineCame most text long true limit left a c
+line_last {most} {limit} {left} came gives ends = record {
+  octets = came.octets;
+  line = came.line;
+  gives = gives_more came.gives gives;
+  used = let u = came.used in let l = length-append came.octets [] in omega arith;
+  at_end = λ last. ends;
+}
+
+-- the input gave out behind it
+pub line_fails : {most limit left : ℕ} {text : List ℕ} {long : Bool} {a : Source} (b c : Source) (fault : LineFault)
+    → LineSoFar most text long limit left a b → RefusesFor fault left b c → LineFails fault limit a c
+line_fails {most} {limit} {left} b c Port came f = (
+  f.0,
+  (
+    came.octets,
+    record {
+      no_feed = came.line.no_feed;
+      gives = rw (append-nil came.octets) at (gives_more came.gives f.1);
+      few = let u = came.used in omega arith;
+    },
+  ),
+)
+line_fails {most} {limit} {left} b c Limit came f = (
+  f.0,
+  (
+    came.octets,
+    f.1.0,
+    came.line.no_feed,
+    gives_more came.gives f.1.1,
+    let u = came.used in let z : left ≡ 0 = f.1.2 in omega arith,
+  ),
+)

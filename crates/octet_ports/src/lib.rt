@@ -4,13 +4,15 @@
 mod device;
 mod octets;
 mod port;
+mod reader;
 mod tape;
 #[cfg(test)]
 mod tests;
 
 pub use device::{Reading, Writing};
-pub use octets::{LineFault, ReadLine, read_line, read_octets, write_octets};
+pub use octets::{read_octets, write_octets};
 pub use port::{PortFault, PortIn, PortOut};
+pub use reader::{BUFFER_OCTETS, LineFault, LineReader, ReadLine};
 pub use tape::{TAPE_OCTETS, TapeIn, TapeOut};
 
 /// The octet that ends a line.

@@ -1,12 +1,10 @@
-//! Whole buffers and lines through ports.
-ghost use Rattle.std.specs.Prelude.{◌≡◌, true, false, [], length, IfOk, IfErr, IsOk};
+//! Whole buffers through ports.
+ghost use Rattle.std.specs.Prelude.{◌≡◌, true, false, length, IsOk};
 ghost use Rattle.std.specs.Result.{is_err};
 ghost use Rattle.octet_ports.specs.Ports.{Gives, GivesWithin, Takes, TakesFirst};
-ghost use Rattle.octet_ports.specs.Lines.{LineCame, LineFails, EndsWithin};
+ghost use Rattle.octet_ports.specs.Lines.{EndsWithin};
 
-use crate::LINE_FEED;
 use crate::port::{PortFault, PortIn, PortOut};
-use arrayvec::ArrayVec;
 
 /// Writes all octets.
 pub fn write_octets<O: PortOut>(output: &mut O, octets: &[u8]) -> Result<(), PortFault>
@@ -39,59 +37,4 @@ pub fn read_octets<I: PortIn>(input: &mut I, buffer: &mut [u8]) -> Result<bool, 
         done += count;
     }
     Ok(true)
-}
-
-/// How a line was read.
-#[derive(Clone, Copy, PartialEq, Eq, Debug)]
-pub struct ReadLine {
-    /// It has more octets than there is room for: its text isn't kept.
-    pub long: bool,
-    /// The script's end ended it.
-    pub last: bool,
-}
-
-/// Why a line wasn't read.
-#[derive(Clone, Copy, PartialEq, Eq, Debug)]
-pub enum LineFault {
-    /// The device failed.
-    Port,
-    /// The script goes on after its limit.
-    Limit,
-}
-
-/// Reads a line, to its line feed or the script's end, an octet at a time. A line of more than `MOST` octets is long. At most
-/// `left` octets may come, and one that tells that there are more.
-pub fn read_line<S: PortIn, const MOST: usize>(
-    script: &mut S,
-    text: &mut ArrayVec<u8, MOST>,
-    left: &mut u32,
-) -> Result<ReadLine, LineFault>
-    requires ready { (S.source script.old).failed ≡ false }
-    requires empty { text.old.items ≡ [] }
-    ensures ok { IfOk result (λ line. LineCame MOST text.new.items line.long line.last left.old left.new (S.source script.old) (S.source script.new)) }
-    ensures err { IfErr result (λ e. LineFails e left.old (S.source script.old) (S.source script.new)) }
-    ensures ready { IsOk result → (S.source script.new).failed ≡ false }
-{
-    let mut long = false;
-    'octets: loop {
-        let mut octet = [0u8];
-        match script.get(&mut octet) {
-            Err(_) => return Err(LineFault::Port),
-            Ok(0) => return Ok(ReadLine { long, last: true }),
-            Ok(_) => {}
-        }
-        if *left == 0 {
-            return Err(LineFault::Limit);
-        }
-        *left -= 1;
-        let [octet] = octet;
-        if octet == LINE_FEED {
-            return Ok(ReadLine { long, last: false });
-        }
-        if text.is_full() {
-            long = true;
-        } else {
-            text.push(octet);
-        }
-    }
 }

@@ -1,12 +1,12 @@
 -- How a script goes on, and how it ends.
-use Rattle.std.proofs.Common.{◌≡◌, ◌⊎◌, inl, inr, ℕ, ◌+◌, ◌≤◌, Bool, true, false, List, [], ◌∷◌, ◌++◌, length, refl, sym, ap, ◌∙◌, append_assoc, length-append, arith, if◌then◌else◌}
+use Rattle.std.proofs.Common.{◌≡◌, ◌⊎◌, inl, inr, ℕ, ◌+◌, ◌≤◌, Bool, true, false, List, [], ◌∷◌, ◌++◌, length, refl, sym, subst, ap, ◌∙◌, append_assoc, length-append, arith, if◌then◌else◌}
 use Rattle.std.specs.List.{All, flat_map}
 use Rattle.std.proofs.lemmas.List.{append-nil}
 use Rattle.std.proofs.lemmas.List.Elements.{All-push}
-use Rattle.octet_ports.specs.Ports.{Source, Sink, GivesWithin}
-use Rattle.octet_ports.specs.Lines.{LineCame, LineFails}
-use Rattle.octet_ports.specs.declared.octets.LineFault.{LineFault}
-use Rattle.octet_ports.specs.declared.octets.LineFault.TheVariants.{Port, Limit}
+use Rattle.octet_ports.specs.Ports.{Source, Sink, Gives, GivesWithin}
+use Rattle.octet_ports.specs.Lines.{LineCame, LineFails, behind, ending}
+use Rattle.octet_ports.specs.declared.reader.LineFault.{LineFault}
+use Rattle.octet_ports.specs.declared.reader.LineFault.TheVariants.{Port, Limit}
 use Rattle.octet_ports.proofs.Ports.{gives_more}
 use Rattle.octet_ports.specs.Lines.{ended, IsNoFeed}
 use Rattle.line_machine.specs.Served.{Machine, Run, LineAnswer, then_answer, order_of}
@@ -17,6 +17,10 @@ use Rattle.voice_script.specs.declared.limits.TheConstants.{LINE_OCTETS}
 use Rattle.script_server.specs.declared.limits.TheConstants.{SCRIPT_OCTETS}
 use Rattle.script_server.proofs.Writes.{writes_more, order_of-append}
 use Rattle.script_server.proofs.Scripts.{push_answer, last_answer, answer_there, refusals-append, ended_more, next_line, last_line, last_line_of, ended_lines_of}
+
+-- what a script gave before what is ahead of its lines, and that too
+pub gives_ahead : (octets ahead : List ℕ) (a b : Source) → Gives octets a (behind ahead b) → Gives (octets ++ ahead) a b
+gives_ahead octets ahead a b g = record { stays = g.stays; given = λ honest. g.given honest ∙ sym (append_assoc octets ahead b.coming) }
 
 module _ {S : Type 0} (m : Machine S) (start : Run S) where
   pub served_more : {keeps new_keeps : S → Type 0} {refused new_refused left new_left : ℕ} {is_refused : Bool} {script a b : Source} {sources new_sources : List Source}
@@ -68,17 +72,17 @@ module _ {S : Type 0} (m : Machine S) (start : Run S) where
         counted = rw (refusals-append served.answer.written line.answer.written, served.counted, line.counted) (sym count);
       }
 
-  pub script_cut : {keeps : S → Type 0} {refused left new_left : ℕ} {a : Source} {sources : List Source}
+  pub script_cut : {keeps : S → Type 0} {refused left new_left : ℕ} {a b : Source} {sources : List Source}
       {mid_outputs : List Sink} {mid_replies : Sink} {text : List ℕ} {long last : Bool} (old new : Devices)
       → IsHonest old.script
       → (served : ServedSoFar m keeps start refused left old.script a sources old.outputs mid_outputs old.replies mid_replies)
-      → (came : LineCame LINE_OCTETS text long last left new_left a new.script)
+      → (came : LineCame LINE_OCTETS text long last left new_left a b)
       → IsCut (LineAnswer m (run_of served.answer.run.state sources) came.octets) new.inputs mid_outputs new.outputs mid_replies new.replies
       → ServedFirst m start old new
-  script_cut {a = a} {sources = sources} {last = last} old new h served came cut =
+  script_cut {a = a} {b = b} {sources = sources} {last = last} old new h served came cut =
       let lines = served.lines in
       let octets = came.octets in
-      let next = next_line lines octets last old.script a new.script served.no_feeds came.line.no_feed h served.gives came.gives came.at_end in
+      let next = next_line lines octets last old.script a b served.no_feeds came.line.no_feed h served.gives came.gives came.at_end in
       record {
         whole = lines;
         last = octets;
@@ -129,12 +133,13 @@ module _ {S : Type 0} (m : Machine S) (start : Run S) where
       }
 
   pub stops_in_feed : {keeps : S → Type 0} {refused left new_left : ℕ} {a : Source} {sources : List Source}
-      {mid_outputs : List Sink} {mid_replies : Sink} {text : List ℕ} {long last : Bool} (old new : Devices)
+      {mid_outputs : List Sink} {mid_replies : Sink} {text : List ℕ} {long last : Bool} (old new : Devices) (ahead : List ℕ)
       → (served : ServedSoFar m keeps start refused left old.script a sources old.outputs mid_outputs old.replies mid_replies)
-      → (came : LineCame LINE_OCTETS text long last left new_left a new.script)
+      → (came : LineCame LINE_OCTETS text long last left new_left a (behind ahead new.script))
+      → (last ≡ true → ahead ≡ [])
       → IsUnfed m served.answer.run.state came.octets sources new.inputs mid_outputs new.outputs mid_replies new.replies
       → ServedUpTo m start old new
-  stops_in_feed {sources = sources} {last = last} old new served came unfed = record {
+  stops_in_feed {sources = sources} {last = last} old new ahead served came none unfed = record {
     lines = served.lines;
     no_feeds = served.no_feeds;
     are_ended = λ rest n. ended_lines_of served.lines rest served.no_feeds n;
@@ -142,7 +147,10 @@ module _ {S : Type 0} (m : Machine S) (start : Run S) where
     is_answer = served.is_answer;
     sources = sources;
     inputs = served.inputs;
-    stops = InFeed came.octets last unfed.channel unfed.count unfed.after came.line.no_feed unfed.fits unfed.asks (gives_more served.gives came.gives) came.at_end unfed.input;
+    stops = InFeed came.octets last ahead unfed.channel unfed.count unfed.after came.line.no_feed unfed.fits unfed.asks
+        (gives_ahead (flat_map ended served.lines ++ (came.octets ++ ending last)) ahead old.script new.script (gives_more served.gives came.gives))
+        (λ e. (none e, λ honest. subst (λ xs. xs ++ new.script.coming ≡ []) (none e) (came.at_end e honest)))
+        unfed.input;
     writes = rw (append-nil (order_of served.answer.written)) at (writes_more served.writes unfed.writes);
   }
 
@@ -182,8 +190,16 @@ module _ {S : Type 0} (m : Machine S) (start : Run S) where
 
 -- ---- how much of a script is read
 
-pub consumes_within : {left : ℕ} {script new_script : Source} → Consumes left script new_script → GivesWithin (SCRIPT_OCTETS + 1) script new_script
-consumes_within c = record { octets = c.octets; few = let u : SCRIPT_OCTETS ≡ _ = c.used in omega arith; gives = c.gives }
+pub consumes_within : {left : ℕ} {script : Source} (ahead : List ℕ) (new_script : Source) → Consumes left script (behind ahead new_script) → length ahead ≤ left
+    → GivesWithin (SCRIPT_OCTETS + 1) script new_script
+consumes_within {left = left} {script = script} ahead new_script c few = record {
+  octets = c.octets ++ ahead;
+  few =
+      let u : SCRIPT_OCTETS ≡ length c.octets + left = c.used in
+      let l : length (c.octets ++ ahead) ≡ length c.octets + length ahead = length-append c.octets ahead in
+      omega arith;
+  gives = gives_ahead c.octets ahead script new_script c.gives;
+}
 
 pub consumes_then : {left : ℕ} {script a b : Source} (fault : LineFault) → Consumes left script a → LineFails fault left a b → GivesWithin (SCRIPT_OCTETS + 1) script b
 consumes_then {left = left} Port c f =

@@ -157,10 +157,10 @@ module _ {S : Type 0} (machine : Machine S) (start : Run S) where
     AtLimit : (rest : List ℕ) (next : ℕ) → All IsNoFeed rest → length (flat_map ended lines ++ rest) ≡ SCRIPT_OCTETS
         → Gives ((flat_map ended lines ++ rest) ++ next ∷ []) script new_script
         → new_sources ≡ sources → Stops script new_script lines state sources new_sources
-    -- the input of the next line's feed failed
-    InFeed : (line : List ℕ) (last : Bool) (channel count : ℕ) (after : S) → All IsNoFeed line → length line ≤ LINE_OCTETS
+    -- the input of the next line's feed failed; some of the script may have been read ahead
+    InFeed : (line : List ℕ) (last : Bool) (ahead : List ℕ) (channel count : ℕ) (after : S) → All IsNoFeed line → length line ≤ LINE_OCTETS
         → machine.Asks state line (Feed channel count) after
-        → Gives (flat_map ended lines ++ (line ++ ending last)) script new_script → (last ≡ true → IsAtEnd new_script)
+        → Gives ((flat_map ended lines ++ (line ++ ending last)) ++ ahead) script new_script → (last ≡ true → (ahead ≡ []) × IsAtEnd new_script)
         → StepsAt (FailsWithin count) channel no_source sources new_sources → Stops script new_script lines state sources new_sources
 
   -- exactly these lines were served, from honest inputs

@@ -7,7 +7,7 @@ use crate::limits::SCRIPT_OCTETS;
 use crate::line::{Desk, flush_outputs, serve_line};
 use arrayvec::ArrayVec;
 use line_machine::LineMachine;
-use octet_ports::{PortIn, PortOut, read_line};
+use octet_ports::{LineReader, PortIn, PortOut};
 use space_blocks::Map;
 use voice_script::LINE_OCTETS;
 
@@ -46,7 +46,7 @@ fn serve_script<T: LineMachine, S: PortIn, I: PortIn, O: PortOut, P: PortOut>(
         (known_of S.source I.source O.sink P.sink script.old inputs.old.items outputs.old.items replies.old)
         (known_of S.source I.source O.sink P.sink script.new inputs.new.items outputs.new.items replies.new) }
 {
-    let mut left = SCRIPT_OCTETS;
+    let mut reader = LineReader::new(SCRIPT_OCTETS);
     let mut refused: u64 = 0;
     let mut text: ArrayVec<u8, LINE_OCTETS> = ArrayVec::new();
     let mut desk = Desk {
@@ -55,7 +55,7 @@ fn serve_script<T: LineMachine, S: PortIn, I: PortIn, O: PortOut, P: PortOut>(
     };
     'lines: loop {
         text.clear();
-        let line = match read_line(script, &mut text, &mut left) {
+        let line = match reader.read_line(script, &mut text) {
             Ok(line) => line,
             Err(_) => return Err(PortsFault::Read),
         };
@@ -86,6 +86,8 @@ fn serve_script<T: LineMachine, S: PortIn, I: PortIn, O: PortOut, P: PortOut>(
 /// A feed reads its samples from the channel's input, writes what the channel gives to the channel's output, and then its
 /// reply; it is refused as short at the input's end, and what was read of it is gone. Every other line writes its reply
 /// alone. A fault ends the run.
+///
+/// The script is read ahead, by [`BUFFER_OCTETS`](octet_ports::BUFFER_OCTETS) at most, but only where no whole line is left of what was read.
 pub fn serve<T: LineMachine, S: PortIn, I: PortIn, O: PortOut, P: PortOut>(
     machine: &mut T,
     script: &mut S,

@@ -15,9 +15,9 @@ lines-init g c = record {
   pairs = search rules;
   ready = search rules;
   few = search rules;
-  came = record { octets = _; gives = gives_none _; used = refl };
+  came = rw (c.new-reader.ensures.none, c.new-reader.ensures.left) (record { octets = []; gives = gives_none (g.S.PortIn.source c.args.script.now); used = refl });
   waits = wait_none _ _;
-  served = λ h. served_none g.T.LineMachine.machine (g.T.LineMachine.keeps c.args.machine.now) g.state _ _ _ _ (search rules) h;
+  served = λ h. rw (c.new-reader.ensures.none, c.new-reader.ensures.left) (served_none g.T.LineMachine.machine (g.T.LineMachine.keeps c.args.machine.now) g.state _ _ _ _ (search rules) h);
 }
 
 pub returns-in-Err-clause-read : goal.returns-in-Err-clause-read
@@ -48,13 +48,13 @@ returns-in-Err-serve_line-clause-read g c = λ is.
       failed = inr (inl (c.in-Err-serve_line.ensures.read (ap Err e)));
       passed = wait_more c.lines.invariant.waits c.in-Err-serve_line.ensures.waits;
       served = λ h. let served = c.lines.invariant.served h in
-          stops_in_feed g.T.LineMachine.machine _ _ _ served came
+          stops_in_feed g.T.LineMachine.machine _ _ _ c.read_line.new.self.octets served came c.in-Ok.ensures.last
           (c.in-Err-serve_line.ensures.unfed (ap Err e) came.octets _ (rw (c.as_slice.ensures.value) came.line) served.kept);
     }
 
 pub returns-then-line-clause-ok : goal.returns-then-line-clause-ok
 returns-then-line-clause-ok g c =
-    let came = rw c.if-line.true at c.in-Ok.ensures.ok in
+    let came = rw (c.if-line.true, c.in-Ok.ensures.last c.if-line.true) at c.in-Ok.ensures.ok in
     let count : c.if-is_refused.refused ≡ c.lines.refused + (if c.in-Ok-serve_line.is_refused then 1 else 0) =
     elim c.if-is_refused.branch [ then-is_refused w ↦ rw w.if-is_refused.true w.refused-is | else-is_refused w ↦ rw w.if-is_refused.false (omega (arith, w.refused-is)) ] in
     record {
@@ -72,7 +72,7 @@ lines-preserved g c =
     elim c.if-is_refused.branch [ then-is_refused w ↦ rw w.if-is_refused.true w.refused-is | else-is_refused w ↦ rw w.if-is_refused.false (omega (arith, w.refused-is)) ] in
     let one : c.if-is_refused.refused ≤ c.lines.refused + 1 =
     elim c.if-is_refused.branch [ then-is_refused w ↦ omega arith | else-is_refused w ↦ omega arith ] in
-    let used : c.lines.left ≡ length (came.octets ++ 10 ∷ []) + c.read_line.new.left = came.used in
+    let used : c.lines.reader.left ≡ length (came.octets ++ 10 ∷ []) + c.read_line.new.self.left = came.used in
     record {
       script = search rules;
       one = search rules;
@@ -90,7 +90,7 @@ pub returns-in-Err-clause-few : goal.returns-in-Err-clause-few
 returns-in-Err-clause-few g c = consumes_then c.in-Err.field-0 c.lines.invariant.came c.in-Err.ensures.err
 
 pub returns-in-Err-serve_line-clause-few : goal.returns-in-Err-serve_line-clause-few
-returns-in-Err-serve_line-clause-few g c = consumes_within (consumes_more c.lines.invariant.came c.in-Ok.ensures.ok)
+returns-in-Err-serve_line-clause-few g c = consumes_within c.read_line.new.self.octets (g.S.PortIn.source c.read_line.new.script) (consumes_more c.lines.invariant.came c.in-Ok.ensures.ok) c.in-Ok.ensures.within
 
 pub returns-then-line-clause-few : goal.returns-then-line-clause-few
-returns-then-line-clause-few g c = consumes_within (consumes_more c.lines.invariant.came c.in-Ok.ensures.ok)
+returns-then-line-clause-few g c = consumes_within c.read_line.new.self.octets (g.S.PortIn.source c.read_line.new.script) (consumes_more c.lines.invariant.came c.in-Ok.ensures.ok) c.in-Ok.ensures.within

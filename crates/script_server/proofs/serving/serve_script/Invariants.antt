@@ -1,4 +1,5 @@
 use Rattle.std.proofs.Common.{◌≡◌, ◌+◌, ◌≤◌, false, length, map, All}
+use Rattle.octet_ports.specs.Lines.{behind}
 use Rattle.script_server.specs.Runs.{AreReady, AllWait, IsHonest, run_of}
 use Rattle.script_server.proofs.SoFar.{ServedSoFar, Consumes}
 use Rattle.script_server.specs.declared.limits.TheConstants.{SCRIPT_OCTETS}
@@ -10,14 +11,14 @@ invariant-lines g l = record {
   one : length l.inputs.items ≡ g.T.LineMachine.channels l.machine;
   pairs : length l.outputs.items ≡ g.T.LineMachine.channels l.machine;
   ready : AreReady (map g.I.PortIn.source l.inputs.items) (map g.O.PortOut.sink l.outputs.items) (g.P.PortOut.sink l.replies);
-  few : l.refused + l.left ≤ SCRIPT_OCTETS;
-  came : Consumes l.left (g.S.PortIn.source l.initial.script) (g.S.PortIn.source l.script);
+  few : l.refused + l.reader.left ≤ SCRIPT_OCTETS;
+  came : Consumes l.reader.left (g.S.PortIn.source l.initial.script) (behind l.reader.octets (g.S.PortIn.source l.script));
   waits : AllWait (map g.O.PortOut.sink l.initial.outputs.items) (map g.O.PortOut.sink l.outputs.items) (g.P.PortOut.sink l.initial.replies) (g.P.PortOut.sink l.replies);
   served : All IsHonest (map g.I.PortIn.source l.initial.inputs.items)
-      → ServedSoFar g.T.LineMachine.machine (g.T.LineMachine.keeps l.machine) (run_of g.state (map g.I.PortIn.source l.initial.inputs.items)) l.refused l.left
-      (g.S.PortIn.source l.initial.script) (g.S.PortIn.source l.script) (map g.I.PortIn.source l.inputs.items)
+      → ServedSoFar g.T.LineMachine.machine (g.T.LineMachine.keeps l.machine) (run_of g.state (map g.I.PortIn.source l.initial.inputs.items)) l.refused l.reader.left
+      (g.S.PortIn.source l.initial.script) (behind l.reader.octets (g.S.PortIn.source l.script)) (map g.I.PortIn.source l.inputs.items)
       (map g.O.PortOut.sink l.initial.outputs.items) (map g.O.PortOut.sink l.outputs.items) (g.P.PortOut.sink l.initial.replies) (g.P.PortOut.sink l.replies);
 }
 
 abbrev pub decreases-lines : goal.decreases-lines
-decreases-lines g l = l.left
+decreases-lines g l = l.reader.left
