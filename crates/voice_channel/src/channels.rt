@@ -5,6 +5,7 @@ ghost use Rattle.alg_host.specs.Hosts.{lives};
 ghost use Rattle.alg_host.specs.Hosts as hosts;
 ghost use Rattle.voice_channel.specs.Channels.{Keeps};
 
+use crate::feeding::Between;
 use crate::{CHANNELS, Members};
 use alg_host::Host;
 use arrayvec::ArrayVec;
@@ -16,6 +17,7 @@ use std::marker::Model;
 pub struct Channels<M> {
     pub(crate) host: Host<M>,
     pub(crate) channels: ArrayVec<Members, CHANNELS>,
+    pub(crate) between: Between,
 }
 
 impl<M> Model for Channels<M> {
@@ -54,12 +56,17 @@ impl<M: Ialg> Channels<M> {
         Channels {
             host,
             channels: unchained(count),
+            between: Between::new(),
         }
     }
 
     /// Deletes every instance, in ascending number, and gives all memory back.
     pub fn close(self) {
-        let Channels { host, channels: _ } = self;
+        let Channels {
+            host,
+            channels: _,
+            between: _,
+        } = self;
         host.close();
     }
 }

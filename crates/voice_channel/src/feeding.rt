@@ -1,5 +1,5 @@
 //! How blocks of samples pass through channels.
-ghost use Rattle.std.specs.Prelude.{◌≡◌, ◌≤◌, ◌<◌, true, [], length, map};
+ghost use Rattle.std.specs.Prelude.{◌≡◌, ◌≤◌, ◌<◌, true, ◌∷◌, [], length, map};
 ghost use Rattle.channel_machine.specs.Channels.{members_at, is_chained};
 ghost use Rattle.channel_machine.specs.Calls.Call.{Feed};
 ghost use Rattle.voice_channel.specs.Channels.{PassesThrough, Serves};
@@ -8,6 +8,22 @@ use crate::{Channels, Members};
 use alg_host::Host;
 use channel_machine::members_live_in_one_channel;
 use ialg::{BLOCK_SAMPLES, Block, Ialg};
+
+/// What members give one another stands in two blocks by turns. They are made once, since a new block is cleared.
+#[derive(Drop)]
+pub(crate) struct Between {
+    one: Block,
+    other: Block,
+}
+
+impl Between {
+    pub(crate) fn new() -> Between {
+        Between {
+            one: Block::new(),
+            other: Block::new(),
+        }
+    }
+}
 
 /// The members of a channel.
 fn members_of(channels: &[Members], c: u8) -> &[u8]
@@ -26,8 +42,46 @@ fn give_out(block: &[i16], out: &mut Block)
     let _fits = out.try_extend_from_slice(block);
 }
 
+/// Gives a member the block, unless that is empty: what the member gives takes the place of what `given` held.
+fn run<M: Ialg>(host: &mut Host<M>, member: u8, block: &[i16], given: &mut Block)
+    requires within { length block.now ≤ BLOCK_SAMPLES }
+    ensures { PassesThrough M.meaning M.idle_keeps M.active_keeps (member ∷ []) block.now given.new.items host.old host.new }
+{
+    given.clear();
+    // Members live in every state that the channels keep, so the second is always so.
+    if !block.is_empty() && host.living(member) {
+        host.process(member, block, given);
+    }
+}
+
+/// Passes the block that stands in `from` through a member and those behind it. They fill the two blocks by turns, but for the last, which
+/// gives to `out`.
+fn pass_on<M: Ialg>(
+    host: &mut Host<M>,
+    member: u8,
+    further: &[u8],
+    from: &mut Block,
+    to: &mut Block,
+    out: &mut Block,
+)
+    ensures { PassesThrough M.meaning M.idle_keeps M.active_keeps (member ∷ further.now) from.old.items out.new.items host.old host.new }
+{
+    let Some((next, behind)) = further.split_first() else {
+        run(host, member, from, out);
+        return;
+    };
+    run(host, member, from, to);
+    pass_on(host, *next, behind, to, from, out);
+}
+
 /// Passes a block through members in order: each takes what the one before it gave.
-fn pass<M: Ialg>(host: &mut Host<M>, members: &[u8], block: &[i16], out: &mut Block)
+fn pass<M: Ialg>(
+    host: &mut Host<M>,
+    members: &[u8],
+    block: &[i16],
+    between: &mut Between,
+    out: &mut Block,
+)
     requires within { length block.now ≤ BLOCK_SAMPLES }
     requires empty { out.old.items ≡ [] }
     ensures { PassesThrough M.meaning M.idle_keeps M.active_keeps members.now block.now out.new.items host.old host.new }
@@ -36,16 +90,19 @@ fn pass<M: Ialg>(host: &mut Host<M>, members: &[u8], block: &[i16], out: &mut Bl
         give_out(block, out);
         return;
     };
-    if block.is_empty() {
+    let Some((next, behind)) = further.split_first() else {
+        run(host, *member, block, out);
         return;
-    }
-    // Members live in every state that the channels keep, so this is never so.
-    if !host.living(*member) {
-        return;
-    }
-    let mut given = Block::new();
-    host.process(*member, block, &mut given);
-    pass(host, further, &given, out);
+    };
+    run(host, *member, block, &mut between.one);
+    pass_on(
+        host,
+        *next,
+        behind,
+        &mut between.one,
+        &mut between.other,
+        out,
+    );
 }
 
 impl<M: Ialg> Channels<M> {
@@ -60,6 +117,12 @@ impl<M: Ialg> Channels<M> {
         ensures machine { Serves M.meaning M.idle_keeps M.active_keeps (Feed c input.now out.new.items) self.old self.new }
     {
         members_live_in_one_channel::<M>();
-        pass(&mut self.host, members_of(&self.channels, c), input, out);
+        pass(
+            &mut self.host,
+            members_of(&self.channels, c),
+            input,
+            &mut self.between,
+            out,
+        );
     }
 }

@@ -5,12 +5,15 @@ ghost use Rattle.voice_channel.specs.Hosts.{lives};
 ghost use Rattle.voice_channel.specs.Hosts as hosts;
 ghost use Rattle.voice_console.specs.Consoles.{Keeps, channels_of};
 
-use ialg::Ialg;
+use ialg::{BLOCK_SAMPLES, Block, Ialg};
 use voice_channel::{CHANNELS, Channels, Host};
 
 /// A console over channels. It can't be copied, and must be given back by [`close`](Console::close).
 pub struct Console<M> {
     pub(crate) channels: Channels<M>,
+    // The samples of a feed, and what the channel gives for them: each is made once, since a new one is cleared.
+    pub(crate) input: [i16; BLOCK_SAMPLES],
+    pub(crate) given: Block,
 }
 
 impl<M: Ialg> Console<M> {
@@ -26,12 +29,18 @@ impl<M: Ialg> Console<M> {
     {
         Console {
             channels: Channels::new(host, count),
+            input: [0; BLOCK_SAMPLES],
+            given: Block::new(),
         }
     }
 
     /// Deletes every instance, in ascending number, and gives all memory back.
     pub fn close(self) {
-        let Console { channels } = self;
+        let Console {
+            channels,
+            input: _,
+            given: _,
+        } = self;
         channels.close();
     }
 }

@@ -1,12 +1,37 @@
 //! What the console does with lines.
-ghost use Rattle.std.specs.Prelude.{◌≡◌};
+ghost use Rattle.std.specs.Prelude.{◌≡◌, ◌*◌, true, length};
+ghost use Rattle.channel_machine.specs.Channels.{members_at, is_chained};
+ghost use Rattle.channel_machine.specs.Calls.Call.{Feed};
+ghost use Rattle.voice_channel.specs.Channels.{Serves};
+ghost use Rattle.console_machine.specs.Samples.{samples_of};
 
 use crate::Console;
 use crate::samples::{read_samples, write_samples};
 use ialg::{BLOCK_SAMPLES, Block, Ialg, Named};
 use line_machine::{Ask, BLOCK_OCTETS, LineMachine, SAMPLE_OCTETS};
-use voice_channel::Map;
+use voice_channel::{Channels, Map};
 use voice_script::{FeedSamples, Reply, parse};
+
+/// Passes the samples of the octets through a channel: they stand in `input` then, and what the channel gives takes the place of what
+/// `given` held.
+fn pass<M: Ialg>(
+    channels: &mut Channels<M>,
+    channel: u8,
+    samples: FeedSamples,
+    octets: &[u8],
+    input: &mut [i16; BLOCK_SAMPLES],
+    given: &mut Block,
+)
+    requires ready { is_chained (members_at channels.old.chained channel) ≡ true }
+    requires whole { length octets.now ≡ SAMPLE_OCTETS * samples.number }
+    ensures chained { channels.new.chained ≡ channels.old.chained }
+    ensures machine { Serves M.meaning M.idle_keeps M.active_keeps (Feed channel (samples_of octets.now) given.new.items) channels.old channels.new }
+{
+    let block = &mut input[..usize::from(samples.number())];
+    read_samples(octets, block);
+    given.clear();
+    channels.feed(channel, block, given);
+}
 
 impl<M: Ialg + Named> LineMachine for Console<M> {
     ghost use Rattle.channel_machine.specs.Channels.{Channels};
@@ -38,13 +63,16 @@ impl<M: Ialg + Named> LineMachine for Console<M> {
         octets: &[u8],
         output: &mut [u8; BLOCK_OCTETS],
     ) -> usize {
-        let mut input = [0; BLOCK_SAMPLES];
-        let block = &mut input[..usize::from(samples.number())];
-        read_samples(octets, block);
-        let mut given = Block::new();
-        self.channels.feed(channel, block, &mut given);
-        let count = given.len();
-        write_samples(given.as_slice(), &mut output[..SAMPLE_OCTETS * count]);
+        pass(
+            &mut self.channels,
+            channel,
+            samples,
+            octets,
+            &mut self.input,
+            &mut self.given,
+        );
+        let count = self.given.len();
+        write_samples(self.given.as_slice(), &mut output[..SAMPLE_OCTETS * count]);
         count
     }
 }

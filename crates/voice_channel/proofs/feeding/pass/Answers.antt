@@ -1,0 +1,9 @@
+use Rattle.std.proofs.Common.{◌∷◌, ◌∙◌, ap, refl}
+use Rattle.voice_channel.proofs.Fed.{first_of_them}
+use Rattle.voice_channel.proofs.feeding.pass.Goals as goal
+
+pub returns : goal.returns
+returns g c =
+    first_of_them g.M.Ialg.meaning g.M.Ialg.idle_keeps g.M.Ialg.active_keeps c.in-Some.member.now c.args.members.now (c.in-Some-split_first.next.now ∷ c.in-Some-split_first.behind.now)
+    c.args.block.now c.args.block.now c.run-2.new.given.items c.pass_on.new.out.items c.args.host.now c.run-2.new.host c.pass_on.new.host
+    (c.in-Some.ensures.cases.0 ∙ ap (λ is. c.in-Some.member.now ∷ is) c.in-Some-split_first.ensures.cases.0) refl c.run-2.ensures c.pass_on.ensures
