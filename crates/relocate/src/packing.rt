@@ -12,8 +12,9 @@ pub struct Spot {
     pub align: u32,
 }
 
-/// A block, whatever else it says of itself.
+/// Whatever stands in a space, and says where, how large it is and how it is aligned.
 pub trait Standing {
+    // the place, the size and the alignment that it says
     ghost stands: { Self → Spot };
 
     /// How it stands in its space.
