@@ -47,19 +47,13 @@ pub trait LineMachine {
         ensures asks { (s : State) → keeps self.old s
             → (t : State) × machine.Asks s line.now (asked_of result) t × keeps self.new t };
 
-    /// Gives the samples of a feed to the channel. The octets of what it gives stand at the beginning of `output`; it
-    /// answers how many samples that are.
-    fn feed(
-        &mut self,
-        channel: u8,
-        samples: FeedSamples,
-        octets: &[u8],
-        output: &mut [u8; BLOCK_OCTETS],
-    ) -> usize
+    /// Gives the samples of a feed to the channel, whose octets stand at the beginning of `block`. The octets of what the channel
+    /// gives stand there afterwards; it answers how many samples that are. Of the rest of `block` nothing is said.
+    fn feed(&mut self, channel: u8, samples: FeedSamples, block: &mut [u8; BLOCK_OCTETS]) -> usize
         requires ready { IsReady takes_feeds channels self.old channel }
-        requires whole { length octets.now ≡ SAMPLE_OCTETS * samples.number }
         ensures channels { channels self.new ≡ channels self.old }
         ensures bounded { result ≤ BLOCK_SAMPLES }
         ensures gives { (s : State) → keeps self.old s
-            → (t : State) × machine.Gives s channel octets.now (take (SAMPLE_OCTETS * result) output.new) (reply_text (Count result)) t × keeps self.new t };
+            → (t : State) × machine.Gives s channel (take (SAMPLE_OCTETS * samples.number) block.old) (take (SAMPLE_OCTETS * result) block.new) (reply_text (Count result)) t
+            × keeps self.new t };
 }

@@ -1,5 +1,5 @@
 -- A feed's answer, by what came of its input.
-use Rattle.std.proofs.Common.{◌≡◌, ℕ, ◌<◌, ◌≤◌, true, false, List, [], ◌++◌, map, length, take, drop, All, slice_index_or, slice_set, refl, sym, ap, ◌∙◌, arith}
+use Rattle.std.proofs.Common.{◌≡◌, ℕ, ◌<◌, ◌≤◌, true, false, List, [], ◌++◌, map, length, take, drop, All, slice_index_or, slice_set, refl, sym, ap, subst, ◌∙◌, arith}
 use Rattle.std.proofs.lemmas.List.{map-set, get_or-map}
 use Rattle.std.proofs.lemmas.List.Elements.{All-set, All-get_or}
 use Rattle.std.proofs.lemmas.Grind.{common_steps}
@@ -48,6 +48,12 @@ feed_short m state {count} {c} {sources} {new_sources} there h s =
 
 take_drop_whole : (count : ℕ) (xs ys zs : List ℕ) → xs ≡ ys ++ zs → length ys ≡ count → (take count xs ≡ ys) × (drop count xs ≡ zs) × (count ≤ length xs)
 take_drop_whole count xs ys zs e l = rw e (grind (arith, common_steps), grind (arith, common_steps), grind (arith, common_steps))
+
+-- what is given for the octets that stand first in a block is given for these octets
+pub given_first : {S : Type 0} (m : Machine S) (state : S) {c count : ℕ} {octets output told : List ℕ} {after : S} (rest : List ℕ) → length octets ≡ count
+    → m.Gives state c (take count (octets ++ rest)) output told after → m.Gives state c octets output told after
+given_first m state {c} {count} {octets} {output} {told} {after} rest l given =
+    subst (λ first. m.Gives state c first output told after) (take_drop_whole count (octets ++ rest) octets rest refl l).0 given
 
 pub feed_whole : {S : Type 0} (m : Machine S) (state : S) {after : S} {octets output told : List ℕ} {count c : ℕ} {sources new_sources : List Source} → c < length sources → All IsHonest sources
     → length octets ≡ count → StepsAt (Gives octets) c no_source sources new_sources

@@ -17,11 +17,19 @@ use octet_ports::{PortFault, PortIn, PortOut, read_octets, write_octets};
 use space_blocks::Map;
 use voice_script::{FeedSamples, LINE_OCTETS, Reply, ReplyText, write_reply};
 
-/// Room for a map that is told of, and for a reply's line. Both are thousands of octets, so a run has one of each.
+/// Room for a map that is told of, and the buffers of replies and feeds. To make them clears thousands of octets, so a run has one of
+/// each.
 #[derive(Drop)]
 pub(crate) struct Desk {
     pub(crate) map: Map,
+    pub(crate) buffers: Buffers,
+}
+
+/// Room for a reply's line, and for the octets of a feed, those that are read and then those that are given.
+#[derive(Drop)]
+pub(crate) struct Buffers {
     pub(crate) text: ReplyText,
+    pub(crate) block: [u8; BLOCK_OCTETS],
 }
 
 /// Reads from the input of this number.
@@ -84,7 +92,7 @@ fn serve_feed<T: LineMachine, I: PortIn, O: PortOut, P: PortOut>(
     machine: &mut T,
     channel: u8,
     samples: FeedSamples,
-    text: &mut ReplyText,
+    buffers: &mut Buffers,
     inputs: &mut Vec<I>,
     outputs: &mut Vec<O>,
     replies: &mut P,
@@ -109,24 +117,22 @@ fn serve_feed<T: LineMachine, I: PortIn, O: PortOut, P: PortOut>(
     ensures unfed { IsErrOf result PortsFault.Read → Writes [] (map O.sink outputs.old.items) (map O.sink outputs.new.items) (P.sink replies.old) (P.sink replies.new) }
 {
     let c = usize::from(channel);
-    let mut block = [0; BLOCK_OCTETS];
-    let octets = &mut block[..SAMPLE_OCTETS * usize::from(samples.number())];
-    let whole = match read_from(inputs, c, octets) {
+    let octets = SAMPLE_OCTETS * usize::from(samples.number());
+    let whole = match read_from(inputs, c, &mut buffers.block[..octets]) {
         Ok(whole) => whole,
         Err(_) => return Err(PortsFault::Read),
     };
     if !whole {
-        return match tell(replies, &Reply::No(Refusal::Short), text) {
+        return match tell(replies, &Reply::No(Refusal::Short), &mut buffers.text) {
             Ok(()) => Ok(true),
             Err(fault) => Err(fault),
         };
     }
-    let mut output = [0; BLOCK_OCTETS];
-    let count = machine.feed(channel, samples, octets, &mut output);
-    if write_to(outputs, c, &output[..SAMPLE_OCTETS * count]).is_err() {
+    let count = machine.feed(channel, samples, &mut buffers.block);
+    if write_to(outputs, c, &buffers.block[..SAMPLE_OCTETS * count]).is_err() {
         return Err(PortsFault::Write);
     }
-    match tell(replies, &Reply::Count(count as u32), text) {
+    match tell(replies, &Reply::Count(count as u32), &mut buffers.text) {
         Ok(()) => Ok(false),
         Err(fault) => Err(fault),
     }
@@ -163,7 +169,7 @@ pub(crate) fn serve_line<T: LineMachine, I: PortIn, O: PortOut, P: PortOut>(
         (map O.sink outputs.old.items) (map O.sink outputs.new.items) (P.sink replies.old) (P.sink replies.new) }
 {
     if long {
-        return match tell(replies, &Reply::No(Refusal::Long), &mut desk.text) {
+        return match tell(replies, &Reply::No(Refusal::Long), &mut desk.buffers.text) {
             Ok(()) => Ok(true),
             Err(fault) => Err(fault),
         };
@@ -172,7 +178,7 @@ pub(crate) fn serve_line<T: LineMachine, I: PortIn, O: PortOut, P: PortOut>(
         Ask::Nothing => Ok(false),
         Ask::Tell(reply) => {
             let refused = reply.is_refusal();
-            match tell(replies, &reply, &mut desk.text) {
+            match tell(replies, &reply, &mut desk.buffers.text) {
                 Ok(()) => Ok(refused),
                 Err(fault) => Err(fault),
             }
@@ -182,7 +188,7 @@ pub(crate) fn serve_line<T: LineMachine, I: PortIn, O: PortOut, P: PortOut>(
                 machine,
                 channel,
                 samples,
-                &mut desk.text,
+                &mut desk.buffers,
                 inputs,
                 outputs,
                 replies,

@@ -4,9 +4,9 @@ ghost use Rattle.octet_ports.specs.Ports.{GivesWithin};
 ghost use Rattle.script_server.specs.Runs.{AreReady, AllWait, ServesAll, EndsWell, EndsByRead, EndsByWrite, known_of, run_of};
 
 use crate::limits::SCRIPT_OCTETS;
-use crate::line::{Desk, flush_outputs, serve_line};
+use crate::line::{Buffers, Desk, flush_outputs, serve_line};
 use arrayvec::ArrayVec;
-use line_machine::LineMachine;
+use line_machine::{BLOCK_OCTETS, LineMachine};
 use octet_ports::{LineReader, PortIn, PortOut};
 use space_blocks::Map;
 use voice_script::LINE_OCTETS;
@@ -51,7 +51,10 @@ fn serve_script<T: LineMachine, S: PortIn, I: PortIn, O: PortOut, P: PortOut>(
     let mut text: ArrayVec<u8, LINE_OCTETS> = ArrayVec::new();
     let mut desk = Desk {
         map: Map::new(),
-        text: ArrayVec::new(),
+        buffers: Buffers {
+            text: ArrayVec::new(),
+            block: [0; BLOCK_OCTETS],
+        },
     };
     'lines: loop {
         text.clear();

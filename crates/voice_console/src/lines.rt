@@ -7,7 +7,7 @@ ghost use Rattle.console_machine.specs.Samples.{samples_of};
 
 use crate::Console;
 use crate::samples::{read_samples, write_samples};
-use ialg::{BLOCK_SAMPLES, Block, Ialg, Named};
+use ialg::{BLOCK_SAMPLES, Block, Ialg, Named, Params};
 use line_machine::{Ask, BLOCK_OCTETS, LineMachine, SAMPLE_OCTETS};
 use voice_channel::{Channels, Map};
 use voice_script::{FeedSamples, Reply, parse};
@@ -49,30 +49,26 @@ impl<M: Ialg + Named> LineMachine for Console<M> {
     ghost takes_feeds = { TakesFeeds };
 
     fn ask<'a>(&mut self, line: &[u8], map: &'a mut Map) -> Ask<'a> {
-        match parse(line) {
+        let mut room = Params::new();
+        match parse(line, &mut room) {
             Ok(Some(command)) => self.obey(command, map),
             Ok(None) => Ask::Nothing,
             Err(refusal) => Ask::Tell(Reply::No(refusal)),
         }
     }
 
-    fn feed(
-        &mut self,
-        channel: u8,
-        samples: FeedSamples,
-        octets: &[u8],
-        output: &mut [u8; BLOCK_OCTETS],
-    ) -> usize {
+    fn feed(&mut self, channel: u8, samples: FeedSamples, block: &mut [u8; BLOCK_OCTETS]) -> usize {
+        let octets = SAMPLE_OCTETS * usize::from(samples.number());
         pass(
             &mut self.channels,
             channel,
             samples,
-            octets,
+            &block[..octets],
             &mut self.input,
             &mut self.given,
         );
         let count = self.given.len();
-        write_samples(self.given.as_slice(), &mut output[..SAMPLE_OCTETS * count]);
+        write_samples(self.given.as_slice(), &mut block[..SAMPLE_OCTETS * count]);
         count
     }
 }

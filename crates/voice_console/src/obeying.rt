@@ -6,17 +6,17 @@ ghost use Rattle.console_machine.specs.Console.{CommandAsks};
 ghost use Rattle.voice_console.specs.Consoles.{channels_of, TakesFeeds, Serves};
 
 use crate::Console;
-use ialg::{Ctl, Ialg};
+use ialg::{Ctl, Ialg, copied};
 use line_machine::Ask;
 use voice_channel::Map;
 use voice_script::Command;
 
 impl<M: Ialg> Console<M> {
     /// Does what a command asks; a feed's samples are yet to come.
-    pub(crate) fn obey<'a>(&mut self, command: Command<M>, map: &'a mut Map) -> Ask<'a>
+    pub(crate) fn obey<'a>(&mut self, command: Command<'_, M>, map: &'a mut Map) -> Ask<'a>
         ensures channels { channels_of self.new ≡ channels_of self.old }
         ensures ready { AskIsReady TakesFeeds channels_of self.new result }
-        ensures asks { Serves M.meaning M.idle_keeps M.active_keeps (CommandAsks M.meaning (command_of command)) (asked_of result) self.old self.new }
+        ensures asks { Serves M.meaning M.idle_keeps M.active_keeps (CommandAsks M.meaning (command_of command.entry)) (asked_of result) self.old self.new }
     {
         match command {
             Command::Create {
@@ -24,8 +24,10 @@ impl<M: Ialg> Console<M> {
                 kind,
                 group,
                 parameters,
-            } => Ask::Tell(self.create(instance, kind, group, &parameters)),
-            Command::Set { instance, words } => Ask::Tell(self.control(instance, &Ctl::Set(words))),
+            } => Ask::Tell(self.create(instance, kind, group, parameters)),
+            Command::Set { instance, words } => {
+                Ask::Tell(self.control(instance, &Ctl::Set(copied(words.as_slice()))))
+            }
             Command::Reset { instance } => Ask::Tell(self.control(instance, &Ctl::Reset)),
             Command::Get { instance } => Ask::Tell(self.control(instance, &Ctl::Get)),
             Command::Delete { instance } => Ask::Tell(self.delete(instance)),

@@ -6,8 +6,8 @@ use Rattle.voice_script.specs.declared.commands.Command.{Command}
 use Rattle.voice_script.specs.declared.commands.Command.TheVariants.{Create, Set, Reset, Get, Delete, Chain, Unchain, Feed, Compact, Step, Release, Map, Stat}
 
 abbrev pub command_of : {M : Type 0} → Command M → script.Command M
-command_of (Create instance kind group parameters) = script.Create instance kind group parameters.items
-command_of (Set instance words) = script.Set instance words.items
+command_of (Create instance kind group parameters) = script.Create instance kind group parameters.now.items
+command_of (Set instance words) = script.Set instance words.now.items
 command_of (Reset instance) = script.Reset instance
 command_of (Get instance) = script.Get instance
 command_of (Delete instance) = script.Delete instance

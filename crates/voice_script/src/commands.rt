@@ -9,23 +9,23 @@ use crate::members::Members;
 use crate::numbers::Number;
 use crate::samples::FeedSamples;
 use crate::words::{Words, without_return};
-use ialg::{Named, Params, Refusal, Words as ControlWords};
+use ialg::{Named, Params, Refusal};
 use mem_rec::Space;
 
-/// What a line asks: a variant for each row of the grammar.
+/// What a line asks: a variant for each row of the grammar. Parameters stand where the caller of [`parse`] has room for them.
 #[derive(Drop)]
-pub enum Command<M> {
+pub enum Command<'a, M> {
     /// A new instance.
     Create {
         instance: u8,
         kind: M,
         group: u8,
-        parameters: Params,
+        parameters: &'a Params,
     },
     /// These words come into force.
     Set {
         instance: u8,
-        words: ControlWords,
+        words: &'a Params,
     },
     /// The past samples are forgotten.
     Reset {
@@ -76,34 +76,44 @@ pub enum Command<M> {
 }
 
 /// `create` I KIND G W*
-fn create_row<M: Named + Copy>(mut words: Words<'_>) -> Result<Command<M>, Refusal>
+fn create_row<'a, M: Named + Copy>(
+    mut words: Words<'_>,
+    room: &'a mut Params,
+) -> Result<Command<'a, M>, Refusal>
     ensures { row_of result ≡ create_row M.named (to_come words.entry) }
 {
     let instance = words.number()?;
     let kind = words.kind()?;
     let group = words.number()?;
-    let parameters = words.parameters()?;
+    words.parameters(room)?;
     Ok(Command::Create {
         instance: instance.byte()?,
         kind,
         group: group.byte()?,
-        parameters,
+        parameters: room,
     })
 }
 
 /// `control` I `set` W*
-fn set_row<M: Copy>(instance: Number<'_>, words: Words<'_>) -> Result<Command<M>, Refusal>
+fn set_row<'a, M: Copy>(
+    instance: Number<'_>,
+    words: Words<'_>,
+    room: &'a mut Params,
+) -> Result<Command<'a, M>, Refusal>
     ensures { row_of result ≡ set_row instance.entry.word.now (to_come words.entry) }
 {
-    let words = words.parameters()?;
+    words.parameters(room)?;
     Ok(Command::Set {
         instance: instance.byte()?,
-        words,
+        words: room,
     })
 }
 
 /// `control` I `reset`
-fn reset_row<M: Copy>(instance: Number<'_>, words: Words<'_>) -> Result<Command<M>, Refusal>
+fn reset_row<'a, M: Copy>(
+    instance: Number<'_>,
+    words: Words<'_>,
+) -> Result<Command<'a, M>, Refusal>
     ensures { row_of result ≡ reset_row instance.entry.word.now (to_come words.entry) }
 {
     words.end()?;
@@ -113,7 +123,10 @@ fn reset_row<M: Copy>(instance: Number<'_>, words: Words<'_>) -> Result<Command<
 }
 
 /// `control` I `get`
-fn get_row<M: Copy>(instance: Number<'_>, words: Words<'_>) -> Result<Command<M>, Refusal>
+fn get_row<'a, M: Copy>(
+    instance: Number<'_>,
+    words: Words<'_>,
+) -> Result<Command<'a, M>, Refusal>
     ensures { row_of result ≡ get_row instance.entry.word.now (to_come words.entry) }
 {
     words.end()?;
@@ -123,7 +136,10 @@ fn get_row<M: Copy>(instance: Number<'_>, words: Words<'_>) -> Result<Command<M>
 }
 
 /// `control` I and the word behind it
-fn control_row<M: Copy>(mut words: Words<'_>) -> Result<Command<M>, Refusal>
+fn control_row<'a, M: Copy>(
+    mut words: Words<'_>,
+    room: &'a mut Params,
+) -> Result<Command<'a, M>, Refusal>
     ensures { row_of result ≡ control_row (to_come words.entry) }
 {
     let instance = words.number()?;
@@ -131,7 +147,7 @@ fn control_row<M: Copy>(mut words: Words<'_>) -> Result<Command<M>, Refusal>
         return Err(Refusal::Syntax);
     };
     if control == b"set".as_slice() {
-        set_row(instance, words)
+        set_row(instance, words, room)
     } else if control == b"reset".as_slice() {
         reset_row(instance, words)
     } else if control == b"get".as_slice() {
@@ -142,7 +158,7 @@ fn control_row<M: Copy>(mut words: Words<'_>) -> Result<Command<M>, Refusal>
 }
 
 /// `chain` C I+
-fn chain_row<M: Copy>(mut words: Words<'_>) -> Result<Command<M>, Refusal>
+fn chain_row<'a, M: Copy>(mut words: Words<'_>) -> Result<Command<'a, M>, Refusal>
     ensures { row_of result ≡ chain_row (to_come words.entry) }
 {
     let channel = words.number()?;
@@ -156,7 +172,7 @@ fn chain_row<M: Copy>(mut words: Words<'_>) -> Result<Command<M>, Refusal>
 }
 
 /// `feed` C N
-fn feed_row<M: Copy>(mut words: Words<'_>) -> Result<Command<M>, Refusal>
+fn feed_row<'a, M: Copy>(mut words: Words<'_>) -> Result<Command<'a, M>, Refusal>
     ensures { row_of result ≡ feed_row (to_come words.entry) }
 {
     let channel = words.number()?;
@@ -169,13 +185,17 @@ fn feed_row<M: Copy>(mut words: Words<'_>) -> Result<Command<M>, Refusal>
 }
 
 /// The command of a line that begins with this word.
-fn command_of<M: Named + Copy>(name: &[u8], words: Words<'_>) -> Result<Command<M>, Refusal>
+fn command_of<'a, M: Named + Copy>(
+    name: &[u8],
+    words: Words<'_>,
+    room: &'a mut Params,
+) -> Result<Command<'a, M>, Refusal>
     ensures { row_of result ≡ command_of M.named name.now (to_come words.entry) }
 {
     if name == b"create".as_slice() {
-        create_row(words)
+        create_row(words, room)
     } else if name == b"control".as_slice() {
-        control_row(words)
+        control_row(words, room)
     } else if name == b"delete".as_slice() {
         Ok(Command::Delete {
             instance: words.only_number()?,
@@ -213,13 +233,16 @@ fn command_of<M: Named + Copy>(name: &[u8], words: Words<'_>) -> Result<Command<
     }
 }
 
-/// The command of a line that isn't long: None for a blank one.
-pub fn parse<M: Named + Copy>(line: &[u8]) -> Result<Option<Command<M>>, Refusal>
+/// The command of a line that isn't long: None for a blank one. Its parameters stand in `room` then, in place of what stood there.
+pub fn parse<'a, M: Named + Copy>(
+    line: &[u8],
+    room: &'a mut Params,
+) -> Result<Option<Command<'a, M>>, Refusal>
     ensures { line_of result ≡ parsed M.named line.now }
 {
     let mut words = Words::of(without_return(line));
     let Some(name) = words.next() else {
         return Ok(None);
     };
-    Ok(Some(command_of(name, words)?))
+    Ok(Some(command_of(name, words, room)?))
 }

@@ -1,5 +1,5 @@
 //! The words of a row, by what each stands for.
-ghost use Rattle.std.specs.Prelude.{◌≡◌, Ok, Err, true, false, ◌&&◌, ◌++◌, ◌∷◌, [], nat_lt, length, map, IfOk, IfErr, is_ok, IsErr, if◌then◌else◌};
+ghost use Rattle.std.specs.Prelude.{◌≡◌, Ok, Err, true, false, ◌&&◌, ◌++◌, ◌∷◌, [], nat_lt, length, map, IfOk, IfErr, IsOk, is_ok, IsErr, if◌then◌else◌};
 ghost use Rattle.std.specs.List.{list_all};
 ghost use Rattle.voice_script.specs.Script.{is_number, value_of, natural, fits_byte, fits_word, fit_words, fit_members, only_number, only_space, space_named};
 ghost use Rattle.voice_script.specs.Readings.{begins_with_number, kind_first, at_end, to_come};
@@ -75,23 +75,23 @@ impl<'a> Words<'a> {
         M::of_name(word).ok_or(Refusal::Syntax)
     }
 
-    /// All words that are left, as parameters: `syntax` where one is no number, and else `range` where one
-    /// is out of its range or there are too many.
-    pub(crate) fn parameters(self) -> Result<Params, Refusal>
+    /// All words that are left, as parameters, in place of what `room` held: `syntax` where one is no number, and else `range` where
+    /// one is out of its range or there are too many.
+    pub(crate) fn parameters(self, room: &mut Params) -> Result<(), Refusal>
         ensures fits { is_ok result ≡ (list_all is_number (to_come self.entry) && fit_words (to_come self.entry)) }
-        ensures value { IfOk result (λ parameters. parameters.items ≡ map value_of (to_come self.entry)) }
+        ensures value { IsOk result → room.new.items ≡ map value_of (to_come self.entry) }
         ensures refusal { IfErr result (λ refusal. refusal ≡ (if list_all is_number (to_come self.entry) then Refusal.Range else Refusal.Syntax)) }
     {
-        let mut parameters = ArrayVec::new();
+        room.clear();
         let mut fit = true;
         for word in self {
             let Some(number) = Number::of(word) else {
                 return Err(Refusal::Syntax);
             };
-            fit = fit && keep(&mut parameters, number);
+            fit = fit && keep(room, number);
         }
         if fit {
-            Ok(parameters)
+            Ok(())
         } else {
             Err(Refusal::Range)
         }

@@ -3,7 +3,7 @@ ghost use Rattle.std.specs.Prelude.{option_map};
 ghost use Rattle.voice_script.specs.Rows.{low_or_high};
 
 use crate::{Command, FEED_SAMPLES, LINE_OCTETS, Reply, parse, reply_text};
-use ialg::{Named, Refusal};
+use ialg::{Named, Params, Refusal};
 use std::process::Abort;
 use std::test::Fail;
 
@@ -26,19 +26,20 @@ impl Named for Pitch {
 }
 
 fn refused(line: &[u8]) -> Option<Refusal> {
-    match parse::<Pitch>(line) {
+    match parse::<Pitch>(line, &mut Params::new()) {
         Ok(_) => None,
         Err(refusal) => Some(refusal),
     }
 }
 
 fn is_blank(line: &[u8]) -> bool {
-    matches!(parse::<Pitch>(line), Ok(None))
+    matches!(parse::<Pitch>(line, &mut Params::new()), Ok(None))
 }
 
 #[test]
 fn parses_a_creation(rt: HostRuntime) -> Result<(), Fail> {
-    let Ok(Some(command)) = parse(b"\tcreate  3 high 4 00005 -32768 \r") else {
+    let mut room = Params::new();
+    let Ok(Some(command)) = parse(b"\tcreate  3 high 4 00005 -32768 \r", &mut room) else {
         return Err("it is a command".into());
     };
     let Command::Create {
@@ -57,7 +58,9 @@ fn parses_a_creation(rt: HostRuntime) -> Result<(), Fail> {
 
 #[test]
 fn parses_a_chain(rt: HostRuntime) -> Result<(), Fail> {
-    let Ok(Some(Command::<Pitch>::Chain { channel, members })) = parse(b"chain 7 255 0") else {
+    let mut room = Params::new();
+    let Ok(Some(Command::<Pitch>::Chain { channel, members })) = parse(b"chain 7 255 0", &mut room)
+    else {
         return Err("it is a chain".into());
     };
     assert!(rt; channel == 7);
@@ -67,7 +70,9 @@ fn parses_a_chain(rt: HostRuntime) -> Result<(), Fail> {
 
 #[test]
 fn parses_a_feed(rt: HostRuntime) -> Result<(), Fail> {
-    let Ok(Some(Command::<Pitch>::Feed { channel, samples })) = parse(b"feed -0 256") else {
+    let mut room = Params::new();
+    let Ok(Some(Command::<Pitch>::Feed { channel, samples })) = parse(b"feed -0 256", &mut room)
+    else {
         return Err("it is a feed".into());
     };
     assert!(rt; (channel, samples.number()) == (0, FEED_SAMPLES));

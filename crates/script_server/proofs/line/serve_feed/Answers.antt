@@ -3,7 +3,7 @@ use Rattle.std.proofs.lemmas.Grind.{common_steps}
 use Rattle.line_machine.specs.declared.limits.TheConstants.{SAMPLE_OCTETS}
 use Rattle.script_server.proofs.Steps.{there_in, same_length}
 use Rattle.script_server.proofs.Writes.{writes_none, wait_none, wait_more, wait_reply, wait_took, wait_took_first}
-use Rattle.script_server.proofs.Feeds.{served_short, cut_short, served_whole, cut_output, cut_told}
+use Rattle.script_server.proofs.Feeds.{given_first, served_short, cut_short, served_whole, cut_output, cut_told}
 use Rattle.script_server.proofs.line.serve_feed.Goals as goal
 
 pub returns-in-Err-clause-unfed : goal.returns-in-Err-clause-unfed
@@ -36,7 +36,7 @@ returns-then-is_err-clause-cut g c = λ is s k h.
     let answer : c.read_from.result ≡ Ok true = cc in
     let count : length c.read_from.new.octets ≡ SAMPLE_OCTETS * c.args.samples.number = grind (arith, common_steps, c.read_from.auto.octets) in
     let given = c.feed-count.ensures.gives s k in
-    cut_output g.T.LineMachine.machine s _ there pairs h count (rw number at (c.read_from.ensures.filled answer)) given.1
+    cut_output g.T.LineMachine.machine s _ there pairs h count (rw number at (c.read_from.ensures.filled answer)) (given_first g.T.LineMachine.machine s _ count given.1)
     (rw number at (c.write_to.ensures.fault (sym c.is_err.ensures.value ∙ c.if-is_err.true)))
 
 pub returns-in-Ok-tell-2-clause-served : goal.returns-in-Ok-tell-2-clause-served
@@ -48,7 +48,7 @@ returns-in-Ok-tell-2-clause-served g c = λ s k h.
     let count : length c.read_from.new.octets ≡ SAMPLE_OCTETS * c.args.samples.number = grind (arith, common_steps, c.read_from.auto.octets) in
     let given = c.feed-count.ensures.gives s k in
     served_whole g.T.LineMachine.machine s (g.T.LineMachine.keeps c.feed-count.new.self) given.2 there pairs h count
-    (rw number at (c.read_from.ensures.filled answer)) given.1
+    (rw number at (c.read_from.ensures.filled answer)) (given_first g.T.LineMachine.machine s _ count given.1)
     (rw number at (c.write_to.ensures.ok c.if-is_err.ensures.negation)) (c.in-Ok-tell-2.ensures.ok refl)
 
 pub returns-in-Err-tell-2-clause-cut : goal.returns-in-Err-tell-2-clause-cut
@@ -59,7 +59,7 @@ returns-in-Err-tell-2-clause-cut g c = λ is s k h.
     let answer : c.read_from.result ≡ Ok true = cc in
     let count : length c.read_from.new.octets ≡ SAMPLE_OCTETS * c.args.samples.number = grind (arith, common_steps, c.read_from.auto.octets) in
     let given = c.feed-count.ensures.gives s k in
-    cut_told g.T.LineMachine.machine s there pairs h count (rw number at (c.read_from.ensures.filled answer)) given.1 (rw number at (c.write_to.ensures.ok c.if-is_err.ensures.negation)) (c.in-Err-tell-2.ensures.fault refl)
+    cut_told g.T.LineMachine.machine s there pairs h count (rw number at (c.read_from.ensures.filled answer)) (given_first g.T.LineMachine.machine s _ count given.1) (rw number at (c.write_to.ensures.ok c.if-is_err.ensures.negation)) (c.in-Err-tell-2.ensures.fault refl)
 
 -- ---- nothing is passed on
 

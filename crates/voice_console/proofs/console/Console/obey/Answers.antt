@@ -1,4 +1,5 @@
-use Rattle.std.proofs.Common.{ap, sym}
+use Rattle.std.proofs.Common.{◌∙◌, ap, sym}
+use Rattle.voice_script.specs.Script as script
 use Rattle.voice_script.specs.Commands.{command_of}
 use Rattle.voice_console.proofs.Served.{obeyed}
 use Rattle.voice_console.proofs.console.Console.obey.Goals as goal
@@ -9,7 +10,8 @@ returns-in-Create-clause-asks g c =
 
 pub returns-in-Set-clause-asks : goal.returns-in-Set-clause-asks
 returns-in-Set-clause-asks g c =
-    obeyed g.M.Ialg.meaning g.M.Ialg.idle_keeps g.M.Ialg.active_keeps _ _ _ _ _ (ap command_of (sym c.in-Set.is)) c.control.ensures.asks
+    obeyed g.M.Ialg.meaning g.M.Ialg.idle_keeps g.M.Ialg.active_keeps _ _ _ _ _
+    (ap (λ words. script.Set c.in-Set.instance words) (c.copied.ensures ∙ c.as_slice.ensures.value) ∙ ap command_of (sym c.in-Set.is)) c.control.ensures.asks
 
 pub returns-in-Reset-clause-asks : goal.returns-in-Reset-clause-asks
 returns-in-Reset-clause-asks g c =

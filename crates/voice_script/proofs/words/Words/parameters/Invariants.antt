@@ -10,8 +10,8 @@ abbrev pub invariant-loop-word : goal.invariant-loop-word
 invariant-loop-word l = record {
   can : (goal.iterator-loop-word).can_next l.word-iterator;
   ends : (goal.iterator-loop-word).is_finite l.word-iterator;
-  few : length l.parameters.items ≤ PARAMETER_WORDS;
+  few : length l.room.items ≤ PARAMETER_WORDS;
   numbers : list_all is_number (to_come l.fn.self) ≡ list_all is_number (to_come l.word-iterator);
-  fits : fit_words (to_come l.fn.self) ≡ (l.fit && (nat_le (length l.parameters.items + length (to_come l.word-iterator)) PARAMETER_WORDS && list_all fits_word (to_come l.word-iterator)));
-  values : l.fit ≡ true → map value_of (to_come l.fn.self) ≡ l.parameters.items ++ map value_of (to_come l.word-iterator);
+  fits : fit_words (to_come l.fn.self) ≡ (l.fit && (nat_le (length l.room.items + length (to_come l.word-iterator)) PARAMETER_WORDS && list_all fits_word (to_come l.word-iterator)));
+  values : l.fit ≡ true → map value_of (to_come l.fn.self) ≡ l.room.items ++ map value_of (to_come l.word-iterator);
 }
