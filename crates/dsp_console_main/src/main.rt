@@ -9,21 +9,41 @@ mod tests;
 
 use clap::error::ErrorKind;
 use dsp_arguments::{ArgFault, Arguments, arguments};
-use dsp_console::{Config, Fault, PortIn, PortOut, Reading, Summary, Writing, outcome, run};
+use dsp_console::{Config, Fault, PortIn, PortOut, Reading, Summary, outcome, run};
+use port_journal::{Journal, JournalOutput, JournalReplies, Passing, pass_on_all};
+use std::cell::RefCell;
 use std::env;
 use std::fs::File;
-use std::io::{self, BufReader};
+use std::io::{self, BufReader, Printer};
 use std::process::ExitCode;
 use voice_set::Voice;
 
 /// The status where the command line isn't taken.
 const USAGE: u8 = 2;
 
+/// SCRIPT, which the run itself reads ahead.
+type Script = Reading<File>;
+
 /// A file that is read through a buffer.
 type Source = Reading<BufReader<File>>;
 
-/// A file that is written at once.
-type Sink = Writing<File>;
+/// What waits for the OUTs and for the replies.
+type OutJournal<'a> = Journal<File, Printer<'a, HostRuntime>>;
+
+/// An OUT.
+type Sink<'j, 'a> = JournalOutput<'j, File, Printer<'a, HostRuntime>>;
+
+/// Opens SCRIPT, and says when its replies are passed on: where it isn't a regular file, someone may wait for each.
+fn open_script(rt: &HostRuntime, path: &str) -> Result<(Script, Passing), Fault>
+    ensures { IfOk result (λ opened. IsReadyIn (⟦<Script as PortIn>⟧.source opened.0)) }
+{
+    let file = File::open(rt, path).map_err(|_| Fault::Read)?;
+    let passing = match file.metadata() {
+        Ok(metadata) if metadata.is_file() => Passing::WhereFull,
+        _ => Passing::EachLine,
+    };
+    Ok((Reading::new(file), passing))
+}
 
 /// Opens a file to read.
 fn open(rt: &HostRuntime, path: &str) -> Result<Source, Fault>
@@ -34,57 +54,76 @@ fn open(rt: &HostRuntime, path: &str) -> Result<Source, Fault>
     Ok(Reading::new(buffer))
 }
 
-/// Makes a file anew to write.
-fn create(rt: &HostRuntime, path: &str) -> Result<Sink, Fault>
-    ensures { IfOk result (λ port. IsReadyOut (⟦<Sink as PortOut>⟧.sink port)) }
-{
+/// Makes a file anew to write, which the journal has as its next output.
+fn create(rt: &HostRuntime, path: &str, journal: &mut OutJournal<'_>) -> Result<(), Fault> {
     let file = File::create(rt, path).map_err(|_| Fault::Write)?;
-    Ok(Writing::new(file))
+    journal.push_output(file).map_err(|_| Fault::Memory)
 }
 
-/// Opens the pairs of ports in order behind those that are open, of each pair the input first.
-fn open_ports(
+/// Opens the pairs of files in order behind those that are open, of each pair the input first.
+fn open_pairs(
     rt: &HostRuntime,
-    ports: &[(&str, &str)],
+    pairs: &[(&str, &str)],
     inputs: &mut Vec<Source>,
-    outputs: &mut Vec<Sink>,
+    journal: &mut OutJournal<'_>,
 ) -> Result<(), Fault>
-    ensures inputs { IsOk result → length inputs.new.items ≡ length inputs.old.items + length ports.now }
-    ensures outputs { IsOk result → length outputs.new.items ≡ length outputs.old.items + length ports.now }
+    ensures inputs { IsOk result → length inputs.new.items ≡ length inputs.old.items + length pairs.now }
     ensures to_read { IsOk result → All IsReadyIn (map (⟦<Source as PortIn>⟧.source) inputs.old.items) → All IsReadyIn (map (⟦<Source as PortIn>⟧.source) inputs.new.items) }
-    ensures to_write { IsOk result → All IsReadyOut (map (⟦<Sink as PortOut>⟧.sink) outputs.old.items) → All IsReadyOut (map (⟦<Sink as PortOut>⟧.sink) outputs.new.items) }
 {
-    let Some(((input, output), further)) = ports.split_first() else {
+    let Some(((input, output), further)) = pairs.split_first() else {
         return Ok(());
     };
     inputs.push(open(rt, input)?).map_err(|_| Fault::Memory)?;
-    outputs
-        .push(create(rt, output)?)
-        .map_err(|_| Fault::Memory)?;
-    open_ports(rt, further, inputs, outputs)
+    create(rt, output, journal)?;
+    open_pairs(rt, further, inputs, journal)
 }
 
-/// Serves the script over the files. SCRIPT and the INs are read through buffers; the OUTs and the replies are written at once.
+/// The ports of the journal's first outputs, so many.
+fn output_ports<'j, 'a>(
+    rt: &HostRuntime,
+    journal: &'j RefCell<OutJournal<'a>>,
+    count: usize,
+) -> Result<Vec<Sink<'j, 'a>>, Fault>
+    ensures count { IfOk result (λ ports. length ports.items ≡ count) }
+    ensures to_write { IfOk result (λ ports. All IsReadyOut (map (⟦<Sink<'j, 'a> as PortOut>⟧.sink) ports.items)) }
+{
+    let mut ports = Vec::new(rt.alloc());
+    for number in 0..count {
+        ports
+            .push(JournalOutput::new(journal, number))
+            .map_err(|_| Fault::Memory)?;
+    }
+    Ok(ports)
+}
+
+/// Serves the script over the files. The INs are read through buffers; the OUTs and the replies are written through a journal.
 fn serve(rt: &HostRuntime, arguments: &Arguments<'_>) -> Result<Summary, Fault>
     requires { 1 ≤ length arguments.now.ports.items }
 {
-    let mut script = open(rt, arguments.script)?;
+    let (mut script, passing) = open_script(rt, arguments.script)?;
     let mut inputs = Vec::new(rt.alloc());
-    let mut outputs = Vec::new(rt.alloc());
-    open_ports(rt, arguments.ports.as_slice(), &mut inputs, &mut outputs)?;
-    let mut replies = Writing::new(io::writer(rt));
+    let mut journal = Journal::new(rt.alloc(), io::writer(rt), passing);
+    open_pairs(rt, arguments.ports.as_slice(), &mut inputs, &mut journal)?;
+    let journal = RefCell::new(journal);
+    let mut outputs = output_ports(rt, &journal, arguments.ports.len())?;
+    let mut replies = JournalReplies::new(&journal);
     let config = Config {
         sizes: arguments.sizes,
         poison: arguments.poison,
     };
-    run::<Voice, _, _, _, _>(
+    let ended = run::<Voice, _, _, _, _>(
         rt.alloc(),
         config,
         &mut script,
         &mut inputs,
         &mut outputs,
         &mut replies,
-    )
+    );
+    // What was served before a fault of the script or of an input is passed on all the same.
+    if ended == Err(Fault::Read) && pass_on_all(&journal).is_err() {
+        return Err(Fault::Write);
+    }
+    ended
 }
 
 /// Parses the words and serves the script: the exit status, and the line on the standard error.

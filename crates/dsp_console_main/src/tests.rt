@@ -60,3 +60,21 @@ fn a_refusal_and_a_full_device_show_in_the_status(rt: HostRuntime) -> Result<(),
     assert!(rt; answer(&rt, &["granted", "input", "/dev/full"]) == WRITE_FAILED);
     Ok(())
 }
+
+// The replies of the program's tests come to the standard output, of which nothing is seen here: that no reply tells of what a
+// full device lost is shown by the journal's tests.
+#[test]
+fn what_was_served_before_a_fault_is_passed_on(rt: HostRuntime) -> Result<(), Fail> {
+    make_file(
+        &rt,
+        "served",
+        b"create 0 fir 0 16384\nchain 0 0\nfeed 0 1\n",
+    )?;
+    make_file(&rt, "input", b"\x02\x00")?;
+    assert!(rt; answer(&rt, &["served", "input", "output"]) == (0, ""));
+    assert_eq!(rt; fs::read(&rt, "output")?.as_slice(), b"\x01\x00".as_slice());
+    // A folder opens as a file does, and fails where it is read.
+    assert!(rt; answer(&rt, &["served", ".", "output"]) == READ_FAILED);
+    assert!(rt; answer(&rt, &["served", "input", "output", ".", "/dev/full"]) == (0, ""));
+    Ok(())
+}

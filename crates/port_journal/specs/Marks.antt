@@ -1,0 +1,22 @@
+-- Which samples a reply tells of.
+use Rattle.std.specs.Prelude.{◌≡◌, ◌<◌, ◌≤◌, ℕ, List, Option, length, take, All, Any, IsSomeAnd, slice_get}
+use Rattle.std.specs.Io.KnownBytes.{Appends}
+use Rattle.port_journal.specs.declared.waiting.Waiting.{Waiting}
+use Rattle.port_journal.specs.declared.marks.Mark.{Mark}
+
+-- the mark's output took the mark's samples when it was last passed on
+abbrev pub IsTaken : {W : Type 0} → List (Waiting W) → Mark → Type 0
+IsTaken outputs mark = IsSomeAnd (slice_get outputs mark.output) (λ output. mark.least ≤ output.taken)
+
+-- the device was given the first octets of the replies that waited: all samples that these tell of were taken
+pub record TellsTruth {W R : Type 0} (contents : R → Option (List ℕ)) (marks : List Mark) (outputs : List (Waiting W)) (old new : Waiting R) : Type 0 where
+  pub count : ℕ
+  pub within : count ≤ length old.octets.items
+  pub gives : Appends (contents old.writer) (contents new.writer) (take count old.octets.items)
+  pub sure : new.taken ≤ count
+  pub truth : All (λ mark. mark.before < count → IsTaken outputs mark) marks
+
+-- a mark is of all that waits for this output, behind all the replies that wait
+abbrev pub IsMarked : {W R : Type 0} → ℕ → List (Waiting W) → Waiting R → List Mark → Type 0
+IsMarked number outputs replies marks =
+    Any (λ mark. (mark.output ≡ number) × (mark.before ≡ length replies.octets.items) × IsSomeAnd (slice_get outputs number) (λ output. mark.least ≡ length output.octets.items)) marks
