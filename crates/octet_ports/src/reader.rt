@@ -3,6 +3,7 @@ ghost use Rattle.std.specs.Prelude.{◌≡◌, ◌+◌, ◌<◌, ◌≤◌, ◌=
 ghost use Rattle.std.specs.Result.{is_err};
 ghost use Rattle.octet_ports.specs.Ports.{Gives};
 ghost use Rattle.octet_ports.specs.Lines.{IsNoFeed, LineCame, LineFails, behind};
+ghost use Rattle.octet_ports.specs.declared.reader.TheConstants.{BUFFER_OCTETS};
 ghost use Rattle.octet_ports.specs.Readers.{OctetCame, EndCame, IsRefused};
 
 use crate::LINE_FEED;
@@ -70,7 +71,8 @@ impl LineReader {
     }
 
     /// Reads a line, to its line feed or the script's end. A line of more than `MOST` octets is long. The script is asked only
-    /// where no line feed is ahead, and for no octet past the limit but one that tells that there are more.
+    /// where no line feed is ahead, and for no octet past the limit but one that tells that there are more. No more than
+    /// [`BUFFER_OCTETS`] are ahead then.
     pub fn read_line<S: PortIn, const MOST: usize>(
         &mut self,
         script: &mut S,
@@ -84,6 +86,7 @@ impl LineReader {
         ensures err { IfErr result (λ e. LineFails e self.old.left (behind self.old.octets (S.source script.old)) (S.source script.new)) }
         ensures gone { is_err result ≡ true → self.new.octets ≡ [] }
         ensures within { length self.new.octets ≤ self.new.left }
+        ensures few { length self.new.octets ≤ BUFFER_OCTETS }
         ensures waits { (¬ All IsNoFeed self.old.octets) → script.new ≡ script.old }
         ensures ready { IsOk result → (S.source script.new).failed ≡ false }
     {
@@ -113,6 +116,7 @@ impl LineReader {
         ensures none { result ≡ Ok None → EndCame self.old self.new (S.source script.old) (S.source script.new) }
         ensures err { IfErr result (λ e. IsRefused e self.old self.new (S.source script.old) (S.source script.new)) }
         ensures within { length self.new.octets ≤ self.new.left }
+        ensures few { length self.new.octets ≤ BUFFER_OCTETS }
         ensures waits { 0 < length self.old.octets → script.new ≡ script.old }
         ensures ready { IsOk result → (S.source script.new).failed ≡ false }
     {
@@ -139,6 +143,7 @@ impl LineReader {
         ensures front { self.old.octets ≡ result ∷ self.new.octets }
         ensures left { self.old.left ≡ self.new.left + 1 }
         ensures within { length self.new.octets ≤ self.new.left }
+        ensures few { length self.new.octets ≤ BUFFER_OCTETS }
     {
         let octet = self.buffer[self.at];
         self.at += 1;

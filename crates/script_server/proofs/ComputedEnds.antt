@@ -43,9 +43,9 @@ module _ {S T : Type 0} (machine : Machine S) (computed : Computed T) (standing 
       → Stops machine (at start) script new_script lines there sources new_sources → Stops own start script new_script lines state sources new_sources
   stops script new_script lines state there sources new_sources same (InScript rest no_feeds gives failed stay) = InScript rest no_feeds gives failed stay
   stops script new_script lines state there sources new_sources same (AtLimit rest next no_feeds long gives stay) = AtLimit rest next no_feeds long gives stay
-  stops script new_script lines state there sources new_sources same (InFeed line last ahead channel count after no_feeds fits asks gives end steps) =
+  stops script new_script lines state there sources new_sources same (InFeed line last ahead channel count after no_feeds fits asks gives few end steps) =
       let e = is.asks state line (Feed channel count) after (subst (λ s. machine.Asks s line (Feed channel count) after) same asks) in
-      InFeed line last ahead channel count (computed.after state line) no_feeds fits (e.0, refl) gives end steps
+      InFeed line last ahead channel count (computed.after state line) no_feeds fits (e.0, refl) gives few end steps
 
   served_up_to : (old new : Devices) → ServedUpTo machine (at start) old new → ServedUpTo own start old new
   served_up_to old new s =

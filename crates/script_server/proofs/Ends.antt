@@ -4,6 +4,7 @@ use Rattle.std.specs.List.{All, flat_map}
 use Rattle.std.proofs.lemmas.List.{append-nil}
 use Rattle.std.proofs.lemmas.List.Elements.{All-push}
 use Rattle.octet_ports.specs.Ports.{Source, Sink, Gives, GivesWithin}
+use Rattle.octet_ports.specs.declared.reader.TheConstants.{BUFFER_OCTETS}
 use Rattle.octet_ports.specs.Lines.{LineCame, LineFails, behind, ending}
 use Rattle.octet_ports.specs.declared.reader.LineFault.{LineFault}
 use Rattle.octet_ports.specs.declared.reader.LineFault.TheVariants.{Port, Limit}
@@ -136,10 +137,10 @@ module _ {S : Type 0} (m : Machine S) (start : Run S) where
       {mid_outputs : List Sink} {mid_replies : Sink} {text : List ℕ} {long last : Bool} (old new : Devices) (ahead : List ℕ)
       → (served : ServedSoFar m keeps start refused left old.script a sources old.outputs mid_outputs old.replies mid_replies)
       → (came : LineCame LINE_OCTETS text long last left new_left a (behind ahead new.script))
-      → (last ≡ true → ahead ≡ [])
+      → (last ≡ true → ahead ≡ []) → length ahead ≤ BUFFER_OCTETS
       → IsUnfed m served.answer.run.state came.octets sources new.inputs mid_outputs new.outputs mid_replies new.replies
       → ServedUpTo m start old new
-  stops_in_feed {sources = sources} {last = last} old new ahead served came none unfed = record {
+  stops_in_feed {sources = sources} {last = last} old new ahead served came none few unfed = record {
     lines = served.lines;
     no_feeds = served.no_feeds;
     are_ended = λ rest n. ended_lines_of served.lines rest served.no_feeds n;
@@ -149,6 +150,7 @@ module _ {S : Type 0} (m : Machine S) (start : Run S) where
     inputs = served.inputs;
     stops = InFeed came.octets last ahead unfed.channel unfed.count unfed.after came.line.no_feed unfed.fits unfed.asks
         (gives_ahead (flat_map ended served.lines ++ (came.octets ++ ending last)) ahead old.script new.script (gives_more served.gives came.gives))
+        few
         (λ e. (none e, λ honest. subst (λ xs. xs ++ new.script.coming ≡ []) (none e) (came.at_end e honest)))
         unfed.input;
     writes = rw (append-nil (order_of served.answer.written)) at (writes_more served.writes unfed.writes);

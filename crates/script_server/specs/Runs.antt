@@ -3,6 +3,7 @@ use Rattle.std.specs.Prelude.{◌≡◌, ◌⊎◌, ℕ, ◌<◌, ◌≤◌, Boo
 use Rattle.std.specs.List.{flat_map}
 use Rattle.octet_ports.specs.Ports.{Source, Sink, Gives, GivesWithin, Holds, Waits, IsAtEnd, HasPassedAll}
 use Rattle.octet_ports.specs.Lines.{IsNoFeed, ending, ended}
+use Rattle.octet_ports.specs.declared.reader.TheConstants.{BUFFER_OCTETS}
 use Rattle.line_machine.specs.Served.{Machine, Run, Answer, Octet, held_by, order_of, refusals, LineAnswer, LinesAnswer, ended_lines, Feed}
 use Rattle.voice_script.specs.Script.{lines_of}
 use Rattle.voice_script.specs.declared.limits.TheConstants.{LINE_OCTETS}
@@ -157,10 +158,10 @@ module _ {S : Type 0} (machine : Machine S) (start : Run S) where
     AtLimit : (rest : List ℕ) (next : ℕ) → All IsNoFeed rest → length (flat_map ended lines ++ rest) ≡ SCRIPT_OCTETS
         → Gives ((flat_map ended lines ++ rest) ++ next ∷ []) script new_script
         → new_sources ≡ sources → Stops script new_script lines state sources new_sources
-    -- the input of the next line's feed failed; some of the script may have been read ahead
+    -- the input of the next line's feed failed; a buffer of the script may have been read ahead
     InFeed : (line : List ℕ) (last : Bool) (ahead : List ℕ) (channel count : ℕ) (after : S) → All IsNoFeed line → length line ≤ LINE_OCTETS
         → machine.Asks state line (Feed channel count) after
-        → Gives ((flat_map ended lines ++ (line ++ ending last)) ++ ahead) script new_script → (last ≡ true → (ahead ≡ []) × IsAtEnd new_script)
+        → Gives ((flat_map ended lines ++ (line ++ ending last)) ++ ahead) script new_script → length ahead ≤ BUFFER_OCTETS → (last ≡ true → (ahead ≡ []) × IsAtEnd new_script)
         → StepsAt (FailsWithin count) channel no_source sources new_sources → Stops script new_script lines state sources new_sources
 
   -- exactly these lines were served, from honest inputs

@@ -110,10 +110,7 @@ fn set_row<'a, M: Copy>(
 }
 
 /// `control` I `reset`
-fn reset_row<'a, M: Copy>(
-    instance: Number<'_>,
-    words: Words<'_>,
-) -> Result<Command<'a, M>, Refusal>
+fn reset_row<'a, M: Copy>(instance: Number<'_>, words: Words<'_>) -> Result<Command<'a, M>, Refusal>
     ensures { row_of result ≡ reset_row instance.entry.word.now (to_come words.entry) }
 {
     words.end()?;
@@ -123,10 +120,7 @@ fn reset_row<'a, M: Copy>(
 }
 
 /// `control` I `get`
-fn get_row<'a, M: Copy>(
-    instance: Number<'_>,
-    words: Words<'_>,
-) -> Result<Command<'a, M>, Refusal>
+fn get_row<'a, M: Copy>(instance: Number<'_>, words: Words<'_>) -> Result<Command<'a, M>, Refusal>
     ensures { row_of result ≡ get_row instance.entry.word.now (to_come words.entry) }
 {
     words.end()?;

@@ -90,11 +90,7 @@ impl<'a> Words<'a> {
             };
             fit = fit && keep(room, number);
         }
-        if fit {
-            Ok(())
-        } else {
-            Err(Refusal::Range)
-        }
+        if fit { Ok(()) } else { Err(Refusal::Range) }
     }
 
     /// All words that are left, as the numbers of members: `syntax` where one is no number, and else `range`

@@ -48,7 +48,7 @@ returns-in-Err-serve_line-clause-read g c = λ is.
       failed = inr (inl (c.in-Err-serve_line.ensures.read (ap Err e)));
       passed = wait_more c.lines.invariant.waits c.in-Err-serve_line.ensures.waits;
       served = λ h. let served = c.lines.invariant.served h in
-          stops_in_feed g.T.LineMachine.machine _ _ _ c.read_line.new.self.octets served came c.in-Ok.ensures.last
+          stops_in_feed g.T.LineMachine.machine _ _ _ c.read_line.new.self.octets served came c.in-Ok.ensures.last c.in-Ok.ensures.few
           (c.in-Err-serve_line.ensures.unfed (ap Err e) came.octets _ (rw (c.as_slice.ensures.value) came.line) served.kept);
     }
 
