@@ -1,6 +1,6 @@
 -- What is passed on to devices.
-use Rattle.std.specs.Prelude.{◌≡◌, ◌<◌, ◌≤◌, ℕ, List, [], ◌++◌, length, take, Option, slice_index_or}
-use Rattle.std.specs.Io.KnownBytes.{Appends}
+use Rattle.std.specs.Prelude.{◌≡◌, ◌≢◌, ◌<◌, ◌≤◌, ℕ, List, [], ◌++◌, length, take, Option, slice_index_or}
+use Rattle.std.specs.Io.KnownBytes.{Appends, append_known}
 use Rattle.port_journal.specs.declared.waiting.TheConstants.{BUFFER_OCTETS}
 use Rattle.port_journal.specs.declared.waiting.Waiting.{Waiting}
 
@@ -42,6 +42,23 @@ module _ {W : Type 0} where
 
   abbrev pub WaitsLastAt : ℕ → List ℕ → List (Waiting W) → Type 0
   WaitsLastAt number octets outputs = (d : Waiting W) → WaitsLast octets (slice_index_or outputs number d)
+
+  -- what the device holds, where that is known, and then what waits for it
+  abbrev pub held_then_waiting : (W → Option (List ℕ)) → Waiting W → Option (List ℕ)
+  held_then_waiting contents waiting = append_known (contents waiting.writer) waiting.octets.items
+
+  -- these octets came behind all that the device held and all that waited for it, and nothing of that was lost
+  abbrev pub Gets : (W → Option (List ℕ)) → List ℕ → Waiting W → Waiting W → Type 0
+  Gets contents octets old new = Appends (held_then_waiting contents old) (held_then_waiting contents new) octets
+
+  abbrev pub LosesNothing : (W → Option (List ℕ)) → Waiting W → Waiting W → Type 0
+  LosesNothing contents old new = Gets contents [] old new
+
+  -- the output of this number got these octets, and none lost anything
+  pub record GetsAt (contents : W → Option (List ℕ)) (number : ℕ) (octets : List ℕ) (olds news : List (Waiting W)) : Type 0 where
+    pub count : length news ≡ length olds
+    pub there : (d : Waiting W) → number < length olds → Gets contents octets (slice_index_or olds number d) (slice_index_or news number d)
+    pub others : (k : ℕ) (d : Waiting W) → k < length olds → k ≢ number → LosesNothing contents (slice_index_or olds k d) (slice_index_or news k d)
 
   -- the device holds what it held, and took what it took
   pub record HoldsStill (old new : Waiting W) : Type 0 where

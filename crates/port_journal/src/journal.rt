@@ -1,7 +1,7 @@
 //! Outputs and replies that are passed on together.
 ghost use Rattle.std.specs.Prelude.{◌≡◌, ◌<◌, ◌≤◌, ◌+◌, [], true, false, length, take, All, IfOk, IsOk};
 ghost use Rattle.std.specs.Result.{is_err};
-ghost use Rattle.port_journal.specs.Passing.{EachDoes, HasNothing, HasRoom, HasRoomAt, PassesOn, TakesAll, WaitsLast, WaitsLastAt};
+ghost use Rattle.port_journal.specs.Passing.{EachDoes, Gets, GetsAt, HasNothing, HasRoom, HasRoomAt, LosesNothing, PassesOn, TakesAll, WaitsLast, WaitsLastAt};
 ghost use Rattle.port_journal.specs.Marks.{IsMarked, TellsTruth};
 
 use crate::marks::{MARKS, Mark, true_octets};
@@ -82,6 +82,7 @@ impl<W: Write, R: Write> Journal<W, R> {
         ensures outputs { EachDoes (PassesOn W.contents) self.old.outputs.items self.new.outputs.items }
         ensures replies { TellsTruth R.contents self.old.marks.items self.new.outputs.items self.old.replies self.new.replies }
         ensures all { IsOk result → EachDoes TakesAll self.old.outputs.items self.new.outputs.items × TakesAll self.old.replies self.new.replies }
+        ensures kept { IsOk result → EachDoes (LosesNothing W.contents) self.old.outputs.items self.new.outputs.items × LosesNothing R.contents self.old.replies self.new.replies }
         ensures nothing { All HasNothing self.new.outputs.items × HasNothing self.new.replies × (self.new.marks.items ≡ []) }
         ensures failed { self.new.failed ≡ is_err result }
         ensures lasts { self.old.failed ≡ true → self.new.failed ≡ true }
@@ -108,6 +109,7 @@ impl<W: Write, R: Write> Journal<W, R> {
         ensures room { IsOk result → HasRoomAt number self.new.outputs.items }
         ensures marks { IsOk result → length self.new.marks.items < MARKS }
         ensures count { length self.new.outputs.items ≡ length self.old.outputs.items }
+        ensures kept { IsOk result → EachDoes (LosesNothing W.contents) self.old.outputs.items self.new.outputs.items × LosesNothing R.contents self.old.replies self.new.replies }
         ensures failed { self.new.failed ≡ is_err result }
     {
         if self.outputs[number].is_full() || self.marks.is_full() {
@@ -120,6 +122,7 @@ impl<W: Write, R: Write> Journal<W, R> {
     fn make_room_for_reply(&mut self) -> Result<(), PortFault>
         requires { self.old.failed ≡ false }
         ensures room { IsOk result → HasRoom self.new.replies }
+        ensures kept { IsOk result → EachDoes (LosesNothing W.contents) self.old.outputs.items self.new.outputs.items × LosesNothing R.contents self.old.replies self.new.replies }
         ensures passing { self.new.passing ≡ self.old.passing }
         ensures failed { self.new.failed ≡ is_err result }
     {
@@ -136,6 +139,8 @@ impl<W: Write, R: Write> Journal<W, R> {
         ensures count { IfOk result (λ n. n ≤ length octets.now) }
         ensures some { IfOk result (λ n. 0 < length octets.now → 0 < n) }
         ensures waits { IfOk result (λ n. WaitsLastAt number (take n octets.now) self.new.outputs.items) }
+        ensures gets { IfOk result (λ n. GetsAt W.contents number (take n octets.now) self.old.outputs.items self.new.outputs.items) }
+        ensures replies { IsOk result → LosesNothing R.contents self.old.replies self.new.replies }
         ensures marked { IsOk result → IsMarked number self.new.outputs.items self.new.replies self.new.marks.items }
         ensures failed { self.new.failed ≡ is_err result }
         ensures lasts { self.old.failed ≡ true → self.new.failed ≡ true }
@@ -158,6 +163,8 @@ impl<W: Write, R: Write> Journal<W, R> {
     pub fn put_reply(&mut self, octets: &[u8]) -> Result<usize, PortFault>
         ensures count { IfOk result (λ n. n ≤ length octets.now) }
         ensures some { IfOk result (λ n. 0 < length octets.now → 0 < n) }
+        ensures gets { IfOk result (λ n. Gets R.contents (take n octets.now) self.old.replies self.new.replies) }
+        ensures outputs { IsOk result → EachDoes (LosesNothing W.contents) self.old.outputs.items self.new.outputs.items }
         ensures waits { self.old.passing ≡ Passing.WhereFull → IfOk result (λ n. WaitsLast (take n octets.now) self.new.replies) }
         ensures failed { self.new.failed ≡ is_err result }
         ensures lasts { self.old.failed ≡ true → self.new.failed ≡ true }

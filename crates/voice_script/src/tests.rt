@@ -59,7 +59,7 @@ fn parses_a_creation(rt: HostRuntime) -> Result<(), Fail> {
 #[test]
 fn parses_a_chain(rt: HostRuntime) -> Result<(), Fail> {
     let mut room = Params::new();
-    let Ok(Some(Command::<Pitch>::Chain { channel, members })) = parse(b"chain 7 255 0", &mut room)
+    let Ok(Some(Command::Chain { channel, members })) = parse::<Pitch>(b"chain 7 255 0", &mut room)
     else {
         return Err("it is a chain".into());
     };
@@ -71,7 +71,7 @@ fn parses_a_chain(rt: HostRuntime) -> Result<(), Fail> {
 #[test]
 fn parses_a_feed(rt: HostRuntime) -> Result<(), Fail> {
     let mut room = Params::new();
-    let Ok(Some(Command::<Pitch>::Feed { channel, samples })) = parse(b"feed -0 256", &mut room)
+    let Ok(Some(Command::Feed { channel, samples })) = parse::<Pitch>(b"feed -0 256", &mut room)
     else {
         return Err("it is a feed".into());
     };
