@@ -1,0 +1,85 @@
+//! Lines at the edges of the grammar, and of every single octet.
+use dsp_console::{Config, Sizes, run};
+use octet_ports::{TapeIn, TapeOut};
+use std::process::Abort;
+use std::test::Fail;
+use voice_set::Voice;
+
+const NEVER: u64 = u64::MAX;
+
+const WIDE: u32 = 4096;
+
+const SIZES: Sizes = Sizes {
+    daram: 65_536,
+    saram: 65_536,
+    external: 65_536,
+};
+
+/// The octets of the longest line.
+const LONGEST: usize = 1024;
+
+/// Runs a script of one line, and compares its replies.
+fn answers<R: Abort + AllocGlobal>(rt: &R, script: &[u8], wanted: &[u8]) -> Result<(), Fail> {
+    let mut script = TapeIn::new(script, WIDE, NEVER);
+    let mut inputs = vec![in rt.alloc(); TapeIn::new(b"", WIDE, NEVER)]?;
+    let mut outputs = vec![in rt.alloc(); TapeOut::new(WIDE, NEVER)]?;
+    let mut replies = TapeOut::new(WIDE, NEVER);
+    let config = Config {
+        sizes: SIZES,
+        poison: None,
+    };
+    let ended = run::<Voice, _, _, _, _>(
+        rt.alloc(),
+        config,
+        &mut script,
+        &mut inputs,
+        &mut outputs,
+        &mut replies,
+    );
+    assert!(rt; ended.is_ok());
+    assert!(rt; replies.held() == wanted);
+    Ok(())
+}
+
+#[test]
+fn a_line_may_have_1024_octets(rt: HostRuntime) -> Result<(), Fail> {
+    let mut line = [b' '; LONGEST + 1];
+    line[..6].copy_from_slice(b"stat 0");
+    answers(&rt, &line[..LONGEST], b"ok - 0\n")?;
+    answers(&rt, &line, b"no 1 long\n")?;
+    // A carriage return before the line feed counts as well.
+    line[LONGEST - 1] = b'\r';
+    answers(&rt, &line[..LONGEST], b"ok - 0\n")
+}
+
+#[test]
+fn numbers_may_begin_with_zeros_and_a_minus(rt: HostRuntime) -> Result<(), Fail> {
+    answers(&rt, b"feed -0 1", b"no 5 missing\n")?;
+    answers(&rt, b"create 00 fir 0 032767", b"ok\n")?;
+    answers(&rt, b"feed +0 1", b"no 2 syntax\n")?;
+    answers(&rt, b"feed 0-0 1", b"no 2 syntax\n")
+}
+
+#[test]
+fn a_word_has_no_other_octets(rt: HostRuntime) -> Result<(), Fail> {
+    answers(&rt, b"stat\0 0", b"no 2 syntax\n")?;
+    answers(&rt, b"create 0 f\0ir 0 1", b"no 2 syntax\n")?;
+    answers(&rt, b"feed 0 1\xff", b"no 2 syntax\n")
+}
+
+/// What a line of this octet alone is answered: a blank, a line feed and a carriage return ask for nothing.
+fn of_octet(octet: u8) -> &'static [u8] {
+    match octet {
+        b' ' | b'\t' | b'\n' | b'\r' => b"",
+        _ => b"no 2 syntax\n",
+    }
+}
+
+#[test]
+fn each_single_octet_is_a_line(rt: HostRuntime) -> Result<(), Fail> {
+    for octet in 0..=255 {
+        answers(&rt, &[octet], of_octet(octet))?;
+        answers(&rt, &[octet, b'\n'], of_octet(octet))?;
+    }
+    Ok(())
+}
