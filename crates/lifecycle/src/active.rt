@@ -99,22 +99,16 @@ impl<M: Ialg> Active<M> {
         ensures keeps { (w : Option ℤ) (h : History) → ActiveKeeps M.meaning M.active_keeps self.instance w shared.old group.old h
             → IdleKeeps M.meaning M.idle_keeps result.instance w shared.new h }
     {
-        let Active { instance } = self;
-        let Instance {
-            kind,
-            params,
-            table,
-            mut own,
-        } = instance;
-        group.lend(&Deactivate { kind }, &table, &mut own, shared, &mut ());
-        Idle {
-            instance: Instance {
-                kind,
-                params,
-                table,
-                own,
-            },
-        }
+        let Active { mut instance } = self;
+        let kind = instance.kind;
+        group.lend(
+            &Deactivate { kind },
+            &instance.table,
+            &mut instance.own,
+            shared,
+            &mut (),
+        );
+        Idle { instance }
     }
 
     /// Takes out the piece of record `k`, to be moved: [`moved`](Active::moved) has to follow.

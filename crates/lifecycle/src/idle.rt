@@ -71,22 +71,16 @@ impl<M: Ialg> Idle<M> {
             → IdleKeeps M.meaning M.idle_keeps self.instance w shared.old h
             → ActiveKeeps M.meaning M.active_keeps result.instance w shared.new group.new h }
     {
-        let Idle { instance } = self;
-        let Instance {
-            kind,
-            params,
-            table,
-            mut own,
-        } = instance;
-        group.lend(&Activate { kind }, &table, &mut own, shared, &mut ());
-        Active {
-            instance: Instance {
-                kind,
-                params,
-                table,
-                own,
-            },
-        }
+        let Idle { mut instance } = self;
+        let kind = instance.kind;
+        group.lend(
+            &Activate { kind },
+            &instance.table,
+            &mut instance.own,
+            shared,
+            &mut (),
+        );
+        Active { instance }
     }
 
     /// Whether the instance takes the control.

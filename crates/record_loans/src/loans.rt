@@ -1,4 +1,6 @@
 //! Records are lent: pieces are chosen, and pieces and blocks become slices, one loan a function.
+//!
+//! Three or four of these functions become one where the code is made, so that a loan costs no call.
 ghost use Rattle.std.specs.Prelude.{◌≡◌, ◌≤◌, ℕ, ℤ, [], length, Option, Some, None};
 ghost use Rattle.record_loans.specs.Blocks.{block_words, IsSameBlock};
 ghost use Rattle.record_loans.specs.Pieces.{piece_words, IsSamePiece, SamePieces};
@@ -103,6 +105,7 @@ pub fn lend_with_blocks<O, S: Step<O>>(
 }
 
 /// Chooses the piece of record 1.
+#[inline(always)]
 fn choose_first<O, S: Step<O>>(
     step: &S,
     table: &MemTab,
@@ -148,6 +151,7 @@ fn choose_first<O, S: Step<O>>(
 }
 
 /// Chooses the piece of record 2.
+#[inline(always)]
 fn choose_second<O, S: Step<O>>(
     step: &S,
     table: &MemTab,
@@ -232,6 +236,7 @@ fn choose_third<O, S: Step<O>>(
 }
 
 /// Lends the piece of record 0.
+#[inline(always)]
 fn lend_object<O, S: Step<O>>(
     step: &S,
     table: &MemTab,
@@ -292,6 +297,7 @@ fn lend_object<O, S: Step<O>>(
 }
 
 /// Lends the piece of record 1.
+#[inline(always)]
 fn lend_first<O, S: Step<O>>(
     step: &S,
     table: &MemTab,
@@ -351,6 +357,7 @@ fn lend_first<O, S: Step<O>>(
 }
 
 /// Lends the piece of record 2.
+#[inline(always)]
 fn lend_second<O, S: Step<O>>(
     step: &S,
     table: &MemTab,
@@ -466,6 +473,7 @@ fn lend_third<O, S: Step<O>>(
 }
 
 /// Lends the block in `daram`.
+#[inline(always)]
 fn lend_daram<O, S: Step<O>>(
     step: &S,
     table: &MemTab,
@@ -522,6 +530,7 @@ fn lend_daram<O, S: Step<O>>(
 }
 
 /// Lends the block in `saram`.
+#[inline(always)]
 fn lend_saram<O, S: Step<O>>(
     step: &S,
     table: &MemTab,
@@ -577,6 +586,7 @@ fn lend_saram<O, S: Step<O>>(
 }
 
 /// Lends the block in `external`.
+#[inline(always)]
 fn lend_external<O, S: Step<O>>(
     step: &S,
     table: &MemTab,
