@@ -1,0 +1,78 @@
+//! What the rogues have in common: their records, how these are written over, and how samples are given as they came.
+ghost use Rattle.std.specs.Prelude.{◌≡◌, ◌≤◌, [], length};
+ghost use Rattle.ialg.specs.declared.TheConstants.{BLOCK_SAMPLES};
+ghost use Rattle.ialg.specs.Loans.{SameLoans};
+ghost use Rattle.rogue_kit.specs.Rogues.{rogue_table};
+
+use ialg::{Block, Lent, Record, object_record};
+use mem_rec::{Attr, LEAST_ALIGNMENT, MemRec, MemTab, Space};
+
+/// The records of a rogue: the object, the kept words and the scratch words.
+pub(crate) const ROGUE_RECORDS: usize = 3;
+
+/// The number of the object's record.
+pub(crate) const OBJECT: usize = 0;
+
+/// The number of the kept words' record.
+pub(crate) const KEPT: usize = 1;
+
+/// The number of the scratch words' record.
+pub(crate) const SCRATCH: usize = 2;
+
+/// The words that a rogue keeps.
+pub(crate) const KEPT_WORDS: u32 = 8;
+
+/// The scratch words of a rogue.
+pub(crate) const SCRATCH_WORDS: u32 = 260;
+
+/// What the base of a rogue's scratch words is a multiple of.
+pub(crate) const SCRATCH_ALIGNMENT: u32 = 16;
+
+/// The records that a rogue asks for, without bases. It takes no parameters: None where there are any.
+pub(crate) fn asked_records(p: &[i16]) -> Option<MemTab>
+    ensures { result ≡ rogue_table p.now }
+{
+    if !p.is_empty() {
+        return None;
+    }
+    let kept = MemRec {
+        size: KEPT_WORDS,
+        align: LEAST_ALIGNMENT,
+        space: Space::Saram,
+        attr: Attr::Persist,
+        base: 0,
+    };
+    let scratch = MemRec {
+        size: SCRATCH_WORDS,
+        align: SCRATCH_ALIGNMENT,
+        space: Space::Daram,
+        attr: Attr::Scratch,
+        base: 0,
+    };
+    MemTab::make(&[object_record(), kept, scratch])
+}
+
+/// Record `k` of a table, None past its end.
+pub(crate) fn record_of(table: &MemTab, k: usize) -> Option<MemRec> {
+    table.records().get(k).copied()
+}
+
+/// Writes `word` over the record that begins at `base` of `space`, where there is one that may be written.
+pub(crate) fn fill_record(mem: &mut Lent<'_>, space: Space, base: u16, word: i16)
+    ensures { SameLoans mem.old mem.new }
+{
+    let Some(Record { k, words }) = mem.take(space, base) else {
+        return;
+    };
+    words.fill(word);
+    mem.put(k, words);
+}
+
+/// Gives samples as they came.
+pub(crate) fn echo(samples: &[i16], out: &mut Block)
+    requires empty { out.old.items ≡ [] }
+    requires within { length samples.now ≤ BLOCK_SAMPLES }
+    ensures { out.new.items ≡ samples.now }
+{
+    let _fits = out.try_extend_from_slice(samples);
+}
