@@ -1,3 +1,4 @@
+pub mod HeadlineLemmas
 pub mod LawfulLemmas
 pub mod LivesLemmas
 pub mod StartLemmas

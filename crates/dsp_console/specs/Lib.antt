@@ -1,3 +1,4 @@
 pub mod Fresh
 pub mod Outcomes
 pub mod Lawful
+pub mod Headline

@@ -2,11 +2,13 @@
 #![tactic(auto)]
 
 mod ending;
+mod laws;
 mod serving;
 #[cfg(test)]
 mod tests;
 
 pub use ending::outcome;
+pub use laws::headline;
 pub use octet_ports::{PortFault, PortIn, PortOut, Reading, TAPE_OCTETS, TapeIn, TapeOut, Writing};
 pub use script_server::SCRIPT_OCTETS;
 pub use serving::{Config, Fault, Summary, run};

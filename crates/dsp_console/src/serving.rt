@@ -6,9 +6,12 @@ ghost use Rattle.sound_machine.specs.Answers.{AreLawful};
 ghost use Rattle.console_machine.specs.Console.{console_machine, start};
 ghost use Rattle.script_server.specs.Runs.{AreReady, EndsWell, EndsByRead, EndsByWrite, IsHonest, IsUnused, known_of, octets_to_come, run_of};
 ghost use Rattle.voice_console.specs.Consoles.{Keeps, channels_of};
+ghost use Rattle.voice_script.specs.Script.{lines_of};
 ghost use Rattle.dsp_console.specs.Fresh.{fresh};
+ghost use Rattle.dsp_console.specs.Headline.{RunHeadline};
 ghost use Rattle.dsp_console.specs.Lawful.{EndsLawfullyByRead, EndsLawfullyByWrite, ServesLawfully};
 
+use crate::laws::headline;
 use console_machine::lawful_consoles_serve_one_answer;
 use ialg::{Ialg, Named};
 use octet_ports::{PortIn, PortOut};
@@ -110,6 +113,12 @@ pub fn run<M: Ialg + Named, S: PortIn, I: PortIn, O: PortOut, P: PortOut>(
     requires pairs { length outputs.old.items ≡ length inputs.old.items }
     requires ready { AreReady (map I.source inputs.old.items) (map O.sink outputs.old.items) (P.sink replies.old) }
 
+    // Over any list of commands: the headline.
+    ensures headline { IsHonest (S.source script.old) → All IsHonest (map I.source inputs.old.items)
+        → IfOk result (λ summary. RunHeadline M.meaning M.named (lines_of (S.source script.old).coming) config.sizes config.poison
+        (known_of S.source I.source O.sink P.sink script.old inputs.old.items outputs.old.items replies.old)
+        (known_of S.source I.source O.sink P.sink script.new inputs.new.items outputs.new.items replies.new)) }
+
     // Before any device is used.
     ensures size { IsErrOf result Fault.Size ↔ (¬ AreSizes config.sizes) }
     ensures sizes { IsErrOf result Fault.Size ⊎ AreSizes config.sizes }
@@ -143,6 +152,7 @@ pub fn run<M: Ialg + Named, S: PortIn, I: PortIn, O: PortOut, P: PortOut>(
         (known_of S.source I.source O.sink P.sink script.new inputs.new.items outputs.new.items replies.new) }
 {
     lawful_consoles_serve_one_answer::<M>();
+    headline::<M>();
     let host = match Host::<M>::new(alloc, config.sizes, config.poison) {
         Ok(host) => host,
         Err(StartError::BadSize) => return Err(Fault::Size),

@@ -1,13 +1,12 @@
 -- Lists of requests, made one after the other.
 use Rattle.std.proofs.Common.{◌≡◌, ℕ, ℤ, false, zero, suc, ◌+◌, ◌<◌, ◌≤◌, List, [], ◌∷◌, ◌++◌, length, map, take, refl, sym, ap, ◌∙◌, subst, arith, set, get_or, append-nil, append_assoc}
 use Rattle.std.proofs.lemmas.List.{length-map}
-use Rattle.std.specs.List.{flat_map}
 use Rattle.ialg.specs.Meaning.{Meaning}
 use Rattle.lifecycle.specs.States.{Relation}
 use Rattle.sound_machine.specs.State.{State}
 use Rattle.sound_machine.specs.Calls.{Call, Leads}
 use Rattle.sound_machine.specs.Calls.Call.{Lives}
-use Rattle.alg_host.specs.Hosts.{HostState, Keeps}
+use Rattle.alg_host.specs.Hosts.{HostState}
 use Rattle.host_calls.specs.declared.request.Request.{Request}
 use Rattle.host_calls.specs.Requests.{made, not_given, all_made, asked, AreServed}
 

@@ -1,5 +1,5 @@
 -- Lists of calls of a host, with what was answered to them.
-use Rattle.std.specs.Prelude.{◌≡◌, ℕ, ℤ, false, List, [], ◌∷◌, map, Option, Some, None, Err}
+use Rattle.std.specs.Prelude.{◌≡◌, ℕ, ℤ, false, List, [], ◌∷◌, Some, None, Err}
 use Rattle.std.specs.List.{flat_map}
 use Rattle.ialg.specs.Views.{control_of}
 use Rattle.ialg.specs.declared.refusal.Refusal.TheVariants.{Range}
@@ -54,3 +54,23 @@ abbrev pub EachGrows : {M : Type 0} → Meaning M → Relation M → Relation M 
 EachGrows {M} meaning idle_keeps active_keeps calls old = (before : State M) → Keeps meaning idle_keeps active_keeps old before
     → (i : ℕ) (x : Living M) → before.living i ≡ Some x → IsLawful meaning before.poison x → AllSpare i calls
     → Grows meaning x (history_of_run i x.history calls) (outputs_in i calls) (statuses_in i calls)
+
+-- number i is the instance x, lawful, and these calls don't delete it
+pub record LivesThrough {M : Type 0} (meaning : Meaning M) (calls : List (Call M)) (before : State M) (i : ℕ) (x : Living M) : Type 0 where
+  pub lives : before.living i ≡ Some x
+  pub lawful : IsLawful meaning before.poison x
+  pub spared : AllSpare i calls
+
+-- two instances of one kind and the same parameters, which were given the same before these calls, and in them
+pub record AreGivenTheSame {M : Type 0} (i j : ℕ) (x y : Living M) (calls others : List (Call M)) : Type 0 where
+  pub kind : x.kind ≡ y.kind
+  pub params : x.params ≡ y.params
+  pub before : x.history ≡ y.history
+  pub after : history_of_run i x.history calls ≡ history_of_run j y.history others
+
+-- of two hosts: instances that were given the same, one in each, gave and answered the same
+abbrev pub LivesAgree : {M : Type 0} → Meaning M → Relation M → Relation M → List (Call M) → List (Call M) → HostState M → HostState M → Type 0
+LivesAgree {M} meaning idle_keeps active_keeps calls others one other = (one_before other_before : State M)
+    → Keeps meaning idle_keeps active_keeps one one_before → Keeps meaning idle_keeps active_keeps other other_before
+    → (i j : ℕ) (x y : Living M) → LivesThrough meaning calls one_before i x → LivesThrough meaning others other_before j y
+    → AreGivenTheSame i j x y calls others → (outputs_in i calls ≡ outputs_in j others) × (statuses_in i calls ≡ statuses_in j others)

@@ -1,11 +1,11 @@
 //! The calls of a list, one after the other.
 ghost use Rattle.std.specs.Prelude.{◌≡◌, map, length};
-ghost use Rattle.host_calls.specs.Requests.{made, all_made, asked, AreServed, EachGrows};
+ghost use Rattle.host_calls.specs.Requests.{made, all_made, asked, AreServed, EachGrows, LivesAgree};
 
 use crate::Request;
 use alg_host::Host;
 use ialg::{Block, Ialg};
-use sound_machine::lives_go_by_their_histories;
+use sound_machine::{lives_agree, lives_go_by_their_histories};
 
 // Gives an instance a block, if there is an instance of the number, and a sample.
 fn give<M: Ialg>(host: &mut Host<M>, i: u8, input: &Block) -> Option<Block>
@@ -60,4 +60,25 @@ pub fn make_all<M: Ialg>(host: &mut Host<M>, requests: &mut [Request<M>])
     for k in 0..requests.len() {
         make(host, &mut requests[k]);
     }
+}
+
+/// Makes the calls of two lists, each of its own host. A lawful instance of the one and a lawful one of the other, of one kind and the
+/// same parameters, that were given the same, give and answer the same: whatever the sizes of the hosts and their poison words are,
+/// whatever their numbers, groups and neighbours, what moves, and how their samples are cut into blocks.
+pub fn make_both<M: Ialg>(
+    one: &mut Host<M>,
+    requests: &mut [Request<M>],
+    other: &mut Host<M>,
+    others: &mut [Request<M>],
+)
+    ensures same { (map asked requests.new ≡ map asked requests.old) × (map asked others.new ≡ map asked others.old) }
+    ensures served { AreServed M.meaning M.idle_keeps M.active_keeps (all_made requests.new) one.old one.new }
+    ensures other_served { AreServed M.meaning M.idle_keeps M.active_keeps (all_made others.new) other.old other.new }
+    ensures grows { EachGrows M.meaning M.idle_keeps M.active_keeps (all_made requests.new) one.old }
+    ensures other_grows { EachGrows M.meaning M.idle_keeps M.active_keeps (all_made others.new) other.old }
+    ensures agree { LivesAgree M.meaning M.idle_keeps M.active_keeps (all_made requests.new) (all_made others.new) one.old other.old }
+{
+    lives_agree::<M>();
+    make_all(one, requests);
+    make_all(other, others);
 }

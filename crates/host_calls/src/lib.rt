@@ -7,5 +7,5 @@
 mod calls;
 mod request;
 
-pub use calls::{make, make_all};
+pub use calls::{make, make_all, make_both};
 pub use request::Request;

@@ -2,6 +2,8 @@
 #![tactic(auto)]
 
 #[cfg(test)]
+mod agree_tests;
+#[cfg(test)]
 mod start_tests;
 #[cfg(test)]
 mod tests;

@@ -1,4 +1,5 @@
 use Rattle.std.proofs.Common.{◌∙◌, map}
+use Rattle.dsp_console.proofs.HeadlineLemmas.{says_headline}
 use Rattle.dsp_console.proofs.LawfulLemmas.{lawfully_by_read, lawfully_by_write, serve_lawfully}
 use Rattle.dsp_console.proofs.StartLemmas.{as_many, by_read, by_write, kept, well}
 use Rattle.dsp_console.proofs.serving.run.Goals as goal
@@ -35,3 +36,9 @@ pub returns-clause-lawful_write : goal.returns-clause-lawful_write
 returns-clause-lawful_write g c = λ lawful fault.
     lawfully_by_write g.M.Ialg.meaning g.M.Named.named c.args.config.sizes c.args.config.poison _ _ (c.lawful_consoles_serve_one_answer.ensures.computed g.M.Ialg.meaning g.M.Named.named c.args.config.poison lawful)
     (by_write g.M.Ialg.meaning g.M.Ialg.idle_keeps g.M.Ialg.active_keeps c.new-console.result c.in-Ok.host c.args.config.sizes c.args.config.poison (map g.I.PortIn.source c.args.inputs.now.items) c.new-console.ensures.host c.in-Ok.ensures.host _ _ _ _ c.serve_console-served.ensures.write fault)
+
+pub returns-clause-headline : goal.returns-clause-headline
+returns-clause-headline g c = λ script inputs.
+    says_headline g.M.Ialg.meaning g.M.Named.named c.args.config.sizes c.args.config.poison _ _ _
+    (λ refused old new. c.headline.ensures.ok c.args.config.sizes c.args.config.poison refused old new) script inputs
+    (well g.M.Ialg.meaning g.M.Ialg.idle_keeps g.M.Ialg.active_keeps c.new-console.result c.in-Ok.host c.args.config.sizes c.args.config.poison (map g.I.PortIn.source c.args.inputs.now.items) c.new-console.ensures.host c.in-Ok.ensures.host _ _ _ _ c.serve_console-served.ensures.ok)

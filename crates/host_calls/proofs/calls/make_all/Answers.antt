@@ -1,4 +1,4 @@
-use Rattle.std.proofs.Common.{◌≡◌, ◌<◌, ◌≤◌, length, refl, sym, ap, ◌∙◌, subst, arith}
+use Rattle.std.proofs.Common.{◌<◌, ◌≤◌, length, refl, sym, ◌∙◌, subst, arith}
 use Rattle.host_calls.specs.Requests.{all_made, AreServed}
 use Rattle.host_calls.proofs.Lists.{as_many, asked_still, made_next, served_more, served_none, take_all}
 use Rattle.host_calls.proofs.calls.make_all.Goals as goal

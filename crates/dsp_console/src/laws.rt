@@ -1,0 +1,37 @@
+//! The headline of a run.
+ghost use Rattle.std.specs.Prelude.{◌≡◌, ℕ, ℤ, [], All, IsTrue, List, Option};
+ghost use Rattle.host_spaces.specs.declared.spaces.Sizes.{Sizes};
+ghost use Rattle.sound_machine.specs.Calls.{Call};
+ghost use Rattle.sound_machine.specs.Runs.{history_of_run, outputs_in, statuses_in};
+ghost use Rattle.voice_script.specs.Script.{lines_of};
+ghost use Rattle.console_machine.specs.Console.{console_machine, start};
+ghost use Rattle.script_server.specs.Runs.{Devices, EndsByRead, EndsWell, IsHonest, octets_to_come};
+ghost use Rattle.machine_runs.specs.Births.{Born};
+ghost use Rattle.dsp_console.specs.Headline.{RunHeadline};
+
+use ialg::{Ialg, Named};
+
+/// The headline of `run`. Over any list of commands, each living instance's output is its difference equation applied to its own granted
+/// controls and samples since its creation, whatever its scratch memory held, wherever its records were moved and whatever other
+/// instances did, even ones that break IALG's laws; only creation is refused for space, exactly where no place is free, and a refused
+/// command changes nothing. What an honest output holds in addition are the octets of what its channel's feeds gave.
+///
+/// So it is where a run ends well, and, of the lines that were served, where a script or an input fails. The call does nothing: its
+/// contract is the law.
+pub fn headline<M: Ialg + Named>()
+    ensures ok { (sizes : Sizes) (poison : Option ℤ) (refused : ℕ) (old new : Devices) → IsHonest old.script → All IsHonest old.inputs
+        → EndsWell (console_machine M.meaning M.named) (start sizes poison (octets_to_come old.inputs)) refused old new
+        → RunHeadline M.meaning M.named (lines_of old.script.coming) sizes poison old new }
+    ensures read { (sizes : Sizes) (poison : Option ℤ) (old new : Devices) (inputs : All IsHonest old.inputs)
+        (ends : EndsByRead (console_machine M.meaning M.named) (start sizes poison (octets_to_come old.inputs)) old new)
+        → RunHeadline M.meaning M.named (ends.served inputs).lines sizes poison old new }
+    ensures two { (sizes other_sizes : Sizes) (poison other_poison : Option ℤ) (lines other_lines : List (List ℕ)) (old new other_old other_new : Devices)
+        (one : RunHeadline M.meaning M.named lines sizes poison old new) (two : RunHeadline M.meaning M.named other_lines other_sizes other_poison other_old other_new)
+        (i j g h : ℕ) (kind : M) (p : List ℤ) (later since : List (Call M))
+        → IsTrue (M.meaning.lawful kind p poison) → Born i kind g p one.says.asked later
+        → IsTrue (M.meaning.lawful kind p other_poison) → Born j kind h p two.says.asked since
+        → history_of_run i [] later ≡ history_of_run j [] since
+        → (outputs_in i later ≡ outputs_in j since) × (statuses_in i later ≡ statuses_in j since) }
+{
+    machine_runs::headline::<M>();
+}

@@ -1,0 +1,4 @@
+pub mod HostRunLemmas
+pub mod BirthLemmas
+pub mod LineLemmas
+pub mod RoomLemmas

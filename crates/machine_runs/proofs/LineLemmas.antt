@@ -1,0 +1,457 @@
+-- Lines of a console are calls of its channels.
+use Rattle.std.proofs.Common.{◌≡◌, ◌≤◌, ◌<◌, ◌⊎◌, ◌+◌, ◌*◌, ℕ, ℤ, zero, suc, Bool, true, false, List, [], ◌∷◌, ◌++◌, map, filter, length, take, drop, Option, Some, None, Result, Ok, Err, inl, inr, refl, ap, sym, ◌∙◌, subst, append-nil, append_assoc, arith, get_or, set}
+use Rattle.std.specs.Prelude.{◌==◌, if◌then◌else◌}
+use Rattle.std.specs.Int.{w16, cast_signed, cast_unsigned}
+use Rattle.std.proofs.lemmas.List.{map-append, get_or-set_other, length-take-le}
+use Rattle.std.proofs.lemmas.List.Elements.{filter-append}
+use Rattle.std.proofs.lemmas.Grind.{flat_map-append}
+use Rattle.std.proofs.lemmas.Bool.Decides.{eqb_tells}
+use Rattle.std.proofs.Math.Seq.{drop-nil}
+use Rattle.space_heap.proofs.RangeTests.{either, true_or_false}
+use Rattle.ialg.specs.Meaning.{Meaning, Status}
+use Rattle.ialg.specs.declared.refusal.Refusal.{Refusal}
+use Rattle.instance_table.specs.Table.{Activity}
+use Rattle.channel_machine.specs.Channels.{Channels}
+use Rattle.channel_machine.specs.Steps.{unless, channel_refusal}
+use Rattle.channel_machine.specs.Calls as calls
+use Rattle.channel_machine.specs.Calls.{Call, Does, refusal_of}
+use Rattle.voice_script.specs.Script as script
+use Rattle.voice_script.specs.Script.{Command, parsed}
+use Rattle.voice_script.specs.Replies as replies_told
+use Rattle.voice_script.specs.Replies.{Reply, is_refusal, reply_text}
+use Rattle.voice_script.specs.declared.limits.TheConstants.{LINE_OCTETS}
+use Rattle.line_machine.specs.declared.limits.TheConstants.{SAMPLE_OCTETS}
+use Rattle.line_machine.specs.Served as served
+use Rattle.line_machine.specs.Served.{Answer, Asked, AskedAnswer, FeedAnswer, FedAnswer, LineAnswer, LinesAnswer, Octet, Output, Replied, Run, ServedAnswer, Written, at_state, after_reading, held_by, octets_left, order_of, refusals, replies, same_port, tells, then_answer}
+use Rattle.console_machine.specs.Samples.{octets_of, samples_of, two_octets}
+use Rattle.console_machine.specs.Console.{Calls, CommandAsks, LineAsks, activity_told, console_machine, done, feed_asked, flag_told, status_told}
+use Rattle.machine_runs.specs.HostRuns.{Leads}
+use Rattle.machine_runs.specs.Lines.{ALineMakes, AreCalls, CommandMakes, IsTaken, LineMakes, LinesMake, Makes, fed_in, fed_out, given_in, output_in}
+
+-- ---- octets
+
+held_by-append : (port : Option ℕ) (xs ys : List Octet) → held_by port (xs ++ ys) ≡ held_by port xs ++ held_by port ys
+unfolding held_by
+held_by-append port xs ys =
+    ap (map (λ o. o.1)) (filter-append (λ (o : Octet). same_port port o.0) xs ys)
+    ∙ map-append (λ (o : Octet). o.1) (filter (λ o. same_port port o.0) xs) (filter (λ o. same_port port o.0) ys)
+
+-- what a channel holds of what was written
+abbrev held : ℕ → List Written → List ℕ
+held c written = held_by (Some c) (order_of written)
+
+held_nothing : (c : ℕ) → held c [] ≡ []
+unfolding held_by order_of
+held_nothing c = refl
+
+held_more : (c : ℕ) (first later : List Written) → held c (first ++ later) ≡ held c first ++ held c later
+unfolding order_of
+held_more c first later = ap (held_by (Some c)) (flat_map-append served.octets_written first later) ∙ held_by-append (Some c) (order_of first) (order_of later)
+
+held_of_text : (c : ℕ) (text : List ℕ) → held_by (Some c) (map (λ b. (None, b)) text) ≡ []
+unfolding held_by
+held_of_text c [] = refl
+held_of_text c (x ∷ xs) = held_of_text c xs
+
+held_of_reply : (c : ℕ) (text : List ℕ) (refused : Bool) → held c (Replied text refused ∷ []) ≡ []
+unfolding order_of
+held_of_reply c text refused = ap (held_by (Some c)) (append-nil (map (λ b. (None, b)) text)) ∙ held_of_text c text
+
+held_of_octets : (c d : ℕ) (octets : List ℕ) → held_by (Some c) (map (λ b. (Some d, b)) octets) ≡ (if c == d then octets else [])
+unfolding held_by
+held_of_octets c d [] = either (true_or_false (c == d)) (λ e. rw e refl) (λ e. rw e refl)
+held_of_octets c d (x ∷ xs) =
+    either (true_or_false (c == d))
+    (λ e. rw e (ap (λ r. x ∷ r) (rw e at (held_of_octets c d xs))))
+    (λ e. rw e (rw e at (held_of_octets c d xs)))
+
+held_of_output : (c d : ℕ) (octets : List ℕ) → held c (Output d octets ∷ []) ≡ (if c == d then octets else [])
+unfolding order_of
+held_of_output c d octets = ap (held_by (Some c)) (append-nil (map (λ b. (Some d, b)) octets)) ∙ held_of_octets c d octets
+
+octets_more : (xs ys : List ℤ) → octets_of (xs ++ ys) ≡ octets_of xs ++ octets_of ys
+octets_more xs ys = flat_map-append (λ x. two_octets (cast_unsigned w16 x)) xs ys
+
+octets_where : (test : Bool) (out : List ℤ) → (if test then octets_of out else []) ≡ octets_of (if test then out else [])
+octets_where true out = refl
+octets_where false out = refl
+
+-- ---- samples
+
+-- so many octets are so many samples
+twice : ℕ → ℕ
+twice zero = 0
+twice (suc n) = suc (suc (twice n))
+
+twice_is : (n : ℕ) → twice n ≡ SAMPLE_OCTETS * n
+unfolding twice
+twice_is zero = refl
+twice_is (suc n) = omega (arith, twice_is n)
+
+samples_split : (n : ℕ) (octets : List ℕ) → samples_of octets ≡ samples_of (take (twice n) octets) ++ samples_of (drop (twice n) octets)
+unfolding twice
+samples_split zero octets = refl
+samples_split (suc n) [] = refl
+samples_split (suc n) (low ∷ []) = refl
+samples_split (suc n) (low ∷ high ∷ octets) = ap (λ xs. cast_signed w16 (low + 256 * high) ∷ xs) (samples_split n octets)
+
+samples_count : (n : ℕ) (octets : List ℕ) → length octets ≡ twice n → length (samples_of octets) ≡ n
+unfolding twice
+samples_count zero [] e = refl
+samples_count zero (x ∷ octets) e = absurd (omega (arith, e))
+samples_count (suc n) [] e = absurd (omega (arith, e))
+samples_count (suc n) (low ∷ []) e = absurd (omega (arith, e))
+samples_count (suc n) (low ∷ high ∷ octets) e = ap suc (samples_count n octets (omega (arith, e)))
+
+drop_all : (n : ℕ) (xs : List ℕ) → length xs ≤ n → drop n xs ≡ []
+drop_all n [] le = drop-nil n
+drop_all zero (x ∷ xs) le = absurd (omega arith)
+drop_all (suc n) (x ∷ xs) le = drop_all n xs (omega arith)
+
+-- what was set is there, or nothing was there
+set_there : (all : List (List ℕ)) (i n : ℕ) → get_or (set all i (drop n (get_or all i []))) i [] ≡ drop n (get_or all i [])
+set_there [] i n = sym (drop-nil n)
+set_there (xs ∷ all) zero n = refl
+set_there (xs ∷ all) (suc i) n = set_there all i n
+
+taken_then : (s t u first second : List ℤ) → IsTaken s first t → IsTaken t second u → IsTaken s (first ++ second) u
+taken_then s t u first second (inl e) (inl f) = inl (e ∙ ap (λ r. first ++ r) f ∙ sym (append_assoc first second u))
+taken_then s t u first second (inl e) (inr f) = inr (f.0, e ∙ ap (λ r. first ++ r) f.1 ∙ sym (append_assoc first second f.0), f.2)
+taken_then s t u first second (inr e) f =
+    let none = nothing_taken t second u e.2 f in
+    inr (e.0, e.1 ∙ ap (λ r. r ++ e.0) (sym (append-nil first) ∙ ap (λ r. first ++ r) (sym none.0)), none.1)
+  where
+    both_empty : (xs ys : List ℤ) → [] ≡ xs ++ ys → (xs ≡ []) × (ys ≡ [])
+    both_empty [] ys e = (refl, sym e)
+    both_empty (x ∷ xs) ys e = cc
+
+    nothing_taken : (t second u : List ℤ) → t ≡ [] → IsTaken t second u → (second ≡ []) × (u ≡ [])
+    nothing_taken t second u e (inl f) = both_empty second u (sym e ∙ f)
+    nothing_taken t second u e (inr f) = ((both_empty second f.0 (sym e ∙ f.1)).0, f.2)
+
+module _ {S : Type 0} where
+  -- the samples that are left on an input
+  abbrev pub left : Run S → ℕ → List ℤ
+  left run c = samples_of (octets_left run c)
+
+  reading : (run : Run S) (channel count c : ℕ) → octets_left (after_reading run channel count) c ≡ (if c == channel then drop count (octets_left run channel) else octets_left run c)
+  reading run channel count c =
+      either (eqb_tells c channel)
+      (λ same. ap (λ k. octets_left (after_reading run channel count) k) same.1 ∙ set_there run.inputs channel count ∙ sym (ap (λ b. if b then drop count (octets_left run channel) else octets_left run c) same.0))
+      (λ apart. get_or-set_other run.inputs channel c _ [] apart.1 ∙ sym (ap (λ b. if b then drop count (octets_left run channel) else octets_left run c) apart.0))
+
+  -- a short feed uses up what is left
+  short_takes : (run : Run S) (channel count c : ℕ) → length (octets_left run channel) < count → IsTaken (left run c) [] (left (after_reading run channel count) c)
+  short_takes run channel count c short =
+      either (eqb_tells c channel)
+      (λ same. inr (left run c, refl, ap samples_of (reading run channel count c ∙ ap (λ b. if b then drop count (octets_left run channel) else octets_left run c) same.0 ∙ drop_all count (octets_left run channel) (omega arith))))
+      (λ apart. inl (sym (ap samples_of (reading run channel count c ∙ ap (λ b. if b then drop count (octets_left run channel) else octets_left run c) apart.0))))
+
+  -- another one takes its samples
+  whole_takes : (run : Run S) (channel n c : ℕ)
+      → IsTaken (left run c) (if c == channel then samples_of (take (twice n) (octets_left run channel)) else []) (left (after_reading run channel (twice n)) c)
+  whole_takes run channel n c =
+      let block = samples_of (take (twice n) (octets_left run channel)) in
+      either (eqb_tells c channel)
+      (λ same. inl (
+      ap (λ k. left run k) same.1 ∙ samples_split n (octets_left run channel)
+      ∙ ap (λ b. (if b then block else []) ++ samples_of (drop (twice n) (octets_left run channel))) (sym same.0)
+      ∙ ap (λ octets. (if c == channel then block else []) ++ samples_of octets)
+      (sym (reading run channel (twice n) c ∙ ap (λ b. if b then drop (twice n) (octets_left run channel) else octets_left run c) same.0))))
+      (λ apart. inl (
+      ap (λ b. (if b then block else []) ++ left run c) (sym apart.0)
+      ∙ ap (λ octets. (if c == channel then block else []) ++ samples_of octets)
+      (sym (reading run channel (twice n) c ∙ ap (λ b. if b then drop (twice n) (octets_left run channel) else octets_left run c) apart.0))))
+
+-- ---- replies
+
+-- what is told of a refused call is a refusal
+abbrev Tells : {A M : Type 0} → (A → Call M) → (A → Reply) → Type 0
+Tells {A} call reply = (a : A) → is_refusal (reply a) ≡ true → (refusal : Refusal) × (refusal_of (call a) ≡ Some refusal)
+
+no_refusal : {X : Type 0} → false ≡ true → X
+no_refusal e = cc
+
+tells_done : {M : Type 0} (call : Result (Unit {0}) Refusal → Call M) → ((refusal : Refusal) → refusal_of (call (Err refusal)) ≡ Some refusal) → Tells call done
+tells_done call same (Ok answer) e = no_refusal e
+tells_done call same (Err refusal) e = (refusal, same refusal)
+
+tells_status : {M : Type 0} (call : Result Status Refusal → Call M) → ((refusal : Refusal) → refusal_of (call (Err refusal)) ≡ Some refusal) → Tells call status_told
+tells_status call same (Ok Status.Done) e = no_refusal e
+tells_status call same (Ok (Status.Words words)) e = no_refusal e
+tells_status call same (Err refusal) e = (refusal, same refusal)
+
+tells_flag : {M : Type 0} (call : Result Bool Refusal → Call M) → ((refusal : Refusal) → refusal_of (call (Err refusal)) ≡ Some refusal) → Tells call flag_told
+tells_flag call same (Ok flag) e = no_refusal e
+tells_flag call same (Err refusal) e = (refusal, same refusal)
+
+tells_activity : {M : Type 0} (call : Result Activity Refusal → Call M) → ((refusal : Refusal) → refusal_of (call (Err refusal)) ≡ Some refusal) → Tells call activity_told
+tells_activity call same (Ok activity) e = no_refusal e
+tells_activity call same (Err refusal) e = (refusal, same refusal)
+
+none_refused : {X : Type 0} → 1 ≤ 0 → X
+none_refused le = absurd (omega arith)
+
+refusals_of_reply : (text : List ℕ) (refused : Bool) → 1 ≤ refusals (Replied text refused ∷ []) → refused ≡ true
+unfolding refusals
+refusals_of_reply text true le = refl
+refusals_of_reply text false le = none_refused le
+
+refusals_of_feed : {X : Type 0} (channel : ℕ) (output text : List ℕ) → 1 ≤ refusals (Output channel output ∷ Replied text false ∷ []) → X
+unfolding refusals
+refusals_of_feed channel output text le = none_refused le
+
+refusals_of_none : {X : Type 0} → 1 ≤ refusals [] → X
+unfolding refusals
+refusals_of_none le = none_refused le
+
+module _ {M : Type 0} (kinds : Meaning M) where
+  -- ---- runs of calls
+
+  leads_on : (made more : List (Call M)) (before mid after : Channels M) → Leads kinds before made mid → Leads kinds mid more after → Leads kinds before (made ++ more) after
+  leads_on [] more before mid after first second = subst (λ s. Leads kinds s more after) first second
+  leads_on (call ∷ made) more before mid after first second = (first.0, first.1, leads_on made more first.0 mid after first.2 second)
+
+  -- the calls were made, and this was written
+  pub record Serves (before after : Run (Channels M)) (written : List Written) (made : List (Call M)) : Type 0 where
+    pub lead : Leads kinds before.state made after.state
+    pub inputs : (c : ℕ) → IsTaken (left before c) (fed_in c made) (left after c)
+    pub outputs : (c : ℕ) → held c written ≡ octets_of (fed_out c made)
+
+  and_then : (a b c : Run (Channels M)) (first later : List Written) (made more : List (Call M)) → Serves a b first made → Serves b c later more → Serves a c (first ++ later) (made ++ more)
+  and_then a b c first later made more one two = record {
+    lead = leads_on made more a.state b.state c.state one.lead two.lead;
+    inputs = λ k. subst (λ taken. IsTaken (left a k) taken (left c k)) (sym (flat_map-append (given_in k) made more))
+        (taken_then (left a k) (left b k) (left c k) (fed_in k made) (fed_in k more) (one.inputs k) (two.inputs k));
+    outputs = λ k. held_more k first later ∙ ap (λ r. r ++ held k later) (one.outputs k) ∙ ap (λ r. octets_of (fed_out k made) ++ r) (two.outputs k)
+        ∙ sym (ap octets_of (flat_map-append (output_in k) made more) ∙ octets_more (fed_out k made) (fed_out k more));
+  }
+
+  nothing : (run : Run (Channels M)) → Serves run run [] []
+  nothing run = record { lead = refl; inputs = λ c. inl refl; outputs = λ c. held_nothing c }
+
+  replied : (run : Run (Channels M)) (text : List ℕ) (refused : Bool) → Serves run run (Replied text refused ∷ []) []
+  replied run text refused = record { lead = refl; inputs = λ c. inl refl; outputs = λ c. held_of_reply c text refused }
+
+  -- a call that feeds nobody
+  abbrev IsQuiet : Call M → Type 0
+  IsQuiet call = (c : ℕ) → (given_in c call ≡ []) × (output_in c call ≡ [])
+
+  called : (run : Run (Channels M)) (state : Channels M) (call : Call M) → Does kinds run.state call state → IsQuiet call → Serves run (at_state run state) [] (call ∷ [])
+  called run state call does quiet = record {
+    lead = (state, does, refl);
+    inputs = λ c. inl (ap (λ taken. taken ++ left run c) (sym (append-nil (given_in c call) ∙ (quiet c).0)));
+    outputs = λ c. held_nothing c ∙ ap octets_of (sym (append-nil (output_in c call) ∙ (quiet c).1));
+  }
+
+  short : (run : Run (Channels M)) (channel count : ℕ) → length (octets_left run channel) < count → Serves run (after_reading run channel count) [] []
+  short run channel count less = record { lead = refl; inputs = λ c. short_takes run channel count c less; outputs = λ c. held_nothing c }
+
+  module _ (named : List ℕ → Option M) where
+    abbrev machine : served.Machine (Channels M)
+    machine = console_machine kinds named
+
+    -- a feed that isn't short
+    fed : (run : Run (Channels M)) (channel n : ℕ) (answer : Answer (Channels M))
+        → (f : FedAnswer machine (after_reading run channel (twice n)) channel (take (twice n) (octets_left run channel)) answer)
+        → Serves run answer.run answer.written (calls.Feed channel (samples_of (take (twice n) (octets_left run channel))) f.taken.out ∷ [])
+    fed run channel n answer f =
+        let block = samples_of (take (twice n) (octets_left run channel)) in
+        let call : Call M = calls.Feed channel block f.taken.out in
+        record {
+          lead = (f.state, f.taken.does, ap (λ a. a.run.state) f.answered);
+          inputs = λ c. subst (λ (taken : List ℤ). IsTaken (left run c) taken (left answer.run c)) (sym (append-nil (given_in c call)))
+              (subst (λ (a : Answer (Channels M)). IsTaken (left run c) (given_in c call) (left a.run c)) (sym f.answered) (whole_takes run channel n c));
+          outputs = λ c. ap (λ a. held c a.written) f.answered
+              ∙ held_more c (Output channel f.output ∷ []) (Replied f.told false ∷ [])
+              ∙ ap (λ r. held c (Output channel f.output ∷ []) ++ r) (held_of_reply c f.told false)
+              ∙ append-nil (held c (Output channel f.output ∷ []))
+              ∙ held_of_output c channel f.output
+              ∙ ap (λ output. if c == channel then output else []) f.taken.given
+              ∙ octets_where (c == channel) f.taken.out
+              ∙ ap octets_of (sym (append-nil (output_in c call)));
+        }
+
+    -- ---- one line
+
+    -- what was made for it, and what it leaves where it is refused
+    pub record Did (Made : List (Call M) → Type 0) (run : Run (Channels M)) (answer : Answer (Channels M)) : Type 0 where
+      pub made : List (Call M)
+      pub asked : Made made
+      pub serves : Serves run answer.run answer.written made
+      pub refused : 1 ≤ refusals answer.written → answer.run.state ≡ run.state
+
+    abbrev Leaves : Type 0
+    Leaves = (before after : Channels M) (call : Call M) (refusal : Refusal) → Does kinds before call after → refusal_of call ≡ Some refusal → after ≡ before
+
+    -- nothing is called, and a reply is told or none
+    silent : (Made : List (Call M) → Type 0) → Made [] → (run : Run (Channels M)) (state : Channels M) (asked : Asked) (answer : Answer (Channels M))
+        → state ≡ run.state → AskedAnswer machine (at_state run state) asked answer
+        → (asked ≡ served.Nothing) ⊎ ((reply : Reply) × (asked ≡ tells reply)) → Did Made run answer
+    silent Made none run state asked answer same answered (inl e) =
+        let is : answer ≡ record { run = at_state run state; written = [] } = subst (λ a. AskedAnswer machine (at_state run state) a answer) e answered in
+        let here : at_state run state ≡ run = ap (λ s. at_state run s) same in
+        record {
+          made = [];
+          asked = none;
+          serves = subst (λ (a : Answer (Channels M)). Serves run a.run a.written []) (sym (is ∙ ap (λ r. record { run = r; written = [] }) here)) (nothing run);
+          refused = λ le. ap (λ a. a.run.state) is ∙ same;
+        }
+    silent Made none run state asked answer same answered (inr told) =
+        let reply = told.0 in
+        let is : answer ≡ replies (at_state run state) (reply_text reply) (is_refusal reply) = subst (λ a. AskedAnswer machine (at_state run state) a answer) told.1 answered in
+        let here : at_state run state ≡ run = ap (λ s. at_state run s) same in
+        record {
+          made = [];
+          asked = none;
+          serves = subst (λ (a : Answer (Channels M)). Serves run a.run a.written []) (sym (is ∙ ap (λ r. replies r (reply_text reply) (is_refusal reply)) here)) (replied run (reply_text reply) (is_refusal reply));
+          refused = λ le. ap (λ a. a.run.state) is ∙ same;
+        }
+
+    module _ (leaves : Leaves) (run : Run (Channels M)) (state : Channels M) (asked : Asked) (answer : Answer (Channels M)) where
+      -- one call, and its answer is told
+      told_by : {A : Type 0} (call : A → Call M) (reply : A → Reply) → ((a : A) → IsQuiet (call a)) → Tells call reply
+          → (a : A) → Does kinds run.state (call a) state → asked ≡ tells (reply a) → AskedAnswer machine (at_state run state) asked answer → Did (Makes call) run answer
+      told_by call reply quiet tells_so a does e answered =
+          let is : answer ≡ replies (at_state run state) (reply_text (reply a)) (is_refusal (reply a)) = subst (λ b. AskedAnswer machine (at_state run state) b answer) e answered in
+          record {
+            made = call a ∷ [];
+            asked = (a, refl);
+            serves = subst (λ (b : Answer (Channels M)). Serves run b.run b.written (call a ∷ [])) (sym is)
+                (and_then run (at_state run state) (at_state run state) [] (Replied (reply_text (reply a)) (is_refusal (reply a)) ∷ []) (call a ∷ []) []
+                (called run state (call a) does (quiet a)) (replied (at_state run state) (reply_text (reply a)) (is_refusal (reply a))));
+            refused = λ le.
+                let no = tells_so a (refusals_of_reply (reply_text (reply a)) (is_refusal (reply a)) (subst (λ (b : Answer (Channels M)). 1 ≤ refusals b.written) is le)) in
+                ap (λ b. b.run.state) is ∙ leaves run.state state (call a) no.0 does no.1;
+          }
+
+      by_call : {A : Type 0} (call : A → Call M) (reply : A → Reply) → ((a : A) → IsQuiet (call a)) → Tells call reply
+          → Calls kinds call (λ a. tells (reply a)) run.state asked state → AskedAnswer machine (at_state run state) asked answer → Did (Makes call) run answer
+      by_call call reply quiet tells_so c answered = told_by call reply quiet tells_so c.answer c.does c.asks answered
+
+      by_done : (call : Result (Unit {0}) Refusal → Call M) → ((a : Result (Unit {0}) Refusal) → IsQuiet (call a)) → ((refusal : Refusal) → refusal_of (call (Err refusal)) ≡ Some refusal)
+          → Calls kinds call (λ a. tells (done a)) run.state asked state → AskedAnswer machine (at_state run state) asked answer → Did (Makes call) run answer
+      by_done call quiet same does a = by_call call done quiet (tells_done call same) does a
+
+      by_status : (call : Result Status Refusal → Call M) → ((a : Result Status Refusal) → IsQuiet (call a)) → ((refusal : Refusal) → refusal_of (call (Err refusal)) ≡ Some refusal)
+          → Calls kinds call (λ a. tells (status_told a)) run.state asked state → AskedAnswer machine (at_state run state) asked answer → Did (Makes call) run answer
+      by_status call quiet same does a = by_call call status_told quiet (tells_status call same) does a
+
+      by_flag : (call : Result Bool Refusal → Call M) → ((a : Result Bool Refusal) → IsQuiet (call a)) → ((refusal : Refusal) → refusal_of (call (Err refusal)) ≡ Some refusal)
+          → Calls kinds call (λ a. tells (flag_told a)) run.state asked state → AskedAnswer machine (at_state run state) asked answer → Did (Makes call) run answer
+      by_flag call quiet same does a = by_call call flag_told quiet (tells_flag call same) does a
+
+      by_activity : (call : Result Activity Refusal → Call M) → ((a : Result Activity Refusal) → IsQuiet (call a)) → ((refusal : Refusal) → refusal_of (call (Err refusal)) ≡ Some refusal)
+          → Calls kinds call (λ a. tells (activity_told a)) run.state asked state → AskedAnswer machine (at_state run state) asked answer → Did (Makes call) run answer
+      by_activity call quiet same does a = by_call call activity_told quiet (tells_activity call same) does a
+
+      ready_told : (c : ℕ) (a : Result (Unit {0}) Refusal) → Does kinds run.state (calls.Ready c a) state → asked ≡ tells (done a)
+          → AskedAnswer machine (at_state run state) asked answer → Did (Makes (λ b. calls.Ready c b)) run answer
+      ready_told c a does e answered = told_by (λ b. calls.Ready c b) done (λ b k. (refl, refl)) (tells_done {M = M} (λ b. calls.Ready c b) (λ r. refl)) a does e answered
+
+      -- a feed
+      by_feed : (c n : ℕ) → Calls kinds (λ a. calls.Ready c a) (feed_asked c n) run.state asked state → AskedAnswer machine (at_state run state) asked answer
+          → Did (CommandMakes (script.Feed c n)) run answer
+      by_feed c n does answered = by_answer does.answer does.does does.asks
+        where
+          or_more : Did (Makes (λ a. calls.Ready c a)) run answer → Did (CommandMakes (script.Feed c n)) run answer
+          or_more did = record { made = did.made; asked = inl did.asked; serves = did.serves; refused = did.refused }
+
+          by_answer : (a : Result (Unit {0}) Refusal) → Does kinds run.state (calls.Ready c a) state → asked ≡ feed_asked c n a → Did (CommandMakes (script.Feed c n)) run answer
+          by_answer (Err refusal) does e = or_more (ready_told c (Err refusal) does e answered)
+          by_answer (Ok answer_done) does e =
+              let ready = at_state run state in
+              let call : Call M = calls.Ready c (Ok answer_done) in
+              let first = called run state call does (λ k. (refl, refl)) in
+              let stays : state ≡ run.state = ready_stays (channel_refusal run.state c) does in
+              let feed : FeedAnswer machine ready c (twice n) answer =
+              subst (λ count. FeedAnswer machine ready c count answer) (sym (twice_is n)) (subst (λ b. AskedAnswer machine ready b answer) e answered) in
+              either (less_or_not (length (octets_left ready c)) (twice n))
+              (λ less.
+              let is = feed.short less in
+              record {
+                made = call ∷ [];
+                asked = inl (Ok answer_done, refl);
+                serves = subst (λ (b : Answer (Channels M)). Serves run b.run b.written (call ∷ [])) (sym is)
+                    (and_then run ready (after_reading ready c (twice n)) [] (Replied served.short_text true ∷ []) (call ∷ []) [] first
+                    (and_then ready (after_reading ready c (twice n)) (after_reading ready c (twice n)) [] (Replied served.short_text true ∷ []) [] []
+                    (short ready c (twice n) less) (replied (after_reading ready c (twice n)) served.short_text true)));
+                refused = λ le. ap (λ b. b.run.state) is ∙ stays;
+              })
+              (λ enough.
+              let f = feed.whole enough in
+              let block = samples_of (take (twice n) (octets_left ready c)) in
+              record {
+                made = call ∷ calls.Feed c block f.taken.out ∷ [];
+                asked = inr (block, f.taken.out, samples_count n (take (twice n) (octets_left ready c)) (length-take-le (twice n) (octets_left ready c) enough), refl);
+                serves = and_then run ready answer.run [] answer.written (call ∷ []) (calls.Feed c block f.taken.out ∷ []) first (fed ready c n answer f);
+                refused = λ le. refusals_of_feed c f.output f.told (subst (λ (b : Answer (Channels M)). 1 ≤ refusals b.written) f.answered le);
+              })
+            where
+              less_or_not : (m k : ℕ) → (m < k) ⊎ (k ≤ m)
+              less_or_not m k = grind arith
+
+              ready_stays : {a : Unit {0}} (r : Option Refusal) → (Ok a, state) ≡ unless r run.state (Ok (tt {0}), run.state) → state ≡ run.state
+              ready_stays None e = ap (λ o. o.1) e
+              ready_stays (Some refusal) e = ap (λ o. o.1) e
+
+      by_command : (command : Command M) → CommandAsks kinds command run.state asked state → AskedAnswer machine (at_state run state) asked answer
+          → Did (CommandMakes command) run answer
+      by_command (script.Create i kind g words) does a = by_done _ (λ b c. (refl, refl)) (λ r. refl) does a
+      by_command (script.Set i words) does a = by_status _ (λ b c. (refl, refl)) (λ r. refl) does a
+      by_command (script.Reset i) does a = by_status _ (λ b c. (refl, refl)) (λ r. refl) does a
+      by_command (script.Get i) does a = by_status _ (λ b c. (refl, refl)) (λ r. refl) does a
+      by_command (script.Delete i) does a = by_done _ (λ b c. (refl, refl)) (λ r. refl) does a
+      by_command (script.Chain c is) does a = by_done _ (λ b d. (refl, refl)) (λ r. refl) does a
+      by_command (script.Unchain c) does a = by_done _ (λ b d. (refl, refl)) (λ r. refl) does a
+      by_command (script.Feed c n) does a = by_feed c n does a
+      by_command (script.Compact space) does a = by_call _ replies_told.Count (λ b c. (refl, refl)) (λ b e. no_refusal e) does a
+      by_command (script.Step space) does a = by_call _ replies_told.Flag (λ b c. (refl, refl)) (λ b e. no_refusal e) does a
+      by_command (script.Release g) does a = by_flag _ (λ b c. (refl, refl)) (λ r. refl) does a
+      by_command (script.Map space) does a = by_call _ replies_told.Map (λ b c. (refl, refl)) (λ b e. no_refusal e) does a
+      by_command (script.Stat g) does a = by_activity _ (λ b c. (refl, refl)) (λ r. refl) does a
+
+      by_line : (line : Result (Option (Command M)) Refusal) → LineAsks kinds line run.state asked state → AskedAnswer machine (at_state run state) asked answer
+          → Did (LineMakes line) run answer
+      by_line (Ok (Some command)) does a = by_command command does a
+      by_line (Ok None) does a = silent (LineMakes (Ok None)) refl run state asked answer does.1 a (inl does.0)
+      by_line (Err refusal) does a = silent (LineMakes (Err refusal)) refl run state asked answer does.1 a (inr (replies_told.No refusal, does.0))
+
+    pub one_did : Leaves → (run : Run (Channels M)) (line : List ℕ) (answer : Answer (Channels M)) → LineAnswer machine run line answer → Did (ALineMakes named line) run answer
+    one_did leaves run line answer a =
+        either (long_or_not LINE_OCTETS (length line))
+        (λ long.
+        let is = a.long long in
+        record {
+          made = [];
+          asked = record { long = λ more. refl; fits = λ le. absurd (omega arith) };
+          serves = subst (λ (b : Answer (Channels M)). Serves run b.run b.written []) (sym is) (replied run served.long_text true);
+          refused = λ le. ap (λ b. b.run.state) is;
+        })
+        (λ fits.
+        let s = a.fits fits in
+        let did = by_line leaves run s.state s.asked answer (parsed named line) s.asks s.answered in
+        record { made = did.made; asked = record { long = λ more. absurd (omega arith); fits = λ le. did.asked }; serves = did.serves; refused = did.refused })
+      where
+        long_or_not : (n m : ℕ) → (n < m) ⊎ (m ≤ n)
+        long_or_not n m = grind arith
+
+    -- ---- all lines
+
+    pub all_did : Leaves → (lines : List (List ℕ)) (run : Run (Channels M)) (answer : Answer (Channels M)) → LinesAnswer machine run lines answer
+        → (made : List (Call M)) × LinesMake named lines made × Serves run answer.run answer.written made
+    all_did leaves [] run answer e = ([], refl, subst (λ (b : Answer (Channels M)). Serves run b.run b.written []) (sym e) (nothing run))
+    all_did leaves (line ∷ lines) run answer a =
+        let first = one_did leaves run line a.0 a.1 in
+        let rest = all_did leaves lines a.0.run a.2 a.3 in (
+          first.made ++ rest.0,
+          (first.made, rest.0, first.asked, rest.1, refl),
+          subst (λ (b : Answer (Channels M)). Serves run b.run b.written (first.made ++ rest.0)) (sym a.4)
+              (and_then run a.0.run a.2.run a.0.written a.2.written first.made rest.0 first.serves rest.2),
+        )
+
+    pub are_calls : Leaves → (lines : List (List ℕ)) (run : Run (Channels M)) (answer : Answer (Channels M)) → LinesAnswer machine run lines answer
+        → (made : List (Call M)) × AreCalls kinds named run lines answer made
+    are_calls leaves lines run answer a =
+        let did = all_did leaves lines run answer a in
+        (did.0, record { lead = did.2.lead; commands = did.1; inputs = did.2.inputs; outputs = did.2.outputs })

@@ -1,0 +1,50 @@
+-- The headline, of a run of a console over a list of lines.
+use Rattle.std.specs.Prelude.{ℕ, ℤ, ◌≡◌, ◌≤◌, ◌↔◌, IsTrue, List, Option, Some, Result, Err}
+use Rattle.mem_rec.specs.declared.Space.{Space}
+use Rattle.ialg.specs.declared.refusal.Refusal.{Refusal}
+use Rattle.ialg.specs.declared.refusal.Refusal.TheVariants.{Room}
+use Rattle.ialg.specs.Meaning.{Meaning}
+use Rattle.host_spaces.specs.declared.spaces.Sizes.{Sizes}
+use Rattle.sound_machine.specs.State.{State}
+use Rattle.sound_machine.specs.Calls as host_calls
+use Rattle.sound_machine.specs.Calls.Call.{Create}
+use Rattle.channel_machine.specs.Channels.{Channels}
+use Rattle.channel_machine.specs.Calls.{Call, Does, refusal_of}
+use Rattle.line_machine.specs.Served.{Answer, LineAnswer, Run, held_by, octets_left, order_of, refusals}
+use Rattle.console_machine.specs.Samples.{octets_of, samples_of}
+use Rattle.console_machine.specs.Console.{console_machine, start}
+use Rattle.machine_runs.specs.HostRuns.{RunsOnHost}
+use Rattle.machine_runs.specs.Births.{Born, GoesByItsHistory}
+use Rattle.machine_runs.specs.Lines.{IsTaken, LinesMake, fed_in, fed_out}
+use Rattle.machine_runs.specs.Room.{IsCreation, LacksRoom}
+
+-- why commands are refused, and what a refused one does
+pub record Refuses {M : Type 0} (kinds : Meaning M) (named : List ℕ → Option M) : Type 0 where
+  -- only creation is refused for space,
+  pub only : (before after : Channels M) (call : Call M) (space : Space) → Does kinds before call after → refusal_of call ≡ Some (Room space) → IsCreation call
+  -- exactly where no place is free,
+  pub exactly : (before after : State M) (i g : ℕ) (kind : M) (p : List ℤ) (answer : Result (Unit {0}) Refusal) (space : Space)
+      → host_calls.Does kinds before (Create i kind g p answer) after → IsTrue (kinds.lawful kind p before.poison)
+      → (answer ≡ Err (Room space)) ↔ LacksRoom kinds before i kind g p space
+  -- and a refused command changes nothing: no call that is refused,
+  pub nothing : (before after : Channels M) (call : Call M) (refusal : Refusal) → Does kinds before call after → refusal_of call ≡ Some refusal → after ≡ before
+  -- and no line
+  pub no_line : (run : Run (Channels M)) (line : List ℕ) (answer : Answer (Channels M)) → LineAnswer (console_machine kinds named) run line answer
+      → 1 ≤ refusals answer.written → answer.run.state ≡ run.state
+
+-- by the answer to the lines of a script, from a host of these sizes and this poison word
+pub record Headline {M : Type 0} (kinds : Meaning M) (named : List ℕ → Option M) (sizes : Sizes) (poison : Option ℤ) (lines octets : List (List ℕ)) (answer : Answer (Channels M)) : Type 0 where
+  -- over any list of commands: the calls of channels that they make, and what those ask of the host
+  pub calls : List (Call M)
+  pub commands : LinesMake named lines calls
+  pub asked : List (host_calls.Call M)
+  pub runs : RunsOnHost kinds (start sizes poison octets).state calls asked answer.run.state
+  -- each living instance's output is its difference equation applied to its own granted controls and samples since its creation, whatever
+  -- its scratch memory held, wherever its records were moved and whatever other instances did, even ones that break IALG's laws;
+  pub each : (i : ℕ) (kind : M) (g : ℕ) (p : List ℤ) (later : List (host_calls.Call M)) → IsTrue (kinds.lawful kind p poison) → Born i kind g p asked later
+      → GoesByItsHistory kinds i kind g p later answer.run.state.host
+  -- what a channel's feeds are given is taken from its input, and what they give is written on it;
+  pub inputs : (c : ℕ) → IsTaken (samples_of (octets_left (start {M = M} sizes poison octets) c)) (fed_in c calls) (samples_of (octets_left answer.run c))
+  pub outputs : (c : ℕ) → held_by (Some c) (order_of answer.written) ≡ octets_of (fed_out c calls)
+  -- only creation is refused for space, exactly where no place is free, and a refused command changes nothing
+  pub refuses : Refuses kinds named

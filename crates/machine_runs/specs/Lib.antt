@@ -1,0 +1,5 @@
+pub mod HostRuns
+pub mod Births
+pub mod Lines
+pub mod Room
+pub mod Headline

@@ -1,0 +1,43 @@
+//! The headline.
+ghost use Rattle.std.specs.Prelude.{◌≡◌, ℕ, ℤ, [], IsTrue, List, Option};
+ghost use Rattle.ialg.specs.Meaning.{Meaning};
+ghost use Rattle.host_spaces.specs.declared.spaces.Sizes.{Sizes};
+ghost use Rattle.sound_machine.specs.Calls.{Call};
+ghost use Rattle.sound_machine.specs.Runs.{history_of_run, outputs_in, statuses_in};
+ghost use Rattle.channel_machine.specs.Channels.{Channels};
+ghost use Rattle.line_machine.specs.Served.{Answer, LinesAnswer};
+ghost use Rattle.console_machine.specs.Console.{console_machine, start};
+ghost use Rattle.machine_runs.specs.Births.{Born};
+ghost use Rattle.machine_runs.specs.Headline.{Headline};
+
+use crate::laws::{
+    births_go_by_their_histories, calls_run_on_the_host, creations_alone_lack_room,
+    lines_are_calls, refused_lines_change_nothing,
+};
+
+/// The headline. Over any list of commands, each living instance's output is its difference equation applied to its own granted
+/// controls and samples since its creation, whatever its scratch memory held, wherever its records were moved and whatever other
+/// instances did, even ones that break IALG's laws; only creation is refused for space, exactly where no place is free, and a refused
+/// command changes nothing.
+///
+/// And of two runs: instances of one kind and the same parameters that were given the same since their creation give and answer the
+/// same, whatever else differs. The call does nothing: its contract is the law.
+pub fn headline<M>()
+    ensures run { (kinds : Meaning M) (named : List ℕ → Option M) (sizes : Sizes) (poison : Option ℤ) (lines inputs : List (List ℕ)) (answer : Answer (Channels M))
+        → LinesAnswer (console_machine kinds named) (start sizes poison inputs) lines answer → Headline kinds named sizes poison lines inputs answer }
+    ensures two { (kinds : Meaning M) (named : List ℕ → Option M) (sizes other_sizes : Sizes) (poison other_poison : Option ℤ)
+        (lines inputs other_lines other_inputs : List (List ℕ)) (answer other : Answer (Channels M))
+        (one : Headline kinds named sizes poison lines inputs answer) (two : Headline kinds named other_sizes other_poison other_lines other_inputs other)
+        (i j g h : ℕ) (kind : M) (p : List ℤ) (later since : List (Call M))
+        → IsTrue (kinds.lawful kind p poison) → Born i kind g p one.asked later
+        → IsTrue (kinds.lawful kind p other_poison) → Born j kind h p two.asked since
+        → history_of_run i [] later ≡ history_of_run j [] since
+        → (outputs_in i later ≡ outputs_in j since) × (statuses_in i later ≡ statuses_in j since) }
+{
+    calls_run_on_the_host::<M>();
+    births_go_by_their_histories::<M>();
+    lines_are_calls::<M>();
+    creations_alone_lack_room::<M>();
+    refused_lines_change_nothing::<M>();
+    channel_machine::refused_calls_change_nothing::<M>();
+}
