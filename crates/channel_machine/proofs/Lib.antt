@@ -8,3 +8,4 @@ pub mod FlowLemmas
 pub mod TurnLemmas
 pub mod FeedLemmas
 pub mod AlikeLemmas
+pub mod AgreementLemmas

@@ -4,3 +4,4 @@ pub mod Calls
 pub mod Answers
 pub mod Laws
 pub mod Cuts
+pub mod Agreement

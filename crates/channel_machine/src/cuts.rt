@@ -8,6 +8,7 @@ ghost use Rattle.sound_machine.specs.Calls.Call.{Control};
 ghost use Rattle.channel_machine.specs.Channels.{Channels, members_at, has_repeat};
 ghost use Rattle.channel_machine.specs.Calls.{PassesOn, Feeds};
 ghost use Rattle.channel_machine.specs.Cuts.{joined, AreAlike, MembersAreLawful, GroupsAreApart, FeedsAll};
+ghost use Rattle.channel_machine.specs.Agreement.{MembersAgree};
 
 /// The law that the cutting of a channel's samples into blocks doesn't show, where its members are lawful and none is named twice: what
 /// it gives for two blocks is what it gives for the two as one, and any two cuttings of the same samples, fed where all but the
@@ -36,4 +37,17 @@ pub fn controls_agree_where_all_is_alike<M>()
         → IfSome (one.host.living i) (IsLawful kinds one.host.poison) → AreAlike one other
         → PassesOn kinds one (Control i c answer) one_after → PassesOn kinds other (Control i c other_answer) other_after
         → (answer ≡ other_answer) × AreAlike one_after other_after }
+{}
+
+/// The law that in two runs channels whose members were given the same give the same for the same samples, and their members have then
+/// been given the same again. Member by member these are lawful, of one kind and with the same parameters; the sizes of the hosts, their
+/// poison words, all numbers and groups, the other instances, what moves, and how the samples are cut into blocks may differ. No member
+/// is named twice. The call does nothing.
+pub fn channels_agree<M>()
+    ensures { (kinds : Meaning M) (one one_after other other_after : Channels M) (c d : ℕ) (cut other_cut : List (List ℤ)) (out other_out : List ℤ)
+        → MembersAreLawful kinds one c → has_repeat (members_at one.chained c) ≡ false
+        → MembersAreLawful kinds other d → has_repeat (members_at other.chained d) ≡ false
+        → MembersAgree one c other d
+        → FeedsAll kinds one c cut out one_after → FeedsAll kinds other d other_cut other_out other_after → joined cut ≡ joined other_cut
+        → (out ≡ other_out) × MembersAgree one_after c other_after d }
 {}

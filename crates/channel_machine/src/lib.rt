@@ -9,7 +9,7 @@ mod cuts;
 mod laws;
 mod outcomes;
 
-pub use cuts::{controls_agree_where_all_is_alike, cuts_do_not_show};
+pub use cuts::{channels_agree, controls_agree_where_all_is_alike, cuts_do_not_show};
 pub use laws::{
     lawful_calls_are_computed, members_live_in_one_channel, poison_words_change_nothing,
     refused_calls_change_nothing,

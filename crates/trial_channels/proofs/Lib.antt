@@ -1,1 +1,2 @@
 pub mod CutFeeds
+pub mod TwoChannels

@@ -1,8 +1,13 @@
-//! For tests: channels over hosts in which a kind that keeps no law stands beside the hosted kinds; and a caller of the law of cuts.
+//! For tests: channels over hosts in which a kind that keeps no law stands beside the hosted kinds; and callers of the laws of cuts and
+//! of two runs.
 #![tactic(auto)]
 
 mod cut_feeds;
 #[cfg(test)]
 mod tests;
+mod two_channels;
+#[cfg(test)]
+mod two_runs;
 
 pub use cut_feeds::feed_in_two;
+pub use two_channels::{Outputs, feed_both};

@@ -122,6 +122,8 @@ fn a_channel_goes_on_where_its_block_is_replaced_and_moved(rt: HostRuntime) {
     feed(&rt, &mut channels, 0, &[6], &[5]);
     assert!(rt; is_stat(&channels, 0, Some(0), 2));
     assert!(rt; channels.copied() == 264);
+    assert!(rt; channels.compact(Space::Daram) == 0);
+    assert!(rt; channels.copied() == 264);
     channels.close();
 }
 
