@@ -1,8 +1,8 @@
 //! What a command line asks of the program.
-use crate::PORT_PAIRS;
 use arrayvec::ArrayVec;
 use clap::Error;
 use host_spaces::Sizes;
+use port_pairs::PORT_PAIRS;
 
 /// What a command line asks: the paths of the script and of the ports, and the options.
 #[derive(Drop)]

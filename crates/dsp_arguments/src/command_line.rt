@@ -1,13 +1,10 @@
 //! The words of the command line.
-ghost use Rattle.std.specs.Prelude.{◌≡◌, ◌≤◌, ◌*◌, ◌%◌, length, is_some, IfOk, IfSome};
-ghost use Rattle.std.specs.List.{flat_map};
-ghost use Rattle.dsp_arguments.specs.Pairs.{is_pairs, both};
+ghost use Rattle.std.specs.Prelude.{◌≤◌, length, IfOk};
 
-use crate::PORT_PAIRS;
 use crate::asked::{ArgFault, Arguments};
-use arrayvec::ArrayVec;
 use clap::{Arg, ArgAction, ArgMatches, Command, Error};
 use host_spaces::Sizes;
+use port_pairs::pairs;
 use space_heap::SPACE_WORDS;
 use std::alloc::Global;
 
@@ -61,35 +58,9 @@ fn size_of(matches: &ArgMatches<'_>, space: &str) -> u32 {
     matches.get_one(space).unwrap_or(SPACE_WORDS)
 }
 
-/// The words in pairs, in their order.
-fn paired<'a>(words: &[&'a str]) -> ArrayVec<(&'a str, &'a str), PORT_PAIRS>
-    requires even { length words.now % 2 ≡ 0 }
-    requires few { length words.now ≤ 2 * PORT_PAIRS }
-    ensures order { flat_map both result.items ≡ words.now }
-    ensures count { 2 * length result.items ≡ length words.now }
-{
-    let mut ports: ArrayVec<(&'a str, &'a str), PORT_PAIRS> = ArrayVec::new();
-    for pair in words.chunks_exact(2) {
-        ports.push((pair[0], pair[1]));
-    }
-    ports
-}
-
-/// The words in pairs, where they are 1 to [`PORT_PAIRS`] pairs.
-fn pairs<'a>(words: &[&'a str]) -> Option<ArrayVec<(&'a str, &'a str), PORT_PAIRS>>
-    ensures fits { is_some result ≡ is_pairs (length words.now) }
-    ensures order { IfSome result (λ ports. flat_map both ports.items ≡ words.now) }
-    ensures some { IfSome result (λ ports. 1 ≤ length ports.items) }
-{
-    if words.is_empty() || words.len() % 2 != 0 || words.len() > 2 * PORT_PAIRS {
-        return None;
-    }
-    Some(paired(words))
-}
-
 /// Parses the words of a command line, the program's name not among them: options, SCRIPT, and the ports behind it in pairs.
 ///
-/// [`ArgFault::Ports`] is for any other count of ports than 1 to [`PORT_PAIRS`] pairs, [`ArgFault::Clap`] for what `clap` refuses, and for `--help`.
+/// [`ArgFault::Ports`] is for any other count of ports than 1 to [`PORT_PAIRS`](crate::PORT_PAIRS) pairs, [`ArgFault::Clap`] for what `clap` refuses, and for `--help`.
 pub fn arguments<'a>(alloc: Global, words: &'a [&'a str]) -> Result<Arguments<'a>, ArgFault>
     ensures { IfOk result (λ a. 1 ≤ length a.ports.items) }
 {

@@ -8,6 +8,4 @@ mod tests;
 
 pub use asked::{ArgFault, Arguments};
 pub use command_line::arguments;
-
-/// The most pairs of ports of a command line.
-pub const PORT_PAIRS: usize = 16;
+pub use port_pairs::PORT_PAIRS;

@@ -13,3 +13,6 @@ pub use octet_ports::{PortFault, PortIn, PortOut, Reading, TAPE_OCTETS, TapeIn, 
 pub use script_server::SCRIPT_OCTETS;
 pub use serving::{Config, Fault, Summary, run};
 pub use voice_console::{CHANNELS, Sizes};
+
+// A command line has as many pairs of ports, and a script as many channels.
+const _: () = prove!(CHANNELS == 16);

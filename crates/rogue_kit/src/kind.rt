@@ -32,7 +32,7 @@ pub enum Mixed {
     /// `forger`: puts bases of others into its object, and reads and writes by them, in every call that lets it. It gives its input, and
     /// says untrue bases where it is asked for its records.
     Forger,
-    /// `babbler`: gives the first samples of a block, one more of them at each block, and none after all.
+    /// `babbler`: gives the first samples of a block: as many as the count of its blocks so far leaves modulo one more than the block has.
     Babbler,
 }
 

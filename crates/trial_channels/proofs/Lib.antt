@@ -1,2 +1,3 @@
 pub mod CutFeeds
 pub mod TwoChannels
+pub mod TwoFeeds

@@ -4,6 +4,7 @@ ghost use Rattle.channel_machine.specs.Channels.{Channels as State, members_at, 
 ghost use Rattle.channel_machine.specs.Calls.{Feeds};
 ghost use Rattle.channel_machine.specs.Cuts.{MembersAreLawful};
 ghost use Rattle.voice_channel.specs.Channels.{Keeps};
+ghost use Rattle.trial_channels.specs.TwoFeeds.{ServesBoth};
 
 use channel_machine::cuts_do_not_show;
 use ialg::{BLOCK_SAMPLES, Block, Ialg};
@@ -25,7 +26,8 @@ pub fn feed_in_two<M: Ialg>(
     requires second_within { length second.now ≤ BLOCK_SAMPLES }
     requires early_empty { early.old.items ≡ [] }
     requires late_empty { late.old.items ≡ [] }
-    ensures { (before after : State M) (out : List ℤ) → Keeps M.meaning M.idle_keeps M.active_keeps channels.old before
+    ensures both { ServesBoth M.meaning M.idle_keeps M.active_keeps c first.now early.new.items second.now late.new.items channels.old channels.new }
+    ensures joined { (before after : State M) (out : List ℤ) → Keeps M.meaning M.idle_keeps M.active_keeps channels.old before
         → MembersAreLawful M.meaning before c → Feeds M.meaning before c (first.now ++ second.now) out after
         → early.new.items ++ late.new.items ≡ out }
 {

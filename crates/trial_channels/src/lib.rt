@@ -11,3 +11,7 @@ mod two_runs;
 
 pub use cut_feeds::feed_in_two;
 pub use two_channels::{Outputs, feed_both};
+use voice_channel::MEMBERS;
+
+// A chain has as many members at most.
+const _: () = prove!(MEMBERS == 8);

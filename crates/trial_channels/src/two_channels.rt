@@ -3,7 +3,9 @@ ghost use Rattle.std.specs.Prelude.{◌≡◌, ◌≤◌, ◌++◌, true, [], le
 ghost use Rattle.channel_machine.specs.Channels.{Channels as State, members_at, is_chained};
 ghost use Rattle.channel_machine.specs.Cuts.{MembersAreLawful};
 ghost use Rattle.channel_machine.specs.Agreement.{MembersAgree};
-ghost use Rattle.voice_channel.specs.Channels.{Keeps};
+ghost use Rattle.channel_machine.specs.Calls.Call.{Feed};
+ghost use Rattle.voice_channel.specs.Channels.{Keeps, Serves};
+ghost use Rattle.trial_channels.specs.TwoFeeds.{ServesBoth};
 
 use channel_machine::channels_agree;
 use ialg::{BLOCK_SAMPLES, Block, Ialg};
@@ -35,7 +37,9 @@ pub fn feed_both<M: Ialg>(
     requires second { 1 ≤ length second.now }
     requires joined { first.now ++ second.now ≡ whole.now }
     requires within { length whole.now ≤ BLOCK_SAMPLES }
-    ensures { (before other_before : State M) → Keeps M.meaning M.idle_keeps M.active_keeps one.old before
+    ensures both { ServesBoth M.meaning M.idle_keeps M.active_keeps c first.now result.early.items second.now result.late.items one.old one.new }
+    ensures other { Serves M.meaning M.idle_keeps M.active_keeps (Feed d whole.now result.whole.items) other.old other.new }
+    ensures agree { (before other_before : State M) → Keeps M.meaning M.idle_keeps M.active_keeps one.old before
         → Keeps M.meaning M.idle_keeps M.active_keeps other.old other_before
         → MembersAreLawful M.meaning before c → MembersAreLawful M.meaning other_before d → MembersAgree before c other_before d
         → result.early.items ++ result.late.items ≡ result.whole.items }

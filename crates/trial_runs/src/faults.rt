@@ -178,3 +178,18 @@ fn a_slide_over_ports_that_break(rt: HostRuntime) -> Result<(), Fail> {
     every_call_breaks(&rt, &A_SLIDE, 1)?;
     every_call_breaks(&rt, &A_SLIDE, WIDE)
 }
+
+#[test]
+fn the_pieces_of_a_script_change_no_reply(rt: HostRuntime) -> Result<(), Fail> {
+    let unbroken = Broken {
+        port: Port::Script,
+        call: NEVER,
+    };
+    for step in 1..=40 {
+        match run_broken(&rt, &BY_TURNS, step, unbroken)? {
+            Ok(summary) => assert!(rt; summary.refused == 0),
+            Err(_) => return Err("a run between ports that don't break has failed".into()),
+        }
+    }
+    Ok(())
+}

@@ -1,9 +1,15 @@
-//! For tests: whole runs in which each call of each device fails in turn, and lines at the edges of the grammar.
+//! For tests: whole runs in which each call of each device fails in turn, lines at the edges of the grammar, and a caller of the headline
+//! of two runs.
 #![tactic(auto)]
 
+#[cfg(test)]
+mod agreement;
 #[cfg(test)]
 mod faults;
 #[cfg(test)]
 mod lines;
 #[cfg(test)]
 mod scripts;
+mod two_runs;
+
+pub use two_runs::{Ports, run_both};

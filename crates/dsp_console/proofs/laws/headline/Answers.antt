@@ -11,8 +11,10 @@ returns-clause-ok g c = λ sizes poison refused old new script inputs ends.
     let says = c.headline.ensures.run g.M.Ialg.meaning g.M.Named.named sizes poison (lines_of old.script.coming) (octets_to_come old.inputs) all.answer all.is_answer in
     record {
       answer = all.answer;
+      served = all.is_answer;
       says = says;
       outputs = λ n lt. subst (λ octets. Holds octets (slice_index_or old.outputs n no_sink) (slice_index_or new.outputs n no_sink)) (says.outputs n) (all.writes.output n lt);
+      replies = all.writes.reply;
     }
 
 pub returns-clause-read : goal.returns-clause-read
@@ -21,8 +23,10 @@ returns-clause-read g c = λ sizes poison old new inputs ends.
     let says = c.headline.ensures.run g.M.Ialg.meaning g.M.Named.named sizes poison all.lines (octets_to_come old.inputs) all.answer all.is_answer in
     record {
       answer = all.answer;
+      served = all.is_answer;
       says = says;
       outputs = λ n lt. subst (λ octets. Holds octets (slice_index_or old.outputs n no_sink) (slice_index_or new.outputs n no_sink)) (says.outputs n) (all.writes.output n lt);
+      replies = all.writes.reply;
     }
 
 pub returns-clause-two : goal.returns-clause-two

@@ -1,6 +1,6 @@
--- For private clauses alone: how words are pairs of ports.
+-- How words are pairs of ports.
 use Rattle.std.specs.Prelude.{ℕ, ◌*◌, ◌%◌, Bool, ◌&&◌, nat_le, ◌==◌, List, [], ◌∷◌}
-use Rattle.dsp_arguments.specs.declared.TheConstants.{PORT_PAIRS}
+use Rattle.port_pairs.specs.declared.TheConstants.{PORT_PAIRS}
 
 -- 1 to 16 pairs
 abbrev pub is_pairs : ℕ → Bool
