@@ -52,6 +52,7 @@ fn runs_that_are_given_the_same_agree(rt: HostRuntime) -> Result<(), Fail> {
         &mut other,
     );
     assert!(rt; ended.is_ok() && other_ended.is_ok());
+    assert!(rt; one.outputs.len() == 1 && other.outputs.len() == 2);
     assert!(rt; one.outputs[0].held() == b"\x01\x00\x03\x00\x05\x00".as_slice());
     assert!(rt; other.outputs[1].held() == b"\x01\x00\x03\x00\x05\x00".as_slice());
     assert!(rt; one.replies.held() == b"ok\nok\nok 3\nok 16384 16384\n".as_slice());
