@@ -1,5 +1,5 @@
 //! Lines at the edges of the grammar, and of every single octet.
-use dsp_console::{Config, Sizes, run};
+use dsp_console::{Config, Fault, Sizes, Summary, run};
 use octet_ports::{TapeIn, TapeOut};
 use std::process::Abort;
 use std::test::Fail;
@@ -18,9 +18,14 @@ const SIZES: Sizes = Sizes {
 /// The octets of the longest line.
 const LONGEST: usize = 1024;
 
-/// Runs a script of one line, and compares its replies.
-fn answers<R: Abort + AllocGlobal>(rt: &R, script: &[u8], wanted: &[u8]) -> Result<(), Fail> {
-    let mut script = TapeIn::new(script, WIDE, NEVER);
+/// Runs a script that fails after so many calls, compares its replies, and answers how the run ended.
+fn ending<R: Abort + AllocGlobal>(
+    rt: &R,
+    script: &[u8],
+    fuse: u64,
+    wanted: &[u8],
+) -> Result<Result<Summary, Fault>, Fail> {
+    let mut script = TapeIn::new(script, WIDE, fuse);
     let mut inputs = vec![in rt.alloc(); TapeIn::new(b"", WIDE, NEVER)]?;
     let mut outputs = vec![in rt.alloc(); TapeOut::new(WIDE, NEVER)]?;
     let mut replies = TapeOut::new(WIDE, NEVER);
@@ -36,8 +41,14 @@ fn answers<R: Abort + AllocGlobal>(rt: &R, script: &[u8], wanted: &[u8]) -> Resu
         &mut outputs,
         &mut replies,
     );
-    assert!(rt; ended.is_ok());
     assert!(rt; replies.held() == wanted);
+    Ok(ended)
+}
+
+/// Runs a script, and compares its replies.
+fn answers<R: Abort + AllocGlobal>(rt: &R, script: &[u8], wanted: &[u8]) -> Result<(), Fail> {
+    let ended = ending(rt, script, NEVER, wanted)?;
+    assert!(rt; ended.is_ok());
     Ok(())
 }
 
@@ -81,5 +92,14 @@ fn each_single_octet_is_a_line(rt: HostRuntime) -> Result<(), Fail> {
         answers(&rt, &[octet], of_octet(octet))?;
         answers(&rt, &[octet, b'\n'], of_octet(octet))?;
     }
+    Ok(())
+}
+
+#[test]
+fn a_script_may_end_within_a_line_but_not_fail_there(rt: HostRuntime) -> Result<(), Fail> {
+    let octets = b"create 0 fir 0 16384\nchain 0 0".as_slice();
+    answers(&rt, octets, b"ok\nok\n")?;
+    let ended = ending(&rt, octets, 1, b"ok\n")?;
+    assert!(rt; ended == Err(Fault::Read));
     Ok(())
 }
