@@ -6,10 +6,10 @@ use Rattle.mem_rec.specs.declared.Space.{Space}
 use Rattle.ialg.specs.declared.refusal.Refusal.{Refusal}
 use Rattle.ialg.specs.History.{Ctl}
 use Rattle.ialg.specs.Meaning.{Meaning}
-use Rattle.record_loans.specs.declared.pieces.Pieces.{Pieces}
 use Rattle.scratch_group.specs.declared.group.Group.{Group}
 use Rattle.lifecycle.specs.States.{Relation}
 use Rattle.instance_table.specs.declared.member.Member.{Member}
+use Rattle.instance_table.specs.declared.shelves.Shelf.{Shelf}
 use Rattle.space_blocks.specs.declared.placed.Placed.{Placed}
 use Rattle.space_blocks.specs.Moves.{next_block}
 use Rattle.host_spaces.specs.declared.spaces.Spaces.{Spaces}
@@ -63,7 +63,7 @@ pub step_poison : {M : Type 0} (before : State M) (space : Space) → (step befo
 step_poison before space = moving_poison before space (next_block (blocks_in before.picture space))
 
 -- the tables keep what comes after, and the spaces are as they were
-pub still_kept : {M : Type 0} (meaning : Meaning M) (idle_keeps active_keeps : Relation M) (slots slots' : List (Option (Member M))) (once once' : List Pieces)
+pub still_kept : {M : Type 0} (meaning : Meaning M) (idle_keeps active_keeps : Relation M) (slots slots' : List (Option (Member M))) (once once' : List Shelf)
     (groups groups' : List Group) (spaces : Spaces) (before after : State M) → HostKeeps meaning idle_keeps active_keeps slots once groups spaces before
     → SamePlaces before after → TablesKeep meaning idle_keeps active_keeps slots' once' groups' after → HostKeeps meaning idle_keeps active_keeps slots' once' groups' spaces after
 still_kept meaning idle_keeps active_keeps slots slots' once once' groups groups' spaces before after kept same tables = record {

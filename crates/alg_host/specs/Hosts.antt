@@ -2,10 +2,10 @@
 use Rattle.std.specs.Prelude.{ℕ, ℤ, ◌≡◌, Bool, is_some, List, Option, Result, Ok, Err}
 use Rattle.ialg.specs.Meaning.{Meaning}
 use Rattle.ialg.specs.declared.refusal.Refusal.{Refusal}
-use Rattle.record_loans.specs.declared.pieces.Pieces.{Pieces}
 use Rattle.scratch_group.specs.declared.group.Group.{Group}
 use Rattle.lifecycle.specs.States.{Relation}
 use Rattle.instance_table.specs.declared.member.Member.{Member}
+use Rattle.instance_table.specs.declared.shelves.Shelf.{Shelf}
 use Rattle.instance_table.specs.Table.{Activity, slot_at, TablesOk, ArePoisoned}
 use Rattle.host_spaces.specs.declared.spaces.Spaces.{Spaces}
 use Rattle.placed_instances.specs.Standing.{AreStanding}
@@ -17,7 +17,7 @@ use Rattle.scratch_group.specs.declared.group.Stat.{Stat}
 -- the tables of instances, of write-once pieces and of groups, the three spaces, and the poison word, if there is one
 pub record HostState (M : Type 0) : Type 0 where
   pub slots : List (Option (Member M))
-  pub once : List Pieces
+  pub once : List Shelf
   pub groups : List Group
   pub spaces : Spaces
   pub poison : Option ℤ

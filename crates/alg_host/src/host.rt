@@ -7,9 +7,8 @@ ghost use Rattle.alg_host.specs.Hosts.{Keeps, lives};
 use crate::memory::{HostMemory, Tables};
 use host_spaces::{Sizes, Spaces, StartError};
 use ialg::Ialg;
-use instance_table::{Member, in_order};
+use instance_table::{Member, Shelf, in_order};
 use placed_instances::nobody_stands;
-use record_loans::Pieces;
 use scratch_group::Group;
 use std::alloc::Global;
 use std::marker::Model;
@@ -17,7 +16,7 @@ use std::marker::Model;
 /// A host of instances of the kinds `M`. It can't be copied, and must be given back by [`close`](Host::close).
 pub struct Host<M> {
     pub(crate) slots: Vec<Option<Member<M>>>,
-    pub(crate) once: Vec<Pieces>,
+    pub(crate) once: Vec<Shelf>,
     pub(crate) groups: Vec<Group>,
     pub(crate) spaces: Spaces,
     pub(crate) poison: Option<i16>,

@@ -3,28 +3,28 @@ ghost use Rattle.std.specs.Prelude.{◌≡◌, ℕ, None, length, IfOk, IfErr, I
 ghost use Rattle.mem_rec.specs.declared.Space.{Space};
 ghost use Rattle.scratch_group.specs.Blocks.{block_in};
 ghost use Rattle.instance_table.specs.declared.TheConstants.{INSTANCES, GROUPS};
-ghost use Rattle.instance_table.specs.Table.{slot_at, once_at, no_pieces, group_at, activity_at, untouched};
+ghost use Rattle.instance_table.specs.Table.{slot_at, once_at, no_pieces, IsUnshared, group_at, activity_at, untouched};
 ghost use Rattle.host_spaces.specs.Picture.{AreSizes};
 
 use host_spaces::{EmptySpaces, Sizes, StartError};
 use ialg::Ialg;
 use instance_table::{
-    Member, empty_groups, empty_once, empty_slots, end_groups, end_once, end_slots,
+    Member, Shelf, empty_groups, empty_once, empty_slots, end_groups, end_once, end_slots,
 };
-use record_loans::Pieces;
 use scratch_group::Group;
 use std::alloc::{AllocError, Allocator, Global};
 
 /// The tables of a host without instances.
 pub(crate) struct Tables<M, A: Allocator> {
     pub(crate) slots: Vec<Option<Member<M>>, A>,
-    pub(crate) once: Vec<Pieces, A>,
+    pub(crate) once: Vec<Shelf, A>,
     pub(crate) groups: Vec<Group, A>,
     ghost slot_count: { length slots.items ≡ INSTANCES },
     ghost once_count: { length once.items ≡ INSTANCES },
     ghost group_count: { length groups.items ≡ GROUPS },
     ghost empty: { (i : ℕ) → slot_at slots.items i ≡ None },
     ghost no_once: { (i : ℕ) → once_at once.items i ≡ no_pieces },
+    ghost unshared: { (i : ℕ) → IsUnshared once.items i },
     ghost no_blocks: { (g : ℕ) (space : Space) → block_in (group_at groups.items g) space ≡ None },
     ghost no_activity: { (g : ℕ) → activity_at groups.items g ≡ untouched },
 }

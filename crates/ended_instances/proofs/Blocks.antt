@@ -8,7 +8,6 @@ use Rattle.mem_rec.specs.declared.Space.{Space}
 use Rattle.ialg.specs.Meaning.{Meaning}
 use Rattle.ialg.specs.History.{History}
 use Rattle.ialg.specs.Records.{ArePoison}
-use Rattle.record_loans.specs.declared.pieces.Pieces.{Pieces}
 use Rattle.record_loans.specs.declared.block.ScratchBlock.{ScratchBlock}
 use Rattle.record_loans.specs.Blocks.{block_piece, block_align, block_words}
 use Rattle.scratch_group.specs.declared.group.Group.{Group}
@@ -26,6 +25,7 @@ use Rattle.host_spaces.specs.declared.pieces.OldBlocks.{OldBlocks}
 use Rattle.host_spaces.specs.Picture.{AreSameSpaces, blocks_in, is_group's, picture_of, without_owners}
 use Rattle.host_spaces.specs.Pieces.{old_piece}
 use Rattle.instance_table.specs.declared.member.Member.{Member}
+use Rattle.instance_table.specs.declared.shelves.Shelf.{Shelf}
 use Rattle.instance_table.specs.Table.{Activity, slot_at, once_at, group_at, instance_of, is_member_of, activity_at, TablesOk, ArePoisoned}
 use Rattle.instance_table.specs.Keeps.{Keeps}
 use Rattle.table_moves.specs.Moves.{BlockStays, WordsStay}
@@ -47,7 +47,7 @@ poison_none : (w : Option ℤ) → ArePoison w (block_words None)
 poison_none None = tt
 poison_none (Some v) = All-nil (λ x. x ≡ v)
 
-module _ {M : Type 0} (g : ℕ) (slots : List (Option (Member M))) (once : List Pieces) (groups groups' : List Group) (spaces spaces' : Spaces) (pieces : OldBlocks)
+module _ {M : Type 0} (g : ℕ) (slots : List (Option (Member M))) (once : List Shelf) (groups groups' : List Group) (spaces spaces' : Spaces) (pieces : OldBlocks)
     (none : (j : ℕ) → is_member_of g (slot_at slots j) ≡ false) (ok : TablesOk slots once groups) (standing : AreStandingBut g slots once groups spaces)
     (old : (space : Space) → old_piece pieces space ≡ block_piece (block_in (group_at groups g) space))
     (empty : (space : Space) → block_in (group_at groups' g) space ≡ None)
@@ -72,6 +72,7 @@ module _ {M : Type 0} (g : ℕ) (slots : List (Option (Member M))) (once : List 
         slot_count = told.slot_count;
         once_count = told.once_count;
         group_count = told.group_count;
+        unshared = told.unshared;
         group_range = told.group_range;
         housed = λ i m at. (told.housed i m at).told (inl (of_others i m at));
         active_there = told.active_there;
@@ -139,7 +140,7 @@ module _ {M : Type 0} (g : ℕ) (slots : List (Option (Member M))) (once : List 
     }
 
 -- where the group has a member, none of its blocks is unused
-pub stand_all : {M : Type 0} (g : ℕ) (slots : List (Option (Member M))) (once : List Pieces) (groups : List Group) (spaces : Spaces)
+pub stand_all : {M : Type 0} (g : ℕ) (slots : List (Option (Member M))) (once : List Shelf) (groups : List Group) (spaces : Spaces)
     → (((j : ℕ) → is_member_of g (slot_at slots j) ≡ false) → ⊥) → AreStandingBut g slots once groups spaces → AreStanding slots once groups spaces
 stand_all g slots once groups spaces some standing = record {
   homes = standing.homes;

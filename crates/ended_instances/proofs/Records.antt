@@ -26,6 +26,7 @@ use Rattle.host_spaces.specs.declared.spaces.Spaces.{Spaces}
 use Rattle.host_spaces.specs.Picture.{Picture, AreSameSpaces, blocks_in, blocks_without, is_instance's, picture_of, space_in, without_owners}
 use Rattle.host_spaces.specs.Pieces.{HasRecords, ArePiecesOf, IsPieceOf, is_write_once, record_block}
 use Rattle.instance_table.specs.declared.member.Member.{Member}
+use Rattle.instance_table.specs.declared.shelves.Shelf.{Shelf}
 use Rattle.instance_table.specs.Table.{slot_at, once_at, group_at, group_of, no_pieces, own_of, instance_of, is_member_of}
 use Rattle.instance_table.specs.Frames.{IsSameMember, OthersSame}
 use Rattle.placed_instances.specs.Standing.{IsHome, AreStanding, SlotIsSame, table_of}
@@ -80,7 +81,7 @@ module _ (spaces : Spaces) (i : ℕ) (rs : List MemRec) (own shared : Pieces) wh
         subst (λ (r : MemRec). IsPieceOf (space_in spaces r.space).region (placed_size r.size) (is_write_once r.attr) (piece_at shared k)) (record_at-unplaced rs k) (are.write_once k);
   }
 
-module _ {M : Type 0} (i : ℕ) (slots slots' : List (Option (Member M))) (once once' : List Pieces) (groups groups' : List Group) (spaces : Spaces) (own shared : Pieces) (rs : List MemRec)
+module _ {M : Type 0} (i : ℕ) (slots slots' : List (Option (Member M))) (once once' : List Shelf) (groups groups' : List Group) (spaces : Spaces) (own shared : Pieces) (rs : List MemRec)
     (standing : AreStanding slots once groups spaces) (others : OthersSame i slots once groups slots' once' groups')
     (same_own : SamePieces (own_of (slot_at slots i)) own) (same_shared : SamePieces (once_at once i) shared)
     (table : (m : Member M) → slot_at slots i ≡ Some m → rs ≡ (instance_of m.inst).table) (m : Member M) (at : slot_at slots i ≡ Some m) where
@@ -98,7 +99,7 @@ module _ {M : Type 0} (i : ℕ) (slots slots' : List (Option (Member M))) (once 
 
 -- ---- those that stay
 
-module _ {M : Type 0} (i : ℕ) (slots slots' : List (Option (Member M))) (once once' : List Pieces) (groups groups' : List Group) (spaces spaces' : Spaces)
+module _ {M : Type 0} (i : ℕ) (slots slots' : List (Option (Member M))) (once once' : List Shelf) (groups groups' : List Group) (spaces spaces' : Spaces)
     (standing : AreStanding slots once groups spaces) (others : OthersSame i slots once groups slots' once' groups')
     (left : slot_at slots' i ≡ None) (nothing : once_at once' i ≡ no_pieces)
     (picture : picture_of spaces' ≡ without_owners (is_instance's i) (picture_of spaces))
@@ -156,6 +157,6 @@ module _ {M : Type 0} (i : ℕ) (slots slots' : List (Option (Member M))) (once 
   }
 
 -- the other instances are the same
-pub same_beside : {M : Type 0} (i : ℕ) (slots slots' : List (Option (Member M))) (once once' : List Pieces) (groups groups' : List Group)
+pub same_beside : {M : Type 0} (i : ℕ) (slots slots' : List (Option (Member M))) (once once' : List Shelf) (groups groups' : List Group)
     → OthersSame i slots once groups slots' once' groups' → (j : ℕ) → j ≢ i → SlotIsSame (slot_at slots j) (slot_at slots' j)
 same_beside i slots slots' once once' groups groups' others j apart = slot_same _ _ (slot_of_same _ _ (others.slot j apart))

@@ -3,10 +3,10 @@ use Rattle.std.specs.Prelude.{◌≡◌, ◌≢◌, ℕ, ℤ, Bool, List, Option
 use Rattle.std.specs.List.{list_any}
 use Rattle.ialg.specs.Meaning.{Meaning}
 use Rattle.ialg.specs.History.{History}
-use Rattle.record_loans.specs.declared.pieces.Pieces.{Pieces}
 use Rattle.scratch_group.specs.declared.group.Group.{Group}
 use Rattle.lifecycle.specs.States.{Relation}
 use Rattle.instance_table.specs.declared.member.Member.{Member}
+use Rattle.instance_table.specs.declared.shelves.Shelf.{Shelf}
 use Rattle.instance_table.specs.Table.{slot_at, group_of, is_member_of, activity_at, quieted_by, TablesOk, ArePoisoned}
 use Rattle.instance_table.specs.Keeps.{Keeps}
 use Rattle.host_spaces.specs.declared.spaces.Spaces.{Spaces}
@@ -20,8 +20,8 @@ has_members slots g = list_any (is_member_of g) slots
 
 -- instance i was ended in a host of this poison word or of none: each other instance is the same, in its state, and keeps its history
 pub record HasEnded {M : Type 0} (meaning : Meaning M) (idle_keeps active_keeps : Relation M) (w : Option ℤ) (i : ℕ)
-    (slots : List (Option (Member M))) (once : List Pieces) (groups : List Group) (spaces : Spaces)
-    (slots' : List (Option (Member M))) (once' : List Pieces) (groups' : List Group) (spaces' : Spaces) : Type 0 where
+    (slots : List (Option (Member M))) (once : List Shelf) (groups : List Group) (spaces : Spaces)
+    (slots' : List (Option (Member M))) (once' : List Shelf) (groups' : List Group) (spaces' : Spaces) : Type 0 where
   pub ok : TablesOk slots' once' groups'
   pub standing : AreStanding slots' once' groups' spaces'
   pub poisoned : ArePoisoned w groups'

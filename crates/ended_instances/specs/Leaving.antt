@@ -1,11 +1,11 @@
 -- Between two steps of an end. No public contract speaks of it.
 use Rattle.std.specs.Prelude.{◌≡◌, ◌≢◌, ℕ, false, List, [], Option, Some, None}
 use Rattle.mem_rec.specs.declared.Space.{Space}
-use Rattle.record_loans.specs.declared.pieces.Pieces.{Pieces}
 use Rattle.record_loans.specs.Blocks.{block_piece}
 use Rattle.scratch_group.specs.declared.group.Group.{Group}
 use Rattle.scratch_group.specs.Blocks.{block_in}
 use Rattle.instance_table.specs.declared.member.Member.{Member}
+use Rattle.instance_table.specs.declared.shelves.Shelf.{Shelf}
 use Rattle.instance_table.specs.Table.{slot_at, once_at, group_at, no_pieces, instance_of, is_member_of}
 use Rattle.space_blocks.specs.declared.placed.Owner.TheVariants.{Record}
 use Rattle.space_blocks.specs.Blocks.{owned}
@@ -15,7 +15,7 @@ use Rattle.host_spaces.specs.Pieces.{HasBlocks}
 use Rattle.placed_instances.specs.Standing.{IsHome, IsOf, table_of}
 
 -- each instance and each group has its blocks of the picture, where group g may have blocks without members
-pub record AreStandingBut {M : Type 0} (g : ℕ) (slots : List (Option (Member M))) (once : List Pieces) (groups : List Group) (spaces : Spaces) : Type 0 where
+pub record AreStandingBut {M : Type 0} (g : ℕ) (slots : List (Option (Member M))) (once : List Shelf) (groups : List Group) (spaces : Spaces) : Type 0 where
   pub homes : (i : ℕ) (m : Member M) → slot_at slots i ≡ Some m → IsHome spaces i (table_of m) (instance_of m.inst).own (once_at once i) (group_at groups m.group)
   pub free : (i : ℕ) → slot_at slots i ≡ None → once_at once i ≡ no_pieces
   pub gone : (i k : ℕ) (space : Space) → slot_at slots i ≡ None → owned (Record i k) (blocks_in (picture_of spaces) space) ≡ []

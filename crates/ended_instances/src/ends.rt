@@ -8,15 +8,14 @@ use crate::leaving::{give_blocks, give_records};
 use crate::members::{group_number, members_left};
 use host_spaces::Spaces;
 use ialg::Ialg;
-use instance_table::Member;
-use record_loans::Pieces;
+use instance_table::{Member, Shelf};
 use scratch_group::Group;
 
 /// Ends an instance. Its records are given back, and its group's blocks where no other member is left. An active one is deactivated
 /// first, and the blocks are filled with the poison word, if there is one.
 pub fn end_instance<M: Ialg>(
     slots: &mut Vec<Option<Member<M>>>,
-    once: &mut Vec<Pieces>,
+    once: &mut Vec<Shelf>,
     groups: &mut Vec<Group>,
     spaces: &mut Spaces,
     poison: Option<i16>,

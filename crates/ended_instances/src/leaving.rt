@@ -15,16 +15,15 @@ ghost use Rattle.ended_instances.specs.Leaving.{AreStandingBut};
 use crate::members::table_copied;
 use host_spaces::{OldBlocks, Spaces};
 use ialg::Ialg;
-use instance_table::{Member, end};
+use instance_table::{Member, Shelf, end};
 use mem_rec::Space;
-use record_loans::Pieces;
 use scratch_group::Group;
 use table_moves::take_block;
 
 /// Ends an instance, and gives its records back.
 pub(crate) fn give_records<M: Ialg>(
     slots: &mut Vec<Option<Member<M>>>,
-    once: &mut Vec<Pieces>,
+    once: &mut Vec<Shelf>,
     groups: &mut Vec<Group>,
     spaces: &mut Spaces,
     poison: Option<i16>,
@@ -72,7 +71,7 @@ fn take_blocks(groups: &mut Vec<Group>, g: u8) -> OldBlocks
 /// Gives back the blocks of a group without members.
 pub(crate) fn give_blocks<M: Ialg>(
     slots: &Vec<Option<Member<M>>>,
-    once: &Vec<Pieces>,
+    once: &Vec<Shelf>,
     groups: &mut Vec<Group>,
     spaces: &mut Spaces,
     g: u8,

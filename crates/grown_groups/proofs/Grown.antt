@@ -27,6 +27,7 @@ use Rattle.host_spaces.specs.declared.spaces.Spaces.{Spaces}
 use Rattle.host_spaces.specs.Picture.{Picture, blocks_in, picture_of, space_in}
 use Rattle.host_spaces.specs.Pieces.{HasBlocks, new_block, old_piece, with_new, without_pieces}
 use Rattle.instance_table.specs.declared.member.Member.{Member}
+use Rattle.instance_table.specs.declared.shelves.Shelf.{Shelf}
 use Rattle.instance_table.specs.Table.{slot_at, once_at, group_at, instance_of}
 use Rattle.instance_table.specs.Frames.{IsSameMember, SameMembers}
 use Rattle.placed_instances.specs.Standing.{IsHome, IsOf, AreOrdered, table_of}
@@ -52,7 +53,7 @@ without_in picture pieces External = refl
 pub home_in : (spaces : Spaces) (i : ℕ) (rs : List MemRec) (own shared : Pieces) (y y' : Group) → NoNeed rs y' → IsHome spaces i rs own shared y → IsHome spaces i rs own shared y'
 home_in spaces i rs own shared y y' need home = record { valid = home.valid; need = need; records = home.records; pieces = home.pieces }
 
-module _ {M : Type 0} (g : ℕ) (blocks : NewBlocks) (slots : List (Option (Member M))) (once : List Pieces) (groups groups' : List Group) (spaces spaces' : Spaces) (old : OldBlocks)
+module _ {M : Type 0} (g : ℕ) (blocks : NewBlocks) (slots : List (Option (Member M))) (once : List Shelf) (groups groups' : List Group) (spaces spaces' : Spaces) (old : OldBlocks)
     (placed : ArePlaced g blocks slots once groups spaces) (ordered : AreOrdered spaces)
     (is_old : (space : Space) → old_piece old space ≡ replaced_piece (new_block blocks space) (block_in (group_at groups g) space))
     (is_new : (space : Space) → block_in (group_at groups' g) space ≡ newer (new_block blocks space) (block_in (group_at groups g) space))
@@ -109,7 +110,7 @@ module _ {M : Type 0} (g : ℕ) (blocks : NewBlocks) (slots : List (Option (Memb
   }
 
 -- each instance has room
-pub room_of_grown : {M : Type 0} (g : ℕ) (slots : List (Option (Member M))) (once : List Pieces) (groups : List Group) (spaces : Spaces) → AreOrdered spaces → AreGrown g slots once groups spaces
+pub room_of_grown : {M : Type 0} (g : ℕ) (slots : List (Option (Member M))) (once : List Shelf) (groups : List Group) (spaces : Spaces) → AreOrdered spaces → AreGrown g slots once groups spaces
     → (i : ℕ) (m : Member M) → slot_at slots i ≡ Some m → HasRoom (instance_of m.inst) (once_at once i) (group_at groups m.group)
 room_of_grown g slots once groups spaces ordered grown i m at =
     subst (λ (rs : List MemRec). Fits rs (instance_of m.inst).own (once_at once i) (group_at groups m.group))
@@ -126,7 +127,7 @@ larger_same (Some b) None (Some n) same larger = absurd same.0
 larger_same (Some b) (Some c) (Some n) same larger =
     (let long = larger.0 in let e = same.0.2 in omega (arith, long, e), let fine = larger.1 in let e = same.1 in omega (arith, fine, e))
 
-pub placed_stays : {M : Type 0} (g : ℕ) (blocks : NewBlocks) (slots slots' : List (Option (Member M))) (once once' : List Pieces) (groups groups' : List Group) (spaces : Spaces)
+pub placed_stays : {M : Type 0} (g : ℕ) (blocks : NewBlocks) (slots slots' : List (Option (Member M))) (once once' : List Shelf) (groups groups' : List Group) (spaces : Spaces)
     → SameMembers slots once groups slots' once' groups' → ArePlaced g blocks slots once groups spaces → ArePlaced g blocks slots' once' groups' spaces
 placed_stays g blocks slots slots' once once' groups groups' spaces same placed = record {
   before = placed.before;
@@ -141,7 +142,7 @@ placed_stays g blocks slots slots' once once' groups groups' spaces same placed 
   larger = λ space. larger_same _ _ (new_block blocks space) (same.blocks g space) (placed.larger space);
 }
 
-pub grown_stays : {M : Type 0} (g : ℕ) (slots slots' : List (Option (Member M))) (once once' : List Pieces) (groups groups' : List Group) (spaces : Spaces)
+pub grown_stays : {M : Type 0} (g : ℕ) (slots slots' : List (Option (Member M))) (once once' : List Shelf) (groups groups' : List Group) (spaces : Spaces)
     → SameMembers slots once groups slots' once' groups' → AreGrown g slots once groups spaces → AreGrown g slots' once' groups' spaces
 grown_stays g slots slots' once once' groups groups' spaces same grown = record {
   homes = λ i n at.

@@ -9,7 +9,6 @@ use Rattle.mem_rec.specs.declared.Space.TheVariants.{Daram, Saram, External}
 use Rattle.mem_rec.specs.Layout.{scratch_need, scratch_align}
 use Rattle.ialg.specs.Records.{ArePoison}
 use Rattle.space_raw.specs.Span.{Extent, Span}
-use Rattle.record_loans.specs.declared.pieces.Pieces.{Pieces}
 use Rattle.record_loans.specs.declared.block.ScratchBlock.{ScratchBlock}
 use Rattle.record_loans.specs.Blocks.{block_align, block_piece, block_words, IsSameBlock}
 use Rattle.scratch_group.specs.declared.group.Group.{Group}
@@ -33,6 +32,7 @@ use Rattle.host_spaces.specs.Pieces.{IsNeeded, new_block, old_piece, with_new, w
 use Rattle.host_spaces.specs.Wants.{block_need}
 use Rattle.instance_table.specs.declared.TheConstants.{GROUPS}
 use Rattle.instance_table.specs.declared.member.Member.{Member}
+use Rattle.instance_table.specs.declared.shelves.Shelf.{Shelf}
 use Rattle.instance_table.specs.Table.{slot_at, once_at, group_at, instance_of, Activity, activity_at, IsHoused, TablesOk, TablesTold, ArePoisoned}
 use Rattle.instance_table.specs.Frames.{IsSameMember, SameMembers}
 use Rattle.table_moves.specs.Moves.{BlockStays, WordsStay}
@@ -51,7 +51,7 @@ same_member : {M : Type 0} (slot : Option (Member M)) → IsSameMember slot slot
 same_member None = refl
 same_member (Some m) = record { group = refl; kind = refl; params = refl; table = refl; own = same_pieces (instance_of m.inst).own }
 
-pub members_itself : {M : Type 0} (slots : List (Option (Member M))) (once : List Pieces) (groups : List Group) → SameMembers slots once groups slots once groups
+pub members_itself : {M : Type 0} (slots : List (Option (Member M))) (once : List Shelf) (groups : List Group) → SameMembers slots once groups slots once groups
 members_itself slots once groups = record {
   slot = λ i. same_member (slot_at slots i);
   pieces = λ i. same_pieces (once_at once i);
@@ -157,7 +157,7 @@ without_replaced_pieces picture blocks y y' old same is =
 
 -- ---- the group with its new blocks
 
-pub record Renewed {M : Type 0} (g : ℕ) (blocks : NewBlocks) (slots : List (Option (Member M))) (once : List Pieces) (groups groups' : List Group) (spaces spaces' : Spaces) : Type 0 where
+pub record Renewed {M : Type 0} (g : ℕ) (blocks : NewBlocks) (slots : List (Option (Member M))) (once : List Shelf) (groups groups' : List Group) (spaces spaces' : Spaces) : Type 0 where
   pub old : OldBlocks
   pub placed : ArePlaced g blocks slots once groups spaces
   pub ordered : AreOrdered spaces
@@ -171,7 +171,7 @@ pub record Renewed {M : Type 0} (g : ℕ) (blocks : NewBlocks) (slots : List (Op
   pub others : (o : Owner) (space : Space) → o ≢ Scratch g → owned o (blocks_in (picture_of spaces') space) ≡ owned o (blocks_in (picture_of spaces) space)
   pub regions : AreSameSpaces spaces spaces'
 
-module _ {M : Type 0} (g : ℕ) (blocks : NewBlocks) (slots : List (Option (Member M))) (once : List Pieces) (groups groups' : List Group) (spaces spaces' : Spaces)
+module _ {M : Type 0} (g : ℕ) (blocks : NewBlocks) (slots : List (Option (Member M))) (once : List Shelf) (groups groups' : List Group) (spaces spaces' : Spaces)
     (r : Renewed g blocks slots once groups groups' spaces spaces') (ok : TablesOk slots once groups) where
   pub stands : AreGrown g slots once groups' spaces'
   stands = grown_now g blocks slots once groups groups' spaces spaces' r.old r.placed r.ordered r.is_old r.is_new r.same r.picture r.others (λ space. (r.regions space).region)
@@ -223,6 +223,7 @@ module _ {M : Type 0} (g : ℕ) (blocks : NewBlocks) (slots : List (Option (Memb
       slot_count = ok.slot_count;
       once_count = ok.once_count;
       group_count = counted;
+      unshared = ok.unshared;
       group_range = ok.group_range;
       housed = housed_now;
       active_there = λ k i below active. ok.active_there k i below (sym (same_active k) ∙ active);

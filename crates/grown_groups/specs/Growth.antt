@@ -1,12 +1,12 @@
 -- A group that gets the blocks for a new member.
 use Rattle.std.specs.Prelude.{ℕ, ◌≡◌, ◌≢◌, ◌≤◌, Bool, false, List, length, Option, Some, None, if◌then◌else◌}
 use Rattle.mem_rec.specs.declared.Space.{Space}
-use Rattle.record_loans.specs.declared.pieces.Pieces.{Pieces}
 use Rattle.record_loans.specs.declared.block.ScratchBlock.{ScratchBlock}
 use Rattle.record_loans.specs.Blocks.{block_align, block_piece, block_words}
 use Rattle.scratch_group.specs.declared.group.Group.{Group}
 use Rattle.scratch_group.specs.Blocks.{block_in}
 use Rattle.instance_table.specs.declared.member.Member.{Member}
+use Rattle.instance_table.specs.declared.shelves.Shelf.{Shelf}
 use Rattle.instance_table.specs.Table.{slot_at, once_at, group_at, no_pieces, instance_of, is_member_of, Activity, activity_at, rested, with_activity}
 use Rattle.space_blocks.specs.declared.placed.Owner.TheVariants.{Record, Scratch}
 use Rattle.space_blocks.specs.Blocks.{owned}
@@ -22,7 +22,7 @@ IsLarger old None = Unit {0}
 IsLarger old (Some b) = (length (block_words old) ≤ length b.piece.words) × (block_align old ≤ b.align)
 
 -- new blocks of group g were placed in the spaces, while its old ones stand. The blocks of all instances and other groups stand as before
-pub record ArePlaced {M : Type 0} (g : ℕ) (blocks : NewBlocks) (slots : List (Option (Member M))) (once : List Pieces) (groups : List Group) (spaces : Spaces) : Type 0 where
+pub record ArePlaced {M : Type 0} (g : ℕ) (blocks : NewBlocks) (slots : List (Option (Member M))) (once : List Shelf) (groups : List Group) (spaces : Spaces) : Type 0 where
   pub before : Spaces
   pub standing : AreStanding slots once groups before
   pub records : (i k : ℕ) (m : Member M) (space : Space) → slot_at slots i ≡ Some m
@@ -34,7 +34,7 @@ pub record ArePlaced {M : Type 0} (g : ℕ) (blocks : NewBlocks) (slots : List (
   pub larger : (space : Space) → IsLarger (block_in (group_at groups g) space) (new_block blocks space)
 
 -- each instance and each group has its blocks of the picture. Group g may have blocks before it has a member
-pub record AreGrown {M : Type 0} (g : ℕ) (slots : List (Option (Member M))) (once : List Pieces) (groups : List Group) (spaces : Spaces) : Type 0 where
+pub record AreGrown {M : Type 0} (g : ℕ) (slots : List (Option (Member M))) (once : List Shelf) (groups : List Group) (spaces : Spaces) : Type 0 where
   pub homes : (i : ℕ) (m : Member M) → slot_at slots i ≡ Some m → IsHome spaces i (table_of m) (instance_of m.inst).own (once_at once i) (group_at groups m.group)
   pub free : (i : ℕ) → slot_at slots i ≡ None → once_at once i ≡ no_pieces
   pub blocks : (h : ℕ) → HasBlocks (picture_of spaces) h (group_at groups h)

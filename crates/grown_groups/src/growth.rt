@@ -23,9 +23,8 @@ ghost use Rattle.grown_groups.specs.Growth.{ArePlaced, AreGrown, activity_grown}
 use crate::blocks::{put_new_blocks, replaces_any};
 use host_spaces::{NewBlocks, Spaces};
 use ialg::Ialg;
-use instance_table::{Member, rest, tell_members};
+use instance_table::{Member, Shelf, rest, tell_members};
 use placed_instances::in_order;
-use record_loans::Pieces;
 use scratch_group::Group;
 
 /// Whether a new block stands in place of an old one of the group.
@@ -39,7 +38,7 @@ fn replaces_in(groups: &Vec<Group>, g: u8, blocks: &NewBlocks) -> bool
 /// Deactivates the active member of the group, if there is one, where a block is replaced.
 fn rest_where<M: Ialg>(
     slots: &mut Vec<Option<Member<M>>>,
-    once: &mut Vec<Pieces>,
+    once: &mut Vec<Shelf>,
     groups: &mut Vec<Group>,
     poison: Option<i16>,
     g: u8,
@@ -64,7 +63,7 @@ fn rest_where<M: Ialg>(
 /// Tells each member of the group where its records lie now, where a block was replaced.
 fn tell_where<M: Ialg>(
     slots: &mut Vec<Option<Member<M>>>,
-    once: &mut Vec<Pieces>,
+    once: &mut Vec<Shelf>,
     groups: &mut Vec<Group>,
     g: u8,
     replaced: bool,
@@ -88,7 +87,7 @@ fn tell_where<M: Ialg>(
 /// the group is deactivated first, the old block goes back, and then each member, in ascending number, is told where its records lie.
 pub fn grow<M: Ialg>(
     slots: &mut Vec<Option<Member<M>>>,
-    once: &mut Vec<Pieces>,
+    once: &mut Vec<Shelf>,
     groups: &mut Vec<Group>,
     spaces: &mut Spaces,
     poison: Option<i16>,

@@ -21,10 +21,14 @@ use Rattle.lifecycle.specs.States.{Relation, Fits, SameInstance, SameOnce}
 use Rattle.lifecycle.proofs.Frames.{same_pieces, same_group}
 use Rattle.instance_table.specs.declared.TheConstants.{INSTANCES, GROUPS}
 use Rattle.instance_table.specs.declared.member.Member.{Member}
-use Rattle.instance_table.specs.Table.{slot_at, once_at, group_at, no_pieces, no_group, instance_of, group_of, active_in, slot_active_in, IsHoused, EachIsHoused, Tables, TablesOk, ArePoisoned, activity_at, with_activity}
+use Rattle.instance_table.specs.declared.shelves.Shelf.{Shelf}
+use Rattle.instance_table.specs.Shelves.{shelf_of}
+use Rattle.instance_table.specs.Table.{slot_at, once_at, group_at, IsUnshared, no_pieces, no_group, instance_of, own_of, group_of, active_in, slot_active_in, IsHoused, EachIsHoused, Tables, TablesOk, ArePoisoned, activity_at, with_activity}
 use Rattle.instance_table.specs.Keeps.{InstKeeps, SlotKeeps, Keeps, with_history}
 use Rattle.instance_table.specs.Frames.{SameSlot, SameTables}
 use Rattle.instance_table.proofs.Housing.{same_blocks, housed_stays}
+use Rattle.instance_table.proofs.Stands.{set_here, set_there}
+use Rattle.instance_table.proofs.Sights.{Sees, sees_own, slot_sees}
 
 -- an active instance is active in its own group
 active_in_own : {M : Type 0} (k g : ℕ) (inst : Inst M) → active_in k inst ≡ Some g → k ≡ g
@@ -61,6 +65,11 @@ slot_keeps_other meaning idle_keeps active_keeps w groups g y (Some m) shared h 
 same_slot : {M : Type 0} (slot : Option (Member M)) → SameSlot slot slot
 same_slot None = refl
 same_slot (Some m) = (refl, record { kind = refl; params = refl; table = refl; own = same_pieces (instance_of m.inst).own })
+
+pub own_stays : {M : Type 0} (a b : Option (Member M)) → SameSlot a b → SamePieces (own_of a) (own_of b)
+own_stays None b same = rw same (same_pieces no_pieces)
+own_stays (Some m) None same = absurd same
+own_stays (Some m) (Some n) same = same.1.own
 
 piece_then : (a b c : Option Span) → IsSamePiece a b → IsSamePiece b c → IsSamePiece a c
 piece_then None None c e f = f
@@ -104,15 +113,24 @@ blocks_stay groups g y inside blocks k space =
       | inr e ↦ rw (get_or-set_other groups g k y no_group e.1) (same_blocks _ _ (same_group (group_at groups k)) space)
     ]
 
-pub pieces_stay : (once : List Pieces) (i : ℕ) (o : Pieces) → i < length once → SamePieces (once_at once i) o → (j : ℕ) → SamePieces (once_at once j) (once_at (set once i o) j)
-pieces_stay once i o inside pieces j =
+pub pieces_stay : (once : List Shelf) (i : ℕ) (o : Pieces) → i < length once → ((j : ℕ) → IsUnshared once j) → SamePieces (once_at once i) o → (j : ℕ) → SamePieces (once_at once j) (once_at (set once i (shelf_of o)) j)
+pieces_stay once i o inside unshared pieces j =
     elim (eqb_tells j i) [
-      | inl e ↦ rw (e.1, get_or-set_same once i o no_pieces inside) pieces
-      | inr e ↦ rw (get_or-set_other once i j o no_pieces e.1) (same_pieces (once_at once j))
+      | inl e ↦ rw (e.1, set_here once i o inside) pieces
+      | inr e ↦ rw (set_there once i j (shelf_of o) (unshared j) e.1) (same_pieces (once_at once j))
+    ]
+
+-- the pieces that each instance sees afterwards
+pub pieces_seen : {M : Type 0} (slots : List (Option (Member M))) (once : List Shelf) (i : ℕ) (o : Pieces) (once' : List Shelf) → Sees slots once i o once' → SamePieces (once_at once i) o
+    → (j : ℕ) → SamePieces (once_at once j) (once_at once' j)
+pieces_seen slots once i o once' sees pieces j =
+    elim (eqb_tells j i) [
+      | inl e ↦ rw (e.1, sees.here) pieces
+      | inr e ↦ sees.others j e.1
     ]
 
 -- for whatever holds of the instances
-module _ {M : Type 0} (H : ℕ → Member M → Pieces → Group → Type 0) (slots : List (Option (Member M))) (once : List Pieces) (groups : List Group) (i g : ℕ) (m : Member M) (inst : Inst M) (o : Pieces) (y : Group)
+module _ {M : Type 0} (H : ℕ → Member M → Pieces → Group → Type 0) (slots : List (Option (Member M))) (once : List Shelf) (groups : List Group) (i g : ℕ) (m : Member M) (inst : Inst M) (o : Pieces) (y : Group)
     (ok : Tables H slots once groups) (in_slot : slot_at slots i ≡ Some m) (of_group : m.group ≡ g) (alone : (j : ℕ) → (group_at groups g).active ≡ Some j → j ≡ i) (now : y.active ≡ active_in i inst) where
   i_in : i < length slots
   i_in = slot_in slots i m in_slot
@@ -137,11 +155,8 @@ module _ {M : Type 0} (H : ℕ → Member M → Pieces → Group → Type 0) (sl
   slot_other : (j : ℕ) → j ≢ i → slot_at (set slots i (Some (record { group = g; inst = inst }))) j ≡ slot_at slots j
   slot_other j apart = get_or-set_other slots i j _ None apart
 
-  once_same : once_at (set once i o) i ≡ o
-  once_same = get_or-set_same once i o no_pieces i_in_once
-
-  once_other : (j : ℕ) → j ≢ i → once_at (set once i o) j ≡ once_at once j
-  once_other j apart = get_or-set_other once i j o no_pieces apart
+  own_sight : Sees slots once i o (set once i (shelf_of o))
+  own_sight = sees_own slots once i o i_in_once ok.unshared
 
   there_after : (k j : ℕ) → k < GROUPS → (group_at (set groups g y) k).active ≡ Some j → slot_active_in (slot_at (set slots i (Some (record { group = g; inst = inst }))) j) ≡ Some k
   there_after k j below at =
@@ -173,34 +188,6 @@ module _ {M : Type 0} (H : ℕ → Member M → Pieces → Group → Type 0) (sl
             ]
       ]
 
-  pub tables_by_change : (K : ℕ → Member M → Pieces → Group → Type 0)
-      → K i (record { group = g; inst = inst }) (once_at (set once i o) i) (group_at (set groups g y) g)
-      → ((j : ℕ) (n : Member M) → j ≢ i → slot_at slots j ≡ Some n → H j n (once_at once j) (group_at groups n.group) → K j n (once_at (set once i o) j) (group_at (set groups g y) n.group))
-      → Tables K (set slots i (Some (record { group = g; inst = inst }))) (set once i o) (set groups g y)
-  tables_by_change K here there = record {
-    slot_count = simp length-set ok.slot_count;
-    once_count = simp length-set ok.once_count;
-    group_count = simp length-set ok.group_count;
-    group_range = λ j n at.
-        elim (eqb_tells j i) [
-          | inl e ↦
-              let is : record { group = g; inst = inst } ≡ n = same_Some _ _ (sym slot_same ∙ rw e.1 at at) in
-              subst (λ (q : Member M). q.group < GROUPS) is (rw of_group at (ok.group_range i m in_slot))
-          | inr e ↦ ok.group_range j n (sym (slot_other j e.1) ∙ at)
-        ];
-    housed = λ j n at.
-        elim (eqb_tells j i) [
-          | inl e ↦
-              let is : record { group = g; inst = inst } ≡ n = same_Some _ _ (sym slot_same ∙ rw e.1 at at) in
-              rw e.1 (subst (λ (q : Member M). K i q (once_at (set once i o) i) (group_at (set groups g y) q.group)) is here)
-          | inr e ↦
-              let before = sym (slot_other j e.1) ∙ at in
-              there j n e.1 before (ok.housed j n before)
-        ];
-    active_there = there_after;
-    active_known = known_after;
-  }
-
   pub poisoned_after_change : (w : Option ℤ) → ArePoisoned w groups → (y.active ≡ None → BlocksArePoison w y) → ArePoisoned w (set groups g y)
   poisoned_after_change w before here k below none =
       elim (eqb_tells k g) [
@@ -223,50 +210,101 @@ module _ {M : Type 0} (H : ℕ → Member M → Pieces → Group → Type 0) (sl
       let here : SlotKeeps meaning idle_keeps active_keeps w (Some m) (once_at once i) groups (histories i) = rw in_slot at (keeps i) in
       subst (λ (k : ℕ). InstKeeps meaning idle_keeps active_keeps w m.inst (once_at once i) (group_at groups k) (histories i)) of_group here
 
-  -- what the instance keeps in its slot afterwards
-  keeps_here : (meaning : Meaning M) (idle_keeps active_keeps : Relation M) (w : Option ℤ) (h : History) → InstKeeps meaning idle_keeps active_keeps w inst o y h
-      → SlotKeeps meaning idle_keeps active_keeps w (slot_at (set slots i (Some (record { group = g; inst = inst }))) i) (once_at (set once i o) i) (set groups g y) h
-  keeps_here meaning idle_keeps active_keeps w h here =
-      rw (slot_same, once_same) (subst (λ (q : Group). InstKeeps meaning idle_keeps active_keeps w inst o q h) (sym group_same) here)
+  -- with what each instance sees of write-once records afterwards
+  module _ (once' : List Shelf) (sees : Sees slots once i o once') where
+    pub tables_by_sight : (K : ℕ → Member M → Pieces → Group → Type 0)
+        → K i (record { group = g; inst = inst }) (once_at once' i) (group_at (set groups g y) g)
+        → ((j : ℕ) (n : Member M) → j ≢ i → slot_at slots j ≡ Some n → H j n (once_at once j) (group_at groups n.group) → K j n (once_at once' j) (group_at (set groups g y) n.group))
+        → Tables K (set slots i (Some (record { group = g; inst = inst }))) once' (set groups g y)
+    tables_by_sight K here there = record {
+      slot_count = simp length-set ok.slot_count;
+      once_count = sees.count ∙ ok.once_count;
+      unshared = sees.unshared;
+      group_count = simp length-set ok.group_count;
+      group_range = λ j n at.
+          elim (eqb_tells j i) [
+            | inl e ↦
+                let is : record { group = g; inst = inst } ≡ n = same_Some _ _ (sym slot_same ∙ rw e.1 at at) in
+                subst (λ (q : Member M). q.group < GROUPS) is (rw of_group at (ok.group_range i m in_slot))
+            | inr e ↦ ok.group_range j n (sym (slot_other j e.1) ∙ at)
+          ];
+      housed = λ j n at.
+          elim (eqb_tells j i) [
+            | inl e ↦
+                let is : record { group = g; inst = inst } ≡ n = same_Some _ _ (sym slot_same ∙ rw e.1 at at) in
+                rw e.1 (subst (λ (q : Member M). K i q (once_at once' i) (group_at (set groups g y) q.group)) is here)
+            | inr e ↦
+                let before = sym (slot_other j e.1) ∙ at in
+                there j n e.1 before (ok.housed j n before)
+          ];
+      active_there = there_after;
+      active_known = known_after;
+    }
 
-  -- what each other instance keeps in its slot afterwards
-  keeps_there : (meaning : Meaning M) (idle_keeps active_keeps : Relation M) (w : Option ℤ) (j : ℕ) → j ≢ i → (h : History) → SlotKeeps meaning idle_keeps active_keeps w (slot_at slots j) (once_at once j) groups h
-      → SlotKeeps meaning idle_keeps active_keeps w (slot_at (set slots i (Some (record { group = g; inst = inst }))) j) (once_at (set once i o) j) (set groups g y) h
-  keeps_there meaning idle_keeps active_keeps w j apart h keeps =
-      rw (slot_other j apart, once_other j apart) (slot_keeps_other meaning idle_keeps active_keeps w groups g y (slot_at slots j) (once_at once j) h (λ a. apart (alone j (ok.active_known g j a))) keeps)
+    -- what the instance keeps in its slot afterwards
+    keeps_here : (meaning : Meaning M) (idle_keeps active_keeps : Relation M) (w : Option ℤ) (h : History) → InstKeeps meaning idle_keeps active_keeps w inst o y h
+        → SlotKeeps meaning idle_keeps active_keeps w (slot_at (set slots i (Some (record { group = g; inst = inst }))) i) (once_at once' i) (set groups g y) h
+    keeps_here meaning idle_keeps active_keeps w h here =
+        rw (slot_same, sees.here) (subst (λ (q : Group). InstKeeps meaning idle_keeps active_keeps w inst o q h) (sym group_same) here)
 
-  -- the instance went on by one step from its history to h
+    -- what each other instance keeps in its slot afterwards
+    keeps_there : (meaning : Meaning M) (idle_keeps active_keeps : Relation M) (w : Option ℤ) (j : ℕ) → j ≢ i → (h : History) → SlotKeeps meaning idle_keeps active_keeps w (slot_at slots j) (once_at once j) groups h
+        → SlotKeeps meaning idle_keeps active_keeps w (slot_at (set slots i (Some (record { group = g; inst = inst }))) j) (once_at once' j) (set groups g y) h
+    keeps_there meaning idle_keeps active_keeps w j apart h keeps =
+        let beside = slot_keeps_other meaning idle_keeps active_keeps w groups g y (slot_at slots j) (once_at once j) h (λ a. apart (alone j (ok.active_known g j a))) keeps in
+        rw (slot_other j apart) (slot_sees meaning idle_keeps active_keeps w (once_at once j) (once_at once' j) h (slot_at slots j) (set groups g y) (λ n at. sees.written j n apart at) beside)
+
+    -- the instance went on by one step from its history to h
+    pub keeps_by_step : (meaning : Meaning M) (idle_keeps active_keeps : Relation M) (w : Option ℤ) (histories : ℕ → History) (h : History)
+        → (InstKeeps meaning idle_keeps active_keeps w m.inst (once_at once i) (group_at groups g) (histories i) → InstKeeps meaning idle_keeps active_keeps w inst o y h)
+        → Keeps meaning idle_keeps active_keeps w slots once groups histories
+        → Keeps meaning idle_keeps active_keeps w (set slots i (Some (record { group = g; inst = inst }))) once' (set groups g y) (with_history histories i h)
+    keeps_by_step meaning idle_keeps active_keeps w histories h step keeps j =
+        elim (eqb_tells j i) [
+          | inl e ↦ rw (e.0, e.1) (keeps_here meaning idle_keeps active_keeps w h (step (kept_here meaning idle_keeps active_keeps w histories keeps)))
+          | inr e ↦ rw e.0 (keeps_there meaning idle_keeps active_keeps w j e.1 (histories j) (keeps j))
+        ]
+
+    -- the instance changed its state alone
+    pub keeps_by_change : (meaning : Meaning M) (idle_keeps active_keeps : Relation M) (w : Option ℤ) (histories : ℕ → History)
+        → (InstKeeps meaning idle_keeps active_keeps w m.inst (once_at once i) (group_at groups g) (histories i) → InstKeeps meaning idle_keeps active_keeps w inst o y (histories i))
+        → Keeps meaning idle_keeps active_keeps w slots once groups histories
+        → Keeps meaning idle_keeps active_keeps w (set slots i (Some (record { group = g; inst = inst }))) once' (set groups g y) histories
+    keeps_by_change meaning idle_keeps active_keeps w histories step keeps j =
+        elim (eqb_tells j i) [
+          | inl e ↦ rw e.1 (keeps_here meaning idle_keeps active_keeps w (histories i) (step (kept_here meaning idle_keeps active_keeps w histories keeps)))
+          | inr e ↦ keeps_there meaning idle_keeps active_keeps w j e.1 (histories j) (keeps j)
+        ]
+
+  -- where each instance has its write-once pieces for itself
+  pub tables_by_change : (K : ℕ → Member M → Pieces → Group → Type 0)
+      → K i (record { group = g; inst = inst }) (once_at (set once i (shelf_of o)) i) (group_at (set groups g y) g)
+      → ((j : ℕ) (n : Member M) → j ≢ i → slot_at slots j ≡ Some n → H j n (once_at once j) (group_at groups n.group) → K j n (once_at (set once i (shelf_of o)) j) (group_at (set groups g y) n.group))
+      → Tables K (set slots i (Some (record { group = g; inst = inst }))) (set once i (shelf_of o)) (set groups g y)
+  tables_by_change K here there = tables_by_sight (set once i (shelf_of o)) own_sight K here there
+
   pub keeps_after_step : (meaning : Meaning M) (idle_keeps active_keeps : Relation M) (w : Option ℤ) (histories : ℕ → History) (h : History)
       → (InstKeeps meaning idle_keeps active_keeps w m.inst (once_at once i) (group_at groups g) (histories i) → InstKeeps meaning idle_keeps active_keeps w inst o y h)
       → Keeps meaning idle_keeps active_keeps w slots once groups histories
-      → Keeps meaning idle_keeps active_keeps w (set slots i (Some (record { group = g; inst = inst }))) (set once i o) (set groups g y) (with_history histories i h)
-  keeps_after_step meaning idle_keeps active_keeps w histories h step keeps j =
-      elim (eqb_tells j i) [
-        | inl e ↦ rw (e.0, e.1) (keeps_here meaning idle_keeps active_keeps w h (step (kept_here meaning idle_keeps active_keeps w histories keeps)))
-        | inr e ↦ rw e.0 (keeps_there meaning idle_keeps active_keeps w j e.1 (histories j) (keeps j))
-      ]
+      → Keeps meaning idle_keeps active_keeps w (set slots i (Some (record { group = g; inst = inst }))) (set once i (shelf_of o)) (set groups g y) (with_history histories i h)
+  keeps_after_step meaning idle_keeps active_keeps w histories h step keeps = keeps_by_step (set once i (shelf_of o)) own_sight meaning idle_keeps active_keeps w histories h step keeps
 
-  -- the instance changed its state alone
   pub keeps_after_change : (meaning : Meaning M) (idle_keeps active_keeps : Relation M) (w : Option ℤ) (histories : ℕ → History)
       → (InstKeeps meaning idle_keeps active_keeps w m.inst (once_at once i) (group_at groups g) (histories i) → InstKeeps meaning idle_keeps active_keeps w inst o y (histories i))
       → Keeps meaning idle_keeps active_keeps w slots once groups histories
-      → Keeps meaning idle_keeps active_keeps w (set slots i (Some (record { group = g; inst = inst }))) (set once i o) (set groups g y) histories
-  keeps_after_change meaning idle_keeps active_keeps w histories step keeps j =
-      elim (eqb_tells j i) [
-        | inl e ↦ rw e.1 (keeps_here meaning idle_keeps active_keeps w (histories i) (step (kept_here meaning idle_keeps active_keeps w histories keeps)))
-        | inr e ↦ keeps_there meaning idle_keeps active_keeps w j e.1 (histories j) (keeps j)
-      ]
+      → Keeps meaning idle_keeps active_keeps w (set slots i (Some (record { group = g; inst = inst }))) (set once i (shelf_of o)) (set groups g y) histories
+  keeps_after_change meaning idle_keeps active_keeps w histories step keeps = keeps_by_change (set once i (shelf_of o)) own_sight meaning idle_keeps active_keeps w histories step keeps
 
--- for an instance that stays where it is
-module _ {M : Type 0} (slots : List (Option (Member M))) (once : List Pieces) (groups : List Group) (i g : ℕ) (m : Member M) (inst : Inst M) (o : Pieces) (y : Group)
+-- for an instance that stays where it is, with what each instance sees of write-once records afterwards
+module _ {M : Type 0} (slots : List (Option (Member M))) (once : List Shelf) (groups : List Group) (i g : ℕ) (m : Member M) (inst : Inst M) (o : Pieces) (y : Group) (once' : List Shelf) (sees : Sees slots once i o once')
     (ok : TablesOk slots once groups) (in_slot : slot_at slots i ≡ Some m) (of_group : m.group ≡ g) (alone : (j : ℕ) → (group_at groups g).active ≡ Some j → j ≡ i) (now : y.active ≡ active_in i inst)
     (same : SameInstance (instance_of m.inst) (instance_of inst)) (pieces : SamePieces (once_at once i) o) (written : SameOnce (instance_of m.inst).table (once_at once i) o)
     (blocks : (space : Space) → IsSameBlock (block_in (group_at groups g) space) (block_in y space)) where
   blocks_after : (k : ℕ) (space : Space) → IsSameBlock (block_in (group_at groups k) space) (block_in (group_at (set groups g y) k) space)
   blocks_after = blocks_stay groups g y (g_in EachIsHoused slots once groups i g m inst o y ok in_slot of_group alone now) blocks
 
-  pieces_after : (j : ℕ) → SamePieces (once_at once j) (once_at (set once i o) j)
-  pieces_after = pieces_stay once i o (i_in_once EachIsHoused slots once groups i g m inst o y ok in_slot of_group alone now) pieces
+  pieces_after : (j : ℕ) → SamePieces (once_at once j) (once_at once' j)
+  pieces_after = pieces_seen slots once i o once' sees pieces
 
   slots_after : (j : ℕ) → SameSlot (slot_at slots j) (slot_at (set slots i (Some (record { group = g; inst = inst }))) j)
   slots_after j =
@@ -275,67 +313,79 @@ module _ {M : Type 0} (slots : List (Option (Member M))) (once : List Pieces) (g
         | inr e ↦ rw (slot_other EachIsHoused slots once groups i g m inst o y ok in_slot of_group alone now j e.1) (same_slot (slot_at slots j))
       ]
 
-  written_after : (j : ℕ) (n : Member M) → slot_at slots j ≡ Some n → SameOnce (instance_of n.inst).table (once_at once j) (once_at (set once i o) j)
+  written_after : (j : ℕ) (n : Member M) → slot_at slots j ≡ Some n → SameOnce (instance_of n.inst).table (once_at once j) (once_at once' j)
   written_after j n at k attr =
       elim (eqb_tells j i) [
         | inl e ↦
             let is : m ≡ n = same_Some _ _ (sym in_slot ∙ rw e.1 at at) in
-            rw (e.1, once_same EachIsHoused slots once groups i g m inst o y ok in_slot of_group alone now)
+            rw (e.1, sees.here)
             (subst (λ (q : Member M). SameOnce (instance_of q.inst).table (once_at once i) o) is written k attr)
-        | inr e ↦ rw (once_other EachIsHoused slots once groups i g m inst o y ok in_slot of_group alone now j e.1) refl
+        | inr e ↦ sees.written j n e.1 at k attr
       ]
 
-  pub tables_after_change : SameTables slots once groups (set slots i (Some (record { group = g; inst = inst }))) (set once i o) (set groups g y)
-  tables_after_change = record { slot = slots_after; pieces = pieces_after; written = written_after; blocks = blocks_after }
+  pub tables_after_sight : SameTables slots once groups (set slots i (Some (record { group = g; inst = inst }))) once' (set groups g y)
+  tables_after_sight = record { slot = slots_after; pieces = pieces_after; written = written_after; blocks = blocks_after }
 
-  pub ok_after_change : TablesOk (set slots i (Some (record { group = g; inst = inst }))) (set once i o) (set groups g y)
-  ok_after_change =
-      tables_by_change EachIsHoused slots once groups i g m inst o y ok in_slot of_group alone now EachIsHoused
+  pub ok_after_sight : TablesOk (set slots i (Some (record { group = g; inst = inst }))) once' (set groups g y)
+  ok_after_sight =
+      tables_by_sight EachIsHoused slots once groups i g m inst o y ok in_slot of_group alone now once' sees EachIsHoused
       (let before : IsHoused (instance_of m.inst) (once_at once i) (group_at groups g) = rw of_group at (ok.housed i m in_slot) in
       housed_stays (instance_of m.inst) (instance_of inst) _ _ _ _ same (pieces_after i) (blocks_after g) before)
       (λ j n apart at before.
       housed_stays (instance_of n.inst) (instance_of n.inst) _ _ _ _
       (record { kind = refl; params = refl; table = refl; own = same_pieces (instance_of n.inst).own }) (pieces_after j) (blocks_after n.group) before)
 
+-- where each instance has its write-once pieces for itself
+module _ {M : Type 0} (slots : List (Option (Member M))) (once : List Shelf) (groups : List Group) (i g : ℕ) (m : Member M) (inst : Inst M) (o : Pieces) (y : Group)
+    (ok : TablesOk slots once groups) (in_slot : slot_at slots i ≡ Some m) (of_group : m.group ≡ g) (alone : (j : ℕ) → (group_at groups g).active ≡ Some j → j ≡ i) (now : y.active ≡ active_in i inst)
+    (same : SameInstance (instance_of m.inst) (instance_of inst)) (pieces : SamePieces (once_at once i) o) (written : SameOnce (instance_of m.inst).table (once_at once i) o)
+    (blocks : (space : Space) → IsSameBlock (block_in (group_at groups g) space) (block_in y space)) where
+  sight : Sees slots once i o (set once i (shelf_of o))
+  sight = own_sight EachIsHoused slots once groups i g m inst o y ok in_slot of_group alone now
+
+  pub tables_after_change : SameTables slots once groups (set slots i (Some (record { group = g; inst = inst }))) (set once i (shelf_of o)) (set groups g y)
+  tables_after_change = tables_after_sight slots once groups i g m inst o y (set once i (shelf_of o)) sight ok in_slot of_group alone now same pieces written blocks
+
+  pub ok_after_change : TablesOk (set slots i (Some (record { group = g; inst = inst }))) (set once i (shelf_of o)) (set groups g y)
+  ok_after_change = ok_after_sight slots once groups i g m inst o y (set once i (shelf_of o)) sight ok in_slot of_group alone now same pieces written blocks
+
 -- what the code read
 pub read_group : (groups : List Group) (g : ℕ) (r : Group) → g < length groups → r ≡ slice_index_or groups g r → group_at groups g ≡ r
 read_group groups g r inside read = sym (get_or_read groups g r inside read no_group)
 
-pub read_once : (once : List Pieces) (i : ℕ) (r : Pieces) → i < length once → r ≡ slice_index_or once i r → once_at once i ≡ r
-read_once once i r inside read = sym (get_or_read once i r inside read no_pieces)
-
 -- the instance that was taken out of its slot fits there
-pub fits_in_slot : {M : Type 0} (slots : List (Option (Member M))) (once : List Pieces) (groups : List Group) (i g : ℕ) (m : Member M) (inst : Inst M) (o : Pieces) (y : Group)
+pub fits_in_slot : {M : Type 0} (slots : List (Option (Member M))) (once : List Shelf) (groups : List Group) (i g : ℕ) (m : Member M) (inst : Inst M) (o : Pieces) (y : Group)
     → TablesOk slots once groups → slot_at slots i ≡ Some m → m.inst ≡ inst → m.group ≡ g → once_at once i ≡ o → group_at groups g ≡ y
     → Fits (instance_of inst).table (instance_of inst).own o y
 fits_in_slot slots once groups i g m inst o y ok at is of_group once_is group_is =
     rw (is, of_group, once_is, group_is) at (ok.housed i m at).fits
 
-group_inside : {M : Type 0} {H : ℕ → Member M → Pieces → Group → Type 0} (slots : List (Option (Member M))) (once : List Pieces) (groups : List Group) → Tables H slots once groups → (g : ℕ) → g < GROUPS → g < length groups
+pub group_inside : {M : Type 0} {H : ℕ → Member M → Pieces → Group → Type 0} (slots : List (Option (Member M))) (once : List Shelf) (groups : List Group) → Tables H slots once groups → (g : ℕ) → g < GROUPS → g < length groups
 group_inside slots once groups ok g below = omega (arith, ok.group_count)
 
-pub read_ok_group : {M : Type 0} {H : ℕ → Member M → Pieces → Group → Type 0} (slots : List (Option (Member M))) (once : List Pieces) (groups : List Group) → Tables H slots once groups → (g : ℕ) → g < GROUPS
+pub read_ok_group : {M : Type 0} {H : ℕ → Member M → Pieces → Group → Type 0} (slots : List (Option (Member M))) (once : List Shelf) (groups : List Group) → Tables H slots once groups → (g : ℕ) → g < GROUPS
     → (r : Group) → r ≡ slice_index_or groups g r → group_at groups g ≡ r
 read_ok_group slots once groups ok g below r read = read_group groups g r (group_inside slots once groups ok g below) read
 
-pub read_ok_once : {M : Type 0} {H : ℕ → Member M → Pieces → Group → Type 0} (slots : List (Option (Member M))) (once : List Pieces) (groups : List Group) → Tables H slots once groups → (i : ℕ) (m : Member M) → slot_at slots i ≡ Some m
-    → (r : Pieces) → r ≡ slice_index_or once i r → once_at once i ≡ r
-read_ok_once slots once groups ok i m at r read =
+-- an instance in its slot has its shelf
+pub once_inside : {M : Type 0} {H : ℕ → Member M → Pieces → Group → Type 0} (slots : List (Option (Member M))) (once : List Shelf) (groups : List Group) → Tables H slots once groups → (i : ℕ) (m : Member M) → slot_at slots i ≡ Some m
+    → i < length once
+once_inside slots once groups ok i m at =
     let inside = slot_in slots i m at in
-    read_once once i r (omega (arith, inside, ok.slot_count, ok.once_count)) read
+    omega (arith, inside, ok.slot_count, ok.once_count)
 
-pub read_ok_slot : {M : Type 0} {H : ℕ → Member M → Pieces → Group → Type 0} (slots : List (Option (Member M))) (once : List Pieces) (groups : List Group) → Tables H slots once groups → (i : ℕ) → i < INSTANCES
+pub read_ok_slot : {M : Type 0} {H : ℕ → Member M → Pieces → Group → Type 0} (slots : List (Option (Member M))) (once : List Shelf) (groups : List Group) → Tables H slots once groups → (i : ℕ) → i < INSTANCES
     → (r : Option (Member M)) → r ≡ slice_index_or slots i r → slot_at slots i ≡ r
 read_ok_slot slots once groups ok i below r read = sym (get_or_read slots i r (omega (arith, ok.slot_count)) read None)
 
 -- the active member that the code read stands in its slot, and is active there
-pub read_active : {M : Type 0} (slots : List (Option (Member M))) (once : List Pieces) (groups : List Group) → TablesOk slots once groups → (g i : ℕ) → g < GROUPS
+pub read_active : {M : Type 0} (slots : List (Option (Member M))) (once : List Shelf) (groups : List Group) → TablesOk slots once groups → (g i : ℕ) → g < GROUPS
     → (r : Group) → r ≡ slice_index_or groups g r → r.active ≡ Some i → slot_active_in (slot_at slots i) ≡ Some g
 read_active slots once groups ok g i below r read active =
     ok.active_there g i below (ap (λ (q : Group). q.active) (read_ok_group slots once groups ok g below r read) ∙ active)
 
 -- and no other member is
-pub read_alone : {M : Type 0} (slots : List (Option (Member M))) (once : List Pieces) (groups : List Group) → TablesOk slots once groups → (g i : ℕ) → g < GROUPS
+pub read_alone : {M : Type 0} (slots : List (Option (Member M))) (once : List Shelf) (groups : List Group) → TablesOk slots once groups → (g i : ℕ) → g < GROUPS
     → (r : Group) → r ≡ slice_index_or groups g r → r.active ≡ Some i → (j : ℕ) → (group_at groups g).active ≡ Some j → j ≡ i
 read_alone slots once groups ok g i below r read active j other =
     same_Some j i (sym other ∙ ap (λ (q : Group). q.active) (read_ok_group slots once groups ok g below r read) ∙ active)
@@ -351,7 +401,7 @@ once_then : (rs : List MemRec) (a b c : Pieces) → SameOnce rs a b → SameOnce
 once_then rs a b c e f k attr = f k attr ∙ e k attr
 
 -- two steps in turn
-pub tables_then : {M : Type 0} (slots slots' slots'' : List (Option (Member M))) (once once' once'' : List Pieces) (groups groups' groups'' : List Group)
+pub tables_then : {M : Type 0} (slots slots' slots'' : List (Option (Member M))) (once once' once'' : List Shelf) (groups groups' groups'' : List Group)
     → SameTables slots once groups slots' once' groups' → SameTables slots' once' groups' slots'' once'' groups'' → SameTables slots once groups slots'' once'' groups''
 tables_then slots slots' slots'' once once' once'' groups groups' groups'' a b = record {
   slot = λ i. slot_then _ _ _ (a.slot i) (b.slot i);
@@ -369,12 +419,12 @@ read_slot (s ∷ slots) zero g active r read = sym read
 read_slot (s ∷ slots) (suc i) g active r read = read_slot slots i g active r read
 
 -- an active instance is its group's active member
-pub known_active : {M : Type 0} (slots : List (Option (Member M))) (once : List Pieces) (groups : List Group) → TablesOk slots once groups → (i : ℕ) (m : Member M) → slot_at slots i ≡ Some m
+pub known_active : {M : Type 0} (slots : List (Option (Member M))) (once : List Shelf) (groups : List Group) → TablesOk slots once groups → (i : ℕ) (m : Member M) → slot_at slots i ≡ Some m
     → slot_active_in (slot_at slots i) ≡ Some (group_of (slot_at slots i)) → (group_at groups m.group).active ≡ Some i
 known_active slots once groups ok i m at active = ok.active_known m.group i (active ∙ ap Some (ap group_of at))
 
 -- what the instance in a slot keeps
-pub kept_in_slot : {M : Type 0} (slots : List (Option (Member M))) (once : List Pieces) (groups : List Group) (i : ℕ) (m : Member M) (inst : Inst M) (o : Pieces) (y : Group)
+pub kept_in_slot : {M : Type 0} (slots : List (Option (Member M))) (once : List Shelf) (groups : List Group) (i : ℕ) (m : Member M) (inst : Inst M) (o : Pieces) (y : Group)
     → slot_at slots i ≡ Some m → m.inst ≡ inst → once_at once i ≡ o → group_at groups m.group ≡ y
     → (meaning : Meaning M) (idle_keeps active_keeps : Relation M) (w : Option ℤ) (histories : ℕ → History)
     → Keeps meaning idle_keeps active_keeps w slots once groups histories → InstKeeps meaning idle_keeps active_keeps w inst o y (histories i)

@@ -81,6 +81,11 @@ housed_stays s s' shared shared' g g' same ss sb h = record {
       ∙ ap (λ (t : List MemRec). placed t s'.own shared' g') (sym same.table);
 }
 
+-- so it does while another instance is called
+pub housed_beside : {M : Type 0} (s : Instance M) (shared shared' : Pieces) (g : Group) → SamePieces shared shared' → IsHoused s shared g → IsHoused s shared' g
+housed_beside s shared shared' g ss h =
+    housed_stays s s shared shared' g g (record { kind = refl; params = refl; table = refl; own = same_pieces s.own }) ss (same_blocks g g (same_group g)) h
+
 -- only sizes, alignments, spaces and kinds of records say where they are placed
 placed_again : (rs : List MemRec) (own own' shared shared' : Pieces) (g g' : Group) → placed (placed rs own shared g) own' shared' g' ≡ placed rs own' shared' g'
 placed_again rs own own' shared shared' g g' =

@@ -10,8 +10,13 @@ use Rattle.scratch_group.specs.declared.group.Group.{Group}
 use Rattle.lifecycle.specs.States.{Relation}
 use Rattle.instance_table.specs.declared.TheConstants.{INSTANCES, GROUPS}
 use Rattle.instance_table.specs.declared.member.Member.{Member}
-use Rattle.instance_table.specs.Table.{slot_at, once_at, group_at, no_pieces, instance_of, slot_active_in, IsHoused, EachIsHoused, Tables, TablesOk}
+use Rattle.instance_table.specs.declared.shelves.Shelf.{Shelf}
+use Rattle.instance_table.specs.Shelves.{shelf_of}
+use Rattle.instance_table.specs.Table.{slot_at, once_at, group_at, instance_of, slot_active_in, IsHoused, EachIsHoused, Tables, TablesOk}
 use Rattle.instance_table.specs.Keeps.{SlotKeeps, Keeps, with_history}
+use Rattle.instance_table.proofs.Housing.{housed_beside}
+use Rattle.instance_table.proofs.Stands.{set_there}
+use Rattle.instance_table.proofs.Sights.{Sees, sees_own, slot_sees}
 
 -- what holds of the member that is put in
 pub is_new : {M : Type 0} (K : ℕ → Member M → Pieces → Group → Type 0) (groups : List Group) (i : ℕ) (o : Pieces) (n : Member M) → n.group < GROUPS → K i n o (group_at groups n.group)
@@ -19,7 +24,7 @@ pub is_new : {M : Type 0} (K : ℕ → Member M → Pieces → Group → Type 0)
 is_new {M = M} K groups i o n range holds m at =
     subst (λ (q : Member M). (q.group < GROUPS) × K i q o (group_at groups q.group)) (same_Some _ _ at) (range, holds)
 
-module _ {M : Type 0} (H : ℕ → Member M → Pieces → Group → Type 0) (slots : List (Option (Member M))) (once : List Pieces) (groups : List Group) (i : ℕ) (x : Option (Member M)) (o : Pieces)
+module _ {M : Type 0} (H : ℕ → Member M → Pieces → Group → Type 0) (slots : List (Option (Member M))) (once : List Shelf) (groups : List Group) (i : ℕ) (x : Option (Member M)) (o : Pieces)
     (ok : Tables H slots once groups) (inside : i < INSTANCES) (was : slot_active_in (slot_at slots i) ≡ None) (is : slot_active_in x ≡ None) where
   slot_same : slot_at (set slots i x) i ≡ x
   slot_same =
@@ -29,13 +34,13 @@ module _ {M : Type 0} (H : ℕ → Member M → Pieces → Group → Type 0) (sl
   slot_other : (j : ℕ) → j ≢ i → slot_at (set slots i x) j ≡ slot_at slots j
   slot_other j apart = get_or-set_other slots i j x None apart
 
-  once_same : once_at (set once i o) i ≡ o
-  once_same =
+  own_sight : Sees slots once i o (set once i (shelf_of o))
+  own_sight =
       let i_in : i < length once = omega (arith, inside, ok.once_count) in
-      get_or-set_same once i o no_pieces i_in
+      sees_own slots once i o i_in ok.unshared
 
-  once_other : (j : ℕ) → j ≢ i → once_at (set once i o) j ≡ once_at once j
-  once_other j apart = get_or-set_other once i j o no_pieces apart
+  once_other : (j : ℕ) → j ≢ i → once_at (set once i (shelf_of o)) j ≡ once_at once j
+  once_other j apart = set_there once i j (shelf_of o) (ok.unshared j) apart
 
   active_same : (j : ℕ) → slot_active_in (slot_at (set slots i x) j) ≡ slot_active_in (slot_at slots j)
   active_same j =
@@ -44,52 +49,81 @@ module _ {M : Type 0} (H : ℕ → Member M → Pieces → Group → Type 0) (sl
         | inr e ↦ ap slot_active_in (slot_other j e.1)
       ]
 
+  -- with what each instance sees of write-once records afterwards
+  module _ (once' : List Shelf) (sees : Sees slots once i o once') where
+    pub tables_by_still : (K : ℕ → Member M → Pieces → Group → Type 0)
+        → ((m : Member M) → x ≡ Some m → (m.group < GROUPS) × K i m o (group_at groups m.group))
+        → ((j : ℕ) (n : Member M) → j ≢ i → slot_at slots j ≡ Some n → H j n (once_at once j) (group_at groups n.group) → K j n (once_at once' j) (group_at groups n.group))
+        → Tables K (set slots i x) once' groups
+    tables_by_still K new there = record {
+      slot_count = simp length-set ok.slot_count;
+      once_count = sees.count ∙ ok.once_count;
+      unshared = sees.unshared;
+      group_count = ok.group_count;
+      group_range = λ j n at.
+          elim (eqb_tells j i) [
+            | inl e ↦ (new n (sym slot_same ∙ rw e.1 at at)).0
+            | inr e ↦ ok.group_range j n (sym (slot_other j e.1) ∙ at)
+          ];
+      housed = λ j n at.
+          elim (eqb_tells j i) [
+            | inl e ↦ rw (e.1, sees.here) (new n (sym slot_same ∙ rw e.1 at at)).1
+            | inr e ↦
+                let before = sym (slot_other j e.1) ∙ at in
+                there j n e.1 before (ok.housed j n before)
+          ];
+      active_there = λ k j below at. active_same j ∙ ok.active_there k j below at;
+      active_known = λ k j at. ok.active_known k j (sym (active_same j) ∙ at);
+    }
+
+    pub keeps_by_still : (meaning : Meaning M) (idle_keeps active_keeps : Relation M) (w : Option ℤ) (histories : ℕ → History) (h : History)
+        → SlotKeeps meaning idle_keeps active_keeps w x o groups h
+        → Keeps meaning idle_keeps active_keeps w slots once groups histories
+        → Keeps meaning idle_keeps active_keeps w (set slots i x) once' groups (with_history histories i h)
+    keeps_by_still meaning idle_keeps active_keeps w histories h new keeps j =
+        elim (eqb_tells j i) [
+          | inl e ↦ rw (e.0, e.1, slot_same, sees.here) new
+          | inr e ↦ rw (e.0, slot_other j e.1) (slot_sees meaning idle_keeps active_keeps w (once_at once j) (once_at once' j) (histories j) (slot_at slots j) groups (λ n at. sees.written j n e.1 at) (keeps j))
+        ]
+
+    pub keeps_by_end : (meaning : Meaning M) (idle_keeps active_keeps : Relation M) (w : Option ℤ) (histories : ℕ → History)
+        → SlotKeeps meaning idle_keeps active_keeps w x o groups (histories i)
+        → Keeps meaning idle_keeps active_keeps w slots once groups histories
+        → Keeps meaning idle_keeps active_keeps w (set slots i x) once' groups histories
+    keeps_by_end meaning idle_keeps active_keeps w histories new keeps j =
+        elim (eqb_tells j i) [
+          | inl e ↦ rw (e.1, slot_same, sees.here) new
+          | inr e ↦ rw (slot_other j e.1) (slot_sees meaning idle_keeps active_keeps w (once_at once j) (once_at once' j) (histories j) (slot_at slots j) groups (λ n at. sees.written j n e.1 at) (keeps j))
+        ]
+
+  -- where each instance has its write-once pieces for itself
   pub tables_by_quiet : (K : ℕ → Member M → Pieces → Group → Type 0)
       → ((m : Member M) → x ≡ Some m → (m.group < GROUPS) × K i m o (group_at groups m.group))
       → ((j : ℕ) (n : Member M) → j ≢ i → slot_at slots j ≡ Some n → H j n (once_at once j) (group_at groups n.group) → K j n (once_at once j) (group_at groups n.group))
-      → Tables K (set slots i x) (set once i o) groups
-  tables_by_quiet K new there = record {
-    slot_count = simp length-set ok.slot_count;
-    once_count = simp length-set ok.once_count;
-    group_count = ok.group_count;
-    group_range = λ j n at.
-        elim (eqb_tells j i) [
-          | inl e ↦ (new n (sym slot_same ∙ rw e.1 at at)).0
-          | inr e ↦ ok.group_range j n (sym (slot_other j e.1) ∙ at)
-        ];
-    housed = λ j n at.
-        elim (eqb_tells j i) [
-          | inl e ↦ rw (e.1, once_same) (new n (sym slot_same ∙ rw e.1 at at)).1
-          | inr e ↦
-              let before = sym (slot_other j e.1) ∙ at in
-              rw (once_other j e.1) (there j n e.1 before (ok.housed j n before))
-        ];
-    active_there = λ k j below at. active_same j ∙ ok.active_there k j below at;
-    active_known = λ k j at. ok.active_known k j (sym (active_same j) ∙ at);
-  }
+      → Tables K (set slots i x) (set once i (shelf_of o)) groups
+  tables_by_quiet K new there = tables_by_still (set once i (shelf_of o)) own_sight K new (λ j n apart at before. rw (once_other j apart) (there j n apart at before))
 
   pub keeps_after_quiet : (meaning : Meaning M) (idle_keeps active_keeps : Relation M) (w : Option ℤ) (histories : ℕ → History) (h : History)
       → SlotKeeps meaning idle_keeps active_keeps w x o groups h
       → Keeps meaning idle_keeps active_keeps w slots once groups histories
-      → Keeps meaning idle_keeps active_keeps w (set slots i x) (set once i o) groups (with_history histories i h)
-  keeps_after_quiet meaning idle_keeps active_keeps w histories h new keeps j =
-      elim (eqb_tells j i) [
-        | inl e ↦ rw (e.0, e.1, slot_same, once_same) new
-        | inr e ↦ rw (e.0, slot_other j e.1, once_other j e.1) (keeps j)
-      ]
+      → Keeps meaning idle_keeps active_keeps w (set slots i x) (set once i (shelf_of o)) groups (with_history histories i h)
+  keeps_after_quiet meaning idle_keeps active_keeps w histories h new keeps = keeps_by_still (set once i (shelf_of o)) own_sight meaning idle_keeps active_keeps w histories h new keeps
 
   pub keeps_after_end : (meaning : Meaning M) (idle_keeps active_keeps : Relation M) (w : Option ℤ) (histories : ℕ → History)
       → SlotKeeps meaning idle_keeps active_keeps w x o groups (histories i)
       → Keeps meaning idle_keeps active_keeps w slots once groups histories
-      → Keeps meaning idle_keeps active_keeps w (set slots i x) (set once i o) groups histories
-  keeps_after_end meaning idle_keeps active_keeps w histories new keeps j =
-      elim (eqb_tells j i) [
-        | inl e ↦ rw (e.1, slot_same, once_same) new
-        | inr e ↦ rw (slot_other j e.1, once_other j e.1) (keeps j)
-      ]
+      → Keeps meaning idle_keeps active_keeps w (set slots i x) (set once i (shelf_of o)) groups histories
+  keeps_after_end meaning idle_keeps active_keeps w histories new keeps = keeps_by_end (set once i (shelf_of o)) own_sight meaning idle_keeps active_keeps w histories new keeps
 
-pub ok_after_quiet : {M : Type 0} (slots : List (Option (Member M))) (once : List Pieces) (groups : List Group) (i : ℕ) (x : Option (Member M)) (o : Pieces)
+pub ok_after_still : {M : Type 0} (slots : List (Option (Member M))) (once : List Shelf) (groups : List Group) (i : ℕ) (x : Option (Member M)) (o : Pieces) (once' : List Shelf) → Sees slots once i o once'
     → TablesOk slots once groups → i < INSTANCES → slot_active_in (slot_at slots i) ≡ None → slot_active_in x ≡ None
-    → ((m : Member M) → x ≡ Some m → (m.group < GROUPS) × IsHoused (instance_of m.inst) o (group_at groups m.group)) → TablesOk (set slots i x) (set once i o) groups
+    → ((m : Member M) → x ≡ Some m → (m.group < GROUPS) × IsHoused (instance_of m.inst) o (group_at groups m.group)) → TablesOk (set slots i x) once' groups
+ok_after_still slots once groups i x o once' sees ok inside was is new =
+    tables_by_still EachIsHoused slots once groups i x o ok inside was is once' sees EachIsHoused new
+    (λ j n apart at before. housed_beside (instance_of n.inst) (once_at once j) (once_at once' j) (group_at groups n.group) (sees.others j apart) before)
+
+pub ok_after_quiet : {M : Type 0} (slots : List (Option (Member M))) (once : List Shelf) (groups : List Group) (i : ℕ) (x : Option (Member M)) (o : Pieces)
+    → TablesOk slots once groups → i < INSTANCES → slot_active_in (slot_at slots i) ≡ None → slot_active_in x ≡ None
+    → ((m : Member M) → x ≡ Some m → (m.group < GROUPS) × IsHoused (instance_of m.inst) o (group_at groups m.group)) → TablesOk (set slots i x) (set once i (shelf_of o)) groups
 ok_after_quiet slots once groups i x o ok inside was is new =
     tables_by_quiet EachIsHoused slots once groups i x o ok inside was is EachIsHoused new (λ j n apart at before. before)

@@ -1,4 +1,6 @@
 pub mod Housing
+pub mod Stands
+pub mod Sights
 pub mod Changes
 pub mod Activities
 pub mod Idles

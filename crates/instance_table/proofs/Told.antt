@@ -18,9 +18,12 @@ use Rattle.lifecycle.specs.States.{SameInstance}
 use Rattle.lifecycle.proofs.Frames.{same_pieces, same_group}
 use Rattle.instance_table.specs.declared.TheConstants.{INSTANCES}
 use Rattle.instance_table.specs.declared.member.Member.{Member}
-use Rattle.instance_table.specs.Table.{slot_at, once_at, group_at, no_pieces, no_group, instance_of, is_member_of, IsHoused, IsTold, TablesOk, TablesTold}
+use Rattle.instance_table.specs.declared.shelves.Shelf.{Shelf}
+use Rattle.instance_table.specs.Shelves.{shelf_of}
+use Rattle.instance_table.specs.Table.{slot_at, once_at, group_at, IsUnshared, no_group, instance_of, is_member_of, IsHoused, IsTold, TablesOk, TablesTold}
 use Rattle.instance_table.specs.Frames.{SameMember, IsSameMember, SameMembers}
 use Rattle.instance_table.proofs.Housing.{same_blocks, room_of_housed, room_stays, housed_stays}
+use Rattle.instance_table.proofs.Stands.{set_here}
 use Rattle.instance_table.proofs.Changes.{slot_in, pieces_then, block_then, pieces_stay, blocks_stay}
 
 -- a slot that has a member of the group
@@ -47,10 +50,10 @@ pub is_told : {M : Type 0} (g n i : ℕ) (m : Member M) (o : Pieces) (y : Group)
 is_told g n i m o y housed = record { told = λ h. housed; waits = λ h. room_of_housed (instance_of m.inst) o y housed }
 
 -- in its slot and its group
-pub told_here : {M : Type 0} (g i : ℕ) (once : List Pieces) (groups : List Group) (o : Pieces) (y : Group) (m : Member M) → i < length once → g < length groups
-    → IsHoused (instance_of m.inst) o y → IsTold g (i + 1) i m (once_at (set once i o) i) (group_at (set groups g y) g)
+pub told_here : {M : Type 0} (g i : ℕ) (once : List Shelf) (groups : List Group) (o : Pieces) (y : Group) (m : Member M) → i < length once → g < length groups
+    → IsHoused (instance_of m.inst) o y → IsTold g (i + 1) i m (once_at (set once i (shelf_of o)) i) (group_at (set groups g y) g)
 told_here g i once groups o y m once_in group_in housed =
-    rw (get_or-set_same once i o no_pieces once_in, get_or-set_same groups g y no_group group_in) (is_told g (i + 1) i m o y housed)
+    rw (set_here once i o once_in, get_or-set_same groups g y no_group group_in) (is_told g (i + 1) i m o y housed)
 
 -- the others stay as they are
 pub told_beside : {M : Type 0} (g n j : ℕ) (m : Member M) (o o' : Pieces) (y y' : Group) → j ≢ n → SamePieces o o' → ((space : Space) → IsSameBlock (block_in y space) (block_in y' space))
@@ -70,11 +73,12 @@ equal_is a b same =
     ]
 
 -- where the slot has no member of the group, nothing is to be told
-pub told_by_none : {M : Type 0} (g n : ℕ) (slots : List (Option (Member M))) (once : List Pieces) (groups : List Group) → is_member_of g (slot_at slots n) ≡ false
+pub told_by_none : {M : Type 0} (g n : ℕ) (slots : List (Option (Member M))) (once : List Shelf) (groups : List Group) → is_member_of g (slot_at slots n) ≡ false
     → TablesTold g n slots once groups → TablesTold g (n + 1) slots once groups
 told_by_none g n slots once groups none ok = record {
   slot_count = ok.slot_count;
   once_count = ok.once_count;
+  unshared = ok.unshared;
   group_count = ok.group_count;
   group_range = ok.group_range;
   housed = λ j m at.
@@ -90,10 +94,11 @@ told_by_none g n slots once groups none ok = record {
 }
 
 -- all were told
-pub all_told : {M : Type 0} (g n : ℕ) (slots : List (Option (Member M))) (once : List Pieces) (groups : List Group) → INSTANCES ≤ n → TablesTold g n slots once groups → TablesOk slots once groups
+pub all_told : {M : Type 0} (g n : ℕ) (slots : List (Option (Member M))) (once : List Shelf) (groups : List Group) → INSTANCES ≤ n → TablesTold g n slots once groups → TablesOk slots once groups
 all_told g n slots once groups all ok = record {
   slot_count = ok.slot_count;
   once_count = ok.once_count;
+  unshared = ok.unshared;
   group_count = ok.group_count;
   group_range = ok.group_range;
   housed = λ j m at.
@@ -135,7 +140,7 @@ member_then (Some a) (Some b) (Some c) e f = record {
   own = pieces_then (instance_of a.inst).own (instance_of b.inst).own (instance_of c.inst).own e.own f.own;
 }
 
-pub members_then : {M : Type 0} (slots slots' slots'' : List (Option (Member M))) (once once' once'' : List Pieces) (groups groups' groups'' : List Group)
+pub members_then : {M : Type 0} (slots slots' slots'' : List (Option (Member M))) (once once' once'' : List Shelf) (groups groups' groups'' : List Group)
     → SameMembers slots once groups slots' once' groups' → SameMembers slots' once' groups' slots'' once'' groups'' → SameMembers slots once groups slots'' once'' groups''
 members_then slots slots' slots'' once once' once'' groups groups' groups'' a b = record {
   slot = λ i. member_then _ _ _ (a.slot i) (b.slot i);
@@ -143,36 +148,53 @@ members_then slots slots' slots'' once once' once'' groups groups' groups'' a b 
   blocks = λ g space. block_then _ _ _ (a.blocks g space) (b.blocks g space);
 }
 
-pub same_members : {M : Type 0} (slots : List (Option (Member M))) (once : List Pieces) (groups : List Group) → SameMembers slots once groups slots once groups
+pub same_members : {M : Type 0} (slots : List (Option (Member M))) (once : List Shelf) (groups : List Group) → SameMembers slots once groups slots once groups
 same_members slots once groups = record {
   slot = λ i. same_members_slot (slot_at slots i);
   pieces = λ i. same_pieces (once_at once i);
   blocks = λ g space. same_blocks _ _ (same_group (group_at groups g)) space;
 }
 
-pub members_after : {M : Type 0} (slots : List (Option (Member M))) (once : List Pieces) (groups : List Group) (i g : ℕ) (m n : Member M) (o : Pieces) (y : Group)
-    → i < length slots → i < length once → g < length groups → slot_at slots i ≡ Some m → SameMember m n → SamePieces (once_at once i) o
+-- with what each instance sees of write-once records afterwards
+
+pub members_after_sight : {M : Type 0} (slots : List (Option (Member M))) (once : List Shelf) (groups : List Group) (i g : ℕ) (m n : Member M) (once' : List Shelf) (y : Group)
+    → i < length slots → g < length groups → slot_at slots i ≡ Some m → SameMember m n → ((j : ℕ) → SamePieces (once_at once j) (once_at once' j))
     → ((space : Space) → IsSameBlock (block_in (group_at groups g) space) (block_in y space))
-    → SameMembers slots once groups (set slots i (Some n)) (set once i o) (set groups g y)
-members_after slots once groups i g m n o y slot_in once_in group_in at same pieces blocks = record {
+    → SameMembers slots once groups (set slots i (Some n)) once' (set groups g y)
+members_after_sight slots once groups i g m n once' y slot_in group_in at same pieces blocks = record {
   slot = λ j.
       elim (eqb_tells j i) [
         | inl e ↦ rw (e.1, get_or-set_same slots i (Some n) None slot_in, at) same
         | inr e ↦ rw (get_or-set_other slots i j (Some n) None e.1) (same_members_slot (slot_at slots j))
       ];
-  pieces = pieces_stay once i o once_in pieces;
+  pieces = pieces;
   blocks = blocks_stay groups g y group_in blocks;
 }
 
-pub members_after_quiet : {M : Type 0} (slots : List (Option (Member M))) (once : List Pieces) (groups : List Group) (i : ℕ) (m n : Member M) (o : Pieces)
-    → i < length slots → i < length once → slot_at slots i ≡ Some m → SameMember m n → SamePieces (once_at once i) o
-    → SameMembers slots once groups (set slots i (Some n)) (set once i o) groups
-members_after_quiet slots once groups i m n o slot_in once_in at same pieces = record {
+pub members_after_still : {M : Type 0} (slots : List (Option (Member M))) (once : List Shelf) (groups : List Group) (i : ℕ) (m n : Member M) (once' : List Shelf)
+    → i < length slots → slot_at slots i ≡ Some m → SameMember m n → ((j : ℕ) → SamePieces (once_at once j) (once_at once' j))
+    → SameMembers slots once groups (set slots i (Some n)) once' groups
+members_after_still slots once groups i m n once' slot_in at same pieces = record {
   slot = λ j.
       elim (eqb_tells j i) [
         | inl e ↦ rw (e.1, get_or-set_same slots i (Some n) None slot_in, at) same
         | inr e ↦ rw (get_or-set_other slots i j (Some n) None e.1) (same_members_slot (slot_at slots j))
       ];
-  pieces = pieces_stay once i o once_in pieces;
+  pieces = pieces;
   blocks = λ g space. same_blocks _ _ (same_group (group_at groups g)) space;
 }
+
+-- where each instance has its write-once pieces for itself
+
+pub members_after : {M : Type 0} (slots : List (Option (Member M))) (once : List Shelf) (groups : List Group) (i g : ℕ) (m n : Member M) (o : Pieces) (y : Group)
+    → i < length slots → i < length once → ((j : ℕ) → IsUnshared once j) → g < length groups → slot_at slots i ≡ Some m → SameMember m n → SamePieces (once_at once i) o
+    → ((space : Space) → IsSameBlock (block_in (group_at groups g) space) (block_in y space))
+    → SameMembers slots once groups (set slots i (Some n)) (set once i (shelf_of o)) (set groups g y)
+members_after slots once groups i g m n o y slot_in once_in unshared group_in at same pieces blocks =
+    members_after_sight slots once groups i g m n (set once i (shelf_of o)) y slot_in group_in at same (pieces_stay once i o once_in unshared pieces) blocks
+
+pub members_after_quiet : {M : Type 0} (slots : List (Option (Member M))) (once : List Shelf) (groups : List Group) (i : ℕ) (m n : Member M) (o : Pieces)
+    → i < length slots → i < length once → ((j : ℕ) → IsUnshared once j) → slot_at slots i ≡ Some m → SameMember m n → SamePieces (once_at once i) o
+    → SameMembers slots once groups (set slots i (Some n)) (set once i (shelf_of o)) groups
+members_after_quiet slots once groups i m n o slot_in once_in unshared at same pieces =
+    members_after_still slots once groups i m n (set once i (shelf_of o)) slot_in at same (pieces_stay once i o once_in unshared pieces)

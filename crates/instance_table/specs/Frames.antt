@@ -1,7 +1,6 @@
 -- What stays where only states and words change.
 use Rattle.std.specs.Prelude.{ℕ, ◌≡◌, ◌≢◌, List, Option, Some, None}
 use Rattle.mem_rec.specs.declared.Space.{Space}
-use Rattle.record_loans.specs.declared.pieces.Pieces.{Pieces}
 use Rattle.record_loans.specs.Pieces.{SamePieces}
 use Rattle.record_loans.specs.Blocks.{IsSameBlock}
 use Rattle.scratch_group.specs.declared.group.Group.{Group}
@@ -12,6 +11,7 @@ use Rattle.lifecycle.specs.declared.instance.Inst.TheVariants.{Idling, Running}
 use Rattle.lifecycle.specs.States.{SameInstance, SameOnce}
 use Rattle.ialg.specs.Records.{unplaced}
 use Rattle.instance_table.specs.declared.member.Member.{Member}
+use Rattle.instance_table.specs.declared.shelves.Shelf.{Shelf}
 use Rattle.instance_table.specs.Table.{slot_at, once_at, group_at, instance_of}
 
 -- the same instance in the same group, in either state, at the same places
@@ -21,8 +21,8 @@ SameSlot (Some m) None = ⊥
 SameSlot (Some m) (Some n) = (n.group ≡ m.group) × SameInstance (instance_of m.inst) (instance_of n.inst)
 
 -- the same instances and blocks, all at the same places
-pub record SameTables {M : Type 0} (slots : List (Option (Member M))) (once : List Pieces) (groups : List Group)
-    (slots' : List (Option (Member M))) (once' : List Pieces) (groups' : List Group) : Type 0 where
+pub record SameTables {M : Type 0} (slots : List (Option (Member M))) (once : List Shelf) (groups : List Group)
+    (slots' : List (Option (Member M))) (once' : List Shelf) (groups' : List Group) : Type 0 where
   pub slot : (i : ℕ) → SameSlot (slot_at slots i) (slot_at slots' i)
   pub pieces : (i : ℕ) → SamePieces (once_at once i) (once_at once' i)
   -- no write-once record has other words
@@ -30,7 +30,7 @@ pub record SameTables {M : Type 0} (slots : List (Option (Member M))) (once : Li
   pub blocks : (g : ℕ) (space : Space) → IsSameBlock (block_in (group_at groups g) space) (block_in (group_at groups' g) space)
 
 -- all other instances, and their pieces, are as they were
-pub record OthersStay {M : Type 0} (i : ℕ) (slots : List (Option (Member M))) (once : List Pieces) (slots' : List (Option (Member M))) (once' : List Pieces) : Type 0 where
+pub record OthersStay {M : Type 0} (i : ℕ) (slots : List (Option (Member M))) (once : List Shelf) (slots' : List (Option (Member M))) (once' : List Shelf) : Type 0 where
   pub slot : (j : ℕ) → j ≢ i → slot_at slots' j ≡ slot_at slots j
   pub pieces : (j : ℕ) → j ≢ i → once_at once' j ≡ once_at once j
 
@@ -45,8 +45,8 @@ IsStarted g s None = ⊥
 IsStarted g s (Some m) = (m.group ≡ g) × IsIdle s m.inst
 
 -- all other instances and the blocks are the same, all at the same places
-pub record OthersSame {M : Type 0} (i : ℕ) (slots : List (Option (Member M))) (once : List Pieces) (groups : List Group)
-    (slots' : List (Option (Member M))) (once' : List Pieces) (groups' : List Group) : Type 0 where
+pub record OthersSame {M : Type 0} (i : ℕ) (slots : List (Option (Member M))) (once : List Shelf) (groups : List Group)
+    (slots' : List (Option (Member M))) (once' : List Shelf) (groups' : List Group) : Type 0 where
   pub slot : (j : ℕ) → j ≢ i → SameSlot (slot_at slots j) (slot_at slots' j)
   pub pieces : (j : ℕ) → j ≢ i → SamePieces (once_at once j) (once_at once' j)
   pub blocks : (g : ℕ) (space : Space) → IsSameBlock (block_in (group_at groups g) space) (block_in (group_at groups' g) space)
@@ -65,8 +65,8 @@ IsSameMember (Some m) None = ⊥
 IsSameMember (Some m) (Some n) = SameMember m n
 
 -- the same instances and blocks, all at the same places, that may go by other bases
-pub record SameMembers {M : Type 0} (slots : List (Option (Member M))) (once : List Pieces) (groups : List Group)
-    (slots' : List (Option (Member M))) (once' : List Pieces) (groups' : List Group) : Type 0 where
+pub record SameMembers {M : Type 0} (slots : List (Option (Member M))) (once : List Shelf) (groups : List Group)
+    (slots' : List (Option (Member M))) (once' : List Shelf) (groups' : List Group) : Type 0 where
   pub slot : (i : ℕ) → IsSameMember (slot_at slots i) (slot_at slots' i)
   pub pieces : (i : ℕ) → SamePieces (once_at once i) (once_at once' i)
   pub blocks : (g : ℕ) (space : Space) → IsSameBlock (block_in (group_at groups g) space) (block_in (group_at groups' g) space)

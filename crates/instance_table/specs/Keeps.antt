@@ -8,6 +8,7 @@ use Rattle.lifecycle.specs.declared.instance.Inst.{Inst}
 use Rattle.lifecycle.specs.declared.instance.Inst.TheVariants.{Idling, Running}
 use Rattle.lifecycle.specs.States.{Relation, IdleKeeps, ActiveKeeps}
 use Rattle.instance_table.specs.declared.member.Member.{Member}
+use Rattle.instance_table.specs.declared.shelves.Shelf.{Shelf}
 use Rattle.instance_table.specs.Table.{slot_at, once_at, group_at}
 
 -- an idle instance keeps its history by its pieces, an active one by these and its group's blocks
@@ -21,7 +22,7 @@ SlotKeeps meaning idle_keeps active_keeps w None shared groups h = Unit {0}
 SlotKeeps meaning idle_keeps active_keeps w (Some m) shared groups h = InstKeeps meaning idle_keeps active_keeps w m.inst shared (group_at groups m.group) h
 
 -- each instance keeps its history, in a host of this poison word or of none
-abbrev pub Keeps : {M : Type 0} → Meaning M → Relation M → Relation M → Option ℤ → List (Option (Member M)) → List Pieces → List Group → (ℕ → History) → Type 0
+abbrev pub Keeps : {M : Type 0} → Meaning M → Relation M → Relation M → Option ℤ → List (Option (Member M)) → List Shelf → List Group → (ℕ → History) → Type 0
 Keeps meaning idle_keeps active_keeps w slots once groups histories = (i : ℕ) → SlotKeeps meaning idle_keeps active_keeps w (slot_at slots i) (once_at once i) groups (histories i)
 
 -- the histories, with the one of instance i replaced

@@ -1,3 +1,4 @@
+pub mod Shelves
 pub mod Table
 pub mod Keeps
 pub mod Frames

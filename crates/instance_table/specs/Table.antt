@@ -11,6 +11,8 @@ use Rattle.lifecycle.specs.States.{Fits}
 use Rattle.lifecycle.specs.Moves.{HasRoom}
 use Rattle.instance_table.specs.declared.TheConstants.{INSTANCES, GROUPS}
 use Rattle.instance_table.specs.declared.member.Member.{Member}
+use Rattle.instance_table.specs.declared.shelves.Shelf.{Shelf}
+use Rattle.instance_table.specs.Shelves.{shelf_of, shelf_at, piece_seen}
 
 -- what stands in a slot, none past the end
 abbrev pub slot_at : {M : Type 0} → List (Option (Member M)) → ℕ → Option (Member M)
@@ -20,8 +22,13 @@ slot_at slots i = slice_index_or slots i None
 abbrev pub no_pieces : Pieces
 no_pieces = record { p0 = None; p1 = None; p2 = None; p3 = None }
 
-abbrev pub once_at : List Pieces → ℕ → Pieces
-once_at once i = slice_index_or once i no_pieces
+-- those that it sees: of each record the piece that stands at the record's home
+abbrev pub once_at : List Shelf → ℕ → Pieces
+once_at once i = record { p0 = piece_seen once i 0; p1 = piece_seen once i 1; p2 = piece_seen once i 2; p3 = piece_seen once i 3 }
+
+-- each piece that an instance sees stands with it
+abbrev pub IsUnshared : List Shelf → ℕ → Type 0
+IsUnshared once i = shelf_at once i ≡ shelf_of (once_at once i)
 
 abbrev pub no_group : Group
 no_group = record { daram = None; saram = None; external = None; active = None; activations = 0 }
@@ -63,10 +70,11 @@ pub record IsHoused {M : Type 0} (s : Instance M) (shared : Pieces) (g : Group) 
   pub settled : s.table ≡ placed s.table s.own shared g
 
 -- what holds of the tables, where this holds of each instance with its write-once pieces and its group
-pub record Tables {M : Type 0} (holds : ℕ → Member M → Pieces → Group → Type 0) (slots : List (Option (Member M))) (once : List Pieces) (groups : List Group) : Type 0 where
+pub record Tables {M : Type 0} (holds : ℕ → Member M → Pieces → Group → Type 0) (slots : List (Option (Member M))) (once : List Shelf) (groups : List Group) : Type 0 where
   pub slot_count : length slots ≡ INSTANCES
   pub once_count : length once ≡ INSTANCES
   pub group_count : length groups ≡ GROUPS
+  pub unshared : (i : ℕ) → IsUnshared once i
   pub group_range : (i : ℕ) (m : Member M) → slot_at slots i ≡ Some m → m.group < GROUPS
   pub housed : (i : ℕ) (m : Member M) → slot_at slots i ≡ Some m → holds i m (once_at once i) (group_at groups m.group)
   pub active_there : (g i : ℕ) → g < GROUPS → (group_at groups g).active ≡ Some i → slot_active_in (slot_at slots i) ≡ Some g
@@ -77,7 +85,7 @@ abbrev pub EachIsHoused : {M : Type 0} → ℕ → Member M → Pieces → Group
 EachIsHoused i m o y = IsHoused (instance_of m.inst) o y
 
 -- what holds of the tables between two calls
-abbrev pub TablesOk : {M : Type 0} → List (Option (Member M)) → List Pieces → List Group → Type 0
+abbrev pub TablesOk : {M : Type 0} → List (Option (Member M)) → List Shelf → List Group → Type 0
 TablesOk slots once groups = Tables EachIsHoused slots once groups
 
 -- a block of group g was replaced or moved, and so far its members below n were told
@@ -85,7 +93,7 @@ pub record IsTold {M : Type 0} (g n i : ℕ) (m : Member M) (o : Pieces) (y : Gr
   pub told : (m.group ≢ g) ⊎ (i < n) → IsHoused (instance_of m.inst) o y
   pub waits : m.group ≡ g → HasRoom (instance_of m.inst) o y
 
-abbrev pub TablesTold : {M : Type 0} → ℕ → ℕ → List (Option (Member M)) → List Pieces → List Group → Type 0
+abbrev pub TablesTold : {M : Type 0} → ℕ → ℕ → List (Option (Member M)) → List Shelf → List Group → Type 0
 TablesTold g n slots once groups = Tables (IsTold g n) slots once groups
 
 -- where no member is active, the blocks hold the host's poison word

@@ -12,6 +12,7 @@ ghost use Rattle.instance_table.specs.Keeps.{Keeps};
 ghost use Rattle.instance_table.specs.Frames.{SameTables};
 
 use crate::member::{Member, active_group, idle_in, put_in, take_out};
+use crate::shelves::{Shelf, put_seen, take_seen};
 use ialg::Ialg;
 use lifecycle::{Active, Idle, Inst};
 use record_loans::Pieces;
@@ -64,7 +65,7 @@ fn wake_in<M: Ialg>(idle: Idle<M>, shared: &mut Pieces, group: &mut Group, i: u8
 /// Deactivates the active member of a group, if there is one, and says whether there was one.
 pub fn rest<M: Ialg>(
     slots: &mut Vec<Option<Member<M>>>,
-    once: &mut Vec<Pieces>,
+    once: &mut Vec<Shelf>,
     groups: &mut Vec<Group>,
     poison: Option<i16>,
     g: u8,
@@ -87,12 +88,9 @@ pub fn rest<M: Ialg>(
     let Member { group: _, inst } = take_out(slots, i);
     match inst {
         Inst::Running(active) => {
-            let idle = rest_in(
-                active,
-                &mut once[i as usize],
-                &mut groups[g as usize],
-                poison,
-            );
+            let mut shared = take_seen(once, i as usize);
+            let idle = rest_in(active, &mut shared, &mut groups[g as usize], poison);
+            put_seen(once, i as usize, shared);
             put_in(
                 slots,
                 i,
@@ -110,7 +108,7 @@ pub fn rest<M: Ialg>(
 /// Activates the instance, unless it is active; another active member of its group is deactivated first.
 pub fn touch<M: Ialg>(
     slots: &mut Vec<Option<Member<M>>>,
-    once: &mut Vec<Pieces>,
+    once: &mut Vec<Shelf>,
     groups: &mut Vec<Group>,
     poison: Option<i16>,
     i: u8,
@@ -133,7 +131,9 @@ pub fn touch<M: Ialg>(
     let Member { group: _, inst } = take_out(slots, i);
     match inst {
         Inst::Idling(idle) => {
-            let active = wake_in(idle, &mut once[i as usize], &mut groups[g as usize], i);
+            let mut shared = take_seen(once, i as usize);
+            let active = wake_in(idle, &mut shared, &mut groups[g as usize], i);
+            put_seen(once, i as usize, shared);
             put_in(
                 slots,
                 i,
@@ -150,7 +150,7 @@ pub fn touch<M: Ialg>(
 /// Deactivates the instance, if it is active.
 pub fn quiet<M: Ialg>(
     slots: &mut Vec<Option<Member<M>>>,
-    once: &mut Vec<Pieces>,
+    once: &mut Vec<Shelf>,
     groups: &mut Vec<Group>,
     poison: Option<i16>,
     i: u8,

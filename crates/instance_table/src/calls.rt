@@ -10,15 +10,15 @@ ghost use Rattle.instance_table.specs.declared.member.Member.{Member};
 
 use crate::activity::touch;
 use crate::member::Member;
+use crate::shelves::{Shelf, put_seen, take_seen};
 use ialg::{BLOCK_SAMPLES, Block, Ctl, Ialg, Status};
 use lifecycle::Inst;
-use record_loans::Pieces;
 use scratch_group::Group;
 
 /// Gives the active instance a block of samples.
 fn run<M: Ialg>(
     slots: &mut Vec<Option<Member<M>>>,
-    once: &mut Vec<Pieces>,
+    once: &mut Vec<Shelf>,
     groups: &mut Vec<Group>,
     i: u8,
     input: &[i16],
@@ -45,7 +45,11 @@ fn run<M: Ialg>(
         Some(member) => {
             let group = &mut groups[member.group as usize];
             match &mut member.inst {
-                Inst::Running(active) => active.run(&mut once[i as usize], group, input, out),
+                Inst::Running(active) => {
+                    let mut shared = take_seen(once, i as usize);
+                    active.run(&mut shared, group, input, out);
+                    put_seen(once, i as usize, shared);
+                }
                 Inst::Idling(_) => unreachable!(),
             }
         }
@@ -56,7 +60,7 @@ fn run<M: Ialg>(
 /// Gives the active instance a control that it accepts.
 fn control<M: Ialg>(
     slots: &mut Vec<Option<Member<M>>>,
-    once: &mut Vec<Pieces>,
+    once: &mut Vec<Shelf>,
     groups: &mut Vec<Group>,
     i: u8,
     c: &Ctl,
@@ -80,7 +84,12 @@ fn control<M: Ialg>(
         Some(member) => {
             let group = &mut groups[member.group as usize];
             match &mut member.inst {
-                Inst::Running(active) => active.control(&mut once[i as usize], group, c),
+                Inst::Running(active) => {
+                    let mut shared = take_seen(once, i as usize);
+                    let status = active.control(&mut shared, group, c);
+                    put_seen(once, i as usize, shared);
+                    status
+                }
                 Inst::Idling(_) => unreachable!(),
             }
         }
@@ -107,7 +116,7 @@ fn accepts<M: Ialg>(slots: &Vec<Option<Member<M>>>, i: u8, c: &Ctl) -> bool
 /// deactivated before.
 pub fn process<M: Ialg>(
     slots: &mut Vec<Option<Member<M>>>,
-    once: &mut Vec<Pieces>,
+    once: &mut Vec<Shelf>,
     groups: &mut Vec<Group>,
     poison: Option<i16>,
     i: u8,
@@ -139,7 +148,7 @@ pub fn process<M: Ialg>(
 /// Gives the instance a control, activated as for a block. None where its kind doesn't take the control: then nothing has happened.
 pub fn command<M: Ialg>(
     slots: &mut Vec<Option<Member<M>>>,
-    once: &mut Vec<Pieces>,
+    once: &mut Vec<Shelf>,
     groups: &mut Vec<Group>,
     poison: Option<i16>,
     i: u8,

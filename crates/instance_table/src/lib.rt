@@ -9,6 +9,7 @@ mod calls;
 mod life;
 mod member;
 mod moves;
+mod shelves;
 mod tables;
 
 pub use activity::{quiet, rest, touch};
@@ -16,6 +17,7 @@ pub use calls::{command, process};
 pub use life::{end, start};
 pub use member::{Member, lives};
 pub use moves::tell_members;
+pub use shelves::{Shelf, Stand, put_seen, sees, take_seen};
 pub use tables::{
     empty_groups, empty_once, empty_slots, end_groups, end_once, end_slots, in_order,
 };

@@ -12,18 +12,18 @@ ghost use Rattle.instance_table.specs.Keeps.{Keeps, with_history};
 ghost use Rattle.instance_table.specs.Frames.{OthersStay, OthersSame, IsStarted};
 
 use crate::activity::quiet;
-use crate::member::{Member, end_absent, put_in, take_out};
+use crate::member::{Member, put_in, take_out};
+use crate::shelves::{Shelf, put_seen, take_seen};
 use ialg::{Ialg, Params};
 use lifecycle::{Idle, Inst};
 use mem_rec::MemTab;
 use record_loans::Pieces;
 use scratch_group::Group;
-use std::mem;
 
 /// Starts an instance in an empty slot, in these pieces. It is idle.
 pub fn start<M: Ialg>(
     slots: &mut Vec<Option<Member<M>>>,
-    once: &mut Vec<Pieces>,
+    once: &mut Vec<Shelf>,
     groups: &Vec<Group>,
     i: u8,
     g: u8,
@@ -51,7 +51,7 @@ pub fn start<M: Ialg>(
 {
     let mut shared = shared;
     let idle = Idle::init(kind, params, table, own, &mut shared, &groups[g as usize]);
-    end_absent(mem::replace(&mut once[i as usize], shared));
+    put_seen(once, i as usize, shared);
     put_in(
         slots,
         i,
@@ -66,7 +66,7 @@ pub fn start<M: Ialg>(
 /// first. All pieces come back, whatever its kind answers to algFree.
 pub fn end<M: Ialg>(
     slots: &mut Vec<Option<Member<M>>>,
-    once: &mut Vec<Pieces>,
+    once: &mut Vec<Shelf>,
     groups: &mut Vec<Group>,
     poison: Option<i16>,
     i: u8,
@@ -87,7 +87,7 @@ pub fn end<M: Ialg>(
 {
     quiet(slots, once, groups, poison, i);
     let Member { group: g, inst } = take_out(slots, i);
-    let shared = mem::replace(&mut once[i as usize], Pieces::none());
+    let shared = take_seen(once, i as usize);
     match inst {
         Inst::Idling(idle) => end_idle(idle, shared, &groups[g as usize]),
         Inst::Running(_active) => unreachable!(),

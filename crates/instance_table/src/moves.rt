@@ -8,9 +8,9 @@ ghost use Rattle.instance_table.specs.Frames.{SameMembers};
 
 use crate::INSTANCES;
 use crate::member::Member;
+use crate::shelves::{Shelf, put_seen, take_seen};
 use ialg::Ialg;
 use lifecycle::Inst;
-use record_loans::Pieces;
 use scratch_group::Group;
 
 /// Whether the slot has a member of the group.
@@ -27,7 +27,7 @@ fn is_member<M: Ialg>(slots: &Vec<Option<Member<M>>>, g: u8, i: usize) -> bool
 /// Tells a member of the group where its records lie now.
 fn tell_member<M: Ialg>(
     slots: &mut Vec<Option<Member<M>>>,
-    once: &mut Vec<Pieces>,
+    once: &mut Vec<Shelf>,
     groups: &mut Vec<Group>,
     g: u8,
     i: usize,
@@ -45,8 +45,16 @@ fn tell_member<M: Ialg>(
 {
     match &mut slots[i] {
         Some(member) => match &mut member.inst {
-            Inst::Idling(idle) => idle.moved(None, &mut once[i], &groups[g as usize]),
-            Inst::Running(active) => active.moved(None, &mut once[i], &mut groups[g as usize]),
+            Inst::Idling(idle) => {
+                let mut shared = take_seen(once, i);
+                idle.moved(None, &mut shared, &groups[g as usize]);
+                put_seen(once, i, shared);
+            }
+            Inst::Running(active) => {
+                let mut shared = take_seen(once, i);
+                active.moved(None, &mut shared, &mut groups[g as usize]);
+                put_seen(once, i, shared);
+            }
         },
         None => unreachable!(),
     }
@@ -55,7 +63,7 @@ fn tell_member<M: Ialg>(
 /// Tells the instance in the slot where its records lie now, if it is a member of the group.
 fn tell_slot<M: Ialg>(
     slots: &mut Vec<Option<Member<M>>>,
-    once: &mut Vec<Pieces>,
+    once: &mut Vec<Shelf>,
     groups: &mut Vec<Group>,
     g: u8,
     i: usize,
@@ -78,7 +86,7 @@ fn tell_slot<M: Ialg>(
 /// Tells each member of the group, in ascending number, where its records lie now. An active member stays active.
 pub fn tell_members<M: Ialg>(
     slots: &mut Vec<Option<Member<M>>>,
-    once: &mut Vec<Pieces>,
+    once: &mut Vec<Shelf>,
     groups: &mut Vec<Group>,
     g: u8,
 )

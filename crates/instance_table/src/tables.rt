@@ -4,10 +4,11 @@ ghost use Rattle.ialg.specs.History.{History};
 ghost use Rattle.mem_rec.specs.declared.Space.{Space};
 ghost use Rattle.scratch_group.specs.Blocks.{block_in};
 ghost use Rattle.instance_table.specs.declared.TheConstants.{INSTANCES, GROUPS};
-ghost use Rattle.instance_table.specs.Table.{slot_at, once_at, no_pieces, group_at, activity_at, untouched, TablesOk, ArePoisoned};
+ghost use Rattle.instance_table.specs.Table.{slot_at, once_at, no_pieces, IsUnshared, group_at, activity_at, untouched, TablesOk, ArePoisoned};
 ghost use Rattle.instance_table.specs.Keeps.{Keeps};
 
 use crate::member::{Member, end_absent};
+use crate::shelves::Shelf;
 use crate::{GROUPS, INSTANCES};
 use ialg::Ialg;
 use record_loans::Pieces;
@@ -27,13 +28,14 @@ pub fn empty_slots<M: Ialg, A: Allocator>(alloc: A) -> Result<Vec<Option<Member<
 }
 
 /// For each instance number the pieces of its write-once records, of which there are none.
-pub fn empty_once<A: Allocator>(alloc: A) -> Result<Vec<Pieces, A>, AllocError>
+pub fn empty_once<A: Allocator>(alloc: A) -> Result<Vec<Shelf, A>, AllocError>
     ensures count { IfOk result (λ v. length v.items ≡ INSTANCES) }
     ensures empty { IfOk result (λ v. (i : ℕ) → once_at v.items i ≡ no_pieces) }
+    ensures unshared { IfOk result (λ v. (i : ℕ) → IsUnshared v.items i) }
 {
     let mut once = Vec::with_capacity(alloc, INSTANCES)?;
     for _ in 0..INSTANCES {
-        once.push_reserved(Pieces::none());
+        once.push_reserved(Shelf::of(Pieces::none()));
     }
     Ok(once)
 }
@@ -66,12 +68,12 @@ pub fn end_slots<M: Ialg, A: Allocator>(slots: Vec<Option<Member<M>>, A>)
 }
 
 /// Ends a table of no pieces.
-pub fn end_once<A: Allocator>(once: Vec<Pieces, A>)
+pub fn end_once<A: Allocator>(once: Vec<Shelf, A>)
     requires { (i : ℕ) → once_at once.items i ≡ no_pieces }
 {
     let mut once = once;
-    while let Some(pieces) = once.pop() {
-        end_absent(pieces);
+    while let Some(shelf) = once.pop() {
+        end_absent(shelf.pieces());
     }
     once.destroy_empty();
 }
@@ -88,10 +90,11 @@ pub fn end_groups<A: Allocator>(groups: Vec<Group, A>)
 }
 
 /// The law that tables without instances are in order, and keep any histories. The call does nothing: its contract is the law.
-pub fn in_order<M: Ialg>(slots: &Vec<Option<Member<M>>>, once: &Vec<Pieces>, groups: &Vec<Group>)
+pub fn in_order<M: Ialg>(slots: &Vec<Option<Member<M>>>, once: &Vec<Shelf>, groups: &Vec<Group>)
     requires slots { length slots.now.items ≡ INSTANCES }
     requires once { length once.now.items ≡ INSTANCES }
     requires groups { length groups.now.items ≡ GROUPS }
+    requires unshared { (i : ℕ) → IsUnshared once.now.items i }
     requires empty { (i : ℕ) → slot_at slots.now.items i ≡ None }
     requires blocks { (g : ℕ) (space : Space) → block_in (group_at groups.now.items g) space ≡ None }
     requires untouched { (g : ℕ) → activity_at groups.now.items g ≡ untouched }

@@ -1,5 +1,6 @@
 -- What a creation leaves is kept.
-use Rattle.std.proofs.Common.{◌≡◌, ℕ, ℤ, ◌+◌, ◌-◌, ◌^◌, min, inl, inr, Bool, cond, IsTrue, List, [], Option, Some, None, Result, refl, sym, ◌∙◌, ap, subst}
+use Rattle.std.proofs.Common.{◌≡◌, ℕ, ℤ, ◌+◌, ◌-◌, ◌^◌, min, inl, inr, Bool, true, is_some, cond, IsTrue, List, [], Option, Some, None, Result, refl, sym, ◌∙◌, ap, subst}
+use Rattle.std.proofs.lemmas.Bool.{true≢false}
 use Rattle.std.proofs.lemmas.Option.{none-some}
 use Rattle.std.proofs.lemmas.Bool.Decides.{eqb_tells}
 use Rattle.mem_rec.specs.declared.MemRec.{MemRec}
@@ -8,10 +9,10 @@ use Rattle.mem_rec.specs.declared.Space.TheVariants.{Daram, Saram, External}
 use Rattle.ialg.specs.Records.{unplaced}
 use Rattle.ialg.specs.Meaning.{Meaning}
 use Rattle.ialg.specs.History.{History}
-use Rattle.record_loans.specs.declared.pieces.Pieces.{Pieces}
 use Rattle.scratch_group.specs.declared.group.Group.{Group}
 use Rattle.lifecycle.specs.States.{Relation}
 use Rattle.instance_table.specs.declared.member.Member.{Member}
+use Rattle.instance_table.specs.declared.shelves.Shelf.{Shelf}
 use Rattle.instance_table.specs.Table.{slot_at, once_at, Activity, activity_at, rested, with_activity}
 use Rattle.instance_table.specs.Keeps.{Keeps, SlotKeeps, with_history}
 use Rattle.host_spaces.specs.declared.spaces.Sizes.{Sizes}
@@ -33,6 +34,11 @@ living_none None None is none = refl
 living_none None (Some x) is none = absurd is
 living_none (Some m) x is none = absurd (none-some _ (sym none))
 
+living_some : {M : Type 0} (slot : Option (Member M)) (x : Option (Living M)) → IsLiving slot x → is_some slot ≡ true → (l : Living M) × (x ≡ Some l)
+living_some None x is there = absurd (true≢false (sym there))
+living_some (Some m) None is there = absurd is
+living_some (Some m) (Some l) is there = (l, refl)
+
 born : {M : Type 0} (g : ℕ) (kind : M) (p : List ℤ) (slot : Option (Member M)) → IsNewborn g kind p slot → IsLiving slot (Some (newborn kind g p))
 born g kind p None is = absurd is
 born g kind p (Some m) is = record { kind = is.kind_is; params = is.params; group = is.group }
@@ -50,10 +56,13 @@ asks meaning w kind p q table same asked without lawful =
     let its = subst (λ (xs : List ℤ). IsTrue (meaning.lawful kind xs w)) same lawful in
     ap (meaning.table kind) same ∙ sym (asked.lawful its) ∙ ap Some (sym (without its))
 
-module _ {M : Type 0} (meaning : Meaning M) (idle_keeps active_keeps : Relation M) (slots : List (Option (Member M))) (once : List Pieces) (groups : List Group) (spaces : Spaces) (before : State M)
+module _ {M : Type 0} (meaning : Meaning M) (idle_keeps active_keeps : Relation M) (slots : List (Option (Member M))) (once : List Shelf) (groups : List Group) (spaces : Spaces) (before : State M)
     (kept : HostKeeps meaning idle_keeps active_keeps slots once groups spaces before) (i g : ℕ) (kind : M) (p : List ℤ) (table : List MemRec) where
   pub is_free : slot_at slots i ≡ None → before.living i ≡ None
   is_free empty = living_none (slot_at slots i) (before.living i) (kept.tables.living i) empty
+
+  pub is_taken : is_some (slot_at slots i) ≡ true → (l : Living M) × (before.living i ≡ Some l)
+  is_taken there = living_some (slot_at slots i) (before.living i) (kept.tables.living i) there
 
   -- the picture is the machine's
   pub picture_is : (r : Result Picture Space) → created_picture (sizes_of spaces) (picture_of spaces) i g table ≡ r → created_picture before.sizes before.picture i g table ≡ r
@@ -61,7 +70,7 @@ module _ {M : Type 0} (meaning : Meaning M) (idle_keeps active_keeps : Relation 
       ap (λ (s : Sizes). created_picture s before.picture i g table) (sym kept.sizes)
       ∙ ap (λ (q : Picture). created_picture (sizes_of spaces) q i g table) (sym kept.picture) ∙ e
 
-  module _ (slots' : List (Option (Member M))) (once' : List Pieces) (groups' : List Group) (spaces' : Spaces)
+  module _ (slots' : List (Option (Member M))) (once' : List Shelf) (groups' : List Group) (spaces' : Spaces)
       (others : OthersAreSame i slots slots') (new : IsNewborn g kind p (slot_at slots' i))
       (activity : (k : ℕ) → activity_at groups' k ≡ activity_grown (replaces (picture_of spaces) g table) groups g k)
       (keeps : Keeps meaning idle_keeps active_keeps before.poison slots' once' groups' (with_history (λ j. history_of (before.living j)) i []))

@@ -11,9 +11,8 @@ ghost use Rattle.kept_moves.specs.Hosts.{HostKeeps};
 
 use host_spaces::Spaces;
 use ialg::{Ialg, Params, Refusal, copied};
-use instance_table::{GROUPS, INSTANCES, Member, lives};
+use instance_table::{GROUPS, INSTANCES, Member, Shelf, lives};
 use mem_rec::MemTab;
-use record_loans::Pieces;
 use scratch_group::Group;
 use sound_machine::creations_answer_in_order;
 use started_instances::start_in_spaces;
@@ -37,7 +36,7 @@ fn asked_for<M: Ialg>(kind: M, p: &Params) -> Option<MemTab>
 /// any instance is called, and the new one is called last.
 pub fn create<M: Ialg>(
     slots: &mut Vec<Option<Member<M>>>,
-    once: &mut Vec<Pieces>,
+    once: &mut Vec<Shelf>,
     groups: &mut Vec<Group>,
     spaces: &mut Spaces,
     poison: Option<i16>,

@@ -8,12 +8,12 @@ use Rattle.mem_rec.specs.declared.Space.{Space}
 use Rattle.mem_rec.specs.declared.Space.TheVariants.{Daram, Saram, External}
 use Rattle.ialg.specs.Meaning.{Meaning}
 use Rattle.ialg.specs.declared.refusal.Refusal.{Refusal}
-use Rattle.record_loans.specs.declared.pieces.Pieces.{Pieces}
 use Rattle.record_loans.specs.declared.block.ScratchBlock.{ScratchBlock}
 use Rattle.record_loans.specs.Blocks.{block_align, block_piece}
 use Rattle.scratch_group.specs.declared.group.Group.{Group}
 use Rattle.lifecycle.specs.States.{Relation}
 use Rattle.instance_table.specs.declared.member.Member.{Member}
+use Rattle.instance_table.specs.declared.shelves.Shelf.{Shelf}
 use Rattle.instance_table.specs.Table.{slot_at, is_member_of}
 use Rattle.space_heap.specs.Places.{numbers_below}
 use Rattle.space_blocks.specs.declared.TheConstants.{INSTANCES}
@@ -52,12 +52,12 @@ without_next before n =
     ∙ fold-append (λ left i. (delete left i).1) before (range_with_len 0 n) (n ∷ [])
 
 -- the host keeps it
-pub record IsClosing {M : Type 0} (meaning : Meaning M) (idle_keeps active_keeps : Relation M) (slots : List (Option (Member M))) (once : List Pieces) (groups : List Group) (spaces : Spaces)
+pub record IsClosing {M : Type 0} (meaning : Meaning M) (idle_keeps active_keeps : Relation M) (slots : List (Option (Member M))) (once : List Shelf) (groups : List Group) (spaces : Spaces)
     (n : ℕ) (w : Option ℤ) (before : State M) : Type 0 where
   pub poison : (without_first before n).poison ≡ w
   pub kept : HostKeeps meaning idle_keeps active_keeps slots once groups spaces (without_first before n)
 
-module _ {M : Type 0} (meaning : Meaning M) (idle_keeps active_keeps : Relation M) (slots : List (Option (Member M))) (once : List Pieces) (groups : List Group) (spaces : Spaces)
+module _ {M : Type 0} (meaning : Meaning M) (idle_keeps active_keeps : Relation M) (slots : List (Option (Member M))) (once : List Shelf) (groups : List Group) (spaces : Spaces)
     (w : Option ℤ) (before : State M) where
   pub closing_start : before.poison ≡ w → HostKeeps meaning idle_keeps active_keeps slots once groups spaces before
       → IsClosing meaning idle_keeps active_keeps slots once groups spaces 0 w before
@@ -118,7 +118,7 @@ nothing_owned (b ∷ bs) none =
     let first : b ∷ owned b.owner bs ≡ [] = rw (itself b.owner) at (none b.owner) in
     absurd (no_head b (owned b.owner bs) first)
 
-module _ {M : Type 0} (slots : List (Option (Member M))) (once : List Pieces) (groups : List Group) (spaces : Spaces) (standing : AreStanding slots once groups spaces)
+module _ {M : Type 0} (slots : List (Option (Member M))) (once : List Shelf) (groups : List Group) (spaces : Spaces) (standing : AreStanding slots once groups spaces)
     (none : (i : ℕ) → slot_at slots i ≡ None) where
   none_owned : (space : Space) (o : Owner) → owned o (blocks_in (picture_of spaces) space) ≡ []
   none_owned space (Record i k) = standing.gone i k space (none i)

@@ -5,10 +5,10 @@ use Rattle.std.specs.List.{list_any, range_with_len}
 use Rattle.std.proofs.lemmas.Bool.Decides.{eqb_tells}
 use Rattle.space_blocks.specs.declared.TheConstants.{INSTANCES}
 use Rattle.ialg.specs.Meaning.{Meaning}
-use Rattle.record_loans.specs.declared.pieces.Pieces.{Pieces}
 use Rattle.scratch_group.specs.declared.group.Group.{Group}
 use Rattle.lifecycle.specs.States.{Relation}
 use Rattle.instance_table.specs.declared.member.Member.{Member}
+use Rattle.instance_table.specs.declared.shelves.Shelf.{Shelf}
 use Rattle.instance_table.specs.Table.{Activity, slot_at, once_at, group_of, is_member_of, activity_at, quieted, with_activity}
 use Rattle.instance_table.specs.Keeps.{Keeps, SlotKeeps}
 use Rattle.host_spaces.specs.declared.spaces.Spaces.{Spaces}
@@ -54,7 +54,7 @@ same_members slots living g count is =
 -- ---- the state without the instance
 
 module _ {M : Type 0} (meaning : Meaning M) (idle_keeps active_keeps : Relation M) (i : ℕ)
-    (slots slots' : List (Option (Member M))) (once once' : List Pieces) (groups groups' : List Group) (spaces spaces' : Spaces) (before : State M)
+    (slots slots' : List (Option (Member M))) (once once' : List Shelf) (groups groups' : List Group) (spaces spaces' : Spaces) (before : State M)
     (kept : HostKeeps meaning idle_keeps active_keeps slots once groups spaces before)
     (ended : HasEnded meaning idle_keeps active_keeps before.poison i slots once groups spaces slots' once' groups' spaces')
     (its : Found (slot_at slots i) (before.living i)) where
@@ -119,7 +119,7 @@ module _ {M : Type 0} (meaning : Meaning M) (idle_keeps active_keeps : Relation 
 
 -- the deletion is the machine's, in a host of poison word w
 pub deleted_kept : {M : Type 0} (meaning : Meaning M) (idle_keeps active_keeps : Relation M) (i : ℕ) (w : Option ℤ)
-    (slots slots' : List (Option (Member M))) (once once' : List Pieces) (groups groups' : List Group) (spaces spaces' : Spaces) (before : State M)
+    (slots slots' : List (Option (Member M))) (once once' : List Shelf) (groups groups' : List Group) (spaces spaces' : Spaces) (before : State M)
     → i < INSTANCES → IsSome (slot_at slots i) → HasEnded meaning idle_keeps active_keeps w i slots once groups spaces slots' once' groups' spaces'
     → before.poison ≡ w → HostKeeps meaning idle_keeps active_keeps slots once groups spaces before
     → (after : State M) × ◌≡◌ {A = Outcome M (Unit {0})} (Ok tt, after) (delete before i) × HostKeeps meaning idle_keeps active_keeps slots' once' groups' spaces' after

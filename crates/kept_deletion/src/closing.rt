@@ -10,14 +10,13 @@ ghost use Rattle.kept_moves.specs.Hosts.{HostKeeps};
 use crate::deletions::delete;
 use host_spaces::Spaces;
 use ialg::Ialg;
-use instance_table::{INSTANCES, Member};
-use record_loans::Pieces;
+use instance_table::{INSTANCES, Member, Shelf};
 use scratch_group::Group;
 
 /// Deletes all instances, in ascending number, as the machine does. No block is left in the spaces.
 pub fn delete_all<M: Ialg>(
     slots: &mut Vec<Option<Member<M>>>,
-    once: &mut Vec<Pieces>,
+    once: &mut Vec<Shelf>,
     groups: &mut Vec<Group>,
     spaces: &mut Spaces,
     poison: Option<i16>,

@@ -10,15 +10,14 @@ ghost use Rattle.kept_moves.specs.Hosts.{HostKeeps};
 use ended_instances::end_instance;
 use host_spaces::Spaces;
 use ialg::{Ialg, Refusal};
-use instance_table::{INSTANCES, Member, lives};
-use record_loans::Pieces;
+use instance_table::{INSTANCES, Member, Shelf, lives};
 use scratch_group::Group;
 
 /// Deletes an instance, as the machine does: its records go, and its group's blocks where no other member is left. It is active no more,
 /// where it was. A number out of range and an instance that isn't there are refused, and a refused call changes nothing.
 pub fn delete<M: Ialg>(
     slots: &mut Vec<Option<Member<M>>>,
-    once: &mut Vec<Pieces>,
+    once: &mut Vec<Shelf>,
     groups: &mut Vec<Group>,
     spaces: &mut Spaces,
     poison: Option<i16>,

@@ -8,10 +8,10 @@ use Rattle.std.proofs.lemmas.Bool.Decides.{eqb_tells}
 use Rattle.space_heap.proofs.RangeTests.{either}
 use Rattle.ialg.specs.History.{History, Ctl, Control, with_samples}
 use Rattle.ialg.specs.Meaning.{Meaning, Status, outputs_of, status_of}
-use Rattle.record_loans.specs.declared.pieces.Pieces.{Pieces}
 use Rattle.scratch_group.specs.declared.group.Group.{Group}
 use Rattle.lifecycle.specs.States.{Relation, IsLawful, all_outputs, status_after}
 use Rattle.instance_table.specs.declared.member.Member.{Member}
+use Rattle.instance_table.specs.declared.shelves.Shelf.{Shelf}
 use Rattle.instance_table.specs.Table.{Activity, slot_at, once_at, group_at, group_of, instance_of, activity_at, touched, touched_by, rested, with_activity}
 use Rattle.instance_table.specs.Keeps.{Keeps, SlotKeeps, with_history}
 use Rattle.instance_table.specs.Frames.{SameSlot, SameTables, IsSameMember, SameMembers}
@@ -79,13 +79,13 @@ module _ {M : Type 0} where
       (λ apart. ap (λ b. cond b h (history_of (living j))) apart.0 ∙ sym (ap (λ b. history_of (cond b (Some (record x { history = h })) (living j))) apart.0))
 
 module _ {M : Type 0} (meaning : Meaning M) (idle_keeps active_keeps : Relation M) where
-  keeps_these : (w : Option ℤ) (slots : List (Option (Member M))) (once : List Pieces) (groups : List Group) (old new : ℕ → History)
+  keeps_these : (w : Option ℤ) (slots : List (Option (Member M))) (once : List Shelf) (groups : List Group) (old new : ℕ → History)
       → ((i : ℕ) → old i ≡ new i) → Keeps meaning idle_keeps active_keeps w slots once groups old → Keeps meaning idle_keeps active_keeps w slots once groups new
   keeps_these w slots once groups old new same keeps =
       λ i. subst (λ h. SlotKeeps meaning idle_keeps active_keeps w (slot_at slots i) (once_at once i) groups h) (same i) (keeps i)
 
-  module _ (slots : List (Option (Member M))) (once : List Pieces) (groups : List Group)
-      (slots' : List (Option (Member M))) (once' : List Pieces) (groups' : List Group) (before : State M) (i : ℕ) where
+  module _ (slots : List (Option (Member M))) (once : List Shelf) (groups : List Group)
+      (slots' : List (Option (Member M))) (once' : List Shelf) (groups' : List Group) (before : State M) (i : ℕ) where
     abbrev Kept : State M → Type 0
     Kept state = TablesKeep meaning idle_keeps active_keeps slots' once' groups' state
 

@@ -6,10 +6,10 @@ use Rattle.ialg.specs.Meaning.{Meaning}
 use Rattle.ialg.specs.Views.{answer_of}
 use Rattle.ialg.specs.declared.control.Status.{Status}
 use Rattle.ialg.specs.declared.refusal.Refusal.{Refusal}
-use Rattle.record_loans.specs.declared.pieces.Pieces.{Pieces}
 use Rattle.scratch_group.specs.declared.group.Group.{Group}
 use Rattle.lifecycle.specs.States.{Relation}
 use Rattle.instance_table.specs.declared.member.Member.{Member}
+use Rattle.instance_table.specs.declared.shelves.Shelf.{Shelf}
 use Rattle.instance_table.specs.Table.{slot_at, instance_of, activity_at}
 use Rattle.instance_table.specs.Keeps.{Keeps}
 use Rattle.sound_machine.specs.State.{Living, State}
@@ -33,7 +33,7 @@ history_of (Some x) = x.history
 
 -- the same instances, active members and counts, and each lawful instance keeps its history
 pub record TablesKeep {M : Type 0} (meaning : Meaning M) (idle_keeps active_keeps : Relation M)
-    (slots : List (Option (Member M))) (once : List Pieces) (groups : List Group) (state : State M) : Type 0 where
+    (slots : List (Option (Member M))) (once : List Shelf) (groups : List Group) (state : State M) : Type 0 where
   pub living : (i : ℕ) → IsLiving (slot_at slots i) (state.living i)
   pub activity : (g : ℕ) → activity_at groups g ≡ state.activity g
   pub histories : Keeps meaning idle_keeps active_keeps state.poison slots once groups (λ i. history_of (state.living i))

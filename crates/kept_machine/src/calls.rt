@@ -10,14 +10,13 @@ ghost use Rattle.sound_machine.specs.Steps.{processed};
 ghost use Rattle.kept_machine.specs.Kept.{TablesKeep, told};
 
 use ialg::{BLOCK_SAMPLES, Block, Ctl, Ialg, Refusal, Status};
-use instance_table::{GROUPS, INSTANCES, Member, command, lives, process, rest};
-use record_loans::Pieces;
+use instance_table::{GROUPS, INSTANCES, Member, Shelf, command, lives, process, rest};
 use scratch_group::Group;
 
 /// Gives the instance a block of samples, as the machine does.
 pub fn give_block<M: Ialg>(
     slots: &mut Vec<Option<Member<M>>>,
-    once: &mut Vec<Pieces>,
+    once: &mut Vec<Shelf>,
     groups: &mut Vec<Group>,
     poison: Option<i16>,
     i: u8,
@@ -45,7 +44,7 @@ pub fn give_block<M: Ialg>(
 /// that it doesn't take. A refused control changes nothing.
 pub fn give_control<M: Ialg>(
     slots: &mut Vec<Option<Member<M>>>,
-    once: &mut Vec<Pieces>,
+    once: &mut Vec<Shelf>,
     groups: &mut Vec<Group>,
     poison: Option<i16>,
     i: u8,
@@ -78,7 +77,7 @@ pub fn give_control<M: Ialg>(
 /// changes nothing.
 pub fn put_to_rest<M: Ialg>(
     slots: &mut Vec<Option<Member<M>>>,
-    once: &mut Vec<Pieces>,
+    once: &mut Vec<Shelf>,
     groups: &mut Vec<Group>,
     poison: Option<i16>,
     g: u8,

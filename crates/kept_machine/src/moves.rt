@@ -7,15 +7,14 @@ ghost use Rattle.sound_machine.specs.State.{State};
 ghost use Rattle.kept_machine.specs.Kept.{TablesKeep};
 
 use ialg::Ialg;
-use instance_table::{Member, tell_members};
-use record_loans::Pieces;
+use instance_table::{Member, Shelf, tell_members};
 use scratch_group::Group;
 
 /// Tells each member of the group where its records lie now. The tables keep the state that they kept: the machine's instances know no
 /// place.
 pub fn tell<M: Ialg>(
     slots: &mut Vec<Option<Member<M>>>,
-    once: &mut Vec<Pieces>,
+    once: &mut Vec<Shelf>,
     groups: &mut Vec<Group>,
     g: u8,
 )

@@ -8,10 +8,10 @@ use Rattle.relocate.specs.declared.packing.Spot.{Spot}
 use Rattle.relocate.specs.Spots.{AreSpotsFrom}
 use Rattle.relocate.specs.Packing.{misplaced, packed_places, unpacked_count}
 use Rattle.ialg.specs.Meaning.{Meaning}
-use Rattle.record_loans.specs.declared.pieces.Pieces.{Pieces}
 use Rattle.scratch_group.specs.declared.group.Group.{Group}
 use Rattle.lifecycle.specs.States.{Relation}
 use Rattle.instance_table.specs.declared.member.Member.{Member}
+use Rattle.instance_table.specs.declared.shelves.Shelf.{Shelf}
 use Rattle.space_blocks.specs.declared.placed.Placed.{Placed}
 use Rattle.space_blocks.specs.Blocks.{ranges}
 use Rattle.space_blocks.specs.Moves.{next_block, spots_of}
@@ -83,14 +83,14 @@ moved_one spaces spaces' space some picture =
 -- ---- the machine
 
 -- a machine that is kept now, whose compaction ends as the first one's does, after so many moves more
-pub record IsAmid {M : Type 0} (meaning : Meaning M) (idle_keeps active_keeps : Relation M) (space : Space) (slots : List (Option (Member M))) (once : List Pieces) (groups : List Group) (spaces : Spaces)
+pub record IsAmid {M : Type 0} (meaning : Meaning M) (idle_keeps active_keeps : Relation M) (space : Space) (slots : List (Option (Member M))) (once : List Shelf) (groups : List Group) (spaces : Spaces)
     (moved : ℕ) (before : State M) : Type 0 where
   pub now : State M
   pub kept : HostKeeps meaning idle_keeps active_keeps slots once groups spaces now
   pub same : compact before space ≡ ((compact now space).0 + moved, (compact now space).1)
 
 module _ {M : Type 0} (meaning : Meaning M) (idle_keeps active_keeps : Relation M) (space : Space) where
-  pub amid_start : (slots : List (Option (Member M))) (once : List Pieces) (groups : List Group) (spaces : Spaces) (before : State M)
+  pub amid_start : (slots : List (Option (Member M))) (once : List Shelf) (groups : List Group) (spaces : Spaces) (before : State M)
       → HostKeeps meaning idle_keeps active_keeps slots once groups spaces before → IsAmid meaning idle_keeps active_keeps space slots once groups spaces 0 before
   amid_start slots once groups spaces before kept = record {
     now = before;
@@ -98,14 +98,14 @@ module _ {M : Type 0} (meaning : Meaning M) (idle_keeps active_keeps : Relation 
     same = ap (λ (n : ℕ). let o : ℕ × State M = (n, (compact before space).1) in o) (let e : (compact before space).0 ≡ (compact before space).0 + 0 = omega arith in e);
   }
 
-  counted : (slots : List (Option (Member M))) (once : List Pieces) (groups : List Group) (spaces : Spaces) (state : State M)
+  counted : (slots : List (Option (Member M))) (once : List Shelf) (groups : List Group) (spaces : Spaces) (state : State M)
       → HostKeeps meaning idle_keeps active_keeps slots once groups spaces state → state.copied < 2 ^ 64
   counted slots once groups spaces state kept = let e = kept.copied in omega (arith, e)
 
   answer_is : (answer : Bool) (machine : State M) → (answer, (step machine space).1) ≡ step machine space → (step machine space).0 ≡ answer
   answer_is answer machine e = sym (ap (λ (o : Bool × State M). o.0) e)
 
-  module _ (slots slots' : List (Option (Member M))) (once once' : List Pieces) (groups groups' : List Group) (spaces spaces' : Spaces) (moved : ℕ) (before : State M)
+  module _ (slots slots' : List (Option (Member M))) (once once' : List Shelf) (groups groups' : List Group) (spaces spaces' : Spaces) (moved : ℕ) (before : State M)
       (amid : IsAmid meaning idle_keeps active_keeps space slots once groups spaces moved before) where
     steps : IsSteps amid.now space
     steps = steps_compact amid.now space (counted slots once groups spaces amid.now amid.kept)

@@ -2,10 +2,10 @@
 use Rattle.std.proofs.Common.{◌≡◌, Bool, true, false, List, Option, Some, None, is_some, refl, ap, sym, ◌∙◌, subst}
 use Rattle.mem_rec.specs.declared.Space.{Space}
 use Rattle.ialg.specs.Meaning.{Meaning}
-use Rattle.record_loans.specs.declared.pieces.Pieces.{Pieces}
 use Rattle.scratch_group.specs.declared.group.Group.{Group}
 use Rattle.lifecycle.specs.States.{Relation}
 use Rattle.instance_table.specs.declared.member.Member.{Member}
+use Rattle.instance_table.specs.declared.shelves.Shelf.{Shelf}
 use Rattle.instance_table.specs.Table.{slot_at}
 use Rattle.space_blocks.specs.declared.placed.Placed.{Placed}
 use Rattle.space_blocks.specs.Moves.{next_block}
@@ -29,7 +29,7 @@ still_living (Some m) (Some n) (Some x) same is = record {
 }
 
 module _ {M : Type 0} (meaning : Meaning M) (idle_keeps active_keeps : Relation M) (space : Space)
-    (slots slots' : List (Option (Member M))) (once once' : List Pieces) (groups groups' : List Group) (spaces spaces' : Spaces) (before : State M)
+    (slots slots' : List (Option (Member M))) (once once' : List Shelf) (groups groups' : List Group) (spaces spaces' : Spaces) (before : State M)
     (kept : HostKeeps meaning idle_keeps active_keeps slots once groups spaces before) where
   -- the state with a block of so many words elsewhere
   abbrev stepped : Placed → State M

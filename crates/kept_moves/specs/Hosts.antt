@@ -1,10 +1,10 @@
 -- When tables and spaces keep a state of the machine.
 use Rattle.std.specs.Prelude.{◌≡◌, List, Option}
 use Rattle.ialg.specs.Meaning.{Meaning}
-use Rattle.record_loans.specs.declared.pieces.Pieces.{Pieces}
 use Rattle.scratch_group.specs.declared.group.Group.{Group}
 use Rattle.lifecycle.specs.States.{Relation}
 use Rattle.instance_table.specs.declared.member.Member.{Member}
+use Rattle.instance_table.specs.declared.shelves.Shelf.{Shelf}
 use Rattle.host_spaces.specs.declared.spaces.Spaces.{Spaces}
 use Rattle.host_spaces.specs.Picture.{copied_in, picture_of, sizes_of}
 use Rattle.sound_machine.specs.State.{State}
@@ -12,7 +12,7 @@ use Rattle.kept_machine.specs.Kept.{TablesKeep}
 
 -- the tables keep the instances, and the spaces have the blocks of the picture
 pub record HostKeeps {M : Type 0} (meaning : Meaning M) (idle_keeps active_keeps : Relation M)
-    (slots : List (Option (Member M))) (once : List Pieces) (groups : List Group) (spaces : Spaces) (state : State M) : Type 0 where
+    (slots : List (Option (Member M))) (once : List Shelf) (groups : List Group) (spaces : Spaces) (state : State M) : Type 0 where
   pub tables : TablesKeep meaning idle_keeps active_keeps slots once groups state
   pub picture : picture_of spaces ≡ state.picture
   pub sizes : sizes_of spaces ≡ state.sizes

@@ -11,16 +11,15 @@ ghost use Rattle.kept_moves.specs.Hosts.{HostKeeps};
 
 use host_spaces::Spaces;
 use ialg::Ialg;
-use instance_table::Member;
+use instance_table::{Member, Shelf};
 use mem_rec::Space;
 use placed_instances::{in_order, make_next_move};
-use record_loans::Pieces;
 use scratch_group::Group;
 
 /// Moves the first block of the space that isn't at its packed place there, as the machine does, and says whether a block moved.
 pub fn step<M: Ialg>(
     slots: &mut Vec<Option<Member<M>>>,
-    once: &mut Vec<Pieces>,
+    once: &mut Vec<Shelf>,
     groups: &mut Vec<Group>,
     spaces: &mut Spaces,
     space: Space,
@@ -41,7 +40,7 @@ pub fn step<M: Ialg>(
 /// Makes next moves of the space until all its blocks are packed, as the machine does, and says how many blocks moved: each moves once.
 pub fn compact<M: Ialg>(
     slots: &mut Vec<Option<Member<M>>>,
-    once: &mut Vec<Pieces>,
+    once: &mut Vec<Shelf>,
     groups: &mut Vec<Group>,
     spaces: &mut Spaces,
     space: Space,

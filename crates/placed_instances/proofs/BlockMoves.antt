@@ -27,6 +27,7 @@ use Rattle.host_spaces.specs.declared.spaces.Spaces.{Spaces}
 use Rattle.host_spaces.specs.Picture.{blocks_in, picture_of, space_in}
 use Rattle.instance_table.specs.declared.TheConstants.{GROUPS}
 use Rattle.instance_table.specs.declared.member.Member.{Member}
+use Rattle.instance_table.specs.declared.shelves.Shelf.{Shelf}
 use Rattle.instance_table.specs.Table.{slot_at, once_at, group_at, no_group, instance_of, own_of, activity_at, Activity, TablesOk, TablesTold, ArePoisoned}
 use Rattle.table_moves.specs.Moves.{WordsStay}
 use Rattle.table_moves.proofs.Owns.{told_later}
@@ -43,7 +44,7 @@ pub with_align : (b : Option ScratchBlock) (p : Span) → block_piece b ≡ Some
 with_align None p e = absurd (none-some _ e)
 with_align (Some b) p e = ap (λ (s : Span). let c : ScratchBlock = record { piece = s; align = b.align } in Some c) (same_Some b.piece p e)
 
-module _ {M : Type 0} (slots : List (Option (Member M))) (once : List Pieces) (groups : List Group) (spaces : Spaces) (space : Space) (g al : ℕ)
+module _ {M : Type 0} (slots : List (Option (Member M))) (once : List Shelf) (groups : List Group) (spaces : Spaces) (space : Space) (g al : ℕ)
     (ok : TablesOk slots once groups) (standing : AreStanding slots once groups spaces) (next : IsNextOf spaces space (GroupScratch g))
     (fine : (b : Placed) → next_block (blocks_in (picture_of spaces) space) ≡ Some b → b.align ≡ al) where
   among : IsIn next.0 (block_of_piece (GroupScratch g) (block_align (block_in (group_at groups g) space)) (block_piece (block_in (group_at groups g) space)))
@@ -129,7 +130,7 @@ own_or Scratch o s p e none = absurd (none-some _ e)
 own_or Persist o s p e none = rw e refl
 own_or WriteOnce o s p e none = absurd (true≢false (let some : is_some s ≡ true = rw e refl in sym some ∙ none))
 
-module _ {M : Type 0} (slots : List (Option (Member M))) (once : List Pieces) (spaces : Spaces) (space : Space) (i k : ℕ) (its : IsNextRecord slots once spaces space i k) where
+module _ {M : Type 0} (slots : List (Option (Member M))) (once : List Shelf) (spaces : Spaces) (space : Space) (i k : ℕ) (its : IsNextRecord slots once spaces space i k) where
   pub record_number : k < 4
   record_number = few (record_at (table_of its.member) k).attr (instance_of its.member.inst).own (once_at once i) k its.piece its.its
 
@@ -152,7 +153,7 @@ no_block Daram = refl
 no_block Saram = refl
 no_block External = refl
 
-pub group_number : {M : Type 0} (slots : List (Option (Member M))) (once : List Pieces) (groups : List Group) (spaces : Spaces) (space : Space) (g al : ℕ)
+pub group_number : {M : Type 0} (slots : List (Option (Member M))) (once : List Shelf) (groups : List Group) (spaces : Spaces) (space : Space) (g al : ℕ)
     → TablesOk slots once groups → AreStanding slots once groups spaces → IsNextOf spaces space (GroupScratch g)
     → ((b : Placed) → next_block (blocks_in (picture_of spaces) space) ≡ Some b → b.align ≡ al) → g < GROUPS
 group_number slots once groups spaces space g al ok standing next fine =

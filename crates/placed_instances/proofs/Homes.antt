@@ -26,6 +26,7 @@ use Rattle.host_spaces.specs.declared.spaces.Spaces.{Spaces}
 use Rattle.host_spaces.specs.Picture.{blocks_in, picture_of, space_in}
 use Rattle.host_spaces.specs.Pieces.{IsPieceOf, record_block}
 use Rattle.instance_table.specs.declared.member.Member.{Member}
+use Rattle.instance_table.specs.declared.shelves.Shelf.{Shelf}
 use Rattle.instance_table.specs.Table.{slot_at, once_at, group_at, no_pieces, instance_of, is_member_of}
 use Rattle.instance_table.specs.Frames.{SameSlot, SameMember, IsSameMember, SameMembers, SameTables}
 use Rattle.placed_instances.specs.Standing.{IsHome, IsOf, AreStanding, table_of, SlotIsSame}
@@ -108,7 +109,7 @@ slot_of_same None b e = e
 slot_of_same (Some m) None e = absurd e
 slot_of_same (Some m) (Some n) e = record { group = e.0; kind = e.1.kind; params = e.1.params; table = ap unplaced e.1.table; own = e.1.own }
 
-pub members_of_same : {M : Type 0} (slots slots' : List (Option (Member M))) (once once' : List Pieces) (groups groups' : List Group)
+pub members_of_same : {M : Type 0} (slots slots' : List (Option (Member M))) (once once' : List Shelf) (groups groups' : List Group)
     → SameTables slots once groups slots' once' groups' → SameMembers slots once groups slots' once' groups'
 members_of_same slots slots' once once' groups groups' same = record {
   slot = λ i. slot_of_same (slot_at slots i) (slot_at slots' i) (same.slot i);
@@ -150,7 +151,7 @@ none_same (Some b) c e none = absurd (none-some _ (sym none))
 pub align_same : (b c : Option ScratchBlock) (o : Owner) → IsSameBlock b c → block_of_piece o (block_align c) (block_piece c) ≡ block_of_piece o (block_align b) (block_piece b)
 align_same b c o e = ap (λ n. block_of_piece o n (block_piece c)) e.1 ∙ block_alike o (block_align b) (block_piece b) (block_piece c) e.0
 
-pub standing_stays : {M : Type 0} (slots slots' : List (Option (Member M))) (once once' : List Pieces) (groups groups' : List Group) (spaces : Spaces)
+pub standing_stays : {M : Type 0} (slots slots' : List (Option (Member M))) (once once' : List Shelf) (groups groups' : List Group) (spaces : Spaces)
     → SameMembers slots once groups slots' once' groups' → AreStanding slots once groups spaces → AreStanding slots' once' groups' spaces
 standing_stays slots slots' once once' groups groups' spaces same standing = record {
   homes = λ i n at.

@@ -26,6 +26,7 @@ use Rattle.host_spaces.specs.declared.spaces.Spaces.{Spaces}
 use Rattle.host_spaces.specs.Picture.{Picture, blocks_in, empty_picture, picture_of}
 use Rattle.host_spaces.specs.Pieces.{record_block}
 use Rattle.instance_table.specs.declared.member.Member.{Member}
+use Rattle.instance_table.specs.declared.shelves.Shelf.{Shelf}
 use Rattle.instance_table.specs.Table.{TablesOk, slot_at, once_at, group_at, no_group, instance_of}
 use Rattle.placed_instances.specs.Standing.{AreStanding, table_of}
 use Rattle.placed_instances.proofs.Rooms.{compare, either}
@@ -69,7 +70,7 @@ group_there groups g space s at = elim (compare g (length groups)) [
     none_in Saram = refl
     none_in External = refl
 
-module _ {M : Type 0} (slots : List (Option (Member M))) (once : List Pieces) (groups : List Group) (spaces : Spaces) (space : Space)
+module _ {M : Type 0} (slots : List (Option (Member M))) (once : List Shelf) (groups : List Group) (spaces : Spaces) (space : Space)
     (ok : TablesOk slots once groups) (standing : AreStanding slots once groups spaces) where
   abbrev all_blocks : List Placed
   all_blocks = blocks_in (picture_of spaces) space
@@ -108,7 +109,7 @@ module _ {M : Type 0} (slots : List (Option (Member M))) (once : List Pieces) (g
     single = at_most_one;
   }
 
-module _ {M : Type 0} (slots : List (Option (Member M))) (once : List Pieces) (groups : List Group) (spaces : Spaces)
+module _ {M : Type 0} (slots : List (Option (Member M))) (once : List Shelf) (groups : List Group) (spaces : Spaces)
     (nobody : (i : ℕ) → slot_at slots i ≡ None) (standing : AreStanding slots once groups spaces) where
   pub no_block : (g : ℕ) (space : Space) → block_in (group_at groups g) space ≡ None
   no_block g space = standing.unused g space (λ i. rw (nobody i) refl)

@@ -1,5 +1,5 @@
 -- A record of an instance lies elsewhere.
-use Rattle.std.proofs.Common.{◌≡◌, ◌≢◌, ℕ, ◌<◌, inl, inr, Bool, List, [], ◌∷◌, length, Option, Some, None, set, get_or-set_same, get_or-set_other, refl, sym, ◌∙◌, ap, subst, if◌then◌else◌}
+use Rattle.std.proofs.Common.{◌≡◌, ◌≢◌, ℕ, ◌<◌, inl, inr, Bool, List, [], ◌∷◌, length, Option, Some, None, set, refl, sym, ◌∙◌, ap, subst, if◌then◌else◌}
 use Rattle.std.proofs.lemmas.Option.{none-some, same_Some}
 use Rattle.std.proofs.lemmas.Bool.Decides.{eqb_tells}
 use Rattle.space_raw.specs.Span.{Extent, Span}
@@ -23,7 +23,10 @@ use Rattle.host_spaces.specs.declared.spaces.Spaces.{Spaces}
 use Rattle.host_spaces.specs.Picture.{blocks_in, picture_of, space_in}
 use Rattle.host_spaces.specs.Pieces.{HasRecords, HasBlocks, IsPieceOf, is_write_once}
 use Rattle.instance_table.specs.declared.member.Member.{Member}
-use Rattle.instance_table.specs.Table.{slot_at, once_at, group_at, no_pieces, instance_of, is_member_of}
+use Rattle.instance_table.specs.declared.shelves.Shelf.{Shelf}
+use Rattle.instance_table.specs.Shelves.{shelf_of}
+use Rattle.instance_table.specs.Table.{slot_at, once_at, group_at, IsUnshared, instance_of, is_member_of}
+use Rattle.instance_table.proofs.Stands.{set_here, set_there}
 use Rattle.table_moves.specs.Moves.{inst_with, own_set}
 use Rattle.table_moves.proofs.Owns.{own_set_same, own_set_other}
 use Rattle.placed_instances.specs.Standing.{IsHome, IsOf, AreStanding, table_of}
@@ -150,7 +153,7 @@ module _ (space : Space) (i k : ℕ) (rs : List MemRec) (own shared : Pieces) (y
 
 -- ---- of all instances
 
-module _ {M : Type 0} (space : Space) (i k : ℕ) (p q : Span) (slots : List (Option (Member M))) (once : List Pieces) (groups : List Group) (spaces spaces' : Spaces)
+module _ {M : Type 0} (space : Space) (i k : ℕ) (p q : Span) (slots : List (Option (Member M))) (once : List Shelf) (groups : List Group) (spaces spaces' : Spaces)
     (moves : OneMoves space (Record i k) p q spaces spaces') (standing : AreStanding slots once groups spaces) (m : Member M) (at : slot_at slots i ≡ Some m)
     (of_space : (record_at (table_of m) k).space ≡ space) where
   -- another instance
@@ -214,15 +217,15 @@ module _ {M : Type 0} (space : Space) (i k : ℕ) (p q : Span) (slots : List (Op
       unused = λ g s none. standing.unused g s (λ j. sym (was_member j g) ∙ none j);
     }
 
-  module _ (there : piece_at (once_at once i) k ≡ Some p) (inside : i < length once) where
-    abbrev once_now : List Pieces
-    once_now = set once i (with_piece (once_at once i) k (Some q))
+  module _ (there : piece_at (once_at once i) k ≡ Some p) (inside : i < length once) (unshared : (j : ℕ) → IsUnshared once j) where
+    abbrev once_now : List Shelf
+    once_now = set once i (shelf_of (with_piece (once_at once i) k (Some q)))
 
     once_same : once_at once_now i ≡ with_piece (once_at once i) k (Some q)
-    once_same = get_or-set_same once i (with_piece (once_at once i) k (Some q)) no_pieces inside
+    once_same = set_here once i (with_piece (once_at once i) k (Some q)) inside
 
     once_other : (j : ℕ) → j ≢ i → once_at once_now j ≡ once_at once j
-    once_other j apart = get_or-set_other once i j (with_piece (once_at once i) k (Some q)) no_pieces apart
+    once_other j apart = set_there once i j (shelf_of (with_piece (once_at once i) k (Some q))) (unshared j) apart
 
     pub home_of_once : IsHome spaces' i (table_of m) (instance_of m.inst).own (with_piece (once_at once i) k (Some q)) (group_at groups m.group)
     home_of_once = once_moved space i k (table_of m) (instance_of m.inst).own (once_at once i) (group_at groups m.group) p q spaces spaces' moves (standing.homes i m at) there of_space

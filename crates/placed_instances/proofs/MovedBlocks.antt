@@ -6,7 +6,6 @@ use Rattle.space_raw.specs.Span.{Span}
 use Rattle.mem_rec.specs.declared.MemRec.{MemRec}
 use Rattle.mem_rec.specs.declared.Space.{Space}
 use Rattle.mem_rec.specs.Records.{same_space}
-use Rattle.record_loans.specs.declared.pieces.Pieces.{Pieces}
 use Rattle.record_loans.specs.declared.block.ScratchBlock.{ScratchBlock}
 use Rattle.record_loans.specs.Blocks.{block_piece, block_align, block_words}
 use Rattle.scratch_group.specs.declared.group.Group.{Group}
@@ -21,6 +20,7 @@ use Rattle.host_spaces.specs.declared.spaces.Spaces.{Spaces}
 use Rattle.host_spaces.specs.Picture.{blocks_in, picture_of, space_in}
 use Rattle.host_spaces.specs.Pieces.{HasBlocks}
 use Rattle.instance_table.specs.declared.member.Member.{Member}
+use Rattle.instance_table.specs.declared.shelves.Shelf.{Shelf}
 use Rattle.instance_table.specs.Table.{slot_at, once_at, group_at, instance_of}
 use Rattle.table_moves.specs.Moves.{BlockStays, SlotStays, WordsStay}
 use Rattle.placed_instances.specs.Standing.{IsOf, AreStanding, AreOrdered, table_of}
@@ -30,7 +30,7 @@ use Rattle.placed_instances.proofs.Slots.{one_space, other_space, not_a_group, o
 use Rattle.placed_instances.proofs.Moved.{OneMoves, other_owned, blocks_elsewhere}
 
 -- each instance that stands in the picture has room
-pub room_of_standing : {M : Type 0} (slots : List (Option (Member M))) (once : List Pieces) (groups : List Group) (spaces : Spaces) → AreOrdered spaces → AreStanding slots once groups spaces
+pub room_of_standing : {M : Type 0} (slots : List (Option (Member M))) (once : List Shelf) (groups : List Group) (spaces : Spaces) → AreOrdered spaces → AreStanding slots once groups spaces
     → (i : ℕ) (m : Member M) → slot_at slots i ≡ Some m → HasRoom (instance_of m.inst) (once_at once i) (group_at groups m.group)
 room_of_standing slots once groups spaces ordered standing i m at =
     subst (λ (rs : List MemRec). Fits rs (instance_of m.inst).own (once_at once i) (group_at groups m.group))
@@ -49,7 +49,7 @@ pub member_stays_itself : {M : Type 0} (slot : Option (Member M)) → SlotStays 
 member_stays_itself None = refl
 member_stays_itself (Some m) = record { group = refl; state = refl; kind = refl; params = refl; table = refl; own = λ k. refl }
 
-module _ {M : Type 0} (space : Space) (g al : ℕ) (p q : Span) (slots : List (Option (Member M))) (once : List Pieces) (groups groups' : List Group) (spaces spaces' : Spaces)
+module _ {M : Type 0} (space : Space) (g al : ℕ) (p q : Span) (slots : List (Option (Member M))) (once : List Shelf) (groups groups' : List Group) (spaces spaces' : Spaces)
     (moves : OneMoves space (GroupScratch g) p q spaces spaces')
     (same : (k : ℕ) (s : Space) → (k ≢ g) ⊎ (s ≢ space) → block_in (group_at groups' k) s ≡ block_in (group_at groups k) s)
     (was : block_in (group_at groups g) space ≡ Some (record { piece = p; align = al })) (is : block_in (group_at groups' g) space ≡ Some (record { piece = q; align = al })) where

@@ -6,7 +6,6 @@ use Rattle.mem_rec.specs.declared.MemRec.{MemRec}
 use Rattle.mem_rec.specs.declared.Space.{Space}
 use Rattle.mem_rec.specs.Records.{same_space}
 use Rattle.ialg.specs.Records.{record_at}
-use Rattle.record_loans.specs.declared.pieces.Pieces.{Pieces}
 use Rattle.scratch_group.specs.declared.group.Group.{Group}
 use Rattle.lifecycle.specs.Rooms.{piece_of_record}
 use Rattle.relocate.specs.declared.packing.Move.{Move}
@@ -20,6 +19,7 @@ use Rattle.host_spaces.specs.declared.spaces.Spaces.{Spaces}
 use Rattle.host_spaces.specs.Picture.{blocks_in, picture_of}
 use Rattle.host_spaces.specs.Pieces.{record_block}
 use Rattle.instance_table.specs.declared.member.Member.{Member}
+use Rattle.instance_table.specs.declared.shelves.Shelf.{Shelf}
 use Rattle.instance_table.specs.Table.{slot_at, once_at, instance_of}
 use Rattle.placed_instances.specs.Standing.{AreStanding, table_of}
 use Rattle.placed_instances.specs.Moves.{IsNextOf}
@@ -58,7 +58,7 @@ next_piece b o al None h = absurd h
 next_piece b o al (Some s) h = (s, (refl, only_block b (block_of o al s) h))
 
 -- the record whose block moves next
-pub record IsNextRecord {M : Type 0} (slots : List (Option (Member M))) (once : List Pieces) (spaces : Spaces) (space : Space) (i k : ℕ) : Type 0 where
+pub record IsNextRecord {M : Type 0} (slots : List (Option (Member M))) (once : List Shelf) (spaces : Spaces) (space : Space) (i k : ℕ) : Type 0 where
   pub member : Member M
   pub there : slot_at slots i ≡ Some member
   pub of_space : (record_at (table_of member) k).space ≡ space
@@ -77,7 +77,7 @@ pub slot_of : {M : Type 0} (slot : Option (Member M)) → (slot ≡ None → ⊥
 slot_of None none = absurd (none refl)
 slot_of (Some m) none = (m, refl)
 
-pub next_record : {M : Type 0} (slots : List (Option (Member M))) (once : List Pieces) (groups : List Group) (spaces : Spaces) (space : Space) (i k : ℕ) → AreStanding slots once groups spaces
+pub next_record : {M : Type 0} (slots : List (Option (Member M))) (once : List Shelf) (groups : List Group) (spaces : Spaces) (space : Space) (i k : ℕ) → AreStanding slots once groups spaces
     → IsNextOf spaces space (Record i k) → IsNextRecord slots once spaces space i k
 next_record slots once groups spaces space i k standing next =
     let b = next.0 in

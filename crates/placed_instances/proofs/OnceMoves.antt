@@ -1,5 +1,5 @@
 -- A write-once record of an instance moves.
-use Rattle.std.proofs.Common.{◌≡◌, ◌≢◌, ℕ, zero, suc, ◌<◌, inl, inr, List, [], ◌∷◌, length, Option, Some, None, set, get_or-set_same, get_or-set_other, refl, sym, ◌∙◌, ap, subst}
+use Rattle.std.proofs.Common.{◌≡◌, ◌≢◌, ℕ, zero, suc, ◌<◌, inl, inr, List, [], ◌∷◌, length, Option, Some, None, set, refl, sym, ◌∙◌, ap, subst}
 use Rattle.std.specs.Option.{option_map}
 use Rattle.std.specs.List.{Contains}
 use Rattle.std.proofs.lemmas.Option.{same_Some}
@@ -24,7 +24,10 @@ use Rattle.host_spaces.specs.declared.spaces.Spaces.{Spaces}
 use Rattle.host_spaces.specs.Picture.{blocks_in, picture_of, space_in}
 use Rattle.host_spaces.specs.Pieces.{IsPieceOf, is_write_once}
 use Rattle.instance_table.specs.declared.member.Member.{Member}
-use Rattle.instance_table.specs.Table.{slot_at, once_at, group_at, no_pieces, instance_of, own_of, TablesOk}
+use Rattle.instance_table.specs.declared.shelves.Shelf.{Shelf}
+use Rattle.instance_table.specs.Shelves.{shelf_of}
+use Rattle.instance_table.specs.Table.{slot_at, once_at, group_at, IsUnshared, instance_of, own_of, TablesOk}
+use Rattle.instance_table.proofs.Stands.{set_here, set_there}
 use Rattle.table_moves.specs.Moves.{inst_with, slot_with, own_set, TablesBut, SameWords, WordsStay}
 use Rattle.table_moves.proofs.Owns.{set_again, but_all, but_shared}
 use Rattle.placed_instances.specs.Standing.{IsHome, AreOrdered, AreStanding, table_of}
@@ -54,7 +57,7 @@ set_as_it_is (x ∷ xs) (suc i) = ap (λ (l : List _). x ∷ l) (set_as_it_is xs
 pub none_back : {M : Type 0} (slots : List (Option (Member M))) (i : ℕ) → own_set slots i (restored None (own_of (slot_at slots i))) ≡ slots
 none_back slots i = ap (set slots i) (slot_as_it_is (slot_at slots i)) ∙ set_as_it_is slots i
 
-module _ {M : Type 0} (slots : List (Option (Member M))) (once : List Pieces) (groups : List Group) (spaces : Spaces) (space : Space) (i k : ℕ) (p : Span)
+module _ {M : Type 0} (slots : List (Option (Member M))) (once : List Shelf) (groups : List Group) (spaces : Spaces) (space : Space) (i k : ℕ) (p : Span)
     (ok : TablesOk slots once groups) (standing : AreStanding slots once groups spaces) (next : IsNextOf spaces space (Record i k))
     (inside : i < length once) (taken : piece_at (once_at once i) k ≡ Some p) where
   pub its : IsNextRecord slots once spaces space i k
@@ -92,25 +95,28 @@ module _ {M : Type 0} (slots : List (Option (Member M))) (once : List Pieces) (g
     subst (λ (bs : List Placed). Contains bs (block_of (Record i k) (record_at (table_of its.member) k).align p)) (sym owned_is) (only_one (block_of (Record i k) (record_at (table_of its.member) k).align p)),
   )
 
-  abbrev away : List Pieces
-  away = set once i (with_piece (once_at once i) k None)
+  abbrev away : List Shelf
+  away = set once i (shelf_of (with_piece (once_at once i) k None))
 
   away_at : once_at away i ≡ with_piece (once_at once i) k None
-  away_at = get_or-set_same once i (with_piece (once_at once i) k None) no_pieces inside
+  away_at = set_here once i (with_piece (once_at once i) k None) inside
+
+  pub unshared_away : IsUnshared away i
+  unshared_away = (but_shared i (with_piece (once_at once i) k None) slots once groups (but_all i slots once groups ok)).unshared i
 
   pub empty_there : piece_at (once_at away i) k ≡ None
   empty_there = ap (λ (o : Pieces). piece_at o k) away_at ∙ piece_with_same (once_at once i) k None (piece_there (once_at once i) k p taken)
 
   module _ (q : Span) where
-    abbrev now : List Pieces
-    now = set once i (with_piece (once_at once i) k (Some q))
+    abbrev now : List Shelf
+    now = set once i (shelf_of (with_piece (once_at once i) k (Some q)))
 
     -- the piece that is put back
-    pub back_is : set away i (with_piece (once_at away i) k (Some q)) ≡ now
+    pub back_is : set away i (shelf_of (with_piece (once_at away i) k (Some q))) ≡ now
     back_is =
-        ap (λ (o : Pieces). set away i (with_piece o k (Some q))) away_at
-        ∙ ap (set away i) (piece_again (once_at once i) k None (Some q))
-        ∙ set_again once i (with_piece (once_at once i) k None) (with_piece (once_at once i) k (Some q))
+        ap (λ (o : Pieces). set away i (shelf_of (with_piece o k (Some q)))) away_at
+        ∙ ap (λ (o : Pieces). set away i (shelf_of o)) (piece_again (once_at once i) k None (Some q))
+        ∙ set_again once i (shelf_of (with_piece (once_at once i) k None)) (shelf_of (with_piece (once_at once i) k (Some q)))
 
     pub told_others : TablesBut i slots now groups
     told_others = but_shared i (with_piece (once_at once i) k (Some q)) slots once groups (but_all i slots once groups ok)
@@ -124,7 +130,7 @@ module _ {M : Type 0} (slots : List (Option (Member M))) (once : List Pieces) (g
       moves = record { here = here (Record i k); others = λ o apart. others (Record i k) o owns apart; elsewhere = elsewhere; regions = regions; words = words; region = region }
 
       pub stands : AreStanding slots now groups spaces'
-      stands = standing_once space i k p q slots once groups spaces spaces' moves standing its.member its.there its.of_space taken inside
+      stands = standing_once space i k p q slots once groups spaces spaces' moves standing its.member its.there its.of_space taken inside ok.unshared
 
       pub room_now : AreOrdered spaces' → (n : Member M) → slot_at slots i ≡ Some n → HasRoom (with_back (instance_of n.inst) None) (once_at now i) (group_at groups n.group)
       room_now ordered n at = room_of_standing slots now groups spaces' ordered stands i n at
@@ -132,8 +138,8 @@ module _ {M : Type 0} (slots : List (Option (Member M))) (once : List Pieces) (g
       same_words : (j : ℕ) → SameWords (once_at once j) (once_at now j)
       same_words j l =
           elim (eqb_tells j i) [
-            | inr e ↦ ap (λ (o : Pieces). piece_words (piece_at o l)) (get_or-set_other once i j (with_piece (once_at once i) k (Some q)) no_pieces e.1)
-            | inl e ↦ rw (e.1, get_or-set_same once i (with_piece (once_at once i) k (Some q)) no_pieces inside)
+            | inr e ↦ ap (λ (o : Pieces). piece_words (piece_at o l)) (set_there once i j (shelf_of (with_piece (once_at once i) k (Some q))) (ok.unshared j) e.1)
+            | inl e ↦ rw (e.1, set_here once i (with_piece (once_at once i) k (Some q)) inside)
                 (elim (eqb_tells l k) [
                   | inl f ↦ rw (f.1, piece_with_same (once_at once i) k (Some q) (piece_there (once_at once i) k p taken), taken) words
                   | inr f ↦ ap piece_words (piece_with_other (once_at once i) k l (Some q) f.1)

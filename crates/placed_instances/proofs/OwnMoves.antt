@@ -1,5 +1,5 @@
 -- An instance's own record moves.
-use Rattle.std.proofs.Common.{◌≡◌, ◌≢◌, ℕ, ◌+◌, ◌-◌, ◌^◌, min, inl, inr, true, List, [], ◌∷◌, length, Option, Some, None, set, refl, sym, ◌∙◌, ap, subst}
+use Rattle.std.proofs.Common.{◌≡◌, ◌≢◌, ℕ, ◌+◌, ◌-◌, ◌^◌, ◌<◌, min, inl, inr, true, is_some, List, [], ◌∷◌, length, Option, Some, None, set, refl, sym, ◌∙◌, ap, subst}
 use Rattle.std.specs.Option.{option_map}
 use Rattle.std.specs.List.{Contains}
 use Rattle.std.proofs.lemmas.Option.{none-some, same_Some}
@@ -27,6 +27,7 @@ use Rattle.host_spaces.specs.declared.spaces.Sizes.{Sizes}
 use Rattle.host_spaces.specs.Picture.{blocks_in, picture_of, sizes_of, space_in}
 use Rattle.host_spaces.specs.Pieces.{IsPieceOf}
 use Rattle.instance_table.specs.declared.member.Member.{Member}
+use Rattle.instance_table.specs.declared.shelves.Shelf.{Shelf}
 use Rattle.instance_table.specs.Table.{slot_at, once_at, group_at, instance_of, own_of, TablesOk}
 use Rattle.instance_table.specs.Frames.{SameMembers}
 use Rattle.table_moves.specs.Moves.{inst_with, slot_with, own_set, TablesBut, MemberStays, SlotStays, SameWords, WordsStay}
@@ -80,7 +81,7 @@ kind_then (Some a) (Some b) (Some c) e f = record {
   table = f.table ∙ e.table;
 }
 
-pub then_same : {M : Type 0} (slots slots' slots'' : List (Option (Member M))) (once once' : List Pieces) (groups groups' : List Group) → SameInstances slots slots'
+pub then_same : {M : Type 0} (slots slots' slots'' : List (Option (Member M))) (once once' : List Shelf) (groups groups' : List Group) → SameInstances slots slots'
     → SameMembers slots' once groups slots'' once' groups' → SameInstances slots slots''
 then_same slots slots' slots'' once once' groups groups' kinds same i =
     kind_then (slot_at slots i) (slot_at slots' i) (slot_at slots'' i) (kinds i) (slot_same (slot_at slots' i) (slot_at slots'' i) (same.slot i))
@@ -116,7 +117,7 @@ set_twice slots i a b =
 
 -- ---- the move
 
-module _ {M : Type 0} (slots : List (Option (Member M))) (once : List Pieces) (groups : List Group) (spaces : Spaces) (space : Space) (i k : ℕ) (p : Span)
+module _ {M : Type 0} (slots : List (Option (Member M))) (once : List Shelf) (groups : List Group) (spaces : Spaces) (space : Space) (i k : ℕ) (p : Span)
     (ok : TablesOk slots once groups) (standing : AreStanding slots once groups spaces) (next : IsNextOf spaces space (Record i k))
     (taken : piece_at (own_of (slot_at slots i)) k ≡ Some p) where
   pub its : IsNextRecord slots once spaces space i k
@@ -172,6 +173,19 @@ module _ {M : Type 0} (slots : List (Option (Member M))) (once : List Pieces) (g
 
   own_is : own_of (slot_at slots i) ≡ (instance_of its.member.inst).own
   own_is = rw its.there refl
+
+  -- without the piece the instance lives on, and there is room for the piece
+  pub living_away : is_some (slot_at (own_set slots i away) i) ≡ true
+  living_away = ap is_some (own_set_same slots i away) ∙ ap (λ (s : Option (Member M)). is_some (slot_with s away)) its.there
+
+  pub can_come_back : (k < 4) × (piece_at (own_of (slot_at (own_set slots i away) i)) k ≡ None)
+  can_come_back =
+      let below = piece_there (own_of (slot_at slots i)) k p taken in (
+        below,
+        ap (λ (s : Option (Member M)). piece_at (own_of s) k) (own_set_same slots i away)
+            ∙ ap (λ (o : Pieces). piece_at o k) (own_with (slot_at slots i) its.member away its.there)
+            ∙ piece_with_same (own_of (slot_at slots i)) k None below,
+      )
 
   module _ (q : Span) (spaces' : Spaces)
       (here : (owner : Owner) (align : ℕ) → owned owner (blocks_in (picture_of spaces) space) ≡ block_of owner align p ∷ [] → owned owner (blocks_in (picture_of spaces') space) ≡ block_of owner align q ∷ [])

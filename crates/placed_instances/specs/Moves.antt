@@ -3,10 +3,10 @@ use Rattle.std.specs.Prelude.{◌≡◌, ℕ, ℤ, ◌+◌, ◌-◌, ◌^◌, mi
 use Rattle.mem_rec.specs.declared.Space.{Space}
 use Rattle.ialg.specs.Meaning.{Meaning}
 use Rattle.ialg.specs.History.{History}
-use Rattle.record_loans.specs.declared.pieces.Pieces.{Pieces}
 use Rattle.scratch_group.specs.declared.group.Group.{Group}
 use Rattle.lifecycle.specs.States.{Relation}
 use Rattle.instance_table.specs.declared.member.Member.{Member}
+use Rattle.instance_table.specs.declared.shelves.Shelf.{Shelf}
 use Rattle.instance_table.specs.Table.{TablesOk, ArePoisoned, activity_at}
 use Rattle.instance_table.specs.Keeps.{Keeps}
 use Rattle.space_blocks.specs.declared.placed.Owner.{Owner}
@@ -22,8 +22,8 @@ IsNextOf spaces space owner = (b : Placed) × ((next_block (blocks_in (picture_o
 
 -- the next block of a space was moved, and whoever has records in it was told: each instance is the same, in its state, and keeps its history
 pub record HasMoved {M : Type 0} (meaning : Meaning M) (idle_keeps active_keeps : Relation M) (space : Space)
-    (slots : List (Option (Member M))) (once : List Pieces) (groups : List Group) (spaces : Spaces)
-    (slots' : List (Option (Member M))) (once' : List Pieces) (groups' : List Group) (spaces' : Spaces) : Type 0 where
+    (slots : List (Option (Member M))) (once : List Shelf) (groups : List Group) (spaces : Spaces)
+    (slots' : List (Option (Member M))) (once' : List Shelf) (groups' : List Group) (spaces' : Spaces) : Type 0 where
   pub ok : TablesOk slots' once' groups'
   pub standing : AreStanding slots' once' groups' spaces'
   pub poisoned : (w : Option ℤ) → ArePoisoned w groups → ArePoisoned w groups'

@@ -11,6 +11,7 @@ use Rattle.scratch_group.specs.declared.group.Group.{Group}
 use Rattle.scratch_group.specs.Blocks.{block_in}
 use Rattle.lifecycle.specs.Rooms.{NoNeed}
 use Rattle.instance_table.specs.declared.member.Member.{Member}
+use Rattle.instance_table.specs.declared.shelves.Shelf.{Shelf}
 use Rattle.instance_table.specs.Table.{slot_at, once_at, group_at, no_pieces, instance_of, is_member_of}
 use Rattle.space_blocks.specs.declared.placed.Owner.TheVariants.{Record}
 use Rattle.space_blocks.specs.Blocks.{owned}
@@ -35,7 +36,7 @@ abbrev pub table_of : {M : Type 0} → Member M → List MemRec
 table_of m = unplaced (instance_of m.inst).table
 
 -- each instance and each group has its blocks of the picture, and no block is anybody else's
-pub record AreStanding {M : Type 0} (slots : List (Option (Member M))) (once : List Pieces) (groups : List Group) (spaces : Spaces) : Type 0 where
+pub record AreStanding {M : Type 0} (slots : List (Option (Member M))) (once : List Shelf) (groups : List Group) (spaces : Spaces) : Type 0 where
   pub homes : (i : ℕ) (m : Member M) → slot_at slots i ≡ Some m → IsHome spaces i (table_of m) (instance_of m.inst).own (once_at once i) (group_at groups m.group)
   pub free : (i : ℕ) → slot_at slots i ≡ None → once_at once i ≡ no_pieces
   pub gone : (i k : ℕ) (space : Space) → slot_at slots i ≡ None → owned (Record i k) (blocks_in (picture_of spaces) space) ≡ []

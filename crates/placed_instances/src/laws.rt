@@ -1,9 +1,9 @@
 //! What leaves records and blocks where they stand.
 ghost use Rattle.std.specs.Prelude.{◌≡◌, ◌≤◌, ℕ, List, Option, None, length};
 ghost use Rattle.mem_rec.specs.declared.Space.{Space};
-ghost use Rattle.record_loans.specs.declared.pieces.Pieces.{Pieces};
 ghost use Rattle.scratch_group.specs.declared.group.Group.{Group};
 ghost use Rattle.instance_table.specs.declared.member.Member.{Member};
+ghost use Rattle.instance_table.specs.declared.shelves.Shelf.{Shelf};
 ghost use Rattle.scratch_group.specs.Blocks.{block_in};
 ghost use Rattle.instance_table.specs.Table.{TablesOk, slot_at, once_at, group_at, no_pieces};
 ghost use Rattle.instance_table.specs.Frames.{SameTables};
@@ -19,15 +19,15 @@ use space_blocks::blocks_are_few;
 /// The law that instances and groups stand where the picture shows them as long as only states and words change. The call does nothing:
 /// its contract is the law.
 pub fn places_stay<M: Ialg>()
-    ensures { (slots slots' : List (Option (Member M))) (once once' : List Pieces) (groups groups' : List Group) (spaces : Spaces)
+    ensures { (slots slots' : List (Option (Member M))) (once once' : List Shelf) (groups groups' : List Group) (spaces : Spaces)
         → SameTables slots once groups slots' once' groups' → AreStanding slots once groups spaces → AreStanding slots' once' groups' spaces }
 {}
 
 /// The law that no owner has two blocks of a space, so that a map has room for all of them. The call does nothing.
 pub fn maps_have_room<M: Ialg>()
-    ensures single { (slots : List (Option (Member M))) (once : List Pieces) (groups : List Group) (spaces : Spaces) (space : Space)
+    ensures single { (slots : List (Option (Member M))) (once : List Shelf) (groups : List Group) (spaces : Spaces) (space : Space)
         → TablesOk slots once groups → AreStanding slots once groups spaces → AreSingle (blocks_in (picture_of spaces) space) }
-    ensures few { (slots : List (Option (Member M))) (once : List Pieces) (groups : List Group) (spaces : Spaces) (space : Space)
+    ensures few { (slots : List (Option (Member M))) (once : List Shelf) (groups : List Group) (spaces : Spaces) (space : Space)
         → TablesOk slots once groups → AreStanding slots once groups spaces → length (blocks_in (picture_of spaces) space) ≤ MAP_BLOCKS }
 {
     blocks_are_few();
@@ -36,11 +36,11 @@ pub fn maps_have_room<M: Ialg>()
 /// The law that where nobody lives, and where no group has a block, all stands as an empty picture shows it; and that where nobody lives
 /// the picture is empty, and no group has a block. The call does nothing.
 pub fn nobody_stands<M: Ialg>()
-    ensures start { (slots : List (Option (Member M))) (once : List Pieces) (groups : List Group) (spaces : Spaces)
+    ensures start { (slots : List (Option (Member M))) (once : List Shelf) (groups : List Group) (spaces : Spaces)
         → ((i : ℕ) → slot_at slots i ≡ None) → ((i : ℕ) → once_at once i ≡ no_pieces)
         → ((g : ℕ) (space : Space) → block_in (group_at groups g) space ≡ None) → picture_of spaces ≡ empty_picture
         → AreStanding slots once groups spaces }
-    ensures end { (slots : List (Option (Member M))) (once : List Pieces) (groups : List Group) (spaces : Spaces)
+    ensures end { (slots : List (Option (Member M))) (once : List Shelf) (groups : List Group) (spaces : Spaces)
         → ((i : ℕ) → slot_at slots i ≡ None) → AreStanding slots once groups spaces
         → (picture_of spaces ≡ empty_picture) × ((i : ℕ) → once_at once i ≡ no_pieces) × ((g : ℕ) (space : Space) → block_in (group_at groups g) space ≡ None) }
 {}

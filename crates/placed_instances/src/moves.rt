@@ -1,6 +1,5 @@
 //! Moves: the next block of a space is slid down to its packed place, and whoever has records in it is told.
 ghost use Rattle.std.specs.Prelude.{◌≡◌, ◌<◌, length, true, false, Some, None, IsSome, is_some};
-ghost use Rattle.mem_rec.specs.declared.TheConstants.{TABLE_RECORDS};
 ghost use Rattle.record_loans.specs.Pieces.{piece_at};
 ghost use Rattle.instance_table.specs.declared.TheConstants.{INSTANCES, GROUPS};
 ghost use Rattle.instance_table.specs.Table.{slot_at, once_at, own_of, TablesOk};
@@ -14,9 +13,8 @@ ghost use Rattle.placed_instances.specs.Moves.{HasMoved, IsNextOf};
 use crate::order::in_order;
 use host_spaces::Spaces;
 use ialg::Ialg;
-use instance_table::{Member, tell_members};
+use instance_table::{Member, Shelf, sees, tell_members};
 use mem_rec::Space;
-use record_loans::Pieces;
 use scratch_group::Group;
 use space_blocks::Owner;
 use space_raw::Piece;
@@ -25,7 +23,7 @@ use table_moves::{put_block, put_once, take_block, take_once, take_own, tell};
 /// Moves a record that an instance has for its own.
 fn move_own<M: Ialg>(
     slots: &mut Vec<Option<Member<M>>>,
-    once: &mut Vec<Pieces>,
+    once: &mut Vec<Shelf>,
     groups: &mut Vec<Group>,
     spaces: &mut Spaces,
     space: Space,
@@ -48,7 +46,7 @@ fn move_own<M: Ialg>(
 /// Moves a write-once record of an instance.
 fn move_once<M: Ialg>(
     slots: &mut Vec<Option<Member<M>>>,
-    once: &mut Vec<Pieces>,
+    once: &mut Vec<Shelf>,
     groups: &mut Vec<Group>,
     spaces: &mut Spaces,
     space: Space,
@@ -73,7 +71,7 @@ fn move_once<M: Ialg>(
 /// Moves the block of a group.
 fn move_block<M: Ialg>(
     slots: &mut Vec<Option<Member<M>>>,
-    once: &mut Vec<Pieces>,
+    once: &mut Vec<Shelf>,
     groups: &mut Vec<Group>,
     spaces: &mut Spaces,
     space: Space,
@@ -110,20 +108,11 @@ fn end_none(piece: Option<Piece>)
     }
 }
 
-/// Whether record `k` of the instance is a write-once one, which has its piece with those that are lent.
-fn has_once(once: &Vec<Pieces>, i: u8, k: u8) -> bool
-    requires number { i < length once.now.items }
-    requires record { k < TABLE_RECORDS }
-    ensures { result ≡ is_some (piece_at (once_at once.now.items i) k) }
-{
-    once[i as usize].piece(k as usize).is_some()
-}
-
 /// Makes the next move of a space: its first block that isn't at its packed place is slid down to it, with its words, and its owner, or
 /// each member of its group in ascending number, is told. Says whether a block moved.
 pub fn make_next_move<M: Ialg>(
     slots: &mut Vec<Option<Member<M>>>,
-    once: &mut Vec<Pieces>,
+    once: &mut Vec<Shelf>,
     groups: &mut Vec<Group>,
     spaces: &mut Spaces,
     space: Space,
@@ -140,7 +129,7 @@ pub fn make_next_move<M: Ialg>(
     };
     match block.owner {
         Owner::Record(i, k) => {
-            if has_once(once, i, k) {
+            if sees(once, i as usize, k as usize) {
                 move_once(slots, once, groups, spaces, space, i, k);
             } else {
                 move_own(slots, once, groups, spaces, space, i, k);

@@ -18,6 +18,7 @@ use Rattle.lifecycle.specs.declared.instance.Inst.TheVariants.{Idling, Running}
 use Rattle.lifecycle.specs.Moves.{settled}
 use Rattle.lifecycle.specs.States.{SameInstance}
 use Rattle.instance_table.specs.declared.member.Member.{Member}
+use Rattle.instance_table.specs.declared.shelves.Shelf.{Shelf}
 use Rattle.instance_table.specs.Table.{slot_at, once_at, group_at, instance_of, is_member_of}
 use Rattle.instance_table.specs.Frames.{IsIdle, IsStarted, OthersStay}
 use Rattle.space_blocks.specs.declared.placed.Owner.TheVariants.{Record}
@@ -38,7 +39,7 @@ started_as : {M : Type 0} (g : ℕ) (s : Instance M) (slot : Option (Member M)) 
 started_as g s None is = absurd is
 started_as g s (Some m) is = (m, (refl, (is.0, same_of s m.inst is.1)))
 
-module _ {M : Type 0} (i g : ℕ) (s : Instance M) (shared : Pieces) (slots slots' : List (Option (Member M))) (once once' : List Pieces) (groups : List Group) (spaces : Spaces)
+module _ {M : Type 0} (i g : ℕ) (s : Instance M) (shared : Pieces) (slots slots' : List (Option (Member M))) (once once' : List Shelf) (groups : List Group) (spaces : Spaces)
     (empty : slot_at slots i ≡ None) (grown : AreGrown g slots once groups spaces) (home : IsHome spaces i s.table s.own shared (group_at groups g))
     (gone : (j k : ℕ) (space : Space) → slot_at slots j ≡ None → j ≢ i → owned (Record j k) (blocks_in (picture_of spaces) space) ≡ [])
     (others : OthersStay i slots once slots' once') (started : IsStarted g (settled s shared (group_at groups g)) (slot_at slots' i)) (pieces : SamePieces shared (once_at once' i)) where

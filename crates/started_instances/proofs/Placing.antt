@@ -1,5 +1,5 @@
 -- What was placed for a new instance.
-use Rattle.std.proofs.Common.{◌≡◌, ◌≢◌, ℕ, IsTrue, List, Option, Some, None, sym, ◌∙◌, ap}
+use Rattle.std.proofs.Common.{◌≡◌, ◌≢◌, ℕ, IsTrue, List, Option, Some, None, refl, sym, ◌∙◌, ap}
 use Rattle.std.proofs.lemmas.Option.{none-some}
 use Rattle.space_raw.specs.Span.{Extent}
 use Rattle.mem_rec.specs.declared.MemRec.{MemRec}
@@ -15,6 +15,7 @@ use Rattle.scratch_group.specs.declared.group.Need.{Need}
 use Rattle.scratch_group.specs.Blocks.{block_in}
 use Rattle.lifecycle.specs.Rooms.{NoNeed}
 use Rattle.instance_table.specs.declared.member.Member.{Member}
+use Rattle.instance_table.specs.declared.shelves.Shelf.{Shelf}
 use Rattle.instance_table.specs.Table.{slot_at, group_at}
 use Rattle.space_blocks.specs.declared.placed.Owner.{Owner}
 use Rattle.space_blocks.specs.declared.placed.Owner.TheVariants.{Record, Scratch}
@@ -24,7 +25,7 @@ use Rattle.host_spaces.specs.declared.spaces.Spaces.{Spaces}
 use Rattle.host_spaces.specs.Picture.{AreSameSpaces, blocks_in, picture_of, space_in}
 use Rattle.host_spaces.specs.Pieces.{ArePiecesOf, HasRecords, IsNeeded, new_block, with_new}
 use Rattle.host_spaces.specs.Wants.{block_need}
-use Rattle.placed_instances.specs.Standing.{AreStanding, IsHome, IsOf}
+use Rattle.placed_instances.specs.Standing.{AreStanding, IsHome, IsOf, SlotIsSame}
 use Rattle.placed_instances.proofs.Slots.{not_a_group, other_group, other_instance}
 use Rattle.grown_groups.specs.Growth.{ArePlaced}
 use Rattle.grown_groups.proofs.Needed.{larger_needed}
@@ -34,7 +35,13 @@ home_of home n None is = tt
 home_of home None (Some b) is = absurd is
 home_of home (Some n) (Some b) is = is.0
 
-module _ {M : Type 0} (i g : ℕ) (table : List MemRec) (blocks : NewBlocks) (slots : List (Option (Member M))) (once : List Pieces) (groups : List Group) (before spaces : Spaces)
+-- where nobody lives, nobody did
+pub none_before : {M : Type 0} (a b : Option (Member M)) → SlotIsSame a b → b ≡ None → a ≡ None
+none_before None b same none = refl
+none_before (Some m) None same none = absurd same
+none_before (Some m) (Some n) same none = absurd (none-some _ (sym none))
+
+module _ {M : Type 0} (i g : ℕ) (table : List MemRec) (blocks : NewBlocks) (slots : List (Option (Member M))) (once : List Shelf) (groups : List Group) (before spaces : Spaces)
     (empty : slot_at slots i ≡ None) (standing : AreStanding slots once groups before)
     (needed : (space : Space) → IsNeeded (space_in before space).region (block_need table (group_at groups g) space) (new_block blocks space))
     (placed : (space : Space) → owned (Scratch g) (blocks_in (picture_of spaces) space) ≡ with_new g (new_block blocks space) (owned (Scratch g) (blocks_in (picture_of before) space)))

@@ -24,7 +24,7 @@ ghost use Rattle.started_instances.specs.Started.{IsNewborn, OthersAreSame};
 use grown_groups::grow;
 use host_spaces::{Placement, Spaces, creations};
 use ialg::{Ialg, Params};
-use instance_table::{Member, start};
+use instance_table::{Member, Shelf, start};
 use mem_rec::{MemTab, Space};
 use placed_instances::{in_order, maps_have_room};
 use record_loans::Pieces;
@@ -62,7 +62,7 @@ fn place(
 /// Starts an instance whose records are placed, and whose group has the blocks for it.
 fn begin<M: Ialg>(
     slots: &mut Vec<Option<Member<M>>>,
-    once: &mut Vec<Pieces>,
+    once: &mut Vec<Shelf>,
     groups: &Vec<Group>,
     spaces: &Spaces,
     i: u8,
@@ -98,7 +98,7 @@ fn begin<M: Ialg>(
 /// old ones of its group stand, and it is called last. Or says the space of the first block that has no place; then nothing has happened.
 pub fn start_in_spaces<M: Ialg>(
     slots: &mut Vec<Option<Member<M>>>,
-    once: &mut Vec<Pieces>,
+    once: &mut Vec<Shelf>,
     groups: &mut Vec<Group>,
     spaces: &mut Spaces,
     poison: Option<i16>,

@@ -1,5 +1,5 @@
 -- The pieces of one instance change.
-use Rattle.std.proofs.Common.{◌≡◌, ◌≢◌, ℕ, ◌<◌, zero, suc, inl, inr, List, [], ◌∷◌, length, Option, Some, None, set, get_or-set_other, refl, sym, ◌∙◌, ap, subst, arith}
+use Rattle.std.proofs.Common.{◌≡◌, ◌≢◌, ℕ, ◌<◌, zero, suc, ◌⊎◌, inl, inr, List, [], ◌∷◌, length, Option, Some, None, set, get_or-set_other, refl, sym, ◌∙◌, ap, subst, arith}
 use Rattle.std.proofs.lemmas.List.{length-set}
 use Rattle.std.proofs.lemmas.Bool.Decides.{eqb_tells}
 use Rattle.std.proofs.lemmas.Option.{none-some, same_Some}
@@ -16,8 +16,11 @@ use Rattle.lifecycle.specs.Moves.{restored, HasRoom}
 use Rattle.lifecycle.proofs.Frames.{same_pieces, same_group}
 use Rattle.instance_table.specs.declared.TheConstants.{GROUPS}
 use Rattle.instance_table.specs.declared.member.Member.{Member}
-use Rattle.instance_table.specs.Table.{slot_at, once_at, group_at, no_pieces, own_of, instance_of, active_in, slot_active_in, activity_at, Activity, IsHoused, TablesOk, TablesTold}
+use Rattle.instance_table.specs.declared.shelves.Shelf.{Shelf}
+use Rattle.instance_table.specs.Shelves.{shelf_of, no_shelf, shelf_at}
+use Rattle.instance_table.specs.Table.{slot_at, once_at, group_at, IsUnshared, no_pieces, own_of, instance_of, active_in, slot_active_in, activity_at, Activity, IsHoused, TablesOk, TablesTold}
 use Rattle.instance_table.proofs.Housing.{same_blocks, housed_stays}
+use Rattle.instance_table.proofs.Stands.{unshared_of, set_there}
 use Rattle.table_moves.specs.Moves.{inst_with, slot_with, own_set, TablesBut}
 
 pub set_again : {A : Type 0} (xs : List A) (i : ℕ) (a b : A) → set (set xs i a) i b ≡ set xs i b
@@ -53,23 +56,25 @@ group_with : {M : Type 0} (slot : Option (Member M)) (own : Pieces) (m : Member 
 group_with None own m at = absurd (none-some _ at)
 group_with (Some n) own m at = (n, (refl, ap (λ (q : Member _). q.group) (same_Some _ _ at)))
 
-pub but_all : {M : Type 0} (i : ℕ) (slots : List (Option (Member M))) (once : List Pieces) (groups : List Group) → TablesOk slots once groups → TablesBut i slots once groups
+pub but_all : {M : Type 0} (i : ℕ) (slots : List (Option (Member M))) (once : List Shelf) (groups : List Group) → TablesOk slots once groups → TablesBut i slots once groups
 but_all i slots once groups ok = record {
   slot_count = ok.slot_count;
   once_count = ok.once_count;
   group_count = ok.group_count;
+  unshared = ok.unshared;
   group_range = ok.group_range;
   housed = λ j m at apart. ok.housed j m at;
   active_there = ok.active_there;
   active_known = ok.active_known;
 }
 
-pub but_own : {M : Type 0} (i : ℕ) (own : Pieces) (slots : List (Option (Member M))) (once : List Pieces) (groups : List Group)
+pub but_own : {M : Type 0} (i : ℕ) (own : Pieces) (slots : List (Option (Member M))) (once : List Shelf) (groups : List Group)
     → TablesBut i slots once groups → TablesBut i (own_set slots i own) once groups
 but_own i own slots once groups ok = record {
   slot_count = simp length-set ok.slot_count;
   once_count = ok.once_count;
   group_count = ok.group_count;
+  unshared = ok.unshared;
   group_range = λ j m at.
       elim (eqb_tells j i) [
         | inl e ↦
@@ -82,14 +87,34 @@ but_own i own slots once groups ok = record {
   active_known = λ k j at. ok.active_known k j (sym (active_own slots i own j) ∙ at);
 }
 
-pub but_shared : {M : Type 0} (i : ℕ) (shared : Pieces) (slots : List (Option (Member M))) (once : List Pieces) (groups : List Group)
-    → TablesBut i slots once groups → TablesBut i slots (set once i shared) groups
+-- a shelf that is put where there is none isn't put at all
+shelf_after : (once : List Shelf) (i : ℕ) (s : Shelf) → (shelf_at (set once i s) i ≡ s) ⊎ (shelf_at (set once i s) i ≡ no_shelf)
+shelf_after [] i s = inr refl
+shelf_after (x ∷ xs) zero s = inl refl
+shelf_after (x ∷ xs) (suc i) s = shelf_after xs i s
+
+unshared_after : (once : List Shelf) (i : ℕ) (o : Pieces) → ((j : ℕ) → IsUnshared once j) → (j : ℕ) → IsUnshared (set once i (shelf_of o)) j
+unshared_after once i o unshared j =
+    elim (eqb_tells j i) [
+      | inl e ↦
+          rw e.1
+          (elim (shelf_after once i (shelf_of o)) [
+            | inl put ↦ unshared_of (set once i (shelf_of o)) i o put
+            | inr past ↦ unshared_of (set once i (shelf_of o)) i no_pieces past
+          ])
+      | inr e ↦ unshared_of (set once i (shelf_of o)) j (once_at once j) (get_or-set_other once i j (shelf_of o) no_shelf e.1 ∙ unshared j)
+    ]
+
+pub but_shared : {M : Type 0} (i : ℕ) (shared : Pieces) (slots : List (Option (Member M))) (once : List Shelf) (groups : List Group)
+    → TablesBut i slots once groups → TablesBut i slots (set once i (shelf_of shared)) groups
 but_shared i shared slots once groups ok = record {
   slot_count = ok.slot_count;
   once_count = simp length-set ok.once_count;
   group_count = ok.group_count;
+  unshared = unshared_after once i shared ok.unshared;
   group_range = ok.group_range;
-  housed = λ j m at apart. rw (get_or-set_other once i j shared no_pieces apart) (ok.housed j m at apart);
+  housed = λ j m at apart.
+      subst (λ (o : Pieces). IsHoused (instance_of m.inst) o (group_at groups m.group)) (sym (set_there once i j (shelf_of shared) (ok.unshared j) apart)) (ok.housed j m at apart);
   active_there = ok.active_there;
   active_known = ok.active_known;
 }
@@ -103,7 +128,7 @@ housed_beside m o o' y y' so sb h =
 none_below : (j : ℕ) → j < 0 → ⊥
 none_below j e = omega (arith, e)
 
-pub told_later : {M : Type 0} (g : ℕ) (slots : List (Option (Member M))) (once : List Pieces) (groups groups' : List Group) → TablesOk slots once groups
+pub told_later : {M : Type 0} (g : ℕ) (slots : List (Option (Member M))) (once : List Shelf) (groups groups' : List Group) → TablesOk slots once groups
     → length groups' ≡ GROUPS
     → ((k : ℕ) → activity_at groups' k ≡ activity_at groups k)
     → ((k : ℕ) (space : Space) → k ≢ g → block_in (group_at groups' k) space ≡ block_in (group_at groups k) space)
@@ -113,6 +138,7 @@ told_later g slots once groups groups' ok count activity blocks room = record {
   slot_count = ok.slot_count;
   once_count = ok.once_count;
   group_count = count;
+  unshared = ok.unshared;
   group_range = ok.group_range;
   housed = λ j m at. record {
     told = λ h.

@@ -19,6 +19,7 @@ use Rattle.lifecycle.specs.declared.instance.Inst.{Inst}
 use Rattle.lifecycle.specs.declared.instance.Inst.TheVariants.{Idling, Running}
 use Rattle.lifecycle.specs.States.{Relation}
 use Rattle.instance_table.specs.declared.member.Member.{Member}
+use Rattle.instance_table.specs.declared.shelves.Shelf.{Shelf}
 use Rattle.instance_table.specs.Table.{slot_at, once_at, group_at, instance_of, active_in, slot_active_in, IsHoused, TablesOk}
 use Rattle.instance_table.specs.Keeps.{InstKeeps, SlotKeeps, Keeps}
 use Rattle.table_moves.specs.Moves.{SameWords, SlotStays, BlockStays, WordsStay}
@@ -94,7 +95,7 @@ module _ {M : Type 0} (meaning : Meaning M) (idle_keeps active_keeps : Relation 
       (λ active space. blocks m.group space active) (housed m refl) keeps)
 
 pub words_seen : {M : Type 0} (meaning : Meaning M) (idle_keeps active_keeps : Relation M) (w : Option ℤ) (histories : ℕ → History)
-    (slots slots' : List (Option (Member M))) (once once' : List Pieces) (groups groups' : List Group) → TablesOk slots once groups
+    (slots slots' : List (Option (Member M))) (once once' : List Shelf) (groups groups' : List Group) → TablesOk slots once groups
     → WordsStay slots once groups slots' once' groups'
     → Keeps meaning idle_keeps active_keeps w slots once groups histories → Keeps meaning idle_keeps active_keeps w slots' once' groups' histories
 words_seen meaning idle_keeps active_keeps w histories slots slots' once once' groups groups' ok stays keeps i =

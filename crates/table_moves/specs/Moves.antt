@@ -10,6 +10,7 @@ use Rattle.scratch_group.specs.Blocks.{block_in}
 use Rattle.lifecycle.specs.declared.instance.Inst.{Inst}
 use Rattle.lifecycle.specs.declared.instance.Inst.TheVariants.{Idling, Running}
 use Rattle.instance_table.specs.declared.member.Member.{Member}
+use Rattle.instance_table.specs.declared.shelves.Shelf.{Shelf}
 use Rattle.instance_table.specs.Table.{slot_at, once_at, group_at, instance_of, active_in, slot_active_in, Tables, IsHoused}
 
 -- an instance with these pieces for its own records
@@ -29,7 +30,7 @@ own_set slots i own = slice_set slots i (slot_with (slot_at slots i) own)
 abbrev pub IsHousedBut : {M : Type 0} → ℕ → ℕ → Member M → Pieces → Group → Type 0
 IsHousedBut i j m o y = j ≢ i → IsHoused (instance_of m.inst) o y
 
-abbrev pub TablesBut : {M : Type 0} → ℕ → List (Option (Member M)) → List Pieces → List Group → Type 0
+abbrev pub TablesBut : {M : Type 0} → ℕ → List (Option (Member M)) → List Shelf → List Group → Type 0
 TablesBut i slots once groups = Tables (IsHousedBut i) slots once groups
 
 -- the same words, wherever the pieces lie
@@ -56,8 +57,8 @@ BlockStays None new = Unit {0}
 BlockStays (Some b) new = block_words new ≡ b.piece.words
 
 -- the same instances in the same states, whose words are the same; those of a group's blocks, where one of its members is active
-pub record WordsStay {M : Type 0} (slots : List (Option (Member M))) (once : List Pieces) (groups : List Group)
-    (slots' : List (Option (Member M))) (once' : List Pieces) (groups' : List Group) : Type 0 where
+pub record WordsStay {M : Type 0} (slots : List (Option (Member M))) (once : List Shelf) (groups : List Group)
+    (slots' : List (Option (Member M))) (once' : List Shelf) (groups' : List Group) : Type 0 where
   pub slot : (i : ℕ) → SlotStays (slot_at slots i) (slot_at slots' i)
   pub pieces : (i : ℕ) → SameWords (once_at once i) (once_at once' i)
   pub blocks : (g i : ℕ) (space : Space) → slot_active_in (slot_at slots i) ≡ Some g → BlockStays (block_in (group_at groups g) space) (block_in (group_at groups' g) space)

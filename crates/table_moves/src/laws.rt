@@ -10,6 +10,8 @@ ghost use Rattle.scratch_group.specs.Blocks.{block_in};
 ghost use Rattle.lifecycle.specs.Moves.{HasRoom};
 ghost use Rattle.instance_table.specs.declared.TheConstants.{GROUPS};
 ghost use Rattle.instance_table.specs.declared.member.Member.{Member};
+ghost use Rattle.instance_table.specs.declared.shelves.Shelf.{Shelf};
+ghost use Rattle.instance_table.specs.Shelves.{shelf_of};
 ghost use Rattle.instance_table.specs.Table.{slot_at, once_at, group_at, instance_of, activity_at, TablesOk, TablesTold, ArePoisoned};
 ghost use Rattle.instance_table.specs.Keeps.{Keeps};
 ghost use Rattle.table_moves.specs.Moves.{own_set, TablesBut, WordsStay};
@@ -18,7 +20,7 @@ use ialg::Ialg;
 
 /// The law that an instance keeps its history wherever its words lie; and that no member of a group sees blocks in which it has no words.
 pub fn words<M: Ialg>()
-    ensures { (w : Option ℤ) (histories : ℕ → History) (slots slots' : List (Option (Member M))) (once once' : List Pieces) (groups groups' : List Group)
+    ensures { (w : Option ℤ) (histories : ℕ → History) (slots slots' : List (Option (Member M))) (once once' : List Shelf) (groups groups' : List Group)
         → TablesOk slots once groups → WordsStay slots once groups slots' once' groups'
         → Keeps M.meaning M.idle_keeps M.active_keeps w slots once groups histories
         → Keeps M.meaning M.idle_keeps M.active_keeps w slots' once' groups' histories }
@@ -26,16 +28,16 @@ pub fn words<M: Ialg>()
 
 /// The law that the pieces of one instance concern no other.
 pub fn apart<M: Ialg>()
-    ensures all { (i : ℕ) (slots : List (Option (Member M))) (once : List Pieces) (groups : List Group) → TablesOk slots once groups → TablesBut i slots once groups }
-    ensures own { (i : ℕ) (own : Pieces) (slots : List (Option (Member M))) (once : List Pieces) (groups : List Group)
+    ensures all { (i : ℕ) (slots : List (Option (Member M))) (once : List Shelf) (groups : List Group) → TablesOk slots once groups → TablesBut i slots once groups }
+    ensures own { (i : ℕ) (own : Pieces) (slots : List (Option (Member M))) (once : List Shelf) (groups : List Group)
         → TablesBut i slots once groups → TablesBut i (own_set slots i own) once groups }
-    ensures shared { (i : ℕ) (shared : Pieces) (slots : List (Option (Member M))) (once : List Pieces) (groups : List Group)
-        → TablesBut i slots once groups → TablesBut i slots (slice_set once i shared) groups }
+    ensures shared { (i : ℕ) (shared : Pieces) (slots : List (Option (Member M))) (once : List Shelf) (groups : List Group)
+        → TablesBut i slots once groups → TablesBut i slots (slice_set once i (shelf_of shared)) groups }
 {}
 
 /// The law that after a change of a group's blocks, in which its members have room, these wait to be told, and no other instance does.
 pub fn waiting<M: Ialg>()
-    ensures { (g : ℕ) (slots : List (Option (Member M))) (once : List Pieces) (groups groups' : List Group) → TablesOk slots once groups
+    ensures { (g : ℕ) (slots : List (Option (Member M))) (once : List Shelf) (groups groups' : List Group) → TablesOk slots once groups
         → length groups' ≡ GROUPS
         → ((k : ℕ) → activity_at groups' k ≡ activity_at groups k)
         → ((k : ℕ) (space : Space) → k ≢ g → block_in (group_at groups' k) space ≡ block_in (group_at groups k) space)

@@ -10,16 +10,15 @@ ghost use Rattle.instance_table.specs.Frames.{SameMembers};
 ghost use Rattle.table_moves.specs.Moves.{own_set, TablesBut};
 
 use ialg::Ialg;
-use instance_table::Member;
+use instance_table::{Member, Shelf, put_seen, take_seen};
 use lifecycle::Inst;
-use record_loans::Pieces;
 use scratch_group::Group;
 use space_raw::Piece;
 
 /// Tells an instance where its records lie now, with the own piece that was taken out, if one was. It stays in its state.
 pub fn tell<M: Ialg>(
     slots: &mut Vec<Option<Member<M>>>,
-    once: &mut Vec<Pieces>,
+    once: &mut Vec<Shelf>,
     groups: &mut Vec<Group>,
     i: u8,
     back: Option<(usize, Piece)>,
@@ -43,8 +42,16 @@ pub fn tell<M: Ialg>(
         Some(member) => {
             let g = member.group as usize;
             match &mut member.inst {
-                Inst::Idling(idle) => idle.moved(back, &mut once[i as usize], &groups[g]),
-                Inst::Running(active) => active.moved(back, &mut once[i as usize], &mut groups[g]),
+                Inst::Idling(idle) => {
+                    let mut shared = take_seen(once, i as usize);
+                    idle.moved(back, &mut shared, &groups[g]);
+                    put_seen(once, i as usize, shared);
+                }
+                Inst::Running(active) => {
+                    let mut shared = take_seen(once, i as usize);
+                    active.moved(back, &mut shared, &mut groups[g]);
+                    put_seen(once, i as usize, shared);
+                }
             }
         }
         None => unreachable!(),

@@ -14,15 +14,14 @@ ghost use Rattle.instance_table.specs.Frames.{SameTables};
 mod tests;
 
 use ialg::{BLOCK_SAMPLES, Block, Ialg};
-use instance_table::{Member, process};
-use record_loans::Pieces;
+use instance_table::{Member, Shelf, process};
 use scratch_group::Group;
 
 /// The first instance is given two blocks, and between them the second is given one. What the first gives are the outputs of its own
 /// two blocks, under each poison word and under none.
 pub fn take_turns<M: Ialg>(
     slots: &mut Vec<Option<Member<M>>>,
-    once: &mut Vec<Pieces>,
+    once: &mut Vec<Shelf>,
     groups: &mut Vec<Group>,
     poison: Option<i16>,
     first: u8,

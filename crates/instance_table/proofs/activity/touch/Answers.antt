@@ -1,4 +1,4 @@
-use Rattle.std.proofs.Common.{◌≡◌, ℕ, ◌<◌, Some, None, sym, ◌∙◌, ap, subst}
+use Rattle.std.proofs.Common.{rules, ◌≡◌, ℕ, ◌<◌, Some, None, sym, ◌∙◌, ap, subst}
 use Rattle.std.proofs.lemmas.List.{set-set}
 use Rattle.std.proofs.lemmas.Option.{none-some}
 use Rattle.mem_rec.specs.declared.Space.{Space}
@@ -9,7 +9,8 @@ use Rattle.lifecycle.specs.declared.instance.Inst.TheVariants.{Running}
 use Rattle.lifecycle.specs.States.{SameInstance, SameOnce}
 use Rattle.instance_table.specs.declared.TheConstants.{GROUPS}
 use Rattle.instance_table.specs.Table.{once_at, group_at, group_of, slot_at, slot_active_in, activity_at, instance_of}
-use Rattle.instance_table.proofs.Changes.{read_ok_group, read_ok_once, fits_in_slot, tables_after_change, tables_then, ok_after_change, poisoned_after_change, activity_after_change, keeps_after_change}
+use Rattle.instance_table.proofs.Stands.{put_back}
+use Rattle.instance_table.proofs.Changes.{read_ok_group, group_inside, fits_in_slot, tables_after_change, tables_then, ok_after_change, poisoned_after_change, activity_after_change, keeps_after_change}
 use Rattle.instance_table.proofs.Activities.{same_group_of, not_active, none_active_after, activity_after_wake}
 use Rattle.instance_table.proofs.activity.touch.Goals as goal
 use Rattle.instance_table.proofs.activity.touch.Goals.{After-put_in}
@@ -23,13 +24,24 @@ unreachable-requires g c =
     let none = none_active_after (activity_at c.args.groups.now.items) (activity_at c.rest-rested.new.groups.items) c.in-Some.g c.rest-rested.ensures.activity in
     none-some _ (sym none ∙ c.rest-rested.ensures.ok.active_known _ _ there)
 
+pub take_seen-shared-requires-clause-unshared : goal.take_seen-shared-requires-clause-unshared
+take_seen-shared-requires-clause-unshared g c = c.rest-rested.ensures.ok.unshared c.args.i
+
+pub index_mut-requires : goal.index_mut-requires
+index_mut-requires g c =
+    let group : c.take_out-inst.result.group ≡ c.in-Some.g =
+    ap group_of (sym c.take_out-inst.ensures.member) ∙ same_group_of _ _ (c.rest-rested.ensures.same.slot c.args.i) ∙ sym c.in-Some.ensures.group in
+    let in_range : c.in-Some.g < GROUPS = subst (λ (k : ℕ). k < GROUPS) group (c.rest-rested.ensures.ok.group_range _ _ c.take_out-inst.ensures.member) in
+    let inside = group_inside _ _ _ c.rest-rested.ensures.ok _ in_range in
+    search (inside, rules)
+
 pub wake_in-active-requires : goal.wake_in-active-requires
 wake_in-active-requires g c =
     let group : c.take_out-inst.result.group ≡ c.in-Some.g =
     ap group_of (sym c.take_out-inst.ensures.member) ∙ same_group_of _ _ (c.rest-rested.ensures.same.slot c.args.i) ∙ sym c.in-Some.ensures.group in
     let in_range : c.in-Some.g < GROUPS = subst (λ (k : ℕ). k < GROUPS) group (c.rest-rested.ensures.ok.group_range _ _ c.take_out-inst.ensures.member) in
-    let once_is = read_ok_once _ _ _ c.rest-rested.ensures.ok _ _ c.take_out-inst.ensures.member _ c.index_mut.ensures.value in
-    let group_is = read_ok_group _ _ _ c.rest-rested.ensures.ok _ in_range _ c.index_mut-in-Idling.ensures.value in
+    let once_is = sym c.take_seen-shared.ensures.pieces in
+    let group_is = read_ok_group _ _ _ c.rest-rested.ensures.ok _ in_range _ c.index_mut.ensures.value in
     record { fits = fits_in_slot _ _ _ _ _ _ _ _ _ c.rest-rested.ensures.ok c.take_out-inst.ensures.member c.in-Idling.is group once_is group_is }
 
 -- after the deactivation the instance is in the same group, which has no active member
@@ -47,11 +59,11 @@ module _ (g : Over) (c : After-put_in g) where
   alone : (j : ℕ) → (group_at c.rest-rested.new.groups.items c.in-Some.g).active ≡ Some j → j ≡ c.args.i
   alone j active = absurd (none-some _ (sym none ∙ active))
 
-  once_is : once_at c.rest-rested.new.once.items c.args.i ≡ c.index_mut.result.now
-  once_is = read_ok_once _ _ _ c.rest-rested.ensures.ok _ _ c.take_out-inst.ensures.member _ c.index_mut.ensures.value
+  once_is : once_at c.rest-rested.new.once.items c.args.i ≡ c.take_seen-shared.result
+  once_is = sym c.take_seen-shared.ensures.pieces
 
-  group_is : group_at c.rest-rested.new.groups.items c.in-Some.g ≡ c.index_mut-in-Idling.result.now
-  group_is = read_ok_group _ _ _ c.rest-rested.ensures.ok _ in_range _ c.index_mut-in-Idling.ensures.value
+  group_is : group_at c.rest-rested.new.groups.items c.in-Some.g ≡ c.index_mut.result.now
+  group_is = read_ok_group _ _ _ c.rest-rested.ensures.ok _ in_range _ c.index_mut.ensures.value
 
   same : SameInstance (instance_of c.take_out-inst.result.inst) (instance_of (Running c.wake_in-active.result))
   same = rw c.in-Idling.is c.wake_in-active.ensures.same
@@ -67,7 +79,7 @@ module _ (g : Over) (c : After-put_in g) where
 
 pub returns-clause-ok : goal.returns-clause-ok
 returns-clause-ok g c =
-    rw (c.put_in.ensures.slots, c.take_out-inst.ensures.slots, set-set)
+    rw (c.put_in.ensures.slots, c.take_out-inst.ensures.slots, set-set, put_back _ _ _ _ c.wake_in-active.new.shared c.take_seen-shared.ensures.left c.put_seen.ensures)
     (ok_after_change _ _ _ _ _ _ _ _ _ c.rest-rested.ensures.ok c.take_out-inst.ensures.member (group g c) (alone g c)
     c.wake_in-active.ensures.active (same g c) (shared g c) (written g c) (blocks g c))
 
@@ -79,7 +91,7 @@ returns-clause-poisoned g c =
 
 pub returns-clause-same : goal.returns-clause-same
 returns-clause-same g c =
-    rw (c.put_in.ensures.slots, c.take_out-inst.ensures.slots, set-set)
+    rw (c.put_in.ensures.slots, c.take_out-inst.ensures.slots, set-set, put_back _ _ _ _ c.wake_in-active.new.shared c.take_seen-shared.ensures.left c.put_seen.ensures)
     (tables_then _ _ _ _ _ _ _ _ _ c.rest-rested.ensures.same
     (tables_after_change _ _ _ _ _ _ _ _ _ c.rest-rested.ensures.ok c.take_out-inst.ensures.member (group g c) (alone g c)
     c.wake_in-active.ensures.active (same g c) (shared g c) (written g c) (blocks g c)))
@@ -96,11 +108,11 @@ returns-clause-activity g c k =
 
 pub returns-clause-keeps : goal.returns-clause-keeps
 returns-clause-keeps g c histories keeps =
-    rw (c.put_in.ensures.slots, c.take_out-inst.ensures.slots, set-set)
+    rw (c.put_in.ensures.slots, c.take_out-inst.ensures.slots, set-set, put_back _ _ _ _ c.wake_in-active.new.shared c.take_seen-shared.ensures.left c.put_seen.ensures)
     (keeps_after_change _ _ _ _ _ _ _ _ _ _ c.rest-rested.ensures.ok c.take_out-inst.ensures.member (group g c) (alone g c)
     c.wake_in-active.ensures.active
     g.M.Ialg.meaning g.M.Ialg.idle_keeps g.M.Ialg.active_keeps c.args.poison histories
     (λ before. c.wake_in-active.ensures.keeps c.args.poison (histories c.args.i)
     (rw (group_is g c) at (c.rest-rested.ensures.poisoned c.in-Some.g (in_range g c) (none g c)))
-    (rw (c.in-Idling.is, once_is g c) at before))
+    (rw (once_is g c, c.in-Idling.is) at before))
     (c.rest-rested.ensures.keeps histories keeps))

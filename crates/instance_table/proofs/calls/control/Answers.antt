@@ -8,26 +8,27 @@ use Rattle.lifecycle.specs.declared.instance.Inst.TheVariants.{Running}
 use Rattle.lifecycle.specs.States.{SameInstance, SameOnce}
 use Rattle.instance_table.specs.Table.{slot_at, once_at, group_at, instance_of, activity_at}
 use Rattle.instance_table.proofs.Housing.{same_blocks, lawful_before}
-use Rattle.instance_table.proofs.Changes.{read_slot, read_ok_group, read_ok_once, known_active, kept_in_slot, fits_in_slot, tables_after_change, ok_after_change, poisoned_after_change, activity_after_change, keeps_after_step}
+use Rattle.instance_table.proofs.Stands.{put_back}
+use Rattle.instance_table.proofs.Changes.{read_slot, read_ok_group, known_active, kept_in_slot, fits_in_slot, tables_after_change, ok_after_change, poisoned_after_change, activity_after_change, keeps_after_step}
 use Rattle.instance_table.proofs.Activities.{activity_stays}
 use Rattle.instance_table.proofs.calls.control.Goals as goal
-use Rattle.instance_table.proofs.calls.control.Goals.{After-once-1}
+use Rattle.instance_table.proofs.calls.control.Goals.{After-put_seen}
 use Rattle.instance_table.proofs.calls.control.Given.{Over}
 
-pub control-requires : goal.control-requires
-control-requires g c =
+pub control-status-requires : goal.control-status-requires
+control-status-requires g c =
     let in_slot = read_slot c.args.slots.now.items c.args.i _ c.requires.active _ c.index_mut.ensures.value ∙ c.in-Some.is in
-    let once_is = read_ok_once _ _ _ c.requires.ok _ _ in_slot _ c.index_mut-in-Running.ensures.value in
+    let once_is = sym c.take_seen-shared.ensures.pieces in
     let group_is = read_ok_group _ _ _ c.requires.ok _ (c.requires.ok.group_range c.args.i _ in_slot) _ c.index_mut-group.ensures.value in
     record { fits = fits_in_slot _ _ _ _ _ _ _ _ _ c.requires.ok in_slot c.in-Running.is refl once_is group_is }
 
 -- the instance is the active member of its group
-module _ (g : Over) (c : After-once-1 g) where
+module _ (g : Over) (c : After-put_seen g) where
   in_slot : slot_at c.args.slots.now.items c.args.i ≡ Some c.in-Some.member
   in_slot = read_slot c.args.slots.now.items c.args.i _ c.requires.active _ c.index_mut.ensures.value ∙ c.in-Some.is
 
-  once_is : once_at c.args.once.now.items c.args.i ≡ c.index_mut-in-Running.result.now
-  once_is = read_ok_once _ _ _ c.requires.ok _ _ in_slot _ c.index_mut-in-Running.ensures.value
+  once_is : once_at c.args.once.now.items c.args.i ≡ c.take_seen-shared.result
+  once_is = sym c.take_seen-shared.ensures.pieces
 
   group_is : group_at c.args.groups.now.items c.in-Some.member.group ≡ c.index_mut-group.result.now
   group_is = read_ok_group _ _ _ c.requires.ok _ (c.requires.ok.group_range c.args.i _ in_slot) _ c.index_mut-group.ensures.value
@@ -38,54 +39,57 @@ module _ (g : Over) (c : After-once-1 g) where
   alone : (j : ℕ) → (group_at c.args.groups.now.items c.in-Some.member.group).active ≡ Some j → j ≡ c.args.i
   alone j other = same_Some j c.args.i (sym other ∙ known)
 
-  same : SameInstance (instance_of c.in-Some.member.inst) (instance_of (Running c.control.new.self))
-  same = rw c.in-Running.is c.control.ensures.same
+  same : SameInstance (instance_of c.in-Some.member.inst) (instance_of (Running c.control-status.new.self))
+  same = rw c.in-Running.is c.control-status.ensures.same
 
-  shared : SamePieces (once_at c.args.once.now.items c.args.i) c.control.new.shared
-  shared = rw once_is c.control.ensures.shared
+  shared : SamePieces (once_at c.args.once.now.items c.args.i) c.control-status.new.shared
+  shared = rw once_is c.control-status.ensures.shared
 
-  written : SameOnce (instance_of c.in-Some.member.inst).table (once_at c.args.once.now.items c.args.i) c.control.new.shared
-  written = rw (c.in-Running.is, once_is) c.control.ensures.once
+  written : SameOnce (instance_of c.in-Some.member.inst).table (once_at c.args.once.now.items c.args.i) c.control-status.new.shared
+  written = rw (c.in-Running.is, once_is) c.control-status.ensures.once
 
-  blocks : (space : Space) → IsSameBlock (block_in (group_at c.args.groups.now.items c.in-Some.member.group) space) (block_in c.control.new.group space)
-  blocks space = rw group_is (same_blocks _ _ c.control.ensures.group space)
+  blocks : (space : Space) → IsSameBlock (block_in (group_at c.args.groups.now.items c.in-Some.member.group) space) (block_in c.control-status.new.group space)
+  blocks space = rw group_is (same_blocks _ _ c.control-status.ensures.group space)
 
-  now : c.control.new.group.active ≡ Some c.args.i
-  now = c.control.ensures.group.active ∙ rw group_is at known
+  now : c.control-status.new.group.active ≡ Some c.args.i
+  now = c.control-status.ensures.group.active ∙ rw group_is at known
 
 pub returns-clause-ok : goal.returns-clause-ok
 returns-clause-ok g c =
-    ok_after_change _ _ _ _ _ _ _ _ _ c.requires.ok (in_slot g c) refl (alone g c) (now g c) (same g c) (shared g c) (written g c) (blocks g c)
+    rw (put_back _ _ _ _ c.control-status.new.shared c.take_seen-shared.ensures.left c.put_seen.ensures)
+    (ok_after_change _ _ _ _ _ _ _ _ _ c.requires.ok (in_slot g c) refl (alone g c) (now g c) (same g c) (shared g c) (written g c) (blocks g c))
 
 pub returns-clause-poisoned : goal.returns-clause-poisoned
 returns-clause-poisoned g c w before =
-    poisoned_after_change _ _ _ _ _ _ _ (Running c.control.new.self) c.control.new.shared _ c.requires.ok (in_slot g c) refl (alone g c) (now g c)
+    poisoned_after_change _ _ _ _ _ _ _ (Running c.control-status.new.self) c.control-status.new.shared _ c.requires.ok (in_slot g c) refl (alone g c) (now g c)
     w before (λ e. absurd (none-some _ (sym e ∙ now g c)))
 
 pub returns-clause-same : goal.returns-clause-same
 returns-clause-same g c =
-    tables_after_change _ _ _ _ _ _ _ _ _ c.requires.ok (in_slot g c) refl (alone g c) (now g c) (same g c) (shared g c) (written g c) (blocks g c)
+    rw (put_back _ _ _ _ c.control-status.new.shared c.take_seen-shared.ensures.left c.put_seen.ensures)
+    (tables_after_change _ _ _ _ _ _ _ _ _ c.requires.ok (in_slot g c) refl (alone g c) (now g c) (same g c) (shared g c) (written g c) (blocks g c))
 
 pub returns-clause-activity : goal.returns-clause-activity
 returns-clause-activity g c k =
-    activity_after_change _ _ _ _ _ _ _ (Running c.control.new.self) c.control.new.shared _ c.requires.ok (in_slot g c) refl (alone g c) (now g c) k
+    activity_after_change _ _ _ _ _ _ _ (Running c.control-status.new.self) c.control-status.new.shared _ c.requires.ok (in_slot g c) refl (alone g c) (now g c) k
     ∙ activity_stays (activity_at c.args.groups.now.items) c.in-Some.member.group _
-    (now g c ∙ sym (known g c)) (rw (group_is g c) c.control.ensures.group.activations) k
+    (now g c ∙ sym (known g c)) (rw (group_is g c) c.control-status.ensures.group.activations) k
 
 pub returns-clause-keeps : goal.returns-clause-keeps
 returns-clause-keeps g c w histories m at accepts keeps =
     let is : c.in-Some.member ≡ m = same_Some _ _ (sym (in_slot g c) ∙ at) in
     let inst : m.inst ≡ Running c.in-Running.active = ap (λ q. q.inst) (sym is) ∙ c.in-Running.is in
-    keeps_after_step _ _ _ _ _ _ _ _ _ _ c.requires.ok (in_slot g c) refl (alone g c) (now g c)
+    rw (put_back _ _ _ _ c.control-status.new.shared c.take_seen-shared.ensures.left c.put_seen.ensures)
+    (keeps_after_step _ _ _ _ _ _ _ _ _ _ c.requires.ok (in_slot g c) refl (alone g c) (now g c)
     g.M.Ialg.meaning g.M.Ialg.idle_keeps g.M.Ialg.active_keeps w histories _
     (λ before lawful.
     let s = c.in-Running.active.instance in
-    c.control.ensures.keeps w (histories c.args.i) (rw inst at accepts (lawful_before g.M.Ialg.meaning s _ w c.control.ensures.same lawful)) (rw (c.in-Running.is, once_is g c, group_is g c) at before) lawful)
-    keeps
+    c.control-status.ensures.keeps w (histories c.args.i) (rw inst at accepts (lawful_before g.M.Ialg.meaning s _ w c.control-status.ensures.same lawful)) (rw (once_is g c, group_is g c, c.in-Running.is) at before) lawful)
+    keeps)
 
 pub returns-clause-status : goal.returns-clause-status
 returns-clause-status g c w histories m at lawful accepts keeps =
     let is : c.in-Some.member ≡ m = same_Some _ _ (sym (in_slot g c) ∙ at) in
     let inst : m.inst ≡ Running c.in-Running.active = ap (λ q. q.inst) (sym is) ∙ c.in-Running.is in
     let kept = kept_in_slot _ _ _ _ _ _ _ _ (in_slot g c) c.in-Running.is (once_is g c) (group_is g c) g.M.Ialg.meaning g.M.Ialg.idle_keeps g.M.Ialg.active_keeps w histories keeps in
-    rw inst (c.control.ensures.status w (histories c.args.i) (rw inst at lawful) (rw inst at accepts) kept)
+    rw inst (c.control-status.ensures.status w (histories c.args.i) (rw inst at lawful) (rw inst at accepts) kept)

@@ -8,26 +8,27 @@ use Rattle.lifecycle.specs.declared.instance.Inst.TheVariants.{Running}
 use Rattle.lifecycle.specs.States.{SameInstance, SameOnce}
 use Rattle.instance_table.specs.Table.{slot_at, once_at, group_at, instance_of, activity_at}
 use Rattle.instance_table.proofs.Housing.{same_blocks}
-use Rattle.instance_table.proofs.Changes.{read_slot, read_ok_group, read_ok_once, known_active, kept_in_slot, fits_in_slot, tables_after_change, ok_after_change, poisoned_after_change, activity_after_change, keeps_after_step}
+use Rattle.instance_table.proofs.Stands.{put_back}
+use Rattle.instance_table.proofs.Changes.{read_slot, read_ok_group, known_active, kept_in_slot, fits_in_slot, tables_after_change, ok_after_change, poisoned_after_change, activity_after_change, keeps_after_step}
 use Rattle.instance_table.proofs.Activities.{activity_stays}
 use Rattle.instance_table.proofs.calls.run.Goals as goal
-use Rattle.instance_table.proofs.calls.run.Goals.{After-once-1}
+use Rattle.instance_table.proofs.calls.run.Goals.{After-put_seen}
 use Rattle.instance_table.proofs.calls.run.Given.{Over}
 
 pub run-requires-clause-fits : goal.run-requires-clause-fits
 run-requires-clause-fits g c =
     let in_slot = read_slot c.args.slots.now.items c.args.i _ c.requires.active _ c.index_mut.ensures.value ∙ c.in-Some.is in
-    let once_is = read_ok_once _ _ _ c.requires.ok _ _ in_slot _ c.index_mut-in-Running.ensures.value in
+    let once_is = sym c.take_seen-shared.ensures.pieces in
     let group_is = read_ok_group _ _ _ c.requires.ok _ (c.requires.ok.group_range c.args.i _ in_slot) _ c.index_mut-group.ensures.value in
     fits_in_slot _ _ _ _ _ _ _ _ _ c.requires.ok in_slot c.in-Running.is refl once_is group_is
 
 -- the instance is the active member of its group
-module _ (g : Over) (c : After-once-1 g) where
+module _ (g : Over) (c : After-put_seen g) where
   in_slot : slot_at c.args.slots.now.items c.args.i ≡ Some c.in-Some.member
   in_slot = read_slot c.args.slots.now.items c.args.i _ c.requires.active _ c.index_mut.ensures.value ∙ c.in-Some.is
 
-  once_is : once_at c.args.once.now.items c.args.i ≡ c.index_mut-in-Running.result.now
-  once_is = read_ok_once _ _ _ c.requires.ok _ _ in_slot _ c.index_mut-in-Running.ensures.value
+  once_is : once_at c.args.once.now.items c.args.i ≡ c.take_seen-shared.result
+  once_is = sym c.take_seen-shared.ensures.pieces
 
   group_is : group_at c.args.groups.now.items c.in-Some.member.group ≡ c.index_mut-group.result.now
   group_is = read_ok_group _ _ _ c.requires.ok _ (c.requires.ok.group_range c.args.i _ in_slot) _ c.index_mut-group.ensures.value
@@ -55,7 +56,8 @@ module _ (g : Over) (c : After-once-1 g) where
 
 pub returns-clause-ok : goal.returns-clause-ok
 returns-clause-ok g c =
-    ok_after_change _ _ _ _ _ _ _ _ _ c.requires.ok (in_slot g c) refl (alone g c) (now g c) (same g c) (shared g c) (written g c) (blocks g c)
+    rw (put_back _ _ _ _ c.run.new.shared c.take_seen-shared.ensures.left c.put_seen.ensures)
+    (ok_after_change _ _ _ _ _ _ _ _ _ c.requires.ok (in_slot g c) refl (alone g c) (now g c) (same g c) (shared g c) (written g c) (blocks g c))
 
 pub returns-clause-poisoned : goal.returns-clause-poisoned
 returns-clause-poisoned g c w before =
@@ -64,7 +66,8 @@ returns-clause-poisoned g c w before =
 
 pub returns-clause-same : goal.returns-clause-same
 returns-clause-same g c =
-    tables_after_change _ _ _ _ _ _ _ _ _ c.requires.ok (in_slot g c) refl (alone g c) (now g c) (same g c) (shared g c) (written g c) (blocks g c)
+    rw (put_back _ _ _ _ c.run.new.shared c.take_seen-shared.ensures.left c.put_seen.ensures)
+    (tables_after_change _ _ _ _ _ _ _ _ _ c.requires.ok (in_slot g c) refl (alone g c) (now g c) (same g c) (shared g c) (written g c) (blocks g c))
 
 pub returns-clause-activity : goal.returns-clause-activity
 returns-clause-activity g c k =
@@ -74,10 +77,11 @@ returns-clause-activity g c k =
 
 pub returns-clause-keeps : goal.returns-clause-keeps
 returns-clause-keeps g c w histories keeps =
-    keeps_after_step _ _ _ _ _ _ _ _ _ _ c.requires.ok (in_slot g c) refl (alone g c) (now g c)
+    rw (put_back _ _ _ _ c.run.new.shared c.take_seen-shared.ensures.left c.put_seen.ensures)
+    (keeps_after_step _ _ _ _ _ _ _ _ _ _ c.requires.ok (in_slot g c) refl (alone g c) (now g c)
     g.M.Ialg.meaning g.M.Ialg.idle_keeps g.M.Ialg.active_keeps w histories _
-    (λ before. c.run.ensures.keeps w (histories c.args.i) (rw (c.in-Running.is, once_is g c, group_is g c) at before))
-    keeps
+    (λ before. c.run.ensures.keeps w (histories c.args.i) (rw (once_is g c, group_is g c, c.in-Running.is) at before))
+    keeps)
 
 pub returns-clause-output : goal.returns-clause-output
 returns-clause-output g c w histories keeps m at lawful =

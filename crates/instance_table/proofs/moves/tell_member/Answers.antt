@@ -7,7 +7,8 @@ use Rattle.scratch_group.specs.Blocks.{block_in}
 use Rattle.lifecycle.specs.declared.instance.Inst.TheVariants.{Idling, Running}
 use Rattle.instance_table.specs.Table.{slot_at, once_at, group_at, slot_active_in, activity_at, IsHoused, IsTold}
 use Rattle.instance_table.proofs.Housing.{same_blocks, settled_stays, settled_at}
-use Rattle.instance_table.proofs.Changes.{read_ok_slot, read_ok_once, read_ok_group, kept_in_slot, tables_by_change, poisoned_after_change, keeps_after_change, blocks_stay, pieces_stay}
+use Rattle.instance_table.proofs.Stands.{put_back}
+use Rattle.instance_table.proofs.Changes.{read_ok_slot, read_ok_group, kept_in_slot, tables_by_change, poisoned_after_change, keeps_after_change, blocks_stay, pieces_stay}
 use Rattle.instance_table.proofs.Activities.{activity_stays, group_change}
 use Rattle.instance_table.proofs.Idles.{is_new, tables_by_quiet, keeps_after_end}
 use Rattle.instance_table.proofs.Told.{member_is, is_told, told_here, told_next, told_beside, told_member, members_after, members_after_quiet}
@@ -17,7 +18,7 @@ pub moved-requires-clause-fits : goal.moved-requires-clause-fits
 moved-requires-clause-fits g c =
     let at = read_ok_slot _ _ _ c.requires.told c.args.i c.requires.number _ c.index_mut.ensures.value ∙ c.in-Some.is in
     let of_group = member_is _ c.args.g _ at c.requires.member in
-    let once_is = read_ok_once _ _ _ c.requires.told c.args.i _ at _ c.index_mut-in-Idling.ensures.value in
+    let once_is = sym c.take_seen-shared.ensures.pieces in
     let group_is = read_ok_group _ _ _ c.requires.told c.args.g c.requires.range _ c.index.ensures in
     rw (c.in-Idling.is, of_group, once_is, group_is) at ((c.requires.told.housed c.args.i _ at).waits of_group)
 
@@ -25,8 +26,8 @@ pub moved-requires-in-Running-clause-fits : goal.moved-requires-in-Running-claus
 moved-requires-in-Running-clause-fits g c =
     let at = read_ok_slot _ _ _ c.requires.told c.args.i c.requires.number _ c.index_mut.ensures.value ∙ c.in-Some.is in
     let of_group = member_is _ c.args.g _ at c.requires.member in
-    let once_is = read_ok_once _ _ _ c.requires.told c.args.i _ at _ c.index_mut-in-Running.ensures.value in
-    let group_is = read_ok_group _ _ _ c.requires.told c.args.g c.requires.range _ c.index_mut-in-Running-2.ensures.value in
+    let once_is = sym c.take_seen-shared-in-Running.ensures.pieces in
+    let group_is = read_ok_group _ _ _ c.requires.told c.args.g c.requires.range _ c.index_mut-in-Running.ensures.value in
     rw (c.in-Running.is, of_group, once_is, group_is) at ((c.requires.told.housed c.args.i _ at).waits of_group)
 
 pub returns-in-Idling-clause-told : goal.returns-in-Idling-clause-told
@@ -40,7 +41,7 @@ returns-in-Idling-clause-told g c =
       fits = rw group_is c.moved.ensures.fits;
       settled = rw group_is (settled_stays c.in-Idling.idle.instance s _ _ c.index.result.now c.moved.ensures.same c.moved.ensures.shared);
     } in
-    rw of_group
+    rw (of_group, put_back _ _ _ _ c.moved.new.shared c.take_seen-shared.ensures.left c.put_seen.ensures)
     (tables_by_quiet (IsTold c.args.g c.args.i) _ _ _ c.args.i (Some (record { group = c.args.g; inst = Idling c.moved.new.self })) _ c.requires.told c.requires.number was refl
     (IsTold c.args.g (c.args.i + 1))
     (is_new (IsTold c.args.g (c.args.i + 1)) _ c.args.i _ _ c.requires.range (is_told c.args.g (c.args.i + 1) c.args.i (record { group = c.args.g; inst = Idling c.moved.new.self }) _ _ housed))
@@ -49,27 +50,29 @@ returns-in-Idling-clause-told g c =
 pub returns-in-Idling-clause-same : goal.returns-in-Idling-clause-same
 returns-in-Idling-clause-same g c =
     let at = read_ok_slot _ _ _ c.requires.told c.args.i c.requires.number _ c.index_mut.ensures.value ∙ c.in-Some.is in
-    let once_is = read_ok_once _ _ _ c.requires.told c.args.i _ at _ c.index_mut-in-Idling.ensures.value in
-    members_after_quiet _ _ _ c.args.i c.in-Some.member _ _ (omega (arith, c.requires.number, c.requires.told.slot_count)) (omega (arith, c.requires.number, c.requires.told.once_count)) at
-    (told_member c.in-Some.member (Idling c.moved.new.self) c.index_mut-in-Idling.result.now c.index.result.now (rw c.in-Idling.is c.moved.ensures.same))
-    (rw once_is c.moved.ensures.shared)
+    let once_is = sym c.take_seen-shared.ensures.pieces in
+    rw (put_back _ _ _ _ c.moved.new.shared c.take_seen-shared.ensures.left c.put_seen.ensures)
+    (members_after_quiet _ _ _ c.args.i c.in-Some.member _ _ (omega (arith, c.requires.number, c.requires.told.slot_count)) (omega (arith, c.requires.number, c.requires.told.once_count)) c.requires.told.unshared at
+    (told_member c.in-Some.member (Idling c.moved.new.self) c.take_seen-shared.result c.index.result.now (rw c.in-Idling.is c.moved.ensures.same))
+    (rw once_is c.moved.ensures.shared))
 
 pub returns-in-Idling-clause-keeps : goal.returns-in-Idling-clause-keeps
 returns-in-Idling-clause-keeps g c w histories keeps =
     let at = read_ok_slot _ _ _ c.requires.told c.args.i c.requires.number _ c.index_mut.ensures.value ∙ c.in-Some.is in
-    let once_is = read_ok_once _ _ _ c.requires.told c.args.i _ at _ c.index_mut-in-Idling.ensures.value in
+    let once_is = sym c.take_seen-shared.ensures.pieces in
     let was : slot_active_in (slot_at c.args.slots.now.items c.args.i) ≡ None = rw (at, c.in-Idling.is) refl in
     let kept = kept_in_slot _ _ _ c.args.i _ _ _ _ at c.in-Idling.is once_is refl g.M.Ialg.meaning g.M.Ialg.idle_keeps g.M.Ialg.active_keeps w histories keeps in
-    keeps_after_end (IsTold c.args.g c.args.i) _ _ _ c.args.i (Some (record { group = c.in-Some.member.group; inst = Idling c.moved.new.self })) _ c.requires.told c.requires.number was refl
-    g.M.Ialg.meaning g.M.Ialg.idle_keeps g.M.Ialg.active_keeps w histories (c.moved.ensures.keeps w (histories c.args.i) kept) keeps
+    rw (put_back _ _ _ _ c.moved.new.shared c.take_seen-shared.ensures.left c.put_seen.ensures)
+    (keeps_after_end (IsTold c.args.g c.args.i) _ _ _ c.args.i (Some (record { group = c.in-Some.member.group; inst = Idling c.moved.new.self })) _ c.requires.told c.requires.number was refl
+    g.M.Ialg.meaning g.M.Ialg.idle_keeps g.M.Ialg.active_keeps w histories (c.moved.ensures.keeps w (histories c.args.i) kept) keeps)
 
 -- the active member of the group is told
 pub returns-in-Running-clause-told : goal.returns-in-Running-clause-told
 returns-in-Running-clause-told g c =
     let at = read_ok_slot _ _ _ c.requires.told c.args.i c.requires.number _ c.index_mut.ensures.value ∙ c.in-Some.is in
     let of_group = member_is _ c.args.g _ at c.requires.member in
-    let once_is = read_ok_once _ _ _ c.requires.told c.args.i _ at _ c.index_mut-in-Running.ensures.value in
-    let group_is = read_ok_group _ _ _ c.requires.told c.args.g c.requires.range _ c.index_mut-in-Running-2.ensures.value in
+    let once_is = sym c.take_seen-shared-in-Running.ensures.pieces in
+    let group_is = read_ok_group _ _ _ c.requires.told c.args.g c.requires.range _ c.index_mut-in-Running.ensures.value in
     let there : slot_active_in (slot_at c.args.slots.now.items c.args.i) ≡ Some c.args.g = rw (at, c.in-Running.is, of_group) refl in
     let known = c.requires.told.active_known c.args.g c.args.i there in
     let now : c.moved-in-Running.new.group.active ≡ Some c.args.i = c.moved-in-Running.ensures.group.active ∙ rw group_is at known in
@@ -79,23 +82,23 @@ returns-in-Running-clause-told g c =
     let s = c.moved-in-Running.new.self.instance in
     let housed : IsHoused s c.moved-in-Running.new.shared c.moved-in-Running.new.group = record {
       fits = c.moved-in-Running.ensures.fits;
-      settled = settled_at c.in-Running.active.instance s _ _ c.index_mut-in-Running-2.result.now c.moved-in-Running.new.group c.moved-in-Running.ensures.same c.moved-in-Running.ensures.shared
+      settled = settled_at c.in-Running.active.instance s _ _ c.index_mut-in-Running.result.now c.moved-in-Running.new.group c.moved-in-Running.ensures.same c.moved-in-Running.ensures.shared
           (λ space. same_blocks _ _ c.moved-in-Running.ensures.group space);
     } in
-    rw of_group
+    rw (of_group, put_back _ _ _ _ c.moved-in-Running.new.shared c.take_seen-shared-in-Running.ensures.left c.put_seen-in-Running.ensures)
     (tables_by_change (IsTold c.args.g c.args.i) _ _ _ c.args.i c.args.g c.in-Some.member (Running c.moved-in-Running.new.self) _ _ c.requires.told at of_group
     (λ j other. same_Some j c.args.i (sym other ∙ known)) now
     (IsTold c.args.g (c.args.i + 1))
     (told_here c.args.g c.args.i _ _ _ _ (record { group = c.args.g; inst = Running c.moved-in-Running.new.self }) (omega (arith, c.requires.number, c.requires.told.once_count)) (omega (arith, c.requires.range, c.requires.told.group_count)) housed)
     (λ j n apart here before. told_beside c.args.g c.args.i j n _ _ _ _ apart
-    (pieces_stay _ c.args.i _ (omega (arith, c.requires.number, c.requires.told.once_count)) pieces j)
+    (pieces_stay _ c.args.i _ (omega (arith, c.requires.number, c.requires.told.once_count)) c.requires.told.unshared pieces j)
     (blocks_stay _ c.args.g _ (omega (arith, c.requires.range, c.requires.told.group_count)) blocks n.group) before))
 
 pub returns-in-Running-clause-poisoned : goal.returns-in-Running-clause-poisoned
 returns-in-Running-clause-poisoned g c w before =
     let at = read_ok_slot _ _ _ c.requires.told c.args.i c.requires.number _ c.index_mut.ensures.value ∙ c.in-Some.is in
     let of_group = member_is _ c.args.g _ at c.requires.member in
-    let group_is = read_ok_group _ _ _ c.requires.told c.args.g c.requires.range _ c.index_mut-in-Running-2.ensures.value in
+    let group_is = read_ok_group _ _ _ c.requires.told c.args.g c.requires.range _ c.index_mut-in-Running.ensures.value in
     let there : slot_active_in (slot_at c.args.slots.now.items c.args.i) ≡ Some c.args.g = rw (at, c.in-Running.is, of_group) refl in
     let known = c.requires.told.active_known c.args.g c.args.i there in
     let now : c.moved-in-Running.new.group.active ≡ Some c.args.i = c.moved-in-Running.ensures.group.active ∙ rw group_is at known in
@@ -105,15 +108,16 @@ returns-in-Running-clause-poisoned g c w before =
 pub returns-in-Running-clause-same : goal.returns-in-Running-clause-same
 returns-in-Running-clause-same g c =
     let at = read_ok_slot _ _ _ c.requires.told c.args.i c.requires.number _ c.index_mut.ensures.value ∙ c.in-Some.is in
-    let once_is = read_ok_once _ _ _ c.requires.told c.args.i _ at _ c.index_mut-in-Running.ensures.value in
-    let group_is = read_ok_group _ _ _ c.requires.told c.args.g c.requires.range _ c.index_mut-in-Running-2.ensures.value in
-    members_after _ _ _ c.args.i c.args.g c.in-Some.member _ _ _ (omega (arith, c.requires.number, c.requires.told.slot_count)) (omega (arith, c.requires.number, c.requires.told.once_count)) (omega (arith, c.requires.range, c.requires.told.group_count)) at
-    (told_member c.in-Some.member (Running c.moved-in-Running.new.self) c.index_mut-in-Running.result.now c.index_mut-in-Running-2.result.now (rw c.in-Running.is c.moved-in-Running.ensures.same))
-    (rw once_is c.moved-in-Running.ensures.shared) (λ space. rw group_is (same_blocks _ _ c.moved-in-Running.ensures.group space))
+    let once_is = sym c.take_seen-shared-in-Running.ensures.pieces in
+    let group_is = read_ok_group _ _ _ c.requires.told c.args.g c.requires.range _ c.index_mut-in-Running.ensures.value in
+    rw (put_back _ _ _ _ c.moved-in-Running.new.shared c.take_seen-shared-in-Running.ensures.left c.put_seen-in-Running.ensures)
+    (members_after _ _ _ c.args.i c.args.g c.in-Some.member _ _ _ (omega (arith, c.requires.number, c.requires.told.slot_count)) (omega (arith, c.requires.number, c.requires.told.once_count)) c.requires.told.unshared (omega (arith, c.requires.range, c.requires.told.group_count)) at
+    (told_member c.in-Some.member (Running c.moved-in-Running.new.self) c.take_seen-shared-in-Running.result c.index_mut-in-Running.result.now (rw c.in-Running.is c.moved-in-Running.ensures.same))
+    (rw once_is c.moved-in-Running.ensures.shared) (λ space. rw group_is (same_blocks _ _ c.moved-in-Running.ensures.group space)))
 
 pub returns-in-Running-clause-activity : goal.returns-in-Running-clause-activity
 returns-in-Running-clause-activity g c k =
-    let group_is = read_ok_group _ _ _ c.requires.told c.args.g c.requires.range _ c.index_mut-in-Running-2.ensures.value in
+    let group_is = read_ok_group _ _ _ c.requires.told c.args.g c.requires.range _ c.index_mut-in-Running.ensures.value in
     group_change c.args.groups.now.items c.args.g _ (omega (arith, c.requires.range, c.requires.told.group_count)) k
     ∙ activity_stays (activity_at c.args.groups.now.items) c.args.g _ (rw group_is c.moved-in-Running.ensures.group.active) (rw group_is c.moved-in-Running.ensures.group.activations) k
 
@@ -121,14 +125,14 @@ pub returns-in-Running-clause-keeps : goal.returns-in-Running-clause-keeps
 returns-in-Running-clause-keeps g c w histories keeps =
     let at = read_ok_slot _ _ _ c.requires.told c.args.i c.requires.number _ c.index_mut.ensures.value ∙ c.in-Some.is in
     let of_group = member_is _ c.args.g _ at c.requires.member in
-    let once_is = read_ok_once _ _ _ c.requires.told c.args.i _ at _ c.index_mut-in-Running.ensures.value in
-    let group_is = read_ok_group _ _ _ c.requires.told c.args.g c.requires.range _ c.index_mut-in-Running-2.ensures.value in
+    let once_is = sym c.take_seen-shared-in-Running.ensures.pieces in
+    let group_is = read_ok_group _ _ _ c.requires.told c.args.g c.requires.range _ c.index_mut-in-Running.ensures.value in
     let there : slot_active_in (slot_at c.args.slots.now.items c.args.i) ≡ Some c.args.g = rw (at, c.in-Running.is, of_group) refl in
     let known = c.requires.told.active_known c.args.g c.args.i there in
     let now : c.moved-in-Running.new.group.active ≡ Some c.args.i = c.moved-in-Running.ensures.group.active ∙ rw group_is at known in
-    rw of_group
+    rw (of_group, put_back _ _ _ _ c.moved-in-Running.new.shared c.take_seen-shared-in-Running.ensures.left c.put_seen-in-Running.ensures)
     (keeps_after_change (IsTold c.args.g c.args.i) _ _ _ c.args.i c.args.g c.in-Some.member (Running c.moved-in-Running.new.self) _ _ c.requires.told at of_group
     (λ j other. same_Some j c.args.i (sym other ∙ known)) now
     g.M.Ialg.meaning g.M.Ialg.idle_keeps g.M.Ialg.active_keeps w histories
-    (λ before. c.moved-in-Running.ensures.keeps w (histories c.args.i) (rw (c.in-Running.is, once_is, group_is) at before))
+    (λ before. c.moved-in-Running.ensures.keeps w (histories c.args.i) (rw (once_is, group_is, c.in-Running.is) at before))
     keeps)

@@ -1,11 +1,11 @@
 use Rattle.std.proofs.Common.{◌≡◌, ◌≤◌, ℕ, length, vec_capacity}
 use Rattle.instance_table.specs.declared.TheConstants.{INSTANCES}
-use Rattle.instance_table.specs.Table.{once_at, no_pieces}
+use Rattle.instance_table.specs.Shelves.{shelf_at, no_shelf}
 use Rattle.instance_table.proofs.tables.empty_once.Given as goal
 
 abbrev pub invariant-loop : goal.invariant-loop
 invariant-loop g l = record {
   count : length l.once.items ≡ l.counter;
   room : INSTANCES ≤ vec_capacity l.once;
-  empty : (i : ℕ) → once_at l.once.items i ≡ no_pieces;
+  empty : (i : ℕ) → shelf_at l.once.items i ≡ no_shelf;
 }

@@ -1,9 +1,10 @@
 use Rattle.std.proofs.Common.{◌≡◌, ℕ, length}
-use Rattle.instance_table.specs.Table.{once_at, no_pieces}
+use Rattle.instance_table.specs.Shelves.{pieces_here, shelf_at}
+use Rattle.instance_table.specs.Table.{no_pieces}
 use Rattle.instance_table.proofs.tables.end_once.Given as goal
 
-abbrev pub invariant-loop-pieces : goal.invariant-loop-pieces
-invariant-loop-pieces g l = (i : ℕ) → once_at l.once.items i ≡ no_pieces
+abbrev pub invariant-loop-shelf : goal.invariant-loop-shelf
+invariant-loop-shelf g l = (i : ℕ) → pieces_here (shelf_at l.once.items i) ≡ no_pieces
 
-abbrev pub decreases-loop-pieces : goal.decreases-loop-pieces
-decreases-loop-pieces g l = length l.once.items
+abbrev pub decreases-loop-shelf : goal.decreases-loop-shelf
+decreases-loop-shelf g l = length l.once.items

@@ -9,6 +9,7 @@ returns-clause-ok g c = record {
   slot_count = c.requires.slots;
   once_count = c.requires.once;
   group_count = c.requires.groups;
+  unshared = c.requires.unshared;
   group_range = λ i m at. absurd (none-some m (sym (c.requires.empty i) ∙ at));
   housed = λ i m at. absurd (none-some m (sym (c.requires.empty i) ∙ at));
   active_there = λ k i below at. absurd (none-some i (sym (ap (λ (a : Activity). a.active) (c.requires.untouched k)) ∙ at));

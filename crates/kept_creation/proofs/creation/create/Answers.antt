@@ -1,12 +1,44 @@
-use Rattle.std.proofs.Common.{◌≡◌, ◌<◌, ℤ, List, [], Option, Some, None, rules, sym, ◌∙◌, subst, arith}
+use Rattle.std.proofs.Common.{◌≡◌, ◌<◌, ℤ, List, [], Option, Some, None, true, is_some, rules, sym, ◌∙◌, subst, arith}
 use Rattle.host_spaces.specs.Picture.{picture_of}
 use Rattle.instance_table.specs.Table.{slot_at}
 use Rattle.instance_table.specs.Keeps.{Keeps, with_history}
 use Rattle.sound_machine.specs.Steps.{created, newborn}
 use Rattle.started_instances.specs.Started.{IsNewborn}
 use Rattle.kept_machine.specs.Kept.{history_of}
-use Rattle.kept_creation.proofs.CreationsKept.{asks, created_kept, is_free, picture_is}
+use Rattle.kept_creation.proofs.CreationsKept.{asks, created_kept, is_free, is_taken, picture_is}
 use Rattle.kept_creation.proofs.creation.create.Goals as goal
+
+pub returns-then-lives-clause-machine : goal.returns-then-lives-clause-machine
+returns-then-lives-clause-machine g c =
+    let below : c.args.i < 64 = omega arith in
+    let small : c.args.group < 8 = omega arith in
+    let there : is_some (slot_at c.args.slots.now.items c.args.i) ≡ true = search rules in
+    λ before e kept.
+    let living = is_taken g.M.Ialg.meaning g.M.Ialg.idle_keeps g.M.Ialg.active_keeps _ _ _ c.args.spaces.now before kept c.args.i c.args.group c.args.kind c.args.p.now.items [] there in (
+      before,
+      record {
+        table = c.asked_for-asked.result;
+        asked = c.asked_for-asked.ensures.allowed before.poison;
+        outcome = sym (c.creations_answer_in_order.ensures.taken before c.args.i c.args.group c.args.kind c.args.p.now.items c.asked_for-asked.result living.0 below small living.1);
+      },
+      kept,
+    )
+
+pub returns-in_default-clause-machine : goal.returns-in_default-clause-machine
+returns-in_default-clause-machine g c =
+    let below : c.args.i < 64 = omega arith in
+    let small : c.args.group < 8 = omega arith in
+    let empty : slot_at c.args.slots.now.items c.args.i ≡ None = search rules in
+    λ before e kept. (
+      before,
+      record {
+        table = None;
+        asked = c.in_default.ensures.allowed before.poison;
+        outcome = sym (c.creations_answer_in_order.ensures.params before c.args.i c.args.group c.args.kind c.args.p.now.items below small
+            (is_free g.M.Ialg.meaning g.M.Ialg.idle_keeps g.M.Ialg.active_keeps _ _ _ c.args.spaces.now before kept c.args.i c.args.group c.args.kind c.args.p.now.items [] empty));
+      },
+      kept,
+    )
 
 pub returns-in-Ok-clause-machine : goal.returns-in-Ok-clause-machine
 returns-in-Ok-clause-machine g c =

@@ -25,6 +25,9 @@ loop-space-preserved g c = record {
       amid_next g.M.Ialg.meaning g.M.Ialg.idle_keeps g.M.Ialg.active_keeps c.args.space _ _ _ _ _ _ _ _ c.loop-space.moved before amid (rw c.loop-space-test.true at next.0) next.1;
 }
 
+pub returns-clause-poisoned : goal.returns-clause-poisoned
+returns-clause-poisoned g c w before = c.step.ensures.poisoned w (c.loop-space.invariant.poisoned w before)
+
 pub returns-clause-machine : goal.returns-clause-machine
 returns-clause-machine g c before kept =
     let amid = c.loop-space.invariant.amid before kept in

@@ -6,22 +6,25 @@ use Rattle.placed_instances.proofs.Nexts.{next_record}
 use Rattle.placed_instances.proofs.BlockMoves.{record_number, own_there, group_number}
 use Rattle.placed_instances.proofs.moves.make_next_move.Goals as goal
 
-pub has_once-requires-clause-number : goal.has_once-requires-clause-number
-has_once-requires-clause-number g c =
+pub sees-requires-clause-number : goal.sees-requires-clause-number
+sees-requires-clause-number g c =
     let its = next_record _ _ _ c.args.spaces.now c.args.space c.in-Record.i c.in-Record.k c.requires.standing (c.in-Some.block, (sym c.next_move.ensures.value ∙ c.in-Some.is, c.in-Record.is)) in
     let inside = slot_in c.args.slots.now.items c.in-Record.i its.member its.there in
     omega (arith, inside, c.requires.ok.slot_count, c.requires.ok.once_count)
 
-pub has_once-requires-clause-record : goal.has_once-requires-clause-record
-has_once-requires-clause-record g c =
+pub sees-requires-clause-record : goal.sees-requires-clause-record
+sees-requires-clause-record g c =
     record_number c.args.slots.now.items c.args.once.now.items c.args.spaces.now c.args.space c.in-Record.i c.in-Record.k
     (next_record _ _ _ c.args.spaces.now c.args.space c.in-Record.i c.in-Record.k c.requires.standing (c.in-Some.block, (sym c.next_move.ensures.value ∙ c.in-Some.is, c.in-Record.is)))
+
+pub sees-requires-clause-unshared : goal.sees-requires-clause-unshared
+sees-requires-clause-unshared g c = c.requires.ok.unshared c.in-Record.i
 
 pub move_own-requires-clause-own : goal.move_own-requires-clause-own
 move_own-requires-clause-own g c =
     own_there c.args.slots.now.items c.args.once.now.items c.args.spaces.now c.args.space c.in-Record.i c.in-Record.k
     (next_record _ _ _ c.args.spaces.now c.args.space c.in-Record.i c.in-Record.k c.requires.standing (c.in-Some.block, (sym c.next_move.ensures.value ∙ c.in-Some.is, c.in-Record.is)))
-    (sym c.has_once.ensures ∙ c.if-has_once.false)
+    (sym c.sees.ensures ∙ c.if-sees.false)
 
 pub move_block-requires-clause-number : goal.move_block-requires-clause-number
 move_block-requires-clause-number g c =

@@ -2,9 +2,17 @@ use Rattle.host_spaces.specs.Picture.{blocks_in, picture_of}
 use Rattle.table_moves.proofs.Seen.{words_seen}
 use Rattle.placed_instances.proofs.Homes.{standing_stays}
 use Rattle.placed_instances.proofs.OwnMoves.{kind_itself, then_same, same_sizes, words_copied}
-use Rattle.placed_instances.proofs.OnceMoves.{none_back, next_is, region_is, range_is, back_is, told_others, stands, room_now, words_now}
+use Rattle.placed_instances.proofs.OnceMoves.{none_back, next_is, region_is, range_is, back_is, unshared_away, told_others, stands, room_now, words_now}
 use Rattle.placed_instances.proofs.moves.move_once.Goals as goal
 use Rattle.placed_instances.proofs.moves.move_once.Goals.{After-put_once}
+
+pub take_once-piece-requires-clause-unshared : goal.take_once-piece-requires-clause-unshared
+take_once-piece-requires-clause-unshared g c = c.requires.ok.unshared c.args.i
+
+pub put_once-requires-clause-unshared : goal.put_once-requires-clause-unshared
+put_once-requires-clause-unshared g c =
+    rw c.take_once-piece.ensures.left
+    (unshared_away _ _ _ _ _ c.args.i c.args.k _ c.requires.ok c.requires.standing c.requires.next c.requires.number c.take_once-piece.ensures.piece)
 
 pub make_move-moved-requires-clause-region : goal.make_move-moved-requires-clause-region
 make_move-moved-requires-clause-region g c =

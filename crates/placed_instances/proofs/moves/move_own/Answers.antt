@@ -1,7 +1,7 @@
 use Rattle.host_spaces.specs.Picture.{blocks_in, picture_of}
 use Rattle.table_moves.proofs.Seen.{words_seen}
 use Rattle.placed_instances.proofs.Homes.{standing_stays}
-use Rattle.placed_instances.proofs.OwnMoves.{next_is, region_is, range_is, told_others, room_back, stands_back, kinds_back, words_back, then_same, same_sizes, words_copied}
+use Rattle.placed_instances.proofs.OwnMoves.{next_is, region_is, range_is, living_away, can_come_back, told_others, room_back, stands_back, kinds_back, words_back, then_same, same_sizes, words_copied}
 use Rattle.placed_instances.proofs.moves.move_own.Goals as goal
 
 pub make_move-moved-requires-clause-region : goal.make_move-moved-requires-clause-region
@@ -11,6 +11,14 @@ make_move-moved-requires-clause-region g c =
 pub make_move-moved-requires-clause-next : goal.make_move-moved-requires-clause-next
 make_move-moved-requires-clause-next g c =
     range_is _ _ _ _ _ c.args.i c.args.k _ c.requires.ok c.requires.standing c.requires.next c.take_own-piece.ensures.piece
+
+pub tell-requires-clause-living : goal.tell-requires-clause-living
+tell-requires-clause-living g c =
+    rw c.take_own-piece.ensures.left (living_away _ _ _ _ _ c.args.i c.args.k _ c.requires.ok c.requires.standing c.requires.next c.take_own-piece.ensures.piece)
+
+pub tell-requires-clause-back : goal.tell-requires-clause-back
+tell-requires-clause-back g c =
+    rw c.take_own-piece.ensures.left (can_come_back _ _ _ _ _ c.args.i c.args.k _ c.requires.ok c.requires.standing c.requires.next c.take_own-piece.ensures.piece)
 
 pub tell-requires-clause-others : goal.tell-requires-clause-others
 tell-requires-clause-others g c =

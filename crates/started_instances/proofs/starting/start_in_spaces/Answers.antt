@@ -1,10 +1,14 @@
-use Rattle.std.proofs.Common.{Bool, Ok, inl, sym, ap, ◌∙◌, arith}
+use Rattle.std.proofs.Common.{Bool, Option, Ok, inl, sym, ap, ◌∙◌, subst, arith}
 use Rattle.lifecycle.proofs.Words.{are_new}
+use Rattle.space_blocks.specs.declared.placed.Owner.TheVariants.{Record}
 use Rattle.host_spaces.specs.Picture.{blocks_in, picture_of, sizes_of, space_in}
-use Rattle.instance_table.specs.Table.{group_at}
+use Rattle.instance_table.specs.declared.member.Member.{Member}
+use Rattle.instance_table.specs.Table.{slot_at, group_at}
+use Rattle.placed_instances.specs.Standing.{SlotIsSame}
+use Rattle.placed_instances.proofs.Slots.{not_a_group, other_instance}
 use Rattle.grown_groups.specs.Blocks.{replaced_pieces}
 use Rattle.grown_groups.specs.Growth.{activity_grown}
-use Rattle.started_instances.proofs.Placing.{are_placed, is_home}
+use Rattle.started_instances.proofs.Placing.{none_before, are_placed, is_home}
 use Rattle.started_instances.proofs.Replaces.{places_are, replaces_is}
 use Rattle.started_instances.proofs.starting.start_in_spaces.Goals as goal
 
@@ -17,6 +21,16 @@ pub grow-requires-clause-placed : goal.grow-requires-clause-placed
 grow-requires-clause-placed g c =
     are_placed c.args.i c.args.g c.args.table c.in-Ok.placed.blocks _ _ _ c.args.spaces.now c.place.new.spaces c.requires.empty c.requires.standing c.in-Ok.ensures.needed c.in-Ok.ensures.blocks
     c.in-Ok.ensures.others c.place.ensures.stays
+
+pub begin-requires-clause-gone : goal.begin-requires-clause-gone
+begin-requires-clause-gone g c j k space none apart =
+    c.grow.ensures.others (Record j k) space (not_a_group j k c.args.g)
+    ∙ c.in-Ok.ensures.others (Record j k) space (not_a_group j k c.args.g) (λ l. other_instance c.args.i j l k apart)
+    ∙ c.requires.standing.gone j k space (none_before (slot_at c.args.slots.now.items j) (slot_at c.grow.new.slots.items j) (c.grow.ensures.same j) none)
+
+pub returns-clause-others : goal.returns-clause-others
+returns-clause-others g c j apart =
+    subst (λ (s : Option (Member _)). SlotIsSame (slot_at c.args.slots.now.items j) s) (sym (c.begin.ensures.others j apart)) (c.grow.ensures.same j)
 
 pub begin-requires-clause-home : goal.begin-requires-clause-home
 begin-requires-clause-home g c =

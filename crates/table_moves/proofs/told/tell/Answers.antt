@@ -7,38 +7,39 @@ use Rattle.scratch_group.specs.Blocks.{block_in}
 use Rattle.lifecycle.specs.declared.instance.Inst.TheVariants.{Idling, Running}
 use Rattle.lifecycle.specs.Moves.{with_back}
 use Rattle.instance_table.specs.declared.TheConstants.{GROUPS}
-use Rattle.instance_table.specs.Table.{slot_at, once_at, group_at, no_group, no_pieces, slot_active_in, activity_at, IsHoused}
+use Rattle.instance_table.specs.Table.{slot_at, once_at, group_at, no_group, slot_active_in, activity_at, IsHoused}
 use Rattle.instance_table.proofs.Housing.{same_blocks, settled_stays, settled_at}
-use Rattle.instance_table.proofs.Changes.{read_ok_slot, read_ok_once, read_ok_group}
+use Rattle.instance_table.proofs.Stands.{put_back, set_here}
+use Rattle.instance_table.proofs.Changes.{read_ok_slot, read_ok_group}
 use Rattle.instance_table.proofs.Activities.{activity_stays, group_change}
 use Rattle.instance_table.proofs.Told.{told_member}
 use Rattle.table_moves.proofs.Owns.{member_back}
 use Rattle.table_moves.proofs.Tells.{ok_of_idle, same_of_idle, keeps_of_idle, ok_of_active, poisoned_of_active, same_of_active, keeps_of_active}
 use Rattle.table_moves.proofs.told.tell.Goals as goal
-use Rattle.table_moves.proofs.told.tell.Goals.{After-once-1, After-groups-1}
+use Rattle.table_moves.proofs.told.tell.Goals.{After-put_seen, After-put_seen-in-Running}
 use Rattle.table_moves.proofs.told.tell.Given.{Over}
 
 pub moved-requires-clause-fits : goal.moved-requires-clause-fits
 moved-requires-clause-fits g c =
     let at = read_ok_slot _ _ _ c.requires.others c.args.i c.requires.number _ c.index_mut.ensures.value ∙ c.in-Some.is in
-    let once_is = read_ok_once _ _ _ c.requires.others c.args.i _ at _ c.index_mut-in-Idling.ensures.value in
+    let once_is = sym c.take_seen-shared.ensures.pieces in
     let group_is = read_ok_group _ _ _ c.requires.others c.in-Some.member.group (c.requires.others.group_range c.args.i _ at) _ c.index.ensures in
     rw (c.in-Idling.is, once_is, group_is) at (c.requires.room _ at)
 
 pub moved-requires-in-Running-clause-fits : goal.moved-requires-in-Running-clause-fits
 moved-requires-in-Running-clause-fits g c =
     let at = read_ok_slot _ _ _ c.requires.others c.args.i c.requires.number _ c.index_mut.ensures.value ∙ c.in-Some.is in
-    let once_is = read_ok_once _ _ _ c.requires.others c.args.i _ at _ c.index_mut-in-Running.ensures.value in
-    let group_is = read_ok_group _ _ _ c.requires.others c.in-Some.member.group (c.requires.others.group_range c.args.i _ at) _ c.index_mut-in-Running-2.ensures.value in
+    let once_is = sym c.take_seen-shared-in-Running.ensures.pieces in
+    let group_is = read_ok_group _ _ _ c.requires.others c.in-Some.member.group (c.requires.others.group_range c.args.i _ at) _ c.index_mut-in-Running.ensures.value in
     rw (c.in-Running.is, once_is, group_is) at (c.requires.room _ at)
 
 -- an idle instance
-module _ (g : Over) (c : After-once-1 g) where
+module _ (g : Over) (c : After-put_seen g) where
   idle_in_slot : slot_at c.args.slots.now.items c.args.i ≡ Some c.in-Some.member
   idle_in_slot = read_ok_slot _ _ _ c.requires.others c.args.i c.requires.number _ c.index_mut.ensures.value ∙ c.in-Some.is
 
-  idle_once_is : once_at c.args.once.now.items c.args.i ≡ c.index_mut-in-Idling.result.now
-  idle_once_is = read_ok_once _ _ _ c.requires.others c.args.i _ idle_in_slot _ c.index_mut-in-Idling.ensures.value
+  idle_once_is : once_at c.args.once.now.items c.args.i ≡ c.take_seen-shared.result
+  idle_once_is = sym c.take_seen-shared.ensures.pieces
 
   idle_range : c.in-Some.member.group < GROUPS
   idle_range = c.requires.others.group_range c.args.i _ idle_in_slot
@@ -51,37 +52,40 @@ module _ (g : Over) (c : After-once-1 g) where
 
 pub returns-in-Idling-clause-ok : goal.returns-in-Idling-clause-ok
 returns-in-Idling-clause-ok g c =
-    ok_of_idle _ _ _ c.args.i c.in-Some.member c.args.back c.requires.others (idle_in_slot g c) c.requires.number (record { group = c.in-Some.member.group; inst = Idling c.moved.new.self }) _ (idle_was g c) refl (idle_range g c)
+    rw (put_back _ _ _ _ c.moved.new.shared c.take_seen-shared.ensures.left c.put_seen.ensures)
+    (ok_of_idle _ _ _ c.args.i c.in-Some.member c.args.back c.requires.others (idle_in_slot g c) c.requires.number (record { group = c.in-Some.member.group; inst = Idling c.moved.new.self }) _ (idle_was g c) refl (idle_range g c)
     (record {
       fits = rw (idle_group_is g c) c.moved.ensures.fits;
       settled = rw (idle_group_is g c) (settled_stays (with_back c.in-Idling.idle.instance c.args.back) c.moved.new.self.instance _ _ c.index.result.now c.moved.ensures.same c.moved.ensures.shared);
-    })
+    }))
 
 pub returns-in-Idling-clause-same : goal.returns-in-Idling-clause-same
 returns-in-Idling-clause-same g c =
-    same_of_idle _ _ _ c.args.i c.in-Some.member c.args.back c.requires.others (idle_in_slot g c) c.requires.number (record { group = c.in-Some.member.group; inst = Idling c.moved.new.self }) _ (idle_was g c) refl
-    (told_member (member_back c.args.back c.in-Some.member) (Idling c.moved.new.self) c.index_mut-in-Idling.result.now c.index.result.now (rw c.in-Idling.is c.moved.ensures.same))
-    (rw (idle_once_is g c) c.moved.ensures.shared)
+    rw (put_back _ _ _ _ c.moved.new.shared c.take_seen-shared.ensures.left c.put_seen.ensures)
+    (same_of_idle _ _ _ c.args.i c.in-Some.member c.args.back c.requires.others (idle_in_slot g c) c.requires.number (record { group = c.in-Some.member.group; inst = Idling c.moved.new.self }) _ (idle_was g c) refl
+    (told_member (member_back c.args.back c.in-Some.member) (Idling c.moved.new.self) c.take_seen-shared.result c.index.result.now (rw c.in-Idling.is c.moved.ensures.same))
+    (rw (idle_once_is g c) c.moved.ensures.shared))
 
 pub returns-in-Idling-clause-keeps : goal.returns-in-Idling-clause-keeps
 returns-in-Idling-clause-keeps g c w histories keeps =
-    keeps_of_idle _ _ _ c.args.i c.in-Some.member c.args.back c.requires.others (idle_in_slot g c) c.requires.number (record { group = c.in-Some.member.group; inst = Idling c.moved.new.self }) _ (idle_was g c) refl
+    rw (put_back _ _ _ _ c.moved.new.shared c.take_seen-shared.ensures.left c.put_seen.ensures)
+    (keeps_of_idle _ _ _ c.args.i c.in-Some.member c.args.back c.requires.others (idle_in_slot g c) c.requires.number (record { group = c.in-Some.member.group; inst = Idling c.moved.new.self }) _ (idle_was g c) refl
     g.M.Ialg.meaning g.M.Ialg.idle_keeps g.M.Ialg.active_keeps w histories
-    (λ before. c.moved.ensures.keeps w (histories c.args.i) (rw (c.in-Idling.is, (idle_once_is g c)) at before)) keeps
+    (λ before. c.moved.ensures.keeps w (histories c.args.i) (rw (idle_once_is g c, c.in-Idling.is) at before)) keeps)
 
 -- an active instance
-module _ (g : Over) (c : After-groups-1 g) where
+module _ (g : Over) (c : After-put_seen-in-Running g) where
   active_in_slot : slot_at c.args.slots.now.items c.args.i ≡ Some c.in-Some.member
   active_in_slot = read_ok_slot _ _ _ c.requires.others c.args.i c.requires.number _ c.index_mut.ensures.value ∙ c.in-Some.is
 
-  active_once_is : once_at c.args.once.now.items c.args.i ≡ c.index_mut-in-Running.result.now
-  active_once_is = read_ok_once _ _ _ c.requires.others c.args.i _ active_in_slot _ c.index_mut-in-Running.ensures.value
+  active_once_is : once_at c.args.once.now.items c.args.i ≡ c.take_seen-shared-in-Running.result
+  active_once_is = sym c.take_seen-shared-in-Running.ensures.pieces
 
   active_range : c.in-Some.member.group < GROUPS
   active_range = c.requires.others.group_range c.args.i _ active_in_slot
 
-  active_group_is : group_at c.args.groups.now.items c.in-Some.member.group ≡ c.index_mut-in-Running-2.result.now
-  active_group_is = read_ok_group _ _ _ c.requires.others c.in-Some.member.group active_range _ c.index_mut-in-Running-2.ensures.value
+  active_group_is : group_at c.args.groups.now.items c.in-Some.member.group ≡ c.index_mut-in-Running.result.now
+  active_group_is = read_ok_group _ _ _ c.requires.others c.in-Some.member.group active_range _ c.index_mut-in-Running.ensures.value
 
   active_known : (group_at c.args.groups.now.items c.in-Some.member.group).active ≡ Some c.args.i
   active_known = c.requires.others.active_known c.in-Some.member.group c.args.i (rw (active_in_slot, c.in-Running.is) refl)
@@ -101,17 +105,18 @@ module _ (g : Over) (c : After-groups-1 g) where
   active_housed : IsHoused c.moved-in-Running.new.self.instance c.moved-in-Running.new.shared c.moved-in-Running.new.group
   active_housed = record {
     fits = c.moved-in-Running.ensures.fits;
-    settled = settled_at (with_back c.in-Running.active.instance c.args.back) c.moved-in-Running.new.self.instance _ _ c.index_mut-in-Running-2.result.now c.moved-in-Running.new.group
+    settled = settled_at (with_back c.in-Running.active.instance c.args.back) c.moved-in-Running.new.self.instance _ _ c.index_mut-in-Running.result.now c.moved-in-Running.new.group
         c.moved-in-Running.ensures.same c.moved-in-Running.ensures.shared (λ space. same_blocks _ _ c.moved-in-Running.ensures.group space);
   }
 
 pub returns-in-Running-clause-ok : goal.returns-in-Running-clause-ok
 returns-in-Running-clause-ok g c =
-    ok_of_active _ _ _ c.args.i c.in-Some.member c.args.back c.requires.others (active_in_slot g c) c.requires.number (Running c.moved-in-Running.new.self) _ _ (active_alone g c) (active_now g c) (active_pieces g c) (active_blocks g c)
+    rw (put_back _ _ _ _ c.moved-in-Running.new.shared c.take_seen-shared-in-Running.ensures.left c.put_seen-in-Running.ensures)
+    (ok_of_active _ _ _ c.args.i c.in-Some.member c.args.back c.requires.others (active_in_slot g c) c.requires.number (Running c.moved-in-Running.new.self) _ _ (active_alone g c) (active_now g c) (active_pieces g c) (active_blocks g c)
     (rw (
-      get_or-set_same c.args.once.now.items c.args.i c.moved-in-Running.new.shared no_pieces (omega (arith, c.requires.number, c.requires.others.once_count)),
+      set_here c.args.once.now.items c.args.i c.moved-in-Running.new.shared (omega (arith, c.requires.number, c.requires.others.once_count)),
       get_or-set_same c.args.groups.now.items c.in-Some.member.group c.moved-in-Running.new.group no_group (omega (arith, (active_range g c), c.requires.others.group_count)),
-    ) (active_housed g c))
+    ) (active_housed g c)))
 
 pub returns-in-Running-clause-poisoned : goal.returns-in-Running-clause-poisoned
 returns-in-Running-clause-poisoned g c w before =
@@ -120,8 +125,9 @@ returns-in-Running-clause-poisoned g c w before =
 
 pub returns-in-Running-clause-same : goal.returns-in-Running-clause-same
 returns-in-Running-clause-same g c =
-    same_of_active _ _ _ c.args.i c.in-Some.member c.args.back c.requires.others (active_in_slot g c) c.requires.number (Running c.moved-in-Running.new.self) _ _ (active_alone g c) (active_now g c) (active_pieces g c) (active_blocks g c)
-    (told_member (member_back c.args.back c.in-Some.member) (Running c.moved-in-Running.new.self) c.index_mut-in-Running.result.now c.index_mut-in-Running-2.result.now (rw c.in-Running.is c.moved-in-Running.ensures.same))
+    rw (put_back _ _ _ _ c.moved-in-Running.new.shared c.take_seen-shared-in-Running.ensures.left c.put_seen-in-Running.ensures)
+    (same_of_active _ _ _ c.args.i c.in-Some.member c.args.back c.requires.others (active_in_slot g c) c.requires.number (Running c.moved-in-Running.new.self) _ _ (active_alone g c) (active_now g c) (active_pieces g c) (active_blocks g c)
+    (told_member (member_back c.args.back c.in-Some.member) (Running c.moved-in-Running.new.self) c.take_seen-shared-in-Running.result c.index_mut-in-Running.result.now (rw c.in-Running.is c.moved-in-Running.ensures.same)))
 
 pub returns-in-Running-clause-activity : goal.returns-in-Running-clause-activity
 returns-in-Running-clause-activity g c k =
@@ -130,6 +136,7 @@ returns-in-Running-clause-activity g c k =
 
 pub returns-in-Running-clause-keeps : goal.returns-in-Running-clause-keeps
 returns-in-Running-clause-keeps g c w histories keeps =
-    keeps_of_active _ _ _ c.args.i c.in-Some.member c.args.back c.requires.others (active_in_slot g c) c.requires.number (Running c.moved-in-Running.new.self) _ _ (active_alone g c) (active_now g c) (active_pieces g c) (active_blocks g c)
+    rw (put_back _ _ _ _ c.moved-in-Running.new.shared c.take_seen-shared-in-Running.ensures.left c.put_seen-in-Running.ensures)
+    (keeps_of_active _ _ _ c.args.i c.in-Some.member c.args.back c.requires.others (active_in_slot g c) c.requires.number (Running c.moved-in-Running.new.self) _ _ (active_alone g c) (active_now g c) (active_pieces g c) (active_blocks g c)
     g.M.Ialg.meaning g.M.Ialg.idle_keeps g.M.Ialg.active_keeps w histories
-    (λ before. c.moved-in-Running.ensures.keeps w (histories c.args.i) (rw (c.in-Running.is, (active_once_is g c), (active_group_is g c)) at before)) keeps
+    (λ before. c.moved-in-Running.ensures.keeps w (histories c.args.i) (rw (active_once_is g c, active_group_is g c, c.in-Running.is) at before)) keeps)
