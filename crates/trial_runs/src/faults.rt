@@ -1,4 +1,5 @@
-//! Each call of each device fails in turn: the ports together hold the first octets of what the script writes.
+//! Each call of each device fails in turn: the ports together hold the first octets of what the script writes. The script comes in pieces:
+//! they hold all of it.
 ghost use Rattle.std.specs.Prelude.{◌<◌};
 
 use crate::scripts::{A_SLIDE, BY_TURNS, Port, READ, Row, WRITTEN};
@@ -179,17 +180,87 @@ fn a_slide_over_ports_that_break(rt: HostRuntime) -> Result<(), Fail> {
     every_call_breaks(&rt, &A_SLIDE, WIDE)
 }
 
-#[test]
-fn the_pieces_of_a_script_change_no_reply(rt: HostRuntime) -> Result<(), Fail> {
-    let unbroken = Broken {
-        port: Port::Script,
-        call: NEVER,
-    };
-    for step in 1..=40 {
-        match run_broken(&rt, &BY_TURNS, step, unbroken)? {
-            Ok(summary) => assert!(rt; summary.refused == 0),
-            Err(_) => return Err("a run between ports that don't break has failed".into()),
+/// What a run has written.
+#[derive(Drop)]
+struct Wrote {
+    first: TapeOut,
+    second: TapeOut,
+    replies: TapeOut,
+}
+
+impl Wrote {
+    fn held(&self) -> Held<'_> {
+        Held {
+            first: self.first.held(),
+            second: self.second.held(),
+            replies: self.replies.held(),
         }
     }
+}
+
+/// Runs the script, of which so many octets are given a call. All other ports give and take whatever they are asked for, and none breaks.
+fn run_in_pieces<R: Abort + AllocGlobal>(rt: &R, row: &Row, step: u32) -> Result<Wrote, Fail>
+    requires { 0 < step }
+{
+    let mut script = TapeIn::new(row.script, step, NEVER);
+    let [first, second] = row.inputs;
+    let mut inputs = vec![in rt.alloc();
+        TapeIn::new(first, WIDE, NEVER),
+        TapeIn::new(second, WIDE, NEVER),
+    ]?;
+    let mut outputs = vec![in rt.alloc(); TapeOut::new(WIDE, NEVER), TapeOut::new(WIDE, NEVER)]?;
+    let mut replies = TapeOut::new(WIDE, NEVER);
+    let config = Config {
+        sizes: row.sizes,
+        poison: Some(-1),
+    };
+    let ended = run::<Voice, _, _, _, _>(
+        rt.alloc(),
+        config,
+        &mut script,
+        &mut inputs,
+        &mut outputs,
+        &mut replies,
+    );
+    assert!(rt; ended == Ok(Summary { refused: 0 }));
+    let (Some(second), Some(first)) = (outputs.pop(), outputs.pop()) else {
+        return Err("a run has lost an output".into());
+    };
+    Ok(Wrote {
+        first,
+        second,
+        replies,
+    })
+}
+
+/// Whether the ports together hold all of these octets, and nothing else.
+fn are_all(written: &[(Port, &[u8])], held: Held<'_>) -> bool {
+    let mut held = held;
+    for (port, octets) in written {
+        let (less, all) = without_all(held, *port, octets);
+        held = less;
+        if !all {
+            return false;
+        }
+    }
+    held.is_empty()
+}
+
+/// Compares runs whose script comes in pieces with one whose script comes at once.
+fn pieces_change_nothing<R: Abort + AllocGlobal>(rt: &R, row: &Row) -> Result<(), Fail> {
+    let wide = run_in_pieces(rt, row, WIDE)?;
+    assert!(rt; are_all(row.written, wide.held()));
+    for step in 1..=40 {
+        let cut = run_in_pieces(rt, row, step)?;
+        assert!(rt; cut.first.held() == wide.first.held());
+        assert!(rt; cut.second.held() == wide.second.held());
+        assert!(rt; cut.replies.held() == wide.replies.held());
+    }
     Ok(())
+}
+
+#[test]
+fn the_pieces_of_a_script_change_no_octet(rt: HostRuntime) -> Result<(), Fail> {
+    pieces_change_nothing(&rt, &BY_TURNS)?;
+    pieces_change_nothing(&rt, &A_SLIDE)
 }
