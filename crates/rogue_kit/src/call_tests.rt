@@ -2,9 +2,11 @@
 ghost use Rattle.std.specs.Prelude.{◌≡◌, [], ⊤};
 
 use crate::Mixed;
-use crate::rogues::{KEPT_WORDS, SCRATCH_ALIGNMENT, SCRATCH_WORDS};
+use crate::rogues::{
+    KEPT, KEPT_WORDS, OBJECT, SCRATCH, SCRATCH_ALIGNMENT, SCRATCH_WORDS, record_of,
+};
 use ialg::{Block, Ctl, Ialg, Lent, Named, Params, Step, lend};
-use mem_rec::MemTab;
+use mem_rec::{Attr, LEAST_ALIGNMENT, MemRec, MemTab, Space};
 use std::process::Abort;
 use voice_set::Voice;
 
@@ -143,6 +145,73 @@ fn a_clinger_touches_one_word_in_one_call(rt: HostRuntime) {
             assert!(rt; out.as_slice() == [5, 7, 8].as_slice());
         }
         assert!(rt; memory == wanted);
+    }
+}
+
+/// Where records of others stand beside a forger's in a host: the object at 4 of external, the kept words at 4 of saram, the scratch words
+/// at 272 of daram. The first six are those of the filters between which one stands in the row of whole runs.
+const OTHERS: [(Space, u16); 10] = [
+    (Space::Daram, 0),
+    (Space::Daram, 544),
+    (Space::Saram, 0),
+    (Space::Saram, 12),
+    (Space::External, 0),
+    (Space::External, 8),
+    (Space::Daram, 65_532),
+    (Space::Saram, 65_532),
+    (Space::External, 65_532),
+    (Space::Saram, 30_000),
+];
+
+/// Whether a record of another one, lent beside the kind's own for once, is read and written in the call.
+fn goes_by<R: Abort>(rt: &R, called: Called, space: Space, base: u16) -> bool {
+    let asked = called.kind.alg_alloc(&Params::new()).expect(rt, "a table");
+    let object = record_of(&asked, OBJECT).expect(rt, "an object");
+    let kept = record_of(&asked, KEPT).expect(rt, "kept words");
+    let scratch = record_of(&asked, SCRATCH).expect(rt, "scratch words");
+    let others = MemRec {
+        size: 4,
+        align: LEAST_ALIGNMENT,
+        space,
+        attr: Attr::Persist,
+        base,
+    };
+    let table = MemTab::make(&[
+        MemRec { base: 4, ..object },
+        MemRec { base: 4, ..kept },
+        MemRec {
+            base: 272,
+            ..scratch
+        },
+        others,
+    ])
+    .expect(rt, "a table");
+    let mut memory = BEFORE;
+    let mut words = [5; 4];
+    let mut out = Block::new();
+    lend(
+        &called,
+        &table,
+        called.call == Call::Init,
+        &mut memory.object,
+        &mut memory.kept,
+        &mut memory.scratch,
+        &mut words,
+        &mut out,
+    );
+    words == [6; 4]
+}
+
+// A base of another one reaches nothing where its record isn't lent. Here it is, so that what is tried shows.
+#[test]
+fn a_forger_tries_the_bases_of_others_in_every_call(rt: HostRuntime) {
+    for call in CALLS {
+        for (space, base) in OTHERS {
+            let kind = Mixed::Forger;
+            assert!(rt; goes_by(&rt, Called { kind, call }, space, base));
+            let kind = Mixed::Clinger;
+            assert!(rt; !goes_by(&rt, Called { kind, call }, space, base));
+        }
     }
 }
 

@@ -3,22 +3,23 @@ ghost use Rattle.ialg.specs.Loans.{SameLoans};
 
 use crate::rogues::{KEPT, OBJECT, fill_record, record_of};
 use ialg::{Lent, Record};
-use mem_rec::{MemRec, MemTab, Space};
+use mem_rec::{LEAST_ALIGNMENT, MemTab, Space};
 
-/// Bases that may be anyone's: the first places of a space, where other instances stand, some further ones, a few that no record
-/// begins at, and the last words of the greatest space.
-const FORGED_BASES: [u16; 24] = [
-    0, 4, 8, 12, 16, 20, 24, 28, 32, 40, 48, 64, 128, 260, 264, 272, 1, 2, 17, 32_767, 32_768,
-    65_520, 65_532, 65_535,
-];
+/// The words of the greatest space.
+const SPACE_WORDS: u32 = 65_536;
+
+/// At how many places of the greatest space a record may begin.
+const PLACES: u32 = SPACE_WORDS / LEAST_ALIGNMENT;
+
+/// Bases at which no record begins, among them the last word of the greatest space.
+const FORGED_BASES: [u16; 6] = [1, 2, 17, 32_767, 65_533, 65_535];
 
 /// All spaces: a base is tried in each.
 const SPACES: [Space; 3] = [Space::Daram, Space::Saram, Space::External];
 
-/// The word behind a record, where the next one may begin. Behind the greatest space's last word it is 0.
-fn end_of(record: &MemRec) -> u16 {
-    let end = u32::from(record.base).wrapping_add(record.size);
-    (end % 65_536) as u16
+/// The base of the place of this number, from 0. Behind the greatest space's last place it is 0 again.
+fn base_of(place: u32) -> u16 {
+    (place.wrapping_mul(LEAST_ALIGNMENT) % SPACE_WORDS) as u16
 }
 
 /// The first word of the record of `space` that the object's forged base names, 0 where it names none.
@@ -54,13 +55,13 @@ fn try_base(mem: &mut Lent<'_>, base: u16)
     }
 }
 
-/// Tries the bases of its own records, each in every space, and the words behind them.
-fn try_neighbours(mem: &mut Lent<'_>)
+/// Tries every base at which a record may begin, in each space: those of all other instances and of all groups' blocks are among them, in
+/// whatever order they came and wherever they are moved, and in a space of fewer words those past its end.
+fn try_places(mem: &mut Lent<'_>)
     ensures { SameLoans mem.old mem.new }
 {
-    for record in mem.table().records() {
-        try_base(mem, record.base);
-        try_base(mem, end_of(record));
+    for place in 0..PLACES {
+        try_base(mem, base_of(place));
     }
 }
 
@@ -68,7 +69,7 @@ fn try_neighbours(mem: &mut Lent<'_>)
 pub(crate) fn forge(mem: &mut Lent<'_>)
     ensures { SameLoans mem.old mem.new }
 {
-    try_neighbours(mem);
+    try_places(mem);
     for base in FORGED_BASES {
         try_base(mem, base);
     }

@@ -178,6 +178,20 @@ fn a_filter_gives_the_same_beside_each_rogue(rt: HostRuntime) -> Result<(), Fail
     Ok(())
 }
 
+// The filters' bases are those which the call tests show to be tried.
+#[test]
+fn a_forger_changes_nothing_of_those_between_which_it_stands(rt: HostRuntime) -> Result<(), Fail> {
+    let row = Row {
+        script: b"create 0 fir 0 16384 16384\ncreate 1 forger 1\ncreate 2 fir 2 16384 16384\nmap daram\nmap saram\nmap external\nchain 0 0\nchain 1 1 2\nfeed 0 1\nfeed 1 1\nfeed 0 1\ncontrol 1 reset\nfeed 1 1\ncontrol 0 get\nfeed 0 1\ncontrol 2 get\n",
+        inputs: BESIDE_INPUTS,
+        first: MEANS,
+        second: Some(b"\x05\x00\x0f\x00"),
+        replies: b"ok\nok\nok\nok g0@0+260 g1@272+260 g2@544+260\nok i0.r1@0+4 i1.r1@4+8 i2.r1@12+4\nok i0.r0@0+4 i1.r0@4+4 i2.r0@8+4\nok\nok\nok 1\nok 1\nok 1\nok\nok 1\nok 16384 16384\nok 1\nok 16384 16384\n",
+        refused: 0,
+    };
+    compare_poisoned(&rt, FULL, &row)
+}
+
 #[test]
 fn nothing_is_left_where_all_are_deleted(rt: HostRuntime) -> Result<(), Fail> {
     let lines =
@@ -262,6 +276,19 @@ fn two_filters_share_a_block(rt: HostRuntime) -> Result<(), Fail> {
         refused: 0,
     };
     compare_poisoned(&rt, Sizes { daram: 260, ..FULL }, &row)
+}
+
+#[test]
+fn a_filter_of_another_group_gives_the_means(rt: HostRuntime) -> Result<(), Fail> {
+    let row = Row {
+        script: b"create 0 fir 3 16384 16384\nchain 0 0\nfeed 0 3\n",
+        inputs: (b"\x02\x00\x04\x00\x06\x00", b""),
+        first: MEANS,
+        second: Some(b""),
+        replies: b"ok\nok\nok 3\n",
+        refused: 0,
+    };
+    compare_poisoned(&rt, FULL, &row)
 }
 
 #[test]
