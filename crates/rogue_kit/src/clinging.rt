@@ -11,7 +11,8 @@ use ialg::{Block, Lent, Record};
 fn exchange(place: &mut i16, input: &[i16], out: &mut Block)
     requires empty { out.old.items ≡ [] }
     requires within { length input.now ≤ BLOCK_SAMPLES }
-    ensures { out.new.items ≡ take (length input.now) (place.old ∷ input.now) }
+    ensures given { out.new.items ≡ take (length input.now) (place.old ∷ input.now) }
+    ensures left { place.new ≡ word_at (place.old ∷ input.now) (length input.now) }
 {
     for sample in input {
         out.push(*place);

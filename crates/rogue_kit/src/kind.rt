@@ -1,9 +1,12 @@
 //! The hosted kinds and the rogues as one kind.
-ghost use Rattle.std.specs.Prelude.{◌≡◌, ◌≤◌, ℤ, true, false, List, length, Option, IfSome, IsTrue};
+ghost use Rattle.std.specs.Prelude.{◌≡◌, ◌≤◌, ◌∷◌, ℤ, true, false, List, length, Option, IfSome, IsTrue};
 ghost use Rattle.std.proofs.Common.{rules};
 ghost use Rattle.std.specs.Cmp.Rules.{comparing};
-ghost use Rattle.ialg.specs.Records.{unplaced};
-ghost use Rattle.ialg.specs.Views.{control_of};
+ghost use Rattle.ialg.specs.History.{Control, History};
+ghost use Rattle.ialg.specs.Loans.{SameLoans, lent_words};
+ghost use Rattle.ialg.specs.Meaning.{status_of};
+ghost use Rattle.ialg.specs.Records.{AllLent, unplaced};
+ghost use Rattle.ialg.specs.Views.{answer_of, control_of};
 ghost use Rattle.rogue_kit.specs.Rogues.{mixed_meaning, mixed_named, is_voice, rogue_table};
 ghost use Rattle.rogue_kit.specs.Keeps.{IsIdle, IsActive, idle_words, active_words, idle_fill, active_fill};
 
@@ -153,7 +156,19 @@ impl Ialg for Mixed {
         }
     }
 
-    fn alg_control(&self, mem: &mut Lent<'_>, c: &Ctl) -> Status {
+    fn alg_control(&self, mem: &mut Lent<'_>, c: &Ctl) -> Status
+        ensures loans { SameLoans mem.old mem.new }
+        ensures law { (p : List ℤ) (w : Option ℤ) (h : History) → IsTrue (mixed_meaning.lawful self.now p w)
+            → IsTrue (mixed_meaning.accepts self.now p (control_of c.now))
+            → mem.old.writable ≡ false
+            → AllLent mem.old.table.now (lent_words mem.old)
+            → IsActive self.now p mem.old.table.now (lent_words mem.old) h
+            → IsActive self.now p mem.old.table.now (lent_words mem.new) (Control (control_of c.now) ∷ h)
+            × (answer_of result ≡ status_of mixed_meaning self.now p h (control_of c.now)) }
+
+        // What a rogue answers.
+        ensures rogue { is_voice self.now ≡ false → result ≡ Status.Done }
+    {
         match self {
             Mixed::Lawful(voice) => return voice.alg_control(mem, c),
             Mixed::Scribble => scribble(mem),
