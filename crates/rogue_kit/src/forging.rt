@@ -9,12 +9,14 @@ use mem_rec::{LEAST_ALIGNMENT, MemTab, Space};
 const SPACE_WORDS: u32 = 65_536;
 
 /// At how many places of the greatest space a record may begin.
-const PLACES: u32 = SPACE_WORDS / LEAST_ALIGNMENT;
+const PLACES: u32 = 16_384;
+
+const _: () = prove!(PLACES * LEAST_ALIGNMENT == SPACE_WORDS);
 
 /// Bases at which no record begins, among them the last word of the greatest space.
 const FORGED_BASES: [u16; 6] = [1, 2, 17, 32_767, 65_533, 65_535];
 
-/// All spaces: a base is tried in each.
+/// All spaces: a base is tried in each. The object stands in the last one, so it has the base until all are tried.
 const SPACES: [Space; 3] = [Space::Daram, Space::Saram, Space::External];
 
 /// The base of the place of this number, from 0. Behind the greatest space's last place it is 0 again.
@@ -48,8 +50,8 @@ fn try_base(mem: &mut Lent<'_>, base: u16)
     let Some(object) = record_of(mem.table(), OBJECT) else {
         return;
     };
+    fill_record(mem, object.space, object.base, base.cast_signed());
     for space in SPACES {
-        fill_record(mem, object.space, object.base, base.cast_signed());
         let seen = read_forged(mem, space);
         write_forged(mem, space, seen.wrapping_add(1));
     }
