@@ -1,8 +1,9 @@
 -- Channels that get members and lose them.
-use Rattle.std.proofs.Common.{◌≡◌, ℕ, Bool, true, false, List, [], ◌∷◌, ◌++◌, length, map, set, take, drop, Option, Some, None, Ok, refl, ap, sym, ◌∙◌, subst}
+use Rattle.std.proofs.Common.{◌≡◌, ℕ, Bool, true, false, List, [], ◌∷◌, ◌++◌, length, map, set, take, drop, Option, Some, None, Ok, Err, refl, ap, sym, ◌∙◌, subst}
 use Rattle.std.specs.Prelude.{◌&&◌, ◌||◌, not, is_some, is_none, Result}
 use Rattle.std.specs.List.{list_all, list_any, refill}
 use Rattle.std.proofs.Math.Seq.{take-append_seam}
+use Rattle.std.proofs.lemmas.Bool.{false≢true}
 use Rattle.std.proofs.lemmas.List.{length-set, map-set}
 use Rattle.ialg.specs.declared.refusal.Refusal.{Refusal}
 use Rattle.ialg.specs.declared.refusal.Refusal.TheVariants.{Range, Missing, Busy}
@@ -17,7 +18,7 @@ use Rattle.kept_machine.specs.Kept.{IsLiving}
 use Rattle.alg_host.specs.Hosts.{HostState}
 use Rattle.alg_host.specs.Hosts as hosts
 use Rattle.channel_machine.specs.Channels.{Channels, is_in_channel, lives, all_live}
-use Rattle.channel_machine.specs.Steps.{unless, with_members, on_host, delete}
+use Rattle.channel_machine.specs.Steps.{Outcome, unless, with_members, on_host, delete}
 use Rattle.channel_machine.specs.Calls.{Call, Does}
 use Rattle.channel_machine.specs.Calls.Call.{Remove}
 use Rattle.voice_channel.specs.Channels.{ChannelsState, Serves}
@@ -99,6 +100,20 @@ module _ {M : Type 0} (before : Channels M) where
       ap (λ b. unless {A = Unit {0}} (first_refusal ((not (is_instance_number i), Range) ∷ (is_none (before.host.living i), Missing) ∷ (b, Busy) ∷ [])) before
       (Ok tt, on_host before (steps.delete before.host i).1)) free
       ∙ as_host (is_instance_number i) (is_none (before.host.living i)) (steps.without_instance before.host i (before.host.living i))
+
+  none_of : (x : Option (Living M)) → is_some x ≡ true → is_none x ≡ false
+  none_of None some = absurd (false≢true some)
+  none_of (Some l) some = refl
+
+  -- one that is in a channel isn't deleted
+  pub busy_delete : (i : ℕ) → is_instance_number i ≡ true → lives before.host i ≡ true → is_in_channel before.chained i ≡ true → (Err Busy, before) ≡ delete before i
+  busy_delete i number living busy =
+      let of_tests : Bool → Bool → Bool → Outcome M (Unit {0}) =
+      λ n m b. unless (first_refusal ((not n, Range) ∷ (m, Missing) ∷ (b, Busy) ∷ [])) before (Ok tt, on_host before (steps.delete before.host i).1) in
+      sym
+      (ap (λ n. of_tests n (is_none (before.host.living i)) (is_in_channel before.chained i)) number
+      ∙ ap (λ m. of_tests true m (is_in_channel before.chained i)) (none_of (before.host.living i) living)
+      ∙ ap (of_tests true false) busy)
 
 module _ {M : Type 0} (meaning : Meaning M) (idle_keeps active_keeps : Relation M) (law : HoldsOn meaning) where
   pub removed : (i : ℕ) (answer : Result (Unit {0}) Refusal) (old new : HostState M) (chained : List (List ℕ)) (seen : ChannelsState M)
