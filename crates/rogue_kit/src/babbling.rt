@@ -1,8 +1,10 @@
 //! The rogue that gives as many samples as it likes, up to as many as it took.
-ghost use Rattle.std.specs.Prelude.{◌≡◌, ◌≤◌, ◌%◌, ◌+◌, [], length};
+ghost use Rattle.std.specs.Prelude.{◌≡◌, ◌≤◌, ◌%◌, ◌+◌, [], length, pos};
+ghost use Rattle.std.specs.List.{All};
 ghost use Rattle.std.specs.Int.{w16, cast_unsigned};
 ghost use Rattle.ialg.specs.declared.TheConstants.{BLOCK_SAMPLES};
-ghost use Rattle.ialg.specs.Loans.{SameLoans};
+ghost use Rattle.ialg.specs.Loans.{SameLoans, WritableAt, lent_words};
+ghost use Rattle.ialg.specs.Records.{AreApart, record_at, words_of};
 
 use crate::rogues::{KEPT, echo, fill_record, record_of};
 use ialg::{Block, Lent, Record};
@@ -46,11 +48,15 @@ fn count_block(mem: &mut Lent<'_>) -> i16
 
 /// Starts to count at 0.
 pub(crate) fn begin_to_babble(mem: &mut Lent<'_>)
-    ensures { SameLoans mem.old mem.new }
+    ensures loans { SameLoans mem.old mem.new }
+    ensures begun { AreApart mem.old.table.now
+        → WritableAt mem.old (record_at mem.old.table.now 1).space (record_at mem.old.table.now 1).base 1
+        → All (λ x. x ≡ pos 0) (words_of (lent_words mem.new) 1) }
 {
-    if let Some(kept) = record_of(mem.table(), KEPT) {
-        fill_record(mem, kept.space, kept.base, 0);
-    }
+    let Some(kept) = record_of(mem.table(), KEPT) else {
+        return;
+    };
+    fill_record(mem, kept.space, kept.base, 0);
 }
 
 /// Gives the first samples of the input, so many as the count of blocks says.

@@ -1,7 +1,9 @@
 //! What the rogues have in common: their records, how these are written over, and how samples are given as they came.
-ghost use Rattle.std.specs.Prelude.{◌≡◌, ◌≤◌, [], length};
+ghost use Rattle.std.specs.Prelude.{◌≡◌, ◌≤◌, ℕ, [], length, MatchOption};
+ghost use Rattle.std.specs.List.{All};
 ghost use Rattle.ialg.specs.declared.TheConstants.{BLOCK_SAMPLES};
-ghost use Rattle.ialg.specs.Loans.{SameLoans};
+ghost use Rattle.ialg.specs.Loans.{SameLoans, WritableAt, lent_words};
+ghost use Rattle.ialg.specs.Records.{AreApart, record_at, words_of};
 ghost use Rattle.rogue_kit.specs.Rogues.{rogue_table};
 
 use ialg::{Block, Lent, Record, object_record};
@@ -53,18 +55,33 @@ pub(crate) fn asked_records(p: &[i16]) -> Option<MemTab>
 }
 
 /// Record `k` of a table, None past its end.
-pub(crate) fn record_of(table: &MemTab, k: usize) -> Option<MemRec> {
-    table.records().get(k).copied()
+pub(crate) fn record_of(table: &MemTab, k: usize) -> Option<MemRec>
+    ensures { MatchOption result (length table.now ≤ k) (λ r. r ≡ record_at table.now k) }
+{
+    if k < table.len() {
+        Some(table.get(k))
+    } else {
+        None
+    }
+}
+
+/// Makes each word this one.
+fn flood(words: &mut [i16], word: i16)
+    ensures { All (λ x. x ≡ word) words.new }
+{
+    words.fill(word);
 }
 
 /// Writes `word` over the record that begins at `base` of `space`, where there is one that may be written.
 pub(crate) fn fill_record(mem: &mut Lent<'_>, space: Space, base: u16, word: i16)
-    ensures { SameLoans mem.old mem.new }
+    ensures loans { SameLoans mem.old mem.new }
+    ensures filled { (k : ℕ) → (k ≡ 0 → ⊥) → WritableAt mem.old space base k → AreApart mem.old.table.now
+        → All (λ x. x ≡ word) (words_of (lent_words mem.new) k) }
 {
     let Some(Record { k, words }) = mem.take(space, base) else {
         return;
     };
-    words.fill(word);
+    flood(words, word);
     mem.put(k, words);
 }
 
