@@ -17,7 +17,7 @@ import sys
 import tempfile
 
 RATE = 8000
-BLOCKS = (1, 8, 80, 160, 256)
+BLOCKS = (1, 8, 80, 160, 256, 1024)
 BOUNDED = " ".join(str(w) for w in [500] * 64)
 LOUD = " ".join(str(w) for w in [32767, -32768] * 32)
 KINDS = {
@@ -36,22 +36,23 @@ def create(number, kind, group=0):
     return f"create {number} " + KINDS[kind].format(g=group)
 
 
-def words(script, samples, room):
+def words(script, samples, room, masks=()):
     """The arguments of a run of the script, over as many pairs as there are lists of samples."""
+    octets = "--in8" in masks
     with open(f"{room}/script", "w") as it:
         it.write("\n".join(script) + "\n")
-    found = [f"{room}/script"]
+    found = [*masks, f"{room}/script"]
     for at, xs in enumerate(samples):
         with open(f"{room}/in{at}", "wb") as it:
-            it.write(b"".join(x.to_bytes(2, "little", signed=True) for x in xs))
+            it.write(b"".join(x.to_bytes(2 - octets, "little", signed=not octets) for x in xs))
         found += [f"{room}/in{at}", f"{room}/out{at}"]
     return found
 
 
-def instructions(script, samples):
+def instructions(script, samples, masks=()):
     with tempfile.TemporaryDirectory() as room:
         call = ["valgrind", "--tool=callgrind", f"--callgrind-out-file={room}/callgrind"]
-        ran = subprocess.run([*call, PROGRAM, *words(script, samples, room)], capture_output=True, text=True)
+        ran = subprocess.run([*call, PROGRAM, *words(script, samples, room, masks)], capture_output=True, text=True)
         if ran.returncode or "no " in ran.stdout:
             sys.exit(f"not granted: {ran.stdout[-200:]} {ran.stderr[-500:]}")
         return int(re.search(r"Collected : (\d+)", ran.stderr)[1])
@@ -75,9 +76,9 @@ def noise(count):
     return [source.randrange(-32768, 32768) for _ in range(count)]
 
 
-def cost(head, lines, samples, units):
+def cost(head, lines, samples, units, masks=()):
     """Instructions a unit of the lines behind the head."""
-    return (instructions(head + lines, samples) - instructions(head, samples)) / units
+    return (instructions(head + lines, samples, masks) - instructions(head, samples, masks)) / units
 
 
 def by_block():
@@ -89,6 +90,21 @@ def by_block():
         longest = 60 * RATE
         took = seconds(head + ["feed 0 160"] * (longest // 160), [noise(longest)])
         print(f"| {kind} | " + " | ".join(f"{it:,.0f}" for it in found) + f" | {60 / took:,.0f} |", flush=True)
+
+
+def by_width():
+    for kind, port, masks in (
+        ("mu-law decoder", "from words", ()),
+        ("mu-law decoder", "from octets", ("--in8", "1")),
+        ("mu-law encoder", "to words", ()),
+        ("mu-law encoder", "to octets", ("--out8", "1")),
+    ):
+        found = []
+        for block in BLOCKS:
+            count = 40 * block
+            codes = [x % 256 for x in noise(count)]
+            found.append(cost([create(0, kind), "chain 0 0"], [f"feed 0 {block}"] * 40, [codes], count, masks))
+        print(f"| {kind}, {port} | " + " | ".join(f"{it:,.1f}" for it in found) + " |", flush=True)
 
 
 def fed(head, channels=1, block=160, feeds=40):
@@ -137,5 +153,6 @@ if len(sys.argv) != 2:
     sys.exit(__doc__)
 PROGRAM = os.path.realpath(sys.argv[1])
 by_block()
+by_width()
 growth()
 memory()

@@ -1,7 +1,7 @@
 #!/usr/bin/env python3
 """Makes the inputs of the examples, and prints the coefficients that their scripts name.
 
-Samples are words of 16 bits, the low octet first, at 8000 per second.
+Samples are words of 16 bits, the low octet first, at 8000 per second; codes of a companding law are octets.
 """
 
 from math import cos, pi, sin
@@ -14,6 +14,13 @@ RATE = 8000
 
 def write(name, samples):
     (HERE / name).write_bytes(pack(f"<{len(samples)}h", *samples))
+
+
+def mu_law(sample):
+    """The mu-law code of a sample (G.711, table 2), as it stands in a file of such codes."""
+    magnitude = min(abs(sample) >> 2, 8158) + 33
+    segment = magnitude.bit_length() - 6
+    return ~((0x80 if sample < 0 else 0) | segment << 4 | (magnitude >> segment + 1) & 15) & 0xFF
 
 
 def tone(frequency, level, count):
@@ -46,6 +53,7 @@ write("compaction/input.raw", tone(400, 10000, 96))
 write("companded_line/input.raw", mixed([0, -1, 32767, -32768] + [0] * 156, [0] * 4 + [x * n // 156 for n, x in enumerate(tone(440, 30000, 156))]))
 write("dtmf_digit/input.raw", mixed(tone(770, 8000, 204), tone(1336, 8000, 204)) + [0] * 204)
 write("chain_of_three/input.raw", mixed(tone(250, 9000, 160), tone(50, 9000, 160)))
+(HERE / "between_laws/input.ul").write_bytes(bytes(mu_law(x) for x in mixed(tone(440, 9000, 1184), tone(50, 9000, 1184))))
 
 print("dtmf_digit, low pass:", *low_pass(24, 1900))
 for pitch in (697, 770, 852, 941, 1209, 1336, 1477, 1633):

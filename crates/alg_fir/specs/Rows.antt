@@ -46,13 +46,13 @@ pub record TableRows : Type 0 where
   pub filter : fir_meaning.table (record {}) mean ≡ Some (
       object
       ∷ record { size = 3; align = 4; space = Saram; attr = Persist; base = 0 }
-      ∷ record { size = 257; align = 16; space = Daram; attr = Scratch; base = 0 }
+      ∷ record { size = 1025; align = 16; space = Daram; attr = Scratch; base = 0 }
       ∷ [])
   pub decimator : decim_meaning.table (record {}) (pos 2 ∷ mean) ≡ Some (
       object
       ∷ record { size = 2; align = 4; space = Saram; attr = Persist; base = 0 }
       ∷ record { size = 3; align = 8; space = External; attr = WriteOnce; base = 0 }
-      ∷ record { size = 257; align = 16; space = Daram; attr = Scratch; base = 0 }
+      ∷ record { size = 1025; align = 16; space = Daram; attr = Scratch; base = 0 }
       ∷ [])
 
 -- whether parameters are taken

@@ -154,7 +154,7 @@ impl<const KEPT: usize, const CONSTANTS: usize, const RING: usize> Instance<KEPT
 #[test]
 fn each_second_output_is_given(rt: HostRuntime) {
     let p = words(&rt, &[2, 16384, 16384]);
-    let mut halver: Instance<2, 3, 257> = Instance::start(&rt, &p);
+    let mut halver: Instance<2, 3, 1_025> = Instance::start(&rt, &p);
     assert!(rt; halver.object == [2, 8, 24, 16]);
     assert!(rt; halver.constants == [2, 16384, 16384]);
     let out = halver.feed(&[2, 4, 6]);
@@ -168,7 +168,7 @@ fn each_second_output_is_given(rt: HostRuntime) {
 #[test]
 fn a_reset_clears_the_phase(rt: HostRuntime) {
     let p = words(&rt, &[2, 16384, 16384]);
-    let mut halver: Instance<2, 3, 257> = Instance::start(&rt, &p);
+    let mut halver: Instance<2, 3, 1_025> = Instance::start(&rt, &p);
     let _out = halver.feed(&[2, 4, 6]);
     assert!(rt; halver.control(&Ctl::Reset) == Status::Done);
     let out = halver.feed(&[10]);
@@ -180,7 +180,7 @@ fn a_reset_clears_the_phase(rt: HostRuntime) {
 #[test]
 fn moved_and_freed(rt: HostRuntime) {
     let p = words(&rt, &[1, 16384, 16384]);
-    let mut each: Instance<2, 3, 257> = Instance::start(&rt, &p);
+    let mut each: Instance<2, 3, 1_025> = Instance::start(&rt, &p);
     let out = each.feed(&[2, 4]);
     assert!(rt; out.as_slice() == [1, 3].as_slice());
     each.move_constants(&rt, 40);
@@ -221,12 +221,12 @@ fn loud_samples(rt: &impl Abort, count: usize) -> Block {
 fn assert_thinned(rt: &impl Abort, factor: i16) {
     let values = loud_parameters(factor);
     let p = words(rt, &values);
-    let mut decimator: Instance<64, 65, 319> = Instance::start(rt, &p);
-    let (mut filter, mut line) = ([0; 127], [0; 319]);
+    let mut decimator: Instance<64, 65, 1_087> = Instance::start(rt, &p);
+    let (mut filter, mut line) = ([0; 127], [0; 1_087]);
     Fir::start(&values[1..], &mut filter);
     Fir::restore(&filter, &mut line);
     let mut number: i16 = 0;
-    for count in [256, 100, 7, 1, 255, 256, 64] {
+    for count in [1_024, 100, 7, 1, 255, 1_024, 64] {
         let input = loud_samples(rt, count);
         let out = decimator.feed(input.as_slice());
         let mut wanted = Block::new();
@@ -295,7 +295,7 @@ fn assert_table(rt: &impl Abort, parameters: usize, kept: u32, constants: u32, r
 
 #[test]
 fn decimator_tables_by_their_numbers(rt: HostRuntime) {
-    assert_table(&rt, 2, 1, 2, 256);
-    assert_table(&rt, 3, 2, 3, 257);
-    assert_table(&rt, 65, 64, 65, 319);
+    assert_table(&rt, 2, 1, 2, 1_024);
+    assert_table(&rt, 3, 2, 3, 1_025);
+    assert_table(&rt, 65, 64, 65, 1_087);
 }

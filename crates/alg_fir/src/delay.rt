@@ -5,7 +5,7 @@ ghost use Rattle.ialg.specs.History.{History, words_in_force};
 ghost use Rattle.fir_kernel.specs.Rings.{IsRing};
 ghost use Rattle.alg_fir.specs.Keeps.{AreOutputs, KeepsPast, KeepsRing, Ran};
 
-use fir_kernel::{MOST_COEFFICIENTS, enter, filter, unroll};
+use fir_kernel::{MOST_COEFFICIENTS, SHORT_BLOCK, enter, filter, unroll};
 use ialg::{BLOCK_SAMPLES, Block, place};
 
 /// The most words of a delay line.
@@ -13,6 +13,9 @@ pub(crate) const MOST_RING_WORDS: usize = MOST_COEFFICIENTS - 1 + BLOCK_SAMPLES;
 
 /// The words of a line of past samples and a block, with a run of taps at its end.
 const LINE_WORDS: usize = MOST_COEFFICIENTS + BLOCK_SAMPLES;
+
+/// The words of such a line for a short block.
+const SHORT_LINE_WORDS: usize = MOST_COEFFICIENTS + SHORT_BLOCK;
 
 /// The samples of a block for which there is an output: the sample `first`, and each `step`-th after it.
 #[derive(Clone, Copy, PartialEq, Eq, Debug)]
@@ -61,11 +64,45 @@ pub(crate) fn run_block(
         → IsRing (length p - 1) (length ring.old - 1) ring.old next h
         → Ran p h input.now ring.new × AreOutputs p h input.now taken.first taken.step out.new.items }
 {
+    if input.len() <= SHORT_BLOCK {
+        run_line::<SHORT_LINE_WORDS>(coefficients, ring, next, input, taken, out);
+    } else {
+        run_line::<LINE_WORDS>(coefficients, ring, next, input, taken, out);
+    }
+}
+
+/// Runs a filter over a block as [`run_block`] does, in a line of `N` words, which are cleared first.
+fn run_line<const N: usize>(
+    coefficients: &[i16],
+    ring: &mut [i16],
+    next: usize,
+    input: &[i16],
+    taken: Taken,
+    out: &mut Block,
+)
+    requires some { 1 ≤ length coefficients.now }
+    requires few { length coefficients.now ≤ MOST_COEFFICIENTS }
+    requires room { length coefficients.now ≤ length ring.old }
+    requires small { length ring.old ≤ MOST_RING_WORDS }
+    requires next { next + 1 < length ring.old }
+    requires within { length input.now ≤ BLOCK_SAMPLES }
+    requires line { MOST_COEFFICIENTS + length input.now ≤ N }
+    requires array { N ≤ LINE_WORDS }
+    requires reach { (i : ℕ) → i < taken.count → taken.first + taken.step * i < length input.now }
+    requires count { taken.count ≤ length input.now }
+    requires empty { out.old.items ≡ [] }
+    ensures count { length out.new.items ≡ taken.count }
+    ensures law { (p : List ℤ) (h : History) → coefficients.now ≡ words_in_force p h
+        → length coefficients.now ≡ length p → length ring.old ≡ length p - 1 + BLOCK_SAMPLES
+        → IsRing (length p - 1) (length ring.old - 1) ring.old next h
+        → Ran p h input.now ring.new × AreOutputs p h input.now taken.first taken.step out.new.items }
+{
     let past = coefficients.len() - 1;
     let size = ring.len() - 1;
-    let mut line = [0; LINE_WORDS];
+    let mut line = [0; N];
     unroll(ring, size, next, past, &mut line, 0);
     place(&mut line, past, input);
+    // the filter writes over these samples: they give the outputs their room
     let _fits = out.try_extend_from_slice(&input[..taken.count]);
     filter(
         coefficients,

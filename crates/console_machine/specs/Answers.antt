@@ -17,7 +17,8 @@ use Rattle.voice_script.specs.Replies as replies
 use Rattle.voice_script.specs.Replies.{Reply, No, reply_text}
 use Rattle.line_machine.specs.Served.{Asked, Nothing, Machine, Answer, tells}
 use Rattle.line_machine.specs.Computed.{Computed, lines_answer, machine_of}
-use Rattle.console_machine.specs.Samples.{octets_of, samples_of}
+use Rattle.line_machine.specs.Widths.{Widths}
+use Rattle.console_machine.specs.Samples.{octets_at, samples_at}
 use Rattle.console_machine.specs.Console.{done, status_told, flag_told, activity_told, feed_asked, start}
 
 module _ {M : Type 0} where
@@ -35,47 +36,47 @@ module _ {M : Type 0} (kinds : Meaning M) where
       tell_of_host before status_told (host.control before.host i c (accepted kinds x c) (status_at kinds x c))
 
   -- what the command asks, and the channels after it
-  abbrev pub command_asks : Channels M → Command M → Asked × Channels M
-  command_asks before (Create i kind g words) = tell_of_host before done (host.create before.host i kind g words (kinds.table kind words))
-  command_asks before (Set i words) = control_asks before i (history.Set words)
-  command_asks before (Reset i) = control_asks before i history.Reset
-  command_asks before (Get i) = control_asks before i history.Get
-  command_asks before (Delete i) = tell done (channels.delete before i)
-  command_asks before (Chain c is) = tell done (channels.chain before c is)
-  command_asks before (Unchain c) = tell done (channels.unchain before c)
-  command_asks before (Feed c n) = let o = channels.ready before c in (feed_asked c n o.0, o.1)
-  command_asks before (Compact space) = tell_of_host before replies.Count (host.compact before.host space)
-  command_asks before (Step space) = tell_of_host before replies.Flag (host.step before.host space)
-  command_asks before (Release g) = tell_of_host before flag_told (host.release before.host g)
-  command_asks before (Map space) = (tells (replies.Map (blocks_in before.host.picture space)), before)
-  command_asks before (Stat g) = tell_of_host before activity_told (host.stat before.host g)
+  abbrev pub command_asks : Widths → Channels M → Command M → Asked × Channels M
+  command_asks widths before (Create i kind g words) = tell_of_host before done (host.create before.host i kind g words (kinds.table kind words))
+  command_asks widths before (Set i words) = control_asks before i (history.Set words)
+  command_asks widths before (Reset i) = control_asks before i history.Reset
+  command_asks widths before (Get i) = control_asks before i history.Get
+  command_asks widths before (Delete i) = tell done (channels.delete before i)
+  command_asks widths before (Chain c is) = tell done (channels.chain before c is)
+  command_asks widths before (Unchain c) = tell done (channels.unchain before c)
+  command_asks widths before (Feed c n) = let o = channels.ready before c in (feed_asked (widths.input c) c n o.0, o.1)
+  command_asks widths before (Compact space) = tell_of_host before replies.Count (host.compact before.host space)
+  command_asks widths before (Step space) = tell_of_host before replies.Flag (host.step before.host space)
+  command_asks widths before (Release g) = tell_of_host before flag_told (host.release before.host g)
+  command_asks widths before (Map space) = (tells (replies.Map (blocks_in before.host.picture space)), before)
+  command_asks widths before (Stat g) = tell_of_host before activity_told (host.stat before.host g)
 
-  abbrev pub line_asks : Channels M → Result (Option (Command M)) Refusal → Asked × Channels M
-  line_asks before (Ok (Some command)) = command_asks before command
-  line_asks before (Ok None) = (Nothing, before)
-  line_asks before (Err refusal) = (tells (No refusal), before)
+  abbrev pub line_asks : Widths → Channels M → Result (Option (Command M)) Refusal → Asked × Channels M
+  line_asks widths before (Ok (Some command)) = command_asks widths before command
+  line_asks widths before (Ok None) = (Nothing, before)
+  line_asks widths before (Err refusal) = (tells (No refusal), before)
 
   -- what a channel gives for a block of samples, and the host after it
-  abbrev pub feed_passed : Channels M → ℕ → List ℕ → List ℤ × State M
-  feed_passed before c octets = passed kinds before.host (members_at before.chained c) (samples_of octets)
+  abbrev pub feed_passed : Widths → Channels M → ℕ → List ℕ → List ℤ × State M
+  feed_passed widths before c octets = passed kinds before.host (members_at before.chained c) (samples_at (widths.input c) octets)
 
-  abbrev pub computed_console : (List ℕ → Option M) → Computed (Channels M)
-  computed_console named = record {
-    asked = λ before line. (line_asks before (parsed named line)).0;
-    after = λ before line. (line_asks before (parsed named line)).1;
-    output = λ before c octets. octets_of (feed_passed before c octets).0;
-    told = λ before c octets. reply_text (replies.Count (length (feed_passed before c octets).0));
-    fed = λ before c octets. on_host before (feed_passed before c octets).1;
+  abbrev pub computed_console : (List ℕ → Option M) → Widths → Computed (Channels M)
+  computed_console named widths = record {
+    asked = λ before line. (line_asks widths before (parsed named line)).0;
+    after = λ before line. (line_asks widths before (parsed named line)).1;
+    output = λ before c octets. octets_at (widths.output c) (feed_passed widths before c octets).0;
+    told = λ before c octets. reply_text (replies.Count (length (feed_passed widths before c octets).0));
+    fed = λ before c octets. on_host before (feed_passed widths before c octets).1;
   }
 
   -- the machine of consoles where the kinds are lawful
-  abbrev pub lawful_console : (List ℕ → Option M) → Machine (Channels M)
-  lawful_console named = machine_of (computed_console named)
+  abbrev pub lawful_console : (List ℕ → Option M) → Widths → Machine (Channels M)
+  lawful_console named widths = machine_of (computed_console named widths)
 
   -- what is served for lines and the octets of the inputs: what is written, in order, and what is left of the inputs
-  abbrev pub lines_served : (List ℕ → Option M) → Sizes → List (List ℕ) → List (List ℕ) → Answer (Channels M)
-  lines_served named sizes lines inputs = lines_answer (computed_console named) (start sizes None inputs) lines
+  abbrev pub lines_served : (List ℕ → Option M) → Widths → Sizes → List (List ℕ) → List (List ℕ) → Answer (Channels M)
+  lines_served named widths sizes lines inputs = lines_answer (computed_console named widths) (start sizes None inputs) lines
 
   -- for a whole script
-  abbrev pub served : (List ℕ → Option M) → Sizes → List ℕ → List (List ℕ) → Answer (Channels M)
-  served named sizes script inputs = lines_served named sizes (lines_of script) inputs
+  abbrev pub served : (List ℕ → Option M) → Widths → Sizes → List ℕ → List (List ℕ) → Answer (Channels M)
+  served named widths sizes script inputs = lines_served named widths sizes (lines_of script) inputs

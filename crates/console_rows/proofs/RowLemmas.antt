@@ -4,8 +4,12 @@ use Rattle.std.specs.Fmt.{digits}
 use Rattle.alg_g711.specs.Companding.{interval_of}
 use Rattle.line_machine.specs.Served.{held_by, order_of, refusals}
 use Rattle.line_machine.specs.Computed.{line_answer, lines_answer}
-use Rattle.console_rows.specs.Rows.{WorkedRows, OutputOrder}
+use Rattle.console_rows.specs.Rows.{WorkedRows, OctetRows, OutputOrder}
 use Rattle.console_rows.specs.RefusalRows.{RefusalRows}
+
+pub octet_rows : OctetRows
+unfolding digits interval_of held_by order_of refusals line_answer lines_answer
+octet_rows = record { decoded = refl; encoded = refl; seven = refl; each_by_itself = refl }
 
 pub worked_rows : WorkedRows
 unfolding digits interval_of held_by order_of refusals line_answer lines_answer

@@ -5,7 +5,7 @@ use Rattle.console_rows.specs.Rows.{script_of, replies_of, ones, full, Serves, T
 -- each command is refused for the first of its reasons, though later ones hold too
 pub record RefusalRows : Type 0 where
   -- the text of numbers
-  pub numbers : Tells full (script_of "create 00 fir 0 032767; feed -0 1; feed 0 +1; feed 0 0; feed 0 257; feed 0 99999999999999999999999999999999")
+  pub numbers : Tells full (script_of "create 00 fir 0 032767; feed -0 1; feed 0 +1; feed 0 0; feed 0 1025; feed 0 99999999999999999999999999999999")
       (replies_of "ok/no 5 missing/no 2 syntax/no 3 range/no 3 range/no 3 range/") 5
   -- what is not in the grammar, before what is out of range
   pub syntax_first : Tells full (script_of "create 999 fir 0 x; control 999 set x; control 999 get 1; chain 999 x; feed 999 x; delete 999 1; release x; create 1 flute 999 1")
@@ -34,7 +34,7 @@ pub record RefusalRows : Type 0 where
       (replies_of "ok/ok/no 3 range/no 3 range/ok/no 3 range/no 4 taken/no 4 taken/no 5 missing/no 5 missing/no 8 busy/no 8 busy/ok/") ([] ∷ [] ∷ []) ([] ∷ [] ∷ []) 9
   pub unchains : Tells full (script_of "unchain 1; unchain 0; create 0 fir 0 1; chain 0 0; unchain 0; unchain 0")
       (replies_of "no 3 range/no 5 missing/ok/ok/ok/no 5 missing/") 3
-  pub feeds : Tells full (script_of "feed 1 1; feed 1 257; feed 0 257; feed 0 1; create 0 fir 0 1; chain 0 0; feed 0 1")
+  pub feeds : Tells full (script_of "feed 1 1; feed 1 1025; feed 0 1025; feed 0 1; create 0 fir 0 1; chain 0 0; feed 0 1")
       (replies_of "no 3 range/no 3 range/no 3 range/no 5 missing/ok/ok/no 10 short/") 5
   pub groups : Tells full (script_of "release 8; stat 8; release 7; stat 7")
       (replies_of "no 3 range/no 3 range/ok 0/ok - 0/") 2

@@ -8,6 +8,7 @@ use Rattle.voice_set.specs.declared.voice.Voice.{Voice}
 use Rattle.voice_set.specs.Voices.{voice_meaning, voice_named}
 use Rattle.channel_machine.specs.Channels.{Channels}
 use Rattle.line_machine.specs.Served.{Answer, held_by, order_of, refusals}
+use Rattle.line_machine.specs.Widths.{Widths, widths_of}
 use Rattle.console_machine.specs.Samples.{octets_of}
 use Rattle.console_machine.specs.Answers.{served}
 
@@ -46,11 +47,18 @@ seen answer =
       refused = refusals answer.written;
     }
 
--- this is served, in spaces of these sizes, for a script and the octets of the inputs
-abbrev pub Serves : Sizes → (script : List ℕ) → (inputs : List (List ℕ)) → (told : List ℕ) → (given left : List (List ℕ)) → ℕ → Type 0
-Serves sizes script inputs told given left refused =
-    seen (served voice_meaning voice_named sizes script inputs)
+-- this is served, over ports of these widths, in spaces of these sizes, for a script and the octets of the inputs
+abbrev pub ServesOver : Widths → Sizes → (script : List ℕ) → (inputs : List (List ℕ)) → (told : List ℕ) → (given left : List (List ℕ)) → ℕ → Type 0
+ServesOver widths sizes script inputs told given left refused =
+    seen (served voice_meaning voice_named widths sizes script inputs)
     ≡ record { replies = told; outputs = given; left = left; refused = refused }
+
+abbrev pub words : Widths
+words = widths_of 0 0
+
+-- the same where all ports are of words
+abbrev pub Serves : Sizes → (script : List ℕ) → (inputs : List (List ℕ)) → (told : List ℕ) → (given left : List (List ℕ)) → ℕ → Type 0
+Serves = ServesOver words
 
 -- the same for one input without octets
 abbrev pub Tells : Sizes → (script told : List ℕ) → ℕ → Type 0
@@ -82,22 +90,22 @@ pub record WorkedRows : Type 0 where
   pub frame : Serves full (script_of "create 0 tone 0 0 4 0; chain 0 0; feed 0 3; feed 0 1") (octets_of (pos 1000 ∷ pos 0 ∷ minus 1000 ∷ pos 0 ∷ []) ∷ [])
       (replies_of "ok/ok/ok 0/ok 1/") (octets_of (pos 122 ∷ []) ∷ []) ([] ∷ []) 0
   -- two channels' members work by turns in the same scratch
-  pub turns : Serves (record full { daram = 260 }) (script_of "create 0 fir 0 16384 16384; create 1 fir 0 16384 16384; chain 0 0; chain 1 1; feed 0 1; feed 1 1; feed 0 1; feed 1 1; stat 0; map daram; release 0; release 0; stat 0") (octets_of (pos 2 ∷ pos 4 ∷ []) ∷ octets_of (pos 10 ∷ pos 20 ∷ []) ∷ [])
-      (replies_of "ok/ok/ok/ok/ok 1/ok 1/ok 1/ok 1/ok 1 4/ok g0@0+260/ok 1/ok 0/ok - 4/") (octets_of (pos 1 ∷ pos 3 ∷ []) ∷ octets_of (pos 5 ∷ pos 15 ∷ []) ∷ []) ([] ∷ [] ∷ []) 0
+  pub turns : Serves (record full { daram = 1028 }) (script_of "create 0 fir 0 16384 16384; create 1 fir 0 16384 16384; chain 0 0; chain 1 1; feed 0 1; feed 1 1; feed 0 1; feed 1 1; stat 0; map daram; release 0; release 0; stat 0") (octets_of (pos 2 ∷ pos 4 ∷ []) ∷ octets_of (pos 10 ∷ pos 20 ∷ []) ∷ [])
+      (replies_of "ok/ok/ok/ok/ok 1/ok 1/ok 1/ok 1/ok 1 4/ok g0@0+1028/ok 1/ok 0/ok - 4/") (octets_of (pos 1 ∷ pos 3 ∷ []) ∷ octets_of (pos 5 ∷ pos 15 ∷ []) ∷ []) ([] ∷ [] ∷ []) 0
   -- a refused creation leaves no block
-  pub no_room : Tells (record full { daram = 260 }) (script_of "create 0 fir 0 16384 16384; create 1 fir 1 16384 16384; map daram; map saram; map external")
-      (replies_of "ok/no 7 room/ok g0@0+260/ok i0.r1@0+4/ok i0.r0@0+4/") 1
+  pub no_room : Tells (record full { daram = 1028 }) (script_of "create 0 fir 0 16384 16384; create 1 fir 1 16384 16384; map daram; map saram; map external")
+      (replies_of "ok/no 7 room/ok g0@0+1028/ok i0.r1@0+4/ok i0.r0@0+4/") 1
   -- the block of a group is replaced by a longer one
-  pub replaced : Serves (record full { daram = 536 }) (script_of "create 0 fir 0 16384 16384; chain 0 0; feed 0 1; create 1 fir 0 1 0 0 0 0 0 0 0 0; map daram; feed 0 1; stat 0") (octets_of (pos 2 ∷ pos 4 ∷ pos 6 ∷ []) ∷ [])
-      (replies_of "ok/ok/ok 1/ok/ok g0@272+264/ok 1/ok 0 2/") (octets_of (pos 1 ∷ pos 3 ∷ []) ∷ []) (octets_of (pos 6 ∷ []) ∷ []) 0
+  pub replaced : Serves (record full { daram = 2072 }) (script_of "create 0 fir 0 16384 16384; chain 0 0; feed 0 1; create 1 fir 0 1 0 0 0 0 0 0 0 0; map daram; feed 0 1; stat 0") (octets_of (pos 2 ∷ pos 4 ∷ pos 6 ∷ []) ∷ [])
+      (replies_of "ok/ok/ok 1/ok/ok g0@1040+1032/ok 1/ok 0 2/") (octets_of (pos 1 ∷ pos 3 ∷ []) ∷ []) (octets_of (pos 6 ∷ []) ∷ []) 0
   -- the old block stands while the new one is placed
-  pub not_replaced : Serves (record full { daram = 532 }) (script_of "create 0 fir 0 16384 16384; chain 0 0; feed 0 1; create 1 fir 0 1 0 0 0 0 0 0 0 0; map daram; feed 0 1; stat 0") (octets_of (pos 2 ∷ pos 4 ∷ pos 6 ∷ []) ∷ [])
-      (replies_of "ok/ok/ok 1/no 7 room/ok g0@0+260/ok 1/ok 0 1/") (octets_of (pos 1 ∷ pos 3 ∷ []) ∷ []) (octets_of (pos 6 ∷ []) ∷ []) 1
+  pub not_replaced : Serves (record full { daram = 2068 }) (script_of "create 0 fir 0 16384 16384; chain 0 0; feed 0 1; create 1 fir 0 1 0 0 0 0 0 0 0 0; map daram; feed 0 1; stat 0") (octets_of (pos 2 ∷ pos 4 ∷ pos 6 ∷ []) ∷ [])
+      (replies_of "ok/ok/ok 1/no 7 room/ok g0@0+1028/ok 1/ok 0 1/") (octets_of (pos 1 ∷ pos 3 ∷ []) ∷ []) (octets_of (pos 6 ∷ []) ∷ []) 1
   pub set_and_reset : Serves full (script_of "create 0 fir 0 16384 16384; chain 0 0; feed 0 1; control 0 set 8192 16384; feed 0 1; control 0 get; control 0 reset; feed 0 1") (octets_of (pos 2 ∷ pos 4 ∷ pos 6 ∷ []) ∷ [])
       (replies_of "ok/ok/ok 1/ok/ok 1/ok 8192 16384/ok/ok 1/") (octets_of (pos 1 ∷ pos 2 ∷ pos 2 ∷ []) ∷ []) ([] ∷ []) 0
   -- an active member stays active while its scratch moves
-  pub compacted : Serves (record full { daram = 536 }) (script_of "create 0 fir 0 16384 16384; chain 0 0; feed 0 1; create 1 fir 0 1 0 0 0 0 0 0 0 0; map daram; feed 0 1; stat 0; compact daram; map daram; feed 0 1; stat 0") (octets_of (pos 2 ∷ pos 4 ∷ pos 6 ∷ []) ∷ [])
-      (replies_of "ok/ok/ok 1/ok/ok g0@272+264/ok 1/ok 0 2/ok 1/ok g0@0+264/ok 1/ok 0 2/") (octets_of (pos 1 ∷ pos 3 ∷ pos 5 ∷ []) ∷ []) ([] ∷ []) 0
+  pub compacted : Serves (record full { daram = 2072 }) (script_of "create 0 fir 0 16384 16384; chain 0 0; feed 0 1; create 1 fir 0 1 0 0 0 0 0 0 0 0; map daram; feed 0 1; stat 0; compact daram; map daram; feed 0 1; stat 0") (octets_of (pos 2 ∷ pos 4 ∷ pos 6 ∷ []) ∷ [])
+      (replies_of "ok/ok/ok 1/ok/ok g0@1040+1032/ok 1/ok 0 2/ok 1/ok g0@0+1032/ok 1/ok 0 2/") (octets_of (pos 1 ∷ pos 3 ∷ pos 5 ∷ []) ∷ []) ([] ∷ []) 0
   -- the gap that an alignment makes is none
   pub packed : Tells full (script_of "create 0 decim 0 2 1 1 1; map external; compact external; step external")
       (replies_of "ok/ok i0.r0@0+4 i0.r2@8+4/ok 0/ok 0/") 0
@@ -121,7 +129,7 @@ pub record WorkedRows : Type 0 where
       (replies_of "ok/ok/ok/ok 0/ok - 0/ok 1/ok 1 1/") (octets_of (pos 2 ∷ []) ∷ []) ([] ∷ []) 0
   -- a block moves onto a part of itself
   pub overlapping_moves : Serves full (script_of "create 0 biquad 0 16384 0 0 0 0; create 1 fir 1 16384 16384; chain 0 1; feed 0 1; delete 0; map daram; step daram; map daram; feed 0 1; step daram; compact saram; compact external; feed 0 1") (octets_of (pos 2 ∷ pos 4 ∷ pos 6 ∷ []) ∷ [])
-      (replies_of "ok/ok/ok/ok 1/ok/ok g1@16+260/ok 1/ok g1@0+260/ok 1/ok 0/ok 1/ok 1/ok 1/") (octets_of (pos 1 ∷ pos 3 ∷ pos 5 ∷ []) ∷ []) ([] ∷ []) 0
+      (replies_of "ok/ok/ok/ok 1/ok/ok g1@16+1028/ok 1/ok g1@0+1028/ok 1/ok 0/ok 1/ok 1/ok 1/") (octets_of (pos 1 ∷ pos 3 ∷ pos 5 ∷ []) ∷ []) ([] ∷ []) 0
   pub no_daram : Tells (record full { daram = 0 }) (script_of "create 0 fir 0 1; create 1 g711 0 0 0")
       (replies_of "no 7 room/ok/") 1
   pub some_left : Serves full (script_of "create 0 fir 0 16384; chain 0 0; feed 0 1") (octets_of (pos 2 ∷ pos 4 ∷ []) ∷ [])
@@ -137,10 +145,25 @@ pub record WorkedRows : Type 0 where
       (replies_of "no 5 missing/") 1
   pub two_returns : Tells full (codes "feed 0 1" ++ 13 ∷ 13 ∷ [])
       (replies_of "no 2 syntax/") 1
-  pub longest_feed : Serves full (script_of "create 0 fir 0 16384; chain 0 0; feed 0 256; feed 0 257") (octets_of (replicate 256 (pos 2)) ∷ [])
-      (replies_of "ok/ok/ok 256/no 3 range/") (octets_of (replicate 256 (pos 1)) ∷ []) ([] ∷ []) 1
+  pub longest_feed : Serves full (script_of "create 0 fir 0 16384; chain 0 0; feed 0 1024; feed 0 1025") (octets_of (replicate 1024 (pos 2)) ∷ [])
+      (replies_of "ok/ok/ok 1024/no 3 range/") (octets_of (replicate 1024 (pos 1)) ∷ []) ([] ∷ []) 1
+
+-- rows over octet ports
+pub record OctetRows : Type 0 where
+  -- each octet is a sample, 0 to 255
+  pub decoded : ServesOver (widths_of 1 0) full (script_of "create 0 g711 0 1 1; chain 0 0; feed 0 3") ((128 ∷ 0 ∷ 255 ∷ []) ∷ [])
+      (replies_of "ok/ok/ok 3/") ((124 ∷ 125 ∷ 132 ∷ 130 ∷ 0 ∷ 0 ∷ []) ∷ []) ([] ∷ []) 0
+  -- a sample's low eight bits are its octet
+  pub encoded : ServesOver (widths_of 0 1) full (script_of "create 0 g711 0 1 0; chain 0 0; feed 0 3") (octets_of (pos 0 ∷ minus 1 ∷ pos 32767 ∷ []) ∷ [])
+      (replies_of "ok/ok/ok 3/") ((255 ∷ 127 ∷ 128 ∷ []) ∷ []) ([] ∷ []) 0
+  -- a feed takes as many octets as samples
+  pub seven : ServesOver (widths_of 1 0) full (script_of "create 0 fir 0 16384; chain 0 0; feed 0 4; feed 0 3; feed 0 1") ((2 ∷ 4 ∷ 6 ∷ 8 ∷ 10 ∷ 12 ∷ 255 ∷ []) ∷ [])
+      (replies_of "ok/ok/ok 4/ok 3/no 10 short/") (octets_of (pos 1 ∷ pos 2 ∷ pos 3 ∷ pos 4 ∷ pos 5 ∷ pos 6 ∷ pos 128 ∷ []) ∷ []) ([] ∷ []) 1
+  -- the low bit is of channel 0, and bits of channels that aren't there have no effect
+  pub each_by_itself : ServesOver (widths_of 65533 65534) full (script_of "create 0 fir 0 16384; create 1 fir 1 16384; chain 0 0; chain 1 1; feed 0 1; feed 1 1") ((4 ∷ 2 ∷ []) ∷ (6 ∷ 2 ∷ []) ∷ [])
+      (replies_of "ok/ok/ok/ok/ok 1/ok 1/") ((2 ∷ 0 ∷ []) ∷ (3 ∷ []) ∷ []) ((2 ∷ []) ∷ [] ∷ []) 0
 
 -- of a feed the output's octets come before its reply
 pub record OutputOrder : Type 0 where
-  pub order : order_of (served voice_meaning voice_named full (script_of "create 0 fir 0 16384; chain 0 0; feed 0 1") (octets_of (pos 2 ∷ []) ∷ [])).written
+  pub order : order_of (served voice_meaning voice_named words full (script_of "create 0 fir 0 16384; chain 0 0; feed 0 1") (octets_of (pos 2 ∷ []) ∷ [])).written
       ≡ map (λ b. (None, b)) (replies_of "ok/ok/") ++ map (λ b. (Some 0, b)) (octets_of (pos 1 ∷ [])) ++ map (λ b. (None, b)) (replies_of "ok 1/")

@@ -12,6 +12,10 @@ pub struct Arguments<'a> {
     pub sizes: Sizes,
     /// What new and resting memory is filled with, if with anything.
     pub poison: Option<i16>,
+    /// Whose inputs are octet ports: the bit of each such channel is set.
+    pub in8: u16,
+    /// Whose outputs are octet ports.
+    pub out8: u16,
     /// Each channel's input and output, from channel 0.
     pub ports: ArrayVec<(&'a str, &'a str), PORT_PAIRS>,
 }

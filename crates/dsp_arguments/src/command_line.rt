@@ -20,6 +20,16 @@ fn space_option(alloc: Global, space: &'static str) -> Arg<'static> {
         .value_parser(clap::value_parser!(u32))
 }
 
+/// An option for the channels whose ports carry octets.
+fn mask_option(alloc: Global, name: &'static str, help: &'static str) -> Arg<'static> {
+    Arg::new(alloc, name)
+        .long(name)
+        .value_name("MASK")
+        .help(help)
+        .action(ArgAction::Set)
+        .value_parser(clap::value_parser!(u16))
+}
+
 /// What `clap` finds in the words, which don't begin with the program's name.
 fn matches<'a>(alloc: Global, words: &'a [&'a str]) -> Result<ArgMatches<'a>, Error> {
     let poison = Arg::new(alloc, "poison")
@@ -30,6 +40,16 @@ fn matches<'a>(alloc: Global, words: &'a [&'a str]) -> Result<ArgMatches<'a>, Er
         )
         .action(ArgAction::Set)
         .value_parser(clap::value_parser!(u16));
+    let in8 = mask_option(
+        alloc,
+        "in8",
+        "The channels, a bit each, whose IN is of samples of one octet, 0 to 255: 0 to 65535; without it none",
+    );
+    let out8 = mask_option(
+        alloc,
+        "out8",
+        "The channels, a bit each, whose OUT takes of each sample the low octet alone: 0 to 65535; without it none",
+    );
     let script = Arg::new(alloc, "SCRIPT")
         .help("The file of commands, a line each")
         .required(true)
@@ -48,6 +68,8 @@ fn matches<'a>(alloc: Global, words: &'a [&'a str]) -> Result<ArgMatches<'a>, Er
         .arg(space_option(alloc, "saram"))?
         .arg(space_option(alloc, "external"))?
         .arg(poison)?
+        .arg(in8)?
+        .arg(out8)?
         .arg(script)?
         .arg(ports)?
         .try_get_matches_from(words)
@@ -56,6 +78,11 @@ fn matches<'a>(alloc: Global, words: &'a [&'a str]) -> Result<ArgMatches<'a>, Er
 /// The size that an option gives, and the most words of a space where it isn't given.
 fn size_of(matches: &ArgMatches<'_>, space: &str) -> u32 {
     matches.get_one(space).unwrap_or(SPACE_WORDS)
+}
+
+/// The mask that an option gives, and none where it isn't given.
+fn mask_of(matches: &ArgMatches<'_>, name: &str) -> u16 {
+    matches.get_one(name).unwrap_or(0)
 }
 
 /// Parses the words of a command line, the program's name not among them: options, SCRIPT, and the ports behind it in pairs.
@@ -83,6 +110,8 @@ pub fn arguments<'a>(alloc: Global, words: &'a [&'a str]) -> Result<Arguments<'a
             external: size_of(&matches, "external"),
         },
         poison: poison.map(|word| word.cast_signed()),
+        in8: mask_of(&matches, "in8"),
+        out8: mask_of(&matches, "out8"),
         ports,
     })
 }

@@ -14,14 +14,36 @@ fn sizes(daram: u32, saram: u32, external: u32) -> Sizes {
     }
 }
 
+/// What options say.
+#[derive(Clone, Copy)]
+struct Options {
+    sizes: Sizes,
+    poison: Option<i16>,
+    in8: u16,
+    out8: u16,
+}
+
+/// What a command line without options says.
+const DEFAULTS: Options = Options {
+    sizes: Sizes {
+        daram: 65_536,
+        saram: 65_536,
+        external: 65_536,
+    },
+    poison: None,
+    in8: 0,
+    out8: 0,
+};
+
 /// Reads a command line with the script `s` and the ports `a` and `b`, and compares the options.
-fn assert_read<R: Abort + AllocGlobal>(rt: &R, words: &[&str], sizes: Sizes, poison: Option<i16>) {
+fn assert_read<R: Abort + AllocGlobal>(rt: &R, words: &[&str], wanted: Options) {
     let Ok(given) = arguments(rt.alloc(), words) else {
         panic!(rt; "refused");
     };
     assert!(rt; given.script == "s" && given.ports.as_slice() == [("a", "b")].as_slice());
-    assert!(rt; given.sizes == sizes);
-    assert!(rt; given.poison == poison);
+    assert!(rt; given.sizes == wanted.sizes);
+    assert!(rt; given.poison == wanted.poison);
+    assert!(rt; given.in8 == wanted.in8 && given.out8 == wanted.out8);
 }
 
 #[test]
@@ -35,12 +57,22 @@ fn reads_arguments(rt: HostRuntime) {
         "16",
         "--poison",
         "65535",
+        "--in8",
+        "1",
+        "--out8",
+        "2",
         "s",
         "a",
         "b",
     ];
-    assert_read(&rt, &words, sizes(8, 12, 16), Some(-1));
-    assert_read(&rt, &["s", "a", "b"], sizes(65_536, 65_536, 65_536), None);
+    let wanted = Options {
+        sizes: sizes(8, 12, 16),
+        poison: Some(-1),
+        in8: 1,
+        out8: 2,
+    };
+    assert_read(&rt, &words, wanted);
+    assert_read(&rt, &["s", "a", "b"], DEFAULTS);
 }
 
 #[test]
@@ -54,9 +86,32 @@ fn zero_is_a_size_and_a_poison_word(rt: HostRuntime) {
         "a",
         "b",
     ];
-    assert_read(&rt, &words, sizes(0, 0, 0), Some(0));
+    let none = Options {
+        sizes: sizes(0, 0, 0),
+        poison: Some(0),
+        ..DEFAULTS
+    };
+    assert_read(&rt, &words, none);
     let words = ["--poison=32768", "s", "a", "b"];
-    assert_read(&rt, &words, sizes(65_536, 65_536, 65_536), Some(-32_768));
+    let least = Options {
+        poison: Some(-32_768),
+        ..DEFAULTS
+    };
+    assert_read(&rt, &words, least);
+}
+
+#[test]
+fn each_mask_goes_by_itself(rt: HostRuntime) {
+    let ins = Options {
+        in8: 65_535,
+        ..DEFAULTS
+    };
+    assert_read(&rt, &["--in8=65535", "s", "a", "b"], ins);
+    let outs = Options {
+        out8: 32_768,
+        ..DEFAULTS
+    };
+    assert_read(&rt, &["--out8=32768", "--in8=0", "s", "a", "b"], outs);
 }
 
 /// Whether these words, parted by blanks, aren't taken, and by `clap` or since the ports aren't in pairs.
@@ -78,6 +133,10 @@ fn refuses_arguments(rt: HostRuntime) -> Result<(), Fail> {
     for line in [
         "--poison 65536 s a b",
         "--poison -1 s a b",
+        "--in8 65536 s a b",
+        "--out8 65536 s a b",
+        "--out8 -1 s a b",
+        "--in8 1 --in8 1 s a b",
         "--daram 4294967296 s a b",
         "--daram x s a b",
         "--flute s a b",
@@ -181,6 +240,8 @@ fn help_names_the_words_and_their_units(rt: HostRuntime) -> Result<(), Fail> {
         "  [IN OUT]...  1 to 16 pairs of files of samples of 16 bits, the low octet first",
         "--daram <WORDS>     The size of the space in words of 16 bits: 0 to 65536, a multiple of 4",
         "--poison <WORD>     Fill new and resting memory with this word of 16 bits: 0 to 65535",
+        "--in8 <MASK>        The channels, a bit each, whose IN is of samples of one octet, 0 to 255: 0 to 65535",
+        "--out8 <MASK>       The channels, a bit each, whose OUT takes of each sample the low octet alone: 0 to 65535",
     ] {
         assert!(rt; shown.contains(part));
     }

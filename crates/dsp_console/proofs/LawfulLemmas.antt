@@ -9,6 +9,7 @@ use Rattle.channel_machine.specs.Channels.{Channels}
 use Rattle.voice_script.specs.Script.{lines_of}
 use Rattle.line_machine.specs.Served.{Answer, LinesAnswer, order_of, refusals}
 use Rattle.line_machine.specs.Computed.{IsComputed}
+use Rattle.line_machine.specs.Widths.{Widths}
 use Rattle.script_server.specs.Runs.{Devices, EndsByRead, EndsByWrite, EndsWell, IsHonest, Writes, octets_to_come}
 use Rattle.script_server.proofs.ComputedEnds as computed_ends
 use Rattle.channel_machine.specs.Laws.{with_poison}
@@ -18,34 +19,34 @@ use Rattle.dsp_console.specs.Lawful.{EndsLawfullyByRead, EndsLawfullyByWrite, Se
 
 -- a console of lawful kinds serves one answer
 abbrev pub ServesOne : Type 0 → Type 0
-ServesOne M = (kinds : Meaning M) (named : List ℕ → Option M) (sizes : Sizes) (poison : Option ℤ) (script : List ℕ) (inputs : List (List ℕ)) (answer : Answer (Channels M))
-    → AreLawful kinds poison → LinesAnswer (console_machine kinds named) (start sizes poison inputs) (lines_of script) answer
-    → (answer.written ≡ (served kinds named sizes script inputs).written) × (answer.run.inputs ≡ (served kinds named sizes script inputs).run.inputs)
+ServesOne M = (kinds : Meaning M) (named : List ℕ → Option M) (widths : Widths) (sizes : Sizes) (poison : Option ℤ) (script : List ℕ) (inputs : List (List ℕ)) (answer : Answer (Channels M))
+    → AreLawful kinds poison → LinesAnswer (console_machine kinds named widths) (start sizes poison inputs) (lines_of script) answer
+    → (answer.written ≡ (served kinds named widths sizes script inputs).written) × (answer.run.inputs ≡ (served kinds named widths sizes script inputs).run.inputs)
 
-serves_lawfully : {M : Type 0} (kinds : Meaning M) (named : List ℕ → Option M) (sizes : Sizes) (poison : Option ℤ) (refused : ℕ) (old new : Devices)
+serves_lawfully : {M : Type 0} (kinds : Meaning M) (named : List ℕ → Option M) (widths : Widths) (sizes : Sizes) (poison : Option ℤ) (refused : ℕ) (old new : Devices)
     → ServesOne M → AreLawful kinds poison → IsHonest old.script → All IsHonest old.inputs
-    → EndsWell (console_machine kinds named) (start sizes poison (octets_to_come old.inputs)) refused old new → ServesLawfully kinds named sizes refused old new
-serves_lawfully kinds named sizes poison refused old new law lawful script inputs ends =
+    → EndsWell (console_machine kinds named widths) (start sizes poison (octets_to_come old.inputs)) refused old new → ServesLawfully kinds named widths sizes refused old new
+serves_lawfully kinds named widths sizes poison refused old new law lawful script inputs ends =
     let all = ends.serves.served script inputs in
-    let one = law kinds named sizes poison old.script.coming (octets_to_come old.inputs) all.answer lawful all.is_answer in
+    let one = law kinds named widths sizes poison old.script.coming (octets_to_come old.inputs) all.answer lawful all.is_answer in
     record {
       writes = subst (λ written. Writes (order_of written) old.outputs new.outputs old.replies new.replies) one.0 all.writes;
       inputs = sym one.1 ∙ all.inputs;
       counted = ap refusals (sym one.0) ∙ all.counted;
     }
 
-pub serve_lawfully : {M : Type 0} (kinds : Meaning M) (named : List ℕ → Option M) (sizes : Sizes) (poison : Option ℤ) (result : Result Summary Fault) (old new : Devices)
+pub serve_lawfully : {M : Type 0} (kinds : Meaning M) (named : List ℕ → Option M) (widths : Widths) (sizes : Sizes) (poison : Option ℤ) (result : Result Summary Fault) (old new : Devices)
     → ServesOne M → AreLawful kinds poison → IsHonest old.script → All IsHonest old.inputs
-    → IfOk result (λ summary. EndsWell (console_machine kinds named) (start sizes poison (octets_to_come old.inputs)) summary.refused old new)
-    → IfOk result (λ summary. ServesLawfully kinds named sizes summary.refused old new)
-serve_lawfully kinds named sizes poison (Ok summary) old new law lawful script inputs ends = serves_lawfully kinds named sizes poison summary.refused old new law lawful script inputs ends
-serve_lawfully kinds named sizes poison (Err fault) old new law lawful script inputs ends = tt
+    → IfOk result (λ summary. EndsWell (console_machine kinds named widths) (start sizes poison (octets_to_come old.inputs)) summary.refused old new)
+    → IfOk result (λ summary. ServesLawfully kinds named widths sizes summary.refused old new)
+serve_lawfully kinds named widths sizes poison (Ok summary) old new law lawful script inputs ends = serves_lawfully kinds named widths sizes poison summary.refused old new law lawful script inputs ends
+serve_lawfully kinds named widths sizes poison (Err fault) old new law lawful script inputs ends = tt
 
 -- and what it served where a fault ended it is what that machine serves
-module _ {M : Type 0} (kinds : Meaning M) (named : List ℕ → Option M) (sizes : Sizes) (poison : Option ℤ) (old new : Devices)
-    (is : IsComputed (console_machine kinds named) (computed_console kinds named) (with_poison poison)) where
-  pub lawfully_by_read : EndsByRead (console_machine kinds named) (start sizes poison (octets_to_come old.inputs)) old new → EndsLawfullyByRead kinds named sizes old new
-  lawfully_by_read = computed_ends.by_read (console_machine kinds named) (computed_console kinds named) (with_poison poison) is (start sizes None (octets_to_come old.inputs)) old new
+module _ {M : Type 0} (kinds : Meaning M) (named : List ℕ → Option M) (widths : Widths) (sizes : Sizes) (poison : Option ℤ) (old new : Devices)
+    (is : IsComputed (console_machine kinds named widths) (computed_console kinds named widths) (with_poison poison)) where
+  pub lawfully_by_read : EndsByRead (console_machine kinds named widths) (start sizes poison (octets_to_come old.inputs)) old new → EndsLawfullyByRead kinds named widths sizes old new
+  lawfully_by_read = computed_ends.by_read (console_machine kinds named widths) (computed_console kinds named widths) (with_poison poison) is (start sizes None (octets_to_come old.inputs)) old new
 
-  pub lawfully_by_write : EndsByWrite (console_machine kinds named) (start sizes poison (octets_to_come old.inputs)) old new → EndsLawfullyByWrite kinds named sizes old new
-  lawfully_by_write = computed_ends.by_write (console_machine kinds named) (computed_console kinds named) (with_poison poison) is (start sizes None (octets_to_come old.inputs)) old new
+  pub lawfully_by_write : EndsByWrite (console_machine kinds named widths) (start sizes poison (octets_to_come old.inputs)) old new → EndsLawfullyByWrite kinds named widths sizes old new
+  lawfully_by_write = computed_ends.by_write (console_machine kinds named widths) (computed_console kinds named widths) (with_poison poison) is (start sizes None (octets_to_come old.inputs)) old new

@@ -12,9 +12,10 @@ use Rattle.voice_console.specs.Hosts.{HostState}
 use Rattle.voice_console.specs.Hosts as hosts
 use Rattle.octet_ports.specs.Ports.{Source}
 use Rattle.script_server.specs.Runs.{Devices, EndsByRead, EndsByWrite, EndsWell, octets_to_come, run_of}
+use Rattle.line_machine.specs.Widths.{Widths}
 use Rattle.console_machine.specs.Console.{console_machine, new_channels, start}
 use Rattle.voice_console.specs.declared.console.Console.{Console}
-use Rattle.voice_console.specs.Consoles.{Keeps}
+use Rattle.voice_console.specs.Consoles.{Keeps, port_widths_of}
 use Rattle.dsp_console.specs.Fresh.{fresh}
 
 module _ {M : Type 0} (meaning : Meaning M) (idle_keeps active_keeps : Relation M) (console : Console M) (host : HostState M) (sizes : Sizes) (poison : Option ℤ) (sources : List Source)
@@ -35,19 +36,26 @@ module _ {M : Type 0} (meaning : Meaning M) (idle_keeps active_keeps : Relation 
       → Keeps meaning idle_keeps active_keeps console (fresh console sources)
   kept count counted made = subst (Keeps meaning idle_keeps active_keeps console) (sym (is_fresh ∙ ap (new_channels sizes poison) counted)) (made (new_state sizes poison) keeps)
 
-  -- and ends from there
-  pub well : (named : List ℕ → Option M) (result : Result Summary Fault) (old new : Devices)
-      → IfOk result (λ summary. EndsWell (console_machine meaning named) (run_of (fresh console sources) sources) summary.refused old new)
-      → IfOk result (λ summary. EndsWell (console_machine meaning named) (start sizes poison (octets_to_come sources)) summary.refused old new)
-  well named result old new = subst (λ r. IfOk result (λ summary. EndsWell (console_machine meaning named) r summary.refused old new)) starts
+  -- and ends from there, by the widths that it was made with
+  module _ (named : List ℕ → Option M) (widths : Widths) (same_widths : port_widths_of console ≡ widths) where
+    pub well : (result : Result Summary Fault) (old new : Devices)
+        → IfOk result (λ summary. EndsWell (console_machine meaning named (port_widths_of console)) (run_of (fresh console sources) sources) summary.refused old new)
+        → IfOk result (λ summary. EndsWell (console_machine meaning named widths) (start sizes poison (octets_to_come sources)) summary.refused old new)
+    well result old new ends =
+        subst (λ w. IfOk result (λ summary. EndsWell (console_machine meaning named w) (start sizes poison (octets_to_come sources)) summary.refused old new)) same_widths
+        (subst (λ r. IfOk result (λ summary. EndsWell (console_machine meaning named (port_widths_of console)) r summary.refused old new)) starts ends)
 
-  pub by_read : (named : List ℕ → Option M) (A : Type 0) (old new : Devices) → (A → EndsByRead (console_machine meaning named) (run_of (fresh console sources) sources) old new)
-      → A → EndsByRead (console_machine meaning named) (start sizes poison (octets_to_come sources)) old new
-  by_read named A old new ends a = subst (λ r. EndsByRead (console_machine meaning named) r old new) starts (ends a)
+    pub by_read : (A : Type 0) (old new : Devices) → (A → EndsByRead (console_machine meaning named (port_widths_of console)) (run_of (fresh console sources) sources) old new)
+        → A → EndsByRead (console_machine meaning named widths) (start sizes poison (octets_to_come sources)) old new
+    by_read A old new ends a =
+        subst (λ w. EndsByRead (console_machine meaning named w) (start sizes poison (octets_to_come sources)) old new) same_widths
+        (subst (λ r. EndsByRead (console_machine meaning named (port_widths_of console)) r old new) starts (ends a))
 
-  pub by_write : (named : List ℕ → Option M) (A : Type 0) (old new : Devices) → (A → EndsByWrite (console_machine meaning named) (run_of (fresh console sources) sources) old new)
-      → A → EndsByWrite (console_machine meaning named) (start sizes poison (octets_to_come sources)) old new
-  by_write named A old new ends a = subst (λ r. EndsByWrite (console_machine meaning named) r old new) starts (ends a)
+    pub by_write : (A : Type 0) (old new : Devices) → (A → EndsByWrite (console_machine meaning named (port_widths_of console)) (run_of (fresh console sources) sources) old new)
+        → A → EndsByWrite (console_machine meaning named widths) (start sizes poison (octets_to_come sources)) old new
+    by_write A old new ends a =
+        subst (λ w. EndsByWrite (console_machine meaning named w) (start sizes poison (octets_to_come sources)) old new) same_widths
+        (subst (λ r. EndsByWrite (console_machine meaning named (port_widths_of console)) r old new) starts (ends a))
 
 -- each port has its octets to come
 pub as_many : {I : Type 0} (ports : List I) (source : I → Source) (count : ℕ) → count ≡ length ports → length (octets_to_come (map source ports)) ≡ count

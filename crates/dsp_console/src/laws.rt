@@ -4,6 +4,7 @@ ghost use Rattle.host_spaces.specs.declared.spaces.Sizes.{Sizes};
 ghost use Rattle.sound_machine.specs.Calls.{Call};
 ghost use Rattle.sound_machine.specs.Runs.{history_of_run, outputs_in, statuses_in};
 ghost use Rattle.voice_script.specs.Script.{lines_of};
+ghost use Rattle.line_machine.specs.Widths.{Widths};
 ghost use Rattle.console_machine.specs.Console.{console_machine, start};
 ghost use Rattle.script_server.specs.Runs.{Devices, EndsByRead, EndsWell, IsHonest, octets_to_come};
 ghost use Rattle.machine_runs.specs.Births.{Born};
@@ -19,14 +20,14 @@ use ialg::{Ialg, Named};
 /// So it is where a run ends well, and, of the lines that were served, where a script or an input fails. The call does nothing: its
 /// contract is the law.
 pub fn headline<M: Ialg + Named>()
-    ensures ok { (sizes : Sizes) (poison : Option ℤ) (refused : ℕ) (old new : Devices) → IsHonest old.script → All IsHonest old.inputs
-        → EndsWell (console_machine M.meaning M.named) (start sizes poison (octets_to_come old.inputs)) refused old new
-        → RunHeadline M.meaning M.named (lines_of old.script.coming) sizes poison old new }
-    ensures read { (sizes : Sizes) (poison : Option ℤ) (old new : Devices) (inputs : All IsHonest old.inputs)
-        (ends : EndsByRead (console_machine M.meaning M.named) (start sizes poison (octets_to_come old.inputs)) old new)
-        → RunHeadline M.meaning M.named (ends.served inputs).lines sizes poison old new }
-    ensures two { (sizes other_sizes : Sizes) (poison other_poison : Option ℤ) (lines other_lines : List (List ℕ)) (old new other_old other_new : Devices)
-        (one : RunHeadline M.meaning M.named lines sizes poison old new) (two : RunHeadline M.meaning M.named other_lines other_sizes other_poison other_old other_new)
+    ensures ok { (widths : Widths) (sizes : Sizes) (poison : Option ℤ) (refused : ℕ) (old new : Devices) → IsHonest old.script → All IsHonest old.inputs
+        → EndsWell (console_machine M.meaning M.named widths) (start sizes poison (octets_to_come old.inputs)) refused old new
+        → RunHeadline M.meaning M.named widths (lines_of old.script.coming) sizes poison old new }
+    ensures read { (widths : Widths) (sizes : Sizes) (poison : Option ℤ) (old new : Devices) (inputs : All IsHonest old.inputs)
+        (ends : EndsByRead (console_machine M.meaning M.named widths) (start sizes poison (octets_to_come old.inputs)) old new)
+        → RunHeadline M.meaning M.named widths (ends.served inputs).lines sizes poison old new }
+    ensures two { (widths other_widths : Widths) (sizes other_sizes : Sizes) (poison other_poison : Option ℤ) (lines other_lines : List (List ℕ)) (old new other_old other_new : Devices)
+        (one : RunHeadline M.meaning M.named widths lines sizes poison old new) (two : RunHeadline M.meaning M.named other_widths other_lines other_sizes other_poison other_old other_new)
         (i j g h : ℕ) (kind : M) (p : List ℤ) (later since : List (Call M))
         → IsTrue (M.meaning.lawful kind p poison) → Born i kind g p one.says.asked later
         → IsTrue (M.meaning.lawful kind p other_poison) → Born j kind h p two.says.asked since

@@ -3,9 +3,10 @@ ghost use Rattle.std.specs.Prelude.{◌≡◌, ◌+◌, ◌≤◌, ◌⊎◌, �
 ghost use Rattle.octet_ports.specs.Ports.{GivesWithin};
 ghost use Rattle.host_spaces.specs.Picture.{AreSizes};
 ghost use Rattle.sound_machine.specs.Answers.{AreLawful};
+ghost use Rattle.line_machine.specs.Widths.{widths_of};
 ghost use Rattle.console_machine.specs.Console.{console_machine, start};
 ghost use Rattle.script_server.specs.Runs.{AreReady, EndsWell, EndsByRead, EndsByWrite, IsHonest, IsUnused, known_of, octets_to_come, run_of};
-ghost use Rattle.voice_console.specs.Consoles.{Keeps, channels_of};
+ghost use Rattle.voice_console.specs.Consoles.{Keeps, channels_of, port_widths_of};
 ghost use Rattle.voice_script.specs.Script.{lines_of};
 ghost use Rattle.dsp_console.specs.Fresh.{fresh};
 ghost use Rattle.dsp_console.specs.Headline.{RunHeadline};
@@ -18,7 +19,7 @@ use octet_ports::{PortIn, PortOut};
 use script_server::{PortsFault, SCRIPT_OCTETS, serve};
 use std::alloc::Global;
 use thiserror::Error;
-use voice_console::{CHANNELS, Console, Host, Sizes, StartError};
+use voice_console::{CHANNELS, Console, Host, PortWidths, Sizes, StartError};
 
 /// What a run is told beside its ports.
 #[derive(Clone, Copy, PartialEq, Eq, Debug)]
@@ -27,6 +28,10 @@ pub struct Config {
     pub sizes: Sizes,
     /// The word that each new block is filled with, and a group's blocks whenever a member is deactivated; without it nothing is filled.
     pub poison: Option<i16>,
+    /// Whose inputs are octet ports: the bit of each such channel is set. There each octet is a sample, 0 to 255.
+    pub in8: u16,
+    /// Whose outputs are octet ports. There a sample is written as one octet, its low eight bits.
+    pub out8: u16,
 }
 
 /// What ended a run.
@@ -68,13 +73,13 @@ fn serve_console<M: Ialg + Named, S: PortIn, I: PortIn, O: PortOut, P: PortOut>(
     requires ready { AreReady (map I.source inputs.old.items) (map O.sink outputs.old.items) (P.sink replies.old) }
     ensures few { GivesWithin (SCRIPT_OCTETS + 1) (S.source script.old) (S.source script.new) }
     ensures used { IfErr result (λ fault. (fault ≡ Fault.Read) ⊎ (fault ≡ Fault.Write)) }
-    ensures ok { IfOk result (λ summary. EndsWell (console_machine M.meaning M.named) (run_of (fresh console.old (map I.source inputs.old.items)) (map I.source inputs.old.items)) summary.refused
+    ensures ok { IfOk result (λ summary. EndsWell (console_machine M.meaning M.named (port_widths_of console.old)) (run_of (fresh console.old (map I.source inputs.old.items)) (map I.source inputs.old.items)) summary.refused
         (known_of S.source I.source O.sink P.sink script.old inputs.old.items outputs.old.items replies.old)
         (known_of S.source I.source O.sink P.sink script.new inputs.new.items outputs.new.items replies.new)) }
-    ensures read { IsErrOf result Fault.Read → EndsByRead (console_machine M.meaning M.named) (run_of (fresh console.old (map I.source inputs.old.items)) (map I.source inputs.old.items))
+    ensures read { IsErrOf result Fault.Read → EndsByRead (console_machine M.meaning M.named (port_widths_of console.old)) (run_of (fresh console.old (map I.source inputs.old.items)) (map I.source inputs.old.items))
         (known_of S.source I.source O.sink P.sink script.old inputs.old.items outputs.old.items replies.old)
         (known_of S.source I.source O.sink P.sink script.new inputs.new.items outputs.new.items replies.new) }
-    ensures write { IsErrOf result Fault.Write → EndsByWrite (console_machine M.meaning M.named) (run_of (fresh console.old (map I.source inputs.old.items)) (map I.source inputs.old.items))
+    ensures write { IsErrOf result Fault.Write → EndsByWrite (console_machine M.meaning M.named (port_widths_of console.old)) (run_of (fresh console.old (map I.source inputs.old.items)) (map I.source inputs.old.items))
         (known_of S.source I.source O.sink P.sink script.old inputs.old.items outputs.old.items replies.old)
         (known_of S.source I.source O.sink P.sink script.new inputs.new.items outputs.new.items replies.new) }
 {
@@ -115,7 +120,7 @@ pub fn run<M: Ialg + Named, S: PortIn, I: PortIn, O: PortOut, P: PortOut>(
 
     // Over any list of commands: the headline.
     ensures headline { IsHonest (S.source script.old) → All IsHonest (map I.source inputs.old.items)
-        → IfOk result (λ summary. RunHeadline M.meaning M.named (lines_of (S.source script.old).coming) config.sizes config.poison
+        → IfOk result (λ summary. RunHeadline M.meaning M.named (widths_of config.in8 config.out8) (lines_of (S.source script.old).coming) config.sizes config.poison
         (known_of S.source I.source O.sink P.sink script.old inputs.old.items outputs.old.items replies.old)
         (known_of S.source I.source O.sink P.sink script.new inputs.new.items outputs.new.items replies.new)) }
 
@@ -129,25 +134,25 @@ pub fn run<M: Ialg + Named, S: PortIn, I: PortIn, O: PortOut, P: PortOut>(
     ensures few { GivesWithin (SCRIPT_OCTETS + 1) (S.source script.old) (S.source script.new) }
 
     // Between honest ports what is served is written: all of it, or that of exactly the lines that were begun.
-    ensures ok { IfOk result (λ summary. EndsWell (console_machine M.meaning M.named) (start config.sizes config.poison (octets_to_come (map I.source inputs.old.items))) summary.refused
+    ensures ok { IfOk result (λ summary. EndsWell (console_machine M.meaning M.named (widths_of config.in8 config.out8)) (start config.sizes config.poison (octets_to_come (map I.source inputs.old.items))) summary.refused
         (known_of S.source I.source O.sink P.sink script.old inputs.old.items outputs.old.items replies.old)
         (known_of S.source I.source O.sink P.sink script.new inputs.new.items outputs.new.items replies.new)) }
-    ensures read { IsErrOf result Fault.Read → EndsByRead (console_machine M.meaning M.named) (start config.sizes config.poison (octets_to_come (map I.source inputs.old.items)))
+    ensures read { IsErrOf result Fault.Read → EndsByRead (console_machine M.meaning M.named (widths_of config.in8 config.out8)) (start config.sizes config.poison (octets_to_come (map I.source inputs.old.items)))
         (known_of S.source I.source O.sink P.sink script.old inputs.old.items outputs.old.items replies.old)
         (known_of S.source I.source O.sink P.sink script.new inputs.new.items outputs.new.items replies.new) }
-    ensures write { IsErrOf result Fault.Write → EndsByWrite (console_machine M.meaning M.named) (start config.sizes config.poison (octets_to_come (map I.source inputs.old.items)))
+    ensures write { IsErrOf result Fault.Write → EndsByWrite (console_machine M.meaning M.named (widths_of config.in8 config.out8)) (start config.sizes config.poison (octets_to_come (map I.source inputs.old.items)))
         (known_of S.source I.source O.sink P.sink script.old inputs.old.items outputs.old.items replies.old)
         (known_of S.source I.source O.sink P.sink script.new inputs.new.items outputs.new.items replies.new) }
 
     // Where the kinds are lawful, nothing is free, and the poison word tells nothing.
     ensures lawful { AreLawful M.meaning config.poison → IsHonest (S.source script.old) → All IsHonest (map I.source inputs.old.items)
-        → IfOk result (λ summary. ServesLawfully M.meaning M.named config.sizes summary.refused
+        → IfOk result (λ summary. ServesLawfully M.meaning M.named (widths_of config.in8 config.out8) config.sizes summary.refused
         (known_of S.source I.source O.sink P.sink script.old inputs.old.items outputs.old.items replies.old)
         (known_of S.source I.source O.sink P.sink script.new inputs.new.items outputs.new.items replies.new)) }
-    ensures lawful_read { AreLawful M.meaning config.poison → IsErrOf result Fault.Read → EndsLawfullyByRead M.meaning M.named config.sizes
+    ensures lawful_read { AreLawful M.meaning config.poison → IsErrOf result Fault.Read → EndsLawfullyByRead M.meaning M.named (widths_of config.in8 config.out8) config.sizes
         (known_of S.source I.source O.sink P.sink script.old inputs.old.items outputs.old.items replies.old)
         (known_of S.source I.source O.sink P.sink script.new inputs.new.items outputs.new.items replies.new) }
-    ensures lawful_write { AreLawful M.meaning config.poison → IsErrOf result Fault.Write → EndsLawfullyByWrite M.meaning M.named config.sizes
+    ensures lawful_write { AreLawful M.meaning config.poison → IsErrOf result Fault.Write → EndsLawfullyByWrite M.meaning M.named (widths_of config.in8 config.out8) config.sizes
         (known_of S.source I.source O.sink P.sink script.old inputs.old.items outputs.old.items replies.old)
         (known_of S.source I.source O.sink P.sink script.new inputs.new.items outputs.new.items replies.new) }
 {
@@ -158,7 +163,8 @@ pub fn run<M: Ialg + Named, S: PortIn, I: PortIn, O: PortOut, P: PortOut>(
         Err(StartError::BadSize) => return Err(Fault::Size),
         Err(StartError::Memory) => return Err(Fault::Memory),
     };
-    let mut console = Console::new(host, inputs.len() as u8);
+    let widths = PortWidths::of_masks(config.in8, config.out8);
+    let mut console = Console::new(host, inputs.len() as u8, widths);
     let served = serve_console(&mut console, script, inputs, outputs, replies);
     console.close();
     served

@@ -1,6 +1,7 @@
 //! Runs over tapes and over devices that fail, and a caller that is proved from the contracts alone.
 ghost use Rattle.std.specs.Prelude.{◌≡◌, ◌<◌, ◌∷◌, [], None, Some, IfOk};
 ghost use Rattle.line_machine.specs.Served.{held_by, order_of, refusals};
+ghost use Rattle.line_machine.specs.Widths.{widths_of};
 ghost use Rattle.console_machine.specs.Answers.{served};
 ghost use Rattle.voice_set.specs.Voices.{voice_meaning, voice_named};
 ghost use Rattle.dsp_console.specs.declared.tests.TheConstants.{FULL};
@@ -46,6 +47,8 @@ const UNBROKEN: Fuses = Fuses {
 struct Setting {
     sizes: Sizes,
     poison: Option<i16>,
+    in8: u16,
+    out8: u16,
     step: u32,
     fuses: Fuses,
 }
@@ -53,6 +56,8 @@ struct Setting {
 const PLAIN: Setting = Setting {
     sizes: FULL,
     poison: None,
+    in8: 0,
+    out8: 0,
     step: WIDE,
     fuses: UNBROKEN,
 };
@@ -78,6 +83,8 @@ fn compare<R: Abort + AllocGlobal>(
     let Setting {
         sizes,
         poison,
+        in8,
+        out8,
         step,
         fuses,
     } = setting;
@@ -87,7 +94,12 @@ fn compare<R: Abort + AllocGlobal>(
     let mut replies = TapeOut::new(step, fuses.replies);
     let answer = run::<Voice, _, _, _, _>(
         rt.alloc(),
-        Config { sizes, poison },
+        Config {
+            sizes,
+            poison,
+            in8,
+            out8,
+        },
         &mut script,
         &mut inputs,
         &mut outputs,
@@ -172,7 +184,7 @@ fn rows() -> [Row; 9] {
         },
         // The refusals, in their order.
         Row {
-            script: b"create 64 fir 0 1\ncreate 999 fir 0 1\ncreate 0 fir 8 1\ncreate 0 fir 0 1\ncreate 0 fir 0\ncreate 1 fir 0\ncreate 1 flute 0 1\ncreate 1 fir 0 40000\ncreate 999 fir 0 x\nfeed 0 0\nfeed 0 257\nfeed 0 +1\nfeed 999\nfeed -0 1\nfeed 1 1\nchain 0 1\nchain 0 64\nchain 1 0\nchain 0 0\nchain 0 5\nunchain 0\nchain 0 0 0\nfeed 0 99999999999999999999999999\n",
+            script: b"create 64 fir 0 1\ncreate 999 fir 0 1\ncreate 0 fir 8 1\ncreate 0 fir 0 1\ncreate 0 fir 0\ncreate 1 fir 0\ncreate 1 flute 0 1\ncreate 1 fir 0 40000\ncreate 999 fir 0 x\nfeed 0 0\nfeed 0 1025\nfeed 0 +1\nfeed 999\nfeed -0 1\nfeed 1 1\nchain 0 1\nchain 0 64\nchain 1 0\nchain 0 0\nchain 0 5\nunchain 0\nchain 0 0 0\nfeed 0 99999999999999999999999999\n",
             input: b"",
             output: b"",
             replies: b"no 3 range\nno 3 range\nno 3 range\nok\nno 4 taken\nno 6 params\nno 2 syntax\nno 3 range\nno 2 syntax\nno 3 range\nno 3 range\nno 2 syntax\nno 2 syntax\nno 5 missing\nno 3 range\nno 5 missing\nno 3 range\nno 3 range\nok\nno 4 taken\nok\nno 8 busy\nno 3 range\n",
@@ -215,16 +227,129 @@ fn serves_rows(rt: HostRuntime) -> Result<(), Fail> {
     Ok(())
 }
 
+/// Runs a row over ports of these masks.
+fn serve_row<R: Abort + AllocGlobal>(rt: &R, in8: u16, out8: u16, row: &Row) -> Result<(), Fail> {
+    let wanted = Wanted {
+        answer: Ok(Summary {
+            refused: row.refused,
+        }),
+        output: row.output,
+        replies: row.replies,
+    };
+    for step in [1, 3, WIDE] {
+        let setting = Setting {
+            in8,
+            out8,
+            step,
+            ..PLAIN
+        };
+        compare(rt, setting, row.script, row.input, &wanted)?;
+    }
+    Ok(())
+}
+
+#[test]
+fn an_octet_of_an_octet_port_is_a_sample(rt: HostRuntime) -> Result<(), Fail> {
+    let row = Row {
+        script: b"create 0 g711 0 1 1\nchain 0 0\nfeed 0 3\n",
+        input: b"\x80\x00\xff",
+        output: b"\x7c\x7d\x84\x82\x00\x00",
+        replies: b"ok\nok\nok 3\n",
+        refused: 0,
+    };
+    // Bits of channels that aren't there have no effect.
+    for (in8, out8) in [(1, 0), (65_535, 65_534)] {
+        serve_row(&rt, in8, out8, &row)?;
+    }
+    Ok(())
+}
+
+#[test]
+fn the_low_eight_bits_of_a_sample_are_its_octet(rt: HostRuntime) -> Result<(), Fail> {
+    let row = Row {
+        script: b"create 0 g711 0 1 0\nchain 0 0\nfeed 0 3\n",
+        input: b"\x00\x00\xff\xff\xff\x7f",
+        output: b"\xff\x7f\x80",
+        replies: b"ok\nok\nok 3\n",
+        refused: 0,
+    };
+    for (in8, out8) in [(0, 1), (65_534, 65_535)] {
+        serve_row(&rt, in8, out8, &row)?;
+    }
+    Ok(())
+}
+
+#[test]
+fn a_negative_sample_is_cut_to_its_low_octet(rt: HostRuntime) -> Result<(), Fail> {
+    let row = Row {
+        script: b"create 0 fir 0 32767\nchain 0 0\nfeed 0 2\n",
+        input: b"\x00\x80\x34\x12",
+        output: b"\x01\x34",
+        replies: b"ok\nok\nok 2\n",
+        refused: 0,
+    };
+    serve_row(&rt, 0, 1, &row)
+}
+
+#[test]
+fn a_feed_of_an_octet_port_takes_an_octet_a_sample(rt: HostRuntime) -> Result<(), Fail> {
+    let row = Row {
+        script: b"create 0 fir 0 16384\nchain 0 0\nfeed 0 4\nfeed 0 3\nfeed 0 1\n",
+        input: b"\x02\x04\x06\x08\x0a\x0c\xff",
+        output: b"\x01\x02\x03\x04\x05\x06\x80",
+        replies: b"ok\nok\nok 4\nok 3\nno 10 short\n",
+        refused: 1,
+    };
+    serve_row(&rt, 1, 1, &row)
+}
+
+/// Two filters that give back what they are given, each fed by its own channel.
+const EACH_BY_ITSELF: &[u8] =
+    b"create 0 biquad 0 16384 0 0 0 0\ncreate 1 biquad 1 16384 0 0 0 0\nchain 0 0\nchain 1 1\nfeed 0 1\nfeed 1 1\n";
+
+#[test]
+fn the_low_bit_of_a_mask_is_of_channel_0(rt: HostRuntime) -> Result<(), Fail> {
+    let mut script = TapeIn::new(EACH_BY_ITSELF, WIDE, NEVER);
+    let mut inputs = vec![in rt.alloc();
+        TapeIn::new(b"\x05\x07", WIDE, NEVER),
+        TapeIn::new(b"\x06\x01", WIDE, NEVER),
+    ]?;
+    let mut outputs = vec![in rt.alloc(); TapeOut::new(WIDE, NEVER), TapeOut::new(WIDE, NEVER)]?;
+    let mut replies = TapeOut::new(WIDE, NEVER);
+    let config = Config {
+        sizes: FULL,
+        poison: None,
+        in8: 1,
+        out8: 2,
+    };
+    let answer = run::<Voice, _, _, _, _>(
+        rt.alloc(),
+        config,
+        &mut script,
+        &mut inputs,
+        &mut outputs,
+        &mut replies,
+    );
+    assert!(rt; answer == Ok(Summary { refused: 0 }));
+    assert!(rt; outputs.len() == 2);
+    assert!(rt; outputs[0].held() == b"\x05\x00".as_slice());
+    assert!(rt; outputs[1].held() == b"\x06".as_slice());
+    Ok(())
+}
+
 /// Two filters of one group by turns, each fed by its own channel, in a space that has room for one scratch block.
 const BY_TURNS: &[u8] =
     b"create 0 fir 0 16384 16384\ncreate 1 fir 0 16384 16384\nchain 0 0\nchain 1 1\nfeed 0 1\nfeed 1 1\nfeed 0 1\nfeed 1 1\nstat 0\nmap daram\nrelease 0\nrelease 0\nstat 0\n";
 
 const BY_TURNS_REPLIES: &[u8] =
-    b"ok\nok\nok\nok\nok 1\nok 1\nok 1\nok 1\nok 1 4\nok g0@0+260\nok 1\nok 0\nok - 4\n";
+    b"ok\nok\nok\nok\nok 1\nok 1\nok 1\nok 1\nok 1 4\nok g0@0+1028\nok 1\nok 0\nok - 4\n";
 
 #[test]
 fn channels_have_their_own_ports(rt: HostRuntime) -> Result<(), Fail> {
-    let sizes = Sizes { daram: 260, ..FULL };
+    let sizes = Sizes {
+        daram: 1_028,
+        ..FULL
+    };
     for poison in [None, Some(21_845), Some(-1)] {
         let mut script = TapeIn::new(BY_TURNS, WIDE, NEVER);
         let mut inputs = vec![in rt.alloc();
@@ -235,7 +360,12 @@ fn channels_have_their_own_ports(rt: HostRuntime) -> Result<(), Fail> {
         let mut replies = TapeOut::new(WIDE, NEVER);
         let answer = run::<Voice, _, _, _, _>(
             rt.alloc(),
-            Config { sizes, poison },
+            Config {
+                sizes,
+                poison,
+                in8: 0,
+                out8: 0,
+            },
             &mut script,
             &mut inputs,
             &mut outputs,
@@ -496,6 +626,8 @@ fn run_shaky(alloc: Global, fuses: Fuses) -> Result<Option<Seen>, AllocError> {
     let config = Config {
         sizes: FULL,
         poison: None,
+        in8: 0,
+        out8: 0,
     };
     let answer = run::<Voice, _, _, _, _>(
         alloc,
@@ -592,9 +724,9 @@ struct Served {
 
 // Devices over memory: from the contracts alone the vectors hold what is served for the octets.
 fn serve_octets(alloc: Global, script: &[u8], input: &[u8]) -> Result<Served, Fault>
-    ensures output { IfOk result (λ run. run.output.items ≡ held_by (Some 0) (order_of (served voice_meaning voice_named FULL script.now (input.now ∷ [])).written)) }
-    ensures replies { IfOk result (λ run. run.replies.items ≡ held_by None (order_of (served voice_meaning voice_named FULL script.now (input.now ∷ [])).written)) }
-    ensures refused { IfOk result (λ run. refusals (served voice_meaning voice_named FULL script.now (input.now ∷ [])).written ≡ run.refused) }
+    ensures output { IfOk result (λ run. run.output.items ≡ held_by (Some 0) (order_of (served voice_meaning voice_named (widths_of 0 0) FULL script.now (input.now ∷ [])).written)) }
+    ensures replies { IfOk result (λ run. run.replies.items ≡ held_by None (order_of (served voice_meaning voice_named (widths_of 0 0) FULL script.now (input.now ∷ [])).written)) }
+    ensures refused { IfOk result (λ run. refusals (served voice_meaning voice_named (widths_of 0 0) FULL script.now (input.now ∷ [])).written ≡ run.refused) }
 {
     voices_are_lawful();
     let mut lines = Reading::new(script);
@@ -608,6 +740,8 @@ fn serve_octets(alloc: Global, script: &[u8], input: &[u8]) -> Result<Served, Fa
     let config = Config {
         sizes: FULL,
         poison: None,
+        in8: 0,
+        out8: 0,
     };
     let summary = run::<Voice, _, _, _, _>(
         alloc,

@@ -110,6 +110,8 @@ fn serve(rt: &HostRuntime, arguments: &Arguments<'_>) -> Result<Summary, Fault>
     let config = Config {
         sizes: arguments.sizes,
         poison: arguments.poison,
+        in8: arguments.in8,
+        out8: arguments.out8,
     };
     let ended = run::<Voice, _, _, _, _>(
         rt.alloc(),

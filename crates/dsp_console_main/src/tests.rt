@@ -103,3 +103,21 @@ fn a_line_that_comes_by_a_pipe_is_passed_on_at_once(rt: HostRuntime) -> Result<(
     assert_eq!(rt; fs::read(&rt, "output")?.as_slice(), b"\x01\x00".as_slice());
     Ok(())
 }
+
+#[test]
+fn masks_make_octet_ports(rt: HostRuntime) -> Result<(), Fail> {
+    make_file(&rt, "decode", b"create 0 g711 0 1 1\nchain 0 0\nfeed 0 3\n")?;
+    make_file(&rt, "encode", b"create 0 g711 0 1 0\nchain 0 0\nfeed 0 3\n")?;
+    make_file(&rt, "codes", b"\x80\x00\xff")?;
+    assert!(rt; answer(&rt, &["--in8", "1", "decode", "codes", "samples"]) == (0, ""));
+    assert_eq!(rt;
+        fs::read(&rt, "samples")?.as_slice(),
+        b"\x7c\x7d\x84\x82\x00\x00".as_slice()
+    );
+    assert!(rt; answer(&rt, &["--out8", "1", "encode", "samples", "again"]) == (0, ""));
+    assert_eq!(rt;
+        fs::read(&rt, "again")?.as_slice(),
+        b"\x80\x00\xff".as_slice()
+    );
+    Ok(())
+}

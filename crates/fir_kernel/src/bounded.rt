@@ -47,7 +47,7 @@ fn loudest(samples: &[i16]) -> u16
 
 /// Runs the filter as [`filter`](crate::filter) does, where no sum can saturate over the samples up to `last`. There is
 /// no output for a later one.
-pub(crate) fn filter_bounded(
+pub(crate) fn filter_bounded<const N: usize>(
     coefficients: &[i16],
     line: &[i16],
     first: usize,
@@ -58,7 +58,8 @@ pub(crate) fn filter_bounded(
     requires some { 1 ≤ length coefficients.now }
     requires few { length coefficients.now ≤ MOST_COEFFICIENTS }
     requires reach { (i : ℕ) → i < length out.old → first + step * i + MOST_COEFFICIENTS ≤ length line.now }
-    requires block { length out.old ≤ BLOCK_SAMPLES }
+    requires block { length out.old ≤ N }
+    requires arrays { N ≤ BLOCK_SAMPLES }
     requires last { (i : ℕ) → i < length out.old → first + step * i ≤ last }
     requires bounded { IsBounded coefficients.now (take (last + length coefficients.now) line.now) }
     ensures { (i : ℕ) → i < length out.old
@@ -67,7 +68,7 @@ pub(crate) fn filter_bounded(
     let mut taps = [0; MOST_COEFFICIENTS];
     reverse(coefficients, &mut taps);
     let runs = if coefficients.len() <= LANES { 1 } else { 2 };
-    let mut block = [0; BLOCK_SAMPLES];
+    let mut block = [0; N];
     let (sums, _unused) = block.split_at_mut(out.len());
     sum_windows(&taps[..LANES * runs], line, first, step, sums);
     round_doubled(sums, out);

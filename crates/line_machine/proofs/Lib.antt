@@ -1,1 +1,2 @@
 pub mod ComputedLemmas
+pub mod WidthLemmas

@@ -1,15 +1,16 @@
 -- What a line asks of the ports.
-use Rattle.std.specs.Prelude.{ℕ, ◌*◌, ◌<◌}
+use Rattle.std.specs.Prelude.{ℕ, ◌<◌}
 use Rattle.line_machine.specs.Served as served
 use Rattle.voice_script.specs.ReplyViews.{reply_of}
-use Rattle.line_machine.specs.declared.limits.TheConstants.{SAMPLE_OCTETS}
+use Rattle.line_machine.specs.Widths.{Widths, octet_count}
 use Rattle.line_machine.specs.declared.machine.Ask.{Ask}
 use Rattle.line_machine.specs.declared.machine.Ask.TheVariants.{Nothing, Tell, Feed}
 
-abbrev pub asked_of : Ask → served.Asked
-asked_of Nothing = served.Nothing
-asked_of (Tell reply) = served.tells (reply_of reply)
-asked_of (Feed channel samples) = served.Feed channel (SAMPLE_OCTETS * samples.number)
+-- by the widths of the channels' ports
+abbrev pub asked_of : Widths → Ask → served.Asked
+asked_of widths Nothing = served.Nothing
+asked_of widths (Tell reply) = served.tells (reply_of reply)
+asked_of widths (Feed channel samples) = served.Feed channel (octet_count (widths.input channel) samples.number)
 
 -- the channel is one of so many, and takes feeds
 pub record IsReady {X : Type 0} (takes_feeds : X → ℕ → Type 0) (channels : X → ℕ) (machine : X) (channel : ℕ) : Type 0 where

@@ -1,3 +1,4 @@
 pub mod Asks
 pub mod Served
 pub mod Computed
+pub mod Widths

@@ -3,6 +3,8 @@
 
 mod limits;
 mod machine;
+mod width;
 
-pub use limits::{BLOCK_OCTETS, SAMPLE_OCTETS};
+pub use limits::{BLOCK_OCTETS, WORD_OCTETS};
 pub use machine::{Ask, LineMachine};
+pub use width::{PortWidths, Width};

@@ -25,26 +25,26 @@ sample i x y = Process i (pos x ∷ []) (pos y ∷ [])
 -- the block of a group is replaced by a longer one while a member is active
 abbrev pub replacing : List (Call Voice) → List (Call Voice)
 replacing more =
-    Create 0 Fir 0 mean done ∷ sample 0 2 1 ∷ Create 1 Fir 0 nine done ∷ Map Daram (group_block 0 272 264 16 ∷ [])
+    Create 0 Fir 0 mean done ∷ sample 0 2 1 ∷ Create 1 Fir 0 nine done ∷ Map Daram (group_block 0 1040 1032 16 ∷ [])
     ∷ Stat 0 (resting 1) ∷ sample 0 4 3 ∷ Stat 0 (active 0 2) ∷ more
 
 pub record VoiceRows : Type 0 where
   -- two members work by turns in the same block
-  pub turns : Answers voice_meaning (with_daram 260) (
+  pub turns : Answers voice_meaning (with_daram 1028) (
       Create 0 Fir 0 mean done ∷ Create 1 Fir 0 mean done ∷ sample 0 2 1 ∷ sample 1 10 5 ∷ sample 0 4 3 ∷ sample 1 20 15
-      ∷ Stat 0 (active 1 4) ∷ Map Daram (group_block 0 0 260 16 ∷ []) ∷ Release 0 (Ok true) ∷ Release 0 (Ok false) ∷ Stat 0 (resting 4) ∷ [])
+      ∷ Stat 0 (active 1 4) ∷ Map Daram (group_block 0 0 1028 16 ∷ []) ∷ Release 0 (Ok true) ∷ Release 0 (Ok false) ∷ Stat 0 (resting 4) ∷ [])
   -- a refused creation leaves no record
-  pub no_room : Answers voice_meaning (with_daram 260) (
-      Create 0 Fir 0 mean done ∷ Create 1 Fir 1 mean (refused (Room Daram)) ∷ Map Daram (group_block 0 0 260 16 ∷ [])
+  pub no_room : Answers voice_meaning (with_daram 1028) (
+      Create 0 Fir 0 mean done ∷ Create 1 Fir 1 mean (refused (Room Daram)) ∷ Map Daram (group_block 0 0 1028 16 ∷ [])
       ∷ Map Saram (record_block 0 1 0 4 4 ∷ []) ∷ Map External (record_block 0 0 0 4 4 ∷ []) ∷ Lives 0 true ∷ Lives 1 false ∷ [])
-  pub replaced : Answers voice_meaning (with_daram 536) (replacing [])
+  pub replaced : Answers voice_meaning (with_daram 2072) (replacing [])
   -- the old block stands while the new one is placed
-  pub not_replaced : Answers voice_meaning (with_daram 532) (
-      Create 0 Fir 0 mean done ∷ sample 0 2 1 ∷ Create 1 Fir 0 nine (refused (Room Daram)) ∷ Map Daram (group_block 0 0 260 16 ∷ [])
+  pub not_replaced : Answers voice_meaning (with_daram 2068) (
+      Create 0 Fir 0 mean done ∷ sample 0 2 1 ∷ Create 1 Fir 0 nine (refused (Room Daram)) ∷ Map Daram (group_block 0 0 1028 16 ∷ [])
       ∷ sample 0 4 3 ∷ Stat 0 (active 0 1) ∷ [])
   -- an active member stays active while its scratch moves
-  pub compacted : Answers voice_meaning (with_daram 536) (
-      replacing (Compact Daram 1 ∷ Map Daram (group_block 0 0 264 16 ∷ []) ∷ sample 0 6 5 ∷ Stat 0 (active 0 2) ∷ Copied 264 ∷ []))
+  pub compacted : Answers voice_meaning (with_daram 2072) (
+      replacing (Compact Daram 1 ∷ Map Daram (group_block 0 0 1032 16 ∷ []) ∷ sample 0 6 5 ∷ Stat 0 (active 0 2) ∷ Copied 1032 ∷ []))
   -- the gap that an alignment makes is none
   pub packed : Answers voice_meaning full (
       Create 0 Decim 0 (pos 2 ∷ pos 1 ∷ pos 1 ∷ pos 1 ∷ []) done ∷ Map External (record_block 0 0 0 4 4 ∷ record_block 0 2 8 4 8 ∷ [])
@@ -62,8 +62,8 @@ pub record VoiceRows : Type 0 where
       ∷ Stat 1 (resting 0) ∷ sample 0 4 3 ∷ sample 1 3 2 ∷ Stat 1 (active 1 1) ∷ [])
   pub moved : Answers voice_meaning full (
       Create 0 Biquad 0 (pos 16384 ∷ pos 0 ∷ pos 0 ∷ pos 0 ∷ pos 0 ∷ []) done ∷ Create 1 Fir 1 mean done ∷ sample 1 2 1 ∷ Delete 0 done
-      ∷ Map Daram (group_block 1 16 260 16 ∷ []) ∷ Step Daram true ∷ Map Daram (group_block 1 0 260 16 ∷ []) ∷ sample 1 4 3
-      ∷ Step Daram false ∷ Compact Saram 1 ∷ Compact External 1 ∷ sample 1 6 5 ∷ Stat 1 (active 1 1) ∷ Copied 268 ∷ [])
+      ∷ Map Daram (group_block 1 16 1028 16 ∷ []) ∷ Step Daram true ∷ Map Daram (group_block 1 0 1028 16 ∷ []) ∷ sample 1 4 3
+      ∷ Step Daram false ∷ Compact Saram 1 ∷ Compact External 1 ∷ sample 1 6 5 ∷ Stat 1 (active 1 1) ∷ Copied 1036 ∷ [])
   pub controlled : Answers voice_meaning full (
       Create 0 Fir 0 mean done ∷ sample 0 2 1 ∷ Control 0 (Set (pos 8192 ∷ pos 16384 ∷ [])) (Ok Done) ∷ sample 0 4 2
       ∷ Control 0 Get (Ok (Words (pos 8192 ∷ pos 16384 ∷ []))) ∷ Control 0 Reset (Ok Done) ∷ sample 0 6 2 ∷ Stat 0 (active 0 1) ∷ [])

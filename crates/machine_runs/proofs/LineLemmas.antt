@@ -1,8 +1,8 @@
 -- Lines of a console are calls of its channels.
-use Rattle.std.proofs.Common.{◌≡◌, ◌≤◌, ◌<◌, ◌⊎◌, ◌+◌, ◌*◌, ℕ, ℤ, zero, suc, Bool, true, false, List, [], ◌∷◌, ◌++◌, map, filter, length, take, drop, Option, Some, None, Result, Ok, Err, inl, inr, refl, ap, sym, ◌∙◌, subst, append-nil, append_assoc, arith, get_or, set}
+use Rattle.std.proofs.Common.{◌≡◌, ◌≤◌, ◌<◌, ◌⊎◌, ◌+◌, ◌*◌, ◌%◌, ℕ, ℤ, zero, suc, Bool, true, false, List, [], ◌∷◌, ◌++◌, pos, map, filter, length, take, drop, Option, Some, None, Result, Ok, Err, inl, inr, refl, ap, sym, ◌∙◌, subst, append-nil, append_assoc, take-append-drop, arith, get_or, set}
 use Rattle.std.specs.Prelude.{◌==◌, if◌then◌else◌}
 use Rattle.std.specs.Int.{w16, cast_signed, cast_unsigned}
-use Rattle.std.proofs.lemmas.List.{map-append, get_or-set_other, length-take-le}
+use Rattle.std.proofs.lemmas.List.{map-append, get_or-set_other, length-map, length-take-le}
 use Rattle.std.proofs.lemmas.List.Elements.{filter-append}
 use Rattle.std.proofs.lemmas.Grind.{flat_map-append}
 use Rattle.std.proofs.lemmas.Bool.Decides.{eqb_tells}
@@ -20,10 +20,13 @@ use Rattle.voice_script.specs.Script.{Command, parsed}
 use Rattle.voice_script.specs.Replies as replies_told
 use Rattle.voice_script.specs.Replies.{Reply, is_refusal, reply_text}
 use Rattle.voice_script.specs.declared.limits.TheConstants.{LINE_OCTETS}
-use Rattle.line_machine.specs.declared.limits.TheConstants.{SAMPLE_OCTETS}
+use Rattle.line_machine.specs.declared.limits.TheConstants.{WORD_OCTETS}
+use Rattle.line_machine.specs.declared.width.Width.{Width}
+use Rattle.line_machine.specs.declared.width.Width.TheVariants as carried
+use Rattle.line_machine.specs.Widths.{Widths, octet_count}
 use Rattle.line_machine.specs.Served as served
 use Rattle.line_machine.specs.Served.{Answer, Asked, AskedAnswer, FeedAnswer, FedAnswer, LineAnswer, LinesAnswer, Octet, Output, Replied, Run, ServedAnswer, Written, at_state, after_reading, held_by, octets_left, order_of, refusals, replies, same_port, tells, then_answer}
-use Rattle.console_machine.specs.Samples.{octets_of, samples_of, two_octets}
+use Rattle.console_machine.specs.Samples.{octets_at, octets_of, samples_at, samples_of, two_octets}
 use Rattle.console_machine.specs.Console.{Calls, CommandAsks, LineAsks, activity_told, console_machine, done, feed_asked, flag_told, status_told}
 use Rattle.machine_runs.specs.HostRuns.{Leads}
 use Rattle.machine_runs.specs.Lines.{ALineMakes, AreCalls, CommandMakes, IsTaken, LineMakes, LinesMake, Makes, fed_in, fed_out, given_in, output_in}
@@ -72,9 +75,33 @@ held_of_output c d octets = ap (held_by (Some c)) (append-nil (map (λ b. (Some 
 octets_more : (xs ys : List ℤ) → octets_of (xs ++ ys) ≡ octets_of xs ++ octets_of ys
 octets_more xs ys = flat_map-append (λ x. two_octets (cast_unsigned w16 x)) xs ys
 
-octets_where : (test : Bool) (out : List ℤ) → (if test then octets_of out else []) ≡ octets_of (if test then out else [])
-octets_where true out = refl
-octets_where false out = refl
+-- and so by each width
+octets_more_at : (width : Width) (xs ys : List ℤ) → octets_at width (xs ++ ys) ≡ octets_at width xs ++ octets_at width ys
+octets_more_at carried.Word xs ys = octets_more xs ys
+octets_more_at carried.Octet xs ys = map-append (λ x. cast_unsigned w16 x % 256) xs ys
+
+no_octets : (width : Width) → [] ≡ octets_at width []
+no_octets carried.Word = refl
+no_octets carried.Octet = refl
+
+no_samples : (width : Width) → samples_at width [] ≡ []
+no_samples carried.Word = refl
+no_samples carried.Octet = refl
+
+octets_where : (width : Width) (test : Bool) (out : List ℤ) → (if test then octets_at width out else []) ≡ octets_at width (if test then out else [])
+octets_where width true out = refl
+octets_where width false out = no_octets width
+
+-- the width of the channel's output, where anything is given there
+octets_where_given : (widths : Widths) (c channel : ℕ) (out : List ℤ)
+    → octets_at (widths.output channel) (if c == channel then out else []) ≡ octets_at (widths.output c) (if c == channel then out else [])
+octets_where_given widths c channel out =
+    either (eqb_tells c channel)
+    (λ same. ap (λ k. octets_at (widths.output k) (if c == channel then out else [])) (sym same.1))
+    (λ apart.
+    ap (λ b. octets_at (widths.output channel) (if b then out else [])) apart.0
+    ∙ sym (no_octets (widths.output channel)) ∙ no_octets (widths.output c)
+    ∙ ap (λ b. octets_at (widths.output c) (if b then out else [])) (sym apart.0))
 
 -- ---- samples
 
@@ -83,7 +110,7 @@ twice : ℕ → ℕ
 twice zero = 0
 twice (suc n) = suc (suc (twice n))
 
-twice_is : (n : ℕ) → twice n ≡ SAMPLE_OCTETS * n
+twice_is : (n : ℕ) → twice n ≡ WORD_OCTETS * n
 unfolding twice
 twice_is zero = refl
 twice_is (suc n) = omega (arith, twice_is n)
@@ -102,6 +129,19 @@ samples_count zero (x ∷ octets) e = absurd (omega (arith, e))
 samples_count (suc n) [] e = absurd (omega (arith, e))
 samples_count (suc n) (low ∷ []) e = absurd (omega (arith, e))
 samples_count (suc n) (low ∷ high ∷ octets) e = ap suc (samples_count n octets (omega (arith, e)))
+
+octet_samples_split : (n : ℕ) (octets : List ℕ) → map pos octets ≡ map pos (take n octets) ++ map pos (drop n octets)
+octet_samples_split n octets = ap (map pos) (sym (take-append-drop n octets)) ∙ map-append pos (take n octets) (drop n octets)
+
+-- so many octets are so many samples, by each width
+split_at : (width : Width) (n : ℕ) (octets : List ℕ)
+    → samples_at width octets ≡ samples_at width (take (octet_count width n) octets) ++ samples_at width (drop (octet_count width n) octets)
+split_at carried.Word n octets = subst (λ k. samples_of octets ≡ samples_of (take k octets) ++ samples_of (drop k octets)) (twice_is n) (samples_split n octets)
+split_at carried.Octet n octets = octet_samples_split n octets
+
+count_at : (width : Width) (n : ℕ) (octets : List ℕ) → length octets ≡ octet_count width n → length (samples_at width octets) ≡ n
+count_at carried.Word n octets e = samples_count n octets (e ∙ sym (twice_is n))
+count_at carried.Octet n octets e = length-map octets pos ∙ e
 
 drop_all : (n : ℕ) (xs : List ℕ) → length xs ≤ n → drop n xs ≡ []
 drop_all n [] le = drop-nil n
@@ -129,10 +169,10 @@ taken_then s t u first second (inr e) f =
     nothing_taken t second u e (inl f) = both_empty second u (sym e ∙ f)
     nothing_taken t second u e (inr f) = ((both_empty second f.0 (sym e ∙ f.1)).0, f.2)
 
-module _ {S : Type 0} where
+module _ {S : Type 0} (widths : Widths) where
   -- the samples that are left on an input
   abbrev pub left : Run S → ℕ → List ℤ
-  left run c = samples_of (octets_left run c)
+  left run c = samples_at (widths.input c) (octets_left run c)
 
   reading : (run : Run S) (channel count c : ℕ) → octets_left (after_reading run channel count) c ≡ (if c == channel then drop count (octets_left run channel) else octets_left run c)
   reading run channel count c =
@@ -144,24 +184,28 @@ module _ {S : Type 0} where
   short_takes : (run : Run S) (channel count c : ℕ) → length (octets_left run channel) < count → IsTaken (left run c) [] (left (after_reading run channel count) c)
   short_takes run channel count c short =
       either (eqb_tells c channel)
-      (λ same. inr (left run c, refl, ap samples_of (reading run channel count c ∙ ap (λ b. if b then drop count (octets_left run channel) else octets_left run c) same.0 ∙ drop_all count (octets_left run channel) (omega arith))))
-      (λ apart. inl (sym (ap samples_of (reading run channel count c ∙ ap (λ b. if b then drop count (octets_left run channel) else octets_left run c) apart.0))))
+      (λ same. inr (left run c, refl, ap (samples_at (widths.input c)) (reading run channel count c ∙ ap (λ b. if b then drop count (octets_left run channel) else octets_left run c) same.0 ∙ drop_all count (octets_left run channel) (omega arith)) ∙ no_samples (widths.input c)))
+      (λ apart. inl (sym (ap (samples_at (widths.input c)) (reading run channel count c ∙ ap (λ b. if b then drop count (octets_left run channel) else octets_left run c) apart.0))))
 
   -- another one takes its samples
   whole_takes : (run : Run S) (channel n c : ℕ)
-      → IsTaken (left run c) (if c == channel then samples_of (take (twice n) (octets_left run channel)) else []) (left (after_reading run channel (twice n)) c)
+      → IsTaken (left run c) (if c == channel then samples_at (widths.input channel) (take (octet_count (widths.input channel) n) (octets_left run channel)) else [])
+      (left (after_reading run channel (octet_count (widths.input channel) n)) c)
   whole_takes run channel n c =
-      let block = samples_of (take (twice n) (octets_left run channel)) in
+      let width = widths.input channel in
+      let count = octet_count width n in
+      let block = samples_at width (take count (octets_left run channel)) in
       either (eqb_tells c channel)
       (λ same. inl (
-      ap (λ k. left run k) same.1 ∙ samples_split n (octets_left run channel)
-      ∙ ap (λ b. (if b then block else []) ++ samples_of (drop (twice n) (octets_left run channel))) (sym same.0)
-      ∙ ap (λ octets. (if c == channel then block else []) ++ samples_of octets)
-      (sym (reading run channel (twice n) c ∙ ap (λ b. if b then drop (twice n) (octets_left run channel) else octets_left run c) same.0))))
+      ap (λ k. left run k) same.1 ∙ split_at width n (octets_left run channel)
+      ∙ ap (λ b. (if b then block else []) ++ samples_at width (drop count (octets_left run channel))) (sym same.0)
+      ∙ ap (λ k. (if c == channel then block else []) ++ samples_at (widths.input k) (drop count (octets_left run channel))) (sym same.1)
+      ∙ ap (λ octets. (if c == channel then block else []) ++ samples_at (widths.input c) octets)
+      (sym (reading run channel count c ∙ ap (λ b. if b then drop count (octets_left run channel) else octets_left run c) same.0))))
       (λ apart. inl (
       ap (λ b. (if b then block else []) ++ left run c) (sym apart.0)
-      ∙ ap (λ octets. (if c == channel then block else []) ++ samples_of octets)
-      (sym (reading run channel (twice n) c ∙ ap (λ b. if b then drop (twice n) (octets_left run channel) else octets_left run c) apart.0))))
+      ∙ ap (λ octets. (if c == channel then block else []) ++ samples_at (widths.input c) octets)
+      (sym (reading run channel count c ∙ ap (λ b. if b then drop count (octets_left run channel) else octets_left run c) apart.0))))
 
 -- ---- replies
 
@@ -205,7 +249,7 @@ refusals_of_none : {X : Type 0} → 1 ≤ refusals [] → X
 unfolding refusals
 refusals_of_none le = none_refused le
 
-module _ {M : Type 0} (kinds : Meaning M) where
+module _ {M : Type 0} (kinds : Meaning M) (widths : Widths) where
   -- ---- runs of calls
 
   leads_on : (made more : List (Call M)) (before mid after : Channels M) → Leads kinds before made mid → Leads kinds mid more after → Leads kinds before (made ++ more) after
@@ -215,23 +259,23 @@ module _ {M : Type 0} (kinds : Meaning M) where
   -- the calls were made, and this was written
   pub record Serves (before after : Run (Channels M)) (written : List Written) (made : List (Call M)) : Type 0 where
     pub lead : Leads kinds before.state made after.state
-    pub inputs : (c : ℕ) → IsTaken (left before c) (fed_in c made) (left after c)
-    pub outputs : (c : ℕ) → held c written ≡ octets_of (fed_out c made)
+    pub inputs : (c : ℕ) → IsTaken (left widths before c) (fed_in c made) (left widths after c)
+    pub outputs : (c : ℕ) → held c written ≡ octets_at (widths.output c) (fed_out c made)
 
   and_then : (a b c : Run (Channels M)) (first later : List Written) (made more : List (Call M)) → Serves a b first made → Serves b c later more → Serves a c (first ++ later) (made ++ more)
   and_then a b c first later made more one two = record {
     lead = leads_on made more a.state b.state c.state one.lead two.lead;
-    inputs = λ k. subst (λ taken. IsTaken (left a k) taken (left c k)) (sym (flat_map-append (given_in k) made more))
-        (taken_then (left a k) (left b k) (left c k) (fed_in k made) (fed_in k more) (one.inputs k) (two.inputs k));
-    outputs = λ k. held_more k first later ∙ ap (λ r. r ++ held k later) (one.outputs k) ∙ ap (λ r. octets_of (fed_out k made) ++ r) (two.outputs k)
-        ∙ sym (ap octets_of (flat_map-append (output_in k) made more) ∙ octets_more (fed_out k made) (fed_out k more));
+    inputs = λ k. subst (λ taken. IsTaken (left widths a k) taken (left widths c k)) (sym (flat_map-append (given_in k) made more))
+        (taken_then (left widths a k) (left widths b k) (left widths c k) (fed_in k made) (fed_in k more) (one.inputs k) (two.inputs k));
+    outputs = λ k. held_more k first later ∙ ap (λ r. r ++ held k later) (one.outputs k) ∙ ap (λ r. octets_at (widths.output k) (fed_out k made) ++ r) (two.outputs k)
+        ∙ sym (ap (octets_at (widths.output k)) (flat_map-append (output_in k) made more) ∙ octets_more_at (widths.output k) (fed_out k made) (fed_out k more));
   }
 
   nothing : (run : Run (Channels M)) → Serves run run [] []
-  nothing run = record { lead = refl; inputs = λ c. inl refl; outputs = λ c. held_nothing c }
+  nothing run = record { lead = refl; inputs = λ c. inl refl; outputs = λ c. held_nothing c ∙ no_octets (widths.output c) }
 
   replied : (run : Run (Channels M)) (text : List ℕ) (refused : Bool) → Serves run run (Replied text refused ∷ []) []
-  replied run text refused = record { lead = refl; inputs = λ c. inl refl; outputs = λ c. held_of_reply c text refused }
+  replied run text refused = record { lead = refl; inputs = λ c. inl refl; outputs = λ c. held_of_reply c text refused ∙ no_octets (widths.output c) }
 
   -- a call that feeds nobody
   abbrev IsQuiet : Call M → Type 0
@@ -240,36 +284,44 @@ module _ {M : Type 0} (kinds : Meaning M) where
   called : (run : Run (Channels M)) (state : Channels M) (call : Call M) → Does kinds run.state call state → IsQuiet call → Serves run (at_state run state) [] (call ∷ [])
   called run state call does quiet = record {
     lead = (state, does, refl);
-    inputs = λ c. inl (ap (λ taken. taken ++ left run c) (sym (append-nil (given_in c call) ∙ (quiet c).0)));
-    outputs = λ c. held_nothing c ∙ ap octets_of (sym (append-nil (output_in c call) ∙ (quiet c).1));
+    inputs = λ c. inl (ap (λ taken. taken ++ left widths run c) (sym (append-nil (given_in c call) ∙ (quiet c).0)));
+    outputs = λ c. held_nothing c ∙ no_octets (widths.output c) ∙ ap (octets_at (widths.output c)) (sym (append-nil (output_in c call) ∙ (quiet c).1));
   }
 
   short : (run : Run (Channels M)) (channel count : ℕ) → length (octets_left run channel) < count → Serves run (after_reading run channel count) [] []
-  short run channel count less = record { lead = refl; inputs = λ c. short_takes run channel count c less; outputs = λ c. held_nothing c }
+  short run channel count less = record { lead = refl; inputs = λ c. short_takes widths run channel count c less; outputs = λ c. held_nothing c ∙ no_octets (widths.output c) }
 
   module _ (named : List ℕ → Option M) where
     abbrev machine : served.Machine (Channels M)
-    machine = console_machine kinds named
+    machine = console_machine kinds named widths
+
+    -- the octets of so many samples of the channel's input
+    abbrev octets_for : ℕ → ℕ → ℕ
+    octets_for channel n = octet_count (widths.input channel) n
+
+    abbrev samples_for : ℕ → List ℕ → List ℤ
+    samples_for channel octets = samples_at (widths.input channel) octets
 
     -- a feed that isn't short
     fed : (run : Run (Channels M)) (channel n : ℕ) (answer : Answer (Channels M))
-        → (f : FedAnswer machine (after_reading run channel (twice n)) channel (take (twice n) (octets_left run channel)) answer)
-        → Serves run answer.run answer.written (calls.Feed channel (samples_of (take (twice n) (octets_left run channel))) f.taken.out ∷ [])
+        → (f : FedAnswer machine (after_reading run channel (octets_for channel n)) channel (take (octets_for channel n) (octets_left run channel)) answer)
+        → Serves run answer.run answer.written (calls.Feed channel (samples_for channel (take (octets_for channel n) (octets_left run channel))) f.taken.out ∷ [])
     fed run channel n answer f =
-        let block = samples_of (take (twice n) (octets_left run channel)) in
+        let block = samples_for channel (take (octets_for channel n) (octets_left run channel)) in
         let call : Call M = calls.Feed channel block f.taken.out in
         record {
           lead = (f.state, f.taken.does, ap (λ a. a.run.state) f.answered);
-          inputs = λ c. subst (λ (taken : List ℤ). IsTaken (left run c) taken (left answer.run c)) (sym (append-nil (given_in c call)))
-              (subst (λ (a : Answer (Channels M)). IsTaken (left run c) (given_in c call) (left a.run c)) (sym f.answered) (whole_takes run channel n c));
+          inputs = λ c. subst (λ (taken : List ℤ). IsTaken (left widths run c) taken (left widths answer.run c)) (sym (append-nil (given_in c call)))
+              (subst (λ (a : Answer (Channels M)). IsTaken (left widths run c) (given_in c call) (left widths a.run c)) (sym f.answered) (whole_takes widths run channel n c));
           outputs = λ c. ap (λ a. held c a.written) f.answered
               ∙ held_more c (Output channel f.output ∷ []) (Replied f.told false ∷ [])
               ∙ ap (λ r. held c (Output channel f.output ∷ []) ++ r) (held_of_reply c f.told false)
               ∙ append-nil (held c (Output channel f.output ∷ []))
               ∙ held_of_output c channel f.output
               ∙ ap (λ output. if c == channel then output else []) f.taken.given
-              ∙ octets_where (c == channel) f.taken.out
-              ∙ ap octets_of (sym (append-nil (output_in c call)));
+              ∙ octets_where (widths.output channel) (c == channel) f.taken.out
+              ∙ octets_where_given widths c channel f.taken.out
+              ∙ ap (octets_at (widths.output c)) (sym (append-nil (output_in c call)));
         }
 
     -- ---- one line
@@ -350,40 +402,40 @@ module _ {M : Type 0} (kinds : Meaning M) where
       ready_told c a does e answered = told_by (λ b. calls.Ready c b) done (λ b k. (refl, refl)) (tells_done {M = M} (λ b. calls.Ready c b) (λ r. refl)) a does e answered
 
       -- a feed
-      by_feed : (c n : ℕ) → Calls kinds (λ a. calls.Ready c a) (feed_asked c n) run.state asked state → AskedAnswer machine (at_state run state) asked answer
+      by_feed : (c n : ℕ) → Calls kinds (λ a. calls.Ready c a) (feed_asked (widths.input c) c n) run.state asked state → AskedAnswer machine (at_state run state) asked answer
           → Did (CommandMakes (script.Feed c n)) run answer
       by_feed c n does answered = by_answer does.answer does.does does.asks
         where
           or_more : Did (Makes (λ a. calls.Ready c a)) run answer → Did (CommandMakes (script.Feed c n)) run answer
           or_more did = record { made = did.made; asked = inl did.asked; serves = did.serves; refused = did.refused }
 
-          by_answer : (a : Result (Unit {0}) Refusal) → Does kinds run.state (calls.Ready c a) state → asked ≡ feed_asked c n a → Did (CommandMakes (script.Feed c n)) run answer
+          by_answer : (a : Result (Unit {0}) Refusal) → Does kinds run.state (calls.Ready c a) state → asked ≡ feed_asked (widths.input c) c n a → Did (CommandMakes (script.Feed c n)) run answer
           by_answer (Err refusal) does e = or_more (ready_told c (Err refusal) does e answered)
           by_answer (Ok answer_done) does e =
               let ready = at_state run state in
               let call : Call M = calls.Ready c (Ok answer_done) in
               let first = called run state call does (λ k. (refl, refl)) in
               let stays : state ≡ run.state = ready_stays (channel_refusal run.state c) does in
-              let feed : FeedAnswer machine ready c (twice n) answer =
-              subst (λ count. FeedAnswer machine ready c count answer) (sym (twice_is n)) (subst (λ b. AskedAnswer machine ready b answer) e answered) in
-              either (less_or_not (length (octets_left ready c)) (twice n))
+              let feed : FeedAnswer machine ready c (octets_for c n) answer =
+              subst (λ b. AskedAnswer machine ready b answer) e answered in
+              either (less_or_not (length (octets_left ready c)) (octets_for c n))
               (λ less.
               let is = feed.short less in
               record {
                 made = call ∷ [];
                 asked = inl (Ok answer_done, refl);
                 serves = subst (λ (b : Answer (Channels M)). Serves run b.run b.written (call ∷ [])) (sym is)
-                    (and_then run ready (after_reading ready c (twice n)) [] (Replied served.short_text true ∷ []) (call ∷ []) [] first
-                    (and_then ready (after_reading ready c (twice n)) (after_reading ready c (twice n)) [] (Replied served.short_text true ∷ []) [] []
-                    (short ready c (twice n) less) (replied (after_reading ready c (twice n)) served.short_text true)));
+                    (and_then run ready (after_reading ready c (octets_for c n)) [] (Replied served.short_text true ∷ []) (call ∷ []) [] first
+                    (and_then ready (after_reading ready c (octets_for c n)) (after_reading ready c (octets_for c n)) [] (Replied served.short_text true ∷ []) [] []
+                    (short ready c (octets_for c n) less) (replied (after_reading ready c (octets_for c n)) served.short_text true)));
                 refused = λ le. ap (λ b. b.run.state) is ∙ stays;
               })
               (λ enough.
               let f = feed.whole enough in
-              let block = samples_of (take (twice n) (octets_left ready c)) in
+              let block = samples_for c (take (octets_for c n) (octets_left ready c)) in
               record {
                 made = call ∷ calls.Feed c block f.taken.out ∷ [];
-                asked = inr (block, f.taken.out, samples_count n (take (twice n) (octets_left ready c)) (length-take-le (twice n) (octets_left ready c) enough), refl);
+                asked = inr (block, f.taken.out, count_at (widths.input c) n (take (octets_for c n) (octets_left ready c)) (length-take-le (octets_for c n) (octets_left ready c) enough), refl);
                 serves = and_then run ready answer.run [] answer.written (call ∷ []) (calls.Feed c block f.taken.out ∷ []) first (fed ready c n answer f);
                 refused = λ le. refusals_of_feed c f.output f.told (subst (λ (b : Answer (Channels M)). 1 ≤ refusals b.written) f.answered le);
               })
@@ -395,7 +447,7 @@ module _ {M : Type 0} (kinds : Meaning M) where
               ready_stays None e = ap (λ o. o.1) e
               ready_stays (Some refusal) e = ap (λ o. o.1) e
 
-      by_command : (command : Command M) → CommandAsks kinds command run.state asked state → AskedAnswer machine (at_state run state) asked answer
+      by_command : (command : Command M) → CommandAsks kinds widths command run.state asked state → AskedAnswer machine (at_state run state) asked answer
           → Did (CommandMakes command) run answer
       by_command (script.Create i kind g words) does a = by_done _ (λ b c. (refl, refl)) (λ r. refl) does a
       by_command (script.Set i words) does a = by_status _ (λ b c. (refl, refl)) (λ r. refl) does a
@@ -411,7 +463,7 @@ module _ {M : Type 0} (kinds : Meaning M) where
       by_command (script.Map space) does a = by_call _ replies_told.Map (λ b c. (refl, refl)) (λ b e. no_refusal e) does a
       by_command (script.Stat g) does a = by_activity _ (λ b c. (refl, refl)) (λ r. refl) does a
 
-      by_line : (line : Result (Option (Command M)) Refusal) → LineAsks kinds line run.state asked state → AskedAnswer machine (at_state run state) asked answer
+      by_line : (line : Result (Option (Command M)) Refusal) → LineAsks kinds widths line run.state asked state → AskedAnswer machine (at_state run state) asked answer
           → Did (LineMakes line) run answer
       by_line (Ok (Some command)) does a = by_command command does a
       by_line (Ok None) does a = silent (LineMakes (Ok None)) refl run state asked answer does.1 a (inl does.0)
@@ -451,7 +503,7 @@ module _ {M : Type 0} (kinds : Meaning M) where
         )
 
     pub are_calls : Leaves → (lines : List (List ℕ)) (run : Run (Channels M)) (answer : Answer (Channels M)) → LinesAnswer machine run lines answer
-        → (made : List (Call M)) × AreCalls kinds named run lines answer made
+        → (made : List (Call M)) × AreCalls kinds named widths run lines answer made
     are_calls leaves lines run answer a =
         let did = all_did leaves lines run answer a in
         (did.0, record { lead = did.2.lead; commands = did.1; inputs = did.2.inputs; outputs = did.2.outputs })

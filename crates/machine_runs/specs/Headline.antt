@@ -11,7 +11,8 @@ use Rattle.sound_machine.specs.Calls.Call.{Create}
 use Rattle.channel_machine.specs.Channels.{Channels}
 use Rattle.channel_machine.specs.Calls.{Call, Does, refusal_of}
 use Rattle.line_machine.specs.Served.{Answer, LineAnswer, Run, held_by, octets_left, order_of, refusals}
-use Rattle.console_machine.specs.Samples.{octets_of, samples_of}
+use Rattle.line_machine.specs.Widths.{Widths}
+use Rattle.console_machine.specs.Samples.{octets_at, samples_at}
 use Rattle.console_machine.specs.Console.{console_machine, start}
 use Rattle.machine_runs.specs.HostRuns.{RunsOnHost}
 use Rattle.machine_runs.specs.Births.{Born, GoesByItsHistory}
@@ -19,7 +20,7 @@ use Rattle.machine_runs.specs.Lines.{IsTaken, LinesMake, fed_in, fed_out}
 use Rattle.machine_runs.specs.Room.{IsCreation, LacksRoom}
 
 -- why commands are refused, and what a refused one does
-pub record Refuses {M : Type 0} (kinds : Meaning M) (named : List ℕ → Option M) : Type 0 where
+pub record Refuses {M : Type 0} (kinds : Meaning M) (named : List ℕ → Option M) (widths : Widths) : Type 0 where
   -- only creation is refused for space,
   pub only : (before after : Channels M) (call : Call M) (space : Space) → Does kinds before call after → refusal_of call ≡ Some (Room space) → IsCreation call
   -- exactly where no place is free,
@@ -29,11 +30,11 @@ pub record Refuses {M : Type 0} (kinds : Meaning M) (named : List ℕ → Option
   -- and a refused command changes nothing: no call that is refused,
   pub nothing : (before after : Channels M) (call : Call M) (refusal : Refusal) → Does kinds before call after → refusal_of call ≡ Some refusal → after ≡ before
   -- and no line
-  pub no_line : (run : Run (Channels M)) (line : List ℕ) (answer : Answer (Channels M)) → LineAnswer (console_machine kinds named) run line answer
+  pub no_line : (run : Run (Channels M)) (line : List ℕ) (answer : Answer (Channels M)) → LineAnswer (console_machine kinds named widths) run line answer
       → 1 ≤ refusals answer.written → answer.run.state ≡ run.state
 
--- by the answer to the lines of a script, from a host of these sizes and this poison word
-pub record Headline {M : Type 0} (kinds : Meaning M) (named : List ℕ → Option M) (sizes : Sizes) (poison : Option ℤ) (lines octets : List (List ℕ)) (answer : Answer (Channels M)) : Type 0 where
+-- by the answer to the lines of a script, over ports of these widths, from a host of these sizes and this poison word
+pub record Headline {M : Type 0} (kinds : Meaning M) (named : List ℕ → Option M) (widths : Widths) (sizes : Sizes) (poison : Option ℤ) (lines octets : List (List ℕ)) (answer : Answer (Channels M)) : Type 0 where
   -- over any list of commands: the calls of channels that they make, and what those ask of the host
   pub calls : List (Call M)
   pub commands : LinesMake named lines calls
@@ -44,7 +45,7 @@ pub record Headline {M : Type 0} (kinds : Meaning M) (named : List ℕ → Optio
   pub each : (i : ℕ) (kind : M) (g : ℕ) (p : List ℤ) (later : List (host_calls.Call M)) → IsTrue (kinds.lawful kind p poison) → Born i kind g p asked later
       → GoesByItsHistory kinds i kind g p later answer.run.state.host
   -- what a channel's feeds are given is taken from its input, and what they give is written on it;
-  pub inputs : (c : ℕ) → IsTaken (samples_of (octets_left (start {M = M} sizes poison octets) c)) (fed_in c calls) (samples_of (octets_left answer.run c))
-  pub outputs : (c : ℕ) → held_by (Some c) (order_of answer.written) ≡ octets_of (fed_out c calls)
+  pub inputs : (c : ℕ) → IsTaken (samples_at (widths.input c) (octets_left (start {M = M} sizes poison octets) c)) (fed_in c calls) (samples_at (widths.input c) (octets_left answer.run c))
+  pub outputs : (c : ℕ) → held_by (Some c) (order_of answer.written) ≡ octets_at (widths.output c) (fed_out c calls)
   -- only creation is refused for space, exactly where no place is free, and a refused command changes nothing
-  pub refuses : Refuses kinds named
+  pub refuses : Refuses kinds named widths

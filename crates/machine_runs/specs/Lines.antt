@@ -12,7 +12,8 @@ use Rattle.voice_script.specs.Script as script
 use Rattle.voice_script.specs.Script.{Command, parsed}
 use Rattle.voice_script.specs.declared.limits.TheConstants.{LINE_OCTETS}
 use Rattle.line_machine.specs.Served.{Answer, Run, held_by, octets_left, order_of}
-use Rattle.console_machine.specs.Samples.{octets_of, samples_of}
+use Rattle.line_machine.specs.Widths.{Widths}
+use Rattle.console_machine.specs.Samples.{octets_at, samples_at}
 use Rattle.machine_runs.specs.HostRuns.{Leads}
 
 -- ---- samples
@@ -82,8 +83,8 @@ module _ {M : Type 0} where
       (first rest : List (Call M)) × ALineMakes named line first × LinesMake named lines rest × (made ≡ first ++ rest)
 
 -- these calls were made for the lines: what a channel's feeds were given was taken from its input, and what they gave was written on it
-pub record AreCalls {M : Type 0} (kinds : Meaning M) (named : List ℕ → Option M) (run : Run (Channels M)) (lines : List (List ℕ)) (answer : Answer (Channels M)) (made : List (Call M)) : Type 0 where
+pub record AreCalls {M : Type 0} (kinds : Meaning M) (named : List ℕ → Option M) (widths : Widths) (run : Run (Channels M)) (lines : List (List ℕ)) (answer : Answer (Channels M)) (made : List (Call M)) : Type 0 where
   pub lead : Leads kinds run.state made answer.run.state
   pub commands : LinesMake named lines made
-  pub inputs : (c : ℕ) → IsTaken (samples_of (octets_left run c)) (fed_in c made) (samples_of (octets_left answer.run c))
-  pub outputs : (c : ℕ) → held_by (Some c) (order_of answer.written) ≡ octets_of (fed_out c made)
+  pub inputs : (c : ℕ) → IsTaken (samples_at (widths.input c) (octets_left run c)) (fed_in c made) (samples_at (widths.input c) (octets_left answer.run c))
+  pub outputs : (c : ℕ) → held_by (Some c) (order_of answer.written) ≡ octets_at (widths.output c) (fed_out c made)

@@ -11,6 +11,7 @@ ghost use Rattle.sound_machine.specs.Runs.{history_of_run, outputs_in, statuses_
 ghost use Rattle.channel_machine.specs.Channels.{Channels};
 ghost use Rattle.channel_machine.specs.Calls.{Call, Does, refusal_of};
 ghost use Rattle.line_machine.specs.Served.{Answer, LineAnswer, LinesAnswer, Run, refusals};
+ghost use Rattle.line_machine.specs.Widths.{Widths};
 ghost use Rattle.console_machine.specs.Console.{console_machine};
 ghost use Rattle.machine_runs.specs.HostRuns.{AsHostCalls, Leads, RunsOnHost};
 ghost use Rattle.machine_runs.specs.Births.{Born, GoesByItsHistory};
@@ -51,16 +52,16 @@ pub fn births_agree<M>()
 /// The law that what a console does with lines is a run of calls of its channels, which the lines' commands make: what a channel's feeds
 /// are given is taken from its input, and what they give is its output. The call does nothing.
 pub fn lines_are_calls<M>()
-    ensures { (kinds : Meaning M) (named : List ℕ → Option M) (run : Run (Channels M)) (lines : List (List ℕ)) (answer : Answer (Channels M))
-        → LinesAnswer (console_machine kinds named) run lines answer → (made : List (Call M)) × AreCalls kinds named run lines answer made }
+    ensures { (kinds : Meaning M) (named : List ℕ → Option M) (widths : Widths) (run : Run (Channels M)) (lines : List (List ℕ)) (answer : Answer (Channels M))
+        → LinesAnswer (console_machine kinds named widths) run lines answer → (made : List (Call M)) × AreCalls kinds named widths run lines answer made }
 {
     channel_machine::refused_calls_change_nothing::<M>();
 }
 
 /// The law that a refused line leaves all instances and channels as they were. The call does nothing.
 pub fn refused_lines_change_nothing<M>()
-    ensures { (kinds : Meaning M) (named : List ℕ → Option M) (run : Run (Channels M)) (line : List ℕ) (answer : Answer (Channels M))
-        → LineAnswer (console_machine kinds named) run line answer → 1 ≤ refusals answer.written → answer.run.state ≡ run.state }
+    ensures { (kinds : Meaning M) (named : List ℕ → Option M) (widths : Widths) (run : Run (Channels M)) (line : List ℕ) (answer : Answer (Channels M))
+        → LineAnswer (console_machine kinds named widths) run line answer → 1 ≤ refusals answer.written → answer.run.state ≡ run.state }
 {
     channel_machine::refused_calls_change_nothing::<M>();
 }

@@ -6,6 +6,7 @@ ghost use Rattle.sound_machine.specs.Calls.{Call};
 ghost use Rattle.sound_machine.specs.Runs.{history_of_run, outputs_in, statuses_in};
 ghost use Rattle.channel_machine.specs.Channels.{Channels};
 ghost use Rattle.line_machine.specs.Served.{Answer, LinesAnswer};
+ghost use Rattle.line_machine.specs.Widths.{Widths};
 ghost use Rattle.console_machine.specs.Console.{console_machine, start};
 ghost use Rattle.machine_runs.specs.Births.{Born};
 ghost use Rattle.machine_runs.specs.Headline.{Headline};
@@ -23,11 +24,11 @@ use crate::laws::{
 /// And of two runs: instances of one kind and the same parameters that were given the same since their creation give and answer the
 /// same, whatever else differs. The call does nothing: its contract is the law.
 pub fn headline<M>()
-    ensures run { (kinds : Meaning M) (named : List ℕ → Option M) (sizes : Sizes) (poison : Option ℤ) (lines inputs : List (List ℕ)) (answer : Answer (Channels M))
-        → LinesAnswer (console_machine kinds named) (start sizes poison inputs) lines answer → Headline kinds named sizes poison lines inputs answer }
-    ensures two { (kinds : Meaning M) (named : List ℕ → Option M) (sizes other_sizes : Sizes) (poison other_poison : Option ℤ)
+    ensures run { (kinds : Meaning M) (named : List ℕ → Option M) (widths : Widths) (sizes : Sizes) (poison : Option ℤ) (lines inputs : List (List ℕ)) (answer : Answer (Channels M))
+        → LinesAnswer (console_machine kinds named widths) (start sizes poison inputs) lines answer → Headline kinds named widths sizes poison lines inputs answer }
+    ensures two { (kinds : Meaning M) (named : List ℕ → Option M) (widths other_widths : Widths) (sizes other_sizes : Sizes) (poison other_poison : Option ℤ)
         (lines inputs other_lines other_inputs : List (List ℕ)) (answer other : Answer (Channels M))
-        (one : Headline kinds named sizes poison lines inputs answer) (two : Headline kinds named other_sizes other_poison other_lines other_inputs other)
+        (one : Headline kinds named widths sizes poison lines inputs answer) (two : Headline kinds named other_widths other_sizes other_poison other_lines other_inputs other)
         (i j g h : ℕ) (kind : M) (p : List ℤ) (later since : List (Call M))
         → IsTrue (kinds.lawful kind p poison) → Born i kind g p one.asked later
         → IsTrue (kinds.lawful kind p other_poison) → Born j kind h p two.asked since

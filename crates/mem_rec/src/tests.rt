@@ -53,8 +53,8 @@ fn assert_table(rt: &impl Abort, records: &[MemRec]) -> Result<(), Fail> {
 fn tables_of_the_kinds(rt: HostRuntime) -> Result<(), Fail> {
     let daram = Space::Daram;
     // A FIR of 64 coefficients and one of 1: coefficients and past samples; past samples and a block.
-    assert_table(&rt, &[OBJECT, persistent(127), scratch(daram, 319, 16)])?;
-    assert_table(&rt, &[OBJECT, persistent(1), scratch(daram, 256, 16)])?;
+    assert_table(&rt, &[OBJECT, persistent(127), scratch(daram, 1_087, 16)])?;
+    assert_table(&rt, &[OBJECT, persistent(1), scratch(daram, 1_024, 16)])?;
     // A decimator of 64 coefficients.
     assert_table(
         &rt,
@@ -62,7 +62,7 @@ fn tables_of_the_kinds(rt: HostRuntime) -> Result<(), Fail> {
             OBJECT,
             persistent(64),
             write_once(65),
-            scratch(daram, 319, 16),
+            scratch(daram, 1_087, 16),
         ],
     )?;
     // A biquad, a tone, an encoder and a decoder.

@@ -74,6 +74,8 @@ fn serve(rt: &HostRuntime, arguments: &Arguments<'_>) -> Result<Summary, Fault>
     let config = Config {
         sizes: arguments.sizes,
         poison: arguments.poison,
+        in8: arguments.in8,
+        out8: arguments.out8,
     };
     run::<Mixed, _, _, _, _>(
         rt.alloc(),

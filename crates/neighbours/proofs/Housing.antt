@@ -40,7 +40,7 @@ apart_from_none : (p : Option Span) → AreSeparate p None
 apart_from_none None = tt
 apart_from_none (Some s) = tt
 
-module _ (o q : Span) (b : ScratchBlock) (active : Option ℕ) (activations : ℕ) (ho : IsHome 4 o) (hq : IsHome 4 q) (hb : IsHome 260 b.piece) (fine : b.align ≡ 16) where
+module _ (o q : Span) (b : ScratchBlock) (active : Option ℕ) (activations : ℕ) (ho : IsHome 4 o) (hq : IsHome 4 q) (hb : IsHome 1028 b.piece) (fine : b.align ≡ 16) where
   abbrev own : Pieces
   own = record { p0 = Some o; p1 = Some q; p2 = None; p3 = None }
 
@@ -48,7 +48,7 @@ module _ (o q : Span) (b : ScratchBlock) (active : Option ℕ) (activations : �
   g = record { daram = Some b; saram = None; external = None; active = active; activations = activations }
 
   need : NoNeed two_taps g
-  need Daram = block_serves b 260 16 (omega (arith, hb.words)) (omega (arith, fine))
+  need Daram = block_serves b 1028 16 (omega (arith, hb.words)) (omega (arith, fine))
   need Saram = refl
   need External = refl
 
@@ -102,7 +102,7 @@ module _ (o q : Span) (b : ScratchBlock) (active : Option ℕ) (activations : �
 
 -- the group's parts are known
 any_group : (o q : Span) (d s e : Option ScratchBlock) (active : Option ℕ) (activations : ℕ) → IsHome 4 o → IsHome 4 q
-    → MatchOption d ⊥ (λ b. IsHome 260 b.piece × (b.align ≡ 16)) → s ≡ None → e ≡ None
+    → MatchOption d ⊥ (λ b. IsHome 1028 b.piece × (b.align ≡ 16)) → s ≡ None → e ≡ None
     → Fits (placed two_taps (record { p0 = Some o; p1 = Some q; p2 = None; p3 = None }) no_pieces (record { daram = d; saram = s; external = e; active = active; activations = activations }))
     (record { p0 = Some o; p1 = Some q; p2 = None; p3 = None }) no_pieces (record { daram = d; saram = s; external = e; active = active; activations = activations })
 any_group o q None s e active activations ho hq hb es ee = absurd hb
@@ -175,10 +175,10 @@ saram_is_not_daram h = cc
 pub external_is_not_daram : External ≡ Daram → ⊥
 external_is_not_daram h = cc
 
-pub ready_group : (g0 g1 : Group) (p : Span) → ((space : Space) → block_in g0 space ≡ None) → g1.daram ≡ Some (record { piece = p; align = 16 }) → SameBut Daram g0 g1 → IsHome 260 p
+pub ready_group : (g0 g1 : Group) (p : Span) → ((space : Space) → block_in g0 space ≡ None) → g1.daram ≡ Some (record { piece = p; align = 16 }) → SameBut Daram g0 g1 → IsHome 1028 p
     → IsReady g1
 ready_group g0 g1 p none e same h = record {
-  daram = subst (λ (b : Option ScratchBlock). MatchOption b ⊥ (λ x. IsHome 260 x.piece × (x.align ≡ 16))) (sym e) (h, refl);
+  daram = subst (λ (b : Option ScratchBlock). MatchOption b ⊥ (λ x. IsHome 1028 x.piece × (x.align ≡ 16))) (sym e) (h, refl);
   saram = same.others Saram saram_is_not_daram ∙ none Saram;
   external = same.others External external_is_not_daram ∙ none External;
 }

@@ -25,11 +25,11 @@ use Rattle.neighbours.proofs.Housing.{filter_fits, none_stays, saram_is_not_dara
 home_at : (r : Extent) (place n size : ℕ) (s : Span) → r.size ≡ size → size ≤ RECORD_WORDS → IsAt r place n (Some s) → IsHome n s
 home_at r place n size s e few at = record { words = at.2; region = rw (at.0, e) few }
 
-ready_at : (r : Extent) (place : ℕ) (g : Group) (b : Option ScratchBlock) → g.daram ≡ b → r.size ≡ 276 → IsAt r place 260 (block_piece b) → block_align b ≡ 16
+ready_at : (r : Extent) (place : ℕ) (g : Group) (b : Option ScratchBlock) → g.daram ≡ b → r.size ≡ 1044 → IsAt r place 1028 (block_piece b) → block_align b ≡ 16
     → g.saram ≡ None → g.external ≡ None → IsReady g
 ready_at r place g None e size at align saram external = absurd at
 ready_at r place g (Some b) e size at align saram external = record {
-  daram = subst (λ (x : Option ScratchBlock). MatchOption x ⊥ (λ y. IsHome 260 y.piece × (y.align ≡ 16))) (sym e) (home_at r place 260 276 b.piece size (lit≤ tt) at, align);
+  daram = subst (λ (x : Option ScratchBlock). MatchOption x ⊥ (λ y. IsHome 1028 y.piece × (y.align ≡ 16))) (sym e) (home_at r place 1028 1044 b.piece size (lit≤ tt) at, align);
   saram = saram;
   external = external;
 }
@@ -88,7 +88,7 @@ stands_by daram saram external block kept s t shared shared' g g' st table own s
   third = none_same s.own.p2 t.own.p2 st.third own.p2;
   fourth = none_same s.own.p3 t.own.p3 st.fourth own.p3;
   shared_pieces = still_none shared shared' st.shared_pieces same;
-  group_block = at_same daram block 260 (block_piece g.daram) (block_piece g'.daram) st.group_block group.daram.0;
+  group_block = at_same daram block 1028 (block_piece g.daram) (block_piece g'.daram) st.group_block group.daram.0;
   align = group.daram.1 ∙ st.align;
   no_saram = none_stays g.saram g'.saram group.saram st.no_saram;
   no_external = none_stays g.external g'.external group.external st.no_external;
@@ -132,18 +132,18 @@ stands_shifted {M} {daram} {saram} {external} {block} {kept} {s} {shared} {g} {g
   third = st.third;
   fourth = st.fourth;
   shared_pieces = st.shared_pieces;
-  group_block = at_by daram hole.region 0 hole.place 260 (length (block_words g.daram)) (block_piece g'.daram) at.0 at.1 (block_at daram block 260 g.daram st.group_block) moved;
+  group_block = at_by daram hole.region 0 hole.place 1028 (length (block_words g.daram)) (block_piece g'.daram) at.0 at.1 (block_at daram block 1028 g.daram st.group_block) moved;
   align = align;
   no_saram = same.others Saram saram_is_not_daram ∙ st.no_saram;
   no_external = same.others External external_is_not_daram ∙ st.no_external;
 }
 
 -- what the block left
-pub hole_behind : (daram : Extent) (block n : ℕ) (hole left : Span) (b : Option ScratchBlock) → IsAt daram block 260 (block_piece b) → IsAt daram 0 n (Some hole)
-    → IsAt hole.region (hole.place + length (block_words b)) (length hole.words) (Some left) → IsAt daram 260 n (Some left)
+pub hole_behind : (daram : Extent) (block n : ℕ) (hole left : Span) (b : Option ScratchBlock) → IsAt daram block 1028 (block_piece b) → IsAt daram 0 n (Some hole)
+    → IsAt hole.region (hole.place + length (block_words b)) (length hole.words) (Some left) → IsAt daram 1028 n (Some left)
 hole_behind daram block n hole left b at before behind =
-    at_by daram hole.region 260 (hole.place + length (block_words b)) n (length hole.words) (Some left) before.0
-    (let size = block_at daram block 260 b at in omega (arith, before.1, size)) before.2 behind
+    at_by daram hole.region 1028 (hole.place + length (block_words b)) n (length hole.words) (Some left) before.0
+    (let size = block_at daram block 1028 b at in omega (arith, before.1, size)) before.2 behind
 
 pub adjoins_at : (r : Extent) (place n place' m : ℕ) (hole s : Span) → place' ≡ place + n → IsAt r place n (Some hole) → IsAt r place' m (Some s) → Adjoins hole s
 adjoins_at r place n place' m hole s e before at = (at.0 ∙ sym before.0, omega (arith, at.1, e, before.1, before.2))
@@ -199,7 +199,7 @@ whole_at n all whole size = (refl, whole.0, whole.1 ∙ size)
 
 -- the filter as it was settled
 pub stands_first : {M : Type 0} (daram saram external block kept : Span) (s : Instance M) (shared shared' : Pieces) (g g' : Group)
-    → IsWhole daram → daram.region.size ≡ 276 → IsWhole saram → saram.region.size ≡ 8 → IsWhole external → external.region.size ≡ 4
+    → IsWhole daram → daram.region.size ≡ 1044 → IsWhole saram → saram.region.size ≡ 8 → IsWhole external → external.region.size ≡ 4
     → (block.region ≡ daram.region) × (block.place ≡ daram.place + 16) × (block.words ≡ drop 16 daram.words)
     → (kept.region ≡ saram.region) × (kept.place ≡ saram.place + 4) × (kept.words ≡ drop 4 saram.words)
     → ((space : Space) → block_in g space ≡ None) → g'.daram ≡ Some (record { piece = block; align = 16 }) → SameBut Daram g g'
@@ -216,15 +216,15 @@ stands_first daram saram external block kept s shared shared' g g' whole_d size_
   third = others.0;
   fourth = others.1;
   shared_pieces = still_none shared shared' no_shared pieces;
-  group_block = subst (λ (b : Option ScratchBlock). IsAt daram.region 16 260 (block_piece b)) (sym placed) (right_part 16 260 daram block whole_d (sym size_d) cut_d);
+  group_block = subst (λ (b : Option ScratchBlock). IsAt daram.region 16 1028 (block_piece b)) (sym placed) (right_part 16 1028 daram block whole_d (sym size_d) cut_d);
   align = ap block_align placed;
   no_saram = same.others Saram saram_is_not_daram ∙ absent Saram;
   no_external = same.others External external_is_not_daram ∙ absent External;
 }
 
-pub home_behind : (all s : Span) → IsWhole all → all.region.size ≡ 276
-    → (s.region ≡ all.region) × (s.place ≡ all.place + 16) × (s.words ≡ drop 16 all.words) → IsHome 260 s
-home_behind all s whole size cut = home_at all.region 16 260 276 s size (lit≤ tt) (right_part 16 260 all s whole (sym size) cut)
+pub home_behind : (all s : Span) → IsWhole all → all.region.size ≡ 1044
+    → (s.region ≡ all.region) × (s.place ≡ all.place + 16) × (s.words ≡ drop 16 all.words) → IsHome 1028 s
+home_behind all s whole size cut = home_at all.region 16 1028 1044 s size (lit≤ tt) (right_part 16 1028 all s whole (sym size) cut)
 
 -- the regions by other names
 pub in_regions : {M : Type 0} {daram saram external : Extent} {block kept : ℕ} {s : Instance M} {shared : Pieces} {g : Group} (d s' e : Extent)

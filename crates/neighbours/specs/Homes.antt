@@ -12,7 +12,7 @@ use Rattle.lifecycle.specs.declared.instance.Instance.{Instance}
 
 -- the records of a filter of two coefficients
 abbrev pub two_taps : List MemRec
-two_taps = filter_records (record { kept = 3; running = 257; align = 16 })
+two_taps = filter_records (record { kept = 3; running = 1025; align = 16 })
 
 abbrev pub no_pieces : Pieces
 no_pieces = record { p0 = None; p1 = None; p2 = None; p3 = None }
@@ -24,7 +24,7 @@ pub record IsHome (n : ℕ) (s : Span) : Type 0 where
 
 -- the group has a block in `daram` that is large and aligned enough for these records, and no other
 pub record IsReady (g : Group) : Type 0 where
-  pub daram : MatchOption g.daram ⊥ (λ b. IsHome 260 b.piece × (b.align ≡ 16))
+  pub daram : MatchOption g.daram ⊥ (λ b. IsHome 1028 b.piece × (b.align ≡ 16))
   pub saram : g.saram ≡ None
   pub external : g.external ≡ None
 
@@ -34,7 +34,7 @@ IsAt region place n p = MatchOption p ⊥ (λ s. (s.region ≡ region) × (s.pla
 
 -- a filter stands in these regions, where its group's block and its kept words begin at these places
 pub record Stands {M : Type 0} (daram saram external : Extent) (block kept : ℕ) (s : Instance M) (shared : Pieces) (g : Group) : Type 0 where
-  pub daram_size : daram.size ≡ 276
+  pub daram_size : daram.size ≡ 1044
   pub saram_size : saram.size ≡ 8
   pub external_size : external.size ≡ 4
   pub table : unplaced s.table ≡ two_taps
@@ -43,7 +43,7 @@ pub record Stands {M : Type 0} (daram saram external : Extent) (block kept : ℕ
   pub third : s.own.p2 ≡ None
   pub fourth : s.own.p3 ≡ None
   pub shared_pieces : shared ≡ no_pieces
-  pub group_block : IsAt daram block 260 (block_piece g.daram)
+  pub group_block : IsAt daram block 1028 (block_piece g.daram)
   pub align : block_align g.daram ≡ 16
   pub no_saram : g.saram ≡ None
   pub no_external : g.external ≡ None

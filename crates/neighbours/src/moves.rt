@@ -28,7 +28,7 @@ fn settled(
     none: &mut Pieces,
     group: &mut Group,
 ) -> (Idle<Fir>, Piece, Piece)
-    requires daram { IsWhole daram × (daram.region.size ≡ 276) }
+    requires daram { IsWhole daram × (daram.region.size ≡ 1044) }
     requires saram { IsWhole saram × (saram.region.size ≡ 8) }
     requires external { IsWhole external × (external.region.size ≡ 4) }
     requires none { none.old ≡ no_pieces }
@@ -72,7 +72,7 @@ fn close<A: Allocator>(
     space: Piece,
 )
     requires stands { Stands daram saram external 0 0 member.instance none group }
-    requires hole { IsAt daram 260 16 (Some hole) }
+    requires hole { IsAt daram 1028 16 (Some hole) }
     requires space { IsAt saram 4 4 (Some space) }
 {
     let mut group = group;
@@ -95,7 +95,7 @@ fn base(table: &MemTab, k: usize) -> Option<u16> {
 
 #[test]
 fn an_idle_member_is_moved(rt: HostRuntime) {
-    let (daram, all) = Region::make(rt.alloc(), 276).expect(&rt, "memory");
+    let (daram, all) = Region::make(rt.alloc(), 1_044).expect(&rt, "memory");
     let (saram, low) = Region::make(rt.alloc(), 8).expect(&rt, "memory");
     let (external, object) = Region::make(rt.alloc(), 4).expect(&rt, "memory");
     let mut group = Group::new();
@@ -122,7 +122,7 @@ fn an_idle_member_is_moved(rt: HostRuntime) {
 
 #[test]
 fn an_active_member_is_moved(rt: HostRuntime) {
-    let (daram, all) = Region::make(rt.alloc(), 276).expect(&rt, "memory");
+    let (daram, all) = Region::make(rt.alloc(), 1_044).expect(&rt, "memory");
     let (saram, low) = Region::make(rt.alloc(), 8).expect(&rt, "memory");
     let (external, object) = Region::make(rt.alloc(), 4).expect(&rt, "memory");
     let mut group = Group::new();

@@ -9,7 +9,7 @@ ghost use Rattle.neighbours.specs.Homes.{IsHome, IsReady, no_pieces, two_taps};
 
 use crate::feed;
 use alg_fir::Fir;
-use ialg::{Block, Ctl, Ialg, PARAMETER_WORDS, Params, Status, Words, copied};
+use ialg::{BLOCK_SAMPLES, Block, Ctl, Ialg, PARAMETER_WORDS, Params, Status, Words, copied};
 use lifecycle::{Idle, room};
 use mem_rec::{MemTab, Space};
 use record_loans::Pieces;
@@ -89,7 +89,7 @@ pub(crate) fn give<M: Ialg>(
 ) -> (Idle<M>, Block)
     requires fits { Fits member.instance.table member.instance.own none.old group.old }
     requires some { 1 ≤ length input.now }
-    requires within { length input.now ≤ 256 }
+    requires within { length input.now ≤ BLOCK_SAMPLES }
     ensures same { SameInstance member.instance result.0.instance }
     ensures none { SamePieces none.old none.new }
     ensures group { SameGroup group.old group.new }
@@ -135,7 +135,7 @@ pub(crate) fn both(rt: &impl Abort, pieces: Pieces) -> (Piece, Piece)
 
 #[test]
 fn members_take_turns(rt: HostRuntime) {
-    let (daram, block) = Region::make(rt.alloc(), 260).expect(&rt, "memory");
+    let (daram, block) = Region::make(rt.alloc(), 1_028).expect(&rt, "memory");
     let (external, object) = Region::make(rt.alloc(), 4).expect(&rt, "memory");
     let (saram, kept) = Region::make(rt.alloc(), 4).expect(&rt, "memory");
     let (other_external, other_object) = Region::make(rt.alloc(), 4).expect(&rt, "memory");

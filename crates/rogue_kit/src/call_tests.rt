@@ -149,10 +149,10 @@ fn a_clinger_touches_one_word_in_one_call(rt: HostRuntime) {
 }
 
 /// Where records of others stand beside a forger's in a host: the object at 4 of external, the kept words at 4 of saram, the scratch words
-/// at 272 of daram. The first six are those of the filters between which one stands in the row of whole runs.
+/// at 1,040 of daram. The first six are those of the filters between which one stands in the row of whole runs.
 const OTHERS: [(Space, u16); 10] = [
     (Space::Daram, 0),
-    (Space::Daram, 544),
+    (Space::Daram, 1_312),
     (Space::Saram, 0),
     (Space::Saram, 12),
     (Space::External, 0),
@@ -180,7 +180,7 @@ fn goes_by<R: Abort>(rt: &R, called: Called, space: Space, base: u16) -> bool {
         MemRec { base: 4, ..object },
         MemRec { base: 4, ..kept },
         MemRec {
-            base: 272,
+            base: 1_040,
             ..scratch
         },
         others,

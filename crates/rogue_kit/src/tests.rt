@@ -79,7 +79,16 @@ fn compare_poisoned<R: Abort + AllocGlobal>(
     row: &Row<'_>,
 ) -> Result<(), Fail> {
     for poison in POISON_WORDS {
-        compare(rt, Config { sizes, poison }, row)?;
+        compare(
+            rt,
+            Config {
+                sizes,
+                poison,
+                in8: 0,
+                out8: 0,
+            },
+            row,
+        )?;
     }
     Ok(())
 }
@@ -186,7 +195,7 @@ fn a_forger_changes_nothing_of_those_between_which_it_stands(rt: HostRuntime) ->
         inputs: BESIDE_INPUTS,
         first: MEANS,
         second: Some(b"\x05\x00\x0f\x00"),
-        replies: b"ok\nok\nok\nok g0@0+260 g1@272+260 g2@544+260\nok i0.r1@0+4 i1.r1@4+8 i2.r1@12+4\nok i0.r0@0+4 i1.r0@4+4 i2.r0@8+4\nok\nok\nok 1\nok 1\nok 1\nok\nok 1\nok 16384 16384\nok 1\nok 16384 16384\n",
+        replies: b"ok\nok\nok\nok g0@0+1028 g1@1040+260 g2@1312+1028\nok i0.r1@0+4 i1.r1@4+8 i2.r1@12+4\nok i0.r0@0+4 i1.r0@4+4 i2.r0@8+4\nok\nok\nok 1\nok 1\nok 1\nok\nok 1\nok 16384 16384\nok 1\nok 16384 16384\n",
         refused: 0,
     };
     compare_poisoned(&rt, FULL, &row)
@@ -218,6 +227,8 @@ fn a_clinger_finds_the_poison_word_and_no_other(rt: HostRuntime) -> Result<(), F
     let config = Config {
         sizes: FULL,
         poison: Some(21_845),
+        in8: 0,
+        out8: 0,
     };
     compare(&rt, config, &row)
 }
@@ -227,6 +238,8 @@ fn scratch_words_are_poisoned_where_a_member_rests(rt: HostRuntime) -> Result<()
     let config = Config {
         sizes: FULL,
         poison: Some(21_845),
+        in8: 0,
+        out8: 0,
     };
     let released = Row {
         script: b"create 0 clinger 0\nchain 0 0\nfeed 0 2\nrelease 0\nfeed 0 1\n",
@@ -261,6 +274,8 @@ fn scratch_words_in_use_are_moved(rt: HostRuntime) -> Result<(), Fail> {
     let config = Config {
         sizes: FULL,
         poison: Some(21_845),
+        in8: 0,
+        out8: 0,
     };
     compare(&rt, config, &row)
 }
@@ -272,10 +287,17 @@ fn two_filters_share_a_block(rt: HostRuntime) -> Result<(), Fail> {
         inputs: (b"\x02\x00\x04\x00", b"\x0a\x00\x14\x00"),
         first: b"\x01\x00\x03\x00",
         second: Some(b"\x05\x00\x0f\x00"),
-        replies: b"ok\nok\nok\nok\nok 1\nok 1\nok 1\nok 1\nok 1 4\nok g0@0+260\nok 1\nok 0\nok - 4\n",
+        replies: b"ok\nok\nok\nok\nok 1\nok 1\nok 1\nok 1\nok 1 4\nok g0@0+1028\nok 1\nok 0\nok - 4\n",
         refused: 0,
     };
-    compare_poisoned(&rt, Sizes { daram: 260, ..FULL }, &row)
+    compare_poisoned(
+        &rt,
+        Sizes {
+            daram: 1_028,
+            ..FULL
+        },
+        &row,
+    )
 }
 
 #[test]
@@ -300,10 +322,17 @@ fn a_filter_goes_on_where_its_scratch_words_are_replaced_and_moved(
         inputs: (b"\x02\x00\x04\x00\x06\x00", b""),
         first: MEANS,
         second: Some(b""),
-        replies: b"ok\nok\nok 1\nok\nok g0@272+264\nok 1\nok 0 2\nok 1\nok g0@0+264\nok 1\nok 0 2\n",
+        replies: b"ok\nok\nok 1\nok\nok g0@1040+1032\nok 1\nok 0 2\nok 1\nok g0@0+1032\nok 1\nok 0 2\n",
         refused: 0,
     };
-    compare_poisoned(&rt, Sizes { daram: 536, ..FULL }, &row)
+    compare_poisoned(
+        &rt,
+        Sizes {
+            daram: 2_072,
+            ..FULL
+        },
+        &row,
+    )
 }
 
 #[test]

@@ -3,9 +3,9 @@ use Rattle.std.proofs.Common.{◌≡◌, ℕ, ◌<◌, ◌≤◌, Bool, true, fa
 use Rattle.std.proofs.lemmas.Bool.Decides.{nat_tests}
 use Rattle.octet_ports.specs.Ports.{Source, Sink, Takes, TakesFirst}
 use Rattle.octet_ports.specs.Lines.{IsLine}
-use Rattle.line_machine.specs.Served.{Machine, Run, Answer, Asked, Nothing, Tell, AskedAnswer, LineAnswer, replies, at_state, long_text, order_of, refusals}
-use Rattle.script_server.specs.Runs.{IsHonest, run_of}
-use Rattle.script_server.specs.LineRuns.{IsServed, IsCut}
+use Rattle.line_machine.specs.Served.{Machine, Run, Answer, Asked, Nothing, Tell, Feed, AskedAnswer, LineAnswer, replies, at_state, long_text, order_of, refusals}
+use Rattle.script_server.specs.Runs.{FailsWithin, IsHonest, StepsAt, Writes, no_source, run_of}
+use Rattle.script_server.specs.LineRuns.{IsServed, IsCut, IsUnfed}
 use Rattle.voice_script.specs.declared.limits.TheConstants.{LINE_OCTETS}
 use Rattle.std.specs.List.{All}
 use Rattle.script_server.proofs.Writes.{writes_none, writes_reply, first_reply, order_of_reply}
@@ -33,6 +33,21 @@ module _ {S : Type 0} (m : Machine S) where
           answered = answered;
         };
       }
+
+  -- the input of a feed failed
+  pub unfed : (state : S) {text octets : List ℕ} {channel count : ℕ} {after : S} {sources new_sources : List Source} {outputs new_outputs : List Sink} {reply new_reply : Sink}
+      → IsLine LINE_OCTETS text false octets → m.Asks state text (Feed channel count) after
+      → StepsAt (FailsWithin count) channel no_source sources new_sources → Writes [] outputs new_outputs reply new_reply
+      → IsUnfed m state octets sources new_sources outputs new_outputs reply new_reply
+  unfed state {channel = channel} {count = count} {after = after} line asks input writes = record {
+    fits = is_short line;
+    channel = channel;
+    count = count;
+    after = after;
+    asks = subst (λ (o : List ℕ). m.Asks state o (Feed channel count) after) (line.is_text refl) asks;
+    input = input;
+    writes = writes;
+  }
 
   -- ---- what is asked
 

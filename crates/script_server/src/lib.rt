@@ -6,5 +6,4 @@ mod line;
 mod serving;
 
 pub use limits::SCRIPT_OCTETS;
-pub use line_machine::{BLOCK_OCTETS, SAMPLE_OCTETS};
 pub use serving::{PortsFault, serve};

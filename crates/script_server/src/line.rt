@@ -1,10 +1,11 @@
 //! Serves one line.
-ghost use Rattle.std.specs.Prelude.{◌≡◌, ◌<◌, ◌≤◌, ◌*◌, ◌⊎◌, List, ℕ, [], true, false, map, length, Ok, All, Any, IfOk, IsOk, IsErrOf};
+ghost use Rattle.std.specs.Prelude.{◌≡◌, ◌<◌, ◌≤◌, ◌⊎◌, List, ℕ, [], true, false, map, length, Ok, All, Any, IfOk, IsOk, IsErrOf};
 ghost use Rattle.std.specs.Result.{is_err};
 ghost use Rattle.octet_ports.specs.Ports.{Sink, Gives, Holds, Takes, TakesFirst, HasPassedAll};
 ghost use Rattle.octet_ports.specs.Lines.{IsLine, EndsWithin};
 ghost use Rattle.line_machine.specs.Asks.{IsReady};
 ghost use Rattle.line_machine.specs.Served.{FeedAnswer, LineAnswer};
+ghost use Rattle.line_machine.specs.Widths.{octet_count};
 ghost use Rattle.voice_script.specs.Replies.{reply_text};
 ghost use Rattle.voice_script.specs.ReplyViews.{reply_of};
 ghost use Rattle.script_server.specs.Runs.{StepsAt, no_source, no_sink, IsHonest, IsReadyIn, IsReadyOut, HasFailedIn, HasFailedOut, AreReady, Writes, AllWait, FailsWithin, run_of, InAscendingOrder};
@@ -12,7 +13,7 @@ ghost use Rattle.script_server.specs.LineRuns.{IsServed, IsCut, IsUnfed};
 
 use crate::serving::PortsFault;
 use ialg::Refusal;
-use line_machine::{Ask, BLOCK_OCTETS, LineMachine, SAMPLE_OCTETS};
+use line_machine::{Ask, BLOCK_OCTETS, LineMachine};
 use octet_ports::{PortFault, PortIn, PortOut, read_octets, write_octets};
 use space_blocks::Map;
 use voice_script::{FeedSamples, LINE_OCTETS, Reply, ReplyText, write_reply};
@@ -101,6 +102,7 @@ fn serve_feed<T: LineMachine, I: PortIn, O: PortOut, P: PortOut>(
     requires one { length inputs.old.items ≡ T.channels machine.old }
     requires pairs { length outputs.old.items ≡ T.channels machine.old }
     requires ready { AreReady (map I.source inputs.old.items) (map O.sink outputs.old.items) (P.sink replies.old) }
+    ensures widths { T.widths machine.new ≡ T.widths machine.old }
     ensures inputs { IsOk result → length inputs.new.items ≡ T.channels machine.new }
     ensures outputs { IsOk result → length outputs.new.items ≡ T.channels machine.new }
     ensures ready { IsOk result → AreReady (map I.source inputs.new.items) (map O.sink outputs.new.items) (P.sink replies.new) }
@@ -108,16 +110,19 @@ fn serve_feed<T: LineMachine, I: PortIn, O: PortOut, P: PortOut>(
     ensures write { IsErrOf result PortsFault.Write → Any HasFailedOut (map O.sink outputs.new.items) ⊎ HasFailedOut (P.sink replies.new) }
     ensures waits { AllWait (map O.sink outputs.old.items) (map O.sink outputs.new.items) (P.sink replies.old) (P.sink replies.new) }
     ensures served { IfOk result (λ refused. (s : T.State) → T.keeps machine.old s → All IsHonest (map I.source inputs.old.items)
-        → IsServed (T.keeps machine.new) (FeedAnswer T.machine (run_of s (map I.source inputs.old.items)) channel (SAMPLE_OCTETS * samples.number)) refused
+        → IsServed (T.keeps machine.new) (FeedAnswer (T.machine (T.widths machine.old)) (run_of s (map I.source inputs.old.items)) channel (octet_count ((T.widths machine.old).input channel) samples.number)) refused
         (map I.source inputs.new.items) (map O.sink outputs.old.items) (map O.sink outputs.new.items) (P.sink replies.old) (P.sink replies.new)) }
     ensures cut { IsErrOf result PortsFault.Write → (s : T.State) → T.keeps machine.old s → All IsHonest (map I.source inputs.old.items)
-        → IsCut (FeedAnswer T.machine (run_of s (map I.source inputs.old.items)) channel (SAMPLE_OCTETS * samples.number))
+        → IsCut (FeedAnswer (T.machine (T.widths machine.old)) (run_of s (map I.source inputs.old.items)) channel (octet_count ((T.widths machine.old).input channel) samples.number))
         (map I.source inputs.new.items) (map O.sink outputs.old.items) (map O.sink outputs.new.items) (P.sink replies.old) (P.sink replies.new) }
-    ensures unread { IsErrOf result PortsFault.Read → StepsAt (FailsWithin (SAMPLE_OCTETS * samples.number)) channel no_source (map I.source inputs.old.items) (map I.source inputs.new.items) }
+    ensures unread { IsErrOf result PortsFault.Read → StepsAt (FailsWithin (octet_count ((T.widths machine.old).input channel) samples.number)) channel no_source (map I.source inputs.old.items) (map I.source inputs.new.items) }
     ensures unfed { IsErrOf result PortsFault.Read → Writes [] (map O.sink outputs.old.items) (map O.sink outputs.new.items) (P.sink replies.old) (P.sink replies.new) }
 {
     let c = usize::from(channel);
-    let octets = SAMPLE_OCTETS * usize::from(samples.number());
+    let octets = machine
+        .input_width(channel)
+        .octets_of(usize::from(samples.number()));
+    let output_width = machine.output_width(channel);
     let whole = match read_from(inputs, c, &mut buffers.block[..octets]) {
         Ok(whole) => whole,
         Err(_) => return Err(PortsFault::Read),
@@ -129,7 +134,7 @@ fn serve_feed<T: LineMachine, I: PortIn, O: PortOut, P: PortOut>(
         };
     }
     let count = machine.feed(channel, samples, &mut buffers.block);
-    if write_to(outputs, c, &buffers.block[..SAMPLE_OCTETS * count]).is_err() {
+    if write_to(outputs, c, &buffers.block[..output_width.octets_of(count)]).is_err() {
         return Err(PortsFault::Write);
     }
     match tell(replies, &Reply::Count(count as u32), &mut buffers.text) {
@@ -152,6 +157,7 @@ pub(crate) fn serve_line<T: LineMachine, I: PortIn, O: PortOut, P: PortOut>(
     requires one { length inputs.old.items ≡ T.channels machine.old }
     requires pairs { length outputs.old.items ≡ T.channels machine.old }
     requires ready { AreReady (map I.source inputs.old.items) (map O.sink outputs.old.items) (P.sink replies.old) }
+    ensures widths { T.widths machine.new ≡ T.widths machine.old }
     ensures inputs { IsOk result → length inputs.new.items ≡ T.channels machine.new }
     ensures outputs { IsOk result → length outputs.new.items ≡ T.channels machine.new }
     ensures ready { IsOk result → AreReady (map I.source inputs.new.items) (map O.sink outputs.new.items) (P.sink replies.new) }
@@ -159,13 +165,13 @@ pub(crate) fn serve_line<T: LineMachine, I: PortIn, O: PortOut, P: PortOut>(
     ensures write { IsErrOf result PortsFault.Write → Any HasFailedOut (map O.sink outputs.new.items) ⊎ HasFailedOut (P.sink replies.new) }
     ensures waits { AllWait (map O.sink outputs.old.items) (map O.sink outputs.new.items) (P.sink replies.old) (P.sink replies.new) }
     ensures served { IfOk result (λ refused. (octets : List ℕ) (s : T.State) → IsLine LINE_OCTETS line.now long octets → T.keeps machine.old s → All IsHonest (map I.source inputs.old.items)
-        → IsServed (T.keeps machine.new) (LineAnswer T.machine (run_of s (map I.source inputs.old.items)) octets) refused
+        → IsServed (T.keeps machine.new) (LineAnswer (T.machine (T.widths machine.old)) (run_of s (map I.source inputs.old.items)) octets) refused
         (map I.source inputs.new.items) (map O.sink outputs.old.items) (map O.sink outputs.new.items) (P.sink replies.old) (P.sink replies.new)) }
     ensures cut { IsErrOf result PortsFault.Write → (octets : List ℕ) (s : T.State) → IsLine LINE_OCTETS line.now long octets → T.keeps machine.old s → All IsHonest (map I.source inputs.old.items)
-        → IsCut (LineAnswer T.machine (run_of s (map I.source inputs.old.items)) octets)
+        → IsCut (LineAnswer (T.machine (T.widths machine.old)) (run_of s (map I.source inputs.old.items)) octets)
         (map I.source inputs.new.items) (map O.sink outputs.old.items) (map O.sink outputs.new.items) (P.sink replies.old) (P.sink replies.new) }
     ensures unfed { IsErrOf result PortsFault.Read → (octets : List ℕ) (s : T.State) → IsLine LINE_OCTETS line.now long octets → T.keeps machine.old s
-        → IsUnfed T.machine s octets (map I.source inputs.old.items) (map I.source inputs.new.items)
+        → IsUnfed (T.machine (T.widths machine.old)) s octets (map I.source inputs.old.items) (map I.source inputs.new.items)
         (map O.sink outputs.old.items) (map O.sink outputs.new.items) (P.sink replies.old) (P.sink replies.new) }
 {
     if long {

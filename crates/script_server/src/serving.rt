@@ -36,13 +36,13 @@ fn serve_script<T: LineMachine, S: PortIn, I: PortIn, O: PortOut, P: PortOut>(
     requires ready { AreReady (map I.source inputs.old.items) (map O.sink outputs.old.items) (P.sink replies.old) }
     ensures few { GivesWithin (SCRIPT_OCTETS + 1) (S.source script.old) (S.source script.new) }
     ensures waits { AllWait (map O.sink outputs.old.items) (map O.sink outputs.new.items) (P.sink replies.old) (P.sink replies.new) }
-    ensures ok { IfOk result (λ refused. ServesAll T.machine (run_of state (map I.source inputs.old.items)) refused
+    ensures ok { IfOk result (λ refused. ServesAll (T.machine (T.widths machine.old)) (run_of state (map I.source inputs.old.items)) refused
         (known_of S.source I.source O.sink P.sink script.old inputs.old.items outputs.old.items replies.old)
         (known_of S.source I.source O.sink P.sink script.new inputs.new.items outputs.new.items replies.new)) }
-    ensures read { IsErrOf result PortsFault.Read → EndsByRead T.machine (run_of state (map I.source inputs.old.items))
+    ensures read { IsErrOf result PortsFault.Read → EndsByRead (T.machine (T.widths machine.old)) (run_of state (map I.source inputs.old.items))
         (known_of S.source I.source O.sink P.sink script.old inputs.old.items outputs.old.items replies.old)
         (known_of S.source I.source O.sink P.sink script.new inputs.new.items outputs.new.items replies.new) }
-    ensures write { IsErrOf result PortsFault.Write → EndsByWrite T.machine (run_of state (map I.source inputs.old.items))
+    ensures write { IsErrOf result PortsFault.Write → EndsByWrite (T.machine (T.widths machine.old)) (run_of state (map I.source inputs.old.items))
         (known_of S.source I.source O.sink P.sink script.old inputs.old.items outputs.old.items replies.old)
         (known_of S.source I.source O.sink P.sink script.new inputs.new.items outputs.new.items replies.new) }
 {
@@ -105,13 +105,13 @@ pub fn serve<T: LineMachine, S: PortIn, I: PortIn, O: PortOut, P: PortOut>(
     requires pairs { length outputs.old.items ≡ T.channels machine.old }
     requires ready { AreReady (map I.source inputs.old.items) (map O.sink outputs.old.items) (P.sink replies.old) }
     ensures few { GivesWithin (SCRIPT_OCTETS + 1) (S.source script.old) (S.source script.new) }
-    ensures ok { IfOk result (λ refused. EndsWell T.machine (run_of state (map I.source inputs.old.items)) refused
+    ensures ok { IfOk result (λ refused. EndsWell (T.machine (T.widths machine.old)) (run_of state (map I.source inputs.old.items)) refused
         (known_of S.source I.source O.sink P.sink script.old inputs.old.items outputs.old.items replies.old)
         (known_of S.source I.source O.sink P.sink script.new inputs.new.items outputs.new.items replies.new)) }
-    ensures read { IsErrOf result PortsFault.Read → EndsByRead T.machine (run_of state (map I.source inputs.old.items))
+    ensures read { IsErrOf result PortsFault.Read → EndsByRead (T.machine (T.widths machine.old)) (run_of state (map I.source inputs.old.items))
         (known_of S.source I.source O.sink P.sink script.old inputs.old.items outputs.old.items replies.old)
         (known_of S.source I.source O.sink P.sink script.new inputs.new.items outputs.new.items replies.new) }
-    ensures write { IsErrOf result PortsFault.Write → EndsByWrite T.machine (run_of state (map I.source inputs.old.items))
+    ensures write { IsErrOf result PortsFault.Write → EndsByWrite (T.machine (T.widths machine.old)) (run_of state (map I.source inputs.old.items))
         (known_of S.source I.source O.sink P.sink script.old inputs.old.items outputs.old.items replies.old)
         (known_of S.source I.source O.sink P.sink script.new inputs.new.items outputs.new.items replies.new) }
 {

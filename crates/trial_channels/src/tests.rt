@@ -83,7 +83,7 @@ fn is_stat(channels: &Trials, group: u8, active: Option<u8>, activations: u32) -
 
 #[test]
 fn two_channels_work_in_one_block_by_turns(rt: HostRuntime) {
-    let host = Host::new(rt.alloc(), sizes(260), None).expect(&rt, "memory");
+    let host = Host::new(rt.alloc(), sizes(1_028), None).expect(&rt, "memory");
     let mut channels = Channels::new(host, 2);
     assert!(rt; create(&rt, &mut channels, 0, FIR, 0, &MEAN).is_ok());
     assert!(rt; create(&rt, &mut channels, 1, FIR, 0, &MEAN).is_ok());
@@ -94,14 +94,14 @@ fn two_channels_work_in_one_block_by_turns(rt: HostRuntime) {
     feed(&rt, &mut channels, 0, &[4], &[3]);
     feed(&rt, &mut channels, 1, &[20], &[15]);
     assert!(rt; is_stat(&channels, 0, Some(1), 4));
-    assert!(rt; is_map(&channels, Space::Daram, &[scratch(0, 0, 260, 16)]));
+    assert!(rt; is_map(&channels, Space::Daram, &[scratch(0, 0, 1_028, 16)]));
     assert!(rt; channels.release(0) == Ok(true));
     assert!(rt; channels.release(0) == Ok(false));
     assert!(rt; is_stat(&channels, 0, None, 4));
     channels.close();
 }
 
-// A channel's filter is fed while another one joins its group, which then has a block of 264 words.
+// A channel's filter is fed while another one joins its group, which then has a block of 1,032 words.
 fn a_group_grows(rt: &impl Abort, channels: &mut Trials) -> Result<(), Refusal> {
     assert!(rt; create(rt, channels, 0, FIR, 0, &MEAN).is_ok());
     assert!(rt; chain(rt, channels, 0, &[0]).is_ok());
@@ -111,28 +111,28 @@ fn a_group_grows(rt: &impl Abort, channels: &mut Trials) -> Result<(), Refusal> 
 
 #[test]
 fn a_channel_goes_on_where_its_block_is_replaced_and_moved(rt: HostRuntime) {
-    let host = Host::new(rt.alloc(), sizes(536), None).expect(&rt, "memory");
+    let host = Host::new(rt.alloc(), sizes(2_072), None).expect(&rt, "memory");
     let mut channels = Channels::new(host, 1);
     assert!(rt; a_group_grows(&rt, &mut channels).is_ok());
-    assert!(rt; is_map(&channels, Space::Daram, &[scratch(0, 272, 264, 16)]));
+    assert!(rt; is_map(&channels, Space::Daram, &[scratch(0, 1_040, 1_032, 16)]));
     feed(&rt, &mut channels, 0, &[4], &[3]);
     assert!(rt; is_stat(&channels, 0, Some(0), 2));
     assert!(rt; channels.compact(Space::Daram) == 1);
-    assert!(rt; is_map(&channels, Space::Daram, &[scratch(0, 0, 264, 16)]));
+    assert!(rt; is_map(&channels, Space::Daram, &[scratch(0, 0, 1_032, 16)]));
     feed(&rt, &mut channels, 0, &[6], &[5]);
     assert!(rt; is_stat(&channels, 0, Some(0), 2));
-    assert!(rt; channels.copied() == 264);
+    assert!(rt; channels.copied() == 1_032);
     assert!(rt; channels.compact(Space::Daram) == 0);
-    assert!(rt; channels.copied() == 264);
+    assert!(rt; channels.copied() == 1_032);
     channels.close();
 }
 
 #[test]
 fn a_channel_goes_on_where_its_group_cannot_grow(rt: HostRuntime) {
-    let host = Host::new(rt.alloc(), sizes(532), None).expect(&rt, "memory");
+    let host = Host::new(rt.alloc(), sizes(2_068), None).expect(&rt, "memory");
     let mut channels = Channels::new(host, 1);
     assert!(rt; a_group_grows(&rt, &mut channels) == Err(Refusal::Room(Space::Daram)));
-    assert!(rt; is_map(&channels, Space::Daram, &[scratch(0, 0, 260, 16)]));
+    assert!(rt; is_map(&channels, Space::Daram, &[scratch(0, 0, 1_028, 16)]));
     feed(&rt, &mut channels, 0, &[4], &[3]);
     assert!(rt; is_stat(&channels, 0, Some(0), 1));
     channels.close();
@@ -140,7 +140,7 @@ fn a_channel_goes_on_where_its_group_cannot_grow(rt: HostRuntime) {
 
 #[test]
 fn a_member_is_not_deleted(rt: HostRuntime) {
-    let host = Host::new(rt.alloc(), sizes(1_024), None).expect(&rt, "memory");
+    let host = Host::new(rt.alloc(), sizes(4_096), None).expect(&rt, "memory");
     let mut channels = Channels::new(host, 1);
     assert!(rt; create(&rt, &mut channels, 3, FIR, 0, &MEAN).is_ok());
     assert!(rt; chain(&rt, &mut channels, 0, &[3]).is_ok());
@@ -158,7 +158,7 @@ fn a_member_is_not_deleted(rt: HostRuntime) {
 
 #[test]
 fn what_cannot_be_fed_is_told(rt: HostRuntime) {
-    let host = Host::new(rt.alloc(), sizes(1_024), None).expect(&rt, "memory");
+    let host = Host::new(rt.alloc(), sizes(4_096), None).expect(&rt, "memory");
     let mut channels = Channels::new(host, 1);
     assert!(rt; create(&rt, &mut channels, 0, FIR, 0, &[16_384]).is_ok());
     assert!(rt; channels.ready(1) == Err(Refusal::Range));
@@ -173,7 +173,7 @@ fn what_cannot_be_fed_is_told(rt: HostRuntime) {
 
 #[test]
 fn a_refused_control_wakes_nobody(rt: HostRuntime) {
-    let host = Host::new(rt.alloc(), sizes(1_024), None).expect(&rt, "memory");
+    let host = Host::new(rt.alloc(), sizes(4_096), None).expect(&rt, "memory");
     let mut channels = Channels::new(host, 1);
     let one = Ctl::Set(words(&rt, &[7]));
     assert!(rt; channels.control(5, &one) == Err(Refusal::Missing));
@@ -190,7 +190,7 @@ fn a_refused_control_wakes_nobody(rt: HostRuntime) {
 
 #[test]
 fn a_creation_is_refused_as_the_host_refuses_it(rt: HostRuntime) {
-    let host = Host::new(rt.alloc(), sizes(1_024), None).expect(&rt, "memory");
+    let host = Host::new(rt.alloc(), sizes(4_096), None).expect(&rt, "memory");
     let mut channels = Channels::new(host, 1);
     assert!(rt; create(&rt, &mut channels, 64, FIR, 0, &[1]) == Err(Refusal::Range));
     assert!(rt; create(&rt, &mut channels, 0, FIR, 8, &[1]) == Err(Refusal::Range));
@@ -206,7 +206,7 @@ fn a_creation_is_refused_as_the_host_refuses_it(rt: HostRuntime) {
 
 #[test]
 fn a_chain_is_refused_in_order(rt: HostRuntime) {
-    let host = Host::new(rt.alloc(), sizes(1_024), None).expect(&rt, "memory");
+    let host = Host::new(rt.alloc(), sizes(4_096), None).expect(&rt, "memory");
     let mut channels = Channels::new(host, 2);
     for i in 0..3u8 {
         assert!(rt; create(&rt, &mut channels, i, FIR, 0, &MEAN).is_ok());
@@ -227,7 +227,7 @@ fn a_chain_is_refused_in_order(rt: HostRuntime) {
 
 #[test]
 fn eight_members_halve_by_turns(rt: HostRuntime) {
-    let host = Host::new(rt.alloc(), sizes(260), None).expect(&rt, "memory");
+    let host = Host::new(rt.alloc(), sizes(1_028), None).expect(&rt, "memory");
     let mut channels = Channels::new(host, 16);
     for i in 0..8u8 {
         assert!(rt; create(&rt, &mut channels, i, FIR, 0, &[16_384]).is_ok());
@@ -240,7 +240,7 @@ fn eight_members_halve_by_turns(rt: HostRuntime) {
 
 #[test]
 fn a_member_that_is_given_nothing_is_not_touched(rt: HostRuntime) {
-    let host = Host::new(rt.alloc(), sizes(1_024), None).expect(&rt, "memory");
+    let host = Host::new(rt.alloc(), sizes(4_096), None).expect(&rt, "memory");
     let mut channels = Channels::new(host, 1);
     assert!(rt; create(&rt, &mut channels, 0, DECIM, 0, &[2, 16_384, 16_384]).is_ok());
     assert!(rt; create(&rt, &mut channels, 1, FIR, 1, &[16_384]).is_ok());
@@ -255,16 +255,16 @@ fn a_member_that_is_given_nothing_is_not_touched(rt: HostRuntime) {
 
 #[test]
 fn a_channel_goes_on_while_memory_moves(rt: HostRuntime) {
-    let host = Host::new(rt.alloc(), sizes(1_024), None).expect(&rt, "memory");
+    let host = Host::new(rt.alloc(), sizes(4_096), None).expect(&rt, "memory");
     let mut channels = Channels::new(host, 1);
     assert!(rt; create(&rt, &mut channels, 0, BIQUAD, 0, &[16_384, 0, 0, 0, 0]).is_ok());
     assert!(rt; create(&rt, &mut channels, 1, FIR, 1, &MEAN).is_ok());
     assert!(rt; chain(&rt, &mut channels, 0, &[1]).is_ok());
     feed(&rt, &mut channels, 0, &[2], &[1]);
     assert!(rt; channels.delete(0).is_ok());
-    assert!(rt; is_map(&channels, Space::Daram, &[scratch(1, 16, 260, 16)]));
+    assert!(rt; is_map(&channels, Space::Daram, &[scratch(1, 16, 1_028, 16)]));
     assert!(rt; channels.step(Space::Daram));
-    assert!(rt; is_map(&channels, Space::Daram, &[scratch(1, 0, 260, 16)]));
+    assert!(rt; is_map(&channels, Space::Daram, &[scratch(1, 0, 1_028, 16)]));
     feed(&rt, &mut channels, 0, &[4], &[3]);
     assert!(rt; !channels.step(Space::Daram));
     assert!(rt; channels.compact(Space::Saram) == 1);
@@ -275,7 +275,7 @@ fn a_channel_goes_on_while_memory_moves(rt: HostRuntime) {
 
 #[test]
 fn members_keep_their_histories_from_channel_to_channel(rt: HostRuntime) {
-    let host = Host::new(rt.alloc(), sizes(1_024), None).expect(&rt, "memory");
+    let host = Host::new(rt.alloc(), sizes(4_096), None).expect(&rt, "memory");
     let mut channels = Channels::new(host, 2);
     assert!(rt; create(&rt, &mut channels, 0, FIR, 0, &MEAN).is_ok());
     assert!(rt; chain(&rt, &mut channels, 0, &[0]).is_ok());
@@ -290,10 +290,10 @@ fn members_keep_their_histories_from_channel_to_channel(rt: HostRuntime) {
 #[test]
 fn a_scribbler_between_two_filters_spoils_neither(rt: HostRuntime) {
     for poison in [None, Some(0), Some(21_845), Some(-1)] {
-        let host = Host::new(rt.alloc(), sizes(260), poison).expect(&rt, "memory");
+        let host = Host::new(rt.alloc(), sizes(1_028), poison).expect(&rt, "memory");
         let mut channels = Channels::new(host, 1);
         assert!(rt; create(&rt, &mut channels, 0, FIR, 0, &MEAN).is_ok());
-        assert!(rt; create(&rt, &mut channels, 1, Trial::Scribbler, 0, &[0, 260, 16]).is_ok());
+        assert!(rt; create(&rt, &mut channels, 1, Trial::Scribbler, 0, &[0, 1_028, 16]).is_ok());
         assert!(rt; create(&rt, &mut channels, 2, FIR, 0, &MEAN).is_ok());
         assert!(rt; chain(&rt, &mut channels, 0, &[0, 1, 2]).is_ok());
         feed(&rt, &mut channels, 0, &[4], &[1]);
@@ -305,7 +305,7 @@ fn a_scribbler_between_two_filters_spoils_neither(rt: HostRuntime) {
 
 #[test]
 fn a_cut_does_not_show(rt: HostRuntime) {
-    let host = Host::new(rt.alloc(), sizes(1_024), None).expect(&rt, "memory");
+    let host = Host::new(rt.alloc(), sizes(4_096), None).expect(&rt, "memory");
     let mut channels = Channels::new(host, 2);
     for i in [0u8, 2] {
         assert!(rt; create(&rt, &mut channels, i, DECIM, 0, &[2, 16_384, 16_384]).is_ok());

@@ -39,14 +39,14 @@ fn sizes(daram: u32, saram: u32) -> Sizes {
 
 #[test]
 fn channels_that_are_given_the_same_agree(rt: HostRuntime) {
-    let host = Host::new(rt.alloc(), sizes(1_024, 1_024), None).expect(&rt, "memory");
+    let host = Host::new(rt.alloc(), sizes(4_096, 1_024), None).expect(&rt, "memory");
     let mut one = Channels::new(host, 1);
     create(&rt, &mut one, 0, DECIM, &BY_TWO);
     create(&rt, &mut one, 1, FIR, &MEAN);
     assert!(rt; one.chain(0, &[0, 1]).is_ok());
     let host = Host::new(rt.alloc(), sizes(2_048, 512), Some(-1)).expect(&rt, "memory");
     let mut other = Channels::new(host, 4);
-    create(&rt, &mut other, 9, Trial::Scribbler, &[0, 260, 16]);
+    create(&rt, &mut other, 9, Trial::Scribbler, &[0, 1_028, 16]);
     create(&rt, &mut other, 7, FIR, &MEAN);
     create(&rt, &mut other, 5, DECIM, &BY_TWO);
     assert!(rt; other.chain(3, &[5, 7]).is_ok() && other.chain(0, &[9]).is_ok());

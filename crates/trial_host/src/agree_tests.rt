@@ -71,7 +71,7 @@ fn answered(request: &Request<Trial>) -> Option<&Result<Status, Refusal>> {
 
 #[test]
 fn lives_that_are_given_the_same_agree(rt: HostRuntime) {
-    let mut one = Host::new(rt.alloc(), sizes(1_024, 1_024, 1_024), None).expect(&rt, "memory");
+    let mut one = Host::new(rt.alloc(), sizes(4_096, 1_024, 1_024), None).expect(&rt, "memory");
     let mut other = Host::new(rt.alloc(), sizes(4_096, 2_048, 64), Some(-1)).expect(&rt, "memory");
     let mut requests = [
         create(&rt, 0, FIR, 0, &[16_384, 16_384]),
@@ -81,7 +81,7 @@ fn lives_that_are_given_the_same_agree(rt: HostRuntime) {
         process(&rt, 0, &[8, 10]),
     ];
     let mut others = [
-        create(&rt, 7, Trial::Scribbler, 3, &[0, 260, 16]),
+        create(&rt, 7, Trial::Scribbler, 3, &[0, 1_028, 16]),
         create(&rt, 5, FIR, 3, &[16_384, 16_384]),
         process(&rt, 5, &[2]),
         process(&rt, 7, &[30, -30]),

@@ -75,7 +75,7 @@ fn is_stat(host: &Host<Trial>, group: u8, active: Option<u8>, activations: u32) 
 
 #[test]
 fn a_block_is_replaced_for_its_alignment_alone(rt: HostRuntime) {
-    let mut host = Host::new(rt.alloc(), sizes(1_024, 1_024, 1_024), None).expect(&rt, "memory");
+    let mut host = Host::new(rt.alloc(), sizes(4_096, 1_024, 1_024), None).expect(&rt, "memory");
     create(&rt, &mut host, 0, Trial::Scribbler, 0, &[0, 100, 4]);
     give(&rt, &mut host, 0, &[7, 8], &[7, 8]);
     assert!(rt; is_map(&host, Space::Daram, &[scratch(0, 0, 100, 4)]));
@@ -90,7 +90,7 @@ fn a_block_is_replaced_for_its_alignment_alone(rt: HostRuntime) {
 
 #[test]
 fn a_first_block_deactivates_nobody(rt: HostRuntime) {
-    let mut host = Host::new(rt.alloc(), sizes(1_024, 1_024, 1_024), None).expect(&rt, "memory");
+    let mut host = Host::new(rt.alloc(), sizes(4_096, 1_024, 1_024), None).expect(&rt, "memory");
     create(&rt, &mut host, 0, FIR, 3, &[16_384, 16_384]);
     give(&rt, &mut host, 0, &[2], &[1]);
     create(&rt, &mut host, 1, Trial::Scribbler, 3, &[1, 60, 16]);
@@ -103,10 +103,10 @@ fn a_first_block_deactivates_nobody(rt: HostRuntime) {
         2,
         Trial::Scribbler,
         3,
-        &[0, 264, 4, 2, 12, 4],
+        &[0, 1_032, 4, 2, 12, 4],
     );
     assert!(rt; is_stat(&host, 3, None, 1));
-    assert!(rt; is_map(&host, Space::Daram, &[scratch(3, 272, 264, 16)]));
+    assert!(rt; is_map(&host, Space::Daram, &[scratch(3, 1_040, 1_032, 16)]));
     give(&rt, &mut host, 2, &[-1], &[-1]);
     give(&rt, &mut host, 0, &[6], &[5]);
     assert!(rt; is_stat(&host, 3, Some(0), 3));
@@ -116,7 +116,7 @@ fn a_first_block_deactivates_nobody(rt: HostRuntime) {
 // A filter's outputs beside a kind that writes over all that it may, in a host of this poison word or of none.
 fn filter_beside_a_scribbler(rt: &impl Abort, host: &mut Host<Trial>) {
     create(rt, host, 0, FIR, 0, &[16_384, 16_384]);
-    create(rt, host, 1, Trial::Scribbler, 0, &[0, 260, 16]);
+    create(rt, host, 1, Trial::Scribbler, 0, &[0, 1_028, 16]);
     give(rt, host, 0, &[2], &[1]);
     give(rt, host, 1, &[10], &[10]);
     give(rt, host, 0, &[4], &[3]);
@@ -124,7 +124,7 @@ fn filter_beside_a_scribbler(rt: &impl Abort, host: &mut Host<Trial>) {
     assert!(rt; is_stat(host, 0, Some(1), 4));
     assert!(rt; host.delete(1).is_ok());
     assert!(rt; is_stat(host, 0, None, 4));
-    create(rt, host, 1, Trial::Scribbler, 0, &[0, 300, 16]);
+    create(rt, host, 1, Trial::Scribbler, 0, &[0, 1_300, 16]);
     give(rt, host, 1, &[30], &[30]);
     assert!(rt; host.compact(Space::Daram) == 1);
     assert!(rt; host.release(0) == Ok(true));
@@ -134,7 +134,7 @@ fn filter_beside_a_scribbler(rt: &impl Abort, host: &mut Host<Trial>) {
 #[test]
 fn a_scribbler_spoils_no_neighbour(rt: HostRuntime) {
     for poison in [None, Some(0), Some(21_845), Some(-1)] {
-        let mut host = Host::new(rt.alloc(), sizes(1_024, 1_024, 1_024), poison).expect(
+        let mut host = Host::new(rt.alloc(), sizes(4_096, 1_024, 1_024), poison).expect(
             &rt, "memory",
         );
         filter_beside_a_scribbler(&rt, &mut host);
@@ -170,7 +170,7 @@ fn spaces_of_no_words_have_room_for_nothing(rt: HostRuntime) {
 
 #[test]
 fn refusals_come_in_their_order(rt: HostRuntime) {
-    let mut host = Host::new(rt.alloc(), sizes(260, 64, 64), Some(5)).expect(&rt, "memory");
+    let mut host = Host::new(rt.alloc(), sizes(1_028, 64, 64), Some(5)).expect(&rt, "memory");
     create(&rt, &mut host, 63, FIR, 0, &[16_384, 16_384]);
     assert!(rt; is_refused(&rt, &mut host, 64, FIR, &[], Refusal::Range));
     assert!(rt; is_refused(&rt, &mut host, 63, FIR, &[], Refusal::Taken));
@@ -181,7 +181,7 @@ fn refusals_come_in_their_order(rt: HostRuntime) {
             &mut host,
             0,
             Trial::Scribbler,
-            &[0, 264, 4],
+            &[0, 1_032, 4],
             Refusal::Room(Space::Daram)
         )
     );
@@ -191,7 +191,7 @@ fn refusals_come_in_their_order(rt: HostRuntime) {
             &mut host,
             0,
             Trial::Scribbler,
-            &[0, 264, 3],
+            &[0, 1_032, 3],
             Refusal::Params
         )
     );

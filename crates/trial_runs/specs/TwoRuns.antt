@@ -13,6 +13,7 @@ use Rattle.voice_script.specs.Script.{lines_of}
 use Rattle.script_server.specs.declared.limits.TheConstants.{SCRIPT_OCTETS}
 use Rattle.script_server.specs.Runs.{AreReady, Devices, EndsByRead, EndsByWrite, EndsWell, IsHonest, IsReadyIn, octets_to_come}
 use Rattle.voice_channel.specs.declared.TheConstants.{CHANNELS}
+use Rattle.line_machine.specs.Widths.{Widths}
 use Rattle.console_machine.specs.Console.{console_machine, start}
 use Rattle.machine_runs.specs.Births.{Born}
 use Rattle.dsp_console.specs.declared.serving.Summary.{Summary}
@@ -33,20 +34,20 @@ pub record IsReadHonestly (devices : Devices) : Type 0 where
   pub script : IsHonest devices.script
   pub inputs : All IsHonest devices.inputs
 
--- a run from a host of these sizes and this poison word ended so, as the engine's runs do
-pub record RunEnds {M : Type 0} (kinds : Meaning M) (named : List ℕ → Option M) (sizes : Sizes) (poison : Option ℤ) (old new : Devices) (result : Result Summary Fault) : Type 0 where
+-- a run over ports of these widths from a host of these sizes and this poison word ended so, as the engine's runs do
+pub record RunEnds {M : Type 0} (kinds : Meaning M) (named : List ℕ → Option M) (widths : Widths) (sizes : Sizes) (poison : Option ℤ) (old new : Devices) (result : Result Summary Fault) : Type 0 where
   pub size : IsErrOf result Size ↔ (¬ AreSizes sizes)
   pub unused : IsErrOf result Size ⊎ IsErrOf result Memory → new ≡ old
   pub few : GivesWithin (SCRIPT_OCTETS + 1) old.script new.script
-  pub ok : IfOk result (λ summary. EndsWell (console_machine kinds named) (start sizes poison (octets_to_come old.inputs)) summary.refused old new)
-  pub read : IsErrOf result Read → EndsByRead (console_machine kinds named) (start sizes poison (octets_to_come old.inputs)) old new
-  pub write : IsErrOf result Write → EndsByWrite (console_machine kinds named) (start sizes poison (octets_to_come old.inputs)) old new
+  pub ok : IfOk result (λ summary. EndsWell (console_machine kinds named widths) (start sizes poison (octets_to_come old.inputs)) summary.refused old new)
+  pub read : IsErrOf result Read → EndsByRead (console_machine kinds named widths) (start sizes poison (octets_to_come old.inputs)) old new
+  pub write : IsErrOf result Write → EndsByWrite (console_machine kinds named widths) (start sizes poison (octets_to_come old.inputs)) old new
 
 -- of each run the headline holds; and of a lawful instance of the one and one of the other, of one kind and with the same parameters:
 pub record RunsAgree {M : Type 0} (kinds : Meaning M) (named : List ℕ → Option M)
-    (sizes : Sizes) (poison : Option ℤ) (old new : Devices) (other_sizes : Sizes) (other_poison : Option ℤ) (other_old other_new : Devices) : Type 0 where
-  pub one : RunHeadline kinds named (lines_of old.script.coming) sizes poison old new
-  pub two : RunHeadline kinds named (lines_of other_old.script.coming) other_sizes other_poison other_old other_new
+    (widths : Widths) (sizes : Sizes) (poison : Option ℤ) (old new : Devices) (other_widths : Widths) (other_sizes : Sizes) (other_poison : Option ℤ) (other_old other_new : Devices) : Type 0 where
+  pub one : RunHeadline kinds named widths (lines_of old.script.coming) sizes poison old new
+  pub two : RunHeadline kinds named other_widths (lines_of other_old.script.coming) other_sizes other_poison other_old other_new
   -- they gave and answered the same, if they were given the same since their creation;
   pub agree : (i j g h : ℕ) (kind : M) (p : List ℤ) (later since : List (Call M))
       → IsTrue (kinds.lawful kind p poison) → Born i kind g p one.says.asked later

@@ -24,6 +24,8 @@ fn config(daram: u32, poison: Option<i16>) -> Config {
             external: 512,
         },
         poison,
+        in8: 0,
+        out8: 0,
     }
 }
 
@@ -46,7 +48,7 @@ fn runs_that_are_given_the_same_agree(rt: HostRuntime) -> Result<(), Fail> {
     };
     let (ended, other_ended) = run_both::<Voice, _, _, _, _>(
         rt.alloc(),
-        config(1_024, None),
+        config(2_048, None),
         &mut one,
         config(4_096, Some(-1)),
         &mut other,

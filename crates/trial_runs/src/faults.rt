@@ -112,6 +112,8 @@ fn run_broken<R: Abort + AllocGlobal>(
     let config = Config {
         sizes: row.sizes,
         poison: Some(-1),
+        in8: 0,
+        out8: 0,
     };
     let ended = run::<Voice, _, _, _, _>(
         rt.alloc(),
@@ -213,6 +215,8 @@ fn run_in_pieces<R: Abort + AllocGlobal>(rt: &R, row: &Row, step: u32) -> Result
     let config = Config {
         sizes: row.sizes,
         poison: Some(-1),
+        in8: 0,
+        out8: 0,
     };
     let ended = run::<Voice, _, _, _, _>(
         rt.alloc(),

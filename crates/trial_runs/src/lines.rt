@@ -32,6 +32,8 @@ fn ending<R: Abort + AllocGlobal>(
     let config = Config {
         sizes: SIZES,
         poison: None,
+        in8: 0,
+        out8: 0,
     };
     let ended = run::<Voice, _, _, _, _>(
         rt.alloc(),

@@ -30,7 +30,7 @@ pub(crate) struct Row {
 /// Two filters of one group by turns, each fed by its own channel, in a space that has room for one scratch block.
 pub(crate) const BY_TURNS: Row = Row {
     sizes: Sizes {
-        daram: 260,
+        daram: 1_028,
         saram: 65_536,
         external: 65_536,
     },
@@ -47,7 +47,7 @@ pub(crate) const BY_TURNS: Row = Row {
         (Port::SecondOutput, b"\x0f\x00"),
         (
             Port::Replies,
-            b"ok 1\nok 1 4\nok g0@0+260\nok 1\nok 0\nok - 4\n",
+            b"ok 1\nok 1 4\nok g0@0+1028\nok 1\nok 0\nok - 4\n",
         ),
     ],
 };
@@ -55,7 +55,7 @@ pub(crate) const BY_TURNS: Row = Row {
 /// A scratch block is replaced by a greater one, and then slides down with what it holds: the member that is active stays so.
 pub(crate) const A_SLIDE: Row = Row {
     sizes: Sizes {
-        daram: 536,
+        daram: 2_072,
         saram: 65_536,
         external: 65_536,
     },
@@ -64,9 +64,9 @@ pub(crate) const A_SLIDE: Row = Row {
     written: &[
         (Port::Replies, b"ok\nok\n"),
         (Port::FirstOutput, b"\x01\x00"),
-        (Port::Replies, b"ok 1\nok\nok g0@272+264\n"),
+        (Port::Replies, b"ok 1\nok\nok g0@1040+1032\n"),
         (Port::FirstOutput, b"\x03\x00"),
-        (Port::Replies, b"ok 1\nok 0 2\nok 1\nok g0@0+264\n"),
+        (Port::Replies, b"ok 1\nok 0 2\nok 1\nok g0@0+1032\n"),
         (Port::FirstOutput, b"\x05\x00"),
         (Port::Replies, b"ok 1\nok 0 2\nok\n"),
         (Port::SecondOutput, b"\xff\xff"),

@@ -5,11 +5,16 @@ use Rattle.lifecycle.specs.States.{Relation}
 use Rattle.channel_machine.specs.Channels.{Channels, members_at, is_chained}
 use Rattle.voice_channel.specs.Channels as channels
 use Rattle.line_machine.specs.Served.{Asked}
+use Rattle.line_machine.specs.Widths.{Widths, widths_in}
 use Rattle.voice_console.specs.declared.console.Console.{Console}
 
 -- as many channels as it was made with
 abbrev pub channels_of : {M : Type 0} → Console M → ℕ
 channels_of console = length console.channels.chained
+
+-- what their ports carry samples as
+abbrev pub port_widths_of : {M : Type 0} → Console M → Widths
+port_widths_of console = widths_in console.widths
 
 -- the channel has members
 abbrev pub TakesFeeds : {M : Type 0} → Console M → ℕ → Type 0

@@ -6,7 +6,7 @@ ghost use Rattle.line_machine.specs.Asks.{asked_of, AskIsReady};
 ghost use Rattle.line_machine.specs.Served.{tells};
 ghost use Rattle.ialg.specs.Views.{control_of};
 ghost use Rattle.console_machine.specs.Console.{ControlAsks, CommandAsks};
-ghost use Rattle.voice_console.specs.Consoles.{channels_of, TakesFeeds, Serves};
+ghost use Rattle.voice_console.specs.Consoles.{channels_of, port_widths_of, TakesFeeds, Serves};
 
 use crate::Console;
 use crate::replies::{tell_done, tell_flag, tell_stat, tell_status};
@@ -19,13 +19,15 @@ use voice_script::{FeedSamples, Members, Reply};
 impl<M: Ialg> Console<M> {
     pub(crate) fn create<'a>(&mut self, i: u8, kind: M, group: u8, parameters: &Params) -> Reply<'a>
         ensures channels { channels_of self.new ≡ channels_of self.old }
-        ensures asks { Serves M.meaning M.idle_keeps M.active_keeps (CommandAsks M.meaning (script.Create i kind group parameters.now.items)) (tells (reply_of result)) self.old self.new }
+        ensures widths { self.new.widths ≡ self.old.widths }
+        ensures asks { Serves M.meaning M.idle_keeps M.active_keeps (CommandAsks M.meaning (port_widths_of self.old) (script.Create i kind group parameters.now.items)) (tells (reply_of result)) self.old self.new }
     {
         tell_done(self.channels.create(i, kind, group, parameters))
     }
 
     pub(crate) fn control<'a>(&mut self, i: u8, control: &Ctl) -> Reply<'a>
         ensures channels { channels_of self.new ≡ channels_of self.old }
+        ensures widths { self.new.widths ≡ self.old.widths }
         ensures asks { Serves M.meaning M.idle_keeps M.active_keeps (ControlAsks M.meaning i (control_of control.now)) (tells (reply_of result)) self.old self.new }
     {
         tell_status(self.channels.control(i, control))
@@ -33,21 +35,24 @@ impl<M: Ialg> Console<M> {
 
     pub(crate) fn delete<'a>(&mut self, i: u8) -> Reply<'a>
         ensures channels { channels_of self.new ≡ channels_of self.old }
-        ensures asks { Serves M.meaning M.idle_keeps M.active_keeps (CommandAsks M.meaning (script.Delete i)) (tells (reply_of result)) self.old self.new }
+        ensures widths { self.new.widths ≡ self.old.widths }
+        ensures asks { Serves M.meaning M.idle_keeps M.active_keeps (CommandAsks M.meaning (port_widths_of self.old) (script.Delete i)) (tells (reply_of result)) self.old self.new }
     {
         tell_done(self.channels.delete(i))
     }
 
     pub(crate) fn chain<'a>(&mut self, c: u8, members: &Members) -> Reply<'a>
         ensures channels { channels_of self.new ≡ channels_of self.old }
-        ensures asks { Serves M.meaning M.idle_keeps M.active_keeps (CommandAsks M.meaning (script.Chain c members.now.numbers.items)) (tells (reply_of result)) self.old self.new }
+        ensures widths { self.new.widths ≡ self.old.widths }
+        ensures asks { Serves M.meaning M.idle_keeps M.active_keeps (CommandAsks M.meaning (port_widths_of self.old) (script.Chain c members.now.numbers.items)) (tells (reply_of result)) self.old self.new }
     {
         tell_done(self.channels.chain(c, members.as_slice()))
     }
 
     pub(crate) fn unchain<'a>(&mut self, c: u8) -> Reply<'a>
         ensures channels { channels_of self.new ≡ channels_of self.old }
-        ensures asks { Serves M.meaning M.idle_keeps M.active_keeps (CommandAsks M.meaning (script.Unchain c)) (tells (reply_of result)) self.old self.new }
+        ensures widths { self.new.widths ≡ self.old.widths }
+        ensures asks { Serves M.meaning M.idle_keeps M.active_keeps (CommandAsks M.meaning (port_widths_of self.old) (script.Unchain c)) (tells (reply_of result)) self.old self.new }
     {
         tell_done(self.channels.unchain(c))
     }
@@ -55,7 +60,7 @@ impl<M: Ialg> Console<M> {
     /// Asks for a feed's samples, where the channel is ready.
     pub(crate) fn feed_asked<'a>(&self, c: u8, samples: FeedSamples) -> Ask<'a>
         ensures ready { AskIsReady TakesFeeds channels_of self.now result }
-        ensures asks { Serves M.meaning M.idle_keeps M.active_keeps (CommandAsks M.meaning (script.Feed c samples.number)) (asked_of result) self.now self.now }
+        ensures asks { Serves M.meaning M.idle_keeps M.active_keeps (CommandAsks M.meaning (port_widths_of self.now) (script.Feed c samples.number)) (asked_of (port_widths_of self.now) result) self.now self.now }
     {
         match self.channels.ready(c) {
             Ok(()) => Ask::Feed {
@@ -68,35 +73,38 @@ impl<M: Ialg> Console<M> {
 
     pub(crate) fn compact<'a>(&mut self, space: Space) -> Reply<'a>
         ensures channels { channels_of self.new ≡ channels_of self.old }
-        ensures asks { Serves M.meaning M.idle_keeps M.active_keeps (CommandAsks M.meaning (script.Compact space)) (tells (reply_of result)) self.old self.new }
+        ensures widths { self.new.widths ≡ self.old.widths }
+        ensures asks { Serves M.meaning M.idle_keeps M.active_keeps (CommandAsks M.meaning (port_widths_of self.old) (script.Compact space)) (tells (reply_of result)) self.old self.new }
     {
         Reply::Count(self.channels.compact(space))
     }
 
     pub(crate) fn step<'a>(&mut self, space: Space) -> Reply<'a>
         ensures channels { channels_of self.new ≡ channels_of self.old }
-        ensures asks { Serves M.meaning M.idle_keeps M.active_keeps (CommandAsks M.meaning (script.Step space)) (tells (reply_of result)) self.old self.new }
+        ensures widths { self.new.widths ≡ self.old.widths }
+        ensures asks { Serves M.meaning M.idle_keeps M.active_keeps (CommandAsks M.meaning (port_widths_of self.old) (script.Step space)) (tells (reply_of result)) self.old self.new }
     {
         Reply::Flag(self.channels.step(space))
     }
 
     pub(crate) fn release<'a>(&mut self, group: u8) -> Reply<'a>
         ensures channels { channels_of self.new ≡ channels_of self.old }
-        ensures asks { Serves M.meaning M.idle_keeps M.active_keeps (CommandAsks M.meaning (script.Release group)) (tells (reply_of result)) self.old self.new }
+        ensures widths { self.new.widths ≡ self.old.widths }
+        ensures asks { Serves M.meaning M.idle_keeps M.active_keeps (CommandAsks M.meaning (port_widths_of self.old) (script.Release group)) (tells (reply_of result)) self.old self.new }
     {
         tell_flag(self.channels.release(group))
     }
 
     /// Puts the blocks of the space in place of what the map held.
     pub(crate) fn map<'a>(&self, space: Space, map: &'a mut Map) -> Reply<'a>
-        ensures asks { Serves M.meaning M.idle_keeps M.active_keeps (CommandAsks M.meaning (script.Map space)) (tells (reply_of result)) self.now self.now }
+        ensures asks { Serves M.meaning M.idle_keeps M.active_keeps (CommandAsks M.meaning (port_widths_of self.now) (script.Map space)) (tells (reply_of result)) self.now self.now }
     {
         *map = self.channels.map(space);
         Reply::Map(map)
     }
 
     pub(crate) fn stat<'a>(&self, group: u8) -> Reply<'a>
-        ensures asks { Serves M.meaning M.idle_keeps M.active_keeps (CommandAsks M.meaning (script.Stat group)) (tells (reply_of result)) self.now self.now }
+        ensures asks { Serves M.meaning M.idle_keeps M.active_keeps (CommandAsks M.meaning (port_widths_of self.now) (script.Stat group)) (tells (reply_of result)) self.now self.now }
     {
         tell_stat(self.channels.stat(group))
     }

@@ -9,5 +9,6 @@ mod replies;
 mod samples;
 
 pub use console::Console;
+pub use line_machine::PortWidths;
 // what a console stands over
 pub use voice_channel::{CHANNELS, Host, Sizes, StartError};

@@ -1,34 +1,36 @@
 //! What the console does with lines.
-ghost use Rattle.std.specs.Prelude.{◌≡◌, ◌*◌, true, length};
+ghost use Rattle.std.specs.Prelude.{◌≡◌, true, length};
 ghost use Rattle.channel_machine.specs.Channels.{members_at, is_chained};
 ghost use Rattle.channel_machine.specs.Calls.Call.{Feed};
 ghost use Rattle.voice_channel.specs.Channels.{Serves};
-ghost use Rattle.console_machine.specs.Samples.{samples_of};
+ghost use Rattle.line_machine.specs.Widths.{octet_count};
+ghost use Rattle.console_machine.specs.Samples.{samples_at};
 
 use crate::Console;
 use crate::samples::{read_samples, write_samples};
 use ialg::{BLOCK_SAMPLES, Block, Ialg, Named, Params};
-use line_machine::{Ask, BLOCK_OCTETS, LineMachine, SAMPLE_OCTETS};
+use line_machine::{Ask, BLOCK_OCTETS, LineMachine, Width};
 use voice_channel::{Channels, Map};
 use voice_script::{FeedSamples, Reply, parse};
 
-/// Passes the samples of the octets through a channel: they stand in `input` then, and what the channel gives takes the place of what
+/// Passes the samples of the octets, by the width of their port, through a channel: they stand in `input` then, and what the channel gives takes the place of what
 /// `given` held.
 fn pass<M: Ialg>(
     channels: &mut Channels<M>,
     channel: u8,
     samples: FeedSamples,
+    width: Width,
     octets: &[u8],
     input: &mut [i16; BLOCK_SAMPLES],
     given: &mut Block,
 )
     requires ready { is_chained (members_at channels.old.chained channel) ≡ true }
-    requires whole { length octets.now ≡ SAMPLE_OCTETS * samples.number }
+    requires whole { length octets.now ≡ octet_count width samples.number }
     ensures chained { channels.new.chained ≡ channels.old.chained }
-    ensures machine { Serves M.meaning M.idle_keeps M.active_keeps (Feed channel (samples_of octets.now) given.new.items) channels.old channels.new }
+    ensures machine { Serves M.meaning M.idle_keeps M.active_keeps (Feed channel (samples_at width octets.now) given.new.items) channels.old channels.new }
 {
     let block = &mut input[..usize::from(samples.number())];
-    read_samples(octets, block);
+    read_samples(width, octets, block);
     given.clear();
     channels.feed(channel, block, given);
 }
@@ -36,7 +38,7 @@ fn pass<M: Ialg>(
 impl<M: Ialg + Named> LineMachine for Console<M> {
     ghost use Rattle.channel_machine.specs.Channels.{Channels};
     ghost use Rattle.console_machine.specs.Console.{console_machine};
-    ghost use Rattle.voice_console.specs.Consoles.{Keeps, channels_of, TakesFeeds};
+    ghost use Rattle.voice_console.specs.Consoles.{Keeps, channels_of, port_widths_of, TakesFeeds};
 
     ghost State = { Channels M };
 
@@ -46,7 +48,17 @@ impl<M: Ialg + Named> LineMachine for Console<M> {
 
     ghost channels = { channels_of };
 
+    ghost widths = { port_widths_of };
+
     ghost takes_feeds = { TakesFeeds };
+
+    fn input_width(&self, channel: u8) -> Width {
+        self.widths.input(channel)
+    }
+
+    fn output_width(&self, channel: u8) -> Width {
+        self.widths.output(channel)
+    }
 
     fn ask<'a>(&mut self, line: &[u8], map: &'a mut Map) -> Ask<'a> {
         let mut room = Params::new();
@@ -58,17 +70,21 @@ impl<M: Ialg + Named> LineMachine for Console<M> {
     }
 
     fn feed(&mut self, channel: u8, samples: FeedSamples, block: &mut [u8; BLOCK_OCTETS]) -> usize {
-        let octets = SAMPLE_OCTETS * usize::from(samples.number());
+        let input_width = self.input_width(channel);
+        let octets = input_width.octets_of(usize::from(samples.number()));
         pass(
             &mut self.channels,
             channel,
             samples,
+            input_width,
             &block[..octets],
             &mut self.input,
             &mut self.given,
         );
         let count = self.given.len();
-        write_samples(self.given.as_slice(), &mut block[..SAMPLE_OCTETS * count]);
+        let output_width = self.output_width(channel);
+        let octets = output_width.octets_of(count);
+        write_samples(output_width, self.given.as_slice(), &mut block[..octets]);
         count
     }
 }

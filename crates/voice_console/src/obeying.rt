@@ -3,7 +3,7 @@ ghost use Rattle.std.specs.Prelude.{◌≡◌};
 ghost use Rattle.voice_script.specs.Commands.{command_of};
 ghost use Rattle.line_machine.specs.Asks.{asked_of, AskIsReady};
 ghost use Rattle.console_machine.specs.Console.{CommandAsks};
-ghost use Rattle.voice_console.specs.Consoles.{channels_of, TakesFeeds, Serves};
+ghost use Rattle.voice_console.specs.Consoles.{channels_of, port_widths_of, TakesFeeds, Serves};
 
 use crate::Console;
 use ialg::{Ctl, Ialg, copied};
@@ -15,8 +15,9 @@ impl<M: Ialg> Console<M> {
     /// Does what a command asks; a feed's samples are yet to come.
     pub(crate) fn obey<'a>(&mut self, command: Command<'_, M>, map: &'a mut Map) -> Ask<'a>
         ensures channels { channels_of self.new ≡ channels_of self.old }
+        ensures widths { self.new.widths ≡ self.old.widths }
         ensures ready { AskIsReady TakesFeeds channels_of self.new result }
-        ensures asks { Serves M.meaning M.idle_keeps M.active_keeps (CommandAsks M.meaning (command_of command.entry)) (asked_of result) self.old self.new }
+        ensures asks { Serves M.meaning M.idle_keeps M.active_keeps (CommandAsks M.meaning (port_widths_of self.old) (command_of command.entry)) (asked_of (port_widths_of self.old) result) self.old self.new }
     {
         match command {
             Command::Create {

@@ -46,8 +46,8 @@ ranges = record {
   sample_1 = refl;
   samples_0 = refl;
   samples_below_0 = refl;
-  samples_256 = refl;
-  samples_257 = refl;
+  samples_1024 = refl;
+  samples_1025 = refl;
 }
 
 pub numbers : NumberRows

@@ -73,8 +73,8 @@ pub record RangeRows : Type 0 where
   pub sample_1 : Asks (codes "feed 0 1") (Feed 0 1)
   pub samples_0 : Refuses (codes "feed 0 0") Range
   pub samples_below_0 : Refuses (codes "feed 0 -1") Range
-  pub samples_256 : Asks (codes "feed 0 256") (Feed 0 256)
-  pub samples_257 : Refuses (codes "feed 0 257") Range
+  pub samples_1024 : Asks (codes "feed 0 1024") (Feed 0 1024)
+  pub samples_1025 : Refuses (codes "feed 0 1025") Range
 
 pub record NumberRows : Type 0 where
   pub leading_zeros : Asks (codes "feed 00 007") (Feed 0 7)

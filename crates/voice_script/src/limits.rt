@@ -35,7 +35,7 @@ pub const MEMBERS: usize = 8;
 // the grammar's own limits, whatever they are made of
 const _: () = prove!(LINE_OCTETS == 1_024);
 
-const _: () = prove!(FEED_SAMPLES == 256);
+const _: () = prove!(FEED_SAMPLES == 1_024);
 
 const _: () = prove!(PARAMETER_WORDS == 72);
 

@@ -71,7 +71,7 @@ fn parses_a_chain(rt: HostRuntime) -> Result<(), Fail> {
 #[test]
 fn parses_a_feed(rt: HostRuntime) -> Result<(), Fail> {
     let mut room = Params::new();
-    let Ok(Some(Command::Feed { channel, samples })) = parse::<Pitch>(b"feed -0 256", &mut room)
+    let Ok(Some(Command::Feed { channel, samples })) = parse::<Pitch>(b"feed -0 1024", &mut room)
     else {
         return Err("it is a feed".into());
     };

@@ -7,7 +7,7 @@ use Rattle.fir_kernel.proofs.bounded.filter_bounded.Goals as goal
 use Rattle.fir_kernel.proofs.bounded.filter_bounded.Goals.{then-coefficients-le-LANES, else-coefficients-le-LANES}
 
 pub returns : goal.returns
-returns c i b =
+returns g c i b =
     let cs = c.args.coefficients.now in
     let taps = c.reverse.new.taps in
     let line = c.args.line.now in

@@ -4,7 +4,7 @@ use Rattle.fir_kernel.specs.Sums.{l_mac_sum}
 use Rattle.fir_kernel.proofs.kernel.sum_outputs.Goals as goal
 
 pub returns-then-step-eq1 : goal.returns-then-step-eq1
-returns-then-step-eq1 c i b =
+returns-then-step-eq1 g c i b =
     let cs = c.args.coefficients.now in
     let one : c.args.step ≡ 1 = omega arith in
     let same : c.args.first + i ≡ c.args.first + c.args.step * i = rw one (omega arith) in

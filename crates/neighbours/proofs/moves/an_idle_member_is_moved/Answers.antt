@@ -49,7 +49,7 @@ close-requires-clause-hole g c =
     let daram = (rw c.expect-daram.ensures at c.make.ensures.whole).0 in
     let hole = c.settled-member.ensures.hole in
     let before = stands_after c.settled-member.ensures.stands c.give-member.ensures.same c.give-member.ensures.none c.give-member.ensures.group in
-    at_region _ c.expect-daram.result.0 260 16 c.shift-hole.result daram (hole_behind _ 16 16 c.settled-member.result.1 c.shift-hole.result c.give-member.new.group.daram before.group_block hole c.shift-hole.ensures.hole)
+    at_region _ c.expect-daram.result.0 1028 16 c.shift-hole.result daram (hole_behind _ 16 16 c.settled-member.result.1 c.shift-hole.result c.give-member.new.group.daram before.group_block hole c.shift-hole.ensures.hole)
 
 pub close-requires-clause-space : goal.close-requires-clause-space
 close-requires-clause-space g c =

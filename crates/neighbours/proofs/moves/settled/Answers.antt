@@ -16,7 +16,7 @@ returns-clause-stands g c =
     c.requires.none c.filter-member.ensures.none
 
 pub returns-clause-hole : goal.returns-clause-hole
-returns-clause-hole g c = left_part 16 260 c.args.daram c.split-hole.result.0 c.requires.daram.0 (sym c.requires.daram.1) c.split-hole.ensures.left
+returns-clause-hole g c = left_part 16 1028 c.args.daram c.split-hole.result.0 c.requires.daram.0 (sym c.requires.daram.1) c.split-hole.ensures.left
 
 pub returns-clause-space : goal.returns-clause-space
 returns-clause-space g c = left_part 4 4 c.args.saram c.split-space.result.0 c.requires.saram.0 (sym c.requires.saram.1) c.split-space.ensures.left

@@ -21,7 +21,7 @@ filter-first-requires-clause-ready g c =
     let whole = rw c.expect-daram.ensures at c.make.ensures.whole in
     let size = rw c.expect-daram.ensures at c.make.ensures.region in
     ready_group c.new-group.result c.replace.new.self c.expect-daram.result.1 c.new-group.ensures.blocks c.replace.ensures.new c.replace.ensures.others
-    (home 260 c.expect-daram.result.1 c.expect-daram.result.0 (lit≤ tt) size whole)
+    (home 1028 c.expect-daram.result.1 c.expect-daram.result.0 (lit≤ tt) size whole)
 
 pub filter-second-requires-clause-object : goal.filter-second-requires-clause-object
 filter-second-requires-clause-object g c =
@@ -40,7 +40,7 @@ filter-second-requires-clause-ready g c =
     let whole = rw c.expect-daram.ensures at c.make.ensures.whole in
     let size = rw c.expect-daram.ensures at c.make.ensures.region in
     ready_group c.new-group.result c.replace.new.self c.expect-daram.result.1 c.new-group.ensures.blocks c.replace.ensures.new c.replace.ensures.others
-    (home 260 c.expect-daram.result.1 c.expect-daram.result.0 (lit≤ tt) size whole)
+    (home 1028 c.expect-daram.result.1 c.expect-daram.result.0 (lit≤ tt) size whole)
 
 pub give-second-requires-clause-fits : goal.give-second-requires-clause-fits
 give-second-requires-clause-fits g c =
@@ -58,7 +58,7 @@ end-requires g c =
     let whole = rw c.expect-daram.ensures at c.make.ensures.whole in
     let size = rw c.expect-daram.ensures at c.make.ensures.region in
     let ready = ready_group c.new-group.result c.replace.new.self c.expect-daram.result.1 c.new-group.ensures.blocks c.replace.ensures.new c.replace.ensures.others
-    (home 260 c.expect-daram.result.1 c.expect-daram.result.0 (lit≤ tt) size whole) in
+    (home 1028 c.expect-daram.result.1 c.expect-daram.result.0 (lit≤ tt) size whole) in
     all_gone c.replace.new.self c.give-second-2.new.group c.remove.new.self ready (same_group_then c.replace.new.self c.give-first-2.new.group c.give-second-2.new.group (same_group_then c.replace.new.self c.control-first.new.group c.give-first-2.new.group (same_group_then c.replace.new.self c.give-second.new.group c.control-first.new.group (same_group_then c.replace.new.self c.give-first.new.group c.give-second.new.group c.give-first.ensures.group c.give-second.ensures.group) c.control-first.ensures.group) c.give-first-2.ensures.group) c.give-second-2.ensures.group) c.remove.ensures.others c.remove.ensures.new
 
 pub close-requires-clause-region : goal.close-requires-clause-region

@@ -1,6 +1,6 @@
-use Rattle.std.proofs.Common.{◌≡◌, ◌<◌, ◌*◌, length, true, false, arith, ◌∙◌, Ok, refl, sym, subst}
+use Rattle.std.proofs.Common.{◌≡◌, ◌<◌, length, true, false, arith, ◌∙◌, Ok, refl, sym, subst}
 use Rattle.std.proofs.lemmas.Grind.{common_steps}
-use Rattle.line_machine.specs.declared.limits.TheConstants.{SAMPLE_OCTETS}
+use Rattle.line_machine.specs.Widths.{octet_count}
 use Rattle.script_server.proofs.Steps.{there_in, same_length}
 use Rattle.script_server.proofs.Writes.{writes_none, wait_none, wait_more, wait_reply, wait_took, wait_took_first}
 use Rattle.script_server.proofs.Feeds.{given_first, served_short, cut_short, served_whole, cut_output, cut_told}
@@ -14,9 +14,11 @@ returns-in-Ok-tell-clause-served g c = λ s k h.
     let number = c.from-c.ensures in
     let there = there_in g.I.PortIn.source c.args.inputs.now.items c.requires.one c.requires.channel.there in
     let answer : c.read_from.result ≡ Ok false = cc in
-    let count : length c.read_from.new.octets ≡ SAMPLE_OCTETS * c.args.samples.number = grind (arith, common_steps, c.read_from.auto.octets) in
+    let asked : c.octets_of-octets.result ≡ octet_count ((g.T.LineMachine.widths c.args.machine.now).input c.args.channel) c.args.samples.number = rw (c.input_width.ensures, c.from.ensures, c.number.ensures.value) at c.octets_of-octets.ensures.count in
+    let long : length c.read_from.new.octets ≡ c.octets_of-octets.result = grind (arith, common_steps, c.read_from.auto.octets) in
+    let count = long ∙ asked in
     let same = c.read_from.auto.octets in
-    served_short g.T.LineMachine.machine s (g.T.LineMachine.keeps c.args.machine.now) _ k there h
+    served_short (g.T.LineMachine.machine (g.T.LineMachine.widths c.args.machine.now)) s (g.T.LineMachine.keeps c.args.machine.now) _ k there h
     (rw (number, sym same ∙ count) at (c.read_from.ensures.short answer)) (c.in-Ok-tell.ensures.ok refl)
 
 pub returns-in-Err-tell-clause-cut : goal.returns-in-Err-tell-clause-cut
@@ -24,9 +26,11 @@ returns-in-Err-tell-clause-cut g c = λ is s k h.
     let number = c.from-c.ensures in
     let there = there_in g.I.PortIn.source c.args.inputs.now.items c.requires.one c.requires.channel.there in
     let answer : c.read_from.result ≡ Ok false = cc in
-    let count : length c.read_from.new.octets ≡ SAMPLE_OCTETS * c.args.samples.number = grind (arith, common_steps, c.read_from.auto.octets) in
+    let asked : c.octets_of-octets.result ≡ octet_count ((g.T.LineMachine.widths c.args.machine.now).input c.args.channel) c.args.samples.number = rw (c.input_width.ensures, c.from.ensures, c.number.ensures.value) at c.octets_of-octets.ensures.count in
+    let long : length c.read_from.new.octets ≡ c.octets_of-octets.result = grind (arith, common_steps, c.read_from.auto.octets) in
+    let count = long ∙ asked in
     let same = c.read_from.auto.octets in
-    cut_short g.T.LineMachine.machine s _ there h (rw (number, sym same ∙ count) at (c.read_from.ensures.short answer)) (c.in-Err-tell.ensures.fault refl)
+    cut_short (g.T.LineMachine.machine (g.T.LineMachine.widths c.args.machine.now)) s _ there h (rw (number, sym same ∙ count) at (c.read_from.ensures.short answer)) (c.in-Err-tell.ensures.fault refl)
 
 pub returns-then-is_err-clause-cut : goal.returns-then-is_err-clause-cut
 returns-then-is_err-clause-cut g c = λ is s k h.
@@ -34,10 +38,13 @@ returns-then-is_err-clause-cut g c = λ is s k h.
     let there = there_in g.I.PortIn.source c.args.inputs.now.items c.requires.one c.requires.channel.there in
     let pairs = same_length g.O.PortOut.sink g.I.PortIn.source c.args.outputs.now.items c.args.inputs.now.items c.requires.pairs c.requires.one in
     let answer : c.read_from.result ≡ Ok true = cc in
-    let count : length c.read_from.new.octets ≡ SAMPLE_OCTETS * c.args.samples.number = grind (arith, common_steps, c.read_from.auto.octets) in
+    let asked : c.octets_of-octets.result ≡ octet_count ((g.T.LineMachine.widths c.args.machine.now).input c.args.channel) c.args.samples.number = rw (c.input_width.ensures, c.from.ensures, c.number.ensures.value) at c.octets_of-octets.ensures.count in
+    let long : length c.read_from.new.octets ≡ c.octets_of-octets.result = grind (arith, common_steps, c.read_from.auto.octets) in
+    let count = long ∙ asked in
+    let taken : c.octets_of.result ≡ octet_count ((g.T.LineMachine.widths c.args.machine.now).output c.args.channel) c.feed-count.result = rw c.output_width-output_width.ensures at c.octets_of.ensures.count in
     let given = c.feed-count.ensures.gives s k in
-    cut_output g.T.LineMachine.machine s _ there pairs h count (rw number at (c.read_from.ensures.filled answer)) (given_first g.T.LineMachine.machine s _ count given.1)
-    (rw number at (c.write_to.ensures.fault (sym c.is_err.ensures.value ∙ c.if-is_err.true)))
+    cut_output (g.T.LineMachine.machine (g.T.LineMachine.widths c.args.machine.now)) s _ there pairs h count (rw number at (c.read_from.ensures.filled answer)) (given_first (g.T.LineMachine.machine (g.T.LineMachine.widths c.args.machine.now)) s _ count given.1)
+    (rw (number, taken) at (c.write_to.ensures.fault (sym c.is_err.ensures.value ∙ c.if-is_err.true)))
 
 pub returns-in-Ok-tell-2-clause-served : goal.returns-in-Ok-tell-2-clause-served
 returns-in-Ok-tell-2-clause-served g c = λ s k h.
@@ -45,11 +52,14 @@ returns-in-Ok-tell-2-clause-served g c = λ s k h.
     let there = there_in g.I.PortIn.source c.args.inputs.now.items c.requires.one c.requires.channel.there in
     let pairs = same_length g.O.PortOut.sink g.I.PortIn.source c.args.outputs.now.items c.args.inputs.now.items c.requires.pairs c.requires.one in
     let answer : c.read_from.result ≡ Ok true = cc in
-    let count : length c.read_from.new.octets ≡ SAMPLE_OCTETS * c.args.samples.number = grind (arith, common_steps, c.read_from.auto.octets) in
+    let asked : c.octets_of-octets.result ≡ octet_count ((g.T.LineMachine.widths c.args.machine.now).input c.args.channel) c.args.samples.number = rw (c.input_width.ensures, c.from.ensures, c.number.ensures.value) at c.octets_of-octets.ensures.count in
+    let long : length c.read_from.new.octets ≡ c.octets_of-octets.result = grind (arith, common_steps, c.read_from.auto.octets) in
+    let count = long ∙ asked in
+    let taken : c.octets_of.result ≡ octet_count ((g.T.LineMachine.widths c.args.machine.now).output c.args.channel) c.feed-count.result = rw c.output_width-output_width.ensures at c.octets_of.ensures.count in
     let given = c.feed-count.ensures.gives s k in
-    served_whole g.T.LineMachine.machine s (g.T.LineMachine.keeps c.feed-count.new.self) given.2 there pairs h count
-    (rw number at (c.read_from.ensures.filled answer)) (given_first g.T.LineMachine.machine s _ count given.1)
-    (rw number at (c.write_to.ensures.ok c.if-is_err.ensures.negation)) (c.in-Ok-tell-2.ensures.ok refl)
+    served_whole (g.T.LineMachine.machine (g.T.LineMachine.widths c.args.machine.now)) s (g.T.LineMachine.keeps c.feed-count.new.self) given.2 there pairs h count
+    (rw number at (c.read_from.ensures.filled answer)) (given_first (g.T.LineMachine.machine (g.T.LineMachine.widths c.args.machine.now)) s _ count given.1)
+    (rw (number, taken) at (c.write_to.ensures.ok c.if-is_err.ensures.negation)) (c.in-Ok-tell-2.ensures.ok refl)
 
 pub returns-in-Err-tell-2-clause-cut : goal.returns-in-Err-tell-2-clause-cut
 returns-in-Err-tell-2-clause-cut g c = λ is s k h.
@@ -57,9 +67,19 @@ returns-in-Err-tell-2-clause-cut g c = λ is s k h.
     let there = there_in g.I.PortIn.source c.args.inputs.now.items c.requires.one c.requires.channel.there in
     let pairs = same_length g.O.PortOut.sink g.I.PortIn.source c.args.outputs.now.items c.args.inputs.now.items c.requires.pairs c.requires.one in
     let answer : c.read_from.result ≡ Ok true = cc in
-    let count : length c.read_from.new.octets ≡ SAMPLE_OCTETS * c.args.samples.number = grind (arith, common_steps, c.read_from.auto.octets) in
+    let asked : c.octets_of-octets.result ≡ octet_count ((g.T.LineMachine.widths c.args.machine.now).input c.args.channel) c.args.samples.number = rw (c.input_width.ensures, c.from.ensures, c.number.ensures.value) at c.octets_of-octets.ensures.count in
+    let long : length c.read_from.new.octets ≡ c.octets_of-octets.result = grind (arith, common_steps, c.read_from.auto.octets) in
+    let count = long ∙ asked in
+    let taken : c.octets_of.result ≡ octet_count ((g.T.LineMachine.widths c.args.machine.now).output c.args.channel) c.feed-count.result = rw c.output_width-output_width.ensures at c.octets_of.ensures.count in
     let given = c.feed-count.ensures.gives s k in
-    cut_told g.T.LineMachine.machine s there pairs h count (rw number at (c.read_from.ensures.filled answer)) (given_first g.T.LineMachine.machine s _ count given.1) (rw number at (c.write_to.ensures.ok c.if-is_err.ensures.negation)) (c.in-Err-tell-2.ensures.fault refl)
+    cut_told (g.T.LineMachine.machine (g.T.LineMachine.widths c.args.machine.now)) s there pairs h count (rw number at (c.read_from.ensures.filled answer)) (given_first (g.T.LineMachine.machine (g.T.LineMachine.widths c.args.machine.now)) s _ count given.1) (rw (number, taken) at (c.write_to.ensures.ok c.if-is_err.ensures.negation)) (c.in-Err-tell-2.ensures.fault refl)
+
+pub returns-in-Err-clause-unread : goal.returns-in-Err-clause-unread
+returns-in-Err-clause-unread g c = λ is.
+    let asked : c.octets_of-octets.result ≡ octet_count ((g.T.LineMachine.widths c.args.machine.now).input c.args.channel) c.args.samples.number = rw (c.input_width.ensures, c.from.ensures, c.number.ensures.value) at c.octets_of-octets.ensures.count in
+    let long : length c.read_from.new.octets ≡ c.octets_of-octets.result = grind (arith, common_steps, c.read_from.auto.octets) in
+    let count = long ∙ asked in
+    rw (c.from-c.ensures, sym c.read_from.auto.octets ∙ count) at (c.in-Err.ensures.fault refl)
 
 -- ---- nothing is passed on
 

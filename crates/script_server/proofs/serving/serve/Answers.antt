@@ -7,7 +7,7 @@ use Rattle.script_server.proofs.serving.serve.Goals as goal
 -- an output's flush failed
 pub returns-then-is_err-clause-write : goal.returns-then-is_err-clause-write
 returns-then-is_err-clause-write g c = λ is.
-    let m = g.T.LineMachine.machine in
+    let m = g.T.LineMachine.machine (g.T.LineMachine.widths c.args.machine.now) in
     let start = run_of g.state (map g.I.PortIn.source c.args.inputs.now.items) in
     let outputs_hold = c.flush_outputs.ensures.holds _ in
     let ordered = order_after _ c.serve_script.ensures.waits c.flush_outputs.ensures.order in
@@ -21,7 +21,7 @@ returns-then-is_err-clause-write g c = λ is.
 -- the replies' flush failed
 pub returns-then-is_err-2-clause-write : goal.returns-then-is_err-2-clause-write
 returns-then-is_err-2-clause-write g c = λ is.
-    let m = g.T.LineMachine.machine in
+    let m = g.T.LineMachine.machine (g.T.LineMachine.widths c.args.machine.now) in
     let start = run_of g.state (map g.I.PortIn.source c.args.inputs.now.items) in
     let all_hold = writes_more (c.flush_outputs.ensures.holds _) (writes_reply _ c.flush.ensures.octets) in
     record {
@@ -33,7 +33,7 @@ returns-then-is_err-2-clause-write g c = λ is.
 
 pub returns-clause-ok : goal.returns-clause-ok
 returns-clause-ok g c =
-    let m = g.T.LineMachine.machine in
+    let m = g.T.LineMachine.machine (g.T.LineMachine.widths c.args.machine.now) in
     let start = run_of g.state (map g.I.PortIn.source c.args.inputs.now.items) in
     let serves = c.in-Ok.ensures.ok in
     let both_hold = writes_more (c.flush_outputs.ensures.holds _) (writes_reply _ c.flush.ensures.octets) in

@@ -1,4 +1,4 @@
-use Rattle.std.proofs.Common.{rules, ◌≡◌, arith, ◌+◌, refl, ap, Err, ◌≤◌, length, ◌++◌, ◌∷◌, [], if◌then◌else◌, inl, inr}
+use Rattle.std.proofs.Common.{rules, ◌≡◌, arith, ◌+◌, ◌∙◌, refl, ap, Err, ◌≤◌, length, ◌++◌, ◌∷◌, [], if◌then◌else◌, inl, inr}
 use Rattle.std.proofs.lemmas.Grind.{common_steps}
 use Rattle.octet_ports.proofs.Ports.{gives_none}
 use Rattle.script_server.proofs.Scripts.{served_none, consumes_more}
@@ -11,20 +11,21 @@ use Rattle.script_server.proofs.serving.serve_script.Goals.{then-is_refused, els
 pub lines-init : goal.lines-init
 lines-init g c = record {
   script = search rules;
+  widths = refl;
   one = search rules;
   pairs = search rules;
   ready = search rules;
   few = search rules;
   came = rw (c.new-reader.ensures.none, c.new-reader.ensures.left) (record { octets = []; gives = gives_none (g.S.PortIn.source c.args.script.now); used = refl });
   waits = wait_none _ _;
-  served = λ h. rw (c.new-reader.ensures.none, c.new-reader.ensures.left) (served_none g.T.LineMachine.machine (g.T.LineMachine.keeps c.args.machine.now) g.state _ _ _ _ (search rules) h);
+  served = λ h. rw (c.new-reader.ensures.none, c.new-reader.ensures.left) (served_none (g.T.LineMachine.machine (g.T.LineMachine.widths c.args.machine.now)) (g.T.LineMachine.keeps c.args.machine.now) g.state _ _ _ _ (search rules) h);
 }
 
 pub returns-in-Err-clause-read : goal.returns-in-Err-clause-read
 returns-in-Err-clause-read g c = λ is. record {
   failed = why_failed _ c.in-Err.field-0 c.lines.invariant.came c.in-Err.ensures.err;
   passed = c.lines.invariant.waits;
-  served = λ h. stops_in_script g.T.LineMachine.machine _ _ _ (c.lines.invariant.served h) c.in-Err.field-0 c.in-Err.ensures.err;
+  served = λ h. stops_in_script (g.T.LineMachine.machine (g.T.LineMachine.widths c.args.machine.now)) _ _ _ (c.lines.invariant.served h) c.in-Err.field-0 c.in-Err.ensures.err;
 }
 
 pub returns-in-Err-serve_line-clause-write : goal.returns-in-Err-serve_line-clause-write
@@ -36,8 +37,8 @@ returns-in-Err-serve_line-clause-write g c = λ is.
       passed = inl (wait_more c.lines.invariant.waits c.in-Err-serve_line.ensures.waits).reply;
       order = order_waits (wait_more c.lines.invariant.waits c.in-Err-serve_line.ensures.waits);
       served = λ honest h. let served = c.lines.invariant.served h in
-          script_cut g.T.LineMachine.machine _ _ _ honest served came
-          (c.in-Err-serve_line.ensures.cut (ap Err e) came.octets _ (rw (c.as_slice.ensures.value) came.line) served.kept served.honest);
+          script_cut (g.T.LineMachine.machine (g.T.LineMachine.widths c.args.machine.now)) _ _ _ honest served came
+          (rw c.lines.invariant.widths at (c.in-Err-serve_line.ensures.cut (ap Err e) came.octets _ (rw (c.as_slice.ensures.value) came.line) served.kept served.honest));
     }
 
 pub returns-in-Err-serve_line-clause-read : goal.returns-in-Err-serve_line-clause-read
@@ -48,8 +49,8 @@ returns-in-Err-serve_line-clause-read g c = λ is.
       failed = inr (inl (c.in-Err-serve_line.ensures.read (ap Err e)));
       passed = wait_more c.lines.invariant.waits c.in-Err-serve_line.ensures.waits;
       served = λ h. let served = c.lines.invariant.served h in
-          stops_in_feed g.T.LineMachine.machine _ _ _ c.read_line.new.self.octets served came c.in-Ok.ensures.last c.in-Ok.ensures.few
-          (c.in-Err-serve_line.ensures.unfed (ap Err e) came.octets _ (rw (c.as_slice.ensures.value) came.line) served.kept);
+          stops_in_feed (g.T.LineMachine.machine (g.T.LineMachine.widths c.args.machine.now)) _ _ _ c.read_line.new.self.octets served came c.in-Ok.ensures.last c.in-Ok.ensures.few
+          (rw c.lines.invariant.widths at (c.in-Err-serve_line.ensures.unfed (ap Err e) came.octets _ (rw (c.as_slice.ensures.value) came.line) served.kept));
     }
 
 pub returns-then-line-clause-ok : goal.returns-then-line-clause-ok
@@ -61,8 +62,8 @@ returns-then-line-clause-ok g c =
       script = search rules;
       ready = search rules;
       served = λ honest h. let served = c.lines.invariant.served h in
-          served_all g.T.LineMachine.machine _ _ _ honest served came
-          (c.in-Ok-serve_line.ensures.served came.octets _ (rw (c.as_slice.ensures.value) came.line) served.kept served.honest) count;
+          served_all (g.T.LineMachine.machine (g.T.LineMachine.widths c.args.machine.now)) _ _ _ honest served came
+          (rw c.lines.invariant.widths at (c.in-Ok-serve_line.ensures.served came.octets _ (rw (c.as_slice.ensures.value) came.line) served.kept served.honest)) count;
     }
 
 pub lines-preserved : goal.lines-preserved
@@ -75,6 +76,7 @@ lines-preserved g c =
     let used : c.lines.reader.left ≡ length (came.octets ++ 10 ∷ []) + c.read_line.new.self.left = came.used in
     record {
       script = search rules;
+      widths = c.in-Ok-serve_line.ensures.widths ∙ c.lines.invariant.widths;
       one = search rules;
       pairs = search rules;
       ready = search rules;
@@ -82,8 +84,8 @@ lines-preserved g c =
       came = consumes_more c.lines.invariant.came came;
       waits = wait_more c.lines.invariant.waits c.in-Ok-serve_line.ensures.waits;
       served = λ h. let served = c.lines.invariant.served h in
-          served_more g.T.LineMachine.machine _ served came
-          (c.in-Ok-serve_line.ensures.served came.octets _ (rw (c.as_slice.ensures.value) came.line) served.kept served.honest) count;
+          served_more (g.T.LineMachine.machine (g.T.LineMachine.widths c.args.machine.now)) _ served came
+          (rw c.lines.invariant.widths at (c.in-Ok-serve_line.ensures.served came.octets _ (rw (c.as_slice.ensures.value) came.line) served.kept served.honest)) count;
     }
 
 pub returns-in-Err-clause-few : goal.returns-in-Err-clause-few

@@ -8,6 +8,7 @@ use Rattle.script_server.proofs.serving.serve_script.Given as goal
 abbrev pub invariant-lines : goal.invariant-lines
 invariant-lines g l = record {
   script : (g.S.PortIn.source l.script).failed ≡ false;
+  widths : g.T.LineMachine.widths l.machine ≡ g.T.LineMachine.widths l.initial.machine;
   one : length l.inputs.items ≡ g.T.LineMachine.channels l.machine;
   pairs : length l.outputs.items ≡ g.T.LineMachine.channels l.machine;
   ready : AreReady (map g.I.PortIn.source l.inputs.items) (map g.O.PortOut.sink l.outputs.items) (g.P.PortOut.sink l.replies);
@@ -15,7 +16,7 @@ invariant-lines g l = record {
   came : Consumes l.reader.left (g.S.PortIn.source l.initial.script) (behind l.reader.octets (g.S.PortIn.source l.script));
   waits : AllWait (map g.O.PortOut.sink l.initial.outputs.items) (map g.O.PortOut.sink l.outputs.items) (g.P.PortOut.sink l.initial.replies) (g.P.PortOut.sink l.replies);
   served : All IsHonest (map g.I.PortIn.source l.initial.inputs.items)
-      → ServedSoFar g.T.LineMachine.machine (g.T.LineMachine.keeps l.machine) (run_of g.state (map g.I.PortIn.source l.initial.inputs.items)) l.refused l.reader.left
+      → ServedSoFar (g.T.LineMachine.machine (g.T.LineMachine.widths l.initial.machine)) (g.T.LineMachine.keeps l.machine) (run_of g.state (map g.I.PortIn.source l.initial.inputs.items)) l.refused l.reader.left
       (g.S.PortIn.source l.initial.script) (behind l.reader.octets (g.S.PortIn.source l.script)) (map g.I.PortIn.source l.inputs.items)
       (map g.O.PortOut.sink l.initial.outputs.items) (map g.O.PortOut.sink l.outputs.items) (g.P.PortOut.sink l.initial.replies) (g.P.PortOut.sink l.replies);
 }

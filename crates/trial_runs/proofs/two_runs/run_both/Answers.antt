@@ -1,4 +1,5 @@
 use Rattle.std.proofs.Common.{refl}
+use Rattle.line_machine.specs.Widths.{widths_of}
 use Rattle.trial_runs.proofs.TwoRuns.{both, refused_alike}
 use Rattle.trial_runs.proofs.two_runs.run_both.Goals as goal
 
@@ -28,7 +29,7 @@ returns-clause-agree g c = λ one two.
     (λ first second. record {
       one = first;
       two = second;
-      agree = c.headline.ensures.two _ _ _ _ _ _ _ _ _ _ first second;
+      agree = c.headline.ensures.two (widths_of c.args.config.in8 c.args.config.out8) (widths_of c.args.other_config.in8 c.args.other_config.out8) _ _ _ _ _ _ _ _ _ _ first second;
       granted = λ i j g' h kind p later since lawful born lawful' born' control before rest answer at other_before other_rest other_answer other_at.
           refused_alike g.M.Ialg.meaning kind p _ _ control answer other_answer
           ((first.says.each i kind g' p later lawful born).controls before rest control answer at)

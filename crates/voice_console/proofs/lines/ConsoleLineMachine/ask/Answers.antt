@@ -1,16 +1,17 @@
 use Rattle.std.proofs.Common.{Ok, Err, None, ◌∙◌, ap, refl, sym}
 use Rattle.voice_script.specs.Commands.{line_of}
+use Rattle.voice_console.specs.Consoles.{port_widths_of}
 use Rattle.voice_console.proofs.Served.{lined}
 use Rattle.voice_console.proofs.lines.ConsoleLineMachine.ask.Goals as goal
 
 pub returns-in-Ok-Some-clause-asks : goal.returns-in-Ok-Some-clause-asks
 returns-in-Ok-Some-clause-asks g c =
-    lined g.M.Ialg.meaning g.M.Ialg.idle_keeps g.M.Ialg.active_keeps _ _ _ _ _ (ap (λ o. line_of (Ok o)) (sym c.in-Ok-Some.field-0-is) ∙ c.in-Ok-Some.ensures) c.obey.ensures.asks
+    lined g.M.Ialg.meaning g.M.Ialg.idle_keeps g.M.Ialg.active_keeps (port_widths_of c.args.self.now) _ _ _ _ _ (ap (λ o. line_of (Ok o)) (sym c.in-Ok-Some.field-0-is) ∙ c.in-Ok-Some.ensures) c.obey.ensures.asks
 
 pub returns-in-Ok-None-clause-asks : goal.returns-in-Ok-None-clause-asks
 returns-in-Ok-None-clause-asks g c =
-    lined g.M.Ialg.meaning g.M.Ialg.idle_keeps g.M.Ialg.active_keeps (Ok None) _ _ _ _ (ap (λ o. line_of (Ok o)) (sym c.in-Ok-None.field-0-is) ∙ c.in-Ok-None.ensures) (λ before keeps. (before, (refl, refl), keeps))
+    lined g.M.Ialg.meaning g.M.Ialg.idle_keeps g.M.Ialg.active_keeps (port_widths_of c.args.self.now) (Ok None) _ _ _ _ (ap (λ o. line_of (Ok o)) (sym c.in-Ok-None.field-0-is) ∙ c.in-Ok-None.ensures) (λ before keeps. (before, (refl, refl), keeps))
 
 pub returns-in-Err-clause-asks : goal.returns-in-Err-clause-asks
 returns-in-Err-clause-asks g c =
-    lined g.M.Ialg.meaning g.M.Ialg.idle_keeps g.M.Ialg.active_keeps (Err c.in-Err.refusal) _ _ _ _ (ap line_of (sym c.in-Err.is) ∙ c.parse.ensures) (λ before keeps. (before, (refl, refl), keeps))
+    lined g.M.Ialg.meaning g.M.Ialg.idle_keeps g.M.Ialg.active_keeps (port_widths_of c.args.self.now) (Err c.in-Err.refusal) _ _ _ _ (ap line_of (sym c.in-Err.is) ∙ c.parse.ensures) (λ before keeps. (before, (refl, refl), keeps))

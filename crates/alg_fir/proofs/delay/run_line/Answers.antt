@@ -7,10 +7,10 @@ use Rattle.alg_fir.specs.Keeps.{AreOutputs}
 use Rattle.alg_fir.proofs.Steps.{ran, outputs_are}
 use Rattle.alg_fir.proofs.Words.{first_is}
 use Rattle.alg_fir.proofs.Rings.{placed_at}
-use Rattle.alg_fir.proofs.delay.run_block.Goals as goal
+use Rattle.alg_fir.proofs.delay.run_line.Goals as goal
 
 pub returns-clause-law : goal.returns-clause-law
-returns-clause-law c p h in_force taps size ring =
+returns-clause-law g c p h in_force taps size ring =
     let xs = c.args.input.now in
     let cs = c.args.coefficients.now in
     let words = c.args.ring.now in
