@@ -3,7 +3,8 @@ ghost use Rattle.std.specs.Prelude.{◌≡◌, ℕ, None, length, IfOk, IfErr, I
 ghost use Rattle.mem_rec.specs.declared.Space.{Space};
 ghost use Rattle.scratch_group.specs.Blocks.{block_in};
 ghost use Rattle.instance_table.specs.declared.TheConstants.{INSTANCES, GROUPS};
-ghost use Rattle.instance_table.specs.Table.{slot_at, once_at, no_pieces, IsUnshared, group_at, activity_at, untouched};
+ghost use Rattle.instance_table.specs.Shelves.{no_shelf, shelf_at};
+ghost use Rattle.instance_table.specs.Table.{slot_at, once_at, no_pieces, group_at, activity_at, untouched};
 ghost use Rattle.host_spaces.specs.Picture.{AreSizes};
 
 use host_spaces::{EmptySpaces, Sizes, StartError};
@@ -24,7 +25,7 @@ pub(crate) struct Tables<M, A: Allocator> {
     ghost group_count: { length groups.items ≡ GROUPS },
     ghost empty: { (i : ℕ) → slot_at slots.items i ≡ None },
     ghost no_once: { (i : ℕ) → once_at once.items i ≡ no_pieces },
-    ghost unshared: { (i : ℕ) → IsUnshared once.items i },
+    ghost bare: { (i : ℕ) → shelf_at once.items i ≡ no_shelf },
     ghost no_blocks: { (g : ℕ) (space : Space) → block_in (group_at groups.items g) space ≡ None },
     ghost no_activity: { (g : ℕ) → activity_at groups.items g ≡ untouched },
 }

@@ -26,6 +26,7 @@ use Rattle.host_spaces.specs.Picture.{AreSameSpaces, blocks_in, is_group's, pict
 use Rattle.host_spaces.specs.Pieces.{old_piece}
 use Rattle.instance_table.specs.declared.member.Member.{Member}
 use Rattle.instance_table.specs.declared.shelves.Shelf.{Shelf}
+use Rattle.instance_table.specs.Shelves.{home_of}
 use Rattle.instance_table.specs.Table.{Activity, slot_at, once_at, group_at, instance_of, is_member_of, activity_at, TablesOk, ArePoisoned}
 use Rattle.instance_table.specs.Keeps.{Keeps}
 use Rattle.table_moves.specs.Moves.{BlockStays, WordsStay}
@@ -72,7 +73,8 @@ module _ {M : Type 0} (g : ℕ) (slots : List (Option (Member M))) (once : List 
         slot_count = told.slot_count;
         once_count = told.once_count;
         group_count = told.group_count;
-        unshared = told.unshared;
+        held = told.held;
+        bare = told.bare;
         group_range = told.group_range;
         housed = λ i m at. (told.housed i m at).told (inl (of_others i m at));
         active_there = told.active_there;
@@ -106,17 +108,18 @@ module _ {M : Type 0} (g : ℕ) (slots : List (Option (Member M))) (once : List 
   module _ (picture : picture_of spaces' ≡ without_owners (is_group's g) (picture_of spaces))
       (beside : (o : Owner) (space : Space) → o ≢ GroupScratch g → owned o (blocks_in (picture_of spaces') space) ≡ owned o (blocks_in (picture_of spaces) space))
       (stay : AreSameSpaces spaces spaces') where
-    home_without : (i : ℕ) (m : Member M) → slot_at slots i ≡ Some m → IsHome spaces' i (table_of m) (instance_of m.inst).own (once_at once i) (group_at groups' m.group)
+    home_without : (i : ℕ) (m : Member M) → slot_at slots i ≡ Some m → IsHome spaces' i (home_of once i) (table_of m) (instance_of m.inst).own (once_at once i) (group_at groups' m.group)
     home_without i m at =
-        home_stays spaces' i (table_of m) (instance_of m.inst).own (instance_of m.inst).own (once_at once i) (once_at once i) (group_at groups m.group) (group_at groups' m.group)
+        home_stays spaces' i (home_of once i) (table_of m) (instance_of m.inst).own (instance_of m.inst).own (once_at once i) (once_at once i) (group_at groups m.group) (group_at groups' m.group)
         (same_pieces (instance_of m.inst).own) (same_pieces (once_at once i))
         (λ space. subst (IsAlike (block_in (group_at groups m.group) space)) (sym (same m.group space (of_others i m at))) (alike_itself (block_in (group_at groups m.group) space)))
-        (home_elsewhere spaces spaces' i (table_of m) (instance_of m.inst).own (once_at once i) (group_at groups m.group)
-        (λ k space. beside (Record i k) space (not_a_group i k g)) (λ space. (stay space).region) (standing.homes i m at))
+        (home_elsewhere spaces spaces' i (home_of once i) (table_of m) (instance_of m.inst).own (once_at once i) (group_at groups m.group)
+        (λ k space. beside (Record (home_of once i k) k) space (not_a_group (home_of once i k) k g)) (λ k space apart. beside (Record i k) space (not_a_group i k g)) (λ space. (stay space).region) (standing.homes i m at))
 
     pub stand_without : AreStanding slots once groups' spaces'
     stand_without = record {
       homes = home_without;
+      unshared = standing.unshared;
       free = standing.free;
       gone = λ i k space nobody. beside (Record i k) space (not_a_group i k g) ∙ standing.gone i k space nobody;
       blocks = λ k space.
@@ -144,6 +147,7 @@ pub stand_all : {M : Type 0} (g : ℕ) (slots : List (Option (Member M))) (once 
     → (((j : ℕ) → is_member_of g (slot_at slots j) ≡ false) → ⊥) → AreStandingBut g slots once groups spaces → AreStanding slots once groups spaces
 stand_all g slots once groups spaces some standing = record {
   homes = standing.homes;
+  unshared = standing.unshared;
   free = standing.free;
   gone = standing.gone;
   blocks = standing.blocks;

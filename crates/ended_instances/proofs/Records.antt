@@ -27,11 +27,15 @@ use Rattle.host_spaces.specs.Picture.{Picture, AreSameSpaces, blocks_in, blocks_
 use Rattle.host_spaces.specs.Pieces.{HasRecords, ArePiecesOf, IsPieceOf, is_write_once, record_block}
 use Rattle.instance_table.specs.declared.member.Member.{Member}
 use Rattle.instance_table.specs.declared.shelves.Shelf.{Shelf}
-use Rattle.instance_table.specs.Table.{slot_at, once_at, group_at, group_of, no_pieces, own_of, instance_of, is_member_of}
+use Rattle.instance_table.specs.Shelves.{stand_at, shelf_at, home_of}
+use Rattle.instance_table.specs.Homes.{IsSameStand}
+use Rattle.instance_table.specs.Holders.{left_with, stand_without}
+use Rattle.instance_table.specs.Table.{slot_at, once_at, IsUnshared, group_at, group_of, no_pieces, own_of, instance_of, is_member_of}
+use Rattle.instance_table.proofs.Unshared.{home_own, left_unshared, unshared_gone}
 use Rattle.instance_table.specs.Frames.{IsSameMember, OthersSame}
 use Rattle.placed_instances.specs.Standing.{IsHome, AreStanding, SlotIsSame, table_of}
 use Rattle.placed_instances.proofs.Slots.{other_instance, not_a_group}
-use Rattle.placed_instances.proofs.Homes.{alike_same, home_stays, home_elsewhere, slot_of_same, slot_same, before, none_before, member_before, pieces_none, is_of_same, none_same, align_same}
+use Rattle.placed_instances.proofs.Homes.{home_by_same, home_record, alike_same, home_stays, home_elsewhere, slot_of_same, slot_same, before, none_before, member_before, pieces_none, is_of_same, none_same, align_same}
 use Rattle.ended_instances.specs.Leaving.{AreStandingBut}
 use Rattle.ended_instances.proofs.Belonging.{not_of}
 
@@ -83,16 +87,17 @@ module _ (spaces : Spaces) (i : ℕ) (rs : List MemRec) (own shared : Pieces) wh
 
 module _ {M : Type 0} (i : ℕ) (slots slots' : List (Option (Member M))) (once once' : List Shelf) (groups groups' : List Group) (spaces : Spaces) (own shared : Pieces) (rs : List MemRec)
     (standing : AreStanding slots once groups spaces) (others : OthersSame i slots once groups slots' once' groups')
-    (same_own : SamePieces (own_of (slot_at slots i)) own) (same_shared : SamePieces (once_at once i) shared)
+    (same_own : SamePieces (own_of (slot_at slots i)) own) (same_shared : SamePieces (left_with once i) shared)
     (table : (m : Member M) → slot_at slots i ≡ Some m → rs ≡ (instance_of m.inst).table) (m : Member M) (at : slot_at slots i ≡ Some m) where
   -- the pieces that come back are those of the instance's records
-  home_left : IsHome spaces i (table_of m) own shared (group_at groups' m.group)
+  home_left : IsHome spaces i (home_of once i) (table_of m) own shared (group_at groups' m.group)
   home_left =
-      home_stays spaces i (table_of m) (instance_of m.inst).own own (once_at once i) shared (group_at groups m.group) (group_at groups' m.group)
-      (subst (λ (slot : Option (Member M)). SamePieces (own_of slot) own) at same_own) same_shared (λ space. alike_same _ _ (others.blocks m.group space)) (standing.homes i m at)
+      home_stays spaces i (home_of once i) (table_of m) (instance_of m.inst).own own (once_at once i) shared (group_at groups m.group) (group_at groups' m.group)
+      (subst (λ (slot : Option (Member M)). SamePieces (own_of slot) own) at same_own) (subst (λ (o : Pieces). SamePieces o shared) (left_unshared once standing.unshared i) same_shared) (λ space. alike_same _ _ (others.blocks m.group space)) (standing.homes i m at)
 
   pub records_left : HasRecords (picture_of spaces) i rs own shared
-  records_left = subst (λ (ts : List MemRec). HasRecords (picture_of spaces) i ts own shared) (sym (table m at)) (records_by_table spaces i (instance_of m.inst).table own shared home_left.records)
+  records_left = subst (λ (ts : List MemRec). HasRecords (picture_of spaces) i ts own shared) (sym (table m at)) (records_by_table spaces i (instance_of m.inst).table own shared
+      (λ k space. home_record spaces i (home_of once i) (table_of m) own shared (group_at groups' m.group) home_left k space i (home_own once i k (standing.unshared i))))
 
   pub pieces_left : ArePiecesOf spaces rs own shared
   pieces_left = subst (λ (ts : List MemRec). ArePiecesOf spaces ts own shared) (sym (table m at)) (pieces_by_table spaces i (instance_of m.inst).table own shared home_left.pieces)
@@ -101,24 +106,32 @@ module _ {M : Type 0} (i : ℕ) (slots slots' : List (Option (Member M))) (once 
 
 module _ {M : Type 0} (i : ℕ) (slots slots' : List (Option (Member M))) (once once' : List Shelf) (groups groups' : List Group) (spaces spaces' : Spaces)
     (standing : AreStanding slots once groups spaces) (others : OthersSame i slots once groups slots' once' groups')
-    (left : slot_at slots' i ≡ None) (nothing : once_at once' i ≡ no_pieces)
+    (left : slot_at slots' i ≡ None) (nothing : once_at once' i ≡ no_pieces) (handed : (j k : ℕ) → IsSameStand (stand_without once i k j) (stand_at (shelf_at once' j) k))
     (picture : picture_of spaces' ≡ without_owners (is_instance's i) (picture_of spaces))
     (beside : (o : Owner) (space : Space) → ((k : ℕ) → o ≢ Record i k) → owned o (blocks_in (picture_of spaces') space) ≡ owned o (blocks_in (picture_of spaces) space))
     (stay : AreSameSpaces spaces spaces') where
   other_there : (j : ℕ) (n : Member M) → slot_at slots' j ≡ Some n → j ≢ i
   other_there j n at e = none-some _ (sym left ∙ ap (slot_at slots') (sym e) ∙ at)
 
-  home_beside : (j : ℕ) (n : Member M) → slot_at slots' j ≡ Some n → IsHome spaces' j (table_of n) (instance_of n.inst).own (once_at once' j) (group_at groups' n.group)
+  unshared_beside : (j : ℕ) → IsUnshared once' j
+  unshared_beside = unshared_gone once standing.unshared once' i handed
+
+  home_beside : (j : ℕ) (n : Member M) → slot_at slots' j ≡ Some n → IsHome spaces' j (home_of once' j) (table_of n) (instance_of n.inst).own (once_at once' j) (group_at groups' n.group)
   home_beside j n at =
       let apart = other_there j n at in
       let was = before (slot_at slots j) n (subst (λ x. IsSameMember (slot_at slots j) x) at (slot_of_same _ _ (others.slot j apart))) in
       let m = was.0 in
-      subst (λ (g : ℕ). IsHome spaces' j (table_of n) (instance_of n.inst).own (once_at once' j) (group_at groups' g)) (sym was.1.1.group)
-      (subst (λ (rs : List MemRec). IsHome spaces' j rs (instance_of n.inst).own (once_at once' j) (group_at groups' m.group)) (sym was.1.1.table)
-      (home_stays spaces' j (table_of m) (instance_of m.inst).own (instance_of n.inst).own (once_at once j) (once_at once' j) (group_at groups m.group) (group_at groups' m.group)
+      subst (λ (g : ℕ). IsHome spaces' j (home_of once' j) (table_of n) (instance_of n.inst).own (once_at once' j) (group_at groups' g)) (sym was.1.1.group)
+      (subst (λ (rs : List MemRec). IsHome spaces' j (home_of once' j) rs (instance_of n.inst).own (once_at once' j) (group_at groups' m.group)) (sym was.1.1.table)
+      (home_by_same spaces' j (home_of once j) (home_of once' j) (table_of m) (instance_of n.inst).own (once_at once' j) (group_at groups' m.group)
+      (λ k. home_own once' j k (unshared_beside j) ∙ sym (home_own once j k (standing.unshared j)))
+      (home_stays spaces' j (home_of once j) (table_of m) (instance_of m.inst).own (instance_of n.inst).own (once_at once j) (once_at once' j) (group_at groups m.group) (group_at groups' m.group)
       was.1.1.own (others.pieces j apart) (λ space. alike_same _ _ (others.blocks m.group space))
-      (home_elsewhere spaces spaces' j (table_of m) (instance_of m.inst).own (once_at once j) (group_at groups m.group)
-      (λ k space. beside (Record j k) space (λ l. other_instance i j l k apart)) (λ space. (stay space).region) (standing.homes j m was.1.0))))
+      (home_elsewhere spaces spaces' j (home_of once j) (table_of m) (instance_of m.inst).own (once_at once j) (group_at groups m.group)
+      (λ k space.
+      subst (λ (h : ℕ). owned (Record h k) (blocks_in (picture_of spaces') space) ≡ owned (Record h k) (blocks_in (picture_of spaces) space)) (sym (home_own once j k (standing.unshared j)))
+      (beside (Record j k) space (λ l. other_instance i j l k apart)))
+      (λ k space other. absurd (other (home_own once j k (standing.unshared j)))) (λ space. (stay space).region) (standing.homes j m was.1.0)))))
 
   none_was : (j : ℕ) → j ≢ i → slot_at slots' j ≡ None → slot_at slots j ≡ None
   none_was j apart none = none_before _ _ (slot_of_same _ _ (others.slot j apart)) none
@@ -147,6 +160,7 @@ module _ {M : Type 0} (i : ℕ) (slots slots' : List (Option (Member M))) (once 
   pub stand_beside : AreStandingBut (group_of (slot_at slots i)) slots' once' groups' spaces'
   stand_beside = record {
     homes = home_beside;
+    unshared = unshared_beside;
     free = free_beside;
     gone = gone_beside;
     blocks = λ k space.

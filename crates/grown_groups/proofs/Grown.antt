@@ -28,10 +28,13 @@ use Rattle.host_spaces.specs.Picture.{Picture, blocks_in, picture_of, space_in}
 use Rattle.host_spaces.specs.Pieces.{HasBlocks, new_block, old_piece, with_new, without_pieces}
 use Rattle.instance_table.specs.declared.member.Member.{Member}
 use Rattle.instance_table.specs.declared.shelves.Shelf.{Shelf}
+use Rattle.instance_table.specs.Shelves.{stand_at, shelf_at, home_of}
 use Rattle.instance_table.specs.Table.{slot_at, once_at, group_at, instance_of}
+use Rattle.instance_table.proofs.Unshared.{home_own, unshared_stays}
+use Rattle.table_moves.proofs.Holders.{home_same}
 use Rattle.instance_table.specs.Frames.{IsSameMember, SameMembers}
 use Rattle.placed_instances.specs.Standing.{IsHome, IsOf, AreOrdered, table_of}
-use Rattle.placed_instances.proofs.Homes.{alike_same, home_elsewhere, home_stays, before, none_before, member_before, pieces_none, is_of_same, none_same, align_same, standing_stays}
+use Rattle.placed_instances.proofs.Homes.{home_by_same, alike_same, home_elsewhere, home_stays, before, none_before, member_before, pieces_none, is_of_same, none_same, align_same, standing_stays}
 use Rattle.placed_instances.proofs.Rooms.{room_at_home}
 use Rattle.placed_instances.proofs.Slots.{not_a_group, other_group}
 use Rattle.grown_groups.specs.Blocks.{newer, replaced_piece}
@@ -50,8 +53,8 @@ without_in picture pieces Saram = refl
 without_in picture pieces External = refl
 
 -- an instance whose group has other blocks
-pub home_in : (spaces : Spaces) (i : ℕ) (rs : List MemRec) (own shared : Pieces) (y y' : Group) → NoNeed rs y' → IsHome spaces i rs own shared y → IsHome spaces i rs own shared y'
-home_in spaces i rs own shared y y' need home = record { valid = home.valid; need = need; records = home.records; pieces = home.pieces }
+pub home_in : (spaces : Spaces) (i : ℕ) (at : ℕ → ℕ) (rs : List MemRec) (own shared : Pieces) (y y' : Group) → NoNeed rs y' → IsHome spaces i at rs own shared y → IsHome spaces i at rs own shared y'
+home_in spaces i at rs own shared y y' need home = record { valid = home.valid; need = need; records = home.records; away = home.away; pieces = home.pieces }
 
 module _ {M : Type 0} (g : ℕ) (blocks : NewBlocks) (slots : List (Option (Member M))) (once : List Shelf) (groups groups' : List Group) (spaces spaces' : Spaces) (old : OldBlocks)
     (placed : ArePlaced g blocks slots once groups spaces) (ordered : AreOrdered spaces)
@@ -97,12 +100,16 @@ module _ {M : Type 0} (g : ℕ) (blocks : NewBlocks) (slots : List (Option (Memb
   pub grown_now : AreGrown g slots once groups' spaces'
   grown_now = record {
     homes = λ i m at.
-        home_in spaces' i (table_of m) (instance_of m.inst).own (once_at once i) (group_at groups m.group) (group_at groups' m.group)
+        home_in spaces' i (home_of once i) (table_of m) (instance_of m.inst).own (once_at once i) (group_at groups m.group) (group_at groups' m.group)
         (need_now (table_of m) m.group (placed.standing.homes i m at).need)
-        (home_elsewhere placed.before spaces' i (table_of m) (instance_of m.inst).own (once_at once i) (group_at groups m.group)
-        (λ k space. others (Record i k) space (not_a_group i k g) ∙ placed.records i k m space at)
+        (home_elsewhere placed.before spaces' i (home_of once i) (table_of m) (instance_of m.inst).own (once_at once i) (group_at groups m.group)
+        (λ k space.
+        subst (λ (h : ℕ). owned (Record h k) (blocks_in (picture_of spaces') space) ≡ owned (Record h k) (blocks_in (picture_of placed.before) space)) (sym (home_own once i k (placed.standing.unshared i)))
+        (others (Record i k) space (not_a_group i k g) ∙ placed.records i k m space at))
+        (λ k space apart. absurd (apart (home_own once i k (placed.standing.unshared i))))
         (λ space. regions space ∙ placed.regions space)
         (placed.standing.homes i m at));
+    unshared = placed.standing.unshared;
     free = placed.standing.free;
     blocks = all_blocks;
     regions = all_regions;
@@ -115,7 +122,7 @@ pub room_of_grown : {M : Type 0} (g : ℕ) (slots : List (Option (Member M))) (o
 room_of_grown g slots once groups spaces ordered grown i m at =
     subst (λ (rs : List MemRec). Fits rs (instance_of m.inst).own (once_at once i) (group_at groups m.group))
     (placed-unplaced (instance_of m.inst).table (instance_of m.inst).own (once_at once i) (group_at groups m.group))
-    (room_at_home spaces i m.group (table_of m) (instance_of m.inst).own (once_at once i) (group_at groups m.group) ordered (grown.homes i m at) (grown.blocks m.group) (grown.regions m.group))
+    (room_at_home spaces i (home_of once i) m.group (table_of m) (instance_of m.inst).own (once_at once i) (group_at groups m.group) ordered (grown.homes i m at) (grown.blocks m.group) (grown.regions m.group))
 
 -- ---- only words and bases differ
 
@@ -148,10 +155,12 @@ grown_stays g slots slots' once once' groups groups' spaces same grown = record 
   homes = λ i n at.
       let was = before (slot_at slots i) n (subst (λ x. IsSameMember (slot_at slots i) x) at (same.slot i)) in
       let m = was.0 in
-      subst (λ (h : ℕ). IsHome spaces i (table_of n) (instance_of n.inst).own (once_at once' i) (group_at groups' h)) (sym was.1.1.group)
-      (subst (λ (rs : List MemRec). IsHome spaces i rs (instance_of n.inst).own (once_at once' i) (group_at groups' m.group)) (sym was.1.1.table)
-      (home_stays spaces i (table_of m) (instance_of m.inst).own (instance_of n.inst).own (once_at once i) (once_at once' i) (group_at groups m.group) (group_at groups' m.group)
-      was.1.1.own (same.pieces i) (λ space. alike_same _ _ (same.blocks m.group space)) (grown.homes i m was.1.0)));
+      subst (λ (h : ℕ). IsHome spaces i (home_of once' i) (table_of n) (instance_of n.inst).own (once_at once' i) (group_at groups' h)) (sym was.1.1.group)
+      (subst (λ (rs : List MemRec). IsHome spaces i (home_of once' i) rs (instance_of n.inst).own (once_at once' i) (group_at groups' m.group)) (sym was.1.1.table)
+      (home_by_same spaces i (home_of once i) (home_of once' i) (table_of m) (instance_of n.inst).own (once_at once' i) (group_at groups' m.group) (λ k. home_same i (stand_at (shelf_at once i) k) (stand_at (shelf_at once' i) k) (same.stands i k))
+      (home_stays spaces i (home_of once i) (table_of m) (instance_of m.inst).own (instance_of n.inst).own (once_at once i) (once_at once' i) (group_at groups m.group) (group_at groups' m.group)
+      was.1.1.own (same.pieces i) (λ space. alike_same _ _ (same.blocks m.group space)) (grown.homes i m was.1.0))));
+  unshared = unshared_stays once grown.unshared once' same.stands;
   free = λ i none. pieces_none (once_at once' i) (subst (λ (p : Pieces). SamePieces p (once_at once' i)) (grown.free i (none_before _ _ (same.slot i) none)) (same.pieces i));
   blocks = λ h space. grown.blocks h space ∙ sym (align_same (block_in (group_at groups h) space) (block_in (group_at groups' h) space) (Scratch h) (same.blocks h space));
   regions = λ h space. is_of_same _ _ _ (same.blocks h space).0 (grown.regions h space);

@@ -33,6 +33,8 @@ use Rattle.host_spaces.specs.Wants.{block_need}
 use Rattle.instance_table.specs.declared.TheConstants.{GROUPS}
 use Rattle.instance_table.specs.declared.member.Member.{Member}
 use Rattle.instance_table.specs.declared.shelves.Shelf.{Shelf}
+use Rattle.instance_table.specs.Shelves.{stand_at, shelf_at, home_of}
+use Rattle.instance_table.proofs.Lent.{same_stand}
 use Rattle.instance_table.specs.Table.{slot_at, once_at, group_at, instance_of, Activity, activity_at, IsHoused, TablesOk, TablesTold, ArePoisoned}
 use Rattle.instance_table.specs.Frames.{IsSameMember, SameMembers}
 use Rattle.table_moves.specs.Moves.{BlockStays, WordsStay}
@@ -55,6 +57,7 @@ pub members_itself : {M : Type 0} (slots : List (Option (Member M))) (once : Lis
 members_itself slots once groups = record {
   slot = λ i. same_member (slot_at slots i);
   pieces = λ i. same_pieces (once_at once i);
+  stands = λ i k. same_stand (stand_at (shelf_at once i) k);
   blocks = λ g space. (reflexive (block_piece (block_in (group_at groups g) space)), refl);
 }
 
@@ -198,7 +201,7 @@ module _ {M : Type 0} (g : ℕ) (blocks : NewBlocks) (slots : List (Option (Memb
     ]
 
     module _ (i : ℕ) (m : Member M) (at : slot_at slots i ≡ Some m) where
-      home : IsHome r.placed.before i (table_of m) (instance_of m.inst).own (once_at once i) (group_at groups m.group)
+      home : IsHome r.placed.before i (home_of once i) (table_of m) (instance_of m.inst).own (once_at once i) (group_at groups m.group)
       home = r.placed.standing.homes i m at
 
       same_bases : placed (instance_of m.inst).table (instance_of m.inst).own (once_at once i) (group_at groups' m.group)
@@ -223,7 +226,8 @@ module _ {M : Type 0} (g : ℕ) (blocks : NewBlocks) (slots : List (Option (Memb
       slot_count = ok.slot_count;
       once_count = ok.once_count;
       group_count = counted;
-      unshared = ok.unshared;
+      held = ok.held;
+      bare = ok.bare;
       group_range = ok.group_range;
       housed = housed_now;
       active_there = λ k i below active. ok.active_there k i below (sym (same_active k) ∙ active);

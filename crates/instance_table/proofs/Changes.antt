@@ -22,13 +22,17 @@ use Rattle.lifecycle.proofs.Frames.{same_pieces, same_group}
 use Rattle.instance_table.specs.declared.TheConstants.{INSTANCES, GROUPS}
 use Rattle.instance_table.specs.declared.member.Member.{Member}
 use Rattle.instance_table.specs.declared.shelves.Shelf.{Shelf}
-use Rattle.instance_table.specs.Shelves.{shelf_of}
-use Rattle.instance_table.specs.Table.{slot_at, once_at, group_at, IsUnshared, no_pieces, no_group, instance_of, own_of, group_of, active_in, slot_active_in, IsHoused, EachIsHoused, Tables, TablesOk, ArePoisoned, activity_at, with_activity}
+use Rattle.instance_table.specs.declared.shelves.Stand.{Stand}
+use Rattle.instance_table.specs.declared.shelves.Stand.TheVariants.{Here, With}
+use Rattle.instance_table.specs.Shelves.{stand_at, shelf_at}
+use Rattle.instance_table.specs.Homes.{with_seen, HasHomes, AllHaveHomes, IsSameStand, SameShelves}
+use Rattle.instance_table.specs.Table.{slot_at, once_at, group_at, AreHeld, AreBare, no_pieces, no_group, instance_of, own_of, group_of, active_in, slot_active_in, IsHoused, EachIsHoused, Tables, TablesOk, ArePoisoned, activity_at, with_activity}
 use Rattle.instance_table.specs.Keeps.{InstKeeps, SlotKeeps, Keeps, with_history}
-use Rattle.instance_table.specs.Frames.{SameSlot, SameTables}
+use Rattle.instance_table.specs.Frames.{SameSlot, SameTables, SameMember}
 use Rattle.instance_table.proofs.Housing.{same_blocks, housed_stays}
-use Rattle.instance_table.proofs.Stands.{set_here, set_there}
-use Rattle.instance_table.proofs.Sights.{Sees, sees_own, slot_sees}
+use Rattle.instance_table.proofs.Lent.{stands_lent, pieces_lent, homes_of_all}
+use Rattle.instance_table.proofs.Held.{member_stays, members_beside, homes_of_held, held_stays, bare_stays}
+use Rattle.instance_table.proofs.Sights.{Sees, sees_lent, slot_sees}
 
 -- an active instance is active in its own group
 active_in_own : {M : Type 0} (k g : ℕ) (inst : Inst M) → active_in k inst ≡ Some g → k ≡ g
@@ -104,6 +108,15 @@ slot_then (Some a) (Some b) (Some c) e f = (
   },
 )
 
+stand_then : (a b c : Stand) → IsSameStand a b → IsSameStand b c → IsSameStand a c
+stand_then (Here p) (Here q) (Here r) e f = piece_then p q r e f
+stand_then (Here p) (Here q) (With h) e f = f
+stand_then (Here p) (With h) c e f = absurd e
+stand_then (With h) b c e f = subst (λ (x : Stand). IsSameStand x c) e f
+
+pub shelves_then : (a b c : List Shelf) → SameShelves a b → SameShelves b c → SameShelves a c
+shelves_then a b c e f i k = stand_then (stand_at (shelf_at a i) k) (stand_at (shelf_at b i) k) (stand_at (shelf_at c i) k) (e i k) (f i k)
+
 -- the blocks after group g was changed
 pub blocks_stay : (groups : List Group) (g : ℕ) (y : Group) → g < length groups → ((space : Space) → IsSameBlock (block_in (group_at groups g) space) (block_in y space))
     → (k : ℕ) (space : Space) → IsSameBlock (block_in (group_at groups k) space) (block_in (group_at (set groups g y) k) space)
@@ -113,12 +126,8 @@ blocks_stay groups g y inside blocks k space =
       | inr e ↦ rw (get_or-set_other groups g k y no_group e.1) (same_blocks _ _ (same_group (group_at groups k)) space)
     ]
 
-pub pieces_stay : (once : List Shelf) (i : ℕ) (o : Pieces) → i < length once → ((j : ℕ) → IsUnshared once j) → SamePieces (once_at once i) o → (j : ℕ) → SamePieces (once_at once j) (once_at (set once i (shelf_of o)) j)
-pieces_stay once i o inside unshared pieces j =
-    elim (eqb_tells j i) [
-      | inl e ↦ rw (e.1, set_here once i o inside) pieces
-      | inr e ↦ rw (set_there once i j (shelf_of o) (unshared j) e.1) (same_pieces (once_at once j))
-    ]
+pub pieces_stay : (once : List Shelf) (i : ℕ) (o : Pieces) → i < length once → AllHaveHomes once → SamePieces (once_at once i) o → (j : ℕ) → SamePieces (once_at once j) (once_at (with_seen once i o) j)
+pieces_stay once i o inside homes pieces = pieces_lent once i (homes_of_all once i homes inside) o pieces
 
 -- the pieces that each instance sees afterwards
 pub pieces_seen : {M : Type 0} (slots : List (Option (Member M))) (once : List Shelf) (i : ℕ) (o : Pieces) (once' : List Shelf) → Sees slots once i o once' → SamePieces (once_at once i) o
@@ -154,9 +163,6 @@ module _ {M : Type 0} (H : ℕ → Member M → Pieces → Group → Type 0) (sl
 
   slot_other : (j : ℕ) → j ≢ i → slot_at (set slots i (Some (record { group = g; inst = inst }))) j ≡ slot_at slots j
   slot_other j apart = get_or-set_other slots i j _ None apart
-
-  own_sight : Sees slots once i o (set once i (shelf_of o))
-  own_sight = sees_own slots once i o i_in_once ok.unshared
 
   there_after : (k j : ℕ) → k < GROUPS → (group_at (set groups g y) k).active ≡ Some j → slot_active_in (slot_at (set slots i (Some (record { group = g; inst = inst }))) j) ≡ Some k
   there_after k j below at =
@@ -213,13 +219,15 @@ module _ {M : Type 0} (H : ℕ → Member M → Pieces → Group → Type 0) (sl
   -- with what each instance sees of write-once records afterwards
   module _ (once' : List Shelf) (sees : Sees slots once i o once') where
     pub tables_by_sight : (K : ℕ → Member M → Pieces → Group → Type 0)
+        → AreHeld (set slots i (Some (record { group = g; inst = inst }))) once' → AreBare (set slots i (Some (record { group = g; inst = inst }))) once'
         → K i (record { group = g; inst = inst }) (once_at once' i) (group_at (set groups g y) g)
         → ((j : ℕ) (n : Member M) → j ≢ i → slot_at slots j ≡ Some n → H j n (once_at once j) (group_at groups n.group) → K j n (once_at once' j) (group_at (set groups g y) n.group))
         → Tables K (set slots i (Some (record { group = g; inst = inst }))) once' (set groups g y)
-    tables_by_sight K here there = record {
+    tables_by_sight K held bare here there = record {
       slot_count = simp length-set ok.slot_count;
       once_count = sees.count ∙ ok.once_count;
-      unshared = sees.unshared;
+      held = held;
+      bare = bare;
       group_count = simp length-set ok.group_count;
       group_range = λ j n at.
           elim (eqb_tells j i) [
@@ -276,28 +284,40 @@ module _ {M : Type 0} (H : ℕ → Member M → Pieces → Group → Type 0) (sl
           | inr e ↦ keeps_there meaning idle_keeps active_keeps w j e.1 (histories j) (keeps j)
         ]
 
-  -- where each instance has its write-once pieces for itself
-  pub tables_by_change : (K : ℕ → Member M → Pieces → Group → Type 0)
-      → K i (record { group = g; inst = inst }) (once_at (set once i (shelf_of o)) i) (group_at (set groups g y) g)
-      → ((j : ℕ) (n : Member M) → j ≢ i → slot_at slots j ≡ Some n → H j n (once_at once j) (group_at groups n.group) → K j n (once_at (set once i (shelf_of o)) j) (group_at (set groups g y) n.group))
-      → Tables K (set slots i (Some (record { group = g; inst = inst }))) (set once i (shelf_of o)) (set groups g y)
-  tables_by_change K here there = tables_by_sight (set once i (shelf_of o)) own_sight K here there
+  -- where its pieces were put back at their homes, with the same words of its write-once records
+  module _ (pieces : SamePieces (once_at once i) o) (written : SameOnce (instance_of m.inst).table (once_at once i) o) where
+    own_sight : Sees slots once i o (with_seen once i o)
+    own_sight = sees_lent slots once i m o ok.held i_in_once in_slot pieces written
 
-  pub keeps_after_step : (meaning : Meaning M) (idle_keeps active_keeps : Relation M) (w : Option ℤ) (histories : ℕ → History) (h : History)
-      → (InstKeeps meaning idle_keeps active_keeps w m.inst (once_at once i) (group_at groups g) (histories i) → InstKeeps meaning idle_keeps active_keeps w inst o y h)
-      → Keeps meaning idle_keeps active_keeps w slots once groups histories
-      → Keeps meaning idle_keeps active_keeps w (set slots i (Some (record { group = g; inst = inst }))) (set once i (shelf_of o)) (set groups g y) (with_history histories i h)
-  keeps_after_step meaning idle_keeps active_keeps w histories h step keeps = keeps_by_step (set once i (shelf_of o)) own_sight meaning idle_keeps active_keeps w histories h step keeps
+    own_stands : SameShelves once (with_seen once i o)
+    own_stands = stands_lent once i (homes_of_all once i (homes_of_held slots once ok.held) i_in_once) o pieces
 
-  pub keeps_after_change : (meaning : Meaning M) (idle_keeps active_keeps : Relation M) (w : Option ℤ) (histories : ℕ → History)
-      → (InstKeeps meaning idle_keeps active_keeps w m.inst (once_at once i) (group_at groups g) (histories i) → InstKeeps meaning idle_keeps active_keeps w inst o y (histories i))
-      → Keeps meaning idle_keeps active_keeps w slots once groups histories
-      → Keeps meaning idle_keeps active_keeps w (set slots i (Some (record { group = g; inst = inst }))) (set once i (shelf_of o)) (set groups g y) histories
-  keeps_after_change meaning idle_keeps active_keeps w histories step keeps = keeps_by_change (set once i (shelf_of o)) own_sight meaning idle_keeps active_keeps w histories step keeps
+    pub tables_by_change : (K : ℕ → Member M → Pieces → Group → Type 0) → SameMember m (record { group = g; inst = inst })
+        → K i (record { group = g; inst = inst }) (once_at (with_seen once i o) i) (group_at (set groups g y) g)
+        → ((j : ℕ) (n : Member M) → j ≢ i → slot_at slots j ≡ Some n → H j n (once_at once j) (group_at groups n.group) → K j n (once_at (with_seen once i o) j) (group_at (set groups g y) n.group))
+        → Tables K (set slots i (Some (record { group = g; inst = inst }))) (with_seen once i o) (set groups g y)
+    tables_by_change K same here there =
+        let members = members_beside slots i m (record { group = g; inst = inst }) in_slot i_in same in
+        tables_by_sight (with_seen once i o) own_sight K
+        (held_stays slots (set slots i (Some (record { group = g; inst = inst }))) once (with_seen once i o) members own_stands ok.held)
+        (bare_stays slots (set slots i (Some (record { group = g; inst = inst }))) once (with_seen once i o) members own_stands ok.bare)
+        here there
+
+    pub keeps_after_step : (meaning : Meaning M) (idle_keeps active_keeps : Relation M) (w : Option ℤ) (histories : ℕ → History) (h : History)
+        → (InstKeeps meaning idle_keeps active_keeps w m.inst (once_at once i) (group_at groups g) (histories i) → InstKeeps meaning idle_keeps active_keeps w inst o y h)
+        → Keeps meaning idle_keeps active_keeps w slots once groups histories
+        → Keeps meaning idle_keeps active_keeps w (set slots i (Some (record { group = g; inst = inst }))) (with_seen once i o) (set groups g y) (with_history histories i h)
+    keeps_after_step meaning idle_keeps active_keeps w histories h step keeps = keeps_by_step (with_seen once i o) own_sight meaning idle_keeps active_keeps w histories h step keeps
+
+    pub keeps_after_change : (meaning : Meaning M) (idle_keeps active_keeps : Relation M) (w : Option ℤ) (histories : ℕ → History)
+        → (InstKeeps meaning idle_keeps active_keeps w m.inst (once_at once i) (group_at groups g) (histories i) → InstKeeps meaning idle_keeps active_keeps w inst o y (histories i))
+        → Keeps meaning idle_keeps active_keeps w slots once groups histories
+        → Keeps meaning idle_keeps active_keeps w (set slots i (Some (record { group = g; inst = inst }))) (with_seen once i o) (set groups g y) histories
+    keeps_after_change meaning idle_keeps active_keeps w histories step keeps = keeps_by_change (with_seen once i o) own_sight meaning idle_keeps active_keeps w histories step keeps
 
 -- for an instance that stays where it is, with what each instance sees of write-once records afterwards
 module _ {M : Type 0} (slots : List (Option (Member M))) (once : List Shelf) (groups : List Group) (i g : ℕ) (m : Member M) (inst : Inst M) (o : Pieces) (y : Group) (once' : List Shelf) (sees : Sees slots once i o once')
-    (ok : TablesOk slots once groups) (in_slot : slot_at slots i ≡ Some m) (of_group : m.group ≡ g) (alone : (j : ℕ) → (group_at groups g).active ≡ Some j → j ≡ i) (now : y.active ≡ active_in i inst)
+    (stands : SameShelves once once') (ok : TablesOk slots once groups) (in_slot : slot_at slots i ≡ Some m) (of_group : m.group ≡ g) (alone : (j : ℕ) → (group_at groups g).active ≡ Some j → j ≡ i) (now : y.active ≡ active_in i inst)
     (same : SameInstance (instance_of m.inst) (instance_of inst)) (pieces : SamePieces (once_at once i) o) (written : SameOnce (instance_of m.inst).table (once_at once i) o)
     (blocks : (space : Space) → IsSameBlock (block_in (group_at groups g) space) (block_in y space)) where
   blocks_after : (k : ℕ) (space : Space) → IsSameBlock (block_in (group_at groups k) space) (block_in (group_at (set groups g y) k) space)
@@ -324,30 +344,45 @@ module _ {M : Type 0} (slots : List (Option (Member M))) (once : List Shelf) (gr
       ]
 
   pub tables_after_sight : SameTables slots once groups (set slots i (Some (record { group = g; inst = inst }))) once' (set groups g y)
-  tables_after_sight = record { slot = slots_after; pieces = pieces_after; written = written_after; blocks = blocks_after }
+  tables_after_sight = record { slot = slots_after; pieces = pieces_after; stands = stands; written = written_after; blocks = blocks_after }
 
   pub ok_after_sight : TablesOk (set slots i (Some (record { group = g; inst = inst }))) once' (set groups g y)
   ok_after_sight =
+      let members = members_beside slots i m (record { group = g; inst = inst }) in_slot (i_in EachIsHoused slots once groups i g m inst o y ok in_slot of_group alone now) (member_stays m g inst of_group same) in
       tables_by_sight EachIsHoused slots once groups i g m inst o y ok in_slot of_group alone now once' sees EachIsHoused
+      (held_stays slots (set slots i (Some (record { group = g; inst = inst }))) once once' members stands ok.held)
+      (bare_stays slots (set slots i (Some (record { group = g; inst = inst }))) once once' members stands ok.bare)
       (let before : IsHoused (instance_of m.inst) (once_at once i) (group_at groups g) = rw of_group at (ok.housed i m in_slot) in
       housed_stays (instance_of m.inst) (instance_of inst) _ _ _ _ same (pieces_after i) (blocks_after g) before)
       (λ j n apart at before.
       housed_stays (instance_of n.inst) (instance_of n.inst) _ _ _ _
       (record { kind = refl; params = refl; table = refl; own = same_pieces (instance_of n.inst).own }) (pieces_after j) (blocks_after n.group) before)
 
--- where each instance has its write-once pieces for itself
+-- where its pieces were put back at their homes
 module _ {M : Type 0} (slots : List (Option (Member M))) (once : List Shelf) (groups : List Group) (i g : ℕ) (m : Member M) (inst : Inst M) (o : Pieces) (y : Group)
     (ok : TablesOk slots once groups) (in_slot : slot_at slots i ≡ Some m) (of_group : m.group ≡ g) (alone : (j : ℕ) → (group_at groups g).active ≡ Some j → j ≡ i) (now : y.active ≡ active_in i inst)
     (same : SameInstance (instance_of m.inst) (instance_of inst)) (pieces : SamePieces (once_at once i) o) (written : SameOnce (instance_of m.inst).table (once_at once i) o)
     (blocks : (space : Space) → IsSameBlock (block_in (group_at groups g) space) (block_in y space)) where
-  sight : Sees slots once i o (set once i (shelf_of o))
-  sight = own_sight EachIsHoused slots once groups i g m inst o y ok in_slot of_group alone now
+  sight : Sees slots once i o (with_seen once i o)
+  sight = own_sight EachIsHoused slots once groups i g m inst o y ok in_slot of_group alone now pieces written
 
-  pub tables_after_change : SameTables slots once groups (set slots i (Some (record { group = g; inst = inst }))) (set once i (shelf_of o)) (set groups g y)
-  tables_after_change = tables_after_sight slots once groups i g m inst o y (set once i (shelf_of o)) sight ok in_slot of_group alone now same pieces written blocks
+  stands : SameShelves once (with_seen once i o)
+  stands = own_stands EachIsHoused slots once groups i g m inst o y ok in_slot of_group alone now pieces written
 
-  pub ok_after_change : TablesOk (set slots i (Some (record { group = g; inst = inst }))) (set once i (shelf_of o)) (set groups g y)
-  ok_after_change = ok_after_sight slots once groups i g m inst o y (set once i (shelf_of o)) sight ok in_slot of_group alone now same pieces written blocks
+  pub tables_after_change : SameTables slots once groups (set slots i (Some (record { group = g; inst = inst }))) (with_seen once i o) (set groups g y)
+  tables_after_change = tables_after_sight slots once groups i g m inst o y (with_seen once i o) sight stands ok in_slot of_group alone now same pieces written blocks
+
+  pub ok_after_change : TablesOk (set slots i (Some (record { group = g; inst = inst }))) (with_seen once i o) (set groups g y)
+  ok_after_change = ok_after_sight slots once groups i g m inst o y (with_seen once i o) sight stands ok in_slot of_group alone now same pieces written blocks
+
+-- each of its records has a home
+pub homes_in : {M : Type 0} {H : ℕ → Member M → Pieces → Group → Type 0} (slots : List (Option (Member M))) (once : List Shelf) (groups : List Group) → Tables H slots once groups → (i : ℕ) → i < INSTANCES → HasHomes once i
+homes_in slots once groups ok i inside = homes_of_all once i (homes_of_held slots once ok.held) (omega (arith, ok.once_count))
+
+pub homes_of_slot : {M : Type 0} {H : ℕ → Member M → Pieces → Group → Type 0} (slots : List (Option (Member M))) (once : List Shelf) (groups : List Group) → Tables H slots once groups → (i : ℕ) (m : Member M) → slot_at slots i ≡ Some m → HasHomes once i
+homes_of_slot slots once groups ok i m at =
+    let inside = slot_in slots i m at in
+    homes_in slots once groups ok i (omega (arith, inside, ok.slot_count))
 
 -- what the code read
 pub read_group : (groups : List Group) (g : ℕ) (r : Group) → g < length groups → r ≡ slice_index_or groups g r → group_at groups g ≡ r
@@ -406,6 +441,7 @@ pub tables_then : {M : Type 0} (slots slots' slots'' : List (Option (Member M)))
 tables_then slots slots' slots'' once once' once'' groups groups' groups'' a b = record {
   slot = λ i. slot_then _ _ _ (a.slot i) (b.slot i);
   pieces = λ i. pieces_then _ _ _ (a.pieces i) (b.pieces i);
+  stands = shelves_then once once' once'' a.stands b.stands;
   written = λ i m at.
       let later = later_member _ _ m at (a.slot i) in
       once_then _ _ _ _ (a.written i m at) (subst (λ (rs : List MemRec). SameOnce rs (once_at once' i) (once_at once'' i)) later.1.1.table (b.written i later.0 later.1.0));

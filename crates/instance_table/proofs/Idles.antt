@@ -7,16 +7,19 @@ use Rattle.ialg.specs.Meaning.{Meaning}
 use Rattle.ialg.specs.History.{History}
 use Rattle.record_loans.specs.declared.pieces.Pieces.{Pieces}
 use Rattle.scratch_group.specs.declared.group.Group.{Group}
-use Rattle.lifecycle.specs.States.{Relation}
+use Rattle.record_loans.specs.Pieces.{SamePieces}
+use Rattle.lifecycle.specs.States.{Relation, SameOnce}
 use Rattle.instance_table.specs.declared.TheConstants.{INSTANCES, GROUPS}
 use Rattle.instance_table.specs.declared.member.Member.{Member}
 use Rattle.instance_table.specs.declared.shelves.Shelf.{Shelf}
-use Rattle.instance_table.specs.Shelves.{shelf_of}
-use Rattle.instance_table.specs.Table.{slot_at, once_at, group_at, instance_of, slot_active_in, IsHoused, EachIsHoused, Tables, TablesOk}
+use Rattle.instance_table.specs.Homes.{with_seen, SameShelves}
+use Rattle.instance_table.specs.Table.{slot_at, once_at, AreHeld, AreBare, group_at, instance_of, slot_active_in, IsHoused, EachIsHoused, Tables, TablesOk}
 use Rattle.instance_table.specs.Keeps.{SlotKeeps, Keeps, with_history}
 use Rattle.instance_table.proofs.Housing.{housed_beside}
-use Rattle.instance_table.proofs.Stands.{set_there}
-use Rattle.instance_table.proofs.Sights.{Sees, sees_own, slot_sees}
+use Rattle.instance_table.specs.Frames.{SameMember, IsSameMember}
+use Rattle.instance_table.proofs.Lent.{stands_lent, homes_of_all}
+use Rattle.instance_table.proofs.Held.{members_beside, homes_of_held, held_stays, bare_stays}
+use Rattle.instance_table.proofs.Sights.{Sees, sees_lent, slot_sees}
 
 -- what holds of the member that is put in
 pub is_new : {M : Type 0} (K : ℕ → Member M → Pieces → Group → Type 0) (groups : List Group) (i : ℕ) (o : Pieces) (n : Member M) → n.group < GROUPS → K i n o (group_at groups n.group)
@@ -34,14 +37,6 @@ module _ {M : Type 0} (H : ℕ → Member M → Pieces → Group → Type 0) (sl
   slot_other : (j : ℕ) → j ≢ i → slot_at (set slots i x) j ≡ slot_at slots j
   slot_other j apart = get_or-set_other slots i j x None apart
 
-  own_sight : Sees slots once i o (set once i (shelf_of o))
-  own_sight =
-      let i_in : i < length once = omega (arith, inside, ok.once_count) in
-      sees_own slots once i o i_in ok.unshared
-
-  once_other : (j : ℕ) → j ≢ i → once_at (set once i (shelf_of o)) j ≡ once_at once j
-  once_other j apart = set_there once i j (shelf_of o) (ok.unshared j) apart
-
   active_same : (j : ℕ) → slot_active_in (slot_at (set slots i x) j) ≡ slot_active_in (slot_at slots j)
   active_same j =
       elim (eqb_tells j i) [
@@ -51,14 +46,15 @@ module _ {M : Type 0} (H : ℕ → Member M → Pieces → Group → Type 0) (sl
 
   -- with what each instance sees of write-once records afterwards
   module _ (once' : List Shelf) (sees : Sees slots once i o once') where
-    pub tables_by_still : (K : ℕ → Member M → Pieces → Group → Type 0)
+    pub tables_by_still : (K : ℕ → Member M → Pieces → Group → Type 0) → AreHeld (set slots i x) once' → AreBare (set slots i x) once'
         → ((m : Member M) → x ≡ Some m → (m.group < GROUPS) × K i m o (group_at groups m.group))
         → ((j : ℕ) (n : Member M) → j ≢ i → slot_at slots j ≡ Some n → H j n (once_at once j) (group_at groups n.group) → K j n (once_at once' j) (group_at groups n.group))
         → Tables K (set slots i x) once' groups
-    tables_by_still K new there = record {
+    tables_by_still K held bare new there = record {
       slot_count = simp length-set ok.slot_count;
       once_count = sees.count ∙ ok.once_count;
-      unshared = sees.unshared;
+      held = held;
+      bare = bare;
       group_count = ok.group_count;
       group_range = λ j n at.
           elim (eqb_tells j i) [
@@ -96,34 +92,38 @@ module _ {M : Type 0} (H : ℕ → Member M → Pieces → Group → Type 0) (sl
           | inr e ↦ rw (slot_other j e.1) (slot_sees meaning idle_keeps active_keeps w (once_at once j) (once_at once' j) (histories j) (slot_at slots j) groups (λ n at. sees.written j n e.1 at) (keeps j))
         ]
 
-  -- where each instance has its write-once pieces for itself
-  pub tables_by_quiet : (K : ℕ → Member M → Pieces → Group → Type 0)
-      → ((m : Member M) → x ≡ Some m → (m.group < GROUPS) × K i m o (group_at groups m.group))
-      → ((j : ℕ) (n : Member M) → j ≢ i → slot_at slots j ≡ Some n → H j n (once_at once j) (group_at groups n.group) → K j n (once_at once j) (group_at groups n.group))
-      → Tables K (set slots i x) (set once i (shelf_of o)) groups
-  tables_by_quiet K new there = tables_by_still (set once i (shelf_of o)) own_sight K new (λ j n apart at before. rw (once_other j apart) (there j n apart at before))
+  -- where an instance stays there, and its pieces were put back at their homes
+  module _ (m : Member M) (at : slot_at slots i ≡ Some m) (pieces : SamePieces (once_at once i) o) (written : SameOnce (instance_of m.inst).table (once_at once i) o) where
+    i_in_once : i < length once
+    i_in_once = omega (arith, inside, ok.once_count)
 
-  pub keeps_after_quiet : (meaning : Meaning M) (idle_keeps active_keeps : Relation M) (w : Option ℤ) (histories : ℕ → History) (h : History)
-      → SlotKeeps meaning idle_keeps active_keeps w x o groups h
-      → Keeps meaning idle_keeps active_keeps w slots once groups histories
-      → Keeps meaning idle_keeps active_keeps w (set slots i x) (set once i (shelf_of o)) groups (with_history histories i h)
-  keeps_after_quiet meaning idle_keeps active_keeps w histories h new keeps = keeps_by_still (set once i (shelf_of o)) own_sight meaning idle_keeps active_keeps w histories h new keeps
+    own_sight : Sees slots once i o (with_seen once i o)
+    own_sight = sees_lent slots once i m o ok.held i_in_once at pieces written
 
-  pub keeps_after_end : (meaning : Meaning M) (idle_keeps active_keeps : Relation M) (w : Option ℤ) (histories : ℕ → History)
-      → SlotKeeps meaning idle_keeps active_keeps w x o groups (histories i)
-      → Keeps meaning idle_keeps active_keeps w slots once groups histories
-      → Keeps meaning idle_keeps active_keeps w (set slots i x) (set once i (shelf_of o)) groups histories
-  keeps_after_end meaning idle_keeps active_keeps w histories new keeps = keeps_by_end (set once i (shelf_of o)) own_sight meaning idle_keeps active_keeps w histories new keeps
+    own_stands : SameShelves once (with_seen once i o)
+    own_stands = stands_lent once i (homes_of_all once i (homes_of_held slots once ok.held) i_in_once) o pieces
+
+    pub tables_by_quiet : (K : ℕ → Member M → Pieces → Group → Type 0) (n : Member M) → x ≡ Some n → SameMember m n → n.group < GROUPS → K i n o (group_at groups n.group)
+        → ((j : ℕ) (n : Member M) → j ≢ i → slot_at slots j ≡ Some n → H j n (once_at once j) (group_at groups n.group) → K j n (once_at (with_seen once i o) j) (group_at groups n.group))
+        → Tables K (set slots i x) (with_seen once i o) groups
+    tables_by_quiet K n new same range here there =
+        let i_in : i < length slots = omega (arith, inside, ok.slot_count) in
+        let members : (j : ℕ) → IsSameMember (slot_at slots j) (slot_at (set slots i x) j) = rw new (members_beside slots i m n at i_in same) in
+        tables_by_still (with_seen once i o) own_sight K
+        (held_stays slots (set slots i x) once (with_seen once i o) members own_stands ok.held)
+        (bare_stays slots (set slots i x) once (with_seen once i o) members own_stands ok.bare)
+        (λ q is. is_new K groups i o n range here q (sym new ∙ is)) there
+
+    pub keeps_after_end : (meaning : Meaning M) (idle_keeps active_keeps : Relation M) (w : Option ℤ) (histories : ℕ → History)
+        → SlotKeeps meaning idle_keeps active_keeps w x o groups (histories i)
+        → Keeps meaning idle_keeps active_keeps w slots once groups histories
+        → Keeps meaning idle_keeps active_keeps w (set slots i x) (with_seen once i o) groups histories
+    keeps_after_end meaning idle_keeps active_keeps w histories new keeps = keeps_by_end (with_seen once i o) own_sight meaning idle_keeps active_keeps w histories new keeps
 
 pub ok_after_still : {M : Type 0} (slots : List (Option (Member M))) (once : List Shelf) (groups : List Group) (i : ℕ) (x : Option (Member M)) (o : Pieces) (once' : List Shelf) → Sees slots once i o once'
+    → AreHeld (set slots i x) once' → AreBare (set slots i x) once'
     → TablesOk slots once groups → i < INSTANCES → slot_active_in (slot_at slots i) ≡ None → slot_active_in x ≡ None
     → ((m : Member M) → x ≡ Some m → (m.group < GROUPS) × IsHoused (instance_of m.inst) o (group_at groups m.group)) → TablesOk (set slots i x) once' groups
-ok_after_still slots once groups i x o once' sees ok inside was is new =
-    tables_by_still EachIsHoused slots once groups i x o ok inside was is once' sees EachIsHoused new
+ok_after_still slots once groups i x o once' sees held bare ok inside was is new =
+    tables_by_still EachIsHoused slots once groups i x o ok inside was is once' sees EachIsHoused held bare new
     (λ j n apart at before. housed_beside (instance_of n.inst) (once_at once j) (once_at once' j) (group_at groups n.group) (sees.others j apart) before)
-
-pub ok_after_quiet : {M : Type 0} (slots : List (Option (Member M))) (once : List Shelf) (groups : List Group) (i : ℕ) (x : Option (Member M)) (o : Pieces)
-    → TablesOk slots once groups → i < INSTANCES → slot_active_in (slot_at slots i) ≡ None → slot_active_in x ≡ None
-    → ((m : Member M) → x ≡ Some m → (m.group < GROUPS) × IsHoused (instance_of m.inst) o (group_at groups m.group)) → TablesOk (set slots i x) (set once i (shelf_of o)) groups
-ok_after_quiet slots once groups i x o ok inside was is new =
-    tables_by_quiet EachIsHoused slots once groups i x o ok inside was is EachIsHoused new (λ j n apart at before. before)

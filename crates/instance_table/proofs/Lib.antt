@@ -1,9 +1,16 @@
 pub mod Housing
 pub mod Stands
+pub mod Homes
+pub mod Lent
+pub mod Held
 pub mod Sights
 pub mod Changes
 pub mod Activities
 pub mod Idles
+pub mod Starts
+pub mod Handing
+pub mod Goings
+pub mod Unshared
 pub mod Told
 pub mod Ends
 pub mod Histories

@@ -1,6 +1,5 @@
 -- What the other instances see of write-once records, while one of them is called.
-use Rattle.std.proofs.Common.{◌≡◌, ◌≢◌, ℕ, ℤ, ◌<◌, List, [], ◌∷◌, length, take, drop, Option, Some, None, set, refl, ap, ◌∙◌}
-use Rattle.std.proofs.lemmas.List.{length-set}
+use Rattle.std.proofs.Common.{◌≡◌, ◌≢◌, ℕ, ℤ, ◌<◌, List, [], ◌∷◌, length, take, drop, Option, Some, None, refl, sym, ap, ◌∙◌}
 use Rattle.mem_rec.specs.declared.MemRec.{MemRec}
 use Rattle.mem_rec.specs.declared.Attr.{Attr}
 use Rattle.mem_rec.specs.declared.Attr.TheVariants.{Scratch, Persist, WriteOnce}
@@ -16,31 +15,37 @@ use Rattle.scratch_group.specs.Words.{words_by, record_words, active_words, last
 use Rattle.lifecycle.specs.declared.instance.Inst.{Inst}
 use Rattle.lifecycle.specs.declared.instance.Inst.TheVariants.{Idling, Running}
 use Rattle.lifecycle.specs.States.{Relation, SameOnce}
-use Rattle.lifecycle.proofs.Frames.{same_pieces}
 use Rattle.instance_table.specs.declared.member.Member.{Member}
 use Rattle.instance_table.specs.declared.shelves.Shelf.{Shelf}
-use Rattle.instance_table.specs.Shelves.{shelf_of}
-use Rattle.instance_table.specs.Table.{slot_at, once_at, group_at, IsUnshared, instance_of}
+use Rattle.instance_table.specs.Homes.{with_seen}
+use Rattle.instance_table.specs.Table.{slot_at, once_at, group_at, instance_of, AreHeld}
 use Rattle.instance_table.specs.Keeps.{InstKeeps, SlotKeeps}
-use Rattle.instance_table.proofs.Stands.{set_here, set_there, set_unshared}
+use Rattle.instance_table.proofs.Homes.{count_seen, lent_here}
+use Rattle.instance_table.proofs.Lent.{homes_of_all, pieces_lent, words_lent}
+use Rattle.instance_table.proofs.Held.{homes_of_held, alike_at}
 
 -- instance i sees the pieces o from now on, and each other one sees the same pieces, with the same words of its write-once records
 pub record Sees {M : Type 0} (slots : List (Option (Member M))) (once : List Shelf) (i : ℕ) (o : Pieces) (once' : List Shelf) : Type 0 where
   pub count : length once' ≡ length once
-  pub unshared : (j : ℕ) → IsUnshared once' j
   pub here : once_at once' i ≡ o
   pub others : (j : ℕ) → j ≢ i → SamePieces (once_at once j) (once_at once' j)
   pub written : (j : ℕ) (n : Member M) → j ≢ i → slot_at slots j ≡ Some n → SameOnce (instance_of n.inst).table (once_at once j) (once_at once' j)
 
--- where each instance has its write-once pieces for itself
-pub sees_own : {M : Type 0} (slots : List (Option (Member M))) (once : List Shelf) (i : ℕ) (o : Pieces) → i < length once → ((j : ℕ) → IsUnshared once j) → Sees slots once i o (set once i (shelf_of o))
-sees_own slots once i o inside unshared = record {
-  count = simp length-set refl;
-  unshared = set_unshared once i o inside unshared;
-  here = set_here once i o inside;
-  others = λ j apart. rw (set_there once i j (shelf_of o) (unshared j) apart) (same_pieces (once_at once j));
-  written = λ j n apart at k attr. rw (set_there once i j (shelf_of o) (unshared j) apart) refl;
-}
+-- where its pieces were put back at their homes, with the same words of its write-once records
+pub sees_lent : {M : Type 0} (slots : List (Option (Member M))) (once : List Shelf) (i : ℕ) (m : Member M) (o : Pieces) → AreHeld slots once → i < length once → slot_at slots i ≡ Some m
+    → SamePieces (once_at once i) o → SameOnce (instance_of m.inst).table (once_at once i) o → Sees slots once i o (with_seen once i o)
+sees_lent slots once i m o held inside at pieces written =
+    let homes = homes_of_all once i (homes_of_held slots once held) inside in
+    record {
+      count = count_seen once i homes o;
+      here = lent_here once i homes o;
+      others = λ j apart. pieces_lent once i homes o pieces j;
+      written = λ j n apart at_j.
+          words_lent once i homes o j (instance_of m.inst).table (instance_of n.inst).table written
+          (λ k home.
+          let both = alike_at slots once held i j k m n at at_j apart home in
+          (both.once, sym (ap (λ (r : MemRec). r.size) both.shape)));
+    }
 
 -- an instance whose write-once words stay keeps its history
 

@@ -1,6 +1,5 @@
 -- What an instance sees of the shelves, where its pieces stand with it.
 use Rattle.std.proofs.Common.{◌≡◌, ◌≢◌, ℕ, ◌<◌, inl, inr, List, length, Option, None, set, get_or-set_same, get_or-set_other, refl, sym, ◌∙◌, ap}
-use Rattle.std.proofs.lemmas.List.{set-set}
 use Rattle.std.proofs.lemmas.Bool.Decides.{eqb_tells}
 use Rattle.space_raw.specs.Span.{Span}
 use Rattle.record_loans.specs.declared.pieces.Pieces.{Pieces}
@@ -11,12 +10,12 @@ use Rattle.instance_table.specs.Shelves.{stand_at, piece_here, pieces_here, shel
 use Rattle.instance_table.specs.Table.{once_at, no_pieces, IsUnshared}
 
 -- a piece that stands with its instance is seen by it
-seen_here : (once : List Shelf) (i k : ℕ) (p : Option Span) → stand_at (shelf_at once i) k ≡ Here p → piece_seen once i k ≡ p
+pub seen_here : (once : List Shelf) (i k : ℕ) (p : Option Span) → stand_at (shelf_at once i) k ≡ Here p → piece_seen once i k ≡ p
 seen_here once i k p here =
     ap (λ (s : Stand). piece_here (stand_at (shelf_at once (home_by i s)) k)) here
     ∙ ap piece_here here
 
-four_pieces : (a b : Pieces) → a.p0 ≡ b.p0 → a.p1 ≡ b.p1 → a.p2 ≡ b.p2 → a.p3 ≡ b.p3 → a ≡ b
+pub four_pieces : (a b : Pieces) → a.p0 ≡ b.p0 → a.p1 ≡ b.p1 → a.p2 ≡ b.p2 → a.p3 ≡ b.p3 → a ≡ b
 four_pieces a b e0 e1 e2 e3 =
     ap (λ (p : Option Span). let r : Pieces = record { p0 = p; p1 = a.p1; p2 = a.p2; p3 = a.p3 } in r) e0
     ∙ ap (λ (p : Option Span). let r : Pieces = record { p0 = b.p0; p1 = p; p2 = a.p2; p3 = a.p3 } in r) e1
@@ -48,10 +47,6 @@ set_unshared once i o inside unshared j =
       | inl e ↦ rw e.1 (unshared_of (set once i (shelf_of o)) i o (get_or-set_same once i (shelf_of o) no_shelf inside))
       | inr e ↦ unshared_of (set once i (shelf_of o)) j (once_at once j) (get_or-set_other once i j (shelf_of o) no_shelf e.1 ∙ unshared j)
     ]
-
--- the pieces were taken together, and put back
-pub put_back : (once once' once'' : List Shelf) (i : ℕ) (o : Pieces) → once' ≡ set once i no_shelf → once'' ≡ set once' i (shelf_of o) → once'' ≡ set once i (shelf_of o)
-put_back once once' once'' i o taken put = put ∙ ap (λ (l : List Shelf). set l i (shelf_of o)) taken ∙ set-set once i no_shelf (shelf_of o)
 
 -- an instance that sees nothing has nothing with it
 none_here : (once : List Shelf) (i k : ℕ) (s : Stand) → stand_at (shelf_at once i) k ≡ s → piece_seen once i k ≡ None → piece_here s ≡ None

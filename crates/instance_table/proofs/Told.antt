@@ -19,12 +19,14 @@ use Rattle.lifecycle.proofs.Frames.{same_pieces, same_group}
 use Rattle.instance_table.specs.declared.TheConstants.{INSTANCES}
 use Rattle.instance_table.specs.declared.member.Member.{Member}
 use Rattle.instance_table.specs.declared.shelves.Shelf.{Shelf}
-use Rattle.instance_table.specs.Shelves.{shelf_of}
-use Rattle.instance_table.specs.Table.{slot_at, once_at, group_at, IsUnshared, no_group, instance_of, is_member_of, IsHoused, IsTold, TablesOk, TablesTold}
+use Rattle.instance_table.specs.Homes.{with_seen, HasHomes, AllHaveHomes, SameShelves}
+use Rattle.instance_table.specs.Table.{slot_at, once_at, group_at, no_group, instance_of, is_member_of, IsHoused, IsTold, TablesOk, TablesTold}
 use Rattle.instance_table.specs.Frames.{SameMember, IsSameMember, SameMembers}
 use Rattle.instance_table.proofs.Housing.{same_blocks, room_of_housed, room_stays, housed_stays}
-use Rattle.instance_table.proofs.Stands.{set_here}
-use Rattle.instance_table.proofs.Changes.{slot_in, pieces_then, block_then, pieces_stay, blocks_stay}
+use Rattle.instance_table.proofs.Homes.{lent_here}
+use Rattle.instance_table.proofs.Lent.{same_shelves, stands_lent, homes_of_all}
+use Rattle.instance_table.proofs.Held.{same_members_slot}
+use Rattle.instance_table.proofs.Changes.{slot_in, pieces_then, shelves_then, block_then, pieces_stay, blocks_stay}
 
 -- a slot that has a member of the group
 pub member_is : {M : Type 0} (slot : Option (Member M)) (g : ℕ) (m : Member M) → slot ≡ Some m → is_member_of g slot ≡ true → m.group ≡ g
@@ -50,10 +52,10 @@ pub is_told : {M : Type 0} (g n i : ℕ) (m : Member M) (o : Pieces) (y : Group)
 is_told g n i m o y housed = record { told = λ h. housed; waits = λ h. room_of_housed (instance_of m.inst) o y housed }
 
 -- in its slot and its group
-pub told_here : {M : Type 0} (g i : ℕ) (once : List Shelf) (groups : List Group) (o : Pieces) (y : Group) (m : Member M) → i < length once → g < length groups
-    → IsHoused (instance_of m.inst) o y → IsTold g (i + 1) i m (once_at (set once i (shelf_of o)) i) (group_at (set groups g y) g)
-told_here g i once groups o y m once_in group_in housed =
-    rw (set_here once i o once_in, get_or-set_same groups g y no_group group_in) (is_told g (i + 1) i m o y housed)
+pub told_here : {M : Type 0} (g i : ℕ) (once : List Shelf) (groups : List Group) (o : Pieces) (y : Group) (m : Member M) → HasHomes once i → g < length groups
+    → IsHoused (instance_of m.inst) o y → IsTold g (i + 1) i m (once_at (with_seen once i o) i) (group_at (set groups g y) g)
+told_here g i once groups o y m homes group_in housed =
+    rw (lent_here once i homes o, get_or-set_same groups g y no_group group_in) (is_told g (i + 1) i m o y housed)
 
 -- the others stay as they are
 pub told_beside : {M : Type 0} (g n j : ℕ) (m : Member M) (o o' : Pieces) (y y' : Group) → j ≢ n → SamePieces o o' → ((space : Space) → IsSameBlock (block_in y space) (block_in y' space))
@@ -78,7 +80,8 @@ pub told_by_none : {M : Type 0} (g n : ℕ) (slots : List (Option (Member M))) (
 told_by_none g n slots once groups none ok = record {
   slot_count = ok.slot_count;
   once_count = ok.once_count;
-  unshared = ok.unshared;
+  held = ok.held;
+  bare = ok.bare;
   group_count = ok.group_count;
   group_range = ok.group_range;
   housed = λ j m at.
@@ -98,7 +101,8 @@ pub all_told : {M : Type 0} (g n : ℕ) (slots : List (Option (Member M))) (once
 all_told g n slots once groups all ok = record {
   slot_count = ok.slot_count;
   once_count = ok.once_count;
-  unshared = ok.unshared;
+  held = ok.held;
+  bare = ok.bare;
   group_count = ok.group_count;
   group_range = ok.group_range;
   housed = λ j m at.
@@ -107,14 +111,6 @@ all_told g n slots once groups all ok = record {
   active_there = ok.active_there;
   active_known = ok.active_known;
 }
-
--- the same instances, that may go by other bases
-same_member : {M : Type 0} (m : Member M) → SameMember m m
-same_member m = record { group = refl; kind = refl; params = refl; table = refl; own = same_pieces (instance_of m.inst).own }
-
-same_members_slot : {M : Type 0} (slot : Option (Member M)) → IsSameMember slot slot
-same_members_slot None = refl
-same_members_slot (Some m) = same_member m
 
 -- the instance that was told where its records lie
 pub told_member : {M : Type 0} (m : Member M) (inst : Inst M) (o : Pieces) (y : Group) → SameInstance (settled (instance_of m.inst) o y) (instance_of inst)
@@ -145,6 +141,7 @@ pub members_then : {M : Type 0} (slots slots' slots'' : List (Option (Member M))
 members_then slots slots' slots'' once once' once'' groups groups' groups'' a b = record {
   slot = λ i. member_then _ _ _ (a.slot i) (b.slot i);
   pieces = λ i. pieces_then _ _ _ (a.pieces i) (b.pieces i);
+  stands = shelves_then once once' once'' a.stands b.stands;
   blocks = λ g space. block_then _ _ _ (a.blocks g space) (b.blocks g space);
 }
 
@@ -152,49 +149,54 @@ pub same_members : {M : Type 0} (slots : List (Option (Member M))) (once : List 
 same_members slots once groups = record {
   slot = λ i. same_members_slot (slot_at slots i);
   pieces = λ i. same_pieces (once_at once i);
+  stands = same_shelves once;
   blocks = λ g space. same_blocks _ _ (same_group (group_at groups g)) space;
 }
 
 -- with what each instance sees of write-once records afterwards
 
 pub members_after_sight : {M : Type 0} (slots : List (Option (Member M))) (once : List Shelf) (groups : List Group) (i g : ℕ) (m n : Member M) (once' : List Shelf) (y : Group)
-    → i < length slots → g < length groups → slot_at slots i ≡ Some m → SameMember m n → ((j : ℕ) → SamePieces (once_at once j) (once_at once' j))
+    → i < length slots → g < length groups → slot_at slots i ≡ Some m → SameMember m n → ((j : ℕ) → SamePieces (once_at once j) (once_at once' j)) → SameShelves once once'
     → ((space : Space) → IsSameBlock (block_in (group_at groups g) space) (block_in y space))
     → SameMembers slots once groups (set slots i (Some n)) once' (set groups g y)
-members_after_sight slots once groups i g m n once' y slot_in group_in at same pieces blocks = record {
+members_after_sight slots once groups i g m n once' y slot_in group_in at same pieces stands blocks = record {
   slot = λ j.
       elim (eqb_tells j i) [
         | inl e ↦ rw (e.1, get_or-set_same slots i (Some n) None slot_in, at) same
         | inr e ↦ rw (get_or-set_other slots i j (Some n) None e.1) (same_members_slot (slot_at slots j))
       ];
   pieces = pieces;
+  stands = stands;
   blocks = blocks_stay groups g y group_in blocks;
 }
 
 pub members_after_still : {M : Type 0} (slots : List (Option (Member M))) (once : List Shelf) (groups : List Group) (i : ℕ) (m n : Member M) (once' : List Shelf)
-    → i < length slots → slot_at slots i ≡ Some m → SameMember m n → ((j : ℕ) → SamePieces (once_at once j) (once_at once' j))
+    → i < length slots → slot_at slots i ≡ Some m → SameMember m n → ((j : ℕ) → SamePieces (once_at once j) (once_at once' j)) → SameShelves once once'
     → SameMembers slots once groups (set slots i (Some n)) once' groups
-members_after_still slots once groups i m n once' slot_in at same pieces = record {
+members_after_still slots once groups i m n once' slot_in at same pieces stands = record {
   slot = λ j.
       elim (eqb_tells j i) [
         | inl e ↦ rw (e.1, get_or-set_same slots i (Some n) None slot_in, at) same
         | inr e ↦ rw (get_or-set_other slots i j (Some n) None e.1) (same_members_slot (slot_at slots j))
       ];
   pieces = pieces;
+  stands = stands;
   blocks = λ g space. same_blocks _ _ (same_group (group_at groups g)) space;
 }
 
--- where each instance has its write-once pieces for itself
+-- where its pieces were put back at their homes
 
 pub members_after : {M : Type 0} (slots : List (Option (Member M))) (once : List Shelf) (groups : List Group) (i g : ℕ) (m n : Member M) (o : Pieces) (y : Group)
-    → i < length slots → i < length once → ((j : ℕ) → IsUnshared once j) → g < length groups → slot_at slots i ≡ Some m → SameMember m n → SamePieces (once_at once i) o
+    → i < length slots → i < length once → AllHaveHomes once → g < length groups → slot_at slots i ≡ Some m → SameMember m n → SamePieces (once_at once i) o
     → ((space : Space) → IsSameBlock (block_in (group_at groups g) space) (block_in y space))
-    → SameMembers slots once groups (set slots i (Some n)) (set once i (shelf_of o)) (set groups g y)
-members_after slots once groups i g m n o y slot_in once_in unshared group_in at same pieces blocks =
-    members_after_sight slots once groups i g m n (set once i (shelf_of o)) y slot_in group_in at same (pieces_stay once i o once_in unshared pieces) blocks
+    → SameMembers slots once groups (set slots i (Some n)) (with_seen once i o) (set groups g y)
+members_after slots once groups i g m n o y slot_in once_in homes group_in at same pieces blocks =
+    members_after_sight slots once groups i g m n (with_seen once i o) y slot_in group_in at same (pieces_stay once i o once_in homes pieces)
+    (stands_lent once i (homes_of_all once i homes once_in) o pieces) blocks
 
 pub members_after_quiet : {M : Type 0} (slots : List (Option (Member M))) (once : List Shelf) (groups : List Group) (i : ℕ) (m n : Member M) (o : Pieces)
-    → i < length slots → i < length once → ((j : ℕ) → IsUnshared once j) → slot_at slots i ≡ Some m → SameMember m n → SamePieces (once_at once i) o
-    → SameMembers slots once groups (set slots i (Some n)) (set once i (shelf_of o)) groups
-members_after_quiet slots once groups i m n o slot_in once_in unshared at same pieces =
-    members_after_still slots once groups i m n (set once i (shelf_of o)) slot_in at same (pieces_stay once i o once_in unshared pieces)
+    → i < length slots → i < length once → AllHaveHomes once → slot_at slots i ≡ Some m → SameMember m n → SamePieces (once_at once i) o
+    → SameMembers slots once groups (set slots i (Some n)) (with_seen once i o) groups
+members_after_quiet slots once groups i m n o slot_in once_in homes at same pieces =
+    members_after_still slots once groups i m n (with_seen once i o) slot_in at same (pieces_stay once i o once_in homes pieces)
+    (stands_lent once i (homes_of_all once i homes once_in) o pieces)

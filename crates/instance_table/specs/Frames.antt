@@ -12,6 +12,7 @@ use Rattle.lifecycle.specs.States.{SameInstance, SameOnce}
 use Rattle.ialg.specs.Records.{unplaced}
 use Rattle.instance_table.specs.declared.member.Member.{Member}
 use Rattle.instance_table.specs.declared.shelves.Shelf.{Shelf}
+use Rattle.instance_table.specs.Homes.{SameShelves}
 use Rattle.instance_table.specs.Table.{slot_at, once_at, group_at, instance_of}
 
 -- the same instance in the same group, in either state, at the same places
@@ -25,6 +26,7 @@ pub record SameTables {M : Type 0} (slots : List (Option (Member M))) (once : Li
     (slots' : List (Option (Member M))) (once' : List Shelf) (groups' : List Group) : Type 0 where
   pub slot : (i : ℕ) → SameSlot (slot_at slots i) (slot_at slots' i)
   pub pieces : (i : ℕ) → SamePieces (once_at once i) (once_at once' i)
+  pub stands : SameShelves once once'
   -- no write-once record has other words
   pub written : (i : ℕ) (m : Member M) → slot_at slots i ≡ Some m → SameOnce (instance_of m.inst).table (once_at once i) (once_at once' i)
   pub blocks : (g : ℕ) (space : Space) → IsSameBlock (block_in (group_at groups g) space) (block_in (group_at groups' g) space)
@@ -69,4 +71,5 @@ pub record SameMembers {M : Type 0} (slots : List (Option (Member M))) (once : L
     (slots' : List (Option (Member M))) (once' : List Shelf) (groups' : List Group) : Type 0 where
   pub slot : (i : ℕ) → IsSameMember (slot_at slots i) (slot_at slots' i)
   pub pieces : (i : ℕ) → SamePieces (once_at once i) (once_at once' i)
+  pub stands : SameShelves once once'
   pub blocks : (g : ℕ) (space : Space) → IsSameBlock (block_in (group_at groups g) space) (block_in (group_at groups' g) space)

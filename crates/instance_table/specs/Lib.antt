@@ -1,4 +1,6 @@
 pub mod Shelves
+pub mod Homes
+pub mod Holders
 pub mod Table
 pub mod Keeps
 pub mod Frames

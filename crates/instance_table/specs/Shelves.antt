@@ -38,6 +38,9 @@ abbrev pub home_by : ℕ → Stand → ℕ
 home_by i (Here p) = i
 home_by i (With home) = home
 
+abbrev pub home_of : List Shelf → ℕ → ℕ → ℕ
+home_of once i k = home_by i (stand_at (shelf_at once i) k)
+
 -- the piece that instance i sees for record k: the one that stands at the record's home
 abbrev pub piece_seen : List Shelf → ℕ → ℕ → Option Span
-piece_seen once i k = piece_here (stand_at (shelf_at once (home_by i (stand_at (shelf_at once i) k))) k)
+piece_seen once i k = piece_here (stand_at (shelf_at once (home_of once i k)) k)

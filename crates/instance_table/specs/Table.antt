@@ -1,5 +1,8 @@
 -- The tables of a host: a slot for each instance number, the pieces of its write-once records, and the groups.
 use Rattle.std.specs.Prelude.{ℕ, ℤ, ◌≡◌, ◌≢◌, ◌⊎◌, ◌<◌, Bool, false, List, length, Option, Some, None, nat_eq, slice_index_or, if◌then◌else◌}
+use Rattle.mem_rec.specs.declared.MemRec.{MemRec}
+use Rattle.mem_rec.specs.declared.Attr.TheVariants.{WriteOnce}
+use Rattle.ialg.specs.Records.{record_at}
 use Rattle.record_loans.specs.declared.pieces.Pieces.{Pieces}
 use Rattle.scratch_group.specs.declared.group.Group.{Group}
 use Rattle.scratch_group.specs.Blocks.{count_after, BlocksArePoison}
@@ -11,8 +14,11 @@ use Rattle.lifecycle.specs.States.{Fits}
 use Rattle.lifecycle.specs.Moves.{HasRoom}
 use Rattle.instance_table.specs.declared.TheConstants.{INSTANCES, GROUPS}
 use Rattle.instance_table.specs.declared.member.Member.{Member}
+use Rattle.instance_table.specs.declared.shelves.Stand.{Stand}
+use Rattle.instance_table.specs.declared.shelves.Stand.TheVariants.{With}
 use Rattle.instance_table.specs.declared.shelves.Shelf.{Shelf}
-use Rattle.instance_table.specs.Shelves.{shelf_of, shelf_at, piece_seen}
+use Rattle.instance_table.specs.Shelves.{stand_at, shelf_of, no_shelf, shelf_at, piece_seen}
+use Rattle.instance_table.specs.Homes.{IsPieceHere}
 
 -- what stands in a slot, none past the end
 abbrev pub slot_at : {M : Type 0} → List (Option (Member M)) → ℕ → Option (Member M)
@@ -69,12 +75,38 @@ pub record IsHoused {M : Type 0} (s : Instance M) (shared : Pieces) (g : Group) 
   pub fits : Fits s.table s.own shared g
   pub settled : s.table ≡ placed s.table s.own shared g
 
+-- a record without its base
+abbrev pub unbased : MemRec → MemRec
+unbased r = record r { base = 0 }
+
+-- the instances are of one kind with equal parameters, and record k of both is write-once, with one size, alignment and space
+pub record AreAlike {M : Type 0} (k : ℕ) (a b : Instance M) : Type 0 where
+  pub kind : b.kind ≡ a.kind
+  pub params : b.params ≡ a.params
+  pub once : (record_at a.table k).attr ≡ WriteOnce
+  pub shape : unbased (record_at b.table k) ≡ unbased (record_at a.table k)
+
+-- both slots have instances, which are alike in record k, and its piece stands with the second
+abbrev pub IsHolder : {M : Type 0} → ℕ → Option (Member M) → Option (Member M) → Stand → Type 0
+IsHolder k None home s = ⊥
+IsHolder k (Some m) None s = ⊥
+IsHolder k (Some m) (Some n) s = AreAlike k (instance_of m.inst) (instance_of n.inst) × IsPieceHere s
+
+-- a record stands with another instance only where both hold it
+abbrev pub AreHeld : {M : Type 0} → List (Option (Member M)) → List Shelf → Type 0
+AreHeld slots once = (i k home : ℕ) → stand_at (shelf_at once i) k ≡ With home → IsHolder k (slot_at slots i) (slot_at slots home) (stand_at (shelf_at once home) k)
+
+-- the shelf of an empty slot is empty
+abbrev pub AreBare : {M : Type 0} → List (Option (Member M)) → List Shelf → Type 0
+AreBare slots once = (i : ℕ) → slot_at slots i ≡ None → shelf_at once i ≡ no_shelf
+
 -- what holds of the tables, where this holds of each instance with its write-once pieces and its group
 pub record Tables {M : Type 0} (holds : ℕ → Member M → Pieces → Group → Type 0) (slots : List (Option (Member M))) (once : List Shelf) (groups : List Group) : Type 0 where
   pub slot_count : length slots ≡ INSTANCES
   pub once_count : length once ≡ INSTANCES
   pub group_count : length groups ≡ GROUPS
-  pub unshared : (i : ℕ) → IsUnshared once i
+  pub held : AreHeld slots once
+  pub bare : AreBare slots once
   pub group_range : (i : ℕ) (m : Member M) → slot_at slots i ≡ Some m → m.group < GROUPS
   pub housed : (i : ℕ) (m : Member M) → slot_at slots i ≡ Some m → holds i m (once_at once i) (group_at groups m.group)
   pub active_there : (g i : ℕ) → g < GROUPS → (group_at groups g).active ≡ Some i → slot_active_in (slot_at slots i) ≡ Some g

@@ -6,6 +6,7 @@
 
 mod activity;
 mod calls;
+mod holders;
 mod life;
 mod member;
 mod moves;
@@ -17,7 +18,7 @@ pub use calls::{command, process};
 pub use life::{end, start};
 pub use member::{Member, lives};
 pub use moves::tell_members;
-pub use shelves::{Shelf, Stand, put_seen, sees, take_seen};
+pub use shelves::{Shelf, Stand, home, put_seen, sees, take_seen};
 pub use tables::{
     empty_groups, empty_once, empty_slots, end_groups, end_once, end_slots, in_order,
 };

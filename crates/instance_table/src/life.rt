@@ -4,14 +4,18 @@ ghost use Rattle.ialg.specs.History.{History};
 ghost use Rattle.ialg.specs.Records.{unplaced, AreNew};
 ghost use Rattle.record_loans.specs.Pieces.{SamePieces};
 ghost use Rattle.scratch_group.specs.Words.{idle_words};
-ghost use Rattle.lifecycle.specs.States.{Fits};
+ghost use Rattle.lifecycle.specs.States.{Fits, SameOnce};
 ghost use Rattle.lifecycle.specs.Moves.{HasRoom, settled};
 ghost use Rattle.instance_table.specs.declared.TheConstants.{INSTANCES, GROUPS};
-ghost use Rattle.instance_table.specs.Table.{slot_at, once_at, no_pieces, group_at, own_of, activity_at, quieted_by, TablesOk, ArePoisoned};
+ghost use Rattle.instance_table.specs.Shelves.{stand_at, shelf_at};
+ghost use Rattle.instance_table.specs.Homes.{IsSameStand};
+ghost use Rattle.instance_table.specs.Holders.{left_with, stand_without};
+ghost use Rattle.instance_table.specs.Table.{slot_at, once_at, IsUnshared, no_pieces, group_at, own_of, instance_of, active_in, activity_at, quieted_by, TablesOk, ArePoisoned};
 ghost use Rattle.instance_table.specs.Keeps.{Keeps, with_history};
 ghost use Rattle.instance_table.specs.Frames.{OthersStay, OthersSame, IsStarted};
 
 use crate::activity::quiet;
+use crate::holders::hand_on;
 use crate::member::{Member, put_in, take_out};
 use crate::shelves::{Shelf, put_seen, take_seen};
 use ialg::{Ialg, Params};
@@ -41,6 +45,8 @@ pub fn start<M: Ialg>(
     requires fits { HasRoom (record { kind = kind; params = params; table = table; own = own }) shared (group_at groups.now.items g) }
     ensures ok { TablesOk slots.new.items once.new.items groups.now.items }
     ensures others { OthersStay i slots.old.items once.old.items slots.new.items once.new.items }
+    ensures shelves { (j : ℕ) → j ≢ i → shelf_at once.new.items j ≡ shelf_at once.old.items j }
+    ensures unshared { IsUnshared once.new.items i }
     ensures started { IsStarted g (settled (record { kind = kind; params = params; table = table; own = own }) shared (group_at groups.now.items g)) (slot_at slots.new.items i) }
     ensures pieces { SamePieces shared (once_at once.new.items i) }
     ensures keeps { (w : Option ℤ) (histories : ℕ → History)
@@ -62,8 +68,8 @@ pub fn start<M: Ialg>(
     );
 }
 
-/// Ends an instance, and gives back the pieces of its own records and those of its write-once records. An active one is deactivated
-/// first. All pieces come back, whatever its kind answers to algFree.
+/// Ends an instance, and gives back the pieces of its own records and those of its write-once records that no other instance holds: the
+/// others are handed on. An active one is deactivated first. All these pieces come back, whatever its kind answers to algFree.
 pub fn end<M: Ialg>(
     slots: &mut Vec<Option<Member<M>>>,
     once: &mut Vec<Shelf>,
@@ -79,29 +85,35 @@ pub fn end<M: Ialg>(
     ensures gone { slot_at slots.new.items i ≡ None }
     ensures none { once_at once.new.items i ≡ no_pieces }
     ensures own { SamePieces (own_of (slot_at slots.old.items i)) result.0 }
-    ensures shared { SamePieces (once_at once.old.items i) result.1 }
+    ensures shared { SamePieces (left_with once.old.items i) result.1 }
     ensures others { OthersSame i slots.old.items once.old.items groups.old.items slots.new.items once.new.items groups.new.items }
+    ensures handed { (j k : ℕ) → IsSameStand (stand_without once.old.items i k j) (stand_at (shelf_at once.new.items j) k) }
     ensures activity { (k : ℕ) → activity_at groups.new.items k ≡ quieted_by slots.old.items groups.old.items i k }
     ensures keeps { (histories : ℕ → History) → Keeps M.meaning M.idle_keeps M.active_keeps poison slots.old.items once.old.items groups.old.items histories
         → Keeps M.meaning M.idle_keeps M.active_keeps poison slots.new.items once.new.items groups.new.items histories }
 {
     quiet(slots, once, groups, poison, i);
     let Member { group: g, inst } = take_out(slots, i);
-    let shared = take_seen(once, i as usize);
-    match inst {
-        Inst::Idling(idle) => end_idle(idle, shared, &groups[g as usize]),
-        Inst::Running(_active) => unreachable!(),
-    }
+    let mut shared = take_seen(once, i as usize);
+    let own = end_idle(inst, &mut shared, &groups[g as usize]);
+    put_seen(once, i as usize, shared);
+    (own, hand_on(once, i))
 }
 
 /// Ends an idle instance, once its kind has been told by algFree.
-fn end_idle<M: Ialg>(idle: Idle<M>, shared: Pieces, group: &Group) -> (Pieces, Pieces)
-    requires fits { Fits idle.instance.table idle.instance.own shared group.now }
-    ensures own { SamePieces idle.instance.own result.0 }
-    ensures shared { SamePieces shared result.1 }
+fn end_idle<M: Ialg>(inst: Inst<M>, shared: &mut Pieces, group: &Group) -> Pieces
+    requires idle { (g : ℕ) → active_in g inst ≡ None }
+    requires fits { Fits (instance_of inst).table (instance_of inst).own shared.old group.now }
+    ensures own { SamePieces (instance_of inst).own result }
+    ensures shared { SamePieces shared.old shared.new }
+    ensures once { SameOnce (instance_of inst).table shared.old shared.new }
 {
-    let mut idle = idle;
-    let mut shared = shared;
-    let _told = idle.freed(&mut shared, group);
-    (idle.finish(), shared)
+    match inst {
+        Inst::Idling(idle) => {
+            let mut idle = idle;
+            let _told = idle.freed(shared, group);
+            idle.finish()
+        }
+        Inst::Running(_active) => unreachable!(),
+    }
 }

@@ -82,7 +82,7 @@ pub(crate) fn end_absent(pieces: Pieces)
 }
 
 /// Ends a piece that isn't there.
-fn end_none(piece: Option<Piece>)
+pub(crate) fn end_none(piece: Option<Piece>)
     requires { piece ≡ None }
 {
     match piece {

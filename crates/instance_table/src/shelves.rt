@@ -1,11 +1,13 @@
 //! Shelves: where the pieces of write-once records stand.
-ghost use Rattle.std.specs.Prelude.{◌≡◌, ◌<◌, length, is_some, slice_set};
+ghost use Rattle.std.specs.Prelude.{◌≡◌, ◌<◌, length, Option, None, is_some};
 ghost use Rattle.mem_rec.specs.declared.TheConstants.{TABLE_RECORDS};
 ghost use Rattle.record_loans.specs.Pieces.{piece_at};
-ghost use Rattle.instance_table.specs.Shelves.{stand_at, piece_here, pieces_here, shelf_of, no_shelf};
-ghost use Rattle.instance_table.specs.Table.{once_at, no_pieces, IsUnshared};
+ghost use Rattle.instance_table.specs.Shelves.{stand_at, piece_here, pieces_here, shelf_of, shelf_at, home_of, piece_seen};
+ghost use Rattle.instance_table.specs.Homes.{with_stand, set_stand, put_piece, with_seen, HasHome, HasHomes};
+ghost use Rattle.instance_table.specs.Holders.{stands_with};
+ghost use Rattle.instance_table.specs.Table.{once_at, no_pieces};
 
-use crate::member::end_absent;
+use crate::member::end_none;
 use record_loans::Pieces;
 use space_raw::Piece;
 use std::mem;
@@ -18,12 +20,22 @@ pub enum Stand {
 
 impl Stand {
     /// The piece, if it stands here.
-    fn piece(self) -> Option<Piece>
+    pub(crate) fn piece(self) -> Option<Piece>
         ensures { result ≡ piece_here self }
     {
         match self {
             Stand::Here(piece) => piece,
             Stand::With(_home) => None,
+        }
+    }
+
+    /// Whether the record stands with instance `i`.
+    pub(crate) fn is_with(&self, i: u8) -> bool
+        ensures { result ≡ stands_with i self.now }
+    {
+        match self {
+            Stand::Here(_) => false,
+            Stand::With(home) => *home == i,
         }
     }
 }
@@ -51,7 +63,7 @@ impl Shelf {
     }
 
     /// Where the piece of record `k` stands.
-    fn stand(&self, k: usize) -> &Stand
+    pub(crate) fn stand(&self, k: usize) -> &Stand
         requires { k < 4 }
         ensures { result.now ≡ stand_at self.now k }
     {
@@ -60,6 +72,20 @@ impl Shelf {
             1 => &self.s1,
             2 => &self.s2,
             _ => &self.s3,
+        }
+    }
+
+    /// Puts another stand of record `k` in the place of its own, which comes back.
+    fn replace(&mut self, k: usize, stand: Stand) -> Stand
+        requires { k < 4 }
+        ensures old { result ≡ stand_at self.old k }
+        ensures new { self.new ≡ with_stand self.old k stand }
+    {
+        match k {
+            0 => mem::replace(&mut self.s0, stand),
+            1 => mem::replace(&mut self.s1, stand),
+            2 => mem::replace(&mut self.s2, stand),
+            _ => mem::replace(&mut self.s3, stand),
         }
     }
 
@@ -77,35 +103,92 @@ impl Shelf {
     }
 }
 
-/// Takes the pieces of an instance's write-once records together: [`put_seen`] puts them back.
-pub fn take_seen(once: &mut Vec<Shelf>, i: usize) -> Pieces
-    requires number { i < length once.old.items }
-    requires unshared { IsUnshared once.old.items i }
-    ensures pieces { result ≡ once_at once.old.items i }
-    ensures left { once.new.items ≡ slice_set once.old.items i no_shelf }
-    ensures none { once_at once.new.items i ≡ no_pieces }
+/// The number of the instance with which record `k` of an instance stands.
+pub fn home(once: &Vec<Shelf>, i: usize, k: usize) -> usize
+    requires number { i < length once.now.items }
+    requires record { k < TABLE_RECORDS }
+    ensures { result ≡ home_of once.now.items i k }
 {
-    mem::replace(&mut once[i], Shelf::of(Pieces::none())).pieces()
+    match once[i].stand(k) {
+        Stand::Here(_) => i,
+        Stand::With(home) => *home as usize,
+    }
 }
 
-/// Puts the pieces of an instance's write-once records where none are.
+/// Puts another stand of record `k` of an instance in the place of its own, which comes back.
+pub(crate) fn replace_stand(once: &mut Vec<Shelf>, i: usize, k: usize, stand: Stand) -> Stand
+    requires number { i < length once.old.items }
+    requires record { k < TABLE_RECORDS }
+    ensures old { result ≡ stand_at (shelf_at once.old.items i) k }
+    ensures new { once.new.items ≡ set_stand once.old.items i k stand }
+{
+    once[i].replace(k, stand)
+}
+
+/// Takes the piece that an instance sees for record `k`.
+fn take_record(once: &mut Vec<Shelf>, i: usize, k: usize) -> Option<Piece>
+    requires number { i < length once.old.items }
+    requires record { k < TABLE_RECORDS }
+    requires home { HasHome once.old.items i k }
+    ensures piece { result ≡ piece_seen once.old.items i k }
+    ensures left { once.new.items ≡ put_piece once.old.items i k None }
+{
+    let at = home(once, i, k);
+    replace_stand(once, at, k, Stand::Here(None)).piece()
+}
+
+/// Puts the piece of record `k` of an instance at its home, where none is.
+fn put_record(once: &mut Vec<Shelf>, i: usize, k: usize, piece: Option<Piece>)
+    requires number { i < length once.old.items }
+    requires record { k < TABLE_RECORDS }
+    requires home { HasHome once.old.items i k }
+    requires none { piece_seen once.old.items i k ≡ None }
+    ensures { once.new.items ≡ put_piece once.old.items i k piece }
+{
+    let at = home(once, i, k);
+    end_none(replace_stand(once, at, k, Stand::Here(piece)).piece());
+}
+
+/// Takes the pieces of an instance's write-once records together, each from its home: [`put_seen`] puts them back.
+pub fn take_seen(once: &mut Vec<Shelf>, i: usize) -> Pieces
+    requires number { i < length once.old.items }
+    requires homes { HasHomes once.old.items i }
+    ensures pieces { result ≡ once_at once.old.items i }
+    ensures left { once.new.items ≡ with_seen once.old.items i no_pieces }
+    ensures length { length once.new.items ≡ length once.old.items }
+    ensures homes { HasHomes once.new.items i }
+    ensures none { once_at once.new.items i ≡ no_pieces }
+{
+    Pieces {
+        p0: take_record(once, i, 0),
+        p1: take_record(once, i, 1),
+        p2: take_record(once, i, 2),
+        p3: take_record(once, i, 3),
+    }
+}
+
+/// Puts the pieces of an instance's write-once records at their homes, where none are.
 pub fn put_seen(once: &mut Vec<Shelf>, i: usize, pieces: Pieces)
     requires number { i < length once.old.items }
+    requires homes { HasHomes once.old.items i }
     requires none { once_at once.old.items i ≡ no_pieces }
-    ensures { once.new.items ≡ slice_set once.old.items i (shelf_of pieces) }
+    ensures { once.new.items ≡ with_seen once.old.items i pieces }
 {
-    let old = mem::replace(&mut once[i], Shelf::of(pieces));
-    end_absent(old.pieces());
+    let Pieces { p0, p1, p2, p3 } = pieces;
+    put_record(once, i, 0, p0);
+    put_record(once, i, 1, p1);
+    put_record(once, i, 2, p2);
+    put_record(once, i, 3, p3);
 }
 
 /// Whether an instance has a piece for record `k` among its write-once ones.
 pub fn sees(once: &Vec<Shelf>, i: usize, k: usize) -> bool
     requires number { i < length once.now.items }
     requires record { k < TABLE_RECORDS }
-    requires unshared { IsUnshared once.now.items i }
+    requires homes { HasHomes once.now.items i }
     ensures { result ≡ is_some (piece_at (once_at once.now.items i) k) }
 {
-    match once[i].stand(k) {
+    match once[home(once, i, k)].stand(k) {
         Stand::Here(piece) => piece.is_some(),
         Stand::With(_home) => unreachable!(),
     }

@@ -4,6 +4,7 @@ ghost use Rattle.ialg.specs.History.{History};
 ghost use Rattle.mem_rec.specs.declared.Space.{Space};
 ghost use Rattle.scratch_group.specs.Blocks.{block_in};
 ghost use Rattle.instance_table.specs.declared.TheConstants.{INSTANCES, GROUPS};
+ghost use Rattle.instance_table.specs.Shelves.{no_shelf, shelf_at};
 ghost use Rattle.instance_table.specs.Table.{slot_at, once_at, no_pieces, IsUnshared, group_at, activity_at, untouched, TablesOk, ArePoisoned};
 ghost use Rattle.instance_table.specs.Keeps.{Keeps};
 
@@ -32,6 +33,7 @@ pub fn empty_once<A: Allocator>(alloc: A) -> Result<Vec<Shelf, A>, AllocError>
     ensures count { IfOk result (λ v. length v.items ≡ INSTANCES) }
     ensures empty { IfOk result (λ v. (i : ℕ) → once_at v.items i ≡ no_pieces) }
     ensures unshared { IfOk result (λ v. (i : ℕ) → IsUnshared v.items i) }
+    ensures bare { IfOk result (λ v. (i : ℕ) → shelf_at v.items i ≡ no_shelf) }
 {
     let mut once = Vec::with_capacity(alloc, INSTANCES)?;
     for _ in 0..INSTANCES {
@@ -94,7 +96,7 @@ pub fn in_order<M: Ialg>(slots: &Vec<Option<Member<M>>>, once: &Vec<Shelf>, grou
     requires slots { length slots.now.items ≡ INSTANCES }
     requires once { length once.now.items ≡ INSTANCES }
     requires groups { length groups.now.items ≡ GROUPS }
-    requires unshared { (i : ℕ) → IsUnshared once.now.items i }
+    requires bare { (i : ℕ) → shelf_at once.now.items i ≡ no_shelf }
     requires empty { (i : ℕ) → slot_at slots.now.items i ≡ None }
     requires blocks { (g : ℕ) (space : Space) → block_in (group_at groups.now.items g) space ≡ None }
     requires untouched { (g : ℕ) → activity_at groups.now.items g ≡ untouched }

@@ -1,5 +1,6 @@
 -- Instances that stay where the picture shows them.
-use Rattle.std.proofs.Common.{◌≡◌, ℕ, Bool, List, [], ◌∷◌, length, Option, Some, None, refl, sym, ◌∙◌, ap, subst, if◌then◌else◌}
+use Rattle.std.proofs.Common.{◌≡◌, ◌≢◌, ◌⊎◌, inl, inr, ℕ, Bool, List, [], ◌∷◌, length, Option, Some, None, refl, sym, ◌∙◌, ap, subst, if◌then◌else◌}
+use Rattle.std.proofs.lemmas.Bool.Decides.{eqb_tells}
 use Rattle.std.proofs.lemmas.Option.{none-some}
 use Rattle.space_raw.specs.Span.{Extent, Span}
 use Rattle.mem_rec.specs.declared.MemRec.{MemRec}
@@ -27,8 +28,11 @@ use Rattle.host_spaces.specs.Picture.{blocks_in, picture_of, space_in}
 use Rattle.host_spaces.specs.Pieces.{IsPieceOf, record_block}
 use Rattle.instance_table.specs.declared.member.Member.{Member}
 use Rattle.instance_table.specs.declared.shelves.Shelf.{Shelf}
+use Rattle.instance_table.specs.Shelves.{stand_at, shelf_at, home_of}
 use Rattle.instance_table.specs.Table.{slot_at, once_at, group_at, no_pieces, instance_of, is_member_of}
 use Rattle.instance_table.specs.Frames.{SameSlot, SameMember, IsSameMember, SameMembers, SameTables}
+use Rattle.instance_table.proofs.Unshared.{unshared_stays}
+use Rattle.table_moves.proofs.Holders.{home_same}
 use Rattle.placed_instances.specs.Standing.{IsHome, IsOf, AreStanding, table_of, SlotIsSame}
 
 -- a block of the same size and alignment, wherever it lies
@@ -73,13 +77,14 @@ piece_alike home size wanted (Some p) None e is = absurd e
 piece_alike home size wanted (Some p) (Some q) e is = (is.0, e.0 ∙ is.1, e.2 ∙ is.2)
 
 -- only words differ
-pub home_stays : (spaces : Spaces) (i : ℕ) (rs : List MemRec) (own own' shared shared' : Pieces) (y y' : Group) → SamePieces own own' → SamePieces shared shared'
-    → ((space : Space) → IsAlike (block_in y space) (block_in y' space)) → IsHome spaces i rs own shared y → IsHome spaces i rs own' shared' y'
-home_stays spaces i rs own own' shared shared' y y' so ss alike home = record {
+pub home_stays : (spaces : Spaces) (i : ℕ) (at : ℕ → ℕ) (rs : List MemRec) (own own' shared shared' : Pieces) (y y' : Group) → SamePieces own own' → SamePieces shared shared'
+    → ((space : Space) → IsAlike (block_in y space) (block_in y' space)) → IsHome spaces i at rs own shared y → IsHome spaces i at rs own' shared' y'
+home_stays spaces i at rs own own' shared shared' y y' so ss alike home = record {
   valid = home.valid;
   need = need_alike rs y y' alike home.need;
+  away = home.away;
   records = λ k space. home.records k space
-      ∙ sym (record_alike i k (record_at rs k) space (piece_of_record rs own shared k) (piece_of_record rs own' shared' k)
+      ∙ sym (record_alike (at k) k (record_at rs k) space (piece_of_record rs own shared k) (piece_of_record rs own' shared' k)
       (lasting_alike (record_at rs k).attr _ _ _ _ (piece_same own own' k so) (piece_same shared shared' k ss)));
   pieces = record {
     persistent = λ k. piece_alike _ _ _ (piece_at own k) (piece_at own' k) (piece_same own own' k so) (home.pieces.persistent k);
@@ -88,19 +93,45 @@ home_stays spaces i rs own own' shared shared' y y' so ss alike home = record {
 }
 
 -- the picture has the same blocks of the instance
-pub home_elsewhere : (spaces spaces' : Spaces) (i : ℕ) (rs : List MemRec) (own shared : Pieces) (y : Group)
-    → ((k : ℕ) (space : Space) → owned (Record i k) (blocks_in (picture_of spaces') space) ≡ owned (Record i k) (blocks_in (picture_of spaces) space))
+pub home_elsewhere : (spaces spaces' : Spaces) (i : ℕ) (at : ℕ → ℕ) (rs : List MemRec) (own shared : Pieces) (y : Group)
+    → ((k : ℕ) (space : Space) → owned (Record (at k) k) (blocks_in (picture_of spaces') space) ≡ owned (Record (at k) k) (blocks_in (picture_of spaces) space))
+    → ((k : ℕ) (space : Space) → at k ≢ i → owned (Record i k) (blocks_in (picture_of spaces') space) ≡ owned (Record i k) (blocks_in (picture_of spaces) space))
     → ((space : Space) → (space_in spaces' space).region ≡ (space_in spaces space).region)
-    → IsHome spaces i rs own shared y → IsHome spaces' i rs own shared y
-home_elsewhere spaces spaces' i rs own shared y blocks regions home = record {
+    → IsHome spaces i at rs own shared y → IsHome spaces' i at rs own shared y
+home_elsewhere spaces spaces' i at rs own shared y blocks away regions home = record {
   valid = home.valid;
   need = home.need;
   records = λ k space. blocks k space ∙ home.records k space;
+  away = λ k space apart. away k space apart ∙ home.away k space apart;
   pieces = record {
     persistent = λ k. rw (regions (record_at rs k).space) (home.pieces.persistent k);
     write_once = λ k. rw (regions (record_at rs k).space) (home.pieces.write_once k);
   };
 }
+
+-- with the same homes
+pub home_by_same : (spaces : Spaces) (i : ℕ) (at at' : ℕ → ℕ) (rs : List MemRec) (own shared : Pieces) (y : Group) → ((k : ℕ) → at' k ≡ at k) → IsHome spaces i at rs own shared y → IsHome spaces i at' rs own shared y
+home_by_same spaces i at at' rs own shared y same home = record {
+  valid = home.valid;
+  need = home.need;
+  records = λ k space. subst (λ (h : ℕ). owned (Record h k) (blocks_in (picture_of spaces) space) ≡ record_block h k (record_at rs k) space (piece_of_record rs own shared k)) (sym (same k)) (home.records k space);
+  away = λ k space apart. home.away k space (λ e. apart (same k ∙ e));
+  pieces = home.pieces;
+}
+
+-- a block that is the instance's own
+pub own_home : (spaces : Spaces) (i : ℕ) (at : ℕ → ℕ) (rs : List MemRec) (own shared : Pieces) (y : Group) → IsHome spaces i at rs own shared y → (k : ℕ) (space : Space)
+    → (at k ≡ i) ⊎ (owned (Record i k) (blocks_in (picture_of spaces) space) ≡ [])
+own_home spaces i at rs own shared y home k space =
+    elim (eqb_tells (at k) i) [
+      | inl e ↦ inl e.1
+      | inr e ↦ inr (home.away k space e.1)
+    ]
+
+pub home_record : (spaces : Spaces) (i : ℕ) (at : ℕ → ℕ) (rs : List MemRec) (own shared : Pieces) (y : Group) → IsHome spaces i at rs own shared y → (k : ℕ) (space : Space) (h : ℕ) → at k ≡ h
+    → owned (Record h k) (blocks_in (picture_of spaces) space) ≡ record_block h k (record_at rs k) space (piece_of_record rs own shared k)
+home_record spaces i at rs own shared y home k space h here =
+    subst (λ (h : ℕ). owned (Record h k) (blocks_in (picture_of spaces) space) ≡ record_block h k (record_at rs k) space (piece_of_record rs own shared k)) here (home.records k space)
 
 -- ---- the same instances and blocks
 
@@ -114,6 +145,7 @@ pub members_of_same : {M : Type 0} (slots slots' : List (Option (Member M))) (on
 members_of_same slots slots' once once' groups groups' same = record {
   slot = λ i. slot_of_same (slot_at slots i) (slot_at slots' i) (same.slot i);
   pieces = same.pieces;
+  stands = same.stands;
   blocks = same.blocks;
 }
 
@@ -158,10 +190,12 @@ standing_stays slots slots' once once' groups groups' spaces same standing = rec
       let was = before (slot_at slots i) n (subst (λ x. IsSameMember (slot_at slots i) x) at (same.slot i)) in
       let m = was.0 in
       let home = standing.homes i m was.1.0 in
-      subst (λ (g : ℕ). IsHome spaces i (table_of n) (instance_of n.inst).own (once_at once' i) (group_at groups' g)) (sym was.1.1.group)
-      (subst (λ (rs : List MemRec). IsHome spaces i rs (instance_of n.inst).own (once_at once' i) (group_at groups' m.group)) (sym was.1.1.table)
-      (home_stays spaces i (table_of m) (instance_of m.inst).own (instance_of n.inst).own (once_at once i) (once_at once' i) (group_at groups m.group) (group_at groups' m.group)
-      was.1.1.own (same.pieces i) (λ space. alike_same _ _ (same.blocks m.group space)) home));
+      subst (λ (g : ℕ). IsHome spaces i (home_of once' i) (table_of n) (instance_of n.inst).own (once_at once' i) (group_at groups' g)) (sym was.1.1.group)
+      (subst (λ (rs : List MemRec). IsHome spaces i (home_of once' i) rs (instance_of n.inst).own (once_at once' i) (group_at groups' m.group)) (sym was.1.1.table)
+      (home_by_same spaces i (home_of once i) (home_of once' i) (table_of m) (instance_of n.inst).own (once_at once' i) (group_at groups' m.group) (λ k. home_same i (stand_at (shelf_at once i) k) (stand_at (shelf_at once' i) k) (same.stands i k))
+      (home_stays spaces i (home_of once i) (table_of m) (instance_of m.inst).own (instance_of n.inst).own (once_at once i) (once_at once' i) (group_at groups m.group) (group_at groups' m.group)
+      was.1.1.own (same.pieces i) (λ space. alike_same _ _ (same.blocks m.group space)) home)));
+  unshared = unshared_stays once standing.unshared once' same.stands;
   free = λ i none. pieces_none (once_at once' i) (subst (λ (p : Pieces). SamePieces p (once_at once' i)) (standing.free i (none_before _ _ (same.slot i) none)) (same.pieces i));
   gone = λ i k space none. standing.gone i k space (none_before _ _ (same.slot i) none);
   blocks = λ g space. standing.blocks g space ∙ sym (align_same (block_in (group_at groups g) space) (block_in (group_at groups' g) space) (GroupScratch g) (same.blocks g space));

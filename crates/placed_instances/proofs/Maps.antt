@@ -27,10 +27,13 @@ use Rattle.host_spaces.specs.Picture.{Picture, blocks_in, empty_picture, picture
 use Rattle.host_spaces.specs.Pieces.{record_block}
 use Rattle.instance_table.specs.declared.member.Member.{Member}
 use Rattle.instance_table.specs.declared.shelves.Shelf.{Shelf}
-use Rattle.instance_table.specs.Table.{TablesOk, slot_at, once_at, group_at, no_group, instance_of}
+use Rattle.instance_table.specs.Shelves.{no_shelf, shelf_at, home_of}
+use Rattle.instance_table.specs.Table.{TablesOk, slot_at, once_at, group_at, no_group, no_pieces, instance_of}
+use Rattle.instance_table.proofs.Stands.{seen_of, unshared_of}
 use Rattle.placed_instances.specs.Standing.{AreStanding, table_of}
 use Rattle.placed_instances.proofs.Rooms.{compare, either}
-use Rattle.placed_instances.proofs.Nexts.{IsIn, in_space, later_or, next_piece, slot_of}
+use Rattle.placed_instances.proofs.Homes.{own_home, home_record}
+use Rattle.placed_instances.proofs.Nexts.{IsIn, home_among, in_space, later_or, next_piece, slot_of}
 use Rattle.placed_instances.proofs.Slots.{piece_there}
 
 listed : (bs : List Placed) (b : Placed) (k : ℕ) → k < length bs → get_or bs k b ≡ b → IsIn b (owned b.owner bs)
@@ -81,7 +84,9 @@ module _ {M : Type 0} (slots : List (Option (Member M))) (once : List Shelf) (gr
       let m = slot.0 in
       let home = standing.homes i m slot.1 in
       let p = piece_of_record (table_of m) (instance_of m.inst).own (once_at once i) k in
-      let block = in_space i k (record_at (table_of m) k) space p b (subst (λ (xs : List Placed). IsIn b xs) (home.records k space) among) in
+      let here = home_among i k b (home_of once i k) (blocks_in (picture_of spaces) space) (home.away k space) among in
+      let block = in_space i k (record_at (table_of m) k) space p b
+      (subst (λ (xs : List Placed). IsIn b xs) (home_record spaces i (home_of once i) (table_of m) (instance_of m.inst).own (once_at once i) (group_at groups m.group) home k space i here) among) in
       let piece = next_piece b (Record i k) (record_at (table_of m) k).align p block.1 in
       let lt = slot_there slots i m slot.1 in
       let count = ok.slot_count in
@@ -98,8 +103,14 @@ module _ {M : Type 0} (slots : List (Option (Member M))) (once : List Shelf) (gr
     where
       of_slot : (slot : Option (Member M)) → slot_at slots i ≡ slot → length (owned (Record i k) all_blocks) ≤ 1
       of_slot None at = rw (standing.gone i k space at) (omega arith)
-      of_slot (Some m) at = rw ((standing.homes i m at).records k space)
-          (one_record i k (record_at (table_of m) k) space (piece_of_record (table_of m) (instance_of m.inst).own (once_at once i) k))
+      of_slot (Some m) at =
+          let home = standing.homes i m at in
+          elim (own_home spaces i (home_of once i) (table_of m) (instance_of m.inst).own (once_at once i) (group_at groups m.group) home k space) [
+            | inl here ↦
+                rw (home_record spaces i (home_of once i) (table_of m) (instance_of m.inst).own (once_at once i) (group_at groups m.group) home k space i here)
+                (one_record i k (record_at (table_of m) k) space (piece_of_record (table_of m) (instance_of m.inst).own (once_at once i) k))
+            | inr none ↦ rw none (omega arith)
+          ]
   at_most_one (GroupScratch g) = rw (standing.blocks g space) (one_piece (GroupScratch g) _ _)
 
   -- no owner has two blocks of a space
@@ -133,3 +144,25 @@ module _ {M : Type 0} (slots : List (Option (Member M))) (once : List Shelf) (gr
     where
       picture_alike : {a b c : List Placed} → a ≡ [] → b ≡ [] → c ≡ [] → (let p : Picture = record { daram = a; saram = b; external = c } in p) ≡ empty_picture
       picture_alike d s e = rw (d, s, e) refl
+
+none_shown : (space : Space) → blocks_in empty_picture space ≡ []
+none_shown Daram = refl
+none_shown Saram = refl
+none_shown External = refl
+
+-- where nobody lives, and where no group has a block, all stands as an empty picture shows it
+pub standing_start : {M : Type 0} (slots : List (Option (Member M))) (once : List Shelf) (groups : List Group) (spaces : Spaces)
+    → ((i : ℕ) → slot_at slots i ≡ None) → ((i : ℕ) → shelf_at once i ≡ no_shelf) → ((g : ℕ) (space : Space) → block_in (group_at groups g) space ≡ None)
+    → picture_of spaces ≡ empty_picture → AreStanding slots once groups spaces
+standing_start slots once groups spaces nobody bare none shown =
+    let nothing : (o : Owner) (space : Space) → owned o (blocks_in (picture_of spaces) space) ≡ [] =
+    λ o space. ap (λ (p : Picture). owned o (blocks_in p space)) shown ∙ ap (owned o) (none_shown space) in
+    record {
+      homes = λ i m at. absurd (none-some _ (sym (nobody i) ∙ at));
+      unshared = λ i. unshared_of once i no_pieces (bare i);
+      free = λ i gone. seen_of once i no_pieces (bare i);
+      gone = λ i k space gone. nothing (Record i k) space;
+      blocks = λ g space. nothing (GroupScratch g) space ∙ sym (ap (λ y. block_of_piece (GroupScratch g) (block_align y) (block_piece y)) (none g space));
+      regions = λ g space. rw (none g space) tt;
+      unused = λ g space nobody_there. none g space;
+    }

@@ -21,6 +21,7 @@ use Rattle.host_spaces.specs.Picture.{blocks_in, picture_of, space_in}
 use Rattle.host_spaces.specs.Pieces.{HasBlocks}
 use Rattle.instance_table.specs.declared.member.Member.{Member}
 use Rattle.instance_table.specs.declared.shelves.Shelf.{Shelf}
+use Rattle.instance_table.specs.Shelves.{home_of}
 use Rattle.instance_table.specs.Table.{slot_at, once_at, group_at, instance_of}
 use Rattle.table_moves.specs.Moves.{BlockStays, SlotStays, WordsStay}
 use Rattle.placed_instances.specs.Standing.{IsOf, AreStanding, AreOrdered, table_of}
@@ -35,7 +36,7 @@ pub room_of_standing : {M : Type 0} (slots : List (Option (Member M))) (once : L
 room_of_standing slots once groups spaces ordered standing i m at =
     subst (λ (rs : List MemRec). Fits rs (instance_of m.inst).own (once_at once i) (group_at groups m.group))
     (placed-unplaced (instance_of m.inst).table (instance_of m.inst).own (once_at once i) (group_at groups m.group))
-    (room_at_home spaces i m.group (table_of m) (instance_of m.inst).own (once_at once i) (group_at groups m.group) ordered (standing.homes i m at) (standing.blocks m.group) (standing.regions m.group))
+    (room_at_home spaces i (home_of once i) m.group (table_of m) (instance_of m.inst).own (once_at once i) (group_at groups m.group) ordered (standing.homes i m at) (standing.blocks m.group) (standing.regions m.group))
 
 pub alike_itself : (b : Option ScratchBlock) → IsAlike b b
 alike_itself None = refl
@@ -85,10 +86,12 @@ module _ {M : Type 0} (space : Space) (g al : ℕ) (p q : Span) (slots : List (O
   pub standing_block : AreStanding slots once groups spaces → AreStanding slots once groups' spaces'
   standing_block standing = record {
     homes = λ i m at.
-        home_stays spaces' i (table_of m) (instance_of m.inst).own (instance_of m.inst).own (once_at once i) (once_at once i) (group_at groups m.group) (group_at groups' m.group)
+        home_stays spaces' i (home_of once i) (table_of m) (instance_of m.inst).own (instance_of m.inst).own (once_at once i) (once_at once i) (group_at groups m.group) (group_at groups' m.group)
         (same_pieces (instance_of m.inst).own) (same_pieces (once_at once i)) (alike_now m.group)
-        (home_elsewhere spaces spaces' i (table_of m) (instance_of m.inst).own (once_at once i) (group_at groups m.group)
-        (λ l s. other_owned space (GroupScratch g) p q spaces spaces' moves (Record i l) (not_a_group i l g) s) moves.regions (standing.homes i m at));
+        (home_elsewhere spaces spaces' i (home_of once i) (table_of m) (instance_of m.inst).own (once_at once i) (group_at groups m.group)
+        (λ l s. other_owned space (GroupScratch g) p q spaces spaces' moves (Record (home_of once i l) l) (not_a_group (home_of once i l) l g) s)
+        (λ l s apart. other_owned space (GroupScratch g) p q spaces spaces' moves (Record i l) (not_a_group i l g) s) moves.regions (standing.homes i m at));
+    unshared = standing.unshared;
     free = standing.free;
     gone = λ i k s none. other_owned space (GroupScratch g) p q spaces spaces' moves (Record i k) (not_a_group i k g) s ∙ standing.gone i k s none;
     blocks = λ k. has_now k (standing.blocks k);

@@ -1,5 +1,6 @@
 -- Whose block moves next.
-use Rattle.std.proofs.Common.{◌≡◌, ℕ, zero, suc, ◌⊎◌, inl, inr, Bool, true, false, List, [], ◌∷◌, Option, Some, None, refl, ◌∙◌, ap, subst, if◌then◌else◌}
+use Rattle.std.proofs.Common.{◌≡◌, ◌≢◌, ℕ, zero, suc, ◌⊎◌, inl, inr, Bool, true, false, List, [], ◌∷◌, Option, Some, None, refl, ◌∙◌, ap, subst, if◌then◌else◌}
+use Rattle.std.proofs.lemmas.Bool.Decides.{eqb_tells}
 use Rattle.std.proofs.lemmas.Option.{none-some, same_Some}
 use Rattle.space_raw.specs.Span.{Span}
 use Rattle.mem_rec.specs.declared.MemRec.{MemRec}
@@ -20,10 +21,12 @@ use Rattle.host_spaces.specs.Picture.{blocks_in, picture_of}
 use Rattle.host_spaces.specs.Pieces.{record_block}
 use Rattle.instance_table.specs.declared.member.Member.{Member}
 use Rattle.instance_table.specs.declared.shelves.Shelf.{Shelf}
-use Rattle.instance_table.specs.Table.{slot_at, once_at, instance_of}
+use Rattle.instance_table.specs.Shelves.{home_of}
+use Rattle.instance_table.specs.Table.{slot_at, once_at, group_at, instance_of}
 use Rattle.placed_instances.specs.Standing.{AreStanding, table_of}
 use Rattle.placed_instances.specs.Moves.{IsNextOf}
 use Rattle.placed_instances.proofs.Rooms.{either}
+use Rattle.placed_instances.proofs.Homes.{home_record}
 use Rattle.placed_instances.proofs.Slots.{one_space}
 
 abbrev pub IsIn : Placed → List Placed → Type 0
@@ -63,6 +66,7 @@ pub record IsNextRecord {M : Type 0} (slots : List (Option (Member M))) (once : 
   pub there : slot_at slots i ≡ Some member
   pub of_space : (record_at (table_of member) k).space ≡ space
   pub piece : Span
+  pub here : home_of once i k ≡ i
   pub its : piece_of_record (table_of member) (instance_of member.inst).own (once_at once i) k ≡ Some piece
   pub next : next_block (blocks_in (picture_of spaces) space) ≡ Some (block_of (Record i k) (record_at (table_of member) k).align piece)
 
@@ -77,6 +81,14 @@ pub slot_of : {M : Type 0} (slot : Option (Member M)) → (slot ≡ None → ⊥
 slot_of None none = absurd (none refl)
 slot_of (Some m) none = (m, refl)
 
+-- an instance that has a block for a record is the record's home
+pub home_among : (i k : ℕ) (b : Placed) (home : ℕ) (bs : List Placed) → (home ≢ i → owned (Record i k) bs ≡ []) → IsIn b (owned (Record i k) bs) → home ≡ i
+home_among i k b home bs away among =
+    elim (eqb_tells home i) [
+      | inl e ↦ e.1
+      | inr e ↦ absurd (let none : IsIn b [] = subst (λ (xs : List Placed). IsIn b xs) (away e.1) among in none)
+    ]
+
 pub next_record : {M : Type 0} (slots : List (Option (Member M))) (once : List Shelf) (groups : List Group) (spaces : Spaces) (space : Space) (i k : ℕ) → AreStanding slots once groups spaces
     → IsNextOf spaces space (Record i k) → IsNextRecord slots once spaces space i k
 next_record slots once groups spaces space i k standing next =
@@ -85,7 +97,8 @@ next_record slots once groups spaces space i k standing next =
     let slot = slot_of (slot_at slots i) (λ none. subst (λ (xs : List Placed). IsIn b xs) (standing.gone i k space none) among) in
     let m = slot.0 in
     let home = standing.homes i m slot.1 in
+    let here = home_among i k b (home_of once i k) (blocks_in (picture_of spaces) space) (home.away k space) among in
     let block = in_space i k (record_at (table_of m) k) space (piece_of_record (table_of m) (instance_of m.inst).own (once_at once i) k) b
-    (subst (λ (xs : List Placed). IsIn b xs) (home.records k space) among) in
+    (subst (λ (xs : List Placed). IsIn b xs) (home_record spaces i (home_of once i) (table_of m) (instance_of m.inst).own (once_at once i) (group_at groups m.group) home k space i here) among) in
     let piece = next_piece b (Record i k) (record_at (table_of m) k).align (piece_of_record (table_of m) (instance_of m.inst).own (once_at once i) k) block.1 in
-    record { member = m; there = slot.1; of_space = block.0; piece = piece.0; its = piece.1.0; next = next.1.0 ∙ ap Some piece.1.1 }
+    record { member = m; there = slot.1; of_space = block.0; here = here; piece = piece.0; its = piece.1.0; next = next.1.0 ∙ ap Some piece.1.1 }

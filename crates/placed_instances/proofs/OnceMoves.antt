@@ -2,7 +2,7 @@
 use Rattle.std.proofs.Common.{◌≡◌, ◌≢◌, ℕ, zero, suc, ◌<◌, inl, inr, List, [], ◌∷◌, length, Option, Some, None, set, refl, sym, ◌∙◌, ap, subst}
 use Rattle.std.specs.Option.{option_map}
 use Rattle.std.specs.List.{Contains}
-use Rattle.std.proofs.lemmas.Option.{same_Some}
+use Rattle.std.proofs.lemmas.Option.{none-some, same_Some}
 use Rattle.std.proofs.lemmas.Bool.Decides.{eqb_tells}
 use Rattle.space_raw.specs.Span.{Span}
 use Rattle.mem_rec.specs.declared.Space.{Space}
@@ -25,37 +25,30 @@ use Rattle.host_spaces.specs.Picture.{blocks_in, picture_of, space_in}
 use Rattle.host_spaces.specs.Pieces.{IsPieceOf, is_write_once}
 use Rattle.instance_table.specs.declared.member.Member.{Member}
 use Rattle.instance_table.specs.declared.shelves.Shelf.{Shelf}
-use Rattle.instance_table.specs.Shelves.{shelf_of}
-use Rattle.instance_table.specs.Table.{slot_at, once_at, group_at, IsUnshared, instance_of, own_of, TablesOk}
-use Rattle.instance_table.proofs.Stands.{set_here, set_there}
-use Rattle.table_moves.specs.Moves.{inst_with, slot_with, own_set, TablesBut, SameWords, WordsStay}
-use Rattle.table_moves.proofs.Owns.{set_again, but_all, but_shared}
+use Rattle.instance_table.specs.declared.shelves.Stand.{Stand}
+use Rattle.instance_table.specs.declared.shelves.Stand.TheVariants.{Here, With}
+use Rattle.instance_table.specs.Shelves.{stand_at, piece_here, shelf_at, home_of}
+use Rattle.instance_table.specs.Homes.{HasHomes, AllHaveHomes, with_seen}
+use Rattle.instance_table.specs.Table.{slot_at, once_at, group_at, IsUnshared, instance_of, TablesOk}
+use Rattle.instance_table.proofs.Stands.{set_unshared}
+use Rattle.instance_table.proofs.Homes.{lent_here, count_seen}
+use Rattle.instance_table.proofs.Lent.{homes_of_all, lent_last, lent_unshared, seen_at}
+use Rattle.instance_table.proofs.Held.{homes_of_held}
+use Rattle.table_moves.specs.Moves.{holds_with, slid_to, SameWords, TablesWaiting, WordsStay}
+use Rattle.table_moves.proofs.Slides.{seen_slid, waiting_slid}
 use Rattle.placed_instances.specs.Standing.{IsHome, AreOrdered, AreStanding, table_of}
 use Rattle.placed_instances.specs.Moves.{IsNextOf}
 use Rattle.placed_instances.proofs.Rooms.{space_itself}
-use Rattle.placed_instances.proofs.Moved.{OneMoves, standing_once}
+use Rattle.placed_instances.proofs.Homes.{home_record}
+use Rattle.placed_instances.proofs.Moved.{OneMoves, seen_there, standing_once}
 use Rattle.placed_instances.proofs.MovedBlocks.{room_of_standing, block_stays_itself}
 use Rattle.placed_instances.proofs.Nexts.{IsNextRecord, next_record}
 use Rattle.placed_instances.proofs.OwnMoves.{kept_slot}
 use Rattle.placed_instances.proofs.Slots.{only_one, written_once, piece_there, piece_with_same, piece_with_other, piece_again}
 
--- pieces that are put where they are
-inst_as_it_is : {M : Type 0} (inst : Inst M) → inst_with inst (instance_of inst).own ≡ inst
-inst_as_it_is (Idling s) = refl
-inst_as_it_is (Running s) = refl
-
-slot_as_it_is : {M : Type 0} (slot : Option (Member M)) → slot_with slot (own_of slot) ≡ slot
-slot_as_it_is None = refl
-slot_as_it_is (Some m) = ap (λ (inst : Inst _). Some (record m { inst = inst })) (inst_as_it_is m.inst)
-
-set_as_it_is : {M : Type 0} (slots : List (Option (Member M))) (i : ℕ) → set slots i (slot_at slots i) ≡ slots
-set_as_it_is [] i = refl
-set_as_it_is (x ∷ xs) zero = refl
-set_as_it_is (x ∷ xs) (suc i) = ap (λ (l : List _). x ∷ l) (set_as_it_is xs i)
-
--- where no piece comes back, the slots are as they were
-pub none_back : {M : Type 0} (slots : List (Option (Member M))) (i : ℕ) → own_set slots i (restored None (own_of (slot_at slots i))) ≡ slots
-none_back slots i = ap (set slots i) (slot_as_it_is (slot_at slots i)) ∙ set_as_it_is slots i
+here_of : (s : Stand) (p : Span) → piece_here s ≡ Some p → s ≡ Here (Some p)
+here_of (Here x) p e = ap Here e
+here_of (With h) p e = absurd (none-some _ e)
 
 module _ {M : Type 0} (slots : List (Option (Member M))) (once : List Shelf) (groups : List Group) (spaces : Spaces) (space : Space) (i k : ℕ) (p : Span)
     (ok : TablesOk slots once groups) (standing : AreStanding slots once groups spaces) (next : IsNextOf spaces space (Record i k))
@@ -63,7 +56,7 @@ module _ {M : Type 0} (slots : List (Option (Member M))) (once : List Shelf) (gr
   pub its : IsNextRecord slots once spaces space i k
   its = next_record slots once groups spaces space i k standing next
 
-  home : IsHome spaces i (table_of its.member) (instance_of its.member.inst).own (once_at once i) (group_at groups its.member.group)
+  home : IsHome spaces i (home_of once i) (table_of its.member) (instance_of its.member.inst).own (once_at once i) (group_at groups its.member.group)
   home = standing.homes i its.member its.there
 
   kept : IsPieceOf (space_in spaces (record_at (table_of its.member) k).space).region (placed_size (record_at (table_of its.member) k).size) (is_write_once (record_at (table_of its.member) k).attr) (Some p)
@@ -87,7 +80,7 @@ module _ {M : Type 0} (slots : List (Option (Member M))) (once : List Shelf) (gr
   owned_is : owned (Record i k) (blocks_in (picture_of spaces) space) ≡ block_of (Record i k) (record_at (table_of its.member) k).align p ∷ []
   owned_is =
       let attr = written_once (record_at (table_of its.member) k).attr kept.0 in
-      rw (attr, taken, its.of_space, space_itself space) at (home.records k space)
+      rw (attr, taken, its.of_space, space_itself space) at (home_record spaces i (home_of once i) (table_of its.member) (instance_of its.member.inst).own (once_at once i) (group_at groups its.member.group) home k space i its.here)
 
   owns : Owns (blocks_in (picture_of spaces) space) (Record i k) p
   owns = (
@@ -95,31 +88,47 @@ module _ {M : Type 0} (slots : List (Option (Member M))) (once : List Shelf) (gr
     subst (λ (bs : List Placed). Contains bs (block_of (Record i k) (record_at (table_of its.member) k).align p)) (sym owned_is) (only_one (block_of (Record i k) (record_at (table_of its.member) k).align p)),
   )
 
+  pub below : k < 4
+  below = piece_there (once_at once i) k p taken
+
+  all_homes : AllHaveHomes once
+  all_homes = homes_of_held slots once ok.held
+
+  pub its_homes : HasHomes once i
+  its_homes = homes_of_all once i all_homes inside
+
+  stands_here : stand_at (shelf_at once i) k ≡ Here (Some p)
+  stands_here =
+      here_of (stand_at (shelf_at once i) k) p
+      (ap (λ (x : ℕ). piece_here (stand_at (shelf_at once x) k)) (sym its.here) ∙ sym (seen_at once i k below) ∙ taken)
+
   abbrev away : List Shelf
-  away = set once i (shelf_of (with_piece (once_at once i) k None))
+  away = with_seen once i (with_piece (once_at once i) k None)
 
   away_at : once_at away i ≡ with_piece (once_at once i) k None
-  away_at = set_here once i (with_piece (once_at once i) k None) inside
+  away_at = lent_here once i its_homes (with_piece (once_at once i) k None)
 
-  pub unshared_away : IsUnshared away i
-  unshared_away = (but_shared i (with_piece (once_at once i) k None) slots once groups (but_all i slots once groups ok)).unshared i
+  pub inside_away : i < length away
+  inside_away = subst (λ n. i < n) (sym (count_seen once i its_homes (with_piece (once_at once i) k None))) inside
 
   pub empty_there : piece_at (once_at away i) k ≡ None
-  empty_there = ap (λ (o : Pieces). piece_at o k) away_at ∙ piece_with_same (once_at once i) k None (piece_there (once_at once i) k p taken)
+  empty_there = ap (λ (o : Pieces). piece_at o k) away_at ∙ piece_with_same (once_at once i) k None below
 
   module _ (q : Span) where
     abbrev now : List Shelf
-    now = set once i (shelf_of (with_piece (once_at once i) k (Some q)))
+    now = slid_to once i k q
 
     -- the piece that is put back
-    pub back_is : set away i (shelf_of (with_piece (once_at away i) k (Some q))) ≡ now
+    pub back_is : with_seen away i (with_piece (once_at away i) k (Some q)) ≡ now
     back_is =
-        ap (λ (o : Pieces). set away i (shelf_of (with_piece o k (Some q)))) away_at
-        ∙ ap (λ (o : Pieces). set away i (shelf_of o)) (piece_again (once_at once i) k None (Some q))
-        ∙ set_again once i (shelf_of (with_piece (once_at once i) k None)) (shelf_of (with_piece (once_at once i) k (Some q)))
+        ap (λ (o : Pieces). with_seen away i (with_piece o k (Some q))) away_at
+        ∙ ap (λ (o : Pieces). with_seen away i o) (piece_again (once_at once i) k None (Some q))
+        ∙ lent_last once i its_homes (with_piece (once_at once i) k None) (with_piece (once_at once i) k (Some q))
 
-    pub told_others : TablesBut i slots now groups
-    told_others = but_shared i (with_piece (once_at once i) k (Some q)) slots once groups (but_all i slots once groups ok)
+    unshared_now : (j : ℕ) → IsUnshared now j
+    unshared_now j =
+        subst (λ (l : List Shelf). IsUnshared l j) (sym (lent_unshared once i (once_at once i) (with_piece (once_at once i) k (Some q)) inside (standing.unshared i)))
+        (set_unshared once i (with_piece (once_at once i) k (Some q)) inside standing.unshared j)
 
     module _ (spaces' : Spaces)
         (here : (owner : Owner) (align : ℕ) → owned owner (blocks_in (picture_of spaces) space) ≡ block_of owner align p ∷ [] → owned owner (blocks_in (picture_of spaces') space) ≡ block_of owner align q ∷ [])
@@ -130,19 +139,24 @@ module _ {M : Type 0} (slots : List (Option (Member M))) (once : List Shelf) (gr
       moves = record { here = here (Record i k); others = λ o apart. others (Record i k) o owns apart; elsewhere = elsewhere; regions = regions; words = words; region = region }
 
       pub stands : AreStanding slots now groups spaces'
-      stands = standing_once space i k p q slots once groups spaces spaces' moves standing its.member its.there its.of_space taken inside ok.unshared
+      stands = standing_once space i k p q slots once groups spaces spaces' moves standing its.member its.there its.of_space its.here below all_homes stands_here ok.bare unshared_now
 
-      pub room_now : AreOrdered spaces' → (n : Member M) → slot_at slots i ≡ Some n → HasRoom (with_back (instance_of n.inst) None) (once_at now i) (group_at groups n.group)
-      room_now ordered n at = room_of_standing slots now groups spaces' ordered stands i n at
+      -- each holder has room, and waits to be told
+      pub waiting_now : AreOrdered spaces' → TablesWaiting (holds_with now i k) slots now groups
+      waiting_now ordered =
+          waiting_slid once all_homes i k p q below stands_here slots groups ok (λ j m at holds. room_of_standing slots now groups spaces' ordered stands j m at)
 
       same_words : (j : ℕ) → SameWords (once_at once j) (once_at now j)
       same_words j l =
-          elim (eqb_tells j i) [
-            | inr e ↦ ap (λ (o : Pieces). piece_words (piece_at o l)) (set_there once i j (shelf_of (with_piece (once_at once i) k (Some q))) (ok.unshared j) e.1)
-            | inl e ↦ rw (e.1, set_here once i (with_piece (once_at once i) k (Some q)) inside)
+          ap (λ (o : Pieces). piece_words (piece_at o l)) (seen_slid once all_homes i k p q below stands_here j)
+          ∙ elim (eqb_tells (home_of once j k) i) [
+            | inr e ↦ rw e.0 refl
+            | inl e ↦
+                let seen = seen_there space i k p q slots once groups spaces spaces' moves standing its.member its.there its.of_space its.here below all_homes stands_here j e.1 in
+                rw e.0
                 (elim (eqb_tells l k) [
-                  | inl f ↦ rw (f.1, piece_with_same (once_at once i) k (Some q) (piece_there (once_at once i) k p taken), taken) words
-                  | inr f ↦ ap piece_words (piece_with_other (once_at once i) k l (Some q) f.1)
+                  | inl f ↦ rw (f.1, piece_with_same (once_at once j) k (Some q) below, seen) words
+                  | inr f ↦ ap piece_words (piece_with_other (once_at once j) k l (Some q) f.1)
                 ])
           ]
 

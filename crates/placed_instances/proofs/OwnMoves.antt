@@ -1,10 +1,13 @@
 -- An instance's own record moves.
-use Rattle.std.proofs.Common.{◌≡◌, ◌≢◌, ℕ, ◌+◌, ◌-◌, ◌^◌, ◌<◌, min, inl, inr, true, is_some, List, [], ◌∷◌, length, Option, Some, None, set, refl, sym, ◌∙◌, ap, subst}
+use Rattle.std.proofs.Common.{◌≡◌, ◌≢◌, ℕ, zero, suc, ◌+◌, ◌-◌, ◌^◌, ◌<◌, min, inl, inr, true, is_some, List, [], ◌∷◌, length, Option, Some, None, set, refl, sym, ◌∙◌, ap, subst}
 use Rattle.std.specs.Option.{option_map}
 use Rattle.std.specs.List.{Contains}
 use Rattle.std.proofs.lemmas.Option.{none-some, same_Some}
 use Rattle.std.proofs.lemmas.Bool.Decides.{eqb_tells}
 use Rattle.space_raw.specs.Span.{Extent, Span}
+use Rattle.mem_rec.specs.declared.MemRec.{MemRec}
+use Rattle.mem_rec.specs.declared.Attr.{Attr}
+use Rattle.mem_rec.specs.declared.Attr.TheVariants.{Persist, WriteOnce}
 use Rattle.mem_rec.specs.declared.Space.{Space}
 use Rattle.mem_rec.specs.declared.Space.TheVariants.{Daram, Saram, External}
 use Rattle.mem_rec.specs.Records.{is_persistent, same_space}
@@ -28,13 +31,16 @@ use Rattle.host_spaces.specs.Picture.{blocks_in, picture_of, sizes_of, space_in}
 use Rattle.host_spaces.specs.Pieces.{IsPieceOf}
 use Rattle.instance_table.specs.declared.member.Member.{Member}
 use Rattle.instance_table.specs.declared.shelves.Shelf.{Shelf}
-use Rattle.instance_table.specs.Table.{slot_at, once_at, group_at, instance_of, own_of, TablesOk}
+use Rattle.instance_table.specs.declared.shelves.Stand.{Stand}
+use Rattle.instance_table.specs.declared.shelves.Stand.TheVariants.{Here, With}
+use Rattle.instance_table.specs.Shelves.{stand_at, shelf_at, home_by, home_of}
+use Rattle.instance_table.specs.Table.{slot_at, once_at, group_at, instance_of, own_of, IsHolder, AreHeld, EachIsHoused, TablesOk}
 use Rattle.instance_table.specs.Frames.{SameMembers}
-use Rattle.table_moves.specs.Moves.{inst_with, slot_with, own_set, TablesBut, MemberStays, SlotStays, SameWords, WordsStay}
-use Rattle.table_moves.proofs.Owns.{set_again, active_with, own_set_same, own_set_other, but_all, but_own}
+use Rattle.table_moves.specs.Moves.{inst_with, slot_with, own_set, IsThere, IsHousedBut, TablesThere, TablesBut, MemberStays, SlotStays, SameWords, WordsStay}
+use Rattle.table_moves.proofs.Owns.{tables_map, set_again, active_with, own_set_same, own_set_other, but_all, but_own}
 use Rattle.placed_instances.specs.Standing.{IsHome, AreOrdered, AreStanding, table_of, IsSameKind, SlotIsSame, SameInstances}
 use Rattle.placed_instances.specs.Moves.{IsNextOf}
-use Rattle.placed_instances.proofs.Homes.{slot_same}
+use Rattle.placed_instances.proofs.Homes.{home_record, slot_same}
 use Rattle.placed_instances.proofs.Moved.{OneMoves, standing_moved}
 use Rattle.placed_instances.proofs.MovedBlocks.{room_of_standing, block_stays_itself}
 use Rattle.placed_instances.proofs.Nexts.{IsNextRecord, next_record}
@@ -117,6 +123,30 @@ set_twice slots i a b =
 
 -- ---- the move
 
+persist_once : (a : Attr) → a ≡ Persist → a ≡ WriteOnce → ⊥
+persist_once a own once = let no : Persist ≡ WriteOnce = sym own ∙ once in cc
+
+unplaced_attr : (rs : List MemRec) (k : ℕ) → (record_at rs k).attr ≡ WriteOnce → (record_at (unplaced rs) k).attr ≡ WriteOnce
+unplaced_attr [] k once = once
+unplaced_attr (r ∷ rs) zero once = once
+unplaced_attr (r ∷ rs) (suc k) once = unplaced_attr rs k once
+
+-- a record with which another one stands is write-once
+held_once : {M : Type 0} (slots : List (Option (Member M))) (once : List Shelf) → AreHeld slots once → (i j k : ℕ) (m : Member M) → slot_at slots i ≡ Some m → j ≢ i → home_of once j k ≡ i
+    → (record_at (instance_of m.inst).table k).attr ≡ WriteOnce
+held_once slots once held i j k m at apart home = by_stand (stand_at (shelf_at once j) k) refl
+  where
+    by_holder : (slot : Option (Member _)) (s : Stand) → IsHolder k slot (Some m) s → (record_at (instance_of m.inst).table k).attr ≡ WriteOnce
+    by_holder None s h = absurd h
+    by_holder (Some n) s h = ap (λ (r : MemRec). r.attr) h.0.shape ∙ h.0.once
+
+    by_stand : (s : Stand) → stand_at (shelf_at once j) k ≡ s → (record_at (instance_of m.inst).table k).attr ≡ WriteOnce
+    by_stand (Here p) is = absurd (apart (sym (ap (home_by j) is) ∙ home))
+    by_stand (With h) is =
+        let same : h ≡ i = sym (ap (home_by j) is) ∙ home in
+        let holder = held j k i (is ∙ ap With same) in
+        by_holder (slot_at slots j) (stand_at (shelf_at once i) k) (rw at at holder)
+
 module _ {M : Type 0} (slots : List (Option (Member M))) (once : List Shelf) (groups : List Group) (spaces : Spaces) (space : Space) (i k : ℕ) (p : Span)
     (ok : TablesOk slots once groups) (standing : AreStanding slots once groups spaces) (next : IsNextOf spaces space (Record i k))
     (taken : piece_at (own_of (slot_at slots i)) k ≡ Some p) where
@@ -126,7 +156,7 @@ module _ {M : Type 0} (slots : List (Option (Member M))) (once : List Shelf) (gr
   own_piece : piece_at (instance_of its.member.inst).own k ≡ Some p
   own_piece = rw its.there at taken
 
-  home : IsHome spaces i (table_of its.member) (instance_of its.member.inst).own (once_at once i) (group_at groups its.member.group)
+  home : IsHome spaces i (home_of once i) (table_of its.member) (instance_of its.member.inst).own (once_at once i) (group_at groups its.member.group)
   home = standing.homes i its.member its.there
 
   is_its : its.piece ≡ p
@@ -152,12 +182,23 @@ module _ {M : Type 0} (slots : List (Option (Member M))) (once : List Shelf) (gr
       let kept : IsPieceOf _ _ (is_persistent (record_at (table_of its.member) k).attr) (Some p) = rw own_piece at (home.pieces.persistent k) in
       let attr = persists (record_at (table_of its.member) k).attr kept.0 in
       let same : same_space space space ≡ true = same_itself space in
-      rw (attr, own_piece, its.of_space, same) at (home.records k space)
+      rw (attr, own_piece, its.of_space, same) at (home_record spaces i (home_of once i) (table_of its.member) (instance_of its.member.inst).own (once_at once i) (group_at groups its.member.group) home k space i its.here)
     where
       same_itself : (s : Space) → same_space s s ≡ true
       same_itself Daram = refl
       same_itself Saram = refl
       same_itself External = refl
+
+  -- it is a record of its own, with which no other one stands
+  own_attr : (record_at (table_of its.member) k).attr ≡ Persist
+  own_attr =
+      let kept : IsPieceOf _ _ (is_persistent (record_at (table_of its.member) k).attr) (Some p) = rw own_piece at (home.pieces.persistent k) in
+      persists (record_at (table_of its.member) k).attr kept.0
+
+  nobody_else : (j : ℕ) → j ≢ i → home_of once j k ≢ i
+  nobody_else j apart at_i =
+      let shared = held_once slots once ok.held i j k its.member its.there apart at_i in
+      persist_once (record_at (table_of its.member) k).attr own_attr (unplaced_attr (instance_of its.member.inst).table k shared)
 
   owns : Owns (blocks_in (picture_of spaces) space) (Record i k) p
   owns = (
@@ -169,7 +210,10 @@ module _ {M : Type 0} (slots : List (Option (Member M))) (once : List Shelf) (gr
   away = with_piece (own_of (slot_at slots i)) k None
 
   pub told_others : TablesBut i (own_set slots i away) once groups
-  told_others = but_own i away slots once groups (but_all i slots once groups ok)
+  told_others = but_own EachIsHoused i away slots once groups (but_all i slots once groups ok)
+
+  pub tables_away : TablesThere (own_set slots i away) once groups
+  tables_away = tables_map (IsHousedBut i) IsThere (own_set slots i away) once groups (λ j m o y h. tt) told_others
 
   own_is : own_of (slot_at slots i) ≡ (instance_of its.member.inst).own
   own_is = rw its.there refl
@@ -199,7 +243,7 @@ module _ {M : Type 0} (slots : List (Option (Member M))) (once : List Shelf) (gr
     now = with_piece (instance_of its.member.inst).own k (Some q)
 
     stands : AreStanding (own_set slots i now) once groups spaces'
-    stands = standing_moved space i k p q slots once groups spaces spaces' moves standing its.member its.there its.of_space own_piece
+    stands = standing_moved space i k p q slots once groups spaces spaces' moves standing its.member its.there its.of_space its.here own_piece nobody_else
 
     room_now : AreOrdered spaces' → HasRoom (record (instance_of its.member.inst) { own = now }) (once_at once i) (group_at groups its.member.group)
     room_now ordered =

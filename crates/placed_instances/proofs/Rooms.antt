@@ -116,12 +116,12 @@ two_apart words (d ∷ ds) o q b c are two ob qc =
 
 -- ---- the records of an instance, and its group's block
 
-two_records : (i j k : ℕ) → j < k → (d : Owner) → same_owner (Record i j) d ≡ true → same_owner (Record i k) d ≡ true → ⊥
-two_records i j k less (Record a b) mine its =
-    let at_j = eqb-true j b (both_true (i == a) (j == b) mine).1 in
+two_records : (h i j k : ℕ) → j < k → (d : Owner) → same_owner (Record h j) d ≡ true → same_owner (Record i k) d ≡ true → ⊥
+two_records h i j k less (Record a b) mine its =
+    let at_j = eqb-true j b (both_true (h == a) (j == b) mine).1 in
     let at_k = eqb-true k b (both_true (i == a) (k == b) its).1 in
     omega (arith, less, at_j, at_k)
-two_records i j k less (GroupScratch h) mine its = true≢false (sym mine)
+two_records h i j k less (GroupScratch g) mine its = true≢false (sym mine)
 
 record_and_block : (i k g : ℕ) (d : Owner) → same_owner (Record i k) d ≡ true → same_owner (GroupScratch g) d ≡ true → ⊥
 record_and_block i k g (Record a b) mine its = true≢false (sym its)
@@ -156,7 +156,7 @@ block_in_space : (home : Extent) (p : Option Span) → home.size ≤ 65536 → I
 block_in_space home None small is = tt
 block_in_space home (Some p) small is = rw is small
 
-module _ (spaces : Spaces) (i g : ℕ) (rs : List MemRec) (own shared : Pieces) (y : Group) (ordered : AreOrdered spaces) (home : IsHome spaces i rs own shared y)
+module _ (spaces : Spaces) (i : ℕ) (at : ℕ → ℕ) (g : ℕ) (rs : List MemRec) (own shared : Pieces) (y : Group) (ordered : AreOrdered spaces) (home : IsHome spaces i at rs own shared y)
     (blocks : HasBlocks (picture_of spaces) g y) (regions : (space : Space) → IsOf (space_in spaces space).region (block_piece (block_in y space))) where
   has_piece : (k : ℕ) → length (idle_record_words rs own shared k) ≡ idle_size (record_at rs k).attr (record_at rs k).size
   has_piece k = has_by (record_at rs k).attr (record_at rs k).size (space_in spaces (record_at rs k).space).region (piece_at own k) (piece_at shared k) (home.pieces.persistent k) (home.pieces.write_once k)
@@ -174,21 +174,21 @@ module _ (spaces : Spaces) (i g : ℕ) (rs : List MemRec) (own shared : Pieces) 
   small : (space : Space) → (space_in spaces space).region.size ≤ 65536
   small space = let size = (ordered space).size.0 in omega (arith, size)
 
-  of_record : (k : ℕ) → owned (Record i k) (blocks_in (picture_of spaces) (record_at rs k).space) ≡ block_of_piece (Record i k) (record_at rs k).align (piece_of_record rs own shared k)
+  of_record : (k : ℕ) → owned (Record (at k) k) (blocks_in (picture_of spaces) (record_at rs k).space) ≡ block_of_piece (Record (at k) k) (record_at rs k).align (piece_of_record rs own shared k)
   of_record k = rw (space_itself (record_at rs k).space) at (home.records k (record_at rs k).space)
 
   separate : Separate rs own shared y
   separate = record {
     pieces = λ j k less below same.
-        separate_by (space_in spaces (record_at rs k).space).region.size (blocks_in (picture_of spaces) (record_at rs k).space) (Record i j) (Record i k) (record_at rs j).align (record_at rs k).align
+        separate_by (space_in spaces (record_at rs k).space).region.size (blocks_in (picture_of spaces) (record_at rs k).space) (Record (at j) j) (Record (at k) k) (record_at rs j).align (record_at rs k).align
         (piece_of_record rs own shared j) (piece_of_record rs own shared k) (ordered (record_at rs k).space).apart
-        (λ d mine its. two_records i j k less d.owner mine its)
-        (subst (λ (s : Space). owned (Record i j) (blocks_in (picture_of spaces) s) ≡ block_of_piece (Record i j) (record_at rs j).align (piece_of_record rs own shared j)) same (of_record j))
+        (λ d mine its. two_records (at j) (at k) j k less d.owner mine its)
+        (subst (λ (s : Space). owned (Record (at j) j) (blocks_in (picture_of spaces) s) ≡ block_of_piece (Record (at j) j) (record_at rs j).align (piece_of_record rs own shared j)) same (of_record j))
         (of_record k);
     block = λ k below.
-        separate_by (space_in spaces (record_at rs k).space).region.size (blocks_in (picture_of spaces) (record_at rs k).space) (Record i k) (GroupScratch g) (record_at rs k).align
+        separate_by (space_in spaces (record_at rs k).space).region.size (blocks_in (picture_of spaces) (record_at rs k).space) (Record (at k) k) (GroupScratch g) (record_at rs k).align
         (block_align (block_in y (record_at rs k).space)) (piece_of_record rs own shared k) (block_piece (block_in y (record_at rs k).space)) (ordered (record_at rs k).space).apart
-        (λ d mine its. record_and_block i k g d.owner mine its) (of_record k) (blocks (record_at rs k).space);
+        (λ d mine its. record_and_block (at k) k g d.owner mine its) (of_record k) (blocks (record_at rs k).space);
   }
 
   -- there is room for the instance's records at their places

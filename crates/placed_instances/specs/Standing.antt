@@ -1,30 +1,33 @@
 -- Instances and groups whose records and blocks stand where the memory picture shows them.
-use Rattle.std.specs.Prelude.{ℕ, ◌≡◌, false, IsTrue, List, [], Option, Some, None, MatchOption}
+use Rattle.std.specs.Prelude.{ℕ, ◌≡◌, ◌≢◌, false, IsTrue, List, [], Option, Some, None, MatchOption}
 use Rattle.space_raw.specs.Span.{Extent, Span}
 use Rattle.mem_rec.specs.declared.MemRec.{MemRec}
 use Rattle.mem_rec.specs.declared.Space.{Space}
 use Rattle.mem_rec.specs.Records.{is_table}
-use Rattle.ialg.specs.Records.{unplaced}
+use Rattle.ialg.specs.Records.{record_at, unplaced}
 use Rattle.record_loans.specs.declared.pieces.Pieces.{Pieces}
 use Rattle.record_loans.specs.Blocks.{block_piece}
 use Rattle.scratch_group.specs.declared.group.Group.{Group}
 use Rattle.scratch_group.specs.Blocks.{block_in}
-use Rattle.lifecycle.specs.Rooms.{NoNeed}
+use Rattle.lifecycle.specs.Rooms.{NoNeed, piece_of_record}
 use Rattle.instance_table.specs.declared.member.Member.{Member}
 use Rattle.instance_table.specs.declared.shelves.Shelf.{Shelf}
-use Rattle.instance_table.specs.Table.{slot_at, once_at, group_at, no_pieces, instance_of, is_member_of}
+use Rattle.instance_table.specs.Shelves.{home_of}
+use Rattle.instance_table.specs.Table.{slot_at, once_at, IsUnshared, group_at, no_pieces, instance_of, is_member_of}
 use Rattle.space_blocks.specs.declared.placed.Owner.TheVariants.{Record}
 use Rattle.space_blocks.specs.Blocks.{owned}
 use Rattle.space_blocks.specs.Spaces.{AreInOrder}
 use Rattle.host_spaces.specs.declared.spaces.Spaces.{Spaces}
 use Rattle.host_spaces.specs.Picture.{blocks_in, picture_of, space_in}
-use Rattle.host_spaces.specs.Pieces.{HasRecords, HasBlocks, ArePiecesOf}
+use Rattle.host_spaces.specs.Pieces.{HasBlocks, ArePiecesOf, record_block}
 
--- instance i, whose table without bases is rs, has its blocks of the picture for its records, and its group's blocks are large enough
-pub record IsHome (spaces : Spaces) (i : ℕ) (rs : List MemRec) (own shared : Pieces) (y : Group) : Type 0 where
+-- instance i, whose table without bases is rs, has a block of the picture for each record that lasts, which is the record's of the
+-- instance with which it stands; no other block is its own; and its group's blocks are large enough
+pub record IsHome (spaces : Spaces) (i : ℕ) (home : ℕ → ℕ) (rs : List MemRec) (own shared : Pieces) (y : Group) : Type 0 where
   pub valid : IsTrue (is_table rs)
   pub need : NoNeed rs y
-  pub records : HasRecords (picture_of spaces) i rs own shared
+  pub records : (k : ℕ) (space : Space) → owned (Record (home k) k) (blocks_in (picture_of spaces) space) ≡ record_block (home k) k (record_at rs k) space (piece_of_record rs own shared k)
+  pub away : (k : ℕ) (space : Space) → home k ≢ i → owned (Record i k) (blocks_in (picture_of spaces) space) ≡ []
   pub pieces : ArePiecesOf spaces rs own shared
 
 -- a piece is of this space
@@ -37,7 +40,9 @@ table_of m = unplaced (instance_of m.inst).table
 
 -- each instance and each group has its blocks of the picture, and no block is anybody else's
 pub record AreStanding {M : Type 0} (slots : List (Option (Member M))) (once : List Shelf) (groups : List Group) (spaces : Spaces) : Type 0 where
-  pub homes : (i : ℕ) (m : Member M) → slot_at slots i ≡ Some m → IsHome spaces i (table_of m) (instance_of m.inst).own (once_at once i) (group_at groups m.group)
+  pub homes : (i : ℕ) (m : Member M) → slot_at slots i ≡ Some m → IsHome spaces i (home_of once i) (table_of m) (instance_of m.inst).own (once_at once i) (group_at groups m.group)
+  -- so far nothing is shared
+  pub unshared : (i : ℕ) → IsUnshared once i
   pub free : (i : ℕ) → slot_at slots i ≡ None → once_at once i ≡ no_pieces
   pub gone : (i k : ℕ) (space : Space) → slot_at slots i ≡ None → owned (Record i k) (blocks_in (picture_of spaces) space) ≡ []
   pub blocks : (g : ℕ) → HasBlocks (picture_of spaces) g (group_at groups g)

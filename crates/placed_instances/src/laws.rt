@@ -5,6 +5,7 @@ ghost use Rattle.scratch_group.specs.declared.group.Group.{Group};
 ghost use Rattle.instance_table.specs.declared.member.Member.{Member};
 ghost use Rattle.instance_table.specs.declared.shelves.Shelf.{Shelf};
 ghost use Rattle.scratch_group.specs.Blocks.{block_in};
+ghost use Rattle.instance_table.specs.Shelves.{no_shelf, shelf_at};
 ghost use Rattle.instance_table.specs.Table.{TablesOk, slot_at, once_at, group_at, no_pieces};
 ghost use Rattle.instance_table.specs.Frames.{SameTables};
 ghost use Rattle.space_blocks.specs.declared.TheConstants.{MAP_BLOCKS};
@@ -37,7 +38,7 @@ pub fn maps_have_room<M: Ialg>()
 /// the picture is empty, and no group has a block. The call does nothing.
 pub fn nobody_stands<M: Ialg>()
     ensures start { (slots : List (Option (Member M))) (once : List Shelf) (groups : List Group) (spaces : Spaces)
-        → ((i : ℕ) → slot_at slots i ≡ None) → ((i : ℕ) → once_at once i ≡ no_pieces)
+        → ((i : ℕ) → slot_at slots i ≡ None) → ((i : ℕ) → shelf_at once i ≡ no_shelf)
         → ((g : ℕ) (space : Space) → block_in (group_at groups g) space ≡ None) → picture_of spaces ≡ empty_picture
         → AreStanding slots once groups spaces }
     ensures end { (slots : List (Option (Member M))) (once : List Shelf) (groups : List Group) (spaces : Spaces)

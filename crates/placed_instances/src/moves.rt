@@ -18,7 +18,7 @@ use mem_rec::Space;
 use scratch_group::Group;
 use space_blocks::Owner;
 use space_raw::Piece;
-use table_moves::{put_block, put_once, take_block, take_once, take_own, tell};
+use table_moves::{put_block, put_once, take_block, take_once, take_own, tell, tell_holders};
 
 /// Moves a record that an instance has for its own.
 fn move_own<M: Ialg>(
@@ -43,7 +43,7 @@ fn move_own<M: Ialg>(
     tell(slots, once, groups, i, Some((k as usize, moved)));
 }
 
-/// Moves a write-once record of an instance.
+/// Moves a write-once record that stands with an instance. All its holders are told.
 fn move_once<M: Ialg>(
     slots: &mut Vec<Option<Member<M>>>,
     once: &mut Vec<Shelf>,
@@ -65,7 +65,7 @@ fn move_once<M: Ialg>(
     let moved = spaces.make_move(space, piece);
     in_order(spaces);
     put_once(once, i, k as usize, moved);
-    tell(slots, once, groups, i, None);
+    tell_holders(slots, once, groups, i, k as usize);
 }
 
 /// Moves the block of a group.

@@ -19,14 +19,16 @@ use Rattle.lifecycle.specs.Moves.{settled}
 use Rattle.lifecycle.specs.States.{SameInstance}
 use Rattle.instance_table.specs.declared.member.Member.{Member}
 use Rattle.instance_table.specs.declared.shelves.Shelf.{Shelf}
-use Rattle.instance_table.specs.Table.{slot_at, once_at, group_at, instance_of, is_member_of}
+use Rattle.instance_table.specs.Shelves.{stand_at, shelf_at, home_by, home_of}
+use Rattle.instance_table.specs.Table.{slot_at, once_at, IsUnshared, group_at, instance_of, is_member_of}
 use Rattle.instance_table.specs.Frames.{IsIdle, IsStarted, OthersStay}
 use Rattle.space_blocks.specs.declared.placed.Owner.TheVariants.{Record}
 use Rattle.space_blocks.specs.Blocks.{owned}
 use Rattle.host_spaces.specs.declared.spaces.Spaces.{Spaces}
 use Rattle.host_spaces.specs.Picture.{blocks_in, picture_of}
 use Rattle.placed_instances.specs.Standing.{AreStanding, IsHome, table_of}
-use Rattle.placed_instances.proofs.Homes.{home_stays}
+use Rattle.instance_table.proofs.Unshared.{home_own, unshared_started}
+use Rattle.placed_instances.proofs.Homes.{home_by_same, home_stays}
 use Rattle.placed_instances.proofs.MovedBlocks.{alike_itself}
 use Rattle.grown_groups.specs.Growth.{AreGrown}
 use Rattle.started_instances.proofs.Unplaced.{home_unplaced}
@@ -40,21 +42,23 @@ started_as g s None is = absurd is
 started_as g s (Some m) is = (m, (refl, (is.0, same_of s m.inst is.1)))
 
 module _ {M : Type 0} (i g : ℕ) (s : Instance M) (shared : Pieces) (slots slots' : List (Option (Member M))) (once once' : List Shelf) (groups : List Group) (spaces : Spaces)
-    (empty : slot_at slots i ≡ None) (grown : AreGrown g slots once groups spaces) (home : IsHome spaces i s.table s.own shared (group_at groups g))
+    (empty : slot_at slots i ≡ None) (grown : AreGrown g slots once groups spaces) (home : IsHome spaces i (λ k. i) s.table s.own shared (group_at groups g))
     (gone : (j k : ℕ) (space : Space) → slot_at slots j ≡ None → j ≢ i → owned (Record j k) (blocks_in (picture_of spaces) space) ≡ [])
-    (others : OthersStay i slots once slots' once') (started : IsStarted g (settled s shared (group_at groups g)) (slot_at slots' i)) (pieces : SamePieces shared (once_at once' i)) where
+    (others : OthersStay i slots once slots' once') (started : IsStarted g (settled s shared (group_at groups g)) (slot_at slots' i)) (pieces : SamePieces shared (once_at once' i))
+    (shelves : (j : ℕ) → j ≢ i → shelf_at once' j ≡ shelf_at once j) (unshared : IsUnshared once' i) where
   new : (m : Member M) × ((slot_at slots' i ≡ Some m) × ((m.group ≡ g) × SameInstance (settled s shared (group_at groups g)) (instance_of m.inst)))
   new = started_as g (settled s shared (group_at groups g)) (slot_at slots' i) started
 
   same_table : table_of new.0 ≡ unplaced s.table
   same_table = ap unplaced new.1.1.1.table ∙ unplaced-with_bases s.table (record_place s.table s.own shared (group_at groups g))
 
-  home_of_new : IsHome spaces i (table_of new.0) (instance_of new.0.inst).own (once_at once' i) (group_at groups new.0.group)
+  home_of_new : IsHome spaces i (home_of once' i) (table_of new.0) (instance_of new.0.inst).own (once_at once' i) (group_at groups new.0.group)
   home_of_new =
-      subst (λ (h : ℕ). IsHome spaces i (table_of new.0) (instance_of new.0.inst).own (once_at once' i) (group_at groups h)) (sym new.1.1.0)
-      (subst (λ (rs : List MemRec). IsHome spaces i rs (instance_of new.0.inst).own (once_at once' i) (group_at groups g)) (sym same_table)
-      (home_stays spaces i (unplaced s.table) s.own (instance_of new.0.inst).own shared (once_at once' i) (group_at groups g) (group_at groups g)
-      new.1.1.1.own pieces (λ space. alike_itself (block_in (group_at groups g) space)) (home_unplaced spaces i s.table s.own shared (group_at groups g) home)))
+      subst (λ (h : ℕ). IsHome spaces i (home_of once' i) (table_of new.0) (instance_of new.0.inst).own (once_at once' i) (group_at groups h)) (sym new.1.1.0)
+      (subst (λ (rs : List MemRec). IsHome spaces i (home_of once' i) rs (instance_of new.0.inst).own (once_at once' i) (group_at groups g)) (sym same_table)
+      (home_by_same spaces i (λ k. i) (home_of once' i) (unplaced s.table) (instance_of new.0.inst).own (once_at once' i) (group_at groups g) (λ k. home_own once' i k unshared)
+      (home_stays spaces i (λ k. i) (unplaced s.table) s.own (instance_of new.0.inst).own shared (once_at once' i) (group_at groups g) (group_at groups g)
+      new.1.1.1.own pieces (λ space. alike_itself (block_in (group_at groups g) space)) (home_unplaced spaces i (λ k. i) s.table s.own shared (group_at groups g) home))))
 
   not_new : (j : ℕ) → slot_at slots' j ≡ None → j ≢ i
   not_new j none e = none-some _ (sym none ∙ ap (slot_at slots') e ∙ new.1.0)
@@ -73,9 +77,12 @@ module _ {M : Type 0} (i g : ℕ) (s : Instance M) (shared : Pieces) (slots slot
     homes = λ j n at. elim (eqb_tells j i) [
       | inl e ↦
           let is : new.0 ≡ n = same_Some _ _ (sym new.1.0 ∙ rw e.1 at at) in
-          rw e.1 (subst (λ (x : Member M). IsHome spaces i (table_of x) (instance_of x.inst).own (once_at once' i) (group_at groups x.group)) is home_of_new)
-      | inr e ↦ rw (others.pieces j e.1) (grown.homes j n (sym (others.slot j e.1) ∙ at))
+          rw e.1 (subst (λ (x : Member M). IsHome spaces i (home_of once' i) (table_of x) (instance_of x.inst).own (once_at once' i) (group_at groups x.group)) is home_of_new)
+      | inr e ↦
+          home_by_same spaces j (home_of once j) (home_of once' j) (table_of n) (instance_of n.inst).own (once_at once' j) (group_at groups n.group) (λ k. ap (λ (s : Shelf). home_by j (stand_at s k)) (shelves j e.1))
+          (subst (λ (o : Pieces). IsHome spaces j (home_of once j) (table_of n) (instance_of n.inst).own o (group_at groups n.group)) (sym (others.pieces j e.1)) (grown.homes j n (sym (others.slot j e.1) ∙ at)))
     ];
+    unshared = unshared_started once once' i grown.unshared unshared shelves;
     free = λ j none. others.pieces j (not_new j none) ∙ grown.free j (sym (others.slot j (not_new j none)) ∙ none);
     gone = λ j k space none. gone j k space (sym (others.slot j (not_new j none)) ∙ none) (not_new j none);
     blocks = grown.blocks;

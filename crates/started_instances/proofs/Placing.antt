@@ -72,11 +72,12 @@ module _ {M : Type 0} (i g : ℕ) (table : List MemRec) (blocks : NewBlocks) (sl
     region_then : (space : Space) → (space_in spaces' space).region ≡ (space_in before space).region
     region_then space = (then_stays space).region ∙ (stays space).region
 
-    pub is_home : IsHome spaces' i table own shared y
+    pub is_home : IsHome spaces' i (λ k. i) table own shared y
     is_home = record {
       valid = valid;
       need = need (λ space. rw ((stays space).region) (needed space));
       records = λ k space. then_others (Record i k) space (not_a_group i k g) ∙ records k space;
+      away = λ k space apart. absurd (apart refl);
       pieces = record {
         persistent = λ k. rw (region_then (record_at table k).space) (pieces.persistent k);
         write_once = λ k. rw (region_then (record_at table k).space) (pieces.write_once k);

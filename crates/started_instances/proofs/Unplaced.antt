@@ -43,13 +43,14 @@ need_unplaced rs y need space =
     ∙ ap (λ (n : ℕ). block_needed (block_in y space) (scratch_need rs space) n) (align_same rs space 4)
     ∙ need space
 
-pub home_unplaced : (spaces : Spaces) (i : ℕ) (rs : List MemRec) (own shared : Pieces) (y : Group) → IsHome spaces i rs own shared y → IsHome spaces i (unplaced rs) own shared y
-home_unplaced spaces i rs own shared y home = record {
+pub home_unplaced : (spaces : Spaces) (i : ℕ) (at : ℕ → ℕ) (rs : List MemRec) (own shared : Pieces) (y : Group) → IsHome spaces i at rs own shared y → IsHome spaces i at (unplaced rs) own shared y
+home_unplaced spaces i at rs own shared y home = record {
   valid = is_table-unplaced rs home.valid;
   need = need_unplaced rs y home.need;
   records = λ k space.
-      subst (λ (r : MemRec). owned (Record i k) (blocks_in (picture_of spaces) space) ≡ record_block i k r space (lasting_piece r.attr (piece_at own k) (piece_at shared k)))
+      subst (λ (r : MemRec). owned (Record (at k) k) (blocks_in (picture_of spaces) space) ≡ record_block (at k) k r space (lasting_piece r.attr (piece_at own k) (piece_at shared k)))
       (sym (record_at-unplaced rs k)) (home.records k space);
+  away = home.away;
   pieces = record {
     persistent = λ k. subst (λ (r : MemRec). IsPieceOf (space_in spaces r.space).region (placed_size r.size) (is_persistent r.attr) (piece_at own k)) (sym (record_at-unplaced rs k)) (home.pieces.persistent k);
     write_once = λ k. subst (λ (r : MemRec). IsPieceOf (space_in spaces r.space).region (placed_size r.size) (is_write_once r.attr) (piece_at shared k)) (sym (record_at-unplaced rs k)) (home.pieces.write_once k);

@@ -78,7 +78,7 @@ fn begin<M: Ialg>(
     requires empty { slot_at slots.old.items i ≡ None }
     requires ok { TablesOk slots.old.items once.old.items groups.now.items }
     requires grown { AreGrown g slots.old.items once.old.items groups.now.items spaces.now }
-    requires home { IsHome spaces.now i table own shared (group_at groups.now.items g) }
+    requires home { IsHome spaces.now i (λ k. i) table own shared (group_at groups.now.items g) }
     requires gone { (j k : ℕ) (space : Space) → slot_at slots.old.items j ≡ None → j ≢ i → owned (Record j k) (blocks_in (picture_of spaces.now) space) ≡ [] }
     ensures ok { TablesOk slots.new.items once.new.items groups.now.items }
     ensures standing { AreStanding slots.new.items once.new.items groups.now.items spaces.now }

@@ -1,3 +1,5 @@
+pub mod Holders
 pub mod Owns
 pub mod Seen
+pub mod Slides
 pub mod Tells

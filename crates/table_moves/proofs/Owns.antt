@@ -1,5 +1,5 @@
 -- The pieces of one instance change.
-use Rattle.std.proofs.Common.{◌≡◌, ◌≢◌, ℕ, ◌<◌, zero, suc, ◌⊎◌, inl, inr, List, [], ◌∷◌, length, Option, Some, None, set, get_or-set_other, refl, sym, ◌∙◌, ap, subst, arith}
+use Rattle.std.proofs.Common.{◌≡◌, ◌≢◌, ℕ, ◌<◌, zero, suc, inl, inr, Bool, List, [], ◌∷◌, length, Option, Some, None, set, get_or-set_other, refl, sym, ◌∙◌, ap, subst, arith}
 use Rattle.std.proofs.lemmas.List.{length-set}
 use Rattle.std.proofs.lemmas.Bool.Decides.{eqb_tells}
 use Rattle.std.proofs.lemmas.Option.{none-some, same_Some}
@@ -10,18 +10,19 @@ use Rattle.record_loans.specs.Pieces.{SamePieces}
 use Rattle.record_loans.specs.Blocks.{IsSameBlock}
 use Rattle.scratch_group.specs.declared.group.Group.{Group}
 use Rattle.scratch_group.specs.Blocks.{block_in}
+use Rattle.lifecycle.specs.declared.instance.Instance.{Instance}
 use Rattle.lifecycle.specs.declared.instance.Inst.{Inst}
 use Rattle.lifecycle.specs.declared.instance.Inst.TheVariants.{Idling, Running}
 use Rattle.lifecycle.specs.Moves.{restored, HasRoom}
 use Rattle.lifecycle.proofs.Frames.{same_pieces, same_group}
 use Rattle.instance_table.specs.declared.TheConstants.{GROUPS}
 use Rattle.instance_table.specs.declared.member.Member.{Member}
+use Rattle.instance_table.specs.declared.shelves.Stand.{Stand}
 use Rattle.instance_table.specs.declared.shelves.Shelf.{Shelf}
-use Rattle.instance_table.specs.Shelves.{shelf_of, no_shelf, shelf_at}
-use Rattle.instance_table.specs.Table.{slot_at, once_at, group_at, IsUnshared, no_pieces, own_of, instance_of, active_in, slot_active_in, activity_at, Activity, IsHoused, TablesOk, TablesTold}
-use Rattle.instance_table.proofs.Housing.{same_blocks, housed_stays}
-use Rattle.instance_table.proofs.Stands.{unshared_of, set_there}
-use Rattle.table_moves.specs.Moves.{inst_with, slot_with, own_set, TablesBut}
+use Rattle.instance_table.specs.Shelves.{stand_at, shelf_at}
+use Rattle.instance_table.specs.Table.{slot_at, once_at, group_at, own_of, instance_of, active_in, slot_active_in, activity_at, Activity, IsHoused, EachIsHoused, AreAlike, IsHolder, AreHeld, AreBare, Tables, TablesOk, TablesTold}
+use Rattle.instance_table.proofs.Housing.{same_blocks, housed_stays, room_stays}
+use Rattle.table_moves.specs.Moves.{inst_with, slot_with, own_set, IsHousedBut, TablesBut, IsWaiting}
 
 pub set_again : {A : Type 0} (xs : List A) (i : ℕ) (a b : A) → set (set xs i a) i b ≡ set xs i b
 set_again [] i a b = refl
@@ -56,25 +57,78 @@ group_with : {M : Type 0} (slot : Option (Member M)) (own : Pieces) (m : Member 
 group_with None own m at = absurd (none-some _ at)
 group_with (Some n) own m at = (n, (refl, ap (λ (q : Member _). q.group) (same_Some _ _ at)))
 
-pub but_all : {M : Type 0} (i : ℕ) (slots : List (Option (Member M))) (once : List Shelf) (groups : List Group) → TablesOk slots once groups → TablesBut i slots once groups
-but_all i slots once groups ok = record {
+-- whatever holds of the instances, and what follows of it
+pub tables_map : {M : Type 0} (H K : ℕ → Member M → Pieces → Group → Type 0) (slots : List (Option (Member M))) (once : List Shelf) (groups : List Group)
+    → ((j : ℕ) (m : Member M) (o : Pieces) (y : Group) → H j m o y → K j m o y) → Tables H slots once groups → Tables K slots once groups
+tables_map H K slots once groups follows ok = record {
   slot_count = ok.slot_count;
   once_count = ok.once_count;
   group_count = ok.group_count;
-  unshared = ok.unshared;
+  held = ok.held;
+  bare = ok.bare;
   group_range = ok.group_range;
-  housed = λ j m at apart. ok.housed j m at;
+  housed = λ j m at. follows j m (once_at once j) (group_at groups m.group) (ok.housed j m at);
   active_there = ok.active_there;
   active_known = ok.active_known;
 }
 
-pub but_own : {M : Type 0} (i : ℕ) (own : Pieces) (slots : List (Option (Member M))) (once : List Shelf) (groups : List Group)
-    → TablesBut i slots once groups → TablesBut i (own_set slots i own) once groups
-but_own i own slots once groups ok = record {
+pub but_all : {M : Type 0} (i : ℕ) (slots : List (Option (Member M))) (once : List Shelf) (groups : List Group) → TablesOk slots once groups → TablesBut i slots once groups
+but_all i slots once groups ok = tables_map EachIsHoused (IsHousedBut i) slots once groups (λ j m o y housed apart. housed) ok
+
+-- whatever holds of the others
+abbrev pub Beside : {M : Type 0} → (ℕ → Member M → Pieces → Group → Type 0) → ℕ → ℕ → Member M → Pieces → Group → Type 0
+Beside H i j m o y = j ≢ i → H j m o y
+
+-- an instance with other pieces holds the same records with others
+like_with : {M : Type 0} (k : ℕ) (a : Inst M) (own : Pieces) (b : Instance M) → AreAlike k (instance_of a) b → AreAlike k (instance_of (inst_with a own)) b
+like_with k (Idling s) own b alike = record { kind = alike.kind; params = alike.params; once = alike.once; shape = alike.shape }
+like_with k (Running s) own b alike = record { kind = alike.kind; params = alike.params; once = alike.once; shape = alike.shape }
+
+like_home : {M : Type 0} (k : ℕ) (a : Instance M) (b : Inst M) (own : Pieces) → AreAlike k a (instance_of b) → AreAlike k a (instance_of (inst_with b own))
+like_home k a (Idling s) own alike = record { kind = alike.kind; params = alike.params; once = alike.once; shape = alike.shape }
+like_home k a (Running s) own alike = record { kind = alike.kind; params = alike.params; once = alike.once; shape = alike.shape }
+
+holder_with : {M : Type 0} (k : ℕ) (a b : Option (Member M)) (s : Stand) (own : Pieces) → IsHolder k a b s → IsHolder k (slot_with a own) b s
+holder_with k None b s own holder = absurd holder
+holder_with k (Some m) None s own holder = absurd holder
+holder_with k (Some m) (Some n) s own holder = (like_with k m.inst own (instance_of n.inst) holder.0, holder.1)
+
+home_with : {M : Type 0} (k : ℕ) (a b : Option (Member M)) (s : Stand) (own : Pieces) → IsHolder k a b s → IsHolder k a (slot_with b own) s
+home_with k None b s own holder = absurd holder
+home_with k (Some m) None s own holder = absurd holder
+home_with k (Some m) (Some n) s own holder = (like_home k (instance_of m.inst) n.inst own holder.0, holder.1)
+
+held_own : {M : Type 0} (i : ℕ) (own : Pieces) (slots : List (Option (Member M))) (once : List Shelf) → AreHeld slots once → AreHeld (own_set slots i own) once
+held_own i own slots once held j k home is =
+    let first : IsHolder k (slot_at (own_set slots i own) j) (slot_at slots home) (stand_at (shelf_at once home) k) =
+    elim (eqb_tells j i) [
+      | inl e ↦ rw (e.1, own_set_same slots i own) (holder_with k (slot_at slots i) (slot_at slots home) (stand_at (shelf_at once home) k) own (rw e.1 at (held j k home is)))
+      | inr e ↦ rw (own_set_other slots i j own e.1) (held j k home is)
+    ] in
+    elim (eqb_tells home i) [
+      | inl e ↦ rw (e.1, own_set_same slots i own) (home_with k (slot_at (own_set slots i own) j) (slot_at slots i) (stand_at (shelf_at once i) k) own (rw e.1 at first))
+      | inr e ↦ rw (own_set_other slots i home own e.1) first
+    ]
+
+none_with : {M : Type 0} (slot : Option (Member M)) (own : Pieces) → slot_with slot own ≡ None → slot ≡ None
+none_with None own none = refl
+none_with (Some m) own none = absurd (none-some _ (sym none))
+
+bare_own : {M : Type 0} (i : ℕ) (own : Pieces) (slots : List (Option (Member M))) (once : List Shelf) → AreBare slots once → AreBare (own_set slots i own) once
+bare_own i own slots once bare j none =
+    elim (eqb_tells j i) [
+      | inl e ↦ rw e.1 (bare i (none_with (slot_at slots i) own (sym (own_set_same slots i own) ∙ rw e.1 at none)))
+      | inr e ↦ bare j (sym (own_set_other slots i j own e.1) ∙ none)
+    ]
+
+pub but_own : {M : Type 0} (H : ℕ → Member M → Pieces → Group → Type 0) (i : ℕ) (own : Pieces) (slots : List (Option (Member M))) (once : List Shelf) (groups : List Group)
+    → Tables (Beside H i) slots once groups → Tables (Beside H i) (own_set slots i own) once groups
+but_own H i own slots once groups ok = record {
   slot_count = simp length-set ok.slot_count;
   once_count = ok.once_count;
   group_count = ok.group_count;
-  unshared = ok.unshared;
+  held = held_own i own slots once ok.held;
+  bare = bare_own i own slots once ok.bare;
   group_range = λ j m at.
       elim (eqb_tells j i) [
         | inl e ↦
@@ -87,43 +141,19 @@ but_own i own slots once groups ok = record {
   active_known = λ k j at. ok.active_known k j (sym (active_own slots i own j) ∙ at);
 }
 
--- a shelf that is put where there is none isn't put at all
-shelf_after : (once : List Shelf) (i : ℕ) (s : Shelf) → (shelf_at (set once i s) i ≡ s) ⊎ (shelf_at (set once i s) i ≡ no_shelf)
-shelf_after [] i s = inr refl
-shelf_after (x ∷ xs) zero s = inl refl
-shelf_after (x ∷ xs) (suc i) s = shelf_after xs i s
-
-unshared_after : (once : List Shelf) (i : ℕ) (o : Pieces) → ((j : ℕ) → IsUnshared once j) → (j : ℕ) → IsUnshared (set once i (shelf_of o)) j
-unshared_after once i o unshared j =
-    elim (eqb_tells j i) [
-      | inl e ↦
-          rw e.1
-          (elim (shelf_after once i (shelf_of o)) [
-            | inl put ↦ unshared_of (set once i (shelf_of o)) i o put
-            | inr past ↦ unshared_of (set once i (shelf_of o)) i no_pieces past
-          ])
-      | inr e ↦ unshared_of (set once i (shelf_of o)) j (once_at once j) (get_or-set_other once i j (shelf_of o) no_shelf e.1 ∙ unshared j)
-    ]
-
-pub but_shared : {M : Type 0} (i : ℕ) (shared : Pieces) (slots : List (Option (Member M))) (once : List Shelf) (groups : List Group)
-    → TablesBut i slots once groups → TablesBut i slots (set once i (shelf_of shared)) groups
-but_shared i shared slots once groups ok = record {
-  slot_count = ok.slot_count;
-  once_count = simp length-set ok.once_count;
-  group_count = ok.group_count;
-  unshared = unshared_after once i shared ok.unshared;
-  group_range = ok.group_range;
-  housed = λ j m at apart.
-      subst (λ (o : Pieces). IsHoused (instance_of m.inst) o (group_at groups m.group)) (sym (set_there once i j (shelf_of shared) (ok.unshared j) apart)) (ok.housed j m at apart);
-  active_there = ok.active_there;
-  active_known = ok.active_known;
-}
-
 -- an instance stays housed where its write-once pieces and its group's blocks stay
 pub housed_beside : {M : Type 0} (m : Member M) (o o' : Pieces) (y y' : Group) → SamePieces o o' → ((space : Space) → IsSameBlock (block_in y space) (block_in y' space))
     → IsHoused (instance_of m.inst) o y → IsHoused (instance_of m.inst) o' y'
 housed_beside m o o' y y' so sb h =
     housed_stays (instance_of m.inst) (instance_of m.inst) o o' y y' (record { kind = refl; params = refl; table = refl; own = same_pieces (instance_of m.inst).own }) so sb h
+
+-- instances that wait to be told go on doing so, and the others stay housed
+pub waiting_beside : {M : Type 0} (waits : ℕ → Bool) (j : ℕ) (m : Member M) (o o' : Pieces) (y y' : Group) → SamePieces o o' → ((space : Space) → IsSameBlock (block_in y space) (block_in y' space))
+    → IsWaiting waits j m o y → IsWaiting waits j m o' y'
+waiting_beside waits j m o o' y y' so sb w = record {
+  told = λ h. housed_beside m o o' y y' so sb (w.told h);
+  room = λ h. room_stays (instance_of m.inst) o o' y y' so sb (w.room h);
+}
 
 none_below : (j : ℕ) → j < 0 → ⊥
 none_below j e = omega (arith, e)
@@ -138,7 +168,8 @@ told_later g slots once groups groups' ok count activity blocks room = record {
   slot_count = ok.slot_count;
   once_count = ok.once_count;
   group_count = count;
-  unshared = ok.unshared;
+  held = ok.held;
+  bare = ok.bare;
   group_range = ok.group_range;
   housed = λ j m at. record {
     told = λ h.

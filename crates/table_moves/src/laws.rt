@@ -1,9 +1,12 @@
 //! What moves leave as it is. The calls do nothing: their contracts are the laws.
-ghost use Rattle.std.specs.Prelude.{◌≡◌, ◌≢◌, ◌⊎◌, ℕ, ℤ, List, length, Option, Some, slice_set};
+ghost use Rattle.std.specs.Prelude.{◌≡◌, ◌≢◌, ◌⊎◌, ◌<◌, ℕ, ℤ, true, List, length, Option, Some, nat_eq, if◌then◌else◌};
+ghost use Rattle.space_raw.specs.Span.{Span};
+ghost use Rattle.mem_rec.specs.declared.TheConstants.{TABLE_RECORDS};
 ghost use Rattle.mem_rec.specs.declared.Space.{Space};
 ghost use Rattle.ialg.specs.History.{History};
 ghost use Rattle.ialg.specs.Records.{ArePoison};
 ghost use Rattle.record_loans.specs.declared.pieces.Pieces.{Pieces};
+ghost use Rattle.record_loans.specs.Pieces.{with_piece};
 ghost use Rattle.record_loans.specs.Blocks.{block_words};
 ghost use Rattle.scratch_group.specs.declared.group.Group.{Group};
 ghost use Rattle.scratch_group.specs.Blocks.{block_in};
@@ -11,10 +14,12 @@ ghost use Rattle.lifecycle.specs.Moves.{HasRoom};
 ghost use Rattle.instance_table.specs.declared.TheConstants.{GROUPS};
 ghost use Rattle.instance_table.specs.declared.member.Member.{Member};
 ghost use Rattle.instance_table.specs.declared.shelves.Shelf.{Shelf};
-ghost use Rattle.instance_table.specs.Shelves.{shelf_of};
+ghost use Rattle.instance_table.specs.declared.shelves.Stand.TheVariants.{Here};
+ghost use Rattle.instance_table.specs.Shelves.{stand_at, shelf_at, pieces_here};
+ghost use Rattle.instance_table.specs.Homes.{AllHaveHomes};
 ghost use Rattle.instance_table.specs.Table.{slot_at, once_at, group_at, instance_of, activity_at, TablesOk, TablesTold, ArePoisoned};
 ghost use Rattle.instance_table.specs.Keeps.{Keeps};
-ghost use Rattle.table_moves.specs.Moves.{own_set, TablesBut, WordsStay};
+ghost use Rattle.table_moves.specs.Moves.{own_set, slid_to, holds_with, TablesBut, TablesWaiting, WordsStay};
 
 use ialg::Ialg;
 
@@ -31,8 +36,20 @@ pub fn apart<M: Ialg>()
     ensures all { (i : ℕ) (slots : List (Option (Member M))) (once : List Shelf) (groups : List Group) → TablesOk slots once groups → TablesBut i slots once groups }
     ensures own { (i : ℕ) (own : Pieces) (slots : List (Option (Member M))) (once : List Shelf) (groups : List Group)
         → TablesBut i slots once groups → TablesBut i (own_set slots i own) once groups }
-    ensures shared { (i : ℕ) (shared : Pieces) (slots : List (Option (Member M))) (once : List Shelf) (groups : List Group)
-        → TablesBut i slots once groups → TablesBut i slots (slice_set once i (shelf_of shared)) groups }
+{}
+
+/// The law that after a write-once piece lies elsewhere, in which its holders have room, these wait to be told, and no other instance does.
+/// Nothing stands with another instance than before.
+pub fn slid<M: Ialg>()
+    ensures waiting { (i k : ℕ) (p q : Span) (slots : List (Option (Member M))) (once : List Shelf) (groups : List Group) → TablesOk slots once groups
+        → k < TABLE_RECORDS → stand_at (shelf_at once i) k ≡ Here (Some p)
+        → ((j : ℕ) (m : Member M) → slot_at slots j ≡ Some m → holds_with once i k j ≡ true
+        → HasRoom (instance_of m.inst) (once_at (slid_to once i k q) j) (group_at groups m.group))
+        → TablesWaiting (holds_with (slid_to once i k q) i k) slots (slid_to once i k q) groups }
+    ensures seen { (i k : ℕ) (p q : Span) (once : List Shelf) → AllHaveHomes once → k < TABLE_RECORDS → stand_at (shelf_at once i) k ≡ Here (Some p)
+        → (j : ℕ) → once_at (slid_to once i k q) j ≡ (if holds_with once i k j then with_piece (once_at once j) k (Some q) else once_at once j) }
+    ensures here { (i k : ℕ) (p q : Span) (once : List Shelf) → AllHaveHomes once → k < TABLE_RECORDS → stand_at (shelf_at once i) k ≡ Here (Some p)
+        → (j : ℕ) → pieces_here (shelf_at (slid_to once i k q) j) ≡ (if nat_eq j i then with_piece (pieces_here (shelf_at once j)) k (Some q) else pieces_here (shelf_at once j)) }
 {}
 
 /// The law that after a change of a group's blocks, in which its members have room, these wait to be told, and no other instance does.

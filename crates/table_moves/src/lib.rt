@@ -10,6 +10,6 @@ mod records;
 mod told;
 
 pub use blocks::{put_block, take_block};
-pub use laws::{apart, poisoned, waiting, words};
+pub use laws::{apart, poisoned, slid, waiting, words};
 pub use records::{put_once, take_once, take_own};
-pub use told::tell;
+pub use told::{tell, tell_holders};

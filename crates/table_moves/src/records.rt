@@ -1,9 +1,9 @@
 //! The pieces of an instance's records, taken out and put back.
-ghost use Rattle.std.specs.Prelude.{◌≡◌, ◌<◌, length, Some, None, IsSome, slice_set};
+ghost use Rattle.std.specs.Prelude.{◌≡◌, ◌<◌, length, Some, None, IsSome};
 ghost use Rattle.mem_rec.specs.declared.TheConstants.{TABLE_RECORDS};
 ghost use Rattle.record_loans.specs.Pieces.{piece_at, with_piece};
-ghost use Rattle.instance_table.specs.Shelves.{shelf_of};
-ghost use Rattle.instance_table.specs.Table.{slot_at, once_at, own_of, IsUnshared};
+ghost use Rattle.instance_table.specs.Homes.{HasHomes, with_seen};
+ghost use Rattle.instance_table.specs.Table.{slot_at, once_at, own_of};
 ghost use Rattle.table_moves.specs.Moves.{own_set};
 
 use ialg::Ialg;
@@ -29,10 +29,11 @@ pub fn take_own<M: Ialg>(slots: &mut Vec<Option<Member<M>>>, i: u8, k: usize) ->
 /// Takes the piece of write-once record `k` of an instance out, to be moved: [`put_once`] puts it back.
 pub fn take_once(once: &mut Vec<Shelf>, i: u8, k: usize) -> Piece
     requires number { i < length once.old.items }
-    requires unshared { IsUnshared once.old.items i }
+    requires homes { HasHomes once.old.items i }
     requires there { IsSome (piece_at (once_at once.old.items i) k) }
     ensures piece { piece_at (once_at once.old.items i) k ≡ Some result }
-    ensures left { once.new.items ≡ slice_set once.old.items i (shelf_of (with_piece (once_at once.old.items i) k None)) }
+    ensures left { once.new.items ≡ with_seen once.old.items i (with_piece (once_at once.old.items i) k None) }
+    ensures homes { HasHomes once.new.items i }
 {
     let mut pieces = take_seen(once, i as usize);
     let piece = pieces.take_out(k);
@@ -40,13 +41,13 @@ pub fn take_once(once: &mut Vec<Shelf>, i: u8, k: usize) -> Piece
     piece
 }
 
-/// Puts the piece of write-once record `k` of an instance back. [`tell`](crate::tell) has to follow.
+/// Puts the piece of write-once record `k` of an instance back. [`tell_holders`](crate::tell_holders) has to follow.
 pub fn put_once(once: &mut Vec<Shelf>, i: u8, k: usize, piece: Piece)
     requires number { i < length once.old.items }
-    requires unshared { IsUnshared once.old.items i }
+    requires homes { HasHomes once.old.items i }
     requires record { k < TABLE_RECORDS }
     requires empty { piece_at (once_at once.old.items i) k ≡ None }
-    ensures { once.new.items ≡ slice_set once.old.items i (shelf_of (with_piece (once_at once.old.items i) k (Some piece))) }
+    ensures { once.new.items ≡ with_seen once.old.items i (with_piece (once_at once.old.items i) k (Some piece)) }
 {
     let mut pieces = take_seen(once, i as usize);
     pieces.put_in(k, piece);

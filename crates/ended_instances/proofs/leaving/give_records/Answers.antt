@@ -15,7 +15,7 @@ take_out_records-requires-clause-records g c =
 
 pub returns-clause-standing : goal.returns-clause-standing
 returns-clause-standing g c =
-    stand_beside c.args.i _ _ _ _ _ _ c.args.spaces.now c.take_out_records.new.self c.requires.standing c.end-own.ensures.others c.end-own.ensures.gone c.end-own.ensures.none
+    stand_beside c.args.i _ _ _ _ _ _ c.args.spaces.now c.take_out_records.new.self c.requires.standing c.end-own.ensures.others c.end-own.ensures.gone c.end-own.ensures.none c.end-own.ensures.handed
     c.take_out_records.ensures.picture c.take_out_records.ensures.others c.take_out_records.ensures.stays
 
 pub returns-clause-others : goal.returns-clause-others

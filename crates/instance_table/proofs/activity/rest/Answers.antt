@@ -7,9 +7,10 @@ use Rattle.record_loans.specs.Blocks.{IsSameBlock}
 use Rattle.scratch_group.specs.Blocks.{block_in}
 use Rattle.lifecycle.specs.declared.instance.Inst.TheVariants.{Idling}
 use Rattle.lifecycle.specs.States.{SameInstance, SameOnce}
+use Rattle.instance_table.specs.Homes.{HasHomes}
 use Rattle.instance_table.specs.Table.{once_at, group_at, instance_of}
-use Rattle.instance_table.proofs.Stands.{put_back}
-use Rattle.instance_table.proofs.Changes.{read_ok_group, read_active, read_alone, slot_is_some, fits_in_slot, tables_after_change, ok_after_change, poisoned_after_change, keeps_after_change}
+use Rattle.instance_table.proofs.Lent.{put_back}
+use Rattle.instance_table.proofs.Changes.{homes_of_slot, read_ok_group, read_active, read_alone, slot_is_some, fits_in_slot, tables_after_change, ok_after_change, poisoned_after_change, keeps_after_change}
 use Rattle.instance_table.proofs.activity.rest.Goals as goal
 use Rattle.instance_table.proofs.activity.rest.Goals.{After-put_in}
 use Rattle.instance_table.proofs.activity.rest.Given.{Over}
@@ -22,6 +23,9 @@ pub unreachable-requires : goal.unreachable-requires
 unreachable-requires g c =
     let there = read_active _ _ _ c.requires.ok _ _ c.requires.range _ c.index.ensures (sym c.active.ensures ∙ c.in-Some.is) in
     none-some _ (rw (c.take_out-inst.ensures.member, c.in-Idling.is) at there)
+
+pub take_seen-shared-requires-clause-homes : goal.take_seen-shared-requires-clause-homes
+take_seen-shared-requires-clause-homes g c = homes_of_slot _ _ _ c.requires.ok _ _ c.take_out-inst.ensures.member
 
 pub rest_in-idle-requires : goal.rest_in-idle-requires
 rest_in-idle-requires g c =
@@ -40,6 +44,9 @@ module _ (g : Over) (c : After-put_in g) where
 
   alone : (j : ℕ) → (group_at c.args.groups.now.items c.args.g).active ≡ Some j → j ≡ c.in-Some.i
   alone = read_alone _ _ _ c.requires.ok _ _ c.requires.range _ c.index.ensures (sym c.active.ensures ∙ c.in-Some.is)
+
+  homes : HasHomes c.args.once.now.items c.in-Some.i
+  homes = homes_of_slot _ _ _ c.requires.ok _ _ c.take_out-inst.ensures.member
 
   once_is : once_at c.args.once.now.items c.in-Some.i ≡ c.take_seen-shared.result
   once_is = sym c.take_seen-shared.ensures.pieces
@@ -61,7 +68,7 @@ module _ (g : Over) (c : After-put_in g) where
 
 pub returns-clause-ok : goal.returns-clause-ok
 returns-clause-ok g c =
-    rw (c.put_in.ensures.slots, c.take_out-inst.ensures.slots, set-set, put_back _ _ _ _ c.rest_in-idle.new.shared c.take_seen-shared.ensures.left c.put_seen.ensures)
+    rw (c.put_in.ensures.slots, c.take_out-inst.ensures.slots, set-set, put_back _ _ (homes g c) _ _ c.rest_in-idle.new.shared c.take_seen-shared.ensures.left c.put_seen.ensures)
     (ok_after_change _ _ _ _ _ _ _ _ _ c.requires.ok c.take_out-inst.ensures.member (of_group g c) (alone g c)
     c.rest_in-idle.ensures.active (same g c) (shared g c) (written g c) (blocks g c))
 
@@ -72,15 +79,15 @@ returns-clause-poisoned g c =
 
 pub returns-clause-same : goal.returns-clause-same
 returns-clause-same g c =
-    rw (c.put_in.ensures.slots, c.take_out-inst.ensures.slots, set-set, put_back _ _ _ _ c.rest_in-idle.new.shared c.take_seen-shared.ensures.left c.put_seen.ensures)
+    rw (c.put_in.ensures.slots, c.take_out-inst.ensures.slots, set-set, put_back _ _ (homes g c) _ _ c.rest_in-idle.new.shared c.take_seen-shared.ensures.left c.put_seen.ensures)
     (tables_after_change _ _ _ _ _ _ _ _ _ c.requires.ok c.take_out-inst.ensures.member (of_group g c) (alone g c)
     c.rest_in-idle.ensures.active (same g c) (shared g c) (written g c) (blocks g c))
 
 pub returns-clause-keeps : goal.returns-clause-keeps
 returns-clause-keeps g c histories keeps =
-    rw (c.put_in.ensures.slots, c.take_out-inst.ensures.slots, set-set, put_back _ _ _ _ c.rest_in-idle.new.shared c.take_seen-shared.ensures.left c.put_seen.ensures)
+    rw (c.put_in.ensures.slots, c.take_out-inst.ensures.slots, set-set, put_back _ _ (homes g c) _ _ c.rest_in-idle.new.shared c.take_seen-shared.ensures.left c.put_seen.ensures)
     (keeps_after_change _ _ _ _ _ _ _ _ _ _ c.requires.ok c.take_out-inst.ensures.member (of_group g c) (alone g c)
-    c.rest_in-idle.ensures.active
+    c.rest_in-idle.ensures.active (shared g c) (written g c)
     g.M.Ialg.meaning g.M.Ialg.idle_keeps g.M.Ialg.active_keeps c.args.poison histories
     (λ before. c.rest_in-idle.ensures.keeps c.args.poison (histories c.in-Some.i) (rw (once_is g c, group_is g c, c.in-Running.is) at before))
     keeps)

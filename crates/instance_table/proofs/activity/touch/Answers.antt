@@ -8,9 +8,10 @@ use Rattle.scratch_group.specs.Blocks.{block_in}
 use Rattle.lifecycle.specs.declared.instance.Inst.TheVariants.{Running}
 use Rattle.lifecycle.specs.States.{SameInstance, SameOnce}
 use Rattle.instance_table.specs.declared.TheConstants.{GROUPS}
+use Rattle.instance_table.specs.Homes.{HasHomes}
 use Rattle.instance_table.specs.Table.{once_at, group_at, group_of, slot_at, slot_active_in, activity_at, instance_of}
-use Rattle.instance_table.proofs.Stands.{put_back}
-use Rattle.instance_table.proofs.Changes.{read_ok_group, group_inside, fits_in_slot, tables_after_change, tables_then, ok_after_change, poisoned_after_change, activity_after_change, keeps_after_change}
+use Rattle.instance_table.proofs.Lent.{put_back}
+use Rattle.instance_table.proofs.Changes.{homes_of_slot, read_ok_group, group_inside, fits_in_slot, tables_after_change, tables_then, ok_after_change, poisoned_after_change, activity_after_change, keeps_after_change}
 use Rattle.instance_table.proofs.Activities.{same_group_of, not_active, none_active_after, activity_after_wake}
 use Rattle.instance_table.proofs.activity.touch.Goals as goal
 use Rattle.instance_table.proofs.activity.touch.Goals.{After-put_in}
@@ -24,8 +25,8 @@ unreachable-requires g c =
     let none = none_active_after (activity_at c.args.groups.now.items) (activity_at c.rest-rested.new.groups.items) c.in-Some.g c.rest-rested.ensures.activity in
     none-some _ (sym none ∙ c.rest-rested.ensures.ok.active_known _ _ there)
 
-pub take_seen-shared-requires-clause-unshared : goal.take_seen-shared-requires-clause-unshared
-take_seen-shared-requires-clause-unshared g c = c.rest-rested.ensures.ok.unshared c.args.i
+pub take_seen-shared-requires-clause-homes : goal.take_seen-shared-requires-clause-homes
+take_seen-shared-requires-clause-homes g c = homes_of_slot _ _ _ c.rest-rested.ensures.ok _ _ c.take_out-inst.ensures.member
 
 pub index_mut-requires : goal.index_mut-requires
 index_mut-requires g c =
@@ -59,6 +60,9 @@ module _ (g : Over) (c : After-put_in g) where
   alone : (j : ℕ) → (group_at c.rest-rested.new.groups.items c.in-Some.g).active ≡ Some j → j ≡ c.args.i
   alone j active = absurd (none-some _ (sym none ∙ active))
 
+  homes : HasHomes c.rest-rested.new.once.items c.args.i
+  homes = homes_of_slot _ _ _ c.rest-rested.ensures.ok _ _ c.take_out-inst.ensures.member
+
   once_is : once_at c.rest-rested.new.once.items c.args.i ≡ c.take_seen-shared.result
   once_is = sym c.take_seen-shared.ensures.pieces
 
@@ -79,7 +83,7 @@ module _ (g : Over) (c : After-put_in g) where
 
 pub returns-clause-ok : goal.returns-clause-ok
 returns-clause-ok g c =
-    rw (c.put_in.ensures.slots, c.take_out-inst.ensures.slots, set-set, put_back _ _ _ _ c.wake_in-active.new.shared c.take_seen-shared.ensures.left c.put_seen.ensures)
+    rw (c.put_in.ensures.slots, c.take_out-inst.ensures.slots, set-set, put_back _ _ (homes g c) _ _ c.wake_in-active.new.shared c.take_seen-shared.ensures.left c.put_seen.ensures)
     (ok_after_change _ _ _ _ _ _ _ _ _ c.rest-rested.ensures.ok c.take_out-inst.ensures.member (group g c) (alone g c)
     c.wake_in-active.ensures.active (same g c) (shared g c) (written g c) (blocks g c))
 
@@ -91,7 +95,7 @@ returns-clause-poisoned g c =
 
 pub returns-clause-same : goal.returns-clause-same
 returns-clause-same g c =
-    rw (c.put_in.ensures.slots, c.take_out-inst.ensures.slots, set-set, put_back _ _ _ _ c.wake_in-active.new.shared c.take_seen-shared.ensures.left c.put_seen.ensures)
+    rw (c.put_in.ensures.slots, c.take_out-inst.ensures.slots, set-set, put_back _ _ (homes g c) _ _ c.wake_in-active.new.shared c.take_seen-shared.ensures.left c.put_seen.ensures)
     (tables_then _ _ _ _ _ _ _ _ _ c.rest-rested.ensures.same
     (tables_after_change _ _ _ _ _ _ _ _ _ c.rest-rested.ensures.ok c.take_out-inst.ensures.member (group g c) (alone g c)
     c.wake_in-active.ensures.active (same g c) (shared g c) (written g c) (blocks g c)))
@@ -108,9 +112,9 @@ returns-clause-activity g c k =
 
 pub returns-clause-keeps : goal.returns-clause-keeps
 returns-clause-keeps g c histories keeps =
-    rw (c.put_in.ensures.slots, c.take_out-inst.ensures.slots, set-set, put_back _ _ _ _ c.wake_in-active.new.shared c.take_seen-shared.ensures.left c.put_seen.ensures)
+    rw (c.put_in.ensures.slots, c.take_out-inst.ensures.slots, set-set, put_back _ _ (homes g c) _ _ c.wake_in-active.new.shared c.take_seen-shared.ensures.left c.put_seen.ensures)
     (keeps_after_change _ _ _ _ _ _ _ _ _ _ c.rest-rested.ensures.ok c.take_out-inst.ensures.member (group g c) (alone g c)
-    c.wake_in-active.ensures.active
+    c.wake_in-active.ensures.active (shared g c) (written g c)
     g.M.Ialg.meaning g.M.Ialg.idle_keeps g.M.Ialg.active_keeps c.args.poison histories
     (λ before. c.wake_in-active.ensures.keeps c.args.poison (histories c.args.i)
     (rw (group_is g c) at (c.rest-rested.ensures.poisoned c.in-Some.g (in_range g c) (none g c)))

@@ -6,14 +6,19 @@ use Rattle.record_loans.specs.Blocks.{IsSameBlock}
 use Rattle.scratch_group.specs.Blocks.{block_in}
 use Rattle.lifecycle.specs.declared.instance.Inst.TheVariants.{Running}
 use Rattle.lifecycle.specs.States.{SameInstance, SameOnce}
+use Rattle.instance_table.specs.Homes.{HasHomes}
 use Rattle.instance_table.specs.Table.{slot_at, once_at, group_at, instance_of, activity_at}
 use Rattle.instance_table.proofs.Housing.{same_blocks}
-use Rattle.instance_table.proofs.Stands.{put_back}
-use Rattle.instance_table.proofs.Changes.{read_slot, read_ok_group, known_active, kept_in_slot, fits_in_slot, tables_after_change, ok_after_change, poisoned_after_change, activity_after_change, keeps_after_step}
+use Rattle.instance_table.proofs.Lent.{put_back}
+use Rattle.instance_table.proofs.Changes.{homes_of_slot, read_slot, read_ok_group, known_active, kept_in_slot, fits_in_slot, tables_after_change, ok_after_change, poisoned_after_change, activity_after_change, keeps_after_step}
 use Rattle.instance_table.proofs.Activities.{activity_stays}
 use Rattle.instance_table.proofs.calls.run.Goals as goal
 use Rattle.instance_table.proofs.calls.run.Goals.{After-put_seen}
 use Rattle.instance_table.proofs.calls.run.Given.{Over}
+
+pub take_seen-shared-requires-clause-homes : goal.take_seen-shared-requires-clause-homes
+take_seen-shared-requires-clause-homes g c =
+    homes_of_slot _ _ _ c.requires.ok _ _ (read_slot c.args.slots.now.items c.args.i _ c.requires.active _ c.index_mut.ensures.value ∙ c.in-Some.is)
 
 pub run-requires-clause-fits : goal.run-requires-clause-fits
 run-requires-clause-fits g c =
@@ -26,6 +31,9 @@ run-requires-clause-fits g c =
 module _ (g : Over) (c : After-put_seen g) where
   in_slot : slot_at c.args.slots.now.items c.args.i ≡ Some c.in-Some.member
   in_slot = read_slot c.args.slots.now.items c.args.i _ c.requires.active _ c.index_mut.ensures.value ∙ c.in-Some.is
+
+  homes : HasHomes c.args.once.now.items c.args.i
+  homes = homes_of_slot _ _ _ c.requires.ok _ _ in_slot
 
   once_is : once_at c.args.once.now.items c.args.i ≡ c.take_seen-shared.result
   once_is = sym c.take_seen-shared.ensures.pieces
@@ -56,7 +64,7 @@ module _ (g : Over) (c : After-put_seen g) where
 
 pub returns-clause-ok : goal.returns-clause-ok
 returns-clause-ok g c =
-    rw (put_back _ _ _ _ c.run.new.shared c.take_seen-shared.ensures.left c.put_seen.ensures)
+    rw (put_back _ _ (homes g c) _ _ c.run.new.shared c.take_seen-shared.ensures.left c.put_seen.ensures)
     (ok_after_change _ _ _ _ _ _ _ _ _ c.requires.ok (in_slot g c) refl (alone g c) (now g c) (same g c) (shared g c) (written g c) (blocks g c))
 
 pub returns-clause-poisoned : goal.returns-clause-poisoned
@@ -66,7 +74,7 @@ returns-clause-poisoned g c w before =
 
 pub returns-clause-same : goal.returns-clause-same
 returns-clause-same g c =
-    rw (put_back _ _ _ _ c.run.new.shared c.take_seen-shared.ensures.left c.put_seen.ensures)
+    rw (put_back _ _ (homes g c) _ _ c.run.new.shared c.take_seen-shared.ensures.left c.put_seen.ensures)
     (tables_after_change _ _ _ _ _ _ _ _ _ c.requires.ok (in_slot g c) refl (alone g c) (now g c) (same g c) (shared g c) (written g c) (blocks g c))
 
 pub returns-clause-activity : goal.returns-clause-activity
@@ -77,8 +85,8 @@ returns-clause-activity g c k =
 
 pub returns-clause-keeps : goal.returns-clause-keeps
 returns-clause-keeps g c w histories keeps =
-    rw (put_back _ _ _ _ c.run.new.shared c.take_seen-shared.ensures.left c.put_seen.ensures)
-    (keeps_after_step _ _ _ _ _ _ _ _ _ _ c.requires.ok (in_slot g c) refl (alone g c) (now g c)
+    rw (put_back _ _ (homes g c) _ _ c.run.new.shared c.take_seen-shared.ensures.left c.put_seen.ensures)
+    (keeps_after_step _ _ _ _ _ _ _ _ _ _ c.requires.ok (in_slot g c) refl (alone g c) (now g c) (shared g c) (written g c)
     g.M.Ialg.meaning g.M.Ialg.idle_keeps g.M.Ialg.active_keeps w histories _
     (λ before. c.run.ensures.keeps w (histories c.args.i) (rw (once_is g c, group_is g c, c.in-Running.is) at before))
     keeps)

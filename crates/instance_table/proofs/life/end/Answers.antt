@@ -1,50 +1,132 @@
-use Rattle.std.proofs.Common.{◌<◌, None, sym, refl, arith}
+use Rattle.std.proofs.Common.{◌≡◌, ◌<◌, None, length, set, sym, ◌∙◌, ap, refl, arith}
 use Rattle.std.proofs.lemmas.Option.{none-some}
 use Rattle.record_loans.specs.Pieces.{SamePieces}
+use Rattle.lifecycle.specs.States.{SameOnce}
 use Rattle.instance_table.specs.declared.TheConstants.{INSTANCES}
-use Rattle.instance_table.specs.Table.{slot_at, once_at, own_of, no_pieces}
-use Rattle.instance_table.proofs.Stands.{set_there}
-use Rattle.instance_table.proofs.Changes.{slot_in, read_ok_group, fits_in_slot, own_stays, pieces_then}
-use Rattle.instance_table.proofs.Idles.{ok_after_quiet, keeps_after_end}
+use Rattle.instance_table.specs.Homes.{with_seen, SameShelves}
+use Rattle.instance_table.specs.Holders.{left_with}
+use Rattle.instance_table.specs.Table.{slot_at, once_at, own_of, no_pieces, instance_of, slot_active_in, AreHeld, AreBare}
+use Rattle.instance_table.proofs.Lent.{put_back}
+use Rattle.instance_table.proofs.Changes.{slot_in, homes_of_slot, read_ok_group, fits_in_slot, own_stays, pieces_then, shelves_then}
+use Rattle.instance_table.proofs.Sights.{Sees}
+use Rattle.instance_table.proofs.Idles.{ok_after_still, keeps_by_end}
+use Rattle.instance_table.proofs.Handing.{left_stays, without_stays}
+use Rattle.instance_table.proofs.Goings.{idle_in_any, stands_put, count_put, homes_put, left_put, held_gone, bare_gone, sees_gone}
 use Rattle.instance_table.proofs.life.end.Goals as goal
+use Rattle.instance_table.proofs.life.end.Goals.{After-hand_on}
+use Rattle.instance_table.proofs.life.end.Given.{Over}
 
-pub take_seen-shared-requires-clause-unshared : goal.take_seen-shared-requires-clause-unshared
-take_seen-shared-requires-clause-unshared g c = c.quiet.ensures.ok.unshared c.args.i
+pub take_seen-shared-requires-clause-homes : goal.take_seen-shared-requires-clause-homes
+take_seen-shared-requires-clause-homes g c = homes_of_slot _ _ _ c.quiet.ensures.ok _ _ c.take_out-g.ensures.member
 
-pub end_idle-requires : goal.end_idle-requires
-end_idle-requires g c =
+pub end_idle-own-requires-clause-idle : goal.end_idle-own-requires-clause-idle
+end_idle-own-requires-clause-idle g c k =
+    idle_in_any c.take_out-g.result.group k c.take_out-g.result.inst (ap slot_active_in (sym c.take_out-g.ensures.member) ∙ c.quiet.ensures.idle)
+
+pub end_idle-own-requires-clause-fits : goal.end_idle-own-requires-clause-fits
+end_idle-own-requires-clause-fits g c =
     let once_is = sym c.take_seen-shared.ensures.pieces in
     let group_is = read_ok_group _ _ _ c.quiet.ensures.ok _ (c.quiet.ensures.ok.group_range c.args.i _ c.take_out-g.ensures.member) _ c.index.ensures in
-    record { fits = fits_in_slot _ _ _ _ _ _ _ _ _ c.quiet.ensures.ok c.take_out-g.ensures.member c.in-Idling.is refl once_is group_is }
+    fits_in_slot _ _ _ _ _ _ _ _ _ c.quiet.ensures.ok c.take_out-g.ensures.member refl refl once_is group_is
+
+pub hand_on-requires-clause-count : goal.hand_on-requires-clause-count
+hand_on-requires-clause-count g c =
+    let at = c.take_out-g.ensures.member in
+    let i_in = slot_in c.quiet.new.slots.items c.args.i c.take_out-g.result at in
+    let inside : c.args.i < length c.quiet.new.once.items = omega (arith, i_in, c.quiet.ensures.ok.slot_count, c.quiet.ensures.ok.once_count) in
+    let put : c.put_seen.new.once.items ≡ with_seen c.quiet.new.once.items c.args.i c.end_idle-own.new.shared =
+    put_back _ _ (homes_of_slot _ _ _ c.quiet.ensures.ok _ _ at) _ _ c.end_idle-own.new.shared c.take_seen-shared.ensures.left c.put_seen.ensures in
+    let pieces : SamePieces (once_at c.quiet.new.once.items c.args.i) c.end_idle-own.new.shared = rw (← c.take_seen-shared.ensures.pieces) c.end_idle-own.ensures.shared in
+    count_put c.quiet.new.slots.items c.quiet.new.once.items c.args.i c.take_out-g.result c.end_idle-own.new.shared c.put_seen.new.once.items c.quiet.ensures.ok.held inside at pieces put
+    ∙ c.quiet.ensures.ok.once_count
+
+pub hand_on-requires-clause-homes : goal.hand_on-requires-clause-homes
+hand_on-requires-clause-homes g c =
+    let at = c.take_out-g.ensures.member in
+    let i_in = slot_in c.quiet.new.slots.items c.args.i c.take_out-g.result at in
+    let inside : c.args.i < length c.quiet.new.once.items = omega (arith, i_in, c.quiet.ensures.ok.slot_count, c.quiet.ensures.ok.once_count) in
+    let put : c.put_seen.new.once.items ≡ with_seen c.quiet.new.once.items c.args.i c.end_idle-own.new.shared =
+    put_back _ _ (homes_of_slot _ _ _ c.quiet.ensures.ok _ _ at) _ _ c.end_idle-own.new.shared c.take_seen-shared.ensures.left c.put_seen.ensures in
+    let pieces : SamePieces (once_at c.quiet.new.once.items c.args.i) c.end_idle-own.new.shared = rw (← c.take_seen-shared.ensures.pieces) c.end_idle-own.ensures.shared in
+    homes_put c.quiet.new.slots.items c.quiet.new.once.items c.args.i c.take_out-g.result c.end_idle-own.new.shared c.put_seen.new.once.items c.quiet.ensures.ok.held inside at pieces put
+
+-- the instance has been deactivated, and its pieces were put back before they were handed on
+module _ (g : Over) (c : After-hand_on g) where
+  inside : c.args.i < INSTANCES
+  inside =
+      let i_in = slot_in c.quiet.new.slots.items c.args.i c.take_out-g.result c.take_out-g.ensures.member in
+      omega (arith, i_in, c.quiet.ensures.ok.slot_count)
+
+  once_inside : c.args.i < length c.quiet.new.once.items
+  once_inside = omega (arith, inside, c.quiet.ensures.ok.once_count)
+
+  put : c.put_seen.new.once.items ≡ with_seen c.quiet.new.once.items c.args.i c.end_idle-own.new.shared
+  put = put_back _ _ (homes_of_slot _ _ _ c.quiet.ensures.ok _ _ c.take_out-g.ensures.member) _ _ c.end_idle-own.new.shared c.take_seen-shared.ensures.left c.put_seen.ensures
+
+  pieces : SamePieces (once_at c.quiet.new.once.items c.args.i) c.end_idle-own.new.shared
+  pieces = rw (← c.take_seen-shared.ensures.pieces) c.end_idle-own.ensures.shared
+
+  written : SameOnce (instance_of c.take_out-g.result.inst).table (once_at c.quiet.new.once.items c.args.i) c.end_idle-own.new.shared
+  written = rw (← c.take_seen-shared.ensures.pieces) c.end_idle-own.ensures.once
+
+  count : length c.put_seen.new.once.items ≡ INSTANCES
+  count =
+      count_put c.quiet.new.slots.items c.quiet.new.once.items c.args.i c.take_out-g.result c.end_idle-own.new.shared c.put_seen.new.once.items c.quiet.ensures.ok.held once_inside c.take_out-g.ensures.member pieces put
+      ∙ c.quiet.ensures.ok.once_count
+
+  sees : Sees c.quiet.new.slots.items c.quiet.new.once.items c.args.i no_pieces c.hand_on.new.once.items
+  sees =
+      sees_gone c.quiet.new.slots.items c.quiet.new.once.items c.args.i c.take_out-g.result c.end_idle-own.new.shared c.put_seen.new.once.items c.quiet.ensures.ok.held once_inside c.take_out-g.ensures.member pieces put
+      c.hand_on.new.once.items (c.hand_on.ensures.count ∙ sym count) c.hand_on.ensures.gone c.hand_on.ensures.handed written
+
+  held : AreHeld (set c.quiet.new.slots.items c.args.i None) c.hand_on.new.once.items
+  held =
+      held_gone c.quiet.new.slots.items c.quiet.new.once.items c.args.i c.take_out-g.result c.end_idle-own.new.shared c.put_seen.new.once.items c.quiet.ensures.ok.held once_inside c.take_out-g.ensures.member pieces put
+      c.hand_on.new.once.items (c.hand_on.ensures.count ∙ sym count) c.hand_on.ensures.gone c.hand_on.ensures.handed
+
+  bare : AreBare (set c.quiet.new.slots.items c.args.i None) c.hand_on.new.once.items
+  bare =
+      bare_gone c.quiet.new.slots.items c.quiet.new.once.items c.args.i c.take_out-g.result c.end_idle-own.new.shared c.put_seen.new.once.items c.quiet.ensures.ok.held once_inside c.take_out-g.ensures.member pieces put
+      c.hand_on.new.once.items (c.hand_on.ensures.count ∙ sym count) c.hand_on.ensures.gone c.hand_on.ensures.handed c.quiet.ensures.ok.bare
 
 pub returns-clause-ok : goal.returns-clause-ok
 returns-clause-ok g c =
-    let i_in = slot_in c.quiet.new.slots.items c.args.i c.take_out-g.result c.take_out-g.ensures.member in
-    let inside : c.args.i < INSTANCES = omega (arith, i_in, c.quiet.ensures.ok.slot_count) in
-    rw (c.take_out-g.ensures.slots, c.take_seen-shared.ensures.left)
-    (ok_after_quiet _ _ _ c.args.i None no_pieces c.quiet.ensures.ok inside c.quiet.ensures.idle refl (λ m at. absurd (none-some m at)))
+    rw c.take_out-g.ensures.slots
+    (ok_after_still _ _ _ c.args.i None no_pieces c.hand_on.new.once.items (sees g c) (held g c) (bare g c) c.quiet.ensures.ok (inside g c) c.quiet.ensures.idle refl (λ m at. absurd (none-some m at)))
+
+pub returns-clause-none : goal.returns-clause-none
+returns-clause-none g c = (sees g c).here
 
 pub returns-clause-own : goal.returns-clause-own
 returns-clause-own g c =
-    let ended : SamePieces (own_of (slot_at c.quiet.new.slots.items c.args.i)) c.end_idle.result.0 = rw (c.take_out-g.ensures.member, c.in-Idling.is) c.end_idle.ensures.own in
+    let ended : SamePieces (own_of (slot_at c.quiet.new.slots.items c.args.i)) c.end_idle-own.result = rw c.take_out-g.ensures.member c.end_idle-own.ensures.own in
     pieces_then _ _ _ (own_stays _ _ (c.quiet.ensures.same.slot c.args.i)) ended
 
 pub returns-clause-shared : goal.returns-clause-shared
 returns-clause-shared g c =
-    let ended : SamePieces (once_at c.quiet.new.once.items c.args.i) c.end_idle.result.1 = rw (← c.take_seen-shared.ensures.pieces) c.end_idle.ensures.shared in
-    pieces_then _ _ _ (c.quiet.ensures.same.pieces c.args.i) ended
+    let rested : SamePieces (left_with c.args.once.now.items c.args.i) (left_with c.quiet.new.once.items c.args.i) =
+    left_stays c.args.once.now.items c.quiet.new.once.items c.args.i (c.requires.ok.once_count ∙ sym c.quiet.ensures.ok.once_count) c.quiet.ensures.same.stands in
+    let ended : SamePieces (left_with c.quiet.new.once.items c.args.i) (left_with c.put_seen.new.once.items c.args.i) =
+    left_put c.quiet.new.slots.items c.quiet.new.once.items c.args.i c.take_out-g.result c.end_idle-own.new.shared c.put_seen.new.once.items c.quiet.ensures.ok.held (once_inside g c) c.take_out-g.ensures.member (pieces g c) (put g c) in
+    rw c.hand_on.ensures.left (pieces_then _ _ _ rested ended)
 
 pub returns-clause-others : goal.returns-clause-others
 returns-clause-others g c = record {
   slot = λ j apart. rw (c.take_out-g.ensures.others j apart) (c.quiet.ensures.same.slot j);
-  pieces = λ j apart. rw (c.take_seen-shared.ensures.left, set_there c.quiet.new.once.items c.args.i j _ (c.quiet.ensures.ok.unshared j) apart) (c.quiet.ensures.same.pieces j);
+  pieces = λ j apart. pieces_then _ _ _ (c.quiet.ensures.same.pieces j) ((sees g c).others j apart);
   blocks = c.quiet.ensures.same.blocks;
 }
 
+pub returns-clause-handed : goal.returns-clause-handed
+returns-clause-handed g c j k =
+    let ended : SameShelves c.quiet.new.once.items c.put_seen.new.once.items =
+    stands_put c.quiet.new.slots.items c.quiet.new.once.items c.args.i c.take_out-g.result c.end_idle-own.new.shared c.put_seen.new.once.items c.quiet.ensures.ok.held (once_inside g c) c.take_out-g.ensures.member (pieces g c) (put g c) in
+    rw (c.hand_on.ensures.handed j k)
+    (without_stays c.args.once.now.items c.put_seen.new.once.items c.args.i k j (c.requires.ok.once_count ∙ sym (count g c))
+    (shelves_then c.args.once.now.items c.quiet.new.once.items c.put_seen.new.once.items c.quiet.ensures.same.stands ended))
+
 pub returns-clause-keeps : goal.returns-clause-keeps
 returns-clause-keeps g c histories keeps =
-    let i_in = slot_in c.quiet.new.slots.items c.args.i c.take_out-g.result c.take_out-g.ensures.member in
-    let inside : c.args.i < INSTANCES = omega (arith, i_in, c.quiet.ensures.ok.slot_count) in
-    rw (c.take_out-g.ensures.slots, c.take_seen-shared.ensures.left)
-    (keeps_after_end _ _ _ _ c.args.i None no_pieces c.quiet.ensures.ok inside c.quiet.ensures.idle refl
+    rw c.take_out-g.ensures.slots
+    (keeps_by_end _ _ _ _ c.args.i None no_pieces c.quiet.ensures.ok (inside g c) c.quiet.ensures.idle refl c.hand_on.new.once.items (sees g c)
     g.M.Ialg.meaning g.M.Ialg.idle_keeps g.M.Ialg.active_keeps c.args.poison histories tt (c.quiet.ensures.keeps histories keeps))

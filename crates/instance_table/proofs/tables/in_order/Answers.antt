@@ -1,7 +1,11 @@
-use Rattle.std.proofs.Common.{ap, sym, ◌∙◌}
+use Rattle.std.proofs.Common.{◌≡◌, None, ap, sym, ◌∙◌}
 use Rattle.std.proofs.lemmas.Option.{none-some}
+use Rattle.instance_table.specs.declared.shelves.Stand.TheVariants.{Here, With}
+use Rattle.instance_table.specs.declared.shelves.Shelf.{Shelf}
+use Rattle.instance_table.specs.Shelves.{stand_at}
 use Rattle.instance_table.specs.Table.{slot_active_in, group_at, Activity}
 use Rattle.instance_table.proofs.Housing.{none_poisoned}
+use Rattle.instance_table.proofs.Lent.{no_stand}
 use Rattle.instance_table.proofs.tables.in_order.Goals as goal
 
 pub returns-clause-ok : goal.returns-clause-ok
@@ -9,7 +13,10 @@ returns-clause-ok g c = record {
   slot_count = c.requires.slots;
   once_count = c.requires.once;
   group_count = c.requires.groups;
-  unshared = c.requires.unshared;
+  held = λ i k home is.
+      let both : Here None ≡ With home = sym (ap (λ (s : Shelf). stand_at s k) (c.requires.bare i) ∙ no_stand k) ∙ is in
+      cc;
+  bare = λ i none. c.requires.bare i;
   group_range = λ i m at. absurd (none-some m (sym (c.requires.empty i) ∙ at));
   housed = λ i m at. absurd (none-some m (sym (c.requires.empty i) ∙ at));
   active_there = λ k i below at. absurd (none-some i (sym (ap (λ (a : Activity). a.active) (c.requires.untouched k)) ∙ at));

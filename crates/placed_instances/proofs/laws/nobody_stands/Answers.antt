@@ -1,5 +1,8 @@
-use Rattle.placed_instances.proofs.Maps.{empty, no_block}
+use Rattle.placed_instances.proofs.Maps.{empty, no_block, standing_start}
 use Rattle.placed_instances.proofs.laws.nobody_stands.Goals as goal
+
+pub returns-clause-start : goal.returns-clause-start
+returns-clause-start g c slots once groups spaces nobody bare none empty = standing_start slots once groups spaces nobody bare none empty
 
 pub returns-clause-end : goal.returns-clause-end
 returns-clause-end g c = λ slots once groups spaces nobody standing. (

@@ -1,7 +1,7 @@
 use Rattle.std.proofs.Common.{sym, ap, ◌∙◌, arith}
 use Rattle.std.proofs.lemmas.Option.{same_Some}
 use Rattle.space_blocks.specs.declared.placed.Placed.{Placed}
-use Rattle.instance_table.proofs.Changes.{slot_in}
+use Rattle.instance_table.proofs.Changes.{slot_in, homes_of_slot}
 use Rattle.placed_instances.proofs.Nexts.{next_record}
 use Rattle.placed_instances.proofs.BlockMoves.{record_number, own_there, group_number}
 use Rattle.placed_instances.proofs.moves.make_next_move.Goals as goal
@@ -17,8 +17,10 @@ sees-requires-clause-record g c =
     record_number c.args.slots.now.items c.args.once.now.items c.args.spaces.now c.args.space c.in-Record.i c.in-Record.k
     (next_record _ _ _ c.args.spaces.now c.args.space c.in-Record.i c.in-Record.k c.requires.standing (c.in-Some.block, (sym c.next_move.ensures.value ∙ c.in-Some.is, c.in-Record.is)))
 
-pub sees-requires-clause-unshared : goal.sees-requires-clause-unshared
-sees-requires-clause-unshared g c = c.requires.ok.unshared c.in-Record.i
+pub sees-requires-clause-homes : goal.sees-requires-clause-homes
+sees-requires-clause-homes g c =
+    let its = next_record _ _ _ c.args.spaces.now c.args.space c.in-Record.i c.in-Record.k c.requires.standing (c.in-Some.block, (sym c.next_move.ensures.value ∙ c.in-Some.is, c.in-Record.is)) in
+    homes_of_slot _ _ _ c.requires.ok c.in-Record.i its.member its.there
 
 pub move_own-requires-clause-own : goal.move_own-requires-clause-own
 move_own-requires-clause-own g c =

@@ -1,7 +1,7 @@
 use Rattle.host_spaces.specs.Picture.{blocks_in, picture_of}
 use Rattle.table_moves.proofs.Seen.{words_seen}
 use Rattle.placed_instances.proofs.Homes.{standing_stays}
-use Rattle.placed_instances.proofs.OwnMoves.{next_is, region_is, range_is, living_away, can_come_back, told_others, room_back, stands_back, kinds_back, words_back, then_same, same_sizes, words_copied}
+use Rattle.placed_instances.proofs.OwnMoves.{next_is, region_is, range_is, living_away, can_come_back, told_others, tables_away, room_back, stands_back, kinds_back, words_back, then_same, same_sizes, words_copied}
 use Rattle.placed_instances.proofs.moves.move_own.Goals as goal
 
 pub make_move-moved-requires-clause-region : goal.make_move-moved-requires-clause-region
@@ -20,9 +20,9 @@ pub tell-requires-clause-back : goal.tell-requires-clause-back
 tell-requires-clause-back g c =
     rw c.take_own-piece.ensures.left (can_come_back _ _ _ _ _ c.args.i c.args.k _ c.requires.ok c.requires.standing c.requires.next c.take_own-piece.ensures.piece)
 
-pub tell-requires-clause-others : goal.tell-requires-clause-others
-tell-requires-clause-others g c =
-    rw c.take_own-piece.ensures.left (told_others _ _ _ _ _ c.args.i c.args.k _ c.requires.ok c.requires.standing c.requires.next c.take_own-piece.ensures.piece)
+pub tell-requires-clause-there : goal.tell-requires-clause-there
+tell-requires-clause-there g c =
+    rw c.take_own-piece.ensures.left (tables_away _ _ _ _ _ c.args.i c.args.k _ c.requires.ok c.requires.standing c.requires.next c.take_own-piece.ensures.piece)
 
 pub tell-requires-clause-room : goal.tell-requires-clause-room
 tell-requires-clause-room g c =
@@ -45,7 +45,7 @@ returns g c =
     c.make_move-moved.ensures.owned c.make_move-moved.ensures.others c.make_move-moved.ensures.elsewhere c.make_move-moved.ensures.regions
     c.make_move-moved.ensures.words.0 c.make_move-moved.ensures.words.1 in
     record {
-      ok = c.tell.ensures.ok;
+      ok = c.tell.ensures.ok (rw c.take_own-piece.ensures.left (told_others _ _ _ _ _ c.args.i c.args.k _ c.requires.ok c.requires.standing c.requires.next c.take_own-piece.ensures.piece));
       standing = standing_stays _ _ _ _ _ _ _ same stands;
       poisoned = c.tell.ensures.poisoned;
       same = then_same _ _ _ _ _ _ _ kinds same;

@@ -1,11 +1,18 @@
-use Rattle.std.proofs.Common.{None, set, ◌∙◌, ap}
+use Rattle.std.proofs.Common.{List, None, ap, sym, subst, ◌∙◌}
 use Rattle.record_loans.specs.declared.pieces.Pieces.{Pieces}
 use Rattle.record_loans.specs.Pieces.{with_piece}
-use Rattle.instance_table.specs.Shelves.{shelf_of}
-use Rattle.instance_table.proofs.Stands.{put_back}
+use Rattle.instance_table.specs.declared.shelves.Shelf.{Shelf}
+use Rattle.instance_table.specs.Homes.{HasHomes, with_seen}
+use Rattle.instance_table.proofs.Homes.{homes_lent}
+use Rattle.instance_table.proofs.Lent.{put_back}
 use Rattle.table_moves.proofs.records.take_once.Goals as goal
 
 pub returns-clause-left : goal.returns-clause-left
 returns-clause-left c =
-    put_back _ _ _ _ c.take_out-piece.new.self c.take_seen-pieces.ensures.left c.put_seen.ensures
-    ∙ ap (λ (o : Pieces). set c.args.once.now.items c.args.i (shelf_of o)) (c.take_out-piece.ensures.left ∙ ap (λ (o : Pieces). with_piece o c.args.k None) c.take_seen-pieces.ensures.pieces)
+    put_back _ _ c.requires.homes _ _ c.take_out-piece.new.self c.take_seen-pieces.ensures.left c.put_seen.ensures
+    ∙ ap (λ (o : Pieces). with_seen c.args.once.now.items c.args.i o) (c.take_out-piece.ensures.left ∙ ap (λ (o : Pieces). with_piece o c.args.k None) c.take_seen-pieces.ensures.pieces)
+
+pub returns-clause-homes : goal.returns-clause-homes
+returns-clause-homes c =
+    subst (λ (l : List Shelf). HasHomes l c.args.i) (sym (put_back _ _ c.requires.homes _ _ c.take_out-piece.new.self c.take_seen-pieces.ensures.left c.put_seen.ensures))
+    (homes_lent c.args.once.now.items c.args.i c.requires.homes c.take_out-piece.new.self)

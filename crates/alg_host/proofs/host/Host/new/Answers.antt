@@ -7,7 +7,7 @@ invariant_of-result g c =
     let tables = c.in_ok-spaces.field-0.tables in
     record {
       ok = c.in_order.ensures.ok;
-      standing = c.nobody_stands.ensures.start _ _ _ _ tables.empty tables.no_once tables.no_blocks c.of-spaces.ensures.picture;
+      standing = c.nobody_stands.ensures.start _ _ _ _ tables.empty tables.bare tables.no_blocks c.of-spaces.ensures.picture;
       poisoned = c.in_order.ensures.poisoned c.args.poison;
     }
 
