@@ -85,7 +85,7 @@ impl Filter for Biquad {
         }
     }
 
-    ghost one = { λ a b e i. a };
+    ghost one = { λ a b i. a };
 
     ghost rests_words = { λ p h kept rests. rests.history };
 

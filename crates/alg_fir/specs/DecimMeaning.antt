@@ -39,11 +39,13 @@ decim_accepts Get = true
 -- lawful for all parameters; the one write-once record has the parameters
 abbrev pub decim_meaning : Meaning Decim
 decim_meaning = record {
+  same = λ a b. true;
   bound = λ _. DECIM_RECORDS;
   table = λ _ p. decim_table p;
   fill = λ _ p k. p;
   gives = λ _ p h. decim_gives p h;
   accepts = λ _ p c. decim_accepts c;
   got = λ _ p h. pos (phase p h) ∷ [];
+  declares = λ _ p. true;
   lawful = λ _ p w. true;
 }

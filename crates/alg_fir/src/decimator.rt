@@ -105,6 +105,8 @@ impl Ialg for Decim {
 
     ghost same = { λ a b e i. a };
 
+    ghost compared = { λ a b i. true };
+
     ghost idle_words = { λ _ p rs wss h idle. idle.keeps.history };
 
     ghost active_words = { λ _ p rs wss h active. active.keeps.history };

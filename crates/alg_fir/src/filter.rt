@@ -104,7 +104,7 @@ impl Filter for Fir {
         }
     }
 
-    ghost one = { λ a b e i. a };
+    ghost one = { λ a b i. a };
 
     ghost rests_words = { λ p h kept rests. rests.history };
 

@@ -87,11 +87,13 @@ is_accepted Get = true
 -- lawful for all parameters; the answer to `get` is the parameters
 abbrev pub g711_meaning : Meaning G711
 g711_meaning = record {
+  same = λ a b. true;
   bound = λ _. CODER_RECORDS;
   table = λ _ p. table_of (coder_named p);
   fill = λ _ p k. fill_of (coder_named p) k;
   gives = λ _ p h. given_by (coder_named p) h;
   accepts = λ _ p c. is_accepted c;
   got = λ _ p h. p;
+  declares = λ _ p. true;
   lawful = λ _ p w. true;
 }

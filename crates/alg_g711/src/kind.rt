@@ -96,6 +96,8 @@ impl Ialg for G711 {
 
     ghost same = { λ a b e i. a };
 
+    ghost compared = { λ a b i. true };
+
     ghost idle_words = { λ _ p rs wss h keeps. keeps.history };
 
     ghost active_words = { λ _ p rs wss h keeps. keeps.history };

@@ -37,12 +37,14 @@ filter_table (Some m) = Some (filter_records m)
 -- a filter is lawful for all parameters
 abbrev pub meaning_of : {M : Type 0} → FilterMeaning → Meaning M
 meaning_of filter = record {
+  same = λ a b. true;
   bound = λ _. FILTER_RECORDS;
   table = λ _ p. filter_table (filter.memory p);
   fill = λ _ p k. [];
   gives = λ _ p h. filter.gives p h;
   accepts = λ _ p c. filter.accepts p c;
   got = λ _ p h. filter.got p h;
+  declares = λ _ p. true;
   lawful = λ _ p w. true;
 }
 

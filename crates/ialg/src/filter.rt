@@ -88,8 +88,8 @@ pub trait Filter: Copy + Eq {
         ensures history { (p : List ℤ) (h : History) → runs p h kept.now running.now
             → runs p (Control Get ∷ h) kept.now running.now };
 
-    // equal filters are one filter
-    ghost one: { (a b : Self) → ⟦<Self as PartialEq>⟧.eq a b ≡ true → a ≡ b };
+    // a filter is a type of one value
+    ghost one: { (a b : Self) → a ≡ b };
 
     // what is kept is a history of 16-bit samples and words
     ghost rests_words: { (p : List ℤ) (h : History) (kept : List ℤ) → rests p h kept → IsWordHistory h };

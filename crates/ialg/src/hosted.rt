@@ -118,7 +118,9 @@ impl<K: Filter> Ialg for K {
         mem.table.copied()
     }
 
-    ghost same = { K.one };
+    ghost same = { λ a b e. K.one a b };
+
+    ghost compared = { λ a b. ap (λ x. ⟦<K as PartialEq>⟧.eq x b) (K.one a b) ∙ K.Eq.laws.refl b };
 
     ghost idle_words = { λ _ p rs wss h keeps. K.rests_words p h _ keeps.keeps };
 

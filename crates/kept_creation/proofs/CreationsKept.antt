@@ -1,6 +1,6 @@
 -- What a creation leaves is kept.
 use Rattle.std.proofs.Common.{◌≡◌, ℕ, ℤ, ◌+◌, ◌-◌, ◌^◌, min, inl, inr, Bool, true, is_some, cond, IsTrue, List, [], Option, Some, None, Result, refl, sym, ◌∙◌, ap, subst}
-use Rattle.std.proofs.lemmas.Bool.{true≢false}
+use Rattle.std.proofs.lemmas.Bool.{or_left, true≢false}
 use Rattle.std.proofs.lemmas.Option.{none-some}
 use Rattle.std.proofs.lemmas.Bool.Decides.{eqb_tells}
 use Rattle.mem_rec.specs.declared.MemRec.{MemRec}
@@ -54,7 +54,7 @@ pub asks : {M : Type 0} (meaning : Meaning M) (w : Option ℤ) (kind : M) (p q :
     → (IsTrue (meaning.lawful kind p w) → unplaced table ≡ table) → IsTrue (meaning.lawful kind q w) → meaning.table kind q ≡ Some (unplaced table)
 asks meaning w kind p q table same asked without lawful =
     let its = subst (λ (xs : List ℤ). IsTrue (meaning.lawful kind xs w)) same lawful in
-    ap (meaning.table kind) same ∙ sym (asked.lawful its) ∙ ap Some (sym (without its))
+    ap (meaning.table kind) same ∙ sym (asked.told (or_left (meaning.lawful kind p w) (meaning.declares kind p) its)) ∙ ap Some (sym (without its))
 
 module _ {M : Type 0} (meaning : Meaning M) (idle_keeps active_keeps : Relation M) (slots : List (Option (Member M))) (once : List Shelf) (groups : List Group) (spaces : Spaces) (before : State M)
     (kept : HostKeeps meaning idle_keeps active_keeps slots once groups spaces before) (i g : ℕ) (kind : M) (p : List ℤ) (table : List MemRec) where

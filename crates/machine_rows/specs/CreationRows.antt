@@ -1,9 +1,11 @@
 -- Worked rows: which blocks a creation places and replaces, for kinds that ask for any memory.
-use Rattle.std.specs.Prelude.{ℕ, true, false, pos, List, [], ◌∷◌, length, Some}
+use Rattle.std.specs.Prelude.{ℕ, Bool, true, false, ◌==◌, ◌&&◌, pos, List, [], ◌∷◌, length, Some}
 use Rattle.mem_rec.specs.declared.MemRec.{MemRec}
 use Rattle.mem_rec.specs.declared.Space.{Space}
 use Rattle.mem_rec.specs.declared.Space.TheVariants.{Daram, Saram, External}
+use Rattle.mem_rec.specs.declared.Attr.{Attr}
 use Rattle.mem_rec.specs.declared.Attr.TheVariants.{Scratch, Persist, WriteOnce}
+use Rattle.mem_rec.specs.Records.{same_space}
 use Rattle.ialg.specs.declared.refusal.Refusal.TheVariants.{Room}
 use Rattle.ialg.specs.History.{word_at, samples_since_reset}
 use Rattle.ialg.specs.Meaning.{Meaning}
@@ -16,14 +18,30 @@ use Rattle.machine_rows.specs.Calls.{full, done, refused, active, resting, recor
 abbrev pub Shape : Type 0
 Shape = List MemRec
 
+abbrev pub same_attr : Attr → Attr → Bool
+same_attr Scratch Scratch = true
+same_attr Persist Persist = true
+same_attr WriteOnce WriteOnce = true
+same_attr _ _ = false
+
+abbrev pub same_record : MemRec → MemRec → Bool
+same_record r s = r.size == s.size && r.align == s.align && same_space r.space s.space && same_attr r.attr s.attr && r.base == s.base
+
+abbrev pub same_shape : Shape → Shape → Bool
+same_shape [] [] = true
+same_shape (r ∷ rs) (s ∷ ss) = same_record r s && same_shape rs ss
+same_shape _ _ = false
+
 abbrev pub shapes : Meaning Shape
 shapes = record {
+  same = same_shape;
   bound = λ shape. length shape;
   table = λ shape p. Some shape;
   fill = λ shape p k. [];
   gives = λ shape p h. word_at (samples_since_reset h) 0 ∷ [];
   accepts = λ shape p c. true;
   got = λ shape p h. [];
+  declares = λ shape p. true;
   lawful = λ shape p w. true;
 }
 

@@ -20,6 +20,7 @@ use Rattle.host_spaces.specs.declared.wants.Wanted.{Wanted}
 use Rattle.host_spaces.specs.Picture.{Picture, blocks_in, place_in, put_block, words_in}
 use Rattle.host_spaces.specs.Creation.{all_placed, created_picture, goes_on, result_map, wanted_by, without_replaced}
 use Rattle.sound_machine.specs.State.{Living, State, is_group_number, is_instance_number}
+use Rattle.sound_machine.specs.Choices.{tells_memory}
 use Rattle.sound_machine.specs.Steps as steps
 use Rattle.sound_machine.specs.Steps.{create, newborn, with_memory, with_room}
 use Rattle.sound_machine.specs.Calls as host_calls
@@ -164,7 +165,7 @@ is_none_then None e = refl
 is_none_then (Some x) e = cc
 
 module _ {M : Type 0} (kinds : Meaning M) (before after : State M) (i g : ℕ) (kind : M) (p : List ℤ) (answer : Result (Unit {0}) Refusal) (space : Space)
-    (does : host_calls.Creates kinds before i kind g p answer after) (lawful : IsTrue (kinds.lawful kind p before.poison)) where
+    (does : host_calls.Creates kinds before i kind g p answer after) (known : IsTrue (tells_memory kinds before.poison kind p)) where
   lacks : answer ≡ Err (Room space) → LacksRoom kinds before i kind g p space
   lacks e =
       let w = wants before after i (newborn kind g p) space (is_instance_number i && is_group_number g) (is_some (before.living i)) does.table
@@ -175,7 +176,7 @@ module _ {M : Type 0} (kinds : Meaning M) (before after : State M) (i g : ℕ) (
         group = ltb-true g GROUPS both.1;
         absent = is_none_then (before.living i) w.absent;
         table = w.unmet.records;
-        asked = sym (does.asked.lawful lawful) ∙ w.unmet.asked;
+        asked = sym (does.asked.told known) ∙ w.unmet.asked;
         short = falls before.sizes space (wanted_by before.picture i g w.unmet.records) before.picture
             (mapped before.sizes space (without_replaced before.picture g w.unmet.records) (all_placed before.sizes before.picture (wanted_by before.picture i g w.unmet.records)) w.unmet.short);
       }
@@ -183,7 +184,7 @@ module _ {M : Type 0} (kinds : Meaning M) (before after : State M) (i g : ℕ) (
   refused : LacksRoom kinds before i kind g p space → answer ≡ Err (Room space)
   refused l =
       let short = ap (result_map (without_replaced before.picture g l.table)) (unplaced before.sizes space (wanted_by before.picture i g l.table) before.picture l.short) in
-      ap (λ o. o.0) (does.outcome ∙ ap (λ t. create before i kind g p t) (does.asked.lawful lawful ∙ l.asked)
+      ap (λ o. o.0) (does.outcome ∙ ap (λ t. create before i kind g p t) (does.asked.told known ∙ l.asked)
       ∙ create_room before i g kind p l.table space l.number l.group l.absent short)
 
   pub exactly : (answer ≡ Err (Room space)) ↔ LacksRoom kinds before i kind g p space

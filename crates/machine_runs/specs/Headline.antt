@@ -6,6 +6,7 @@ use Rattle.ialg.specs.declared.refusal.Refusal.TheVariants.{Room}
 use Rattle.ialg.specs.Meaning.{Meaning}
 use Rattle.host_spaces.specs.declared.spaces.Sizes.{Sizes}
 use Rattle.sound_machine.specs.State.{State}
+use Rattle.sound_machine.specs.Choices.{tells_memory}
 use Rattle.sound_machine.specs.Calls as host_calls
 use Rattle.sound_machine.specs.Calls.Call.{Create}
 use Rattle.channel_machine.specs.Channels.{Channels}
@@ -23,9 +24,9 @@ use Rattle.machine_runs.specs.Room.{IsCreation, LacksRoom}
 pub record Refuses {M : Type 0} (kinds : Meaning M) (named : List ℕ → Option M) (widths : Widths) : Type 0 where
   -- only creation is refused for space,
   pub only : (before after : Channels M) (call : Call M) (space : Space) → Does kinds before call after → refusal_of call ≡ Some (Room space) → IsCreation call
-  -- exactly where no place is free,
+  -- exactly where no place is free, of what a lawful kind asks for and of what any other kind declares,
   pub exactly : (before after : State M) (i g : ℕ) (kind : M) (p : List ℤ) (answer : Result (Unit {0}) Refusal) (space : Space)
-      → host_calls.Does kinds before (Create i kind g p answer) after → IsTrue (kinds.lawful kind p before.poison)
+      → host_calls.Does kinds before (Create i kind g p answer) after → IsTrue (tells_memory kinds before.poison kind p)
       → (answer ≡ Err (Room space)) ↔ LacksRoom kinds before i kind g p space
   -- and a refused command changes nothing: no call that is refused,
   pub nothing : (before after : Channels M) (call : Call M) (refusal : Refusal) → Does kinds before call after → refusal_of call ≡ Some refusal → after ≡ before

@@ -5,6 +5,7 @@ ghost use Rattle.ialg.specs.declared.refusal.Refusal.{Refusal};
 ghost use Rattle.ialg.specs.declared.refusal.Refusal.TheVariants.{Room};
 ghost use Rattle.ialg.specs.Meaning.{Meaning};
 ghost use Rattle.sound_machine.specs.State.{State};
+ghost use Rattle.sound_machine.specs.Choices.{tells_memory};
 ghost use Rattle.sound_machine.specs.Calls as host_calls;
 ghost use Rattle.sound_machine.specs.Calls.Call.{Create, Process};
 ghost use Rattle.sound_machine.specs.Runs.{history_of_run, outputs_in, statuses_in};
@@ -66,13 +67,13 @@ pub fn refused_lines_change_nothing<M>()
     channel_machine::refused_calls_change_nothing::<M>();
 }
 
-/// The law that only a creation is refused for want of room; and that the creation of a lawful kind is refused so exactly where, of the
-/// blocks that it needs, one has no free place. The call does nothing.
+/// The law that only a creation is refused for want of room; and that the creation of a kind that is lawful, or that declares its
+/// memory, is refused so exactly where, of the blocks that it needs, one has no free place. The call does nothing.
 pub fn creations_alone_lack_room<M>()
     ensures only { (kinds : Meaning M) (before after : Channels M) (call : Call M) (space : Space)
         → Does kinds before call after → refusal_of call ≡ Some (Room space) → IsCreation call }
     ensures exactly { (kinds : Meaning M) (before after : State M) (i g : ℕ) (kind : M) (p : List ℤ) (answer : Result (Unit {0}) Refusal) (space : Space)
-        → host_calls.Does kinds before (Create i kind g p answer) after → IsTrue (kinds.lawful kind p before.poison)
+        → host_calls.Does kinds before (Create i kind g p answer) after → IsTrue (tells_memory kinds before.poison kind p)
         → (answer ≡ Err (Room space)) ↔ LacksRoom kinds before i kind g p space }
 {
     sound_machine::only_creations_lack_room::<M>();

@@ -79,8 +79,8 @@ impl Ialg for Mixed {
         ensures unplaced { (w : Option ℤ) → IsTrue (mixed_meaning.lawful self.now p.now.items w)
             → IfSome result (λ t. unplaced t ≡ t) }
 
-        // What a rogue asks for.
-        ensures rogue { is_voice self.now ≡ false → result ≡ rogue_table p.now.items }
+        // What a rogue asks for too.
+        ensures declared { IsTrue (mixed_meaning.declares self.now p.now.items) → result ≡ mixed_meaning.table self.now p.now.items }
     {
         match self {
             Mixed::Lawful(voice) => voice.alg_alloc(p),
@@ -187,6 +187,8 @@ impl Ialg for Mixed {
     }
 
     ghost same = { Prim.search (comparing, rules) };
+
+    ghost compared = { Prim.search (comparing, rules) };
 
     ghost idle_words = { idle_words };
 

@@ -1,5 +1,5 @@
 -- A lawful kind, and one that keeps no law.
-use Rattle.std.specs.Prelude.{ℤ, false, List, [], None}
+use Rattle.std.specs.Prelude.{ℤ, Bool, true, false, List, [], None}
 use Rattle.mem_rec.specs.declared.MemRec.{MemRec}
 use Rattle.ialg.specs.History.{History, IsWordHistory}
 use Rattle.ialg.specs.Records.{HoldFill}
@@ -13,32 +13,44 @@ use Rattle.scribbler.specs.declared.kind.Trial.TheVariants.{Lawful, Scribbler}
 -- what a voice means, and nothing, which is never lawful
 abbrev pub meaning_by : Trial → Meaning Trial
 meaning_by (Lawful voice) = record {
+  same = λ a b. true;
   bound = λ _. voice_meaning.bound voice;
   table = λ _ p. voice_meaning.table voice p;
   fill = λ _ p k. voice_meaning.fill voice p k;
   gives = λ _ p h. voice_meaning.gives voice p h;
   accepts = λ _ p c. voice_meaning.accepts voice p c;
   got = λ _ p h. voice_meaning.got voice p h;
+  declares = λ _ p. voice_meaning.declares voice p;
   lawful = λ _ p w. voice_meaning.lawful voice p w;
 }
 meaning_by Scribbler = record {
+  same = λ a b. true;
   bound = λ _. 0;
   table = λ _ p. None;
   fill = λ _ p k. [];
   gives = λ _ p h. [];
   accepts = λ _ p c. false;
   got = λ _ p h. [];
+  declares = λ _ p. false;
   lawful = λ _ p w. false;
 }
 
+abbrev pub same_trial : Trial → Trial → Bool
+same_trial (Lawful a) (Lawful b) = voice_meaning.same a b
+same_trial (Lawful a) Scribbler = false
+same_trial Scribbler (Lawful b) = false
+same_trial Scribbler Scribbler = true
+
 abbrev pub trial_meaning : Meaning Trial
 trial_meaning = record {
+  same = same_trial;
   bound = λ t. (meaning_by t).bound t;
   table = λ t p. (meaning_by t).table t p;
   fill = λ t p k. (meaning_by t).fill t p k;
   gives = λ t p h. (meaning_by t).gives t p h;
   accepts = λ t p c. (meaning_by t).accepts t p c;
   got = λ t p h. (meaning_by t).got t p h;
+  declares = λ t p. (meaning_by t).declares t p;
   lawful = λ t p w. (meaning_by t).lawful t p w;
 }
 

@@ -109,6 +109,8 @@ impl Ialg for Trial {
 
     ghost same = { Prim.search (comparing, rules) };
 
+    ghost compared = { Prim.search (comparing, rules) };
+
     ghost idle_words = { idle_words };
 
     ghost active_words = { active_words };

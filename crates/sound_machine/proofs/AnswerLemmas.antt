@@ -1,6 +1,7 @@
 -- A lawful kind leaves nothing free.
 use Rattle.std.proofs.Common.{◌≡◌, ℕ, ℤ, Bool, true, false, List, [], ◌∷◌, ◌++◌, length, drop, Option, Some, None, refl, ap, sym, ◌∙◌, subst}
 use Rattle.std.proofs.Math.Seq.{drop-append_seam}
+use Rattle.std.proofs.lemmas.Bool.{or_left}
 use Rattle.std.specs.Prelude.{not, is_some, is_none, IfSome}
 use Rattle.host_spaces.specs.Picture.{blocks_in}
 use Rattle.ialg.specs.declared.refusal.Refusal.TheVariants.{Range, Missing, Command}
@@ -61,7 +62,7 @@ module _ {M : Type 0} (kinds : Meaning M) (before after : State M) where
   pub computed : (call : Call M) → Does kinds before call after → IsLawfulCall kinds before call → (call, after) ≡ answered kinds before call
   computed (Create i kind g p answer) does lawful =
       with_answer (λ a. Create i kind g p a) answer after (create before i kind g p (kinds.table kind p))
-      (does.outcome ∙ ap (λ t. create before i kind g p t) (does.asked.lawful lawful))
+      (does.outcome ∙ ap (λ t. create before i kind g p t) (does.asked.told (or_left (kinds.lawful kind p before.poison) (kinds.declares kind p) lawful)))
   computed (Control i c answer) does lawful =
       with_answer (λ a. Control i c a) answer after (control before i c (accepted kinds (before.living i) c) (status_at kinds (before.living i) c))
       (does.outcome ∙ control_answered i c does.taken does.status (before.living i) refl does.answers lawful)

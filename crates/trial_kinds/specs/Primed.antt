@@ -37,12 +37,14 @@ primed_accepts Get = true
 
 abbrev pub primed_meaning : Meaning Primed
 primed_meaning = record {
+  same = λ a b. true;
   bound = λ _. PRIMED_RECORDS;
   table = λ _ p. if length p == PRIMED_PARAMETERS then Some primed_records else None;
   fill = λ _ p k. primed_fill p k;
   gives = λ _ p h. [];
   accepts = λ _ p c. primed_accepts c;
   got = λ _ p h. take 1 p ++ p;
+  declares = λ _ p. true;
   lawful = λ _ p w. is_primed p w;
 }
 

@@ -41,12 +41,14 @@ slicer_accepts Get = true
 
 abbrev pub slicer_meaning : Meaning Slicer
 slicer_meaning = record {
+  same = λ a b. true;
   bound = λ _. SLICER_RECORDS;
   table = λ _ p. if length p == LEVELS then Some slicer_records else None;
   fill = λ _ p k. slicer_fill p k;
   gives = λ _ p h. slicer_gives p h;
   accepts = λ _ p c. slicer_accepts c;
   got = λ _ p h. p;
+  declares = λ _ p. true;
   lawful = λ _ p w. true;
 }
 

@@ -77,6 +77,8 @@ impl Ialg for Primed {
 
     ghost same = { λ a b e i. a };
 
+    ghost compared = { λ a b i. true };
+
     ghost idle_words = { λ _ p rs wss h keeps. keeps.history };
 
     ghost active_words = { λ _ p rs wss h keeps. keeps.idle.history };

@@ -34,6 +34,8 @@ impl Ialg for Slicer {
 
     ghost same = { λ a b e i. a };
 
+    ghost compared = { λ a b i. true };
+
     ghost idle_keeps = { λ _ p rs wss h. HoldsLevels p rs wss h };
 
     ghost active_keeps = { λ _ p rs wss h. SpreadsLevels p rs wss h };

@@ -1,5 +1,5 @@
 -- The hosted kinds as one: what each means, and its name.
-use Rattle.std.specs.Prelude.{ℕ, List, Option, Some, None, bytes_eq, codes, if◌then◌else◌}
+use Rattle.std.specs.Prelude.{ℕ, Bool, true, ◌==◌, List, Option, Some, None, bytes_eq, codes, if◌then◌else◌}
 use Rattle.ialg.specs.Meaning.{Meaning}
 use Rattle.alg_fir.specs.Meaning.{fir_meaning}
 use Rattle.alg_fir.specs.DecimMeaning.{decim_meaning}
@@ -12,12 +12,14 @@ use Rattle.voice_set.specs.declared.voice.Voice.TheVariants.{Fir, Decim, Biquad,
 -- what this kind means, whichever voice it is
 abbrev pub meaning_as : {K : Type 0} → K → Meaning K → Meaning Voice
 meaning_as kind kinds = record {
+  same = λ a b. true;
   bound = λ _. kinds.bound kind;
   table = λ _ p. kinds.table kind p;
   fill = λ _ p k. kinds.fill kind p k;
   gives = λ _ p h. kinds.gives kind p h;
   accepts = λ _ p c. kinds.accepts kind p c;
   got = λ _ p h. kinds.got kind p h;
+  declares = λ _ p. kinds.declares kind p;
   lawful = λ _ p w. kinds.lawful kind p w;
 }
 
@@ -29,14 +31,27 @@ meaning_by Biquad = meaning_as (record {}) biquad_meaning
 meaning_by Tone = meaning_as (record {}) tone_meaning
 meaning_by G711 = meaning_as (record {}) g711_meaning
 
+-- the place of a voice among the hosted kinds
+abbrev pub voice_place : Voice → ℕ
+voice_place Fir = 0
+voice_place Decim = 1
+voice_place Biquad = 2
+voice_place Tone = 3
+voice_place G711 = 4
+
+abbrev pub same_voice : Voice → Voice → Bool
+same_voice a b = voice_place a == voice_place b
+
 abbrev pub voice_meaning : Meaning Voice
 voice_meaning = record {
+  same = same_voice;
   bound = λ v. (meaning_by v).bound v;
   table = λ v p. (meaning_by v).table v p;
   fill = λ v p k. (meaning_by v).fill v p k;
   gives = λ v p h. (meaning_by v).gives v p h;
   accepts = λ v p c. (meaning_by v).accepts v p c;
   got = λ v p h. (meaning_by v).got v p h;
+  declares = λ v p. (meaning_by v).declares v p;
   lawful = λ v p w. (meaning_by v).lawful v p w;
 }
 

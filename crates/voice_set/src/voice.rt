@@ -157,6 +157,8 @@ impl Ialg for Voice {
 
     ghost same = { Prim.search (comparing, rules) };
 
+    ghost compared = { Prim.search (comparing, rules) };
+
     ghost idle_words = { idle_words };
 
     ghost active_words = { active_words };
