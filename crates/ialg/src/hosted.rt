@@ -1,5 +1,6 @@
 //! Each filter is an algorithm: its calls find the records, and leave the words to the filter.
 ghost use Rattle.std.specs.Prelude.{◌≡◌, ◌≤◌, ◌++◌, ◌∷◌, Option, Some, ℤ, [], List, length, IsTrue, false};
+ghost use Rattle.std.proofs.Common.{ap, ◌∙◌};
 ghost use Rattle.mem_rec.specs.Records.{is_table};
 ghost use Rattle.mem_rec.specs.declared.Space.TheVariants.{Daram, Saram};
 ghost use Rattle.ialg.specs.declared.filter.FilterMemory.{FilterMemory};

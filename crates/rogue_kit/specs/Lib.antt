@@ -1,2 +1,3 @@
 pub mod Keeps
 pub mod Rogues
+pub mod Writing

@@ -75,8 +75,9 @@ fn flood(words: &mut [i16], word: i16)
 /// Writes `word` over the record that begins at `base` of `space`, where there is one that may be written.
 pub(crate) fn fill_record(mem: &mut Lent<'_>, space: Space, base: u16, word: i16)
     ensures loans { SameLoans mem.old mem.new }
-    ensures filled { (k : ℕ) → (k ≡ 0 → ⊥) → WritableAt mem.old space base k → AreApart mem.old.table.now
+    ensures filled { (k : ℕ) → WritableAt mem.old space base k → AreApart mem.old.table.now
         → All (λ x. x ≡ word) (words_of (lent_words mem.new) k) }
+    ensures kept { (k : ℕ) → All (λ x. x ≡ word) (words_of (lent_words mem.old) k) → All (λ x. x ≡ word) (words_of (lent_words mem.new) k) }
 {
     let Some(Record { k, words }) = mem.take(space, base) else {
         return;

@@ -5,7 +5,7 @@ pub returns-clause-begun : goal.returns-clause-begun
 returns-clause-begun c apart may =
     let table = ap (λ b. b.now) c.table.ensures in
     let kept = c.in-Some.ensures in
-    c.fill_record.ensures.filled 1 (λ e. omega arith) (rw (kept, table) may) apart
+    c.fill_record.ensures.filled 1 (rw (kept, table) may) apart
 
 pub returns-in_default-clause-begun : goal.returns-in_default-clause-begun
 returns-in_default-clause-begun c apart may =
