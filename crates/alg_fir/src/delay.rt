@@ -5,7 +5,7 @@ ghost use Rattle.ialg.specs.History.{History, words_in_force};
 ghost use Rattle.fir_kernel.specs.Rings.{IsRing};
 ghost use Rattle.alg_fir.specs.Keeps.{AreOutputs, KeepsPast, KeepsRing, Ran};
 
-use fir_kernel::{MOST_COEFFICIENTS, SHORT_BLOCK, enter, filter, unroll};
+use fir_kernel::{FEW_SAMPLES, MOST_COEFFICIENTS, SHORT_BLOCK, enter, filter, unroll};
 use ialg::{BLOCK_SAMPLES, Block, place};
 
 /// The most words of a delay line.
@@ -16,6 +16,9 @@ const LINE_WORDS: usize = MOST_COEFFICIENTS + BLOCK_SAMPLES;
 
 /// The words of such a line for a short block.
 const SHORT_LINE_WORDS: usize = MOST_COEFFICIENTS + SHORT_BLOCK;
+
+/// The words of such a line for a few samples.
+const FEW_LINE_WORDS: usize = MOST_COEFFICIENTS + FEW_SAMPLES;
 
 /// The samples of a block for which there is an output: the sample `first`, and each `step`-th after it.
 #[derive(Clone, Copy, PartialEq, Eq, Debug)]
@@ -64,7 +67,9 @@ pub(crate) fn run_block(
         → IsRing (length p - 1) (length ring.old - 1) ring.old next h
         → Ran p h input.now ring.new × AreOutputs p h input.now taken.first taken.step out.new.items }
 {
-    if input.len() <= SHORT_BLOCK {
+    if input.len() <= FEW_SAMPLES {
+        run_line::<FEW_LINE_WORDS>(coefficients, ring, next, input, taken, out);
+    } else if input.len() <= SHORT_BLOCK {
         run_line::<SHORT_LINE_WORDS>(coefficients, ring, next, input, taken, out);
     } else {
         run_line::<LINE_WORDS>(coefficients, ring, next, input, taken, out);

@@ -5,7 +5,7 @@ ghost use Rattle.ialg.specs.History.{word_at};
 ghost use Rattle.fir_kernel.specs.Sums.{filtered_at, l_mac_sum};
 
 use crate::bounded::{filter_bounded, is_bounded, product};
-use crate::{MOST_COEFFICIENTS, SHORT_BLOCK};
+use crate::{FEW_SAMPLES, MOST_COEFFICIENTS, SHORT_BLOCK};
 use basic_op::{l_add, l_mac, round};
 use ialg::BLOCK_SAMPLES;
 
@@ -23,7 +23,9 @@ pub fn filter(coefficients: &[i16], line: &[i16], first: usize, step: usize, out
     ensures { (i : ℕ) → i < length out.old
         → word_at out.new i ≡ filtered_at coefficients.now line.now (first + step * i) }
 {
-    if out.len() <= SHORT_BLOCK {
+    if out.len() <= FEW_SAMPLES {
+        filter_within::<FEW_SAMPLES>(coefficients, line, first, step, out);
+    } else if out.len() <= SHORT_BLOCK {
         filter_within::<SHORT_BLOCK>(coefficients, line, first, step, out);
     } else {
         filter_within::<BLOCK_SAMPLES>(coefficients, line, first, step, out);

@@ -14,8 +14,11 @@ pub use ring::{enter, named_place, unroll};
 pub const MOST_COEFFICIENTS: usize = 64;
 
 /// The most samples of a short block. What a call needs beside its records stands in arrays, and those are cleared first: a short block has
-/// arrays of this length, any other one of `ialg`'s `BLOCK_SAMPLES`.
+/// arrays of this length, a longer one of `ialg`'s `BLOCK_SAMPLES`.
 pub const SHORT_BLOCK: usize = 256;
+
+/// The most samples that have arrays of this length, shorter still: a sample, or a few of them.
+pub const FEW_SAMPLES: usize = 16;
 
 /// The least magnitude of a sum of products that leaves 32 bits when it is doubled.
 pub const LEAST_UNBOUNDED_SUM: u64 = 1 << 30;

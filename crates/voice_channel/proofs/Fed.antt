@@ -36,10 +36,6 @@ all_named p (k ∷ is) holds =
     and_from (p k) (list_all p is) (holds k (left_true (nat_eq k k) (has_number is k) same))
     (all_named p is (λ i has. holds i (right_true (nat_eq i k) (has_number is i) has)))
 
-pub nothing_behind : (is : List ℕ) → length is ≡ 0 → is ≡ []
-nothing_behind [] none = refl
-nothing_behind (i ∷ is) none = absurd (omega (arith, none))
-
 -- a channel that has members is one
 number_of : (chained : List (List ℕ)) (c : ℕ) → is_chained (members_at chained c) ≡ true → c < length chained
 number_of [] c e = absurd (false≢true e)

@@ -1,12 +1,13 @@
 use Rattle.std.proofs.Common.{ℕ, List, ◌∷◌, ◌∙◌, ap, refl, sym, subst}
 use Rattle.voice_channel.specs.Channels.{PassesThrough}
-use Rattle.voice_channel.proofs.Fed.{nothing_behind, first_of_them}
+use Rattle.std.proofs.lemmas.List.{nil_from_length}
+use Rattle.voice_channel.proofs.Fed.{first_of_them}
 use Rattle.voice_channel.proofs.feeding.pass.Goals as goal
 
 pub returns-in_default-split_first : goal.returns-in_default-split_first
 returns-in_default-split_first g c =
     subst (λ (is : List ℕ). PassesThrough g.M.Ialg.meaning g.M.Ialg.idle_keeps g.M.Ialg.active_keeps is c.args.block.now c.run.new.given.items c.args.host.now c.run.new.host)
-    (sym (c.in-Some.ensures.cases.0 ∙ ap (λ is. c.in-Some.member.now ∷ is) (nothing_behind c.in-Some.further.now c.in_default-split_first.ensures.cases))) c.run.ensures
+    (sym (c.in-Some.ensures.cases.0 ∙ ap (λ is. c.in-Some.member.now ∷ is) (nil_from_length c.in-Some.further.now c.in_default-split_first.ensures.cases))) c.run.ensures
 
 pub returns : goal.returns
 returns g c =
