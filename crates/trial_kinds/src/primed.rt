@@ -1,5 +1,5 @@
 //! A kind that is lawful under one poison word alone, and keeps a word in a write-once record.
-ghost use Rattle.std.specs.Prelude.{◌≡◌, ◌≤◌, ◌+◌, ◌++◌, ℤ, List, length, take, drop, FitsSigned};
+ghost use Rattle.std.specs.Prelude.{◌≡◌, ◌≤◌, ◌+◌, ◌++◌, ℤ, List, length, take, drop, FitsSigned, true};
 ghost use Rattle.std.specs.List.{All};
 ghost use Rattle.std.specs.Int.{w16};
 ghost use Rattle.ialg.specs.declared.TheConstants.{BLOCK_SAMPLES, PARAMETER_WORDS};

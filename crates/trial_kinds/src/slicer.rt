@@ -1,5 +1,5 @@
 //! A kind that has a write-once record, and scratch records of two alignments in two spaces.
-ghost use Rattle.std.specs.Prelude.{◌≡◌, ◌≤◌, ℤ, [], List, length, map, FitsSigned};
+ghost use Rattle.std.specs.Prelude.{◌≡◌, ◌≤◌, ℤ, [], List, length, map, true, FitsSigned};
 ghost use Rattle.std.specs.List.{All};
 ghost use Rattle.std.specs.Int.{w16};
 ghost use Rattle.mem_rec.specs.declared.MemRec.{MemRec};
