@@ -1,8 +1,9 @@
 -- A record that was taken, written over and put back, and what may be written while the same loans are held.
-use Rattle.std.proofs.Common.{◌≡◌, ℕ, ℤ, zero, suc, ◌<◌, inl, inr, List, subst, sym, ap, ◌∙◌, arith}
+use Rattle.std.proofs.Common.{◌≡◌, ℕ, ℤ, zero, suc, ◌<◌, inl, inr, List, subst, sym, ◌∙◌, arith}
 use Rattle.std.specs.List.{All}
+use Rattle.mem_rec.specs.declared.MemRec.{MemRec}
 use Rattle.ialg.specs.declared.memory.Lent.{Lent}
-use Rattle.ialg.specs.Loans.{lent_words, loan, LentAt, WritableAt, SameLoans, SameBut}
+use Rattle.ialg.specs.Loans.{lent_words, loan, WritableAt, SameLoans, SameBut}
 use Rattle.ialg.specs.Records.{record_at, words_of}
 use Rattle.ialg.proofs.Finding.{words_but}
 use Rattle.ialg.proofs.Loans.{same_sizes}
@@ -38,3 +39,8 @@ may_still k a b same may =
       };
       may = λ once. same.writable ∙ may.may once;
     })
+
+-- the record of a table at its place
+pub may_at : (m : Lent) (records : List MemRec) (i k : ℕ) → records ≡ m.table.now → k ≡ i → MayBeWritten m k
+    → WritableAt m (record_at records i).space (record_at records i).base k
+may_at m records i k same here may = rw (same, sym here) may
