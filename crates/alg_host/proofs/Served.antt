@@ -15,7 +15,7 @@ use Rattle.space_blocks.specs.Moves.{next_block}
 use Rattle.host_spaces.specs.declared.spaces.Spaces.{Spaces}
 use Rattle.host_spaces.specs.Picture.{Picture, blocks_in}
 use Rattle.host_spaces.specs.Creation.{created_picture}
-use Rattle.sound_machine.specs.State.{Living, State}
+use Rattle.sound_machine.specs.State.{Living, State, twins_of}
 use Rattle.sound_machine.specs.Steps.{Outcome, unless, control_refusal, controlled, given, processed, release, group_refusal, step, moving, delete, instance_refusal, without_instance, create_refusal, newborn, with_memory, with_room}
 use Rattle.sound_machine.specs.Calls.{Controls, Creates}
 use Rattle.kept_machine.specs.Kept.{TablesKeep}
@@ -75,16 +75,17 @@ still_kept meaning idle_keeps active_keeps slots slots' once once' groups groups
 
 -- ---- deletions
 
-without_poison : {M : Type 0} (before : State M) (i : ℕ) (x : Option (Living M)) → (without_instance before i x).poison ≡ before.poison
-without_poison before i None = refl
-without_poison before i (Some x) = refl
+without_poison : {M : Type 0} (kinds : Meaning M) (before : State M) (i : ℕ) (x : Option (Living M)) → (without_instance kinds before i x).poison ≡ before.poison
+without_poison kinds before i None = refl
+without_poison kinds before i (Some x) = refl
 
 unless_poison : {M A : Type 0} (before : State M) (r : Option Refusal) (o : Outcome M A) → o.1.poison ≡ before.poison → (unless r before o).1.poison ≡ before.poison
 unless_poison before None o same = same
 unless_poison before (Some r) o same = refl
 
-pub delete_poison : {M : Type 0} (before : State M) (i : ℕ) → (delete before i).1.poison ≡ before.poison
-delete_poison before i = unless_poison before (instance_refusal before i) (Ok tt, without_instance before i (before.living i)) (without_poison before i (before.living i))
+pub delete_poison : {M : Type 0} (kinds : Meaning M) (before : State M) (i : ℕ) → (delete kinds before i).1.poison ≡ before.poison
+delete_poison kinds before i =
+    unless_poison before (instance_refusal before i) (Ok tt, without_instance kinds before i (before.living i)) (without_poison kinds before i (before.living i))
 
 pub on_refusal : {A E : Type 0} (r : Result A E) (P Q : Type 0) → (P → Q) → OnErr r P → OnErr r Q
 on_refusal (Ok a) P Q imp is = tt
@@ -100,12 +101,14 @@ with_room_poison : {M : Type 0} (before : State M) (i : ℕ) (x : Living M) (tab
 with_room_poison before i x table (Ok picture) = refl
 with_room_poison before i x table (Err space) = refl
 
-with_memory_poison : {M : Type 0} (before : State M) (i : ℕ) (x : Living M) (table : Option (List MemRec)) → (with_memory before i x table).1.poison ≡ before.poison
-with_memory_poison before i x None = refl
-with_memory_poison before i x (Some table) = with_room_poison before i x table (created_picture before.sizes before.picture i x.group table)
+with_memory_poison : {M : Type 0} (kinds : Meaning M) (before : State M) (i : ℕ) (kind : M) (g : ℕ) (p : List ℤ) (table : Option (List MemRec))
+    → (with_memory kinds before i kind g p table).1.poison ≡ before.poison
+with_memory_poison kinds before i kind g p None = refl
+with_memory_poison kinds before i kind g p (Some table) =
+    let x = newborn kind g p table in with_room_poison before i x table (created_picture before.sizes before.picture i g table (twins_of kinds before.living x))
 
 pub creates_poison : {M : Type 0} (meaning : Meaning M) (before after : State M) (i : ℕ) (kind : M) (g : ℕ) (p : List ℤ) (answer : Result (Unit {0}) Refusal)
     → Creates meaning before i kind g p answer after → after.poison ≡ before.poison
 creates_poison meaning before after i kind g p answer did =
     ap (λ o. o.1.poison) did.outcome
-    ∙ unless_poison before (create_refusal before i g) (with_memory before i (newborn kind g p) did.table) (with_memory_poison before i (newborn kind g p) did.table)
+    ∙ unless_poison before (create_refusal before i g) (with_memory meaning before i kind g p did.table) (with_memory_poison meaning before i kind g p did.table)

@@ -59,7 +59,7 @@ module _ {M : Type 0} (kinds : Meaning M) where
     pub computed : (call : Call M) → Does kinds before call after → (call, after) ≡ answered kinds before call
     computed (Chain c is answer) does = with_answer (λ a. Chain c is a) answer after (chain before c is) does
     computed (Unchain c answer) does = with_answer (λ a. Unchain c a) answer after (unchain before c) does
-    computed (Remove i answer) does = with_answer (λ a. Remove i a) answer after (delete before i) does
+    computed (Remove i answer) does = with_answer (λ a. Remove i a) answer after (delete kinds before i) does
     computed (Ready c answer) does = with_answer (λ a. Ready c a) answer after (ready before c) does
     computed (Feed c block out) does =
         let next = passed kinds before.host (members_at before.chained c) block in

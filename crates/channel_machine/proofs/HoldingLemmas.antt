@@ -113,23 +113,23 @@ module _ {M : Type 0} (before : Channels M) (held : AreHeld before) where
   pub over_host : (host : State M) → ((c i : ℕ) → has_number (members_at before.chained c) i ≡ true → lives host i ≡ true) → AreHeld (on_host before host)
   over_host host live = record { live = live; once = held.once; alone = held.alone }
 
-  abbrev deleting : ℕ → (number none busy : Bool) → Channels M
-  deleting i number none busy =
-      (unless {A = Unit {0}} (first_refusal ((not number, Range) ∷ (none, Missing) ∷ (busy, Busy) ∷ [])) before (Ok tt, on_host before (steps.delete before.host i).1)).1
-
   module _ (kinds : Meaning M) where
+    abbrev deleting : ℕ → (number none busy : Bool) → Channels M
+    deleting i number none busy =
+        (unless {A = Unit {0}} (first_refusal ((not number, Range) ∷ (none, Missing) ∷ (busy, Busy) ∷ [])) before (Ok tt, on_host before (steps.delete kinds before.host i).1)).1
+
     live_apart : (i c j : ℕ) → is_in_channel before.chained i ≡ false → has_number (members_at before.chained c) j ≡ true
-        → lives (steps.delete before.host i).1 j ≡ true
+        → lives (steps.delete kinds before.host i).1 j ≡ true
     live_apart i c j free has =
         let apart : Some i ≢ Some j = λ e. clash (is_in_channel before.chained j) (in_channel before.chained c j has)
         (ap (λ k. is_in_channel before.chained k) (sym (same_Some i j e)) ∙ free) in
-        ap is_some (others_stay kinds before.host (steps.delete before.host i).1 (Delete i (steps.delete before.host i).0) refl j apart) ∙ held.live c j has
+        ap is_some (others_stay kinds before.host (steps.delete kinds before.host i).1 (Delete i (steps.delete kinds before.host i).0) refl j apart) ∙ held.live c j has
 
     delete_held : (i : ℕ) (number none busy : Bool) → is_in_channel before.chained i ≡ busy → AreHeld (deleting i number none busy)
     delete_held i false none busy b = held
     delete_held i true true busy b = held
     delete_held i true false true b = held
-    delete_held i true false false b = over_host (steps.delete before.host i).1 (λ c j has. live_apart i c j b has)
+    delete_held i true false false b = over_host (steps.delete kinds before.host i).1 (λ c j has. live_apart i c j b has)
 
   about_held : (r : Option Refusal) (granted : Channels M) → AreHeld granted → AreHeld (unless {A = Unit {0}} r before (Ok tt, granted)).1
   about_held None granted holds = holds

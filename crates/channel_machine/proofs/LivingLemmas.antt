@@ -9,7 +9,7 @@ use Rattle.space_blocks.specs.declared.placed.Placed.{Placed}
 use Rattle.space_blocks.specs.Moves.{next_block}
 use Rattle.host_spaces.specs.Picture.{Picture, blocks_in}
 use Rattle.host_spaces.specs.Creation.{created_picture}
-use Rattle.sound_machine.specs.State.{Living, State, with_living}
+use Rattle.sound_machine.specs.State.{Living, State, twins_of, with_living}
 use Rattle.sound_machine.specs.Steps.{newborn, with_room, with_memory, controlled, given, moving}
 use Rattle.sound_machine.specs.Calls as host_calls
 use Rattle.sound_machine.specs.Calls.{Processes}
@@ -34,9 +34,10 @@ module _ {M : Type 0} (before : State M) (i : ℕ) where
   room_live x table (Err space) = λ j e. e
   room_live x table (Ok picture) = with_one x
 
-  memory_live : (x : Living M) (table : Option (List MemRec)) → StillLive before (with_memory before i x table).1
-  memory_live x None = λ j e. e
-  memory_live x (Some table) = room_live x table (created_picture before.sizes before.picture i x.group table)
+  memory_live : (kinds : Meaning M) (kind : M) (g : ℕ) (p : List ℤ) (table : Option (List MemRec)) → StillLive before (with_memory kinds before i kind g p table).1
+  memory_live kinds kind g p None = λ j e. e
+  memory_live kinds kind g p (Some table) =
+      let x = newborn kind g p table in room_live x table (created_picture before.sizes before.picture i g table (twins_of kinds before.living x))
 
   controlled_live : (x : Option (Living M)) (c : Ctl) → StillLive before (controlled before i x c)
   controlled_live None c = λ j e. e
@@ -56,7 +57,7 @@ module _ {M : Type 0} (kinds : Meaning M) where
   pub passed_on_live : (before after : State M) (call : host_calls.Call M) → IsPassedOn call → host_calls.Does kinds before call after → StillLive before after
   passed_on_live before after (Create i kind g p answer) on does =
       after_is (StillLive before) answer after _ does.outcome
-      (unless_holds (StillLive before) before _ _ (λ j e. e) (memory_live before i (newborn kind g p) does.table))
+      (unless_holds (StillLive before) before _ _ (λ j e. e) (memory_live before i kinds kind g p does.table))
   passed_on_live before after (Control i c answer) on does =
       after_is (StillLive before) answer after _ does.outcome
       (unless_holds (StillLive before) before _ _ (λ j e. e) (controlled_live before i (before.living i) c))

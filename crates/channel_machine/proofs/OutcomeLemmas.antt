@@ -6,6 +6,7 @@ use Rattle.std.proofs.lemmas.Bool.{lt-ltb, le-ltb, false≢true, and_from, and_l
 use Rattle.space_heap.proofs.RangeTests.{either}
 use Rattle.ialg.specs.declared.refusal.Refusal.TheVariants.{Range, Taken, Missing, Busy}
 use Rattle.ialg.specs.Refusals.{first_refusal}
+use Rattle.ialg.specs.Meaning.{Meaning}
 use Rattle.space_blocks.specs.declared.TheConstants.{INSTANCES}
 use Rattle.sound_machine.specs.State.{Living, is_instance_number}
 use Rattle.sound_machine.specs.Steps as steps
@@ -95,28 +96,28 @@ module _ {M : Type 0} (before : Channels M) where
 
   -- ---- deletion
 
-  module _ (i : ℕ) where
+  module _ (kinds : Meaning M) (i : ℕ) where
     abbrev deleting : Bool → Option (Living M) → Bool → Outcome M (Unit {0})
     deleting number x busy =
-        unless (first_refusal ((not number, Range) ∷ (is_none x, Missing) ∷ (busy, Busy) ∷ [])) before (Ok tt, on_host before (steps.delete before.host i).1)
+        unless (first_refusal ((not number, Range) ∷ (is_none x, Missing) ∷ (busy, Busy) ∷ [])) before (Ok tt, on_host before (steps.delete kinds before.host i).1)
 
     tested : (number : Bool) (x : Option (Living M)) (busy : Bool) → is_instance_number i ≡ number → before.host.living i ≡ x
-        → is_in_channel before.chained i ≡ busy → delete before i ≡ deleting number x busy
+        → is_in_channel before.chained i ≡ busy → delete kinds before i ≡ deleting number x busy
     tested number x busy n l b =
         ap (λ v. deleting v (before.host.living i) (is_in_channel before.chained i)) n
         ∙ ap (λ v. deleting number v (is_in_channel before.chained i)) l
         ∙ ap (λ v. deleting number x v) b
 
-    pub delete_range : INSTANCES ≤ i → delete before i ≡ (Err Range, before)
+    pub delete_range : INSTANCES ≤ i → delete kinds before i ≡ (Err Range, before)
     delete_range le = tested false (before.host.living i) (is_in_channel before.chained i) (le-ltb i INSTANCES le) refl refl
 
-    pub delete_missing : i < INSTANCES → before.host.living i ≡ None → delete before i ≡ (Err Missing, before)
+    pub delete_missing : i < INSTANCES → before.host.living i ≡ None → delete kinds before i ≡ (Err Missing, before)
     delete_missing lt none = tested true None (is_in_channel before.chained i) (lt-ltb i INSTANCES lt) none refl
 
     pub delete_busy : (x : Living M) → i < INSTANCES → before.host.living i ≡ Some x → is_in_channel before.chained i ≡ true
-        → delete before i ≡ (Err Busy, before)
+        → delete kinds before i ≡ (Err Busy, before)
     delete_busy x lt there busy = tested true (Some x) true (lt-ltb i INSTANCES lt) there busy
 
     pub delete_granted : (x : Living M) → i < INSTANCES → before.host.living i ≡ Some x → is_in_channel before.chained i ≡ false
-        → delete before i ≡ (Ok tt, on_host before (steps.delete before.host i).1)
+        → delete kinds before i ≡ (Ok tt, on_host before (steps.delete kinds before.host i).1)
     delete_granted x lt there free = tested true (Some x) false (lt-ltb i INSTANCES lt) there free

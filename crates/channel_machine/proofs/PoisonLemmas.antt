@@ -9,7 +9,7 @@ use Rattle.space_blocks.specs.declared.placed.Placed.{Placed}
 use Rattle.space_blocks.specs.Moves.{next_block}
 use Rattle.host_spaces.specs.Picture.{Picture, blocks_in}
 use Rattle.host_spaces.specs.Creation.{created_picture}
-use Rattle.sound_machine.specs.State.{Living, State}
+use Rattle.sound_machine.specs.State.{Living, State, twins_of}
 use Rattle.sound_machine.specs.Steps as steps
 use Rattle.sound_machine.specs.Steps.{unless, newborn, with_room, with_memory, create_refusal, controlled, control_refusal, given, processed, without_instance, instance_refusal, group_refusal, moving}
 use Rattle.sound_machine.specs.Calls as host_calls
@@ -18,7 +18,7 @@ use Rattle.sound_machine.specs.Answers as host_answers
 use Rattle.sound_machine.specs.Answers.{accepted, status_at, output_at}
 use Rattle.channel_machine.specs.Channels.{Channels, members_at}
 use Rattle.channel_machine.specs.Steps as channel_steps
-use Rattle.channel_machine.specs.Steps.{on_host, with_members, chain, chain_refusal, channel_refusal, unchain, delete, delete_refusal, ready}
+use Rattle.channel_machine.specs.Steps.{on_host, chain, chain_refusal, channel_refusal, unchain, delete, delete_refusal, ready}
 use Rattle.channel_machine.specs.Calls.{Call}
 use Rattle.channel_machine.specs.Calls.Call.{Chain, Unchain, Remove, Ready, Feed, OfHost}
 use Rattle.channel_machine.specs.Answers.{passed, answered}
@@ -42,9 +42,11 @@ module _ {M : Type 0} (poison : Option ℤ) where
     room_same i x table (Err space) = refl
     room_same i x table (Ok picture) = refl
 
-    memory_same : (i : ℕ) (x : Living M) (table : Option (List MemRec)) → Same (with_memory (of before) i x table) (with_memory before i x table)
-    memory_same i x None = refl
-    memory_same i x (Some table) = room_same i x table (created_picture before.sizes before.picture i x.group table)
+    memory_same : (kinds : Meaning M) (i : ℕ) (kind : M) (g : ℕ) (p : List ℤ) (table : Option (List MemRec))
+        → Same (with_memory kinds (of before) i kind g p table) (with_memory kinds before i kind g p table)
+    memory_same kinds i kind g p None = refl
+    memory_same kinds i kind g p (Some table) =
+        let x = newborn kind g p table in room_same i x table (created_picture before.sizes before.picture i g table (twins_of kinds before.living x))
 
     controlled_same : (i : ℕ) (x : Option (Living M)) (c : Ctl) → controlled (of before) i x c ≡ of (controlled before i x c)
     controlled_same i None c = refl
@@ -55,9 +57,9 @@ module _ {M : Type 0} (poison : Option ℤ) where
     given_same i (Some x) [] = refl
     given_same i (Some x) (s ∷ block) = refl
 
-    without_same : (i : ℕ) (x : Option (Living M)) → without_instance (of before) i x ≡ of (without_instance before i x)
-    without_same i None = refl
-    without_same i (Some x) = refl
+    without_same : (kinds : Meaning M) (i : ℕ) (x : Option (Living M)) → without_instance kinds (of before) i x ≡ of (without_instance kinds before i x)
+    without_same kinds i None = refl
+    without_same kinds i (Some x) = refl
 
     moving_same : (space : Space) (next : Option Placed) → Same (moving (of before) space next) (moving before space next)
     moving_same space None = refl
@@ -67,18 +69,18 @@ module _ {M : Type 0} (poison : Option ℤ) where
     answer_same : {A : Type 0} (answer : A) (new old : State M) → new ≡ of old → Same (answer, new) (answer, old)
     answer_same answer new old e = subst (λ s. Same (answer, new) (answer, old)) e (subst (λ s. ◌≡◌ {A = _ × State M} (answer, new) (answer, s)) e refl)
 
-    pub delete_same : (i : ℕ) → Same (steps.delete (of before) i) (steps.delete before i)
-    delete_same i =
+    pub delete_same : (kinds : Meaning M) (i : ℕ) → Same (steps.delete kinds (of before) i) (steps.delete kinds before i)
+    delete_same kinds i =
         unless_same (instance_refusal before i) _ _
-        (answer_same (Ok tt) (without_instance (of before) i (before.living i)) (without_instance before i (before.living i)) (without_same i (before.living i)))
+        (answer_same (Ok tt) (without_instance kinds (of before) i (before.living i)) (without_instance kinds before i (before.living i)) (without_same kinds i (before.living i)))
 
     call_same : {A : Type 0} (call : A → host_calls.Call M) (new old : A × State M) → Same new old
         → ◌≡◌ {A = host_calls.Call M × State M} (call new.0, new.1) (call old.0, of old.1)
     call_same call new old e = subst (λ o. ◌≡◌ {A = host_calls.Call M × State M} (call new.0, new.1) (call o.0, o.1)) e refl
 
     module _ (kinds : Meaning M) where
-      create_same : (i : ℕ) (kind : M) (g : ℕ) (p : List ℤ) → Same (steps.create (of before) i kind g p (kinds.table kind p)) (steps.create before i kind g p (kinds.table kind p))
-      create_same i kind g p = unless_same (create_refusal before i g) _ _ (memory_same i (newborn kind g p) (kinds.table kind p))
+      create_same : (i : ℕ) (kind : M) (g : ℕ) (p : List ℤ) → Same (steps.create kinds (of before) i kind g p (kinds.table kind p)) (steps.create kinds before i kind g p (kinds.table kind p))
+      create_same i kind g p = unless_same (create_refusal before i g) _ _ (memory_same kinds i kind g p (kinds.table kind p))
 
       control_same : (i : ℕ) (c : Ctl) (taken : Bool) (status : Status) → Same (steps.control (of before) i c taken status) (steps.control before i c taken status)
       control_same i c taken status =
@@ -86,13 +88,13 @@ module _ {M : Type 0} (poison : Option ℤ) where
           (answer_same (Ok status) (controlled (of before) i (before.living i) c) (controlled before i (before.living i) c) (controlled_same i (before.living i) c))
 
       pub host_same : (call : host_calls.Call M) → Same (host_answers.answered kinds (of before) call) (host_answers.answered kinds before call)
-      host_same (Create i kind g p a) = call_same (λ o. Create i kind g p o) _ (steps.create before i kind g p (kinds.table kind p)) (create_same i kind g p)
+      host_same (Create i kind g p a) = call_same (λ o. Create i kind g p o) _ (steps.create kinds before i kind g p (kinds.table kind p)) (create_same i kind g p)
       host_same (Control i c a) =
           call_same (λ o. Control i c o) _ (steps.control before i c (accepted kinds (before.living i) c) (status_at kinds (before.living i) c))
           (control_same i c (accepted kinds (before.living i) c) (status_at kinds (before.living i) c))
       host_same (Process i block out) =
           answer_same (Process i block (output_at kinds (before.living i) block)) (processed (of before) i block) (processed before i block) (given_same i (before.living i) block)
-      host_same (Delete i a) = call_same (λ o. Delete i o) _ (steps.delete before i) (delete_same i)
+      host_same (Delete i a) = call_same (λ o. Delete i o) _ (steps.delete kinds before i) (delete_same kinds i)
       host_same (Release g a) = call_same (λ o. Release g o) _ (steps.release before g) (unless_same (group_refusal before g) _ _ refl)
       host_same (Step space a) = call_same (λ o. Step space o) _ (steps.step before space) (moving_same space (next_block (blocks_in before.picture space)))
       host_same (Compact space a) = refl
@@ -128,15 +130,15 @@ module _ {M : Type 0} (poison : Option ℤ) where
         → ◌≡◌ {A = Call M × Channels M} (call new.0, on_host before new.1) (call old.0, on_host before (of old.1))
     on_host_same call new old e = subst (λ o. ◌≡◌ {A = Call M × Channels M} (call new.0, on_host before new.1) (call o.0, on_host before o.1)) e refl
 
-    removed_same : (i : ℕ) → SameChannels (delete (with_poison poison before) i) (delete before i)
-    removed_same i =
+    removed_same : (kinds : Meaning M) (i : ℕ) → SameChannels (delete kinds (with_poison poison before) i) (delete kinds before i)
+    removed_same kinds i =
         channels_unless (delete_refusal before i) _ _
-        (subst (λ host. SameChannels {A = Result (Unit {0}) Refusal} (Ok tt, on_host before host) (Ok tt, on_host before (steps.delete before.host i).1)) (sym (ap (λ o. o.1) (delete_same before.host i))) refl)
+        (subst (λ host. SameChannels {A = Result (Unit {0}) Refusal} (Ok tt, on_host before host) (Ok tt, on_host before (steps.delete kinds before.host i).1)) (sym (ap (λ o. o.1) (delete_same before.host kinds i))) refl)
 
     pub channels_same : (kinds : Meaning M) (call : Call M) → SameChannels (answered kinds (with_poison poison before) call) (answered kinds before call)
     channels_same kinds (Chain c is a) = channels_call (λ o. Chain c is o) _ (chain before c is) (channels_unless (chain_refusal before c is) _ _ refl)
     channels_same kinds (Unchain c a) = channels_call (λ o. Unchain c o) _ (unchain before c) (channels_unless (channel_refusal before c) _ _ refl)
-    channels_same kinds (Remove i a) = channels_call (λ o. Remove i o) _ (delete before i) (removed_same i)
+    channels_same kinds (Remove i a) = channels_call (λ o. Remove i o) _ (delete kinds before i) (removed_same kinds i)
     channels_same kinds (Ready c a) = channels_call (λ o. Ready c o) _ (ready before c) (channels_unless (channel_refusal before c) _ _ refl)
     channels_same kinds (Feed c block out) = on_host_same (λ o. Feed c block o) _ (passed kinds before.host (members_at before.chained c) block) (passed_same kinds (members_at before.chained c) before.host block)
     channels_same kinds (OfHost call) = on_host_same (λ o. OfHost o) _ (host_answers.answered kinds before.host call) (host_same before.host kinds call)

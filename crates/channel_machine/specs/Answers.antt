@@ -22,7 +22,7 @@ module _ {M : Type 0} (kinds : Meaning M) where
   abbrev pub answered : Channels M → Call M → Call M × Channels M
   answered before (Chain c members _) = let o = chain before c members in (Chain c members o.0, o.1)
   answered before (Unchain c _) = let o = unchain before c in (Unchain c o.0, o.1)
-  answered before (Remove i _) = let o = delete before i in (Remove i o.0, o.1)
+  answered before (Remove i _) = let o = delete kinds before i in (Remove i o.0, o.1)
   answered before (Ready c _) = let o = ready before c in (Ready c o.0, o.1)
   answered before (Feed c block _) =
       let o = passed before.host (members_at before.chained c) block in (Feed c block o.0, on_host before o.1)

@@ -48,7 +48,7 @@ module _ {M : Type 0} (kinds : Meaning M) where
   abbrev pub Does : Channels M → Call M → Channels M → Type 0
   Does before (Chain c members answer) after = (answer, after) ≡ steps.chain before c members
   Does before (Unchain c answer) after = (answer, after) ≡ steps.unchain before c
-  Does before (Remove i answer) after = (answer, after) ≡ steps.delete before i
+  Does before (Remove i answer) after = (answer, after) ≡ steps.delete kinds before i
   Does before (Ready c answer) after = (answer, after) ≡ steps.ready before c
   Does before (Feed c block out) after = Feeds before c block out after
   Does before (OfHost call) after = PassesOn before call after

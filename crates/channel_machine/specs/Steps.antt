@@ -4,6 +4,7 @@ use Rattle.std.specs.List.{list_all, list_any}
 use Rattle.ialg.specs.declared.refusal.Refusal.{Refusal}
 use Rattle.ialg.specs.declared.refusal.Refusal.TheVariants.{Range, Taken, Missing, Busy}
 use Rattle.ialg.specs.Refusals.{first_refusal}
+use Rattle.ialg.specs.Meaning.{Meaning}
 use Rattle.sound_machine.specs.State.{State, is_instance_number}
 use Rattle.sound_machine.specs.Steps as steps
 use Rattle.channel_machine.specs.Channels.{Channels, members_at, is_chained, is_in_channel, has_repeat, all_live}
@@ -57,5 +58,6 @@ module _ {M : Type 0} (before : Channels M) where
       first_refusal (
       (not (is_instance_number i), Range) ∷ (is_none (before.host.living i), Missing) ∷ (is_in_channel before.chained i, Busy) ∷ [])
 
-  abbrev pub delete : ℕ → Outcome M (Unit {0})
-  delete i = unless (delete_refusal i) before (Ok tt, on_host (steps.delete before.host i).1)
+-- the host deletes it
+abbrev pub delete : {M : Type 0} → Meaning M → Channels M → ℕ → Outcome M (Unit {0})
+delete kinds before i = unless (delete_refusal before i) before (Ok tt, on_host before (steps.delete kinds before.host i).1)

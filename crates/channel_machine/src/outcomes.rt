@@ -2,6 +2,7 @@
 ghost use Rattle.std.specs.Prelude.{◌≡◌, ◌≤◌, ◌<◌, ◌⊎◌, [], ℕ, true, false, List, Some, None, Ok, Err, length};
 ghost use Rattle.std.specs.List.{list_all, list_any};
 ghost use Rattle.ialg.specs.declared.refusal.Refusal.TheVariants.{Range, Taken, Missing, Busy};
+ghost use Rattle.ialg.specs.Meaning.{Meaning};
 ghost use Rattle.space_blocks.specs.declared.TheConstants.{INSTANCES};
 ghost use Rattle.sound_machine.specs.State.{Living, is_instance_number};
 ghost use Rattle.sound_machine.specs.Steps as steps;
@@ -41,10 +42,10 @@ pub fn unchains_answer_in_order<M>()
 
 /// The law of a deletion: it is refused as the host refuses it, then where the instance is in a channel. The call does nothing.
 pub fn deletions_answer_in_order<M>()
-    ensures range { (before : Channels M) (i : ℕ) → INSTANCES ≤ i → delete before i ≡ (Err Range, before) }
-    ensures missing { (before : Channels M) (i : ℕ) → i < INSTANCES → before.host.living i ≡ None → delete before i ≡ (Err Missing, before) }
-    ensures busy { (before : Channels M) (i : ℕ) (x : Living M) → i < INSTANCES → before.host.living i ≡ Some x
-        → is_in_channel before.chained i ≡ true → delete before i ≡ (Err Busy, before) }
-    ensures granted { (before : Channels M) (i : ℕ) (x : Living M) → i < INSTANCES → before.host.living i ≡ Some x
-        → is_in_channel before.chained i ≡ false → delete before i ≡ (Ok tt, on_host before (steps.delete before.host i).1) }
+    ensures range { (kinds : Meaning M) (before : Channels M) (i : ℕ) → INSTANCES ≤ i → delete kinds before i ≡ (Err Range, before) }
+    ensures missing { (kinds : Meaning M) (before : Channels M) (i : ℕ) → i < INSTANCES → before.host.living i ≡ None → delete kinds before i ≡ (Err Missing, before) }
+    ensures busy { (kinds : Meaning M) (before : Channels M) (i : ℕ) (x : Living M) → i < INSTANCES → before.host.living i ≡ Some x
+        → is_in_channel before.chained i ≡ true → delete kinds before i ≡ (Err Busy, before) }
+    ensures granted { (kinds : Meaning M) (before : Channels M) (i : ℕ) (x : Living M) → i < INSTANCES → before.host.living i ≡ Some x
+        → is_in_channel before.chained i ≡ false → delete kinds before i ≡ (Ok tt, on_host before (steps.delete kinds before.host i).1) }
 {}

@@ -37,11 +37,11 @@ module _ {M : Type 0} (kinds : Meaning M) where
 
   -- what the command asks, and the channels after it
   abbrev pub command_asks : Widths → Channels M → Command M → Asked × Channels M
-  command_asks widths before (Create i kind g words) = tell_of_host before done (host.create before.host i kind g words (kinds.table kind words))
+  command_asks widths before (Create i kind g words) = tell_of_host before done (host.create kinds before.host i kind g words (kinds.table kind words))
   command_asks widths before (Set i words) = control_asks before i (history.Set words)
   command_asks widths before (Reset i) = control_asks before i history.Reset
   command_asks widths before (Get i) = control_asks before i history.Get
-  command_asks widths before (Delete i) = tell done (channels.delete before i)
+  command_asks widths before (Delete i) = tell done (channels.delete kinds before i)
   command_asks widths before (Chain c is) = tell done (channels.chain before c is)
   command_asks widths before (Unchain c) = tell done (channels.unchain before c)
   command_asks widths before (Feed c n) = let o = channels.ready before c in (feed_asked (widths.input c) c n o.0, o.1)

@@ -137,6 +137,12 @@ pub record WorkedRows : Type 0 where
   -- what one member gives is what the next one takes
   pub two_members : Serves full (script_of "create 0 fir 0 16384; create 1 fir 1 16384; chain 0 0 1; chain 1 0; feed 0 2; feed 1 1") (octets_of (pos 8 ∷ pos 12 ∷ []) ∷ octets_of (pos 1 ∷ []) ∷ [])
       (replies_of "ok/ok/ok/no 8 busy/ok 2/no 5 missing/") (octets_of (pos 2 ∷ pos 3 ∷ []) ∷ [] ∷ []) ([] ∷ octets_of (pos 1 ∷ []) ∷ []) 2
+  -- decoders of equal parameters share the block of their samples, which goes with the last of them
+  pub shared : Serves (record full { external = 528 }) (script_of "create 0 g711 0 1 1; create 1 g711 1 1 1; create 2 g711 2 0 1; map external; chain 0 1; delete 0; map external; feed 0 1; unchain 0; delete 1; map external; compact external; map external") (octets_of (pos 128 ∷ []) ∷ [])
+      (replies_of "ok/ok/ok/ok i0.r0@0+4 i1.r0@4+4 i0.r1@8+256 i2.r0@264+4 i2.r1@272+256/ok/ok/ok i1.r0@4+4 i1.r1@8+256 i2.r0@264+4 i2.r1@272+256/ok 1/ok/ok/ok i2.r0@264+4 i2.r1@272+256/ok 2/ok i2.r0@0+4 i2.r1@8+256/") (octets_of (pos 32124 ∷ []) ∷ []) ([] ∷ []) 0
+  -- what isn't shared needs room
+  pub not_shared : Tells (record full { external = 268 }) (script_of "create 0 g711 0 1 1; create 1 g711 1 1 1; create 2 g711 2 0 1; map external")
+      (replies_of "ok/ok/no 7 room/ok i0.r0@0+4 i1.r0@4+4 i0.r1@8+256/") 1
   pub longest_line : Tells full (codes "feed 0 1" ++ replicate 1016 32)
       (replies_of "no 5 missing/") 1
   pub long_with_return : Tells full (codes "feed 0 1" ++ replicate 1016 32 ++ 13 ∷ [])

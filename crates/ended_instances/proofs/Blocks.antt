@@ -119,7 +119,8 @@ module _ {M : Type 0} (g : ℕ) (slots : List (Option (Member M))) (once : List 
     pub stand_without : AreStanding slots once groups' spaces'
     stand_without = record {
       homes = home_without;
-      unshared = standing.unshared;
+      least = standing.least;
+      together = standing.together;
       free = standing.free;
       gone = λ i k space nobody. beside (Record i k) space (not_a_group i k g) ∙ standing.gone i k space nobody;
       blocks = λ k space.
@@ -147,7 +148,8 @@ pub stand_all : {M : Type 0} (g : ℕ) (slots : List (Option (Member M))) (once 
     → (((j : ℕ) → is_member_of g (slot_at slots j) ≡ false) → ⊥) → AreStandingBut g slots once groups spaces → AreStanding slots once groups spaces
 stand_all g slots once groups spaces some standing = record {
   homes = standing.homes;
-  unshared = standing.unshared;
+  least = standing.least;
+  together = standing.together;
   free = standing.free;
   gone = standing.gone;
   blocks = standing.blocks;

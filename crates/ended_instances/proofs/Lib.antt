@@ -1,4 +1,5 @@
 pub mod Belonging
+pub mod Handed
 pub mod Records
 pub mod Blocks
 pub mod Ended

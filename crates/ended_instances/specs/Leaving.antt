@@ -7,7 +7,8 @@ use Rattle.scratch_group.specs.Blocks.{block_in}
 use Rattle.instance_table.specs.declared.member.Member.{Member}
 use Rattle.instance_table.specs.declared.shelves.Shelf.{Shelf}
 use Rattle.instance_table.specs.Shelves.{home_of}
-use Rattle.instance_table.specs.Table.{slot_at, once_at, IsUnshared, group_at, no_pieces, instance_of, is_member_of}
+use Rattle.instance_table.specs.Table.{slot_at, once_at, group_at, no_pieces, instance_of, is_member_of}
+use Rattle.instance_table.specs.Twins.{AreLeast, AreTogether}
 use Rattle.space_blocks.specs.declared.placed.Owner.TheVariants.{Record}
 use Rattle.space_blocks.specs.Blocks.{owned}
 use Rattle.host_spaces.specs.declared.spaces.Spaces.{Spaces}
@@ -18,7 +19,8 @@ use Rattle.placed_instances.specs.Standing.{IsHome, IsOf, table_of}
 -- each instance and each group has its blocks of the picture, where group g may have blocks without members
 pub record AreStandingBut {M : Type 0} (g : ℕ) (slots : List (Option (Member M))) (once : List Shelf) (groups : List Group) (spaces : Spaces) : Type 0 where
   pub homes : (i : ℕ) (m : Member M) → slot_at slots i ≡ Some m → IsHome spaces i (home_of once i) (table_of m) (instance_of m.inst).own (once_at once i) (group_at groups m.group)
-  pub unshared : (i : ℕ) → IsUnshared once i
+  pub least : AreLeast once
+  pub together : AreTogether slots once
   pub free : (i : ℕ) → slot_at slots i ≡ None → once_at once i ≡ no_pieces
   pub gone : (i k : ℕ) (space : Space) → slot_at slots i ≡ None → owned (Record i k) (blocks_in (picture_of spaces) space) ≡ []
   pub blocks : (k : ℕ) → HasBlocks (picture_of spaces) k (group_at groups k)

@@ -4,23 +4,40 @@ ghost use Rattle.mem_rec.specs.declared.Space.{Space};
 ghost use Rattle.ialg.specs.History.{History};
 ghost use Rattle.record_loans.specs.Blocks.{block_piece};
 ghost use Rattle.scratch_group.specs.Blocks.{block_in};
-ghost use Rattle.instance_table.specs.declared.TheConstants.{GROUPS};
+ghost use Rattle.instance_table.specs.declared.TheConstants.{GROUPS, INSTANCES};
 ghost use Rattle.instance_table.specs.Table.{slot_at, group_at, group_of, is_member_of, activity_at, quieted_by, TablesOk, ArePoisoned};
+ghost use Rattle.instance_table.specs.Holders.{next_holder};
+ghost use Rattle.instance_table.specs.Twins.{asked_by};
 ghost use Rattle.instance_table.specs.Keeps.{Keeps};
-ghost use Rattle.host_spaces.specs.Picture.{AreSameSpaces, is_group's, is_instance's, picture_of, without_owners};
+ghost use Rattle.host_spaces.specs.Creation.{handed_on, twin_at};
+ghost use Rattle.host_spaces.specs.Picture.{AreSameSpaces, is_group's, is_instance's, picture_of, renamed, without_owners};
 ghost use Rattle.host_spaces.specs.Pieces.{old_piece};
 ghost use Rattle.placed_instances.specs.Standing.{AreStanding, SlotIsSame};
+ghost use Rattle.ended_instances.specs.Ends.{twins_among};
 ghost use Rattle.ended_instances.specs.Leaving.{AreStandingBut};
 
 use crate::members::table_copied;
-use host_spaces::{OldBlocks, Spaces};
+use host_spaces::{OldBlocks, Spaces, Twins};
 use ialg::Ialg;
-use instance_table::{Member, Shelf, end};
+use instance_table::{Member, Shelf, end, next_holder};
 use mem_rec::Space;
 use scratch_group::Group;
 use table_moves::take_block;
 
-/// Ends an instance, and gives its records back.
+/// For each record of an instance the next one that holds it.
+fn next_holders(once: &Vec<Shelf>, i: u8) -> Twins
+    requires { length once.now.items ≡ INSTANCES }
+    ensures { (k : ℕ) → twin_at result k ≡ next_holder once.now.items i k }
+{
+    [
+        next_holder(once, i, 0),
+        next_holder(once, i, 1),
+        next_holder(once, i, 2),
+        next_holder(once, i, 3),
+    ]
+}
+
+/// Ends an instance, and gives back its records that no other instance holds. The others are their next holders' from then on.
 pub(crate) fn give_records<M: Ialg>(
     slots: &mut Vec<Option<Member<M>>>,
     once: &mut Vec<Shelf>,
@@ -39,13 +56,16 @@ pub(crate) fn give_records<M: Ialg>(
     ensures gone { slot_at slots.new.items i ≡ None }
     ensures others { (j : ℕ) → j ≢ i → SlotIsSame (slot_at slots.old.items j) (slot_at slots.new.items j) }
     ensures activity { (k : ℕ) → activity_at groups.new.items k ≡ quieted_by slots.old.items groups.old.items i k }
-    ensures picture { picture_of spaces.new ≡ without_owners (is_instance's i) (picture_of spaces.old) }
+    ensures picture { picture_of spaces.new ≡ without_owners (is_instance's i)
+        (renamed (handed_on (twins_among M.meaning.same slots.new.items (asked_by (slot_at slots.old.items i))) i) (picture_of spaces.old)) }
     ensures spaces { AreSameSpaces spaces.old spaces.new }
     ensures keeps { (histories : ℕ → History) → Keeps M.meaning M.idle_keeps M.active_keeps poison slots.old.items once.old.items groups.old.items histories
         → Keeps M.meaning M.idle_keeps M.active_keeps poison slots.new.items once.new.items groups.new.items histories }
 {
     let table = table_copied(slots, i);
+    let next = next_holders(once, i);
     let (own, shared) = end(slots, once, groups, poison, i);
+    spaces.hand_on(i, &next);
     spaces.take_out_records(i, &table, own, shared);
 }
 

@@ -29,8 +29,9 @@ use Rattle.host_spaces.specs.Pieces.{HasBlocks, new_block, old_piece, with_new, 
 use Rattle.instance_table.specs.declared.member.Member.{Member}
 use Rattle.instance_table.specs.declared.shelves.Shelf.{Shelf}
 use Rattle.instance_table.specs.Shelves.{stand_at, shelf_at, home_of}
-use Rattle.instance_table.specs.Table.{slot_at, once_at, group_at, instance_of}
-use Rattle.instance_table.proofs.Unshared.{home_own, unshared_stays}
+use Rattle.instance_table.specs.Table.{slot_at, once_at, group_at, instance_of, AreHeld}
+use Rattle.instance_table.proofs.Leasts.{least_stays, together_members}
+use Rattle.instance_table.proofs.Together.{home_lives}
 use Rattle.table_moves.proofs.Holders.{home_same}
 use Rattle.instance_table.specs.Frames.{IsSameMember, SameMembers}
 use Rattle.placed_instances.specs.Standing.{IsHome, IsOf, AreOrdered, table_of}
@@ -97,19 +98,20 @@ module _ {M : Type 0} (g : ℕ) (blocks : NewBlocks) (slots : List (Option (Memb
     | inr e ↦ rw (same h space e.1) (need space)
   ]
 
-  pub grown_now : AreGrown g slots once groups' spaces'
-  grown_now = record {
+  pub grown_now : AreHeld slots once → AreGrown g slots once groups' spaces'
+  grown_now held = record {
     homes = λ i m at.
         home_in spaces' i (home_of once i) (table_of m) (instance_of m.inst).own (once_at once i) (group_at groups m.group) (group_at groups' m.group)
         (need_now (table_of m) m.group (placed.standing.homes i m at).need)
         (home_elsewhere placed.before spaces' i (home_of once i) (table_of m) (instance_of m.inst).own (once_at once i) (group_at groups m.group)
         (λ k space.
-        subst (λ (h : ℕ). owned (Record h k) (blocks_in (picture_of spaces') space) ≡ owned (Record h k) (blocks_in (picture_of placed.before) space)) (sym (home_own once i k (placed.standing.unshared i)))
-        (others (Record i k) space (not_a_group i k g) ∙ placed.records i k m space at))
-        (λ k space apart. absurd (apart (home_own once i k (placed.standing.unshared i))))
+        let home = home_lives slots once i k m held at in
+        others (Record (home_of once i k) k) space (not_a_group (home_of once i k) k g) ∙ placed.records (home_of once i k) k home.0 space home.1)
+        (λ k space apart. others (Record i k) space (not_a_group i k g) ∙ placed.records i k m space at)
         (λ space. regions space ∙ placed.regions space)
         (placed.standing.homes i m at));
-    unshared = placed.standing.unshared;
+    least = placed.standing.least;
+    together = placed.standing.together;
     free = placed.standing.free;
     blocks = all_blocks;
     regions = all_regions;
@@ -160,7 +162,8 @@ grown_stays g slots slots' once once' groups groups' spaces same grown = record 
       (home_by_same spaces i (home_of once i) (home_of once' i) (table_of m) (instance_of n.inst).own (once_at once' i) (group_at groups' m.group) (λ k. home_same i (stand_at (shelf_at once i) k) (stand_at (shelf_at once' i) k) (same.stands i k))
       (home_stays spaces i (home_of once i) (table_of m) (instance_of m.inst).own (instance_of n.inst).own (once_at once i) (once_at once' i) (group_at groups m.group) (group_at groups' m.group)
       was.1.1.own (same.pieces i) (λ space. alike_same _ _ (same.blocks m.group space)) (grown.homes i m was.1.0))));
-  unshared = unshared_stays once grown.unshared once' same.stands;
+  least = least_stays once once' same.stands grown.least;
+  together = together_members slots slots' once once' same.slot same.stands grown.together;
   free = λ i none. pieces_none (once_at once' i) (subst (λ (p : Pieces). SamePieces p (once_at once' i)) (grown.free i (none_before _ _ (same.slot i) none)) (same.pieces i));
   blocks = λ h space. grown.blocks h space ∙ sym (align_same (block_in (group_at groups h) space) (block_in (group_at groups' h) space) (Scratch h) (same.blocks h space));
   regions = λ h space. is_of_same _ _ _ (same.blocks h space).0 (grown.regions h space);

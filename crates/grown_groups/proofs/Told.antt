@@ -177,7 +177,7 @@ pub record Renewed {M : Type 0} (g : ℕ) (blocks : NewBlocks) (slots : List (Op
 module _ {M : Type 0} (g : ℕ) (blocks : NewBlocks) (slots : List (Option (Member M))) (once : List Shelf) (groups groups' : List Group) (spaces spaces' : Spaces)
     (r : Renewed g blocks slots once groups groups' spaces spaces') (ok : TablesOk slots once groups) where
   pub stands : AreGrown g slots once groups' spaces'
-  stands = grown_now g blocks slots once groups groups' spaces spaces' r.old r.placed r.ordered r.is_old r.is_new r.same r.picture r.others (λ space. (r.regions space).region)
+  stands = grown_now g blocks slots once groups groups' spaces spaces' r.old r.placed r.ordered r.is_old r.is_new r.same r.picture r.others (λ space. (r.regions space).region) ok.held
 
   counted : length groups' ≡ GROUPS
   counted = r.count ∙ ok.group_count

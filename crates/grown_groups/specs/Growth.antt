@@ -8,7 +8,8 @@ use Rattle.scratch_group.specs.Blocks.{block_in}
 use Rattle.instance_table.specs.declared.member.Member.{Member}
 use Rattle.instance_table.specs.declared.shelves.Shelf.{Shelf}
 use Rattle.instance_table.specs.Shelves.{home_of}
-use Rattle.instance_table.specs.Table.{slot_at, once_at, IsUnshared, group_at, no_pieces, instance_of, is_member_of, Activity, activity_at, rested, with_activity}
+use Rattle.instance_table.specs.Table.{slot_at, once_at, group_at, no_pieces, instance_of, is_member_of, Activity, activity_at, rested, with_activity}
+use Rattle.instance_table.specs.Twins.{AreLeast, AreTogether}
 use Rattle.space_blocks.specs.declared.placed.Owner.TheVariants.{Record, Scratch}
 use Rattle.space_blocks.specs.Blocks.{owned}
 use Rattle.host_spaces.specs.declared.pieces.NewBlocks.{NewBlocks}
@@ -37,7 +38,8 @@ pub record ArePlaced {M : Type 0} (g : ℕ) (blocks : NewBlocks) (slots : List (
 -- each instance and each group has its blocks of the picture. Group g may have blocks before it has a member
 pub record AreGrown {M : Type 0} (g : ℕ) (slots : List (Option (Member M))) (once : List Shelf) (groups : List Group) (spaces : Spaces) : Type 0 where
   pub homes : (i : ℕ) (m : Member M) → slot_at slots i ≡ Some m → IsHome spaces i (home_of once i) (table_of m) (instance_of m.inst).own (once_at once i) (group_at groups m.group)
-  pub unshared : (i : ℕ) → IsUnshared once i
+  pub least : AreLeast once
+  pub together : AreTogether slots once
   pub free : (i : ℕ) → slot_at slots i ≡ None → once_at once i ≡ no_pieces
   pub blocks : (h : ℕ) → HasBlocks (picture_of spaces) h (group_at groups h)
   pub regions : (h : ℕ) (space : Space) → IsOf (space_in spaces space).region (block_piece (block_in (group_at groups h) space))

@@ -27,7 +27,7 @@ use Rattle.host_spaces.specs.declared.spaces.Spaces.{Spaces}
 use Rattle.host_spaces.specs.Picture.{Picture, blocks_in, blocks_without, is_group's, is_instance's, picture_of, space_in, without_owners}
 use Rattle.host_spaces.specs.Creation.{replaced_block, without_block, without_replaced}
 use Rattle.lifecycle.specs.Rooms.{lasting_piece}
-use Rattle.host_spaces.specs.Pieces.{ArePiecesOf, HasRecords, IsPieceOf, is_write_once, old_piece, record_block, without_pieces}
+use Rattle.host_spaces.specs.Pieces.{ArePlacedPieces, HasRecords, IsPieceOf, is_placed_once, old_piece, record_block, without_pieces}
 use Rattle.host_spaces.proofs.Pictures.{by_space, daram_external, daram_saram, pictures_equal, saram_external, seen_blocks}
 use Rattle.host_spaces.proofs.Granting.{block_if, itself_space, other_is}
 
@@ -109,49 +109,51 @@ instance_gone i bs none =
 
 -- ---- a record's piece
 
-one_piece : (home : Extent) (n : ℕ) (a : Attr) (own shared : Option Span) → IsPieceOf home n (is_persistent a) own → IsPieceOf home n (is_write_once a) shared → option_or own shared ≡ lasting_piece a own shared
-one_piece home n ScratchRecord None None is it = refl
-one_piece home n ScratchRecord None (Some q) is it = clash false it.0 refl
-one_piece home n ScratchRecord (Some p) shared is it = clash false is.0 refl
-one_piece home n Persist None shared is it = clash true refl is
-one_piece home n Persist (Some p) shared is it = refl
-one_piece home n WriteOnce None shared is it = refl
-one_piece home n WriteOnce (Some p) shared is it = clash false is.0 refl
+one_piece : (home : Extent) (n : ℕ) (a : Attr) (twin : Option ℕ) (own shared : Option Span) → IsPieceOf home n (is_persistent a) own → IsPieceOf home n (is_placed_once twin a) shared → option_or own shared ≡ lasting_piece a own shared
+one_piece home n ScratchRecord twin None None is it = refl
+one_piece home n ScratchRecord None None (Some q) is it = clash false it.0 refl
+one_piece home n ScratchRecord (Some twin) None (Some q) is it = clash false it.0 refl
+one_piece home n ScratchRecord twin (Some p) shared is it = clash false is.0 refl
+one_piece home n Persist twin None shared is it = clash true refl is
+one_piece home n Persist twin (Some p) shared is it = refl
+one_piece home n WriteOnce twin None shared is it = refl
+one_piece home n WriteOnce twin (Some p) shared is it = clash false is.0 refl
 
 no_some : (o : Option Span) → o ≡ None → IsSome o → ⊥
 no_some None e some = let bad : false ≡ true = some in cc
 no_some (Some p) e some = let bad : Some p ≡ None = e in cc
 
-pub not_both : (home : Extent) (n : ℕ) (a : Attr) (own shared : Option Span) → IsPieceOf home n (is_persistent a) own → IsPieceOf home n (is_write_once a) shared → IsSome own → shared ≡ None
-not_both home n a None shared is it some = absurd (no_some None refl some)
-not_both home n a (Some p) None is it some = refl
-not_both home n ScratchRecord (Some p) (Some q) is it some = clash false is.0 refl
-not_both home n Persist (Some p) (Some q) is it some = clash false it.0 refl
-not_both home n WriteOnce (Some p) (Some q) is it some = clash false is.0 refl
+pub not_both : (home : Extent) (n : ℕ) (a : Attr) (twin : Option ℕ) (own shared : Option Span) → IsPieceOf home n (is_persistent a) own → IsPieceOf home n (is_placed_once twin a) shared → IsSome own → shared ≡ None
+not_both home n a twin None shared is it some = absurd (no_some None refl some)
+not_both home n a twin (Some p) None is it some = refl
+not_both home n ScratchRecord twin (Some p) (Some q) is it some = clash false is.0 refl
+not_both home n Persist None (Some p) (Some q) is it some = clash false it.0 refl
+not_both home n Persist (Some twin) (Some p) (Some q) is it some = clash false it.0 refl
+not_both home n WriteOnce twin (Some p) (Some q) is it some = clash false is.0 refl
 
-home_of : (home : Extent) (n : ℕ) (a : Attr) (own shared : Option Span) → IsPieceOf home n (is_persistent a) own → IsPieceOf home n (is_write_once a) shared → IfSome (option_or own shared) (λ p. p.region ≡ home)
-home_of home n a None None is it = tt
-home_of home n a None (Some q) is it = it.1
-home_of home n a (Some p) shared is it = is.1
+home_of : (home : Extent) (n : ℕ) (a : Attr) (twin : Option ℕ) (own shared : Option Span) → IsPieceOf home n (is_persistent a) own → IsPieceOf home n (is_placed_once twin a) shared → IfSome (option_or own shared) (λ p. p.region ≡ home)
+home_of home n a twin None None is it = tt
+home_of home n a twin None (Some q) is it = it.1
+home_of home n a twin (Some p) shared is it = is.1
 
 -- its block in a space
 abbrev pub placed_in : Owner → Space → ℕ → Option Span → Space → List Placed
 placed_in o sp al q any = if same_space sp any then block_of_piece o al q else []
 
-module _ (old : Spaces) (i : ℕ) (table : List MemRec) (own shared : Pieces) (pieces : ArePiecesOf old table own shared) (records : HasRecords (picture_of old) i table own shared)
+module _ (old : Spaces) (i : ℕ) (table : List MemRec) (own shared : Pieces) (pieces : (twins : ℕ → Option ℕ) × ArePlacedPieces old table twins own shared) (records : HasRecords (picture_of old) i table own shared)
     (k : ℕ) (sp : Space) (there : sp ≡ (record_at table k).space) (q : Option Span) (is : q ≡ option_or (piece_at own k) (piece_at shared k)) where
   pub its_block : (any : Space) → owned (Record i k) (space_in old any).blocks ≡ placed_in (Record i k) sp (record_at table k).align q any
   its_block any =
       let home = (space_in old (record_at table k).space).region in let n = placed_size (record_at table k).size in
       ap (owned (Record i k)) (sym (seen_blocks old any)) ∙ records k any
-      ∙ ap (record_block i k (record_at table k) any) (sym (is ∙ one_piece home n (record_at table k).attr (piece_at own k) (piece_at shared k) (pieces.persistent k) (pieces.write_once k)))
+      ∙ ap (record_block i k (record_at table k) any) (sym (is ∙ one_piece home n (record_at table k).attr (pieces.0 k) (piece_at own k) (piece_at shared k) (pieces.1.persistent k) (pieces.1.write_once k)))
       ∙ ap (λ x. placed_in (Record i k) x (record_at table k).align q any) (sym there)
 
   pub its_home : IfSome q (λ p. p.region ≡ (space_in old sp).region)
   its_home =
       subst (λ x. IfSome q (λ p. p.region ≡ (space_in old x).region)) (sym there)
       (subst (λ x. IfSome x (λ p. p.region ≡ (space_in old (record_at table k).space).region)) (sym is)
-      (home_of (space_in old (record_at table k).space).region (placed_size (record_at table k).size) (record_at table k).attr (piece_at own k) (piece_at shared k) (pieces.persistent k) (pieces.write_once k)))
+      (home_of (space_in old (record_at table k).space).region (placed_size (record_at table k).size) (record_at table k).attr (pieces.0 k) (piece_at own k) (piece_at shared k) (pieces.1.persistent k) (pieces.1.write_once k)))
 
 module _ (o : Owner) (sp : Space) (al : ℕ) (s : Spaces) where
   owned_here : (q : Option Span) → ((any : Space) → owned o (space_in s any).blocks ≡ placed_in o sp al q any) → owned o (space_in s sp).blocks ≡ block_of_piece o al q

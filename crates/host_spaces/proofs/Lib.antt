@@ -6,3 +6,4 @@ pub mod Limits
 pub mod Steps
 pub mod Granting
 pub mod Leaving
+pub mod Renaming

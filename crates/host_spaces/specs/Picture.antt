@@ -7,7 +7,7 @@ use Rattle.space_heap.specs.Places.{least_place}
 use Rattle.space_blocks.specs.declared.placed.Owner.{Owner}
 use Rattle.space_blocks.specs.declared.placed.Owner.TheVariants.{Record, Scratch}
 use Rattle.space_blocks.specs.declared.placed.Placed.{Placed}
-use Rattle.space_blocks.specs.Blocks.{owned, ranges, with_block}
+use Rattle.space_blocks.specs.Blocks.{owned, ranges, renamed_blocks, with_block}
 use Rattle.space_blocks.specs.Moves.{moved, packed}
 use Rattle.space_blocks.specs.Spaces.{SpaceState}
 use Rattle.host_spaces.specs.declared.spaces.Sizes.{Sizes}
@@ -61,6 +61,10 @@ is_instance's i (Scratch g) = false
 abbrev pub is_group's : ℕ → Owner → Bool
 is_group's g (Record i k) = false
 is_group's g (Scratch h) = g == h
+
+-- the picture with another owner of each block
+abbrev pub renamed : (Owner → Owner) → Picture → Picture
+renamed new picture = each_space (λ space. renamed_blocks new (blocks_in picture space))
 
 -- without the blocks of the owners that pass the test
 abbrev pub blocks_without : (Owner → Bool) → List Placed → List Placed

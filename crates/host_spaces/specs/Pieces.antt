@@ -61,6 +61,22 @@ pub record ArePiecesOf (spaces : Spaces) (table : List MemRec) (own shared : Pie
   pub write_once : (k : ℕ) → IsPieceOf (space_in spaces (record_at table k).space).region (placed_size (record_at table k).size)
       (is_write_once (record_at table k).attr) (piece_at shared k)
 
+-- whether a write-once record gets a piece: where no other instance shares it, its twin
+abbrev pub is_placed_once : Option ℕ → Attr → Bool
+is_placed_once None a = is_write_once a
+is_placed_once (Some twin) a = false
+
+-- the same without the pieces of the records that another instance shares
+pub record ArePlacedPieces (spaces : Spaces) (table : List MemRec) (twins : ℕ → Option ℕ) (own shared : Pieces) : Type 0 where
+  pub persistent : (k : ℕ) → IsPieceOf (space_in spaces (record_at table k).space).region (placed_size (record_at table k).size)
+      (is_persistent (record_at table k).attr) (piece_at own k)
+  pub write_once : (k : ℕ) → IsPieceOf (space_in spaces (record_at table k).space).region (placed_size (record_at table k).size)
+      (is_placed_once (twins k) (record_at table k).attr) (piece_at shared k)
+
+-- write-once records alone have twins
+abbrev pub AreSharable : List MemRec → (ℕ → Option ℕ) → Type 0
+AreSharable table twins = (k j : ℕ) → twins k ≡ Some j → is_write_once (record_at table k).attr ≡ true
+
 abbrev pub new_block : NewBlocks → Space → Option ScratchBlock
 new_block blocks Daram = blocks.daram
 new_block blocks Saram = blocks.saram

@@ -41,9 +41,9 @@ abbrev pub block_need : List MemRec → Group → Space → Option Need
 block_need table group space = block_needed (block_in group space) (scratch_need table space) (scratch_align table space)
 
 -- what each of the four records needs, and the group in each space
-abbrev pub wants_of : ℕ → ℕ → List MemRec → Group → List (Option Wanted)
-wants_of i g table group =
-    record_wanted i 0 (record_at table 0) ∷ record_wanted i 1 (record_at table 1) ∷ record_wanted i 2 (record_at table 2) ∷ record_wanted i 3 (record_at table 3)
+abbrev pub wants_of : (ℕ → Option ℕ) → ℕ → ℕ → List MemRec → Group → List (Option Wanted)
+wants_of twins i g table group =
+    record_wanted twins i 0 (record_at table 0) ∷ record_wanted twins i 1 (record_at table 1) ∷ record_wanted twins i 2 (record_at table 2) ∷ record_wanted twins i 3 (record_at table 3)
     ∷ need_wanted g Daram (block_need table group Daram) ∷ need_wanted g Saram (block_need table group Saram) ∷ need_wanted g External (block_need table group External) ∷ []
 
 -- those that need something

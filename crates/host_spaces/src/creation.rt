@@ -7,34 +7,36 @@ ghost use Rattle.space_blocks.specs.declared.placed.Owner.{Owner};
 ghost use Rattle.space_blocks.specs.declared.placed.Owner.TheVariants.{Record, Scratch};
 ghost use Rattle.space_blocks.specs.Blocks.{owned};
 ghost use Rattle.host_spaces.specs.Picture.{AreSameSpaces, blocks_in, picture_of, sizes_of, space_in};
-ghost use Rattle.host_spaces.specs.Creation.{all_placed, result_map, wanted_by};
-ghost use Rattle.host_spaces.specs.Pieces.{ArePiecesOf, HasBlocks, HasRecords, IsNeeded, IsPoisoned, new_block, with_new};
+ghost use Rattle.host_spaces.specs.Creation.{all_placed, result_map, twin_at, wanted_by};
+ghost use Rattle.host_spaces.specs.Pieces.{ArePlacedPieces, AreSharable, HasBlocks, HasRecords, IsNeeded, IsPoisoned, new_block, with_new};
 ghost use Rattle.host_spaces.specs.Wants.{block_need};
 
 use crate::pieces::{Placement, as_placement};
 use crate::placing::place_from;
 use crate::spaces::Spaces;
-use crate::wants::wants;
+use crate::wants::{Twins, wants};
 use mem_rec::{MemTab, Space};
 use scratch_group::Group;
 
 impl Spaces {
-    /// Places all blocks that a new instance `i` with this table needs: its records that aren't scratch, in table order, and then the
-    /// blocks that its group `g` needs for it in `daram`, `saram` and `external`, while the group's old blocks still stand. Or says the
+    /// Places all blocks that a new instance `i` with this table needs: its records that aren't scratch and have no twin, in table order,
+    /// and then the blocks that its group `g` needs for it in `daram`, `saram` and `external`, while the group's old blocks still stand. Or says the
     /// space of the first block that has no place; then nothing has happened. Where there is a poison word, it fills what was placed.
     pub fn place_instance(
         &mut self,
         i: u8,
         g: u8,
         table: &MemTab,
+        twins: &Twins,
         old: &Group,
         poison: Option<i16>,
     ) -> Result<Placement, Space>
         requires blocks { HasBlocks (picture_of self.old) g old.now }
+        requires twins { AreSharable table.now (twin_at twins.now) }
         requires records { (k : ℕ) (space : Space) → owned (Record i k) (blocks_in (picture_of self.old) space) ≡ [] }
         requires room { (space : Space) → length (blocks_in (picture_of self.old) space) + TABLE_RECORDS < SPACE_BLOCKS }
-        ensures exact { all_placed (sizes_of self.old) (picture_of self.old) (wanted_by (picture_of self.old) i g table.now) ≡ result_map (λ _. picture_of self.new) result }
-        ensures pieces { IfOk result (λ made. ArePiecesOf self.old table.now made.own made.shared) }
+        ensures exact { all_placed (sizes_of self.old) (picture_of self.old) (wanted_by (twin_at twins.now) (picture_of self.old) i g table.now) ≡ result_map (λ _. picture_of self.new) result }
+        ensures pieces { IfOk result (λ made. ArePlacedPieces self.old table.now (twin_at twins.now) made.own made.shared) }
         ensures records { IfOk result (λ made. HasRecords (picture_of self.new) i table.now made.own made.shared) }
         ensures needed { IfOk result (λ made. (space : Space) → IsNeeded (space_in self.old space).region (block_need table.now old.now space) (new_block made.blocks space)) }
         ensures blocks { IfOk result (λ made. (space : Space) → owned (Scratch g) (blocks_in (picture_of self.new) space)
@@ -47,7 +49,7 @@ impl Spaces {
     {
         // it has four records at most
         let _records = table.records();
-        let wants = wants(self, i, g, table, old);
+        let wants = wants(self, i, g, table, twins, old);
         let granted = match place_from(self, &wants, 0, poison) {
             Ok(granted) => granted,
             Err(space) => return Err(space),

@@ -1,5 +1,5 @@
 //! Blocks that go back.
-ghost use Rattle.std.specs.Prelude.{◌≡◌, ◌≢◌, ℕ, None, IfSome, IsSome};
+ghost use Rattle.std.specs.Prelude.{◌≡◌, ◌≢◌, ℕ, Option, None, IfSome, IsSome};
 ghost use Rattle.std.specs.Option.{option_or};
 ghost use Rattle.mem_rec.specs.declared.Space.{Space};
 ghost use Rattle.space_blocks.specs.declared.placed.Owner.{Owner};
@@ -7,7 +7,7 @@ ghost use Rattle.space_blocks.specs.declared.placed.Owner.TheVariants.{Record, S
 ghost use Rattle.space_blocks.specs.Blocks.{Owns, block_of_piece, disowned, owned, without_piece};
 ghost use Rattle.ialg.specs.Records.{record_at};
 ghost use Rattle.host_spaces.specs.Picture.{AreSameSpaces, blocks_in, is_group's, is_instance's, picture_of, space_in, without_owners};
-ghost use Rattle.host_spaces.specs.Pieces.{ArePiecesOf, HasRecords, old_piece, without_pieces};
+ghost use Rattle.host_spaces.specs.Pieces.{ArePlacedPieces, HasRecords, old_piece, without_pieces};
 
 use crate::pieces::OldBlocks;
 use crate::spaces::Spaces;
@@ -54,9 +54,9 @@ impl Spaces {
         self.give_back(Space::External, external);
     }
 
-    /// The pieces of the records of instance `i`, which has this table, go back.
+    /// The pieces of the records of instance `i`, which has this table, go back: those that no other instance shares.
     pub fn take_out_records(&mut self, i: u8, table: &MemTab, own: Pieces, shared: Pieces)
-        requires pieces { ArePiecesOf self.old table.now own shared }
+        requires pieces { (twins : ℕ → Option ℕ) × ArePlacedPieces self.old table.now twins own shared }
         requires records { HasRecords (picture_of self.old) i table.now own shared }
         ensures picture { picture_of self.new ≡ without_owners (is_instance's i) (picture_of self.old) }
         ensures others { (o : Owner) (space : Space) → ((k : ℕ) → o ≢ Record i k) → owned o (blocks_in (picture_of self.new) space) ≡ owned o (blocks_in (picture_of self.old) space) }

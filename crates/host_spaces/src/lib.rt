@@ -9,6 +9,7 @@ mod granted;
 mod laws;
 mod pieces;
 mod placing;
+mod sharing;
 mod spaces;
 mod start;
 #[cfg(test)]
@@ -19,4 +20,4 @@ pub use laws::creations;
 pub use pieces::{NewBlocks, OldBlocks, Placement};
 pub use spaces::{Sizes, Spaces};
 pub use start::{EmptySpaces, StartError};
-pub use wants::Wanted;
+pub use wants::{Twins, Wanted};

@@ -39,7 +39,7 @@ fn refuse(rt: &impl Abort, alloc: Global, sizes: Sizes, full: Space) {
     let table = table(rt);
     let group = Group::new();
     let mut spaces = Spaces::new(alloc, sizes).expect(rt, "memory");
-    let refused = spaces.place_instance(5, 2, &table, &group, None);
+    let refused = spaces.place_instance(5, 2, &table, &[None; 4], &group, None);
     assert!(rt; refused.is_err());
     match refused {
         Ok(_placement) => unreachable!(),

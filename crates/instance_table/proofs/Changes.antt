@@ -260,7 +260,7 @@ module _ {M : Type 0} (H : ℕ → Member M → Pieces → Group → Type 0) (sl
         → SlotKeeps meaning idle_keeps active_keeps w (slot_at (set slots i (Some (record { group = g; inst = inst }))) j) (once_at once' j) (set groups g y) h
     keeps_there meaning idle_keeps active_keeps w j apart h keeps =
         let beside = slot_keeps_other meaning idle_keeps active_keeps w groups g y (slot_at slots j) (once_at once j) h (λ a. apart (alone j (ok.active_known g j a))) keeps in
-        rw (slot_other j apart) (slot_sees meaning idle_keeps active_keeps w (once_at once j) (once_at once' j) h (slot_at slots j) (set groups g y) (λ n at. sees.written j n apart at) beside)
+        rw (slot_other j apart) (slot_sees meaning idle_keeps active_keeps w (once_at once j) (once_at once' j) h (slot_at slots j) (set groups g y) (λ n at lawful. sees.written j n apart at) beside)
 
     -- the instance went on by one step from its history to h
     pub keeps_by_step : (meaning : Meaning M) (idle_keeps active_keeps : Relation M) (w : Option ℤ) (histories : ℕ → History) (h : History)

@@ -10,11 +10,11 @@ use Rattle.instance_table.specs.declared.member.Member.{Member}
 use Rattle.instance_table.specs.declared.shelves.Stand.{Stand}
 use Rattle.instance_table.specs.declared.shelves.Stand.TheVariants.{Here, With}
 use Rattle.instance_table.specs.declared.shelves.Shelf.{Shelf}
-use Rattle.instance_table.specs.Shelves.{stand_at, piece_here, no_shelf, shelf_at, home_by, piece_seen}
+use Rattle.instance_table.specs.Shelves.{stand_at, piece_here, no_shelf, shelf_at, piece_seen}
 use Rattle.instance_table.specs.Homes.{IsPieceHere, AllHaveHomes, IsSameStand, SameShelves}
 use Rattle.instance_table.specs.Holders.{stands_with, holder_from, next_holder, piece_left, left_with, pointed, stand_next, stand_without}
 use Rattle.instance_table.specs.Table.{slot_at, once_at, IsHolder, AreHeld, AreBare}
-use Rattle.instance_table.proofs.Stands.{four_pieces, seen_here}
+use Rattle.instance_table.proofs.Stands.{four_pieces, seen_here, seen_with}
 use Rattle.instance_table.proofs.Lent.{four_stands, no_stand}
 use Rattle.instance_table.proofs.Held.{alike_both}
 
@@ -26,10 +26,10 @@ equal_to i =
       | inr e ↦ absurd (e.1 refl)
     ]
 
-with_told : (i : ℕ) (s : Stand) → s ≡ With i → stands_with i s ≡ true
+pub with_told : (i : ℕ) (s : Stand) → s ≡ With i → stands_with i s ≡ true
 with_told i s is = rw is (equal_to i)
 
-with_of : (i : ℕ) (s : Stand) → stands_with i s ≡ true → s ≡ With i
+pub with_of : (i : ℕ) (s : Stand) → stands_with i s ≡ true → s ≡ With i
 with_of i (Here p) told = absurd (true≢false (sym told))
 with_of i (With h) told =
     elim (eqb_tells h i) [
@@ -45,7 +45,7 @@ with_not i (With h) other =
       | inr e ↦ e.0
     ]
 
-told_or_not : (b : Bool) → (b ≡ true) ⊎ (b ≡ false)
+pub told_or_not : (b : Bool) → (b ≡ true) ⊎ (b ≡ false)
 told_or_not true = inl refl
 told_or_not false = inr refl
 
@@ -65,6 +65,11 @@ pub next_of : (once : List Shelf) (i k j : ℕ) → stand_at (shelf_at once j) k
 next_of once i k j is =
     let next = next_from 0 once i k j is in
     (next.0, next.1 ∙ ap Some (omega arith), next.2)
+
+-- past the records nobody is next
+pub next_past : (n : ℕ) (once : List Shelf) (i k : ℕ) → holder_from n once i (suc (suc (suc (suc k)))) ≡ None
+next_past n [] i k = refl
+next_past n (s ∷ once) i k = next_past (suc n) once i k
 
 -- only this record of each instance says who is next
 pub next_same : (n i k : ℕ) (a b : List Shelf) → length a ≡ length b → ((j : ℕ) → stands_with i (stand_at (shelf_at a j) k) ≡ stands_with i (stand_at (shelf_at b j) k)) → holder_from n a i k ≡ holder_from n b i k
@@ -94,7 +99,7 @@ without_apart once i k j apart other =
       | inr e ↦ rw (e.0, with_not i (stand_at (shelf_at once j) k) other) refl
     ]
 
-without_held : (once : List Shelf) (i k j h : ℕ) → j ≢ i → stand_at (shelf_at once j) k ≡ With i → next_holder once i k ≡ Some h
+pub without_held : (once : List Shelf) (i k j h : ℕ) → j ≢ i → stand_at (shelf_at once j) k ≡ With i → next_holder once i k ≡ Some h
     → stand_without once i k j ≡ stand_next (Some h) (stand_at (shelf_at once i) k) j
 without_held once i k j h apart is next =
     elim (eqb_tells j i) [
@@ -102,14 +107,14 @@ without_held once i k j h apart is next =
       | inr e ↦ rw (e.0, with_told i (stand_at (shelf_at once j) k) is, next) refl
     ]
 
-next_here : (h : ℕ) (s : Stand) (j : ℕ) → j ≡ h → stand_next (Some h) s j ≡ s
+pub next_here : (h : ℕ) (s : Stand) (j : ℕ) → j ≡ h → stand_next (Some h) s j ≡ s
 next_here h s j same =
     elim (eqb_tells j h) [
       | inl e ↦ rw e.0 refl
       | inr e ↦ absurd (e.1 same)
     ]
 
-next_there : (h : ℕ) (s : Stand) (j : ℕ) → j ≢ h → stand_next (Some h) s j ≡ With h
+pub next_there : (h : ℕ) (s : Stand) (j : ℕ) → j ≢ h → stand_next (Some h) s j ≡ With h
 next_there h s j apart =
     elim (eqb_tells j h) [
       | inl e ↦ absurd (apart e.1)
@@ -168,10 +173,6 @@ without_stays a b i k j count stands =
           ]
     ]
 
--- what is seen of a record that stands with another instance
-seen_with : (once : List Shelf) (i k h : ℕ) → stand_at (shelf_at once i) k ≡ With h → piece_seen once i k ≡ piece_here (stand_at (shelf_at once h) k)
-seen_with once i k h is = ap (λ (s : Stand). piece_here (stand_at (shelf_at once (home_by i s)) k)) is
-
 holders_then : {M : Type 0} (k : ℕ) (a b home : Option (Member M)) (s t : Stand) → IsHolder k a home s → IsHolder k b home s → IsPieceHere t → IsHolder k a b t
 holders_then k None b home s t first second here = first
 holders_then k (Some m) None home s t first second here = absurd second
@@ -179,22 +180,22 @@ holders_then k (Some m) (Some n) home s t first second here = (alike_both k m n 
 
 -- what stands with instance i is handed on
 module _ (once once' : List Shelf) (i : ℕ) (homes : AllHaveHomes once) (handed : (j k : ℕ) → stand_at (shelf_at once' j) k ≡ stand_without once i k j) where
-  stays_here : (j k : ℕ) (p : Option Span) → j ≢ i → stand_at (shelf_at once j) k ≡ Here p → stand_at (shelf_at once' j) k ≡ Here p
+  pub stays_here : (j k : ℕ) (p : Option Span) → j ≢ i → stand_at (shelf_at once j) k ≡ Here p → stand_at (shelf_at once' j) k ≡ Here p
   stays_here j k p apart is =
       let other : stand_at (shelf_at once j) k ≢ With i = λ e. (let both : Here p ≡ With i = sym is ∙ e in cc) in
       handed j k ∙ without_apart once i k j apart other ∙ is
 
-  stays_with : (j k g : ℕ) → j ≢ i → g ≢ i → stand_at (shelf_at once j) k ≡ With g → stand_at (shelf_at once' j) k ≡ With g
+  pub stays_with : (j k g : ℕ) → j ≢ i → g ≢ i → stand_at (shelf_at once j) k ≡ With g → stand_at (shelf_at once' j) k ≡ With g
   stays_with j k g apart elsewhere is =
       let other : stand_at (shelf_at once j) k ≢ With i = λ e. elsewhere (let both : With g ≡ With i = sym is ∙ e in cc) in
       handed j k ∙ without_apart once i k j apart other ∙ is
 
   -- a record that stood with i: it stands with the next holder h
-  goes : (j k h : ℕ) → j ≢ i → stand_at (shelf_at once j) k ≡ With i → next_holder once i k ≡ Some h → stand_at (shelf_at once' j) k ≡ stand_next (Some h) (stand_at (shelf_at once i) k) j
+  pub goes : (j k h : ℕ) → j ≢ i → stand_at (shelf_at once j) k ≡ With i → next_holder once i k ≡ Some h → stand_at (shelf_at once' j) k ≡ stand_next (Some h) (stand_at (shelf_at once i) k) j
   goes j k h apart is next = handed j k ∙ without_held once i k j h apart is next
 
   -- which is another instance
-  next_apart : (h k : ℕ) → stand_at (shelf_at once h) k ≡ With i → h ≢ i
+  pub next_apart : (h k : ℕ) → stand_at (shelf_at once h) k ≡ With i → h ≢ i
   next_apart h k is same =
       let here = homes h k i is in
       let both : With i ≡ Here (Some here.0) = sym is ∙ ap (λ (x : ℕ). stand_at (shelf_at once x) k) same ∙ here.1 in
@@ -321,7 +322,7 @@ next_is once i k h next =
     let same : h ≡ found.0 = omega (arith, found.1) in
     ap (λ (x : ℕ). stand_at (shelf_at once x) k) same ∙ found.2
 
-none_stands : (once : List Shelf) (i k j : ℕ) → next_holder once i k ≡ None → stand_at (shelf_at once j) k ≢ With i
+pub none_stands : (once : List Shelf) (i k j : ℕ) → next_holder once i k ≡ None → stand_at (shelf_at once j) k ≢ With i
 none_stands once i k j none is = let next = next_of once i k j is in none-some next.0 (sym none ∙ next.1)
 
 pointed_with : (i h : ℕ) (s : Stand) → s ≡ With i → pointed i h s ≡ With h

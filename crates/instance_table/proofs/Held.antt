@@ -54,13 +54,13 @@ alike_back k a b e = record {
 pub alike_then : {M : Type 0} (k : ℕ) (a b c : Instance M) → AreAlike k a b → AreAlike k b c → AreAlike k a c
 alike_then k a b c e f = record { kind = f.kind ∙ e.kind; params = f.params ∙ e.params; once = e.once; shape = f.shape ∙ e.shape }
 
-record_unplaced : (rs : List MemRec) (k : ℕ) → record_at (unplaced rs) k ≡ unbased (record_at rs k)
+pub record_unplaced : (rs : List MemRec) (k : ℕ) → record_at (unplaced rs) k ≡ unbased (record_at rs k)
 record_unplaced [] k = refl
 record_unplaced (r ∷ rs) zero = refl
 record_unplaced (r ∷ rs) (suc k) = record_unplaced rs k
 
 -- an instance that may go by other bases is alike
-same_shape : (rs rs' : List MemRec) (k : ℕ) → unplaced rs' ≡ unplaced rs → unbased (record_at rs' k) ≡ unbased (record_at rs k)
+pub same_shape : (rs rs' : List MemRec) (k : ℕ) → unplaced rs' ≡ unplaced rs → unbased (record_at rs' k) ≡ unbased (record_at rs k)
 same_shape rs rs' k same = sym (record_unplaced rs' k) ∙ ap (λ (ts : List MemRec). record_at ts k) same ∙ record_unplaced rs k
 
 -- write-once words that stay
@@ -86,7 +86,7 @@ holder_of_member None b same = same
 holder_of_member (Some m) None same = absurd same
 holder_of_member (Some m) (Some n) same = record { kind = same.kind; params = same.params; table = same.table }
 
-alike_stays : {M : Type 0} (k : ℕ) (a b : Member M) (m n : Member M) → SameHolder a m → SameHolder b n → AreAlike k (instance_of a.inst) (instance_of b.inst) → AreAlike k (instance_of m.inst) (instance_of n.inst)
+pub alike_stays : {M : Type 0} (k : ℕ) (a b : Member M) (m n : Member M) → SameHolder a m → SameHolder b n → AreAlike k (instance_of a.inst) (instance_of b.inst) → AreAlike k (instance_of m.inst) (instance_of n.inst)
 alike_stays k a b m n s t e =
     let first = same_shape (instance_of a.inst).table (instance_of m.inst).table k s.table in
     let second = same_shape (instance_of b.inst).table (instance_of n.inst).table k t.table in
@@ -121,7 +121,7 @@ piece_here_stays (Here None) (Here q) same here = let e : Here None ≡ Here (So
 piece_here_stays (Here (Some p)) (Here None) same here = absurd same
 piece_here_stays (Here (Some p)) (Here (Some q)) same here = (q, refl)
 
-with_before : (s s' : Stand) (home : ℕ) → IsSameStand s s' → s' ≡ With home → s ≡ With home
+pub with_before : (s s' : Stand) (home : ℕ) → IsSameStand s s' → s' ≡ With home → s ≡ With home
 with_before (Here p) (Here q) home same is = cc
 with_before (Here p) (With h) home same is = absurd same
 with_before (With h) s' home same is = sym same ∙ is

@@ -8,7 +8,7 @@ use Rattle.ialg.specs.History.{History}
 use Rattle.record_loans.specs.declared.pieces.Pieces.{Pieces}
 use Rattle.scratch_group.specs.declared.group.Group.{Group}
 use Rattle.record_loans.specs.Pieces.{SamePieces}
-use Rattle.lifecycle.specs.States.{Relation, SameOnce}
+use Rattle.lifecycle.specs.States.{Relation, SameOnce, IsLawful}
 use Rattle.instance_table.specs.declared.TheConstants.{INSTANCES, GROUPS}
 use Rattle.instance_table.specs.declared.member.Member.{Member}
 use Rattle.instance_table.specs.declared.shelves.Shelf.{Shelf}
@@ -19,7 +19,7 @@ use Rattle.instance_table.proofs.Housing.{housed_beside}
 use Rattle.instance_table.specs.Frames.{SameMember, IsSameMember}
 use Rattle.instance_table.proofs.Lent.{stands_lent, homes_of_all}
 use Rattle.instance_table.proofs.Held.{members_beside, homes_of_held, held_stays, bare_stays}
-use Rattle.instance_table.proofs.Sights.{Sees, sees_lent, slot_sees}
+use Rattle.instance_table.proofs.Sights.{Views, Sees, views_of, sees_lent, slot_sees}
 
 -- what holds of the member that is put in
 pub is_new : {M : Type 0} (K : ℕ → Member M → Pieces → Group → Type 0) (groups : List Group) (i : ℕ) (o : Pieces) (n : Member M) → n.group < GROUPS → K i n o (group_at groups n.group)
@@ -45,7 +45,7 @@ module _ {M : Type 0} (H : ℕ → Member M → Pieces → Group → Type 0) (sl
       ]
 
   -- with what each instance sees of write-once records afterwards
-  module _ (once' : List Shelf) (sees : Sees slots once i o once') where
+  module _ (once' : List Shelf) (sees : Views once i o once') where
     pub tables_by_still : (K : ℕ → Member M → Pieces → Group → Type 0) → AreHeld (set slots i x) once' → AreBare (set slots i x) once'
         → ((m : Member M) → x ≡ Some m → (m.group < GROUPS) × K i m o (group_at groups m.group))
         → ((j : ℕ) (n : Member M) → j ≢ i → slot_at slots j ≡ Some n → H j n (once_at once j) (group_at groups n.group) → K j n (once_at once' j) (group_at groups n.group))
@@ -72,24 +72,27 @@ module _ {M : Type 0} (H : ℕ → Member M → Pieces → Group → Type 0) (sl
       active_known = λ k j at. ok.active_known k j (sym (active_same j) ∙ at);
     }
 
+    -- the others keep their histories, where the words of write-once records stay
     pub keeps_by_still : (meaning : Meaning M) (idle_keeps active_keeps : Relation M) (w : Option ℤ) (histories : ℕ → History) (h : History)
+        → ((j : ℕ) (n : Member M) → j ≢ i → slot_at slots j ≡ Some n → IsLawful meaning (instance_of n.inst) w → SameOnce (instance_of n.inst).table (once_at once j) (once_at once' j))
         → SlotKeeps meaning idle_keeps active_keeps w x o groups h
         → Keeps meaning idle_keeps active_keeps w slots once groups histories
         → Keeps meaning idle_keeps active_keeps w (set slots i x) once' groups (with_history histories i h)
-    keeps_by_still meaning idle_keeps active_keeps w histories h new keeps j =
+    keeps_by_still meaning idle_keeps active_keeps w histories h written new keeps j =
         elim (eqb_tells j i) [
           | inl e ↦ rw (e.0, e.1, slot_same, sees.here) new
-          | inr e ↦ rw (e.0, slot_other j e.1) (slot_sees meaning idle_keeps active_keeps w (once_at once j) (once_at once' j) (histories j) (slot_at slots j) groups (λ n at. sees.written j n e.1 at) (keeps j))
+          | inr e ↦ rw (e.0, slot_other j e.1) (slot_sees meaning idle_keeps active_keeps w (once_at once j) (once_at once' j) (histories j) (slot_at slots j) groups (λ n at lawful. written j n e.1 at lawful) (keeps j))
         ]
 
     pub keeps_by_end : (meaning : Meaning M) (idle_keeps active_keeps : Relation M) (w : Option ℤ) (histories : ℕ → History)
+        → ((j : ℕ) (n : Member M) → j ≢ i → slot_at slots j ≡ Some n → SameOnce (instance_of n.inst).table (once_at once j) (once_at once' j))
         → SlotKeeps meaning idle_keeps active_keeps w x o groups (histories i)
         → Keeps meaning idle_keeps active_keeps w slots once groups histories
         → Keeps meaning idle_keeps active_keeps w (set slots i x) once' groups histories
-    keeps_by_end meaning idle_keeps active_keeps w histories new keeps j =
+    keeps_by_end meaning idle_keeps active_keeps w histories written new keeps j =
         elim (eqb_tells j i) [
           | inl e ↦ rw (e.1, slot_same, sees.here) new
-          | inr e ↦ rw (slot_other j e.1) (slot_sees meaning idle_keeps active_keeps w (once_at once j) (once_at once' j) (histories j) (slot_at slots j) groups (λ n at. sees.written j n e.1 at) (keeps j))
+          | inr e ↦ rw (slot_other j e.1) (slot_sees meaning idle_keeps active_keeps w (once_at once j) (once_at once' j) (histories j) (slot_at slots j) groups (λ n at lawful. written j n e.1 at) (keeps j))
         ]
 
   -- where an instance stays there, and its pieces were put back at their homes
@@ -109,7 +112,7 @@ module _ {M : Type 0} (H : ℕ → Member M → Pieces → Group → Type 0) (sl
     tables_by_quiet K n new same range here there =
         let i_in : i < length slots = omega (arith, inside, ok.slot_count) in
         let members : (j : ℕ) → IsSameMember (slot_at slots j) (slot_at (set slots i x) j) = rw new (members_beside slots i m n at i_in same) in
-        tables_by_still (with_seen once i o) own_sight K
+        tables_by_still (with_seen once i o) (views_of slots once i o (with_seen once i o) own_sight) K
         (held_stays slots (set slots i x) once (with_seen once i o) members own_stands ok.held)
         (bare_stays slots (set slots i x) once (with_seen once i o) members own_stands ok.bare)
         (λ q is. is_new K groups i o n range here q (sym new ∙ is)) there
@@ -118,9 +121,10 @@ module _ {M : Type 0} (H : ℕ → Member M → Pieces → Group → Type 0) (sl
         → SlotKeeps meaning idle_keeps active_keeps w x o groups (histories i)
         → Keeps meaning idle_keeps active_keeps w slots once groups histories
         → Keeps meaning idle_keeps active_keeps w (set slots i x) (with_seen once i o) groups histories
-    keeps_after_end meaning idle_keeps active_keeps w histories new keeps = keeps_by_end (with_seen once i o) own_sight meaning idle_keeps active_keeps w histories new keeps
+    keeps_after_end meaning idle_keeps active_keeps w histories new keeps =
+        keeps_by_end (with_seen once i o) (views_of slots once i o (with_seen once i o) own_sight) meaning idle_keeps active_keeps w histories own_sight.written new keeps
 
-pub ok_after_still : {M : Type 0} (slots : List (Option (Member M))) (once : List Shelf) (groups : List Group) (i : ℕ) (x : Option (Member M)) (o : Pieces) (once' : List Shelf) → Sees slots once i o once'
+pub ok_after_still : {M : Type 0} (slots : List (Option (Member M))) (once : List Shelf) (groups : List Group) (i : ℕ) (x : Option (Member M)) (o : Pieces) (once' : List Shelf) → Views once i o once'
     → AreHeld (set slots i x) once' → AreBare (set slots i x) once'
     → TablesOk slots once groups → i < INSTANCES → slot_active_in (slot_at slots i) ≡ None → slot_active_in x ≡ None
     → ((m : Member M) → x ≡ Some m → (m.group < GROUPS) × IsHoused (instance_of m.inst) o (group_at groups m.group)) → TablesOk (set slots i x) once' groups

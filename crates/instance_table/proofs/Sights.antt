@@ -14,7 +14,7 @@ use Rattle.scratch_group.specs.Blocks.{block_in}
 use Rattle.scratch_group.specs.Words.{words_by, record_words, active_words, lasting_words_by, idle_record_words, idle_words, scratch_offset}
 use Rattle.lifecycle.specs.declared.instance.Inst.{Inst}
 use Rattle.lifecycle.specs.declared.instance.Inst.TheVariants.{Idling, Running}
-use Rattle.lifecycle.specs.States.{Relation, SameOnce}
+use Rattle.lifecycle.specs.States.{Relation, SameOnce, IsLawful}
 use Rattle.instance_table.specs.declared.member.Member.{Member}
 use Rattle.instance_table.specs.declared.shelves.Shelf.{Shelf}
 use Rattle.instance_table.specs.Homes.{with_seen}
@@ -24,12 +24,21 @@ use Rattle.instance_table.proofs.Homes.{count_seen, lent_here}
 use Rattle.instance_table.proofs.Lent.{homes_of_all, pieces_lent, words_lent}
 use Rattle.instance_table.proofs.Held.{homes_of_held, alike_at}
 
--- instance i sees the pieces o from now on, and each other one sees the same pieces, with the same words of its write-once records
+-- instance i sees the pieces o from now on, and each other one sees the same pieces
+pub record Views (once : List Shelf) (i : ℕ) (o : Pieces) (once' : List Shelf) : Type 0 where
+  pub count : length once' ≡ length once
+  pub here : once_at once' i ≡ o
+  pub others : (j : ℕ) → j ≢ i → SamePieces (once_at once j) (once_at once' j)
+
+-- and with the same words of its write-once records
 pub record Sees {M : Type 0} (slots : List (Option (Member M))) (once : List Shelf) (i : ℕ) (o : Pieces) (once' : List Shelf) : Type 0 where
   pub count : length once' ≡ length once
   pub here : once_at once' i ≡ o
   pub others : (j : ℕ) → j ≢ i → SamePieces (once_at once j) (once_at once' j)
   pub written : (j : ℕ) (n : Member M) → j ≢ i → slot_at slots j ≡ Some n → SameOnce (instance_of n.inst).table (once_at once j) (once_at once' j)
+
+pub views_of : {M : Type 0} (slots : List (Option (Member M))) (once : List Shelf) (i : ℕ) (o : Pieces) (once' : List Shelf) → Sees slots once i o once' → Views once i o once'
+views_of slots once i o once' sees = record { count = sees.count; here = sees.here; others = sees.others }
 
 -- where its pieces were put back at their homes, with the same words of its write-once records
 pub sees_lent : {M : Type 0} (slots : List (Option (Member M))) (once : List Shelf) (i : ℕ) (m : Member M) (o : Pieces) → AreHeld slots once → i < length once → slot_at slots i ≡ Some m
@@ -47,7 +56,7 @@ sees_lent slots once i m o held inside at pieces written =
           (both.once, sym (ap (λ (r : MemRec). r.size) both.shape)));
     }
 
--- an instance whose write-once words stay keeps its history
+-- an instance whose write-once words stay keeps its history: one that is lawful, since the others owe nothing
 
 lasting_written : (a : Attr) (n : ℕ) (own s s' : List ℤ) → (a ≡ WriteOnce → take n s' ≡ take n s) → lasting_words_by a n own s' ≡ lasting_words_by a n own s
 lasting_written Scratch n own s s' same = refl
@@ -83,12 +92,12 @@ active_written : (rs : List MemRec) (own shared shared' : Pieces) (g : Group) �
 active_written rs own shared shared' g same = four_same (record_words rs own shared g) (record_words rs own shared' g) (record_written rs own shared shared' g same)
 
 module _ {M : Type 0} (meaning : Meaning M) (idle_keeps active_keeps : Relation M) (w : Option ℤ) (shared shared' : Pieces) (h : History) where
-  inst_sees : (inst : Inst M) (g : Group) → SameOnce (instance_of inst).table shared shared'
+  inst_sees : (inst : Inst M) (g : Group) → (IsLawful meaning (instance_of inst) w → SameOnce (instance_of inst).table shared shared')
       → InstKeeps meaning idle_keeps active_keeps w inst shared g h → InstKeeps meaning idle_keeps active_keeps w inst shared' g h
-  inst_sees (Idling s) g same keeps = λ lawful. rw (idle_written s.instance.table s.instance.own shared shared' same) (keeps lawful)
-  inst_sees (Running s) g same keeps = λ lawful. rw (active_written s.instance.table s.instance.own shared shared' g same) (keeps lawful)
+  inst_sees (Idling s) g same keeps = λ lawful. rw (idle_written s.instance.table s.instance.own shared shared' (same lawful)) (keeps lawful)
+  inst_sees (Running s) g same keeps = λ lawful. rw (active_written s.instance.table s.instance.own shared shared' g (same lawful)) (keeps lawful)
 
-  pub slot_sees : (slot : Option (Member M)) (groups : List Group) → ((n : Member M) → slot ≡ Some n → SameOnce (instance_of n.inst).table shared shared')
+  pub slot_sees : (slot : Option (Member M)) (groups : List Group) → ((n : Member M) → slot ≡ Some n → IsLawful meaning (instance_of n.inst) w → SameOnce (instance_of n.inst).table shared shared')
       → SlotKeeps meaning idle_keeps active_keeps w slot shared groups h → SlotKeeps meaning idle_keeps active_keeps w slot shared' groups h
   slot_sees None groups same keeps = tt
   slot_sees (Some m) groups same keeps = inst_sees m.inst (group_at groups m.group) (same m refl) keeps

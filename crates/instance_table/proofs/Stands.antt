@@ -15,6 +15,10 @@ seen_here once i k p here =
     ap (λ (s : Stand). piece_here (stand_at (shelf_at once (home_by i s)) k)) here
     ∙ ap piece_here here
 
+-- one that stands with another instance is the one that stands there
+pub seen_with : (once : List Shelf) (i k h : ℕ) → stand_at (shelf_at once i) k ≡ With h → piece_seen once i k ≡ piece_here (stand_at (shelf_at once h) k)
+seen_with once i k h is = ap (λ (s : Stand). piece_here (stand_at (shelf_at once (home_by i s)) k)) is
+
 pub four_pieces : (a b : Pieces) → a.p0 ≡ b.p0 → a.p1 ≡ b.p1 → a.p2 ≡ b.p2 → a.p3 ≡ b.p3 → a ≡ b
 four_pieces a b e0 e1 e2 e3 =
     ap (λ (p : Option Span). let r : Pieces = record { p0 = p; p1 = a.p1; p2 = a.p2; p3 = a.p3 } in r) e0

@@ -31,10 +31,10 @@ pub record SameTables {M : Type 0} (slots : List (Option (Member M))) (once : Li
   pub written : (i : ℕ) (m : Member M) → slot_at slots i ≡ Some m → SameOnce (instance_of m.inst).table (once_at once i) (once_at once' i)
   pub blocks : (g : ℕ) (space : Space) → IsSameBlock (block_in (group_at groups g) space) (block_in (group_at groups' g) space)
 
--- all other instances, and their pieces, are as they were
+-- all other instances are as they were, and see the same pieces, whose words may differ
 pub record OthersStay {M : Type 0} (i : ℕ) (slots : List (Option (Member M))) (once : List Shelf) (slots' : List (Option (Member M))) (once' : List Shelf) : Type 0 where
   pub slot : (j : ℕ) → j ≢ i → slot_at slots' j ≡ slot_at slots j
-  pub pieces : (j : ℕ) → j ≢ i → once_at once' j ≡ once_at once j
+  pub pieces : (j : ℕ) → j ≢ i → SamePieces (once_at once j) (once_at once' j)
 
 -- an idle one
 abbrev pub IsIdle : {M : Type 0} → Instance M → Inst M → Type 0

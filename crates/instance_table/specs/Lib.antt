@@ -4,3 +4,5 @@ pub mod Holders
 pub mod Table
 pub mod Keeps
 pub mod Frames
+pub mod Twins
+pub mod Joining

@@ -15,7 +15,7 @@ use record_loans::Pieces;
 use space_raw::Piece;
 
 /// The least number of an instance whose record `k` stands with instance `i`.
-fn next_holder(once: &Vec<Shelf>, i: u8, k: usize) -> Option<u8>
+pub fn next_holder(once: &Vec<Shelf>, i: u8, k: usize) -> Option<u8>
     requires count { length once.now.items ≡ INSTANCES }
     requires record { k < TABLE_RECORDS }
     ensures { result ≡ next_holder once.now.items i k }
@@ -29,7 +29,7 @@ fn next_holder(once: &Vec<Shelf>, i: u8, k: usize) -> Option<u8>
 }
 
 /// Puts a stand of record `k` of an instance in the place of one without a piece.
-fn put_stand(once: &mut Vec<Shelf>, i: usize, k: usize, stand: Stand)
+pub(crate) fn put_stand(once: &mut Vec<Shelf>, i: usize, k: usize, stand: Stand)
     requires number { i < length once.old.items }
     requires record { k < TABLE_RECORDS }
     requires none { piece_here (stand_at (shelf_at once.old.items i) k) ≡ None }
@@ -50,7 +50,7 @@ fn point(once: &mut Vec<Shelf>, i: u8, k: usize, next: u8, j: usize)
 }
 
 /// Lets record `k` of each instance that stands with `i` stand with `next`.
-fn point_all(once: &mut Vec<Shelf>, i: u8, k: usize, next: u8)
+pub(crate) fn point_all(once: &mut Vec<Shelf>, i: u8, k: usize, next: u8)
     requires count { length once.old.items ≡ INSTANCES }
     requires record { k < TABLE_RECORDS }
     ensures count { length once.new.items ≡ INSTANCES }

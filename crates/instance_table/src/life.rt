@@ -2,29 +2,35 @@
 ghost use Rattle.std.specs.Prelude.{◌≡◌, ◌≢◌, ◌<◌, ℕ, ℤ, [], Option, Some, None, IsSome, IsTrue};
 ghost use Rattle.ialg.specs.History.{History};
 ghost use Rattle.ialg.specs.Records.{unplaced, AreNew};
-ghost use Rattle.record_loans.specs.Pieces.{SamePieces};
+ghost use Rattle.record_loans.specs.Pieces.{piece_at, SamePieces};
 ghost use Rattle.scratch_group.specs.Words.{idle_words};
 ghost use Rattle.lifecycle.specs.States.{Fits, SameOnce};
 ghost use Rattle.lifecycle.specs.Moves.{HasRoom, settled};
 ghost use Rattle.instance_table.specs.declared.TheConstants.{INSTANCES, GROUPS};
-ghost use Rattle.instance_table.specs.Shelves.{stand_at, shelf_at};
+ghost use Rattle.instance_table.specs.declared.member.Member.{Member};
+ghost use Rattle.instance_table.specs.Shelves.{stand_at, shelf_at, home_of};
 ghost use Rattle.instance_table.specs.Homes.{IsSameStand};
-ghost use Rattle.instance_table.specs.Holders.{left_with, stand_without};
-ghost use Rattle.instance_table.specs.Table.{slot_at, once_at, IsUnshared, no_pieces, group_at, own_of, instance_of, active_in, activity_at, quieted_by, TablesOk, ArePoisoned};
+ghost use Rattle.instance_table.specs.Holders.{left_with, next_holder, stand_without};
+ghost use Rattle.instance_table.specs.Table.{slot_at, once_at, no_pieces, group_at, own_of, instance_of, active_in, activity_at, quieted_by, TablesOk, ArePoisoned};
+ghost use Rattle.instance_table.specs.Twins.{asked, asked_by, twin_at, twin_of, AreTwins, AreLeast, AreTogether};
+ghost use Rattle.instance_table.specs.Joining.{stand_joined, pieces_joined};
 ghost use Rattle.instance_table.specs.Keeps.{Keeps, with_history};
 ghost use Rattle.instance_table.specs.Frames.{OthersStay, OthersSame, IsStarted};
 
 use crate::activity::quiet;
 use crate::holders::hand_on;
+use crate::joining::join;
 use crate::member::{Member, put_in, take_out};
 use crate::shelves::{Shelf, put_seen, take_seen};
+use crate::twins::Twins;
 use ialg::{Ialg, Params};
 use lifecycle::{Idle, Inst};
 use mem_rec::MemTab;
 use record_loans::Pieces;
 use scratch_group::Group;
 
-/// Starts an instance in an empty slot, in these pieces. It is idle.
+/// Starts an instance in an empty slot, in the pieces that were placed for it and those of its twins, with which it shares the others. It is
+/// idle.
 pub fn start<M: Ialg>(
     slots: &mut Vec<Option<Member<M>>>,
     once: &mut Vec<Shelf>,
@@ -36,28 +42,36 @@ pub fn start<M: Ialg>(
     table: MemTab,
     own: Pieces,
     shared: Pieces,
+    twins: Twins,
 )
     requires number { i < INSTANCES }
     requires group { g < GROUPS }
     requires empty { slot_at slots.old.items i ≡ None }
     requires none { once_at once.old.items i ≡ no_pieces }
     requires ok { TablesOk slots.old.items once.old.items groups.now.items }
-    requires fits { HasRoom (record { kind = kind; params = params; table = table; own = own }) shared (group_at groups.now.items g) }
+    requires least { AreLeast once.old.items }
+    requires together { AreTogether slots.old.items once.old.items }
+    requires twins { AreTwins M.meaning.same slots.old.items (asked kind params.items table) twins }
+    requires placed { (k : ℕ) → IsSome (twin_at twins k) → piece_at shared k ≡ None }
+    requires fits { HasRoom (record { kind = kind; params = params; table = table; own = own }) (pieces_joined once.old.items twins shared) (group_at groups.now.items g) }
     ensures ok { TablesOk slots.new.items once.new.items groups.now.items }
     ensures others { OthersStay i slots.old.items once.old.items slots.new.items once.new.items }
-    ensures shelves { (j : ℕ) → j ≢ i → shelf_at once.new.items j ≡ shelf_at once.old.items j }
-    ensures unshared { IsUnshared once.new.items i }
-    ensures started { IsStarted g (settled (record { kind = kind; params = params; table = table; own = own }) shared (group_at groups.now.items g)) (slot_at slots.new.items i) }
-    ensures pieces { SamePieces shared (once_at once.new.items i) }
+    ensures stands { (j k : ℕ) → IsSameStand (stand_joined once.old.items i k (twin_at twins k) (piece_at shared k) j) (stand_at (shelf_at once.new.items j) k) }
+    ensures least { AreLeast once.new.items }
+    ensures together { AreTogether slots.new.items once.new.items }
+    ensures started { IsStarted g (settled (record { kind = kind; params = params; table = table; own = own }) (pieces_joined once.old.items twins shared) (group_at groups.now.items g)) (slot_at slots.new.items i) }
+    ensures pieces { SamePieces (pieces_joined once.old.items twins shared) (once_at once.new.items i) }
     ensures keeps { (w : Option ℤ) (histories : ℕ → History)
         → (IsTrue (M.meaning.lawful kind params.items w) → M.meaning.table kind params.items ≡ Some (unplaced table))
         → AreNew w (M.meaning.fill kind params.items) table (idle_words table own shared)
         → Keeps M.meaning M.idle_keeps M.active_keeps w slots.old.items once.old.items groups.now.items histories
         → Keeps M.meaning M.idle_keeps M.active_keeps w slots.new.items once.new.items groups.now.items (with_history histories i []) }
 {
-    let mut shared = shared;
-    let idle = Idle::init(kind, params, table, own, &mut shared, &groups[g as usize]);
-    put_seen(once, i as usize, shared);
+    let _records = table.records();
+    join(once, i, shared, twins);
+    let mut seen = take_seen(once, i as usize);
+    let idle = Idle::init(kind, params, table, own, &mut seen, &groups[g as usize]);
+    put_seen(once, i as usize, seen);
     put_in(
         slots,
         i,
@@ -88,6 +102,10 @@ pub fn end<M: Ialg>(
     ensures shared { SamePieces (left_with once.old.items i) result.1 }
     ensures others { OthersSame i slots.old.items once.old.items groups.old.items slots.new.items once.new.items groups.new.items }
     ensures handed { (j k : ℕ) → IsSameStand (stand_without once.old.items i k j) (stand_at (shelf_at once.new.items j) k) }
+    ensures least { AreLeast once.old.items → AreLeast once.new.items }
+    ensures together { AreTogether slots.old.items once.old.items → AreTogether slots.new.items once.new.items }
+    ensures next { AreLeast once.old.items → AreTogether slots.old.items once.old.items → (k : ℕ) (m : Member M) → slot_at slots.old.items i ≡ Some m → home_of once.old.items i k ≡ i
+        → next_holder once.old.items i k ≡ twin_of M.meaning.same (λ j. asked_by (slot_at slots.new.items j)) (asked (instance_of m.inst).kind (instance_of m.inst).params.items (instance_of m.inst).table) k }
     ensures activity { (k : ℕ) → activity_at groups.new.items k ≡ quieted_by slots.old.items groups.old.items i k }
     ensures keeps { (histories : ℕ → History) → Keeps M.meaning M.idle_keeps M.active_keeps poison slots.old.items once.old.items groups.old.items histories
         → Keeps M.meaning M.idle_keeps M.active_keeps poison slots.new.items once.new.items groups.new.items histories }

@@ -20,7 +20,9 @@ use Rattle.host_spaces.specs.declared.spaces.Spaces.{Spaces}
 use Rattle.host_spaces.specs.Creation.{created_picture, replaces}
 use Rattle.host_spaces.specs.Picture.{AreSameSpaces, Picture, copied_in, picture_of, sizes_of, space_in}
 use Rattle.placed_instances.proofs.OwnMoves.{same_sizes}
-use Rattle.sound_machine.specs.State.{Living, State, with_living}
+use Rattle.instance_table.specs.Twins.{asked, asked_by, twin_of}
+use Rattle.sound_machine.specs.State.{Living, State, twins_of, with_living}
+use Rattle.kept_machine.proofs.TwinsKept.{twins_same}
 use Rattle.sound_machine.specs.Choices.{MayAsk}
 use Rattle.sound_machine.specs.Steps.{activity_after_create, created, newborn}
 use Rattle.kept_machine.specs.Kept.{IsLiving, history_of}
@@ -39,9 +41,9 @@ living_some None x is there = absurd (true≢false (sym there))
 living_some (Some m) None is there = absurd is
 living_some (Some m) (Some l) is there = (l, refl)
 
-born : {M : Type 0} (g : ℕ) (kind : M) (p : List ℤ) (slot : Option (Member M)) → IsNewborn g kind p slot → IsLiving slot (Some (newborn kind g p))
-born g kind p None is = absurd is
-born g kind p (Some m) is = record { kind = is.kind_is; params = is.params; group = is.group }
+born : {M : Type 0} (g : ℕ) (kind : M) (p : List ℤ) (table : List MemRec) (slot : Option (Member M)) → IsNewborn g kind p table slot → IsLiving slot (Some (newborn kind g p table))
+born g kind p table None is = absurd is
+born g kind p table (Some m) is = record { kind = is.kind_is; params = is.params; table = is.table_is; group = is.group }
 
 same_copied : (spaces spaces' : Spaces) → AreSameSpaces spaces spaces' → copied_in spaces' ≡ copied_in spaces
 same_copied spaces spaces' same =
@@ -64,24 +66,33 @@ module _ {M : Type 0} (meaning : Meaning M) (idle_keeps active_keeps : Relation 
   pub is_taken : is_some (slot_at slots i) ≡ true → (l : Living M) × (before.living i ≡ Some l)
   is_taken there = living_some (slot_at slots i) (before.living i) (kept.tables.living i) there
 
+  -- the twins of what is asked for, among the instances in the slots
+  abbrev twins : ℕ → Option ℕ
+  twins = λ k. twin_of meaning.same (λ j. asked_by (slot_at slots j)) (asked kind p table) k
+
+  twins_are : twins ≡ twins_of meaning before.living (newborn kind g p table)
+  twins_are t k = twins_same meaning.same slots before.living (asked kind p table) kept.tables.living k t
+
   -- the picture is the machine's
-  pub picture_is : (r : Result Picture Space) → created_picture (sizes_of spaces) (picture_of spaces) i g table ≡ r → created_picture before.sizes before.picture i g table ≡ r
+  pub picture_is : (r : Result Picture Space) → created_picture (sizes_of spaces) (picture_of spaces) i g table twins ≡ r
+      → created_picture before.sizes before.picture i g table (twins_of meaning before.living (newborn kind g p table)) ≡ r
   picture_is r e =
-      ap (λ (s : Sizes). created_picture s before.picture i g table) (sym kept.sizes)
-      ∙ ap (λ (q : Picture). created_picture (sizes_of spaces) q i g table) (sym kept.picture) ∙ e
+      ap (created_picture before.sizes before.picture i g table) (sym twins_are)
+      ∙ ap (λ (s : Sizes). created_picture s before.picture i g table twins) (sym kept.sizes)
+      ∙ ap (λ (q : Picture). created_picture (sizes_of spaces) q i g table twins) (sym kept.picture) ∙ e
 
   module _ (slots' : List (Option (Member M))) (once' : List Shelf) (groups' : List Group) (spaces' : Spaces)
-      (others : OthersAreSame i slots slots') (new : IsNewborn g kind p (slot_at slots' i))
+      (others : OthersAreSame i slots slots') (new : IsNewborn g kind p table (slot_at slots' i))
       (activity : (k : ℕ) → activity_at groups' k ≡ activity_grown (replaces (picture_of spaces) g table) groups g k)
       (keeps : Keeps meaning idle_keeps active_keeps before.poison slots' once' groups' (with_history (λ j. history_of (before.living j)) i []))
       (stays : AreSameSpaces spaces spaces') where
-    lives_now : (j : ℕ) → IsLiving (slot_at slots' j) (with_living before.living i (Some (newborn kind g p)) j)
+    lives_now : (j : ℕ) → IsLiving (slot_at slots' j) (with_living before.living i (Some (newborn kind g p table)) j)
     lives_now j = elim (eqb_tells j i) [
       | inl here ↦
-          subst (IsLiving (slot_at slots' j)) (sym (ap (λ (b : Bool). cond b (Some (newborn kind g p)) (before.living j)) here.0))
-          (rw here.1 (born g kind p (slot_at slots' i) new))
+          subst (IsLiving (slot_at slots' j)) (sym (ap (λ (b : Bool). cond b (Some (newborn kind g p table)) (before.living j)) here.0))
+          (rw here.1 (born g kind p table (slot_at slots' i) new))
       | inr apart ↦
-          subst (IsLiving (slot_at slots' j)) (sym (ap (λ (b : Bool). cond b (Some (newborn kind g p)) (before.living j)) apart.0))
+          subst (IsLiving (slot_at slots' j)) (sym (ap (λ (b : Bool). cond b (Some (newborn kind g p table)) (before.living j)) apart.0))
           (still_living (slot_at slots j) (slot_at slots' j) (before.living j) (others j apart.1) (kept.tables.living j))
     ]
 
@@ -94,17 +105,17 @@ module _ {M : Type 0} (meaning : Meaning M) (idle_keeps active_keeps : Relation 
         ∙ ap (λ (q : Picture). activity_grown (replaces q g table) groups g k) kept.picture
         ∙ ap (λ (a : ℕ → Activity). cond (replaces before.picture g table) (with_activity a g (rested (a g))) a k) all_activity
 
-    history_now : (j : ℕ) → with_history (λ l. history_of (before.living l)) i [] j ≡ history_of (with_living before.living i (Some (newborn kind g p)) j)
+    history_now : (j : ℕ) → with_history (λ l. history_of (before.living l)) i [] j ≡ history_of (with_living before.living i (Some (newborn kind g p table)) j)
     history_now j = elim (eqb_tells j i) [
       | inl here ↦
           ap (λ (b : Bool). cond b [] (history_of (before.living j))) here.0
-          ∙ sym (ap (λ (b : Bool). history_of (cond b (Some (newborn kind g p)) (before.living j))) here.0)
+          ∙ sym (ap (λ (b : Bool). history_of (cond b (Some (newborn kind g p table)) (before.living j))) here.0)
       | inr apart ↦
           ap (λ (b : Bool). cond b [] (history_of (before.living j))) apart.0
-          ∙ sym (ap (λ (b : Bool). history_of (cond b (Some (newborn kind g p)) (before.living j))) apart.0)
+          ∙ sym (ap (λ (b : Bool). history_of (cond b (Some (newborn kind g p table)) (before.living j))) apart.0)
     ]
 
-    pub created_kept : HostKeeps meaning idle_keeps active_keeps slots' once' groups' spaces' (created before i (newborn kind g p) table (picture_of spaces'))
+    pub created_kept : HostKeeps meaning idle_keeps active_keeps slots' once' groups' spaces' (created before i (newborn kind g p table) table (picture_of spaces'))
     created_kept = record {
       tables = record {
         living = lives_now;

@@ -34,8 +34,8 @@ use Rattle.kept_moves.specs.Hosts.{HostKeeps}
 
 -- ---- the state in which the first n instances are deleted
 
-abbrev pub without_first : {M : Type 0} → State M → ℕ → State M
-without_first before n = fold (λ left i. (delete left i).1) before (numbers_below n)
+abbrev pub without_first : {M : Type 0} → Meaning M → State M → ℕ → State M
+without_first kinds before n = fold (λ left i. (delete kinds left i).1) before (numbers_below n)
 
 range_more : (a n : ℕ) → range_with_len a (suc n) ≡ range_with_len a n ++ (a + n) ∷ []
 range_more a zero = let here : a ≡ a + 0 = omega arith in ap (λ j. j ∷ []) here
@@ -43,19 +43,19 @@ range_more a (suc n) =
     let last : a + 1 + n ≡ a + suc n = omega arith in
     ap (λ (ns : List ℕ). a ∷ ns) (range_more (a + 1) n ∙ ap (λ j. range_with_len (a + 1) n ++ j ∷ []) last)
 
-without_next : {M : Type 0} (before : State M) (n : ℕ) → without_first before (n + 1) ≡ (delete (without_first before n) n).1
-without_next before n =
+without_next : {M : Type 0} (kinds : Meaning M) (before : State M) (n : ℕ) → without_first kinds before (n + 1) ≡ (delete kinds (without_first kinds before n) n).1
+without_next kinds before n =
     let one : n + 1 ≡ suc n = omega arith in
     let last : 0 + n ≡ n = omega arith in
-    ap (without_first before) one
-    ∙ ap (fold (λ left i. (delete left i).1) before) (range_more 0 n ∙ ap (λ j. range_with_len 0 n ++ j ∷ []) last)
-    ∙ fold-append (λ left i. (delete left i).1) before (range_with_len 0 n) (n ∷ [])
+    ap (without_first kinds before) one
+    ∙ ap (fold (λ left i. (delete kinds left i).1) before) (range_more 0 n ∙ ap (λ j. range_with_len 0 n ++ j ∷ []) last)
+    ∙ fold-append (λ left i. (delete kinds left i).1) before (range_with_len 0 n) (n ∷ [])
 
 -- the host keeps it
 pub record IsClosing {M : Type 0} (meaning : Meaning M) (idle_keeps active_keeps : Relation M) (slots : List (Option (Member M))) (once : List Shelf) (groups : List Group) (spaces : Spaces)
     (n : ℕ) (w : Option ℤ) (before : State M) : Type 0 where
-  pub poison : (without_first before n).poison ≡ w
-  pub kept : HostKeeps meaning idle_keeps active_keeps slots once groups spaces (without_first before n)
+  pub poison : (without_first meaning before n).poison ≡ w
+  pub kept : HostKeeps meaning idle_keeps active_keeps slots once groups spaces (without_first meaning before n)
 
 module _ {M : Type 0} (meaning : Meaning M) (idle_keeps active_keeps : Relation M) (slots : List (Option (Member M))) (once : List Shelf) (groups : List Group) (spaces : Spaces)
     (w : Option ℤ) (before : State M) where
@@ -63,21 +63,21 @@ module _ {M : Type 0} (meaning : Meaning M) (idle_keeps active_keeps : Relation 
       → IsClosing meaning idle_keeps active_keeps slots once groups spaces 0 w before
   closing_start e kept = record { poison = e; kept = kept }
 
-  pub closing_next : (n : ℕ) (answer : Result (Unit {0}) Refusal) (after : State M) → (without_first before n).poison ≡ w
-      → ◌≡◌ {A = Outcome M (Unit {0})} (answer, after) (delete (without_first before n) n)
+  pub closing_next : (n : ℕ) (answer : Result (Unit {0}) Refusal) (after : State M) → (without_first meaning before n).poison ≡ w
+      → ◌≡◌ {A = Outcome M (Unit {0})} (answer, after) (delete meaning (without_first meaning before n) n)
       → HostKeeps meaning idle_keeps active_keeps slots once groups spaces after
       → IsClosing meaning idle_keeps active_keeps slots once groups spaces (n + 1) w before
   closing_next n answer after poison does kept =
-      let now = without_first before n in
-      let is : after ≡ without_first before (n + 1) = ap (λ (o : Outcome M (Unit {0})). o.1) does ∙ sym (without_next before n) in
+      let now = without_first meaning before n in
+      let is : after ≡ without_first meaning before (n + 1) = ap (λ (o : Outcome M (Unit {0})). o.1) does ∙ sym (without_next meaning before n) in
       record {
-        poison = ap (λ (s : State M). s.poison) (without_next before n) ∙ (delete_keeps n now).host.poison ∙ poison;
+        poison = ap (λ (s : State M). s.poison) (without_next meaning before n) ∙ (delete_keeps n now meaning).host.poison ∙ poison;
         kept = subst (HostKeeps meaning idle_keeps active_keeps slots once groups spaces) is kept;
       }
 
   pub closing_end : (n : ℕ) → n ≡ INSTANCES → IsClosing meaning idle_keeps active_keeps slots once groups spaces n w before
-      → HostKeeps meaning idle_keeps active_keeps slots once groups spaces (closed before)
-  closing_end n all closing = subst (λ k. HostKeeps meaning idle_keeps active_keeps slots once groups spaces (without_first before k)) all closing.kept
+      → HostKeeps meaning idle_keeps active_keeps slots once groups spaces (closed meaning before)
+  closing_end n all closing = subst (λ k. HostKeeps meaning idle_keeps active_keeps slots once groups spaces (without_first meaning before k)) all closing.kept
 
 -- ---- nothing is left
 

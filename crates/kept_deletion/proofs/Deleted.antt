@@ -14,14 +14,17 @@ use Rattle.instance_table.specs.Keeps.{Keeps, SlotKeeps}
 use Rattle.host_spaces.specs.declared.spaces.Spaces.{Spaces}
 use Rattle.host_spaces.specs.Picture.{Picture, picture_of}
 use Rattle.host_spaces.specs.Creation.{deleted_picture}
-use Rattle.sound_machine.specs.State.{Living, State, has_member, is_of_group, with_living}
+use Rattle.sound_machine.specs.State.{Living, State, asked_of, has_member, is_of_group, twins_of, with_living}
 use Rattle.sound_machine.specs.Steps.{Outcome, delete, without_instance}
 use Rattle.sound_machine.proofs.OutcomeLemmas.{delete_granted}
 use Rattle.kept_machine.specs.Kept.{IsLiving, history_of}
 use Rattle.kept_machine.proofs.KeptLemmas.{Found, found}
 use Rattle.kept_moves.specs.Hosts.{HostKeeps}
 use Rattle.kept_moves.proofs.MovesKept.{still_living}
-use Rattle.ended_instances.specs.Ends.{HasEnded, has_members}
+use Rattle.instance_table.specs.Twins.{Asked, asked_by}
+use Rattle.std.specs.Option.{option_map}
+use Rattle.kept_machine.proofs.TwinsKept.{asked_same, twins_same}
+use Rattle.ended_instances.specs.Ends.{HasEnded, has_members, twins_among}
 
 -- ---- whether a group has members
 
@@ -62,7 +65,7 @@ module _ {M : Type 0} (meaning : Meaning M) (idle_keeps active_keeps : Relation 
   others = with_living before.living i None
 
   abbrev after : State M
-  after = without_instance before i (Some its.instance)
+  after = without_instance meaning before i (Some its.instance)
 
   gone_at : (j : ℕ) → nat_eq j i ≡ true → others j ≡ None
   gone_at j same = ap (λ b. cond b None (before.living j)) same
@@ -101,13 +104,24 @@ module _ {M : Type 0} (meaning : Meaning M) (idle_keeps active_keeps : Relation 
             (ended.keeps (λ k. history_of (before.living k)) kept.tables.histories j)
       ]
 
+  asked_is : asked_by (slot_at slots i) ≡ Some (asked_of its.instance)
+  asked_is = asked_same (slot_at slots i) (before.living i) (kept.tables.living i) ∙ ap (option_map asked_of) its.lives
+
+  twins_after : twins_among meaning.same slots' (asked_by (slot_at slots i)) ≡ twins_of meaning others its.instance
+  twins_after t k = twin_after k t
+    where
+      twin_after : (k : ℕ) → twins_among meaning.same slots' (asked_by (slot_at slots i)) k ≡ twins_of meaning others its.instance k
+      twin_after k = ap (λ (x : Option (Asked M)). twins_among meaning.same slots' x k) asked_is ∙ twins_same meaning.same slots' others (asked_of its.instance) living_after k
+
   picture_after : picture_of spaces' ≡ after.picture
   picture_after =
       let g = its.instance.group in
+      let twins = twins_among meaning.same slots' (asked_by (slot_at slots i)) in
       ended.picture
-      ∙ ap (λ n. deleted_picture (has_members slots' n) (picture_of spaces) i n) group
-      ∙ ap (λ b. deleted_picture b (picture_of spaces) i g) (same_members slots' others g ended.ok.slot_count living_after)
-      ∙ ap (λ (p : Picture). deleted_picture (has_member others g) p i g) kept.picture
+      ∙ ap (λ n. deleted_picture (has_members slots' n) (picture_of spaces) i n twins) group
+      ∙ ap (λ b. deleted_picture b (picture_of spaces) i g twins) (same_members slots' others g ended.ok.slot_count living_after)
+      ∙ ap (λ (p : Picture). deleted_picture (has_member others g) p i g twins) kept.picture
+      ∙ ap (deleted_picture (has_member others g) before.picture i g) twins_after
 
   kept_after : HostKeeps meaning idle_keeps active_keeps slots' once' groups' spaces' after
   kept_after = record {
@@ -122,11 +136,11 @@ pub deleted_kept : {M : Type 0} (meaning : Meaning M) (idle_keeps active_keeps :
     (slots slots' : List (Option (Member M))) (once once' : List Shelf) (groups groups' : List Group) (spaces spaces' : Spaces) (before : State M)
     → i < INSTANCES → IsSome (slot_at slots i) → HasEnded meaning idle_keeps active_keeps w i slots once groups spaces slots' once' groups' spaces'
     → before.poison ≡ w → HostKeeps meaning idle_keeps active_keeps slots once groups spaces before
-    → (after : State M) × ◌≡◌ {A = Outcome M (Unit {0})} (Ok tt, after) (delete before i) × HostKeeps meaning idle_keeps active_keeps slots' once' groups' spaces' after
+    → (after : State M) × ◌≡◌ {A = Outcome M (Unit {0})} (Ok tt, after) (delete meaning before i) × HostKeeps meaning idle_keeps active_keeps slots' once' groups' spaces' after
 deleted_kept meaning idle_keeps active_keeps i w slots slots' once once' groups groups' spaces spaces' before below some ended e kept =
     let its = found (slot_at slots i) (before.living i) some (kept.tables.living i) in
     let here = subst (λ v. HasEnded meaning idle_keeps active_keeps v i slots once groups spaces slots' once' groups' spaces') (sym e) ended in (
-      without_instance before i (Some its.instance),
-      sym (delete_granted before i its.instance below its.lives),
+      without_instance meaning before i (Some its.instance),
+      sym (delete_granted before meaning i its.instance below its.lives),
       kept_after meaning idle_keeps active_keeps i slots slots' once once' groups groups' spaces spaces' before kept here its,
     )

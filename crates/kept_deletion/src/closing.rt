@@ -31,7 +31,7 @@ pub fn delete_all<M: Ialg>(
     ensures empty { picture_of spaces.new ≡ empty_picture }
     ensures machine { (before : State M) → before.poison ≡ poison
         → HostKeeps M.meaning M.idle_keeps M.active_keeps slots.old.items once.old.items groups.old.items spaces.old before
-        → HostKeeps M.meaning M.idle_keeps M.active_keeps slots.new.items once.new.items groups.new.items spaces.new (closed before) }
+        → HostKeeps M.meaning M.idle_keeps M.active_keeps slots.new.items once.new.items groups.new.items spaces.new (closed M.meaning before) }
 {
     for i in 0..INSTANCES as u8 {
         let _answer = delete(slots, once, groups, spaces, poison, i);

@@ -8,6 +8,7 @@ use Rattle.std.proofs.lemmas.Bool.Decides.{eqb_tells}
 use Rattle.space_heap.proofs.RangeTests.{either}
 use Rattle.ialg.specs.History.{History, Ctl, Control, with_samples}
 use Rattle.ialg.specs.Meaning.{Meaning, Status, outputs_of, status_of}
+use Rattle.ialg.specs.Records.{unplaced}
 use Rattle.scratch_group.specs.declared.group.Group.{Group}
 use Rattle.lifecycle.specs.States.{Relation, IsLawful, all_outputs, status_after}
 use Rattle.instance_table.specs.declared.member.Member.{Member}
@@ -47,6 +48,7 @@ module _ {M : Type 0} where
   same_living (Some m) (Some n) (Some x) same is = record {
     kind = same.1.kind ∙ is.kind;
     params = ap (λ p. p.items) same.1.params ∙ is.params;
+    table = ap unplaced same.1.table ∙ is.table;
     group = same.0 ∙ is.group;
   }
 
@@ -57,12 +59,13 @@ module _ {M : Type 0} where
   same_member (Some m) (Some n) (Some x) same is = record {
     kind = same.kind ∙ is.kind;
     params = ap (λ p. p.items) same.params ∙ is.params;
+    table = same.table ∙ is.table;
     group = same.group ∙ is.group;
   }
 
   aged : (slot : Option (Member M)) (x : Living M) (h : History) → IsLiving slot (Some x) → IsLiving slot (Some (record x { history = h }))
   aged None x h is = is
-  aged (Some m) x h is = record { kind = is.kind; params = is.params; group = is.group }
+  aged (Some m) x h is = record { kind = is.kind; params = is.params; table = is.table; group = is.group }
 
   at_own : (living : ℕ → Option (Living M)) (i : ℕ) (x : Option (Living M)) → with_living living i x i ≡ x
   at_own living i x = ap (λ b. cond b x (living i)) (eq-eqb i i refl)

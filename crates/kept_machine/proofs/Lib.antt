@@ -1,1 +1,2 @@
 pub mod KeptLemmas
+pub mod TwinsKept

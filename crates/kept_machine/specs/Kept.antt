@@ -4,6 +4,7 @@ use Rattle.ialg.specs.History.{History}
 use Rattle.ialg.specs.Meaning as meaning
 use Rattle.ialg.specs.Meaning.{Meaning}
 use Rattle.ialg.specs.Views.{answer_of}
+use Rattle.ialg.specs.Records.{unplaced}
 use Rattle.ialg.specs.declared.control.Status.{Status}
 use Rattle.ialg.specs.declared.refusal.Refusal.{Refusal}
 use Rattle.scratch_group.specs.declared.group.Group.{Group}
@@ -18,6 +19,8 @@ use Rattle.sound_machine.specs.State.{Living, State}
 pub record IsInstance {M : Type 0} (m : Member M) (x : Living M) : Type 0 where
   pub kind : (instance_of m.inst).kind ≡ x.kind
   pub params : (instance_of m.inst).params.items ≡ x.params
+  -- without bases
+  pub table : unplaced (instance_of m.inst).table ≡ x.table
   pub group : m.group ≡ x.group
 
 -- what stands in the slot is what lives

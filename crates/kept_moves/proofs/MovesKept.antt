@@ -25,6 +25,7 @@ still_living (Some m) (Some n) None same is = is
 still_living (Some m) (Some n) (Some x) same is = record {
   kind = same.kind ∙ is.kind;
   params = ap (λ p. p.items) same.params ∙ is.params;
+  table = same.table ∙ is.table;
   group = same.group ∙ is.group;
 }
 

@@ -2,6 +2,7 @@
 use Rattle.std.proofs.Common.{refl}
 use Rattle.machine_rows.specs.VoiceRows.{VoiceRows}
 use Rattle.machine_rows.specs.CreationRows.{CreationRows}
+use Rattle.machine_rows.specs.SharingRows.{SharingRows}
 
 pub voices : VoiceRows
 voices = record {
@@ -34,4 +35,19 @@ creations = record {
   write_once = λ poison. refl;
   last_member = λ poison. refl;
   holes = λ poison. refl;
+}
+
+pub sharings : SharingRows
+sharings = record {
+  shared = λ poison. refl;
+  no_room = λ poison. refl;
+  taken_over = λ poison. refl;
+  compacted = λ poison. refl;
+  another_number = λ poison. refl;
+  another_size = λ poison. refl;
+  another_alignment = λ poison. refl;
+  another_space = λ poison. refl;
+  another_kind = λ poison. refl;
+  one_of_two = λ poison. refl;
+  persistent = λ poison. refl;
 }

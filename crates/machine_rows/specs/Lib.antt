@@ -1,3 +1,4 @@
 pub mod Calls
 pub mod VoiceRows
 pub mod CreationRows
+pub mod SharingRows

@@ -4,4 +4,4 @@
 
 mod rows;
 
-pub use rows::{creation_rows, voice_rows};
+pub use rows::{creation_rows, sharing_rows, voice_rows};

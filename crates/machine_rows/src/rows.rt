@@ -1,6 +1,7 @@
 //! Worked rows, checked on the definitions.
 ghost use Rattle.machine_rows.specs.VoiceRows.{VoiceRows};
 ghost use Rattle.machine_rows.specs.CreationRows.{CreationRows};
+ghost use Rattle.machine_rows.specs.SharingRows.{SharingRows};
 
 /// The law that the machine of the hosted kinds answers what the worked rows say, under each poison word and under none. The call does
 /// nothing: its contract is the law.
@@ -11,4 +12,9 @@ pub fn voice_rows()
 /// The law that creations place and replace blocks as the worked rows say, for kinds that ask for any memory. The call does nothing.
 pub fn creation_rows()
     ensures { CreationRows }
+{}
+
+/// The law that write-once blocks are shared as the worked rows say. The call does nothing.
+pub fn sharing_rows()
+    ensures { SharingRows }
 {}

@@ -1,6 +1,6 @@
 -- Instances from their creation on.
 use Rattle.std.proofs.Common.{◌≡◌, ℕ, ℤ, Bool, true, false, List, [], ◌∷◌, ◌++◌, Option, Some, None, Result, Ok, Err, refl, ap, sym, ◌∙◌, subst}
-use Rattle.std.proofs.lemmas.Bool.{eq-eqb}
+use Rattle.std.proofs.lemmas.Bool.{eq-eqb, or_left}
 use Rattle.std.specs.Prelude.{not, ◌&&◌, is_some, is_none, IsTrue, if◌then◌else◌}
 use Rattle.mem_rec.specs.declared.MemRec.{MemRec}
 use Rattle.mem_rec.specs.declared.Space.{Space}
@@ -11,7 +11,7 @@ use Rattle.ialg.specs.History.{Ctl}
 use Rattle.ialg.specs.Meaning.{Meaning, Status, status_of}
 use Rattle.host_spaces.specs.Picture.{Picture}
 use Rattle.host_spaces.specs.Creation.{created_picture}
-use Rattle.sound_machine.specs.State.{Living, State, with_living, is_instance_number, is_group_number}
+use Rattle.sound_machine.specs.State.{Living, State, twins_of, with_living, is_instance_number, is_group_number}
 use Rattle.sound_machine.specs.Steps.{Outcome, unless, newborn, with_room, with_memory, create_refusal, controlled}
 use Rattle.sound_machine.specs.Calls.{Call, Leads, Creates, Controls}
 use Rattle.sound_machine.specs.Calls.Call.{Create, Control}
@@ -55,20 +55,31 @@ module _ {M : Type 0} (kinds : Meaning M) where
   its : (living : ℕ → Option (Living M)) (i : ℕ) (x : Option (Living M)) → with_living living i x i ≡ x
   its living i x = ap (λ b. if b then x else living i) (eq-eqb i i refl)
 
-  module _ (before after : State M) (i : ℕ) (x : Living M) where
-    placed_lives : (done : Unit {0}) (table : List MemRec) (placed : Result Picture Space) → (Ok done, after) ≡ with_room before i x table placed → after.living i ≡ Some x
-    placed_lives done table (Err space) e = absurd (err_is_no_ok _ done (ap (λ o. o.0) (sym e)))
-    placed_lives done table (Ok picture) e = ap (λ o. o.1.living i) e ∙ its before.living i (Some x)
+  placed_lives : (before after : State M) (i : ℕ) (x : Living M) (done : Unit {0}) (table : List MemRec) (placed : Result Picture Space)
+      → (Ok done, after) ≡ with_room before i x table placed → after.living i ≡ Some x
+  placed_lives before after i x done table (Err space) e = absurd (err_is_no_ok _ done (ap (λ o. o.0) (sym e)))
+  placed_lives before after i x done table (Ok picture) e = ap (λ o. o.1.living i) e ∙ its before.living i (Some x)
 
-    created_lives : (done : Unit {0}) (table : Option (List MemRec)) → (Ok done, after) ≡ with_memory before i x table → after.living i ≡ Some x
+  -- it lives with the memory that its kind asked for
+  pub record LivesWith (after : State M) (i : ℕ) (kind : M) (g : ℕ) (p : List ℤ) (table : Option (List MemRec)) : Type 0 where
+    pub records : List MemRec
+    pub asked : table ≡ Some records
+    pub lives : after.living i ≡ Some (newborn kind g p records)
+
+  module _ (before after : State M) (i : ℕ) (kind : M) (g : ℕ) (p : List ℤ) where
+    created_lives : (done : Unit {0}) (table : Option (List MemRec)) → (Ok done, after) ≡ with_memory kinds before i kind g p table → LivesWith after i kind g p table
     created_lives done None e = absurd (err_is_no_ok _ done (ap (λ o. o.0) (sym e)))
-    created_lives done (Some table) e = placed_lives done table (created_picture before.sizes before.picture i x.group table) e
+    created_lives done (Some records) e =
+        let x = newborn kind g p records in
+        record {
+          records = records;
+          asked = refl;
+          lives = placed_lives before after i x done records (created_picture before.sizes before.picture i g records (twins_of kinds before.living x)) e;
+        }
 
-  born_lives : (before after : State M) (i : ℕ) (kind : M) (g : ℕ) (p : List ℤ) → Creates kinds before i kind g p (Ok tt) after
-      → after.living i ≡ Some (newborn kind g p)
-  born_lives before after i kind g p does =
-      created_lives before after i (newborn kind g p) tt does.table
-      (granted before (create_refusal before i g) (with_memory before i (newborn kind g p) does.table) tt after does.outcome)
+    born_lives : (does : Creates kinds before i kind g p (Ok tt) after) → LivesWith after i kind g p does.table
+    born_lives does =
+        created_lives tt does.table (granted before (create_refusal before i g) (with_memory kinds before i kind g p does.table) tt after does.outcome)
 
   -- the number of an instance that was created is in range
   granted_number : (number group taken : Bool) {A : Type 0} (before after : State M) (a : A) (outcome : Outcome M A)
@@ -107,19 +118,24 @@ module _ {M : Type 0} (kinds : Meaning M) where
         let start = split.between in
         let first = split.leads_on.0 in
         let does = split.leads_on.1 in
-        let there = born_lives start first i kind g p does in
+        let born_with = born_lives start first i kind g p does in
+        let x = newborn kind g p born_with.records in
+        let there = born_with.lives in
         let poison = (host_stays kinds start first (Create i kind g p (Ok tt)) does).poison ∙ split.poison in
         let still : IsTrue (kinds.lawful kind p first.poison) = subst (λ w. IsTrue (kinds.lawful kind p w)) (sym poison) lawful in
+        let told = does.asked.told (or_left (kinds.lawful kind p start.poison) (kinds.declares kind p) (subst (λ w. IsTrue (kinds.lawful kind p w)) (sym split.poison) lawful)) in
         let number = granted_number (is_instance_number i) (is_group_number g) (is_some (start.living i)) start first tt _ does.outcome in
-        let life : Life kinds i (newborn kind g p) later = record { before = first; after = after; born = there; lawful = still; spared = born.spared; leads = split.leads_on.2 } in
-        let grows = grows_by kinds i (newborn kind g p) later life in
+        let life : Life kinds i x later = record { before = first; after = after; born = there; lawful = still; spared = born.spared; leads = split.leads_on.2 } in
+        let grows = grows_by kinds i x later life in
         record {
-          lives = lives_on kinds i (newborn kind g p) later life;
+          table = born_with.records;
+          asked = sym told ∙ born_with.asked;
+          lives = lives_on kinds i x later life;
           outputs = sym grows.outputs_more;
           statuses = sym grows.statuses_more;
           controls = λ sooner rest c answer e.
               let two = parts sooner (Control i c answer ∷ rest) first after (subst (λ cs. Leads kinds first cs after) e split.leads_on.2) in
-              let sooner_life : Life kinds i (newborn kind g p) sooner = record {
+              let sooner_life : Life kinds i x sooner = record {
                 before = first;
                 after = two.between;
                 born = there;
@@ -127,6 +143,6 @@ module _ {M : Type 0} (kinds : Meaning M) where
                 spared = spared_first i sooner (Control i c answer ∷ rest) (subst (AllSpare i) e born.spared);
                 leads = two.leads;
               } in
-              control_answered two.between two.leads_on.0 i c answer (record { kind = kind; params = p; group = g; history = history_of_run i [] sooner }) number
-              (lives_on kinds i (newborn kind g p) sooner sooner_life) (subst (λ w. IsTrue (kinds.lawful kind p w)) (sym two.poison) still) two.leads_on.1;
+              control_answered two.between two.leads_on.0 i c answer (record x { history = history_of_run i [] sooner }) number
+              (lives_on kinds i x sooner sooner_life) (subst (λ w. IsTrue (kinds.lawful kind p w)) (sym two.poison) still) two.leads_on.1;
         }

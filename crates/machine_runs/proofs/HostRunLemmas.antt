@@ -60,9 +60,9 @@ module _ {M : Type 0} (kinds : Meaning M) where
       ([], refl, host_stays before after (chain_refusal before c members) answer tt (with_members before c members) refl does)
   asks before after (Unchain c answer) does = ([], refl, host_stays before after (channel_refusal before c) answer tt (with_members before c []) refl does)
   asks before after (Remove i (Ok done)) does =
-      (Delete i (Ok done) ∷ [], refl, (after.host, deleted before after (not (is_instance_number i)) (is_none (before.host.living i)) (is_in_channel before.chained i) done (steps.without_instance before.host i (before.host.living i)) does, refl))
+      (Delete i (Ok done) ∷ [], refl, (after.host, deleted before after (not (is_instance_number i)) (is_none (before.host.living i)) (is_in_channel before.chained i) done (steps.without_instance kinds before.host i (before.host.living i)) does, refl))
   asks before after (Remove i (Err refusal)) does =
-      ([], refl, refused_stays before after (delete_refusal before i) refusal tt (on_host before (steps.delete before.host i).1) does)
+      ([], refl, refused_stays before after (delete_refusal before i) refusal tt (on_host before (steps.delete kinds before.host i).1) does)
   asks before after (Ready c answer) does = ([], refl, host_stays before after (channel_refusal before c) answer tt before refl does)
   asks before after (Feed c block out) does = passing (members_at before.chained c) before.host after.host block out does.passes
   asks before after (OfHost call) does = (call ∷ [], refl, (after.host, does.does, refl))

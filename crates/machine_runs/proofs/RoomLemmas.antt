@@ -17,9 +17,9 @@ use Rattle.space_blocks.specs.declared.TheConstants.{INSTANCES, GROUPS}
 use Rattle.space_blocks.specs.Blocks.{ranges}
 use Rattle.host_spaces.specs.declared.spaces.Sizes.{Sizes}
 use Rattle.host_spaces.specs.declared.wants.Wanted.{Wanted}
-use Rattle.host_spaces.specs.Picture.{Picture, blocks_in, place_in, put_block, words_in}
-use Rattle.host_spaces.specs.Creation.{all_placed, created_picture, goes_on, result_map, wanted_by, without_replaced}
-use Rattle.sound_machine.specs.State.{Living, State, is_group_number, is_instance_number}
+use Rattle.host_spaces.specs.Picture.{Picture, blocks_in, place_in, put_block, renamed, words_in}
+use Rattle.host_spaces.specs.Creation.{all_placed, created_picture, goes_on, result_map, taken_over, wanted_by, without_replaced}
+use Rattle.sound_machine.specs.State.{Living, State, twins_of, is_group_number, is_instance_number}
 use Rattle.sound_machine.specs.Choices.{tells_memory}
 use Rattle.sound_machine.specs.Steps as steps
 use Rattle.sound_machine.specs.Steps.{create, newborn, with_memory, with_room}
@@ -115,7 +115,7 @@ module _ (sizes : Sizes) (space : Space) where
 
 -- ---- creations
 
-module _ {M : Type 0} (before after : State M) (i : ℕ) (x : Living M) (space : Space) where
+module _ {M : Type 0} (kinds : Meaning M) (before after : State M) (i : ℕ) (kind : M) (g : ℕ) (p : List ℤ) (space : Space) where
   room_is : (r : Refusal) → ◌≡◌ {A = Result (Unit {0}) Refusal} (Err (Room space)) (Err r) → r ≡ Room space
   room_is r e = sym (err_same (Room space) r e)
 
@@ -138,15 +138,21 @@ module _ {M : Type 0} (before after : State M) (i : ℕ) (x : Living M) (space :
   pub record Unmet (table : Option (List MemRec)) : Type 0 where
     pub records : List MemRec
     pub asked : table ≡ Some records
-    pub short : created_picture before.sizes before.picture i x.group records ≡ Err space
+    pub short : created_picture before.sizes before.picture i g records (twins_of kinds before.living (newborn kind g p records)) ≡ Err space
 
-  unmet : (table : Option (List MemRec)) → (Err (Room space), after) ≡ with_memory before i x table → Unmet table
+  unmet : (table : Option (List MemRec)) → (Err (Room space), after) ≡ with_memory kinds before i kind g p table → Unmet table
   unmet None e = absurd (no_params (ap (λ o. o.0) e))
-  unmet (Some records) e = record { records = records; asked = refl; short = no_picture_of records (created_picture before.sizes before.picture i x.group records) e }
+  unmet (Some records) e =
+      let x = newborn kind g p records in
+      record {
+        records = records;
+        asked = refl;
+        short = no_picture_of x records (created_picture before.sizes before.picture i g records (twins_of kinds before.living x)) e;
+      }
     where
-      no_picture_of : (records : List MemRec) (placed : Result Picture Space) → (Err (Room space), after) ≡ with_room before i x records placed → placed ≡ Err space
-      no_picture_of records (Ok picture) e = absurd (not_ok tt (ap (λ o. o.0) e))
-      no_picture_of records (Err other) e = ap Err (same_space other (room_is (Room other) (ap (λ o. o.0) e)))
+      no_picture_of : (x : Living M) (records : List MemRec) (placed : Result Picture Space) → (Err (Room space), after) ≡ with_room before i x records placed → placed ≡ Err space
+      no_picture_of x records (Ok picture) e = absurd (not_ok tt (ap (λ o. o.0) e))
+      no_picture_of x records (Err other) e = ap Err (same_space other (room_is (Room other) (ap (λ o. o.0) e)))
 
   pub record Wants (numbers taken : Bool) (table : Option (List MemRec)) : Type 0 where
     pub in_range : numbers ≡ true
@@ -154,7 +160,7 @@ module _ {M : Type 0} (before after : State M) (i : ℕ) (x : Living M) (space :
     pub unmet : Unmet table
 
   wants : (numbers taken : Bool) (table : Option (List MemRec))
-      → (Err (Room space), after) ≡ steps.unless (first_refusal ((not numbers, Range) ∷ (taken, Taken) ∷ [])) before (with_memory before i x table)
+      → (Err (Room space), after) ≡ steps.unless (first_refusal ((not numbers, Range) ∷ (taken, Taken) ∷ [])) before (with_memory kinds before i kind g p table)
       → Wants numbers taken table
   wants false taken table e = absurd (no_range (ap (λ o. o.0) e))
   wants true true table e = absurd (no_taken (ap (λ o. o.0) e))
@@ -168,8 +174,8 @@ module _ {M : Type 0} (kinds : Meaning M) (before after : State M) (i g : ℕ) (
     (does : host_calls.Creates kinds before i kind g p answer after) (known : IsTrue (tells_memory kinds before.poison kind p)) where
   lacks : answer ≡ Err (Room space) → LacksRoom kinds before i kind g p space
   lacks e =
-      let w = wants before after i (newborn kind g p) space (is_instance_number i && is_group_number g) (is_some (before.living i)) does.table
-      (subst (λ a. (a, after) ≡ create before i kind g p does.table) e does.outcome) in
+      let w = wants kinds before after i kind g p space (is_instance_number i && is_group_number g) (is_some (before.living i)) does.table
+      (subst (λ a. (a, after) ≡ create kinds before i kind g p does.table) e does.outcome) in
       let both = both_true (is_instance_number i) (is_group_number g) w.in_range in
       record {
         number = ltb-true i INSTANCES both.0;
@@ -177,15 +183,20 @@ module _ {M : Type 0} (kinds : Meaning M) (before after : State M) (i g : ℕ) (
         absent = is_none_then (before.living i) w.absent;
         table = w.unmet.records;
         asked = sym (does.asked.told known) ∙ w.unmet.asked;
-        short = falls before.sizes space (wanted_by before.picture i g w.unmet.records) before.picture
-            (mapped before.sizes space (without_replaced before.picture g w.unmet.records) (all_placed before.sizes before.picture (wanted_by before.picture i g w.unmet.records)) w.unmet.short);
+        short =
+            let twins = twins_of kinds before.living (newborn kind g p w.unmet.records) in
+            falls before.sizes space (wanted_by twins before.picture i g w.unmet.records) before.picture
+            (mapped before.sizes space (λ placed. renamed (taken_over twins i) (without_replaced before.picture g w.unmet.records placed))
+            (all_placed before.sizes before.picture (wanted_by twins before.picture i g w.unmet.records)) w.unmet.short);
       }
 
   refused : LacksRoom kinds before i kind g p space → answer ≡ Err (Room space)
   refused l =
-      let short = ap (result_map (without_replaced before.picture g l.table)) (unplaced before.sizes space (wanted_by before.picture i g l.table) before.picture l.short) in
-      ap (λ o. o.0) (does.outcome ∙ ap (λ t. create before i kind g p t) (does.asked.told known ∙ l.asked)
-      ∙ create_room before i g kind p l.table space l.number l.group l.absent short)
+      let twins = twins_of kinds before.living (newborn kind g p l.table) in
+      let short = ap (result_map (λ placed. renamed (taken_over twins i) (without_replaced before.picture g l.table placed)))
+      (unplaced before.sizes space (wanted_by twins before.picture i g l.table) before.picture l.short) in
+      ap (λ o. o.0) (does.outcome ∙ ap (λ t. create kinds before i kind g p t) (does.asked.told known ∙ l.asked)
+      ∙ create_room before kinds i g kind p l.table space l.number l.group l.absent short)
 
   pub exactly : (answer ≡ Err (Room space)) ↔ LacksRoom kinds before i kind g p space
   exactly = (lacks, refused)
@@ -222,7 +233,7 @@ module _ {M : Type 0} (before after : Channels M) (space : Space) where
       → (call : Call M) → Does kinds before call after → refusal_of call ≡ Some (Room space) → IsCreation call
   only kinds law (Chain c members answer) does e = by_chain _ _ _ _ (told_is answer (with_members before c members) (chain_refusal before c members) does e)
   only kinds law (Unchain c answer) does e = by_channel _ _ (told_is answer (with_members before c []) (channel_refusal before c) does e)
-  only kinds law (Remove i answer) does e = by_delete _ _ _ (told_is answer (on_host before (steps.delete before.host i).1) (delete_refusal before i) does e)
+  only kinds law (Remove i answer) does e = by_delete _ _ _ (told_is answer (on_host before (steps.delete kinds before.host i).1) (delete_refusal before i) does e)
   only kinds law (Ready c answer) does e = by_channel _ _ (told_is answer before (channel_refusal before c) does e)
   only kinds law (Feed c block out) does e = absurd (none-some (Room space) e)
   only kinds law (OfHost call) does e = law before.host after.host call does.does e

@@ -1,9 +1,11 @@
 -- An instance from its creation on: what it gives and answers in a run of calls of a host.
 use Rattle.std.specs.Prelude.{ℕ, ℤ, ◌≡◌, List, [], ◌∷◌, ◌++◌, Some, Result, Ok, Err, if◌then◌else◌}
+use Rattle.mem_rec.specs.declared.MemRec.{MemRec}
 use Rattle.ialg.specs.declared.refusal.Refusal.{Refusal}
 use Rattle.ialg.specs.declared.refusal.Refusal.TheVariants.{Command}
 use Rattle.ialg.specs.History.{History, Ctl}
 use Rattle.ialg.specs.Meaning.{Meaning, Status, outputs_of, status_of}
+use Rattle.ialg.specs.Records.{unplaced}
 use Rattle.sound_machine.specs.State.{State}
 use Rattle.sound_machine.specs.Calls.{Call}
 use Rattle.sound_machine.specs.Calls.Call.{Create, Control}
@@ -21,7 +23,9 @@ answer_of kinds kind p h c = if kinds.accepts kind p c then Ok (status_of kinds 
 
 -- from its creation on an instance gives and answers what its kind means for what it was given since then
 pub record GoesByItsHistory {M : Type 0} (kinds : Meaning M) (i : ℕ) (kind : M) (g : ℕ) (p : List ℤ) (later : List (Call M)) (after : State M) : Type 0 where
-  pub lives : after.living i ≡ Some (record { kind = kind; params = p; group = g; history = history_of_run i [] later })
+  pub table : List MemRec
+  pub asked : kinds.table kind p ≡ Some table
+  pub lives : after.living i ≡ Some (record { kind = kind; params = p; table = unplaced table; group = g; history = history_of_run i [] later })
   pub outputs : outputs_in i later ≡ outputs_of kinds kind p (history_of_run i [] later)
   pub statuses : statuses_in i later ≡ statuses_of kinds kind p (history_of_run i [] later)
   pub controls : (first rest : List (Call M)) (c : Ctl) (answer : Result Status Refusal) → later ≡ first ++ Control i c answer ∷ rest

@@ -10,7 +10,8 @@ use Rattle.host_spaces.specs.declared.spaces.Sizes.{Sizes}
 use Rattle.host_spaces.specs.declared.wants.Wanted.{Wanted}
 use Rattle.host_spaces.specs.Picture.{Picture, blocks_in, place_in, put_block, words_in}
 use Rattle.host_spaces.specs.Creation.{wanted_by}
-use Rattle.sound_machine.specs.State.{State}
+use Rattle.sound_machine.specs.State.{State, twins_of}
+use Rattle.sound_machine.specs.Steps.{newborn}
 use Rattle.sound_machine.specs.Laws as host_laws
 use Rattle.channel_machine.specs.Calls.{Call}
 use Rattle.channel_machine.specs.Calls.Call.{OfHost}
@@ -29,14 +30,14 @@ FallsShort sizes picture (w ∷ ws) space =
     × FallsShort sizes (put_block picture w.space (record { owner = w.owner; place = place; size = w.size; align = w.align })) ws space)
 
 -- nothing but room is wanting: the numbers are in range, the instance's is free, the kind takes the parameters, and of the blocks that
--- the instance needs one has no place
+-- the instance needs, beyond those that it shares, one has no place
 pub record LacksRoom {M : Type 0} (kinds : Meaning M) (before : State M) (i : ℕ) (kind : M) (g : ℕ) (p : List ℤ) (space : Space) : Type 0 where
   pub number : i < INSTANCES
   pub group : g < GROUPS
   pub absent : before.living i ≡ None
   pub table : List MemRec
   pub asked : kinds.table kind p ≡ Some table
-  pub short : FallsShort before.sizes before.picture (wanted_by before.picture i g table) space
+  pub short : FallsShort before.sizes before.picture (wanted_by (twins_of kinds before.living (newborn kind g p table)) before.picture i g table) space
 
 abbrev pub IsCreation : {M : Type 0} → Call M → Type 0
 IsCreation (OfHost call) = host_laws.IsCreation call

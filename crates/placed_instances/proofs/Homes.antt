@@ -1,5 +1,5 @@
 -- Instances that stay where the picture shows them.
-use Rattle.std.proofs.Common.{◌≡◌, ◌≢◌, ◌⊎◌, inl, inr, ℕ, Bool, List, [], ◌∷◌, length, Option, Some, None, refl, sym, ◌∙◌, ap, subst, if◌then◌else◌}
+use Rattle.std.proofs.Common.{◌≡◌, ◌≢◌, ◌⊎◌, inl, inr, ℕ, Bool, true, false, List, [], ◌∷◌, length, Option, Some, None, refl, sym, ◌∙◌, ap, subst, if◌then◌else◌}
 use Rattle.std.proofs.lemmas.Bool.Decides.{eqb_tells}
 use Rattle.std.proofs.lemmas.Option.{none-some}
 use Rattle.space_raw.specs.Span.{Extent, Span}
@@ -22,7 +22,7 @@ use Rattle.space_blocks.specs.declared.placed.Owner.{Owner}
 use Rattle.space_blocks.specs.declared.placed.Owner.TheVariants.{Record}
 use Rattle.space_blocks.specs.declared.placed.Owner.TheVariants.{Scratch as GroupScratch}
 use Rattle.space_blocks.specs.declared.placed.Placed.{Placed}
-use Rattle.space_blocks.specs.Blocks.{block_of, block_of_piece, owned}
+use Rattle.space_blocks.specs.Blocks.{block_of, block_of_piece, owned, renamed_blocks}
 use Rattle.host_spaces.specs.declared.spaces.Spaces.{Spaces}
 use Rattle.host_spaces.specs.Picture.{blocks_in, picture_of, space_in}
 use Rattle.host_spaces.specs.Pieces.{IsPieceOf, record_block}
@@ -31,7 +31,7 @@ use Rattle.instance_table.specs.declared.shelves.Shelf.{Shelf}
 use Rattle.instance_table.specs.Shelves.{stand_at, shelf_at, home_of}
 use Rattle.instance_table.specs.Table.{slot_at, once_at, group_at, no_pieces, instance_of, is_member_of}
 use Rattle.instance_table.specs.Frames.{SameSlot, SameMember, IsSameMember, SameMembers, SameTables}
-use Rattle.instance_table.proofs.Unshared.{unshared_stays}
+use Rattle.instance_table.proofs.Leasts.{least_stays, together_members}
 use Rattle.table_moves.proofs.Holders.{home_same}
 use Rattle.placed_instances.specs.Standing.{IsHome, IsOf, AreStanding, table_of, SlotIsSame}
 
@@ -63,18 +63,36 @@ block_alike o al (Some p) (Some q) e =
     let b : block_of o al q ≡ block_of o al p = rw (e.1, e.2) refl in
     ap (λ (x : Placed). x ∷ []) b
 
-lasting_alike : (a : Attr) (o o' s s' : Option Span) → IsSamePiece o o' → IsSamePiece s s' → IsSamePiece (lasting_piece a o s) (lasting_piece a o' s')
+pub lasting_alike : (a : Attr) (o o' s s' : Option Span) → IsSamePiece o o' → IsSamePiece s s' → IsSamePiece (lasting_piece a o s) (lasting_piece a o' s')
 lasting_alike Scratch o o' s s' eo es = refl
 lasting_alike Persist o o' s s' eo es = eo
 lasting_alike WriteOnce o o' s s' eo es = es
 
-record_alike : (i k : ℕ) (r : MemRec) (space : Space) (p q : Option Span) → IsSamePiece p q → record_block i k r space q ≡ record_block i k r space p
+pub record_alike : (i k : ℕ) (r : MemRec) (space : Space) (p q : Option Span) → IsSamePiece p q → record_block i k r space q ≡ record_block i k r space p
 record_alike i k r space p q e = ap (λ (bs : List Placed). if same_space r.space space then bs else []) (block_alike (Record i k) r.align p q e)
 
-piece_alike : (home : Extent) (size : ℕ) (wanted : Bool) (p q : Option Span) → IsSamePiece p q → IsPieceOf home size wanted p → IsPieceOf home size wanted q
+pub piece_alike : (home : Extent) (size : ℕ) (wanted : Bool) (p q : Option Span) → IsSamePiece p q → IsPieceOf home size wanted p → IsPieceOf home size wanted q
 piece_alike home size wanted None q e is = rw e is
 piece_alike home size wanted (Some p) None e is = absurd e
 piece_alike home size wanted (Some p) (Some q) e is = (is.0, e.0 ∙ is.1, e.2 ∙ is.2)
+
+-- a record's block under another owner's name
+renamed_piece : (i h k : ℕ) (r : MemRec) (space : Space) (t : Bool) (p : Option Span) → same_space r.space space ≡ t
+    → renamed_blocks (λ o. Record h k) (record_block i k r space p) ≡ record_block h k r space p
+renamed_piece i h k r space false p is = rw is refl
+renamed_piece i h k r space true None is = rw is refl
+renamed_piece i h k r space true (Some p) is = rw is refl
+
+pub renamed_record : (i h k : ℕ) (r : MemRec) (space : Space) (p : Option Span) → renamed_blocks (λ o. Record h k) (record_block i k r space p) ≡ record_block h k r space p
+renamed_record i h k r space p = renamed_piece i h k r space (same_space r.space space) p refl
+
+-- a record without a piece has no block
+none_if : (t : Bool) → (if t then [] else []) ≡ (let bs : List Placed = [] in bs)
+none_if true = refl
+none_if false = refl
+
+pub no_record : (i k : ℕ) (r : MemRec) (space : Space) → record_block i k r space None ≡ []
+no_record i k r space = none_if (same_space r.space space)
 
 -- only words differ
 pub home_stays : (spaces : Spaces) (i : ℕ) (at : ℕ → ℕ) (rs : List MemRec) (own own' shared shared' : Pieces) (y y' : Group) → SamePieces own own' → SamePieces shared shared'
@@ -195,7 +213,8 @@ standing_stays slots slots' once once' groups groups' spaces same standing = rec
       (home_by_same spaces i (home_of once i) (home_of once' i) (table_of m) (instance_of n.inst).own (once_at once' i) (group_at groups' m.group) (λ k. home_same i (stand_at (shelf_at once i) k) (stand_at (shelf_at once' i) k) (same.stands i k))
       (home_stays spaces i (home_of once i) (table_of m) (instance_of m.inst).own (instance_of n.inst).own (once_at once i) (once_at once' i) (group_at groups m.group) (group_at groups' m.group)
       was.1.1.own (same.pieces i) (λ space. alike_same _ _ (same.blocks m.group space)) home)));
-  unshared = unshared_stays once standing.unshared once' same.stands;
+  least = least_stays once once' same.stands standing.least;
+  together = together_members slots slots' once once' same.slot same.stands standing.together;
   free = λ i none. pieces_none (once_at once' i) (subst (λ (p : Pieces). SamePieces p (once_at once' i)) (standing.free i (none_before _ _ (same.slot i) none)) (same.pieces i));
   gone = λ i k space none. standing.gone i k space (none_before _ _ (same.slot i) none);
   blocks = λ g space. standing.blocks g space ∙ sym (align_same (block_in (group_at groups g) space) (block_in (group_at groups' g) space) (GroupScratch g) (same.blocks g space));

@@ -8,3 +8,4 @@ pub mod OwnMoves
 pub mod OnceMoves
 pub mod BlockMoves
 pub mod Maps
+pub mod Apart

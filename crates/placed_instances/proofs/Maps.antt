@@ -27,9 +27,11 @@ use Rattle.host_spaces.specs.Picture.{Picture, blocks_in, empty_picture, picture
 use Rattle.host_spaces.specs.Pieces.{record_block}
 use Rattle.instance_table.specs.declared.member.Member.{Member}
 use Rattle.instance_table.specs.declared.shelves.Shelf.{Shelf}
-use Rattle.instance_table.specs.Shelves.{no_shelf, shelf_at, home_of}
+use Rattle.instance_table.specs.declared.shelves.Stand.TheVariants.{Here, With}
+use Rattle.instance_table.specs.Shelves.{stand_at, no_shelf, shelf_at, home_of}
 use Rattle.instance_table.specs.Table.{TablesOk, slot_at, once_at, group_at, no_group, no_pieces, instance_of}
-use Rattle.instance_table.proofs.Stands.{seen_of, unshared_of}
+use Rattle.instance_table.proofs.Stands.{seen_of}
+use Rattle.instance_table.proofs.Lent.{no_stand}
 use Rattle.placed_instances.specs.Standing.{AreStanding, table_of}
 use Rattle.placed_instances.proofs.Rooms.{compare, either}
 use Rattle.placed_instances.proofs.Homes.{own_home, home_record}
@@ -159,7 +161,8 @@ standing_start slots once groups spaces nobody bare none shown =
     λ o space. ap (λ (p : Picture). owned o (blocks_in p space)) shown ∙ ap (owned o) (none_shown space) in
     record {
       homes = λ i m at. absurd (none-some _ (sym (nobody i) ∙ at));
-      unshared = λ i. unshared_of once i no_pieces (bare i);
+      least = λ i k home is. let no : Here None ≡ With home = sym (ap (λ (s : Shelf). stand_at s k) (bare i) ∙ no_stand k) ∙ is in cc;
+      together = λ i j k m n at. absurd (none-some _ (sym (nobody i) ∙ at));
       free = λ i gone. seen_of once i no_pieces (bare i);
       gone = λ i k space gone. nothing (Record i k) space;
       blocks = λ g space. nothing (GroupScratch g) space ∙ sym (ap (λ y. block_of_piece (GroupScratch g) (block_align y) (block_piece y)) (none g space));

@@ -1,5 +1,5 @@
 -- A record of an instance lies elsewhere.
-use Rattle.std.proofs.Common.{◌≡◌, ◌≢◌, ℕ, ◌<◌, inl, inr, Bool, List, [], ◌∷◌, length, Option, Some, None, set, refl, sym, ◌∙◌, ap, subst, if◌then◌else◌}
+use Rattle.std.proofs.Common.{◌≡◌, ◌≢◌, ℕ, ◌<◌, inl, inr, Bool, List, [], ◌∷◌, length, Option, Some, None, refl, sym, ◌∙◌, ap, subst, if◌then◌else◌}
 use Rattle.std.proofs.lemmas.Option.{none-some, same_Some}
 use Rattle.std.proofs.lemmas.Bool.Decides.{eqb_tells}
 use Rattle.space_raw.specs.Span.{Extent, Span}
@@ -9,7 +9,8 @@ use Rattle.mem_rec.specs.declared.Space.TheVariants.{Daram, Saram, External}
 use Rattle.space_blocks.specs.Spaces.{SpaceState}
 use Rattle.mem_rec.specs.declared.Attr.TheVariants.{Persist, WriteOnce}
 use Rattle.mem_rec.specs.Records.{same_space, is_persistent}
-use Rattle.ialg.specs.Records.{record_at}
+use Rattle.ialg.specs.Records.{record_at, unplaced}
+use Rattle.lifecycle.specs.declared.instance.Instance.{Instance}
 use Rattle.record_loans.specs.declared.pieces.Pieces.{Pieces}
 use Rattle.record_loans.specs.Pieces.{piece_at, with_piece}
 use Rattle.record_loans.specs.Blocks.{block_piece}
@@ -29,17 +30,39 @@ use Rattle.instance_table.specs.declared.shelves.Shelf.{Shelf}
 use Rattle.instance_table.specs.declared.shelves.Stand.TheVariants.{Here}
 use Rattle.instance_table.specs.Shelves.{stand_at, piece_here, shelf_at, home_by, home_of}
 use Rattle.instance_table.specs.Homes.{AllHaveHomes}
-use Rattle.instance_table.specs.Table.{slot_at, once_at, group_at, AreBare, IsUnshared, instance_of, is_member_of}
+use Rattle.instance_table.specs.Table.{slot_at, once_at, group_at, AreBare, instance_of, is_member_of}
 use Rattle.instance_table.proofs.Lent.{no_stand, seen_at}
-use Rattle.table_moves.specs.Moves.{inst_with, own_set, holds_with, slid_to}
+use Rattle.instance_table.proofs.Held.{IsSameHolder}
+use Rattle.instance_table.proofs.Together.{together_by_homes}
+use Rattle.table_moves.specs.Moves.{inst_with, slot_with, own_set, holds_with, slid_to}
 use Rattle.table_moves.proofs.Owns.{own_set_same, own_set_other}
 use Rattle.table_moves.proofs.Holders.{not_equal}
-use Rattle.table_moves.proofs.Slides.{home_slid, seen_slid}
+use Rattle.table_moves.proofs.Slides.{home_slid, seen_slid, with_still}
 use Rattle.placed_instances.specs.Standing.{IsHome, IsOf, AreStanding, table_of}
 use Rattle.placed_instances.proofs.Rooms.{either, space_itself}
 use Rattle.placed_instances.proofs.Homes.{home_by_same, home_record, home_elsewhere}
 use Rattle.placed_instances.proofs.Nexts.{IsIn, in_space}
 use Rattle.placed_instances.proofs.Slots.{piece_there, piece_with_same, piece_with_other, one_space, other_space, persists, written_once, other_instance, other_record, not_a_group, inst_is}
+
+-- an instance that has other pieces holds the same records
+holder_itself : {M : Type 0} (slot : Option (Member M)) → IsSameHolder slot slot
+holder_itself None = refl
+holder_itself (Some m) = record { kind = refl; params = refl; table = refl }
+
+holder_with : {M : Type 0} (slot : Option (Member M)) (own : Pieces) → IsSameHolder slot (slot_with slot own)
+holder_with None own = refl
+holder_with (Some m) own = record {
+  kind = ap (λ (s : Instance _). s.kind) (inst_is m.inst own);
+  params = ap (λ (s : Instance _). s.params) (inst_is m.inst own);
+  table = ap (λ (s : Instance _). unplaced s.table) (inst_is m.inst own);
+}
+
+holder_own : {M : Type 0} (slots : List (Option (Member M))) (i : ℕ) (own : Pieces) (j : ℕ) → IsSameHolder (slot_at slots j) (slot_at (own_set slots i own) j)
+holder_own slots i own j =
+    elim (eqb_tells j i) [
+      | inl e ↦ rw (e.1, own_set_same slots i own) (holder_with (slot_at slots i) own)
+      | inr e ↦ rw (own_set_other slots i j own e.1) (holder_itself (slot_at slots j))
+    ]
 
 -- what a move of the block of an owner in a space does to the picture
 pub record OneMoves (space : Space) (owner : Owner) (p q : Span) (spaces spaces' : Spaces) : Type 0 where
@@ -241,7 +264,8 @@ module _ {M : Type 0} (space : Space) (i k : ℕ) (p q : Span) (slots : List (Op
                 (rw (inst_is m.inst own_now) home_of_moved))
             | inr e ↦ home_of_other j n (alone j e.1) (sym (own_set_other slots i j own_now e.1) ∙ there')
           ];
-      unshared = standing.unshared;
+      least = standing.least;
+      together = together_by_homes slots (own_set slots i own_now) once once (holder_own slots i own_now) (λ j l. refl) standing.together;
       free = λ j none. standing.free j (none_then j none);
       gone = λ j l s none. gone_still j l s (none_then j none);
       blocks = blocks_still;
@@ -285,12 +309,14 @@ module _ {M : Type 0} (space : Space) (i k : ℕ) (p q : Span) (slots : List (Op
           | inr e ↦ rw e.0 (home_of_other j n e.1 there')
         ]
 
-    pub standing_once : AreBare slots once → ((j : ℕ) → IsUnshared once_now j) → AreStanding slots once_now groups spaces'
-    standing_once bare unshared = record {
+    pub standing_once : AreBare slots once → AreStanding slots once_now groups spaces'
+    standing_once bare = record {
       homes = λ j n there'.
           home_by_same spaces' j (home_of once j) (home_of once_now j) (table_of n) (instance_of n.inst).own (once_at once_now j) (group_at groups n.group) (λ l. home_slid once all i k p q below there j l)
           (subst (λ (o : Pieces). IsHome spaces' j (home_of once j) (table_of n) (instance_of n.inst).own o (group_at groups n.group)) (sym (seen_slid once all i k p q below there j)) (home_of_each j n there'));
-      unshared = unshared;
+      least = λ j l home with_home. standing.least j l home (with_still once all i k p q below there j l home with_home);
+      together =
+          together_by_homes slots slots once once_now (λ j. holder_itself (slot_at slots j)) (λ j l. home_slid once all i k p q below there j l) standing.together;
       free = λ j none.
           let own : home_of once j k ≡ j = ap (λ (s : Shelf). home_by j (stand_at s k)) (bare j none) ∙ ap (home_by j) (no_stand k) in
           let other : home_of once j k ≢ i = λ e. not_gone j none (sym own ∙ e) in

@@ -91,7 +91,8 @@ module _ {M : Type 0} (space : Space) (g al : ℕ) (p q : Span) (slots : List (O
         (home_elsewhere spaces spaces' i (home_of once i) (table_of m) (instance_of m.inst).own (once_at once i) (group_at groups m.group)
         (λ l s. other_owned space (GroupScratch g) p q spaces spaces' moves (Record (home_of once i l) l) (not_a_group (home_of once i l) l g) s)
         (λ l s apart. other_owned space (GroupScratch g) p q spaces spaces' moves (Record i l) (not_a_group i l g) s) moves.regions (standing.homes i m at));
-    unshared = standing.unshared;
+    least = standing.least;
+    together = standing.together;
     free = standing.free;
     gone = λ i k s none. other_owned space (GroupScratch g) p q spaces spaces' moves (Record i k) (not_a_group i k g) s ∙ standing.gone i k s none;
     blocks = λ k. has_now k (standing.blocks k);

@@ -1,5 +1,5 @@
 -- A write-once record of an instance moves.
-use Rattle.std.proofs.Common.{◌≡◌, ◌≢◌, ℕ, zero, suc, ◌<◌, inl, inr, List, [], ◌∷◌, length, Option, Some, None, set, refl, sym, ◌∙◌, ap, subst}
+use Rattle.std.proofs.Common.{◌≡◌, ◌≢◌, ℕ, ◌<◌, inl, inr, List, [], ◌∷◌, length, Option, Some, None, refl, sym, ◌∙◌, ap, subst}
 use Rattle.std.specs.Option.{option_map}
 use Rattle.std.specs.List.{Contains}
 use Rattle.std.proofs.lemmas.Option.{none-some, same_Some}
@@ -12,9 +12,6 @@ use Rattle.ialg.specs.Records.{record_at}
 use Rattle.record_loans.specs.declared.pieces.Pieces.{Pieces}
 use Rattle.record_loans.specs.Pieces.{piece_at, piece_words, with_piece}
 use Rattle.scratch_group.specs.declared.group.Group.{Group}
-use Rattle.lifecycle.specs.declared.instance.Inst.{Inst}
-use Rattle.lifecycle.specs.declared.instance.Inst.TheVariants.{Idling, Running}
-use Rattle.lifecycle.specs.Moves.{restored, with_back, HasRoom}
 use Rattle.space_blocks.specs.declared.placed.Owner.{Owner}
 use Rattle.space_blocks.specs.declared.placed.Owner.TheVariants.{Record}
 use Rattle.space_blocks.specs.declared.placed.Placed.{Placed}
@@ -29,10 +26,9 @@ use Rattle.instance_table.specs.declared.shelves.Stand.{Stand}
 use Rattle.instance_table.specs.declared.shelves.Stand.TheVariants.{Here, With}
 use Rattle.instance_table.specs.Shelves.{stand_at, piece_here, shelf_at, home_of}
 use Rattle.instance_table.specs.Homes.{HasHomes, AllHaveHomes, with_seen}
-use Rattle.instance_table.specs.Table.{slot_at, once_at, group_at, IsUnshared, instance_of, TablesOk}
-use Rattle.instance_table.proofs.Stands.{set_unshared}
+use Rattle.instance_table.specs.Table.{slot_at, once_at, group_at, instance_of, TablesOk}
 use Rattle.instance_table.proofs.Homes.{lent_here, count_seen}
-use Rattle.instance_table.proofs.Lent.{homes_of_all, lent_last, lent_unshared, seen_at}
+use Rattle.instance_table.proofs.Lent.{homes_of_all, lent_last, seen_at}
 use Rattle.instance_table.proofs.Held.{homes_of_held}
 use Rattle.table_moves.specs.Moves.{holds_with, slid_to, SameWords, TablesWaiting, WordsStay}
 use Rattle.table_moves.proofs.Slides.{seen_slid, waiting_slid}
@@ -125,11 +121,6 @@ module _ {M : Type 0} (slots : List (Option (Member M))) (once : List Shelf) (gr
         ∙ ap (λ (o : Pieces). with_seen away i o) (piece_again (once_at once i) k None (Some q))
         ∙ lent_last once i its_homes (with_piece (once_at once i) k None) (with_piece (once_at once i) k (Some q))
 
-    unshared_now : (j : ℕ) → IsUnshared now j
-    unshared_now j =
-        subst (λ (l : List Shelf). IsUnshared l j) (sym (lent_unshared once i (once_at once i) (with_piece (once_at once i) k (Some q)) inside (standing.unshared i)))
-        (set_unshared once i (with_piece (once_at once i) k (Some q)) inside standing.unshared j)
-
     module _ (spaces' : Spaces)
         (here : (owner : Owner) (align : ℕ) → owned owner (blocks_in (picture_of spaces) space) ≡ block_of owner align p ∷ [] → owned owner (blocks_in (picture_of spaces') space) ≡ block_of owner align q ∷ [])
         (others : (owner o : Owner) → Owns (blocks_in (picture_of spaces) space) owner p → o ≢ owner → owned o (blocks_in (picture_of spaces') space) ≡ owned o (blocks_in (picture_of spaces) space))
@@ -139,7 +130,7 @@ module _ {M : Type 0} (slots : List (Option (Member M))) (once : List Shelf) (gr
       moves = record { here = here (Record i k); others = λ o apart. others (Record i k) o owns apart; elsewhere = elsewhere; regions = regions; words = words; region = region }
 
       pub stands : AreStanding slots now groups spaces'
-      stands = standing_once space i k p q slots once groups spaces spaces' moves standing its.member its.there its.of_space its.here below all_homes stands_here ok.bare unshared_now
+      stands = standing_once space i k p q slots once groups spaces spaces' moves standing its.member its.there its.of_space its.here below all_homes stands_here ok.bare
 
       -- each holder has room, and waits to be told
       pub waiting_now : AreOrdered spaces' → TablesWaiting (holds_with now i k) slots now groups

@@ -13,7 +13,8 @@ use Rattle.lifecycle.specs.Rooms.{NoNeed, piece_of_record}
 use Rattle.instance_table.specs.declared.member.Member.{Member}
 use Rattle.instance_table.specs.declared.shelves.Shelf.{Shelf}
 use Rattle.instance_table.specs.Shelves.{home_of}
-use Rattle.instance_table.specs.Table.{slot_at, once_at, IsUnshared, group_at, no_pieces, instance_of, is_member_of}
+use Rattle.instance_table.specs.Table.{slot_at, once_at, group_at, no_pieces, instance_of, is_member_of}
+use Rattle.instance_table.specs.Twins.{AreLeast, AreTogether}
 use Rattle.space_blocks.specs.declared.placed.Owner.TheVariants.{Record}
 use Rattle.space_blocks.specs.Blocks.{owned}
 use Rattle.space_blocks.specs.Spaces.{AreInOrder}
@@ -41,8 +42,9 @@ table_of m = unplaced (instance_of m.inst).table
 -- each instance and each group has its blocks of the picture, and no block is anybody else's
 pub record AreStanding {M : Type 0} (slots : List (Option (Member M))) (once : List Shelf) (groups : List Group) (spaces : Spaces) : Type 0 where
   pub homes : (i : ℕ) (m : Member M) → slot_at slots i ≡ Some m → IsHome spaces i (home_of once i) (table_of m) (instance_of m.inst).own (once_at once i) (group_at groups m.group)
-  -- so far nothing is shared
-  pub unshared : (i : ℕ) → IsUnshared once i
+  -- instances that are alike in a write-once record share its block, which is that of the least of them
+  pub least : AreLeast once
+  pub together : AreTogether slots once
   pub free : (i : ℕ) → slot_at slots i ≡ None → once_at once i ≡ no_pieces
   pub gone : (i k : ℕ) (space : Space) → slot_at slots i ≡ None → owned (Record i k) (blocks_in (picture_of spaces) space) ≡ []
   pub blocks : (g : ℕ) → HasBlocks (picture_of spaces) g (group_at groups g)

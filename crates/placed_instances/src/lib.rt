@@ -7,6 +7,6 @@ mod laws;
 mod moves;
 mod order;
 
-pub use laws::{maps_have_room, nobody_stands, places_stay};
+pub use laws::{loans_are_apart, maps_have_room, nobody_stands, places_stay};
 pub use moves::make_next_move;
 pub use order::in_order;

@@ -108,8 +108,9 @@ fn end_none(piece: Option<Piece>)
     }
 }
 
-/// Makes the next move of a space: its first block that isn't at its packed place is slid down to it, with its words, and its owner, or
-/// each member of its group in ascending number, is told. Says whether a block moved.
+/// Makes the next move of a space: its first block that isn't at its packed place is slid down to it, with its words, and each instance that
+/// has words in it is told, in ascending number: its owner, and all that share the record with it, or each member of its group. Says whether
+/// a block moved.
 pub fn make_next_move<M: Ialg>(
     slots: &mut Vec<Option<Member<M>>>,
     once: &mut Vec<Shelf>,

@@ -1,4 +1,4 @@
-// Moves by their numbers.
+//! Moves by their numbers.
 ghost use Rattle.std.specs.Prelude.{◌≡◌};
 
 use crate::{Move, Spot, compactions, lowering_moves, moves_go_down, next_move, packing_rows};

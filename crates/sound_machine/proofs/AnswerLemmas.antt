@@ -61,15 +61,15 @@ module _ {M : Type 0} (kinds : Meaning M) (before after : State M) where
 
   pub computed : (call : Call M) → Does kinds before call after → IsLawfulCall kinds before call → (call, after) ≡ answered kinds before call
   computed (Create i kind g p answer) does lawful =
-      with_answer (λ a. Create i kind g p a) answer after (create before i kind g p (kinds.table kind p))
-      (does.outcome ∙ ap (λ t. create before i kind g p t) (does.asked.told (or_left (kinds.lawful kind p before.poison) (kinds.declares kind p) lawful)))
+      with_answer (λ a. Create i kind g p a) answer after (create kinds before i kind g p (kinds.table kind p))
+      (does.outcome ∙ ap (λ t. create kinds before i kind g p t) (does.asked.told (or_left (kinds.lawful kind p before.poison) (kinds.declares kind p) lawful)))
   computed (Control i c answer) does lawful =
       with_answer (λ a. Control i c a) answer after (control before i c (accepted kinds (before.living i) c) (status_at kinds (before.living i) c))
       (does.outcome ∙ control_answered i c does.taken does.status (before.living i) refl does.answers lawful)
   computed (Process i block out) does lawful =
       told (λ o. Process i block o) out (output_at kinds (before.living i) block) after (processed before i block)
       (output_answered i block out does.instance (before.living i) does.there does.gives lawful) does.outcome
-  computed (Delete i answer) does lawful = with_answer (λ a. Delete i a) answer after (delete before i) does
+  computed (Delete i answer) does lawful = with_answer (λ a. Delete i a) answer after (delete kinds before i) does
   computed (Release g answer) does lawful = with_answer (λ a. Release g a) answer after (release before g) does
   computed (Step space answer) does lawful = with_answer (λ a. Step space a) answer after (step before space) does
   computed (Compact space answer) does lawful = with_answer (λ a. Compact space a) answer after (compact before space) does

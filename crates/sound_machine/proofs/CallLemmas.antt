@@ -9,8 +9,8 @@ use Rattle.space_blocks.specs.declared.placed.Placed.{Placed}
 use Rattle.space_blocks.specs.Moves.{next_block}
 use Rattle.host_spaces.specs.Picture.{Picture, blocks_in}
 use Rattle.host_spaces.specs.Creation.{created_picture}
-use Rattle.sound_machine.specs.State.{Living, State, with_living}
-use Rattle.sound_machine.specs.Steps.{Outcome, unless, with_room, with_memory, create, touching, controlled, control, given, without_instance, delete, release, stat, moving}
+use Rattle.sound_machine.specs.State.{Living, State, twins_of, with_living}
+use Rattle.sound_machine.specs.Steps.{Outcome, unless, newborn, with_room, with_memory, create, touching, controlled, control, given, without_instance, delete, release, stat, moving}
 use Rattle.sound_machine.specs.Calls.{Call, Does, subject_of}
 use Rattle.sound_machine.specs.Calls.Call.{Create, Control, Process, Delete, Release, Step, Compact, Stat, Map, Lives, Copied}
 use Rattle.sound_machine.specs.Laws.{OthersLive, SameHost}
@@ -42,10 +42,6 @@ module _ {M : Type 0} (i : ℕ) (before : State M) where
   with_room_keeps x table (Err space) = kept
   with_room_keeps x table (Ok picture) = record { host = record { sizes = refl; poison = refl }; others = other (Some x) }
 
-  with_memory_keeps : (x : Living M) (table : Option (List MemRec)) → Keeps i before (with_memory before i x table).1
-  with_memory_keeps x None = kept
-  with_memory_keeps x (Some table) = with_room_keeps x table (created_picture before.sizes before.picture i x.group table)
-
   touching_keeps : (x : Living M) → Keeps i before (touching before i x)
   touching_keeps x = record { host = record { sizes = refl; poison = refl }; others = other (Some x) }
 
@@ -58,18 +54,25 @@ module _ {M : Type 0} (i : ℕ) (before : State M) where
   given_keeps (Some x) [] = kept
   given_keeps (Some x) (s ∷ block) = touching_keeps _
 
-  without_keeps : (x : Option (Living M)) → Keeps i before (without_instance before i x)
-  without_keeps None = kept
-  without_keeps (Some x) = record { host = record { sizes = refl; poison = refl }; others = other None }
-
-  pub create_keeps : (kind : M) (g : ℕ) (p : List ℤ) (table : Option (List MemRec)) → Keeps i before (create before i kind g p table).1
-  create_keeps kind g p table = unless_holds (Keeps i before) before _ _ kept (with_memory_keeps _ table)
-
   pub control_keeps : (c : Ctl) (taken : Bool) (status : Status) → Keeps i before (control before i c taken status).1
   control_keeps c taken status = unless_holds (Keeps i before) before _ _ kept (controlled_keeps (before.living i) c)
 
-  pub delete_keeps : Keeps i before (delete before i).1
-  delete_keeps = unless_holds (Keeps i before) before _ _ kept (without_keeps (before.living i))
+  module _ (kinds : Meaning M) where
+    with_memory_keeps : (kind : M) (g : ℕ) (p : List ℤ) (table : Option (List MemRec)) → Keeps i before (with_memory kinds before i kind g p table).1
+    with_memory_keeps kind g p None = kept
+    with_memory_keeps kind g p (Some table) =
+        let x = newborn kind g p table in
+        with_room_keeps x table (created_picture before.sizes before.picture i g table (twins_of kinds before.living x))
+
+    without_keeps : (x : Option (Living M)) → Keeps i before (without_instance kinds before i x)
+    without_keeps None = kept
+    without_keeps (Some x) = record { host = record { sizes = refl; poison = refl }; others = other None }
+
+    pub create_keeps : (kind : M) (g : ℕ) (p : List ℤ) (table : Option (List MemRec)) → Keeps i before (create kinds before i kind g p table).1
+    create_keeps kind g p table = unless_holds (Keeps i before) before _ _ kept (with_memory_keeps kind g p table)
+
+    pub delete_keeps : Keeps i before (delete kinds before i).1
+    delete_keeps = unless_holds (Keeps i before) before _ _ kept (without_keeps (before.living i))
 
 -- a call that is about no instance
 pub record KeepsAll {M : Type 0} (before after : State M) : Type 0 where
@@ -97,10 +100,10 @@ KeepsBut (Some i) before after = Keeps i before after
 
 module _ {M : Type 0} (kinds : Meaning M) (before after : State M) where
   pub keeps_but : (call : Call M) → Does kinds before call after → KeepsBut (subject_of call) before after
-  keeps_but (Create i kind g p answer) does = after_is (Keeps i before) answer after _ does.outcome (create_keeps i before kind g p does.table)
+  keeps_but (Create i kind g p answer) does = after_is (Keeps i before) answer after _ does.outcome (create_keeps i before kinds kind g p does.table)
   keeps_but (Control i c answer) does = after_is (Keeps i before) answer after _ does.outcome (control_keeps i before c does.taken does.status)
   keeps_but (Process i block out) does = subst (Keeps i before) (sym does.outcome) (given_keeps i before (before.living i) block)
-  keeps_but (Delete i answer) does = after_is (Keeps i before) answer after _ does (delete_keeps i before)
+  keeps_but (Delete i answer) does = after_is (Keeps i before) answer after _ does (delete_keeps i before kinds)
   keeps_but (Release g answer) does = after_is (KeepsAll before) answer after _ does (release_keeps before g)
   keeps_but (Step space answer) does = after_is (KeepsAll before) answer after _ does (moving_keeps before space (next_block (blocks_in before.picture space)))
   keeps_but (Compact space answer) does = after_is (KeepsAll before) answer after _ does (record { host = record { sizes = refl; poison = refl }; living = refl })

@@ -8,12 +8,12 @@ use Rattle.mem_rec.specs.declared.Space.{Space}
 use Rattle.ialg.specs.declared.refusal.Refusal.TheVariants.{Range, Taken, Missing, Params, Room, Command}
 use Rattle.ialg.specs.Refusals.{first_refusal}
 use Rattle.ialg.specs.History.{Ctl, Control, with_samples}
-use Rattle.ialg.specs.Meaning.{Status}
+use Rattle.ialg.specs.Meaning.{Meaning, Status}
 use Rattle.space_blocks.specs.declared.TheConstants.{INSTANCES, GROUPS}
 use Rattle.host_spaces.specs.Picture.{Picture}
 use Rattle.host_spaces.specs.Creation.{created_picture}
 use Rattle.instance_table.specs.Table.{rested, with_activity}
-use Rattle.sound_machine.specs.State.{State, Living, is_instance_number, is_group_number}
+use Rattle.sound_machine.specs.State.{State, Living, twins_of, is_instance_number, is_group_number}
 use Rattle.sound_machine.specs.Steps.{Outcome, unless, newborn, with_room, with_memory, create, created, control, controlled, given, touching, processed, delete, without_instance, release, stat}
 
 is_number : (i : ℕ) → i < INSTANCES → is_instance_number i ≡ true
@@ -41,33 +41,33 @@ module _ {M : Type 0} (before : State M) where
   numbers_arent i g out =
       either out (λ le. and_left (is_instance_number i) (is_group_number g) (no_number i le)) (λ le. and_right (is_instance_number i) (is_group_number g) (no_group g le))
 
-  module _ (i g : ℕ) (kind : M) (p : List ℤ) where
-    pub create_range : (table : Option (List MemRec)) → (INSTANCES ≤ i) ⊎ (GROUPS ≤ g) → create before i kind g p table ≡ (Err Range, before)
-    create_range table out = ap (λ numbers. creating numbers (is_some (before.living i)) (with_memory before i (newborn kind g p) table)) (numbers_arent i g out)
+  module _ (kinds : Meaning M) (i g : ℕ) (kind : M) (p : List ℤ) where
+    pub create_range : (table : Option (List MemRec)) → (INSTANCES ≤ i) ⊎ (GROUPS ≤ g) → create kinds before i kind g p table ≡ (Err Range, before)
+    create_range table out = ap (λ numbers. creating numbers (is_some (before.living i)) (with_memory kinds before i kind g p table)) (numbers_arent i g out)
 
     pub create_taken : (table : Option (List MemRec)) (x : Living M) → i < INSTANCES → g < GROUPS → before.living i ≡ Some x
-        → create before i kind g p table ≡ (Err Taken, before)
+        → create kinds before i kind g p table ≡ (Err Taken, before)
     create_taken table x lt small there =
-        ap (λ numbers. creating numbers (is_some (before.living i)) (with_memory before i (newborn kind g p) table)) (numbers_are i g lt small)
-        ∙ ap (λ y. creating true (is_some y) (with_memory before i (newborn kind g p) table)) there
+        ap (λ numbers. creating numbers (is_some (before.living i)) (with_memory kinds before i kind g p table)) (numbers_are i g lt small)
+        ∙ ap (λ y. creating true (is_some y) (with_memory kinds before i kind g p table)) there
 
     free : (table : Option (List MemRec)) → i < INSTANCES → g < GROUPS → before.living i ≡ None
-        → create before i kind g p table ≡ with_memory before i (newborn kind g p) table
+        → create kinds before i kind g p table ≡ with_memory kinds before i kind g p table
     free table lt small none =
-        ap (λ numbers. creating numbers (is_some (before.living i)) (with_memory before i (newborn kind g p) table)) (numbers_are i g lt small)
-        ∙ ap (λ y. creating true (is_some y) (with_memory before i (newborn kind g p) table)) none
+        ap (λ numbers. creating numbers (is_some (before.living i)) (with_memory kinds before i kind g p table)) (numbers_are i g lt small)
+        ∙ ap (λ y. creating true (is_some y) (with_memory kinds before i kind g p table)) none
 
-    pub create_params : i < INSTANCES → g < GROUPS → before.living i ≡ None → create before i kind g p None ≡ (Err Params, before)
+    pub create_params : i < INSTANCES → g < GROUPS → before.living i ≡ None → create kinds before i kind g p None ≡ (Err Params, before)
     create_params lt small none = free None lt small none
 
     pub create_room : (table : List MemRec) (space : Space) → i < INSTANCES → g < GROUPS → before.living i ≡ None
-        → created_picture before.sizes before.picture i g table ≡ Err space → create before i kind g p (Some table) ≡ (Err (Room space), before)
-    create_room table space lt small none e = free (Some table) lt small none ∙ ap (with_room before i (newborn kind g p) table) e
+        → created_picture before.sizes before.picture i g table (twins_of kinds before.living (newborn kind g p table)) ≡ Err space → create kinds before i kind g p (Some table) ≡ (Err (Room space), before)
+    create_room table space lt small none e = free (Some table) lt small none ∙ ap (with_room before i (newborn kind g p table) table) e
 
     pub create_granted : (table : List MemRec) (picture : Picture) → i < INSTANCES → g < GROUPS → before.living i ≡ None
-        → created_picture before.sizes before.picture i g table ≡ Ok picture
-        → create before i kind g p (Some table) ≡ (Ok tt, created before i (newborn kind g p) table picture)
-    create_granted table picture lt small none e = free (Some table) lt small none ∙ ap (with_room before i (newborn kind g p) table) e
+        → created_picture before.sizes before.picture i g table (twins_of kinds before.living (newborn kind g p table)) ≡ Ok picture
+        → create kinds before i kind g p (Some table) ≡ (Ok tt, created before i (newborn kind g p table) table picture)
+    create_granted table picture lt small none e = free (Some table) lt small none ∙ ap (with_room before i (newborn kind g p table) table) e
 
   -- ---- controls
 
@@ -112,17 +112,18 @@ module _ {M : Type 0} (before : State M) where
 
   -- ---- deletion
 
-  abbrev deleting : ℕ → Bool → Option (Living M) → Outcome M (Unit {0})
-  deleting i number x = unless (first_refusal ((not number, Range) ∷ (is_none x, Missing) ∷ [])) before (Ok tt, without_instance before i x)
+  module _ (kinds : Meaning M) where
+    abbrev deleting : ℕ → Bool → Option (Living M) → Outcome M (Unit {0})
+    deleting i number x = unless (first_refusal ((not number, Range) ∷ (is_none x, Missing) ∷ [])) before (Ok tt, without_instance kinds before i x)
 
-  pub delete_range : (i : ℕ) → INSTANCES ≤ i → delete before i ≡ (Err Range, before)
-  delete_range i le = ap (λ number. deleting i number (before.living i)) (no_number i le)
+    pub delete_range : (i : ℕ) → INSTANCES ≤ i → delete kinds before i ≡ (Err Range, before)
+    delete_range i le = ap (λ number. deleting i number (before.living i)) (no_number i le)
 
-  pub delete_missing : (i : ℕ) → i < INSTANCES → before.living i ≡ None → delete before i ≡ (Err Missing, before)
-  delete_missing i lt none = ap (λ number. deleting i number (before.living i)) (is_number i lt) ∙ ap (λ x. deleting i true x) none
+    pub delete_missing : (i : ℕ) → i < INSTANCES → before.living i ≡ None → delete kinds before i ≡ (Err Missing, before)
+    delete_missing i lt none = ap (λ number. deleting i number (before.living i)) (is_number i lt) ∙ ap (λ x. deleting i true x) none
 
-  pub delete_granted : (i : ℕ) (x : Living M) → i < INSTANCES → before.living i ≡ Some x → delete before i ≡ (Ok tt, without_instance before i (Some x))
-  delete_granted i x lt there = ap (λ number. deleting i number (before.living i)) (is_number i lt) ∙ ap (λ y. deleting i true y) there
+    pub delete_granted : (i : ℕ) (x : Living M) → i < INSTANCES → before.living i ≡ Some x → delete kinds before i ≡ (Ok tt, without_instance kinds before i (Some x))
+    delete_granted i x lt there = ap (λ number. deleting i number (before.living i)) (is_number i lt) ∙ ap (λ y. deleting i true y) there
 
   -- ---- groups
 

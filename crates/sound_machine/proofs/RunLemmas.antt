@@ -3,17 +3,22 @@ use Rattle.std.proofs.Common.{◌≡◌, ◌≢◌, ℕ, ℤ, Bool, true, false,
 use Rattle.std.specs.Prelude.{is_some, not, ◌&&◌}
 use Rattle.std.proofs.lemmas.Bool.{eq-eqb}
 use Rattle.std.proofs.lemmas.Bool.Decides.{eqb_tells}
+use Rattle.std.proofs.lemmas.Option.{none-some}
 use Rattle.space_heap.proofs.RangeTests.{either}
+use Rattle.mem_rec.specs.declared.MemRec.{MemRec}
+use Rattle.mem_rec.specs.declared.Space.{Space}
+use Rattle.host_spaces.specs.Picture.{Picture}
+use Rattle.host_spaces.specs.Creation.{created_picture}
 use Rattle.ialg.specs.declared.refusal.Refusal.{Refusal}
 use Rattle.ialg.specs.declared.refusal.Refusal.TheVariants.{Range, Taken}
 use Rattle.ialg.specs.Refusals.{first_refusal}
 use Rattle.ialg.specs.History as history
 use Rattle.ialg.specs.History.{History, Ctl, Sample, with_samples}
 use Rattle.ialg.specs.Meaning.{Meaning, Status, outputs_of, status_of}
-use Rattle.sound_machine.specs.State.{Living, State, with_living, is_instance_number, is_group_number}
+use Rattle.sound_machine.specs.State.{Living, State, twins_of, with_living, is_instance_number, is_group_number}
 use Rattle.sound_machine.specs.Choices.{IsLawful, MayGive}
-use Rattle.sound_machine.specs.Steps.{Outcome, unless, newborn, with_memory, control_refusal, controlled, given, instance_refusal, without_instance}
-use Rattle.sound_machine.specs.Calls.{Call, Does, Creates, Controls, Processes}
+use Rattle.sound_machine.specs.Steps.{Outcome, unless, newborn, create_refusal, with_room, with_memory, control_refusal, controlled, given, instance_refusal, group_refusal, without_instance}
+use Rattle.sound_machine.specs.Calls.{Call, Does, Creates, Controls, Processes, refusal_of}
 use Rattle.sound_machine.specs.Calls.Call.{Create, Control, Process, Delete, Release, Step, Compact, Stat, Map, Lives, Copied}
 use Rattle.sound_machine.specs.Runs.{statuses_of, history_after, output_in, status_in, Spares, Grows}
 use Rattle.sound_machine.proofs.CallLemmas.{Keeps, KeepsAll, keeps_but}
@@ -32,6 +37,45 @@ pub refused : {M A : Type 0} (before : State M) (r : Option Refusal) (a : A) (ne
     → (Err refusal, after) ≡ unless r before (Ok a, next) → after ≡ before
 refused before None a next refusal after e = absurd (ok_is_no_err a refusal (Ok a) refl (sym (ap (λ o. o.0) e)))
 refused before (Some other) a next refusal after e = ap (λ o. o.1) e
+
+-- what goes before it was refused, or it was refused and left the state itself
+refused_as : {M A : Type 0} (before : State M) (r : Option Refusal) (outcome : Outcome M A) (refusal : Refusal) (after : State M)
+    → ((e : Refusal) → outcome.0 ≡ Err e → outcome.1 ≡ before) → (Err refusal, after) ≡ unless r before outcome → after ≡ before
+refused_as before None outcome refusal after stays e = ap (λ o. o.1) e ∙ stays refusal (sym (ap (λ o. o.0) e))
+refused_as before (Some other) outcome refusal after stays e = ap (λ o. o.1) e
+
+-- a creation that finds no room, or whose parameters are refused, leaves the state
+room_stays : {M : Type 0} (before : State M) (i : ℕ) (x : Living M) (table : List MemRec) (placed : Result Picture Space) (e : Refusal)
+    → (with_room before i x table placed).0 ≡ Err e → (with_room before i x table placed).1 ≡ before
+room_stays before i x table (Ok picture) e is = absurd (ok_is_no_err {A = Unit {0}} tt e (Ok tt) refl is)
+room_stays before i x table (Err space) e is = refl
+
+memory_stays : {M : Type 0} (kinds : Meaning M) (before : State M) (i : ℕ) (kind : M) (g : ℕ) (p : List ℤ) (table : Option (List MemRec)) (e : Refusal)
+    → (with_memory kinds before i kind g p table).0 ≡ Err e → (with_memory kinds before i kind g p table).1 ≡ before
+memory_stays kinds before i kind g p None e is = refl
+memory_stays kinds before i kind g p (Some table) e is =
+    let x = newborn kind g p table in
+    room_stays before i x table (created_picture before.sizes before.picture i g table (twins_of kinds before.living x)) e is
+
+-- a refused call leaves the state
+pub refused_call : {M : Type 0} (kinds : Meaning M) (before after : State M) (call : Call M) (refusal : Refusal) → Does kinds before call after → refusal_of call ≡ Some refusal → after ≡ before
+refused_call kinds before after (Create i kind g p (Ok done)) refusal does is = absurd (none-some refusal is)
+refused_call kinds before after (Create i kind g p (Err e)) refusal does is =
+    refused_as before (create_refusal before i g) (with_memory kinds before i kind g p does.table) e after (memory_stays kinds before i kind g p does.table) does.outcome
+refused_call kinds before after (Control i c (Ok status)) refusal does is = absurd (none-some refusal is)
+refused_call kinds before after (Control i c (Err e)) refusal does is = refused before (control_refusal before i does.taken) does.status _ e after does.outcome
+refused_call kinds before after (Process i block out) refusal does is = absurd (none-some refusal is)
+refused_call kinds before after (Delete i (Ok done)) refusal does is = absurd (none-some refusal is)
+refused_call kinds before after (Delete i (Err e)) refusal does is = refused before (instance_refusal before i) tt (without_instance kinds before i (before.living i)) e after does
+refused_call kinds before after (Release g (Ok was)) refusal does is = absurd (none-some refusal is)
+refused_call kinds before after (Release g (Err e)) refusal does is = refused before (group_refusal before g) (is_some (before.activity g).active) _ e after does
+refused_call kinds before after (Step space moved) refusal does is = absurd (none-some refusal is)
+refused_call kinds before after (Compact space count) refusal does is = absurd (none-some refusal is)
+refused_call kinds before after (Stat g (Ok activity)) refusal does is = absurd (none-some refusal is)
+refused_call kinds before after (Stat g (Err e)) refusal does is = refused before (group_refusal before g) (before.activity g) before e after does
+refused_call kinds before after (Map space blocks) refusal does is = absurd (none-some refusal is)
+refused_call kinds before after (Lives i lives) refusal does is = absurd (none-some refusal is)
+refused_call kinds before after (Copied copied) refusal does is = absurd (none-some refusal is)
 
 statuses_of_samples : {M : Type 0} (kinds : Meaning M) (kind : M) (p : List ℤ) (h : History) (block : List ℤ)
     → statuses_of kinds kind p (with_samples h block) ≡ statuses_of kinds kind p h
@@ -91,7 +135,7 @@ module _ {M : Type 0} (kinds : Meaning M) (i : ℕ) (x : Living M) where
         (λ same.
         let taken : is_some (before.living j) ≡ true = ap (λ k. is_some (before.living k)) same.1 ∙ ap is_some there in
         by_refused (ap (λ o. o.1) does.outcome
-        ∙ taken_stays (not (is_instance_number j && is_group_number g)) (is_some (before.living j)) before (with_memory before j (newborn kind g p) does.table) taken))
+        ∙ taken_stays (not (is_instance_number j && is_group_number g)) (is_some (before.living j)) before (with_memory kinds before j kind g p does.table) taken))
         (λ apart. by_another j (keeps_but kinds before after (Create j kind g p answer) does) (λ e. apart.1 (sym e)))
 
     -- ---- controls
@@ -159,7 +203,7 @@ module _ {M : Type 0} (kinds : Meaning M) (i : ℕ) (x : Living M) where
       grown_by (Process j block out) does spared = by_process j block out does
       grown_by (Delete j (Ok done)) does spared = by_another j (keeps_but kinds before after (Delete j (Ok done)) does) (λ e. spared (sym e))
       grown_by (Delete j (Err r)) does spared =
-          by_refused (refused before (instance_refusal before j) tt (without_instance before j (before.living j)) r after does)
+          by_refused (refused before (instance_refusal before j) tt (without_instance kinds before j (before.living j)) r after does)
       grown_by (Release g answer) does spared = by_none (keeps_but kinds before after (Release g answer) does)
       grown_by (Step space answer) does spared = by_none (keeps_but kinds before after (Step space answer) does)
       grown_by (Compact space answer) does spared = by_none (keeps_but kinds before after (Compact space answer) does)

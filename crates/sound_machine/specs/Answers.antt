@@ -24,11 +24,11 @@ module _ {M : Type 0} (kinds : Meaning M) where
 
   -- the call with the machine's answer in place of its own, and the state after it
   abbrev pub answered : State M → Call M → Call M × State M
-  answered before (Create i kind g p _) = let o = steps.create before i kind g p (kinds.table kind p) in (Create i kind g p o.0, o.1)
+  answered before (Create i kind g p _) = let o = steps.create kinds before i kind g p (kinds.table kind p) in (Create i kind g p o.0, o.1)
   answered before (Control i c _) =
       let x = before.living i in let o = steps.control before i c (accepted x c) (status_at x c) in (Control i c o.0, o.1)
   answered before (Process i block _) = (Process i block (output_at (before.living i) block), steps.processed before i block)
-  answered before (Delete i _) = let o = steps.delete before i in (Delete i o.0, o.1)
+  answered before (Delete i _) = let o = steps.delete kinds before i in (Delete i o.0, o.1)
   answered before (Release g _) = let o = steps.release before g in (Release g o.0, o.1)
   answered before (Step space _) = let o = steps.step before space in (Step space o.0, o.1)
   answered before (Compact space _) = let o = steps.compact before space in (Compact space o.0, o.1)

@@ -31,7 +31,7 @@ module _ {M : Type 0} (kinds : Meaning M) (before : State M) where
   pub record Creates (i : ℕ) (kind : M) (g : ℕ) (p : List ℤ) (answer : Result (Unit {0}) Refusal) (after : State M) : Type 0 where
     pub table : Option (List MemRec)
     pub asked : MayAsk kinds before.poison kind p table
-    pub outcome : (answer, after) ≡ steps.create before i kind g p table
+    pub outcome : (answer, after) ≡ steps.create kinds before i kind g p table
 
   -- the instance takes the control or doesn't, and answers
   pub record Controls (i : ℕ) (c : Ctl) (answer : Result Status Refusal) (after : State M) : Type 0 where
@@ -52,7 +52,7 @@ module _ {M : Type 0} (kinds : Meaning M) (before : State M) where
   Does (Create i kind g p answer) after = Creates i kind g p answer after
   Does (Control i c answer) after = Controls i c answer after
   Does (Process i block out) after = Processes i block out after
-  Does (Delete i answer) after = (answer, after) ≡ steps.delete before i
+  Does (Delete i answer) after = (answer, after) ≡ steps.delete kinds before i
   Does (Release g answer) after = (answer, after) ≡ steps.release before g
   Does (Step space answer) after = (answer, after) ≡ steps.step before space
   Does (Compact space answer) after = (answer, after) ≡ steps.compact before space

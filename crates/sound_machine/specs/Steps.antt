@@ -6,7 +6,8 @@ use Rattle.ialg.specs.declared.refusal.Refusal.{Refusal}
 use Rattle.ialg.specs.declared.refusal.Refusal.TheVariants.{Range, Taken, Missing, Params, Room, Command}
 use Rattle.ialg.specs.Refusals.{first_refusal}
 use Rattle.ialg.specs.History.{Ctl, Control, with_samples}
-use Rattle.ialg.specs.Meaning.{Status}
+use Rattle.ialg.specs.Meaning.{Meaning, Status}
+use Rattle.ialg.specs.Records.{unplaced}
 use Rattle.space_heap.specs.Places.{numbers_below}
 use Rattle.relocate.specs.Packing.{unpacked_count, unpacked_words}
 use Rattle.space_blocks.specs.declared.TheConstants.{INSTANCES}
@@ -15,7 +16,7 @@ use Rattle.space_blocks.specs.Moves.{next_block, spots_of}
 use Rattle.host_spaces.specs.Picture.{Picture, blocks_in, moved_in, packed_in}
 use Rattle.host_spaces.specs.Creation.{created_picture, replaces, deleted_picture}
 use Rattle.instance_table.specs.Table.{Activity, touched, rested, quieted, with_activity}
-use Rattle.sound_machine.specs.State.{Living, State, with_living, has_member, is_instance_number, is_group_number}
+use Rattle.sound_machine.specs.State.{Living, State, with_living, has_member, twins_of, is_instance_number, is_group_number}
 
 -- what a call that can be refused answers, and the state after it
 abbrev pub Outcome : Type 0 → Type 0 → Type 0
@@ -31,8 +32,8 @@ abbrev pub more_copied : ℕ → ℕ → ℕ
 more_copied copied words = min (copied + words) (2 ^ 64 - 1)
 
 -- an instance that was given nothing yet
-abbrev pub newborn : {M : Type 0} → M → ℕ → List ℤ → Living M
-newborn kind g p = record { kind = kind; params = p; group = g; history = [] }
+abbrev pub newborn : {M : Type 0} → M → ℕ → List ℤ → List MemRec → Living M
+newborn kind g p table = record { kind = kind; params = p; table = unplaced table; group = g; history = [] }
 
 module _ {M : Type 0} (before : State M) where
   -- ---- creation
@@ -56,14 +57,6 @@ module _ {M : Type 0} (before : State M) where
   abbrev pub with_room : ℕ → Living M → List MemRec → Result Picture Space → Outcome M (Unit {0})
   with_room i x table (Err space) = (Err (Room space), before)
   with_room i x table (Ok picture) = (Ok tt, created i x table picture)
-
-  -- the kind asks for this memory, or refuses the parameters
-  abbrev pub with_memory : ℕ → Living M → Option (List MemRec) → Outcome M (Unit {0})
-  with_memory i x None = (Err Params, before)
-  with_memory i x (Some table) = with_room i x table (created_picture before.sizes before.picture i x.group table)
-
-  abbrev pub create : ℕ → M → ℕ → List ℤ → Option (List MemRec) → Outcome M (Unit {0})
-  create i kind g p table = unless (create_refusal i g) before (with_memory i (newborn kind g p) table)
 
   -- ---- controls and samples
 
@@ -97,22 +90,8 @@ module _ {M : Type 0} (before : State M) where
 
   -- ---- deletion
 
-  -- its records go, and its group's blocks with the last member. The count stays
-  abbrev pub without_instance : ℕ → Option (Living M) → State M
-  without_instance i None = before
-  without_instance i (Some x) =
-      let others = with_living before.living i None in
-      record before {
-        living = others;
-        picture = deleted_picture (has_member others x.group) before.picture i x.group;
-        activity = with_activity before.activity x.group (quieted i (before.activity x.group));
-      }
-
   abbrev pub instance_refusal : ℕ → Option Refusal
   instance_refusal i = first_refusal ((not (is_instance_number i), Range) ∷ (is_none (before.living i), Missing) ∷ [])
-
-  abbrev pub delete : ℕ → Outcome M (Unit {0})
-  delete i = unless (instance_refusal i) before (Ok tt, without_instance i (before.living i))
 
   -- ---- groups
 
@@ -144,6 +123,31 @@ module _ {M : Type 0} (before : State M) where
       let spots = spots_of (blocks_in before.picture space) in
       (unpacked_count spots, record before { picture = packed_in before.picture space; copied = more_copied before.copied (unpacked_words spots) })
 
+module _ {M : Type 0} (kinds : Meaning M) (before : State M) where
+  -- the kind asks for this memory, or refuses the parameters
+  abbrev pub with_memory : ℕ → M → ℕ → List ℤ → Option (List MemRec) → Outcome M (Unit {0})
+  with_memory i kind g p None = (Err Params, before)
+  with_memory i kind g p (Some table) =
+      let x = newborn kind g p table in
+      with_room before i x table (created_picture before.sizes before.picture i g table (twins_of kinds before.living x))
+
+  abbrev pub create : ℕ → M → ℕ → List ℤ → Option (List MemRec) → Outcome M (Unit {0})
+  create i kind g p table = unless (create_refusal before i g) before (with_memory i kind g p table)
+
+  -- its records go, and its group's blocks with the last member. The count stays
+  abbrev pub without_instance : ℕ → Option (Living M) → State M
+  without_instance i None = before
+  without_instance i (Some x) =
+      let others = with_living before.living i None in
+      record before {
+        living = others;
+        picture = deleted_picture (has_member others x.group) before.picture i x.group (twins_of kinds others x);
+        activity = with_activity before.activity x.group (quieted i (before.activity x.group));
+      }
+
+  abbrev pub delete : ℕ → Outcome M (Unit {0})
+  delete i = unless (instance_refusal before i) before (Ok tt, without_instance i (before.living i))
+
 -- all instances are deleted, in ascending number
-abbrev pub closed : {M : Type 0} → State M → State M
-closed state = fold (λ left i. (delete left i).1) state (numbers_below INSTANCES)
+abbrev pub closed : {M : Type 0} → Meaning M → State M → State M
+closed kinds state = fold (λ left i. (delete kinds left i).1) state (numbers_below INSTANCES)

@@ -6,3 +6,4 @@ pub mod Moving
 pub mod MadeMoves
 pub mod Counting
 pub mod Packings
+pub mod Renames

@@ -137,7 +137,7 @@ length_moved [] k to = refl
 length_moved (b ∷ bs) zero to = refl
 length_moved (b ∷ bs) (suc k) to = ap suc (length_moved bs k to)
 
-all_kept : (xs ws : List Placed) → length ws ≡ length xs → refill (length xs) xs ws ≡ ws
+pub all_kept : (xs ws : List Placed) → length ws ≡ length xs → refill (length xs) xs ws ≡ ws
 all_kept xs ws same = ap (λ n. take n (ws ++ drop (length ws) xs)) (sym same) ∙ take-append_seam ws (drop (length ws) xs)
 
 pub put_done : (bs : List Placed) (k place : ℕ) (d : Placed) → k < length bs → refill (length bs) bs (set bs k (record (get_or bs k d) { place = place })) ≡ moved_to bs k place

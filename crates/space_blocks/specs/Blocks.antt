@@ -60,6 +60,17 @@ block_from from to b = if b.place == from then record b { place = to } else b
 abbrev pub with_place : ℕ → ℕ → List Placed → List Placed
 with_place from to blocks = map (block_from from to) blocks
 
+-- the owner `to` for the owner `from`
+abbrev pub renaming : Owner → Owner → Owner → Owner
+renaming from to owner = if same_owner from owner then to else owner
+
+-- each block with the owner that this gives for its own
+abbrev pub renamed_block : (Owner → Owner) → Placed → Placed
+renamed_block new b = record b { owner = new b.owner }
+
+abbrev pub renamed_blocks : (Owner → Owner) → List Placed → List Placed
+renamed_blocks new blocks = map (renamed_block new) blocks
+
 -- one of the owner's blocks lies where the piece does
 abbrev pub Owns : List Placed → Owner → Span → Type 0
 Owns blocks owner p = (align : ℕ) × Contains (owned owner blocks) (block_of owner align p)

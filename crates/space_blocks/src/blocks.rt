@@ -7,7 +7,7 @@ ghost use Rattle.space_heap.specs.declared.limits.TheConstants.{GREATEST_NEED};
 ghost use Rattle.space_blocks.specs.declared.TheConstants.{MAP_BLOCKS, SPACE_BLOCKS};
 ghost use Rattle.space_blocks.specs.declared.placed.Owner.{Owner};
 ghost use Rattle.space_blocks.specs.declared.placed.Placed.{Placed};
-ghost use Rattle.space_blocks.specs.Blocks.{Owns, block_of, block_range, disowned, owned, ranges, with_block, without_at};
+ghost use Rattle.space_blocks.specs.Blocks.{AreSingle, IsOwner, Owns, block_of, block_range, disowned, owned, ranges, renamed_blocks, renaming, with_block, without_at};
 ghost use Rattle.space_blocks.specs.Moves.{moved, moved_to, next_block, next_in};
 ghost use Rattle.space_blocks.specs.Spaces.{AreInOrder};
 
@@ -106,6 +106,18 @@ impl SpaceBlocks {
         self.heap.give(piece);
     }
 
+    /// What is the block of one owner is another owner's from now on. Nothing else of it changes.
+    pub fn rename(&mut self, from: Owner, to: Owner)
+        ensures blocks { self.new.blocks ≡ renamed_blocks (renaming from to) self.old.blocks }
+        ensures given { owned to self.old.blocks ≡ [] → owned to self.new.blocks ≡ renamed_blocks (λ _. to) (owned from self.old.blocks) }
+        ensures left { from ≢ to → owned from self.new.blocks ≡ [] }
+        ensures others { (o : Owner) → o ≢ from → o ≢ to → owned o self.new.blocks ≡ owned o self.old.blocks }
+        ensures single { AreSingle self.old.blocks → IsOwner to → owned to self.old.blocks ≡ [] → AreSingle self.new.blocks }
+        ensures stays { (self.new.region ≡ self.old.region) × (self.new.slid ≡ self.old.slid) }
+    {
+        rename_each(self.blocks.as_mut_slice(), from, to);
+    }
+
     /// The block that moves next, as it stands: the first one that isn't at its packed place. `None` exactly where all are packed.
     pub fn next_move(&self) -> Option<Placed>
         ensures value { result ≡ next_block self.now.blocks }
@@ -178,6 +190,22 @@ fn enter(blocks: &mut ArrayVec<Placed, SPACE_BLOCKS>, block: Placed)
         index += 1;
     }
     blocks.insert(index, block);
+}
+
+// Each block of one owner is another owner's.
+fn rename_each(blocks: &mut [Placed], from: Owner, to: Owner)
+    ensures { blocks.new ≡ renamed_blocks (renaming from to) blocks.old }
+{
+    for block in blocks.iter_mut() {
+        block.owner = renamed(block.owner, from, to);
+    }
+}
+
+// The owner `to` for the owner `from`.
+fn renamed(owner: Owner, from: Owner, to: Owner) -> Owner
+    ensures { result ≡ renaming from to owner }
+{
+    if owner == from { to } else { owner }
 }
 
 // The index of the block that begins at the place.

@@ -23,12 +23,13 @@ use Rattle.space_blocks.specs.Blocks.{owned}
 use Rattle.host_spaces.specs.declared.pieces.NewBlocks.{NewBlocks}
 use Rattle.host_spaces.specs.declared.spaces.Spaces.{Spaces}
 use Rattle.host_spaces.specs.Picture.{AreSameSpaces, blocks_in, picture_of, space_in}
-use Rattle.host_spaces.specs.Pieces.{ArePiecesOf, HasRecords, IsNeeded, new_block, with_new}
+use Rattle.host_spaces.specs.Pieces.{ArePlacedPieces, HasRecords, IsNeeded, new_block, with_new}
 use Rattle.host_spaces.specs.Wants.{block_need}
-use Rattle.placed_instances.specs.Standing.{AreStanding, IsHome, IsOf, SlotIsSame}
+use Rattle.placed_instances.specs.Standing.{AreStanding, IsOf, SlotIsSame}
 use Rattle.placed_instances.proofs.Slots.{not_a_group, other_group, other_instance}
 use Rattle.grown_groups.specs.Growth.{ArePlaced}
 use Rattle.grown_groups.proofs.Needed.{larger_needed}
+use Rattle.started_instances.specs.Started.{IsPlaced}
 
 home_of : (home : Extent) (n : Option Need) (new : Option ScratchBlock) → IsNeeded home n new → IsOf home (block_piece new)
 home_of home n None is = tt
@@ -63,21 +64,20 @@ module _ {M : Type 0} (i g : ℕ) (table : List MemRec) (blocks : NewBlocks) (sl
         larger_needed (space_in before space).region (block_in (group_at groups g) space) (new_block blocks space) (scratch_need table space) (scratch_align table space) (needed space);
   }
 
-  -- and where the group has grown the new instance is at home
-  module _ (own shared : Pieces) (y : Group) (spaces' : Spaces) (valid : IsTrue (is_table table))
-      (records : HasRecords (picture_of spaces) i table own shared) (pieces : ArePiecesOf before table own shared)
+  -- and so they are where the group has grown
+  module _ (twins : ℕ → Option ℕ) (own shared : Pieces) (y : Group) (spaces' : Spaces) (valid : IsTrue (is_table table))
+      (records : HasRecords (picture_of spaces) i table own shared) (pieces : ArePlacedPieces before table twins own shared)
       (need : ((space : Space) → IsNeeded (space_in spaces space).region (block_need table (group_at groups g) space) (new_block blocks space)) → NoNeed table y)
       (then_others : (o : Owner) (space : Space) → o ≢ Scratch g → owned o (blocks_in (picture_of spaces') space) ≡ owned o (blocks_in (picture_of spaces) space))
       (then_stays : AreSameSpaces spaces spaces') where
     region_then : (space : Space) → (space_in spaces' space).region ≡ (space_in before space).region
     region_then space = (then_stays space).region ∙ (stays space).region
 
-    pub is_home : IsHome spaces' i (λ k. i) table own shared y
-    is_home = record {
+    pub is_placed : IsPlaced spaces' i twins table own shared y
+    is_placed = record {
       valid = valid;
       need = need (λ space. rw ((stays space).region) (needed space));
       records = λ k space. then_others (Record i k) space (not_a_group i k g) ∙ records k space;
-      away = λ k space apart. absurd (apart refl);
       pieces = record {
         persistent = λ k. rw (region_then (record_at table k).space) (pieces.persistent k);
         write_once = λ k. rw (region_then (record_at table k).space) (pieces.write_once k);

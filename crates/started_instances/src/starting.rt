@@ -4,48 +4,58 @@ ghost use Rattle.mem_rec.specs.declared.Space.{Space};
 ghost use Rattle.mem_rec.specs.declared.TheConstants.{TABLE_RECORDS};
 ghost use Rattle.ialg.specs.History.{History};
 ghost use Rattle.ialg.specs.Records.{unplaced, AreNew};
-ghost use Rattle.record_loans.specs.Pieces.{SamePieces};
 ghost use Rattle.scratch_group.specs.Words.{idle_words};
 ghost use Rattle.instance_table.specs.declared.TheConstants.{INSTANCES, GROUPS};
 ghost use Rattle.instance_table.specs.Table.{slot_at, group_at, activity_at, TablesOk, ArePoisoned};
+ghost use Rattle.instance_table.specs.Twins.{asked, asked_by, twin_at, twin_of, AreTwins};
 ghost use Rattle.instance_table.specs.Keeps.{Keeps, with_history};
 ghost use Rattle.space_blocks.specs.declared.TheConstants.{SPACE_BLOCKS};
 ghost use Rattle.space_blocks.specs.declared.placed.Owner.{Owner};
 ghost use Rattle.space_blocks.specs.declared.placed.Owner.TheVariants.{Record, Scratch};
 ghost use Rattle.space_blocks.specs.Blocks.{owned};
-ghost use Rattle.host_spaces.specs.Creation.{all_placed, created_picture, replaces, result_map, wanted_by};
-ghost use Rattle.host_spaces.specs.Picture.{AreSameSpaces, blocks_in, picture_of, sizes_of, space_in};
-ghost use Rattle.host_spaces.specs.Pieces.{ArePiecesOf, HasBlocks, HasRecords, IsNeeded, IsPoisoned, new_block, with_new};
+ghost use Rattle.host_spaces.specs.Creation.{all_placed, created_picture, replaces, result_map, taken_over, wanted_by};
+ghost use Rattle.host_spaces.specs.Creation.{twin_at as listed_at};
+ghost use Rattle.host_spaces.specs.Picture.{AreSameSpaces, blocks_in, picture_of, renamed, sizes_of, space_in};
+ghost use Rattle.host_spaces.specs.Pieces.{ArePlacedPieces, AreSharable, HasBlocks, HasRecords, IsNeeded, IsPoisoned, new_block, with_new};
 ghost use Rattle.host_spaces.specs.Wants.{block_need};
-ghost use Rattle.placed_instances.specs.Standing.{AreStanding, IsHome};
+ghost use Rattle.placed_instances.specs.Standing.{AreStanding};
 ghost use Rattle.grown_groups.specs.Growth.{AreGrown, activity_grown};
-ghost use Rattle.started_instances.specs.Started.{IsNewborn, OthersAreSame};
+ghost use Rattle.started_instances.specs.Started.{IsNewborn, IsPlaced, OthersAreSame};
 
 use grown_groups::grow;
 use host_spaces::{Placement, Spaces, creations};
 use ialg::{Ialg, Params};
-use instance_table::{Member, Shelf, start};
+use instance_table::{Member, Shelf, Twins, find_twins, start};
 use mem_rec::{MemTab, Space};
 use placed_instances::{in_order, maps_have_room};
 use record_loans::Pieces;
 use scratch_group::Group;
 use space_blocks::blocks_are_few;
 
-/// Places all blocks that a new instance needs, or says the space of the first one that has no place.
+/// The twins as a list, by the numbers of records.
+fn listed(twins: &Twins) -> host_spaces::Twins
+    ensures { (k : ℕ) → listed_at result k ≡ twin_at twins.now k }
+{
+    [twins.t0, twins.t1, twins.t2, twins.t3]
+}
+
+/// Places all blocks that a new instance needs for what it doesn't share, or says the space of the first one that has no place.
 fn place(
     spaces: &mut Spaces,
     i: u8,
     g: u8,
     table: &MemTab,
+    twins: &host_spaces::Twins,
     groups: &Vec<Group>,
     poison: Option<i16>,
 ) -> Result<Placement, Space>
     requires group { g < length groups.now.items }
+    requires twins { AreSharable table.now (listed_at twins.now) }
     requires blocks { HasBlocks (picture_of spaces.old) g (group_at groups.now.items g) }
     requires records { (k : ℕ) (space : Space) → owned (Record i k) (blocks_in (picture_of spaces.old) space) ≡ [] }
     requires room { (space : Space) → length (blocks_in (picture_of spaces.old) space) + TABLE_RECORDS < SPACE_BLOCKS }
-    ensures exact { all_placed (sizes_of spaces.old) (picture_of spaces.old) (wanted_by (picture_of spaces.old) i g table.now) ≡ result_map (λ _. picture_of spaces.new) result }
-    ensures pieces { IfOk result (λ made. ArePiecesOf spaces.old table.now made.own made.shared) }
+    ensures exact { all_placed (sizes_of spaces.old) (picture_of spaces.old) (wanted_by (listed_at twins.now) (picture_of spaces.old) i g table.now) ≡ result_map (λ _. picture_of spaces.new) result }
+    ensures pieces { IfOk result (λ made. ArePlacedPieces spaces.old table.now (listed_at twins.now) made.own made.shared) }
     ensures records { IfOk result (λ made. HasRecords (picture_of spaces.new) i table.now made.own made.shared) }
     ensures needed { IfOk result (λ made. (space : Space) → IsNeeded (space_in spaces.old space).region (block_need table.now (group_at groups.now.items g) space) (new_block made.blocks space)) }
     ensures blocks { IfOk result (λ made. (space : Space) → owned (Scratch g) (blocks_in (picture_of spaces.new) space)
@@ -56,15 +66,16 @@ fn place(
     ensures refused { OnErr result (spaces.new ≡ spaces.old) }
     ensures stays { AreSameSpaces spaces.old spaces.new }
 {
-    spaces.place_instance(i, g, table, &groups[g as usize], poison)
+    spaces.place_instance(i, g, table, twins, &groups[g as usize], poison)
 }
 
-/// Starts an instance whose records are placed, and whose group has the blocks for it.
+/// Starts an instance whose records are placed, but for those that it shares with its twins, and whose group has the blocks for it. A shared
+/// block is the new instance's from now on where that one has the lower number.
 fn begin<M: Ialg>(
     slots: &mut Vec<Option<Member<M>>>,
     once: &mut Vec<Shelf>,
     groups: &Vec<Group>,
-    spaces: &Spaces,
+    spaces: &mut Spaces,
     i: u8,
     g: u8,
     kind: M,
@@ -72,30 +83,39 @@ fn begin<M: Ialg>(
     table: MemTab,
     own: Pieces,
     shared: Pieces,
+    twins: Twins,
 )
     requires number { i < INSTANCES }
     requires group { g < GROUPS }
     requires empty { slot_at slots.old.items i ≡ None }
     requires ok { TablesOk slots.old.items once.old.items groups.now.items }
-    requires grown { AreGrown g slots.old.items once.old.items groups.now.items spaces.now }
-    requires home { IsHome spaces.now i (λ k. i) table own shared (group_at groups.now.items g) }
-    requires gone { (j k : ℕ) (space : Space) → slot_at slots.old.items j ≡ None → j ≢ i → owned (Record j k) (blocks_in (picture_of spaces.now) space) ≡ [] }
+    requires grown { AreGrown g slots.old.items once.old.items groups.now.items spaces.old }
+    requires twins { AreTwins M.meaning.same slots.old.items (asked kind params.items table) twins }
+    requires placed { IsPlaced spaces.old i (twin_at twins) table own shared (group_at groups.now.items g) }
+    requires gone { (j k : ℕ) (space : Space) → slot_at slots.old.items j ≡ None → j ≢ i → owned (Record j k) (blocks_in (picture_of spaces.old) space) ≡ [] }
     ensures ok { TablesOk slots.new.items once.new.items groups.now.items }
-    ensures standing { AreStanding slots.new.items once.new.items groups.now.items spaces.now }
+    ensures standing { AreStanding slots.new.items once.new.items groups.now.items spaces.new }
     ensures others { (j : ℕ) → j ≢ i → slot_at slots.new.items j ≡ slot_at slots.old.items j }
-    ensures newborn { IsNewborn g kind params.items (slot_at slots.new.items i) }
+    ensures newborn { IsNewborn g kind params.items table (slot_at slots.new.items i) }
+    ensures picture { picture_of spaces.new ≡ renamed (taken_over (twin_at twins) i) (picture_of spaces.old) }
+    ensures stays { AreSameSpaces spaces.old spaces.new }
     ensures keeps { (w : Option ℤ) (histories : ℕ → History)
         → (IsTrue (M.meaning.lawful kind params.items w) → M.meaning.table kind params.items ≡ Some (unplaced table))
         → AreNew w (M.meaning.fill kind params.items) table (idle_words table own shared)
         → Keeps M.meaning M.idle_keeps M.active_keeps w slots.old.items once.old.items groups.now.items histories
         → Keeps M.meaning M.idle_keeps M.active_keeps w slots.new.items once.new.items groups.now.items (with_history histories i []) }
 {
+    let list = listed(&twins);
+    spaces.take_over(i, &list);
     in_order(spaces);
-    start(slots, once, groups, i, g, kind, params, table, own, shared);
+    start(
+        slots, once, groups, i, g, kind, params, table, own, shared, twins,
+    );
 }
 
-/// Starts instance `i` of group `g` in an empty slot, with this table of its kind: all blocks that it needs are placed first, while the
-/// old ones of its group stand, and it is called last. Or says the space of the first block that has no place; then nothing has happened.
+/// Starts instance `i` of group `g` in an empty slot, with this table of its kind. A write-once record that a living instance shares gets no
+/// block: it stands with the least of those that share it. All other blocks that it needs are placed first, while the old ones of its group
+/// stand, and it is called last. Or says the space of the first block that has no place; then nothing has happened.
 pub fn start_in_spaces<M: Ialg>(
     slots: &mut Vec<Option<Member<M>>>,
     once: &mut Vec<Shelf>,
@@ -117,11 +137,12 @@ pub fn start_in_spaces<M: Ialg>(
     ensures ok { TablesOk slots.new.items once.new.items groups.new.items }
     ensures standing { AreStanding slots.new.items once.new.items groups.new.items spaces.new }
     ensures poisoned { ArePoisoned poison groups.new.items }
-    ensures exact { created_picture (sizes_of spaces.old) (picture_of spaces.old) i g table ≡ result_map (λ _. picture_of spaces.new) result }
+    ensures exact { created_picture (sizes_of spaces.old) (picture_of spaces.old) i g table (twin_of M.meaning.same (λ j. asked_by (slot_at slots.old.items j)) (asked kind params.items table))
+        ≡ result_map (λ _. picture_of spaces.new) result }
     ensures refused { OnErr result ((slots.new ≡ slots.old) × (once.new ≡ once.old) × (groups.new ≡ groups.old) × (spaces.new ≡ spaces.old)) }
     ensures stays { AreSameSpaces spaces.old spaces.new }
     ensures others { OnOk result (OthersAreSame i slots.old.items slots.new.items) }
-    ensures newborn { OnOk result (IsNewborn g kind params.items (slot_at slots.new.items i)) }
+    ensures newborn { OnOk result (IsNewborn g kind params.items table (slot_at slots.new.items i)) }
     ensures activity { OnOk result ((k : ℕ) → activity_at groups.new.items k ≡ activity_grown (replaces (picture_of spaces.old) g table) groups.old.items g k) }
     ensures keeps { OnOk result ((histories : ℕ → History)
         → (IsTrue (M.meaning.lawful kind params.items poison) → M.meaning.table kind params.items ≡ Some (unplaced table))
@@ -133,7 +154,9 @@ pub fn start_in_spaces<M: Ialg>(
     creations();
     // a table is valid, as its records say
     let _records = table.records();
-    let placed = match place(spaces, i, g, &table, groups, poison) {
+    let twins = find_twins(slots, kind, &params, &table);
+    let list = listed(&twins);
+    let placed = match place(spaces, i, g, &table, &list, groups, poison) {
         Ok(placed) => placed,
         Err(space) => return Err(space),
     };
@@ -144,7 +167,7 @@ pub fn start_in_spaces<M: Ialg>(
     } = placed;
     grow(slots, once, groups, spaces, poison, g, blocks);
     begin(
-        slots, once, groups, spaces, i, g, kind, params, table, own, shared,
+        slots, once, groups, spaces, i, g, kind, params, table, own, shared, twins,
     );
     Ok(())
 }

@@ -2,7 +2,6 @@
 use Rattle.std.proofs.Common.{◌≡◌, ◌≢◌, ℕ, ◌+◌, ◌<◌, ◌⊎◌, zero, suc, Bool, true, false, inl, inr, List, [], ◌∷◌, Option, Some, None, set, nat_eq, nat_lt, refl, sym, ◌∙◌, ap, if◌then◌else◌, ◌≤◌, arith}
 use Rattle.std.proofs.lemmas.Bool.{true≢false, lt-ltb, le-ltb}
 use Rattle.std.proofs.lemmas.Bool.Decides.{leb_tells, eqb_tells}
-use Rattle.record_loans.specs.declared.pieces.Pieces.{Pieces}
 use Rattle.scratch_group.specs.declared.group.Group.{Group}
 use Rattle.lifecycle.specs.declared.instance.Inst.{Inst}
 use Rattle.lifecycle.specs.declared.instance.Inst.TheVariants.{Idling, Running}
@@ -12,9 +11,9 @@ use Rattle.instance_table.specs.declared.member.Member.{Member}
 use Rattle.instance_table.specs.declared.shelves.Stand.{Stand}
 use Rattle.instance_table.specs.declared.shelves.Stand.TheVariants.{Here, With}
 use Rattle.instance_table.specs.declared.shelves.Shelf.{Shelf}
-use Rattle.instance_table.specs.Shelves.{stand_at, shelf_at, home_by, home_of}
+use Rattle.instance_table.specs.Shelves.{stand_at, shelf_at, home_by}
 use Rattle.instance_table.specs.Homes.{IsSameStand, SameShelves}
-use Rattle.instance_table.specs.Table.{slot_at, once_at, group_at, own_of, instance_of, EachIsHoused, Tables, TablesOk}
+use Rattle.instance_table.specs.Table.{slot_at, own_of, instance_of, TablesOk}
 use Rattle.instance_table.proofs.Changes.{slot_in}
 use Rattle.table_moves.specs.Moves.{inst_with, slot_with, own_set, all_but, all_from, holds_with, IsWaiting, IsWaitingBut, TablesWaiting, TablesWaitingBut}
 use Rattle.table_moves.proofs.Owns.{tables_map}
@@ -52,7 +51,7 @@ pub waits_map : {M : Type 0} (w v : ℕ → Bool) (slots : List (Option (Member 
 waits_map w v slots once groups same waiting =
     tables_map (IsWaiting w) (IsWaiting v) slots once groups (λ j m o y h. record { told = λ e. h.told (same j ∙ e); room = λ e. h.room (same j ∙ e) }) waiting
 
-ltb_tells : (a b : ℕ) → ((nat_lt a b ≡ true) × (a < b)) ⊎ ((nat_lt a b ≡ false) × (b ≤ a))
+pub ltb_tells : (a b : ℕ) → ((nat_lt a b ≡ true) × (a < b)) ⊎ ((nat_lt a b ≡ false) × (b ≤ a))
 ltb_tells a b =
     elim (leb_tells b a) [
       | inl h ↦ inr (le-ltb a b h.1, h.1)

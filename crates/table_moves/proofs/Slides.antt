@@ -1,25 +1,22 @@
 -- The piece of a write-once record lies elsewhere.
-use Rattle.std.proofs.Common.{◌≡◌, ◌≢◌, ℕ, zero, suc, ◌<◌, Bool, true, false, inl, inr, List, length, Option, Some, None, nat_eq, refl, sym, ◌∙◌, ap, subst, if◌then◌else◌, arith}
+use Rattle.std.proofs.Common.{◌≡◌, ◌≢◌, ℕ, zero, suc, ◌<◌, true, false, inl, inr, List, length, Option, Some, None, nat_eq, refl, sym, ◌∙◌, ap, subst, if◌then◌else◌, arith}
 use Rattle.std.proofs.lemmas.Bool.Decides.{eqb_tells}
-use Rattle.std.proofs.lemmas.Bool.{false≢true, true≢false}
 use Rattle.space_raw.specs.Span.{Span}
 use Rattle.record_loans.specs.declared.pieces.Pieces.{Pieces}
 use Rattle.record_loans.specs.Pieces.{piece_at, with_piece}
 use Rattle.scratch_group.specs.declared.group.Group.{Group}
 use Rattle.lifecycle.specs.Moves.{HasRoom}
-use Rattle.instance_table.specs.declared.TheConstants.{INSTANCES}
 use Rattle.instance_table.specs.declared.member.Member.{Member}
 use Rattle.instance_table.specs.declared.shelves.Stand.{Stand}
 use Rattle.instance_table.specs.declared.shelves.Stand.TheVariants.{Here, With}
 use Rattle.instance_table.specs.declared.shelves.Shelf.{Shelf}
 use Rattle.instance_table.specs.Shelves.{stand_at, piece_here, pieces_here, no_shelf, shelf_at, home_by, home_of, piece_seen}
-use Rattle.instance_table.specs.Homes.{HasHomes, IsPieceHere, AllHaveHomes, with_seen}
-use Rattle.instance_table.specs.Table.{slot_at, once_at, group_at, instance_of, IsHolder, AreHeld, AreBare, EachIsHoused, Tables, TablesOk}
+use Rattle.instance_table.specs.Homes.{HasHomes, IsPieceHere, AllHaveHomes}
+use Rattle.instance_table.specs.Table.{slot_at, once_at, group_at, instance_of, IsHolder, AreHeld, AreBare, EachIsHoused, TablesOk}
 use Rattle.instance_table.proofs.Stands.{four_pieces}
 use Rattle.instance_table.proofs.Homes.{lent_at, lent_apart, stand_seen, count_seen}
 use Rattle.instance_table.proofs.Lent.{four_stands, no_stand, homes_of_all, piece_inside, seen_at}
-use Rattle.instance_table.proofs.Held.{homes_of_held}
-use Rattle.table_moves.specs.Moves.{holds_with, slid_to, IsWaiting, TablesWaiting}
+use Rattle.table_moves.specs.Moves.{holds_with, slid_to, TablesWaiting}
 
 past_four : (s : Shelf) (k : ℕ) → stand_at s (suc (suc (suc (suc k)))) ≡ Here None
 past_four s k = refl
@@ -213,7 +210,7 @@ module _ (once : List Shelf) (homes : AllHaveHomes once) (i k : ℕ) (p q : Span
             ])
       ]
 
-  with_still : (j l home : ℕ) → stand_at (shelf_at slid j) l ≡ With home → stand_at (shelf_at once j) l ≡ With home
+  pub with_still : (j l home : ℕ) → stand_at (shelf_at slid j) l ≡ With home → stand_at (shelf_at once j) l ≡ With home
   with_still j l home is =
       elim (eqb_tells l k) [
         | inr e ↦ sym (any_beside l j e.1) ∙ is

@@ -94,22 +94,22 @@ module _ {M : Type 0} (before : Channels M) where
   as_host true false left = refl
 
   -- an instance that is in no channel is deleted as the host deletes it
-  free_delete : (i : ℕ) → is_in_channel before.chained i ≡ false
-      → delete before i ≡ ((steps.delete before.host i).0, on_host before (steps.delete before.host i).1)
-  free_delete i free =
+  free_delete : (kinds : Meaning M) (i : ℕ) → is_in_channel before.chained i ≡ false
+      → delete kinds before i ≡ ((steps.delete kinds before.host i).0, on_host before (steps.delete kinds before.host i).1)
+  free_delete kinds i free =
       ap (λ b. unless {A = Unit {0}} (first_refusal ((not (is_instance_number i), Range) ∷ (is_none (before.host.living i), Missing) ∷ (b, Busy) ∷ [])) before
-      (Ok tt, on_host before (steps.delete before.host i).1)) free
-      ∙ as_host (is_instance_number i) (is_none (before.host.living i)) (steps.without_instance before.host i (before.host.living i))
+      (Ok tt, on_host before (steps.delete kinds before.host i).1)) free
+      ∙ as_host (is_instance_number i) (is_none (before.host.living i)) (steps.without_instance kinds before.host i (before.host.living i))
 
   none_of : (x : Option (Living M)) → is_some x ≡ true → is_none x ≡ false
   none_of None some = absurd (false≢true some)
   none_of (Some l) some = refl
 
   -- one that is in a channel isn't deleted
-  pub busy_delete : (i : ℕ) → is_instance_number i ≡ true → lives before.host i ≡ true → is_in_channel before.chained i ≡ true → (Err Busy, before) ≡ delete before i
-  busy_delete i number living busy =
+  pub busy_delete : (kinds : Meaning M) (i : ℕ) → is_instance_number i ≡ true → lives before.host i ≡ true → is_in_channel before.chained i ≡ true → (Err Busy, before) ≡ delete kinds before i
+  busy_delete kinds i number living busy =
       let of_tests : Bool → Bool → Bool → Outcome M (Unit {0}) =
-      λ n m b. unless (first_refusal ((not n, Range) ∷ (m, Missing) ∷ (b, Busy) ∷ [])) before (Ok tt, on_host before (steps.delete before.host i).1) in
+      λ n m b. unless (first_refusal ((not n, Range) ∷ (m, Missing) ∷ (b, Busy) ∷ [])) before (Ok tt, on_host before (steps.delete kinds before.host i).1) in
       sym
       (ap (λ n. of_tests n (is_none (before.host.living i)) (is_in_channel before.chained i)) number
       ∙ ap (λ m. of_tests true m (is_in_channel before.chained i)) (none_of (before.host.living i) living)
@@ -126,5 +126,5 @@ module _ {M : Type 0} (meaning : Meaning M) (idle_keeps active_keeps : Relation 
       let did = serves before.host keeps.host in
       let after : Channels M = record before { host = did.0 } in
       let none : is_in_channel before.chained i ≡ false = ap (λ x. is_in_channel x i) keeps.chained ∙ ap (λ s. is_in_channel s.chained i) e ∙ free in
-      let does : Does meaning before (Remove i answer) after = ap (λ o. (o.0, on_host before o.1)) did.1 ∙ sym (free_delete before i none) in
+      let does : Does meaning before (Remove i answer) after = ap (λ o. (o.0, on_host before o.1)) did.1 ∙ sym (free_delete before meaning i none) in
       (after, does, record { host = did.2; chained = keeps.chained; held = law before after (Remove i answer) does keeps.held }))

@@ -1,6 +1,9 @@
 use Rattle.std.proofs.Common.{sym, ◌∙◌}
 use Rattle.std.proofs.lemmas.Bool.{true≢false}
 use Rattle.host_spaces.specs.Picture.{picture_of}
+use Rattle.instance_table.specs.Table.{slot_at}
+use Rattle.instance_table.specs.Twins.{asked_by}
+use Rattle.ended_instances.specs.Ends.{twins_among}
 use Rattle.ended_instances.proofs.Belonging.{none_left}
 use Rattle.ended_instances.proofs.Blocks.{stand_all}
 use Rattle.ended_instances.proofs.Ended.{stay_then, sizes_stay, copied_stay, picture_with, picture_without}
@@ -17,7 +20,7 @@ returns-then-not-members_left g c =
       gone = c.give_records.ensures.gone;
       others = c.give_records.ensures.others;
       activity = λ k. c.give_blocks.ensures.activity k ∙ c.give_records.ensures.activity k;
-      picture = picture_without c.give_records.new.slots.items _ (picture_of c.give_records.new.spaces) _ c.args.i c.group_number-g.result _ c.group_number-g.ensures none c.give_records.ensures.picture c.give_blocks.ensures.picture;
+      picture = picture_without c.give_records.new.slots.items _ (picture_of c.give_records.new.spaces) _ (twins_among g.M.Ialg.meaning.same c.give_records.new.slots.items (asked_by (slot_at c.args.slots.now.items c.args.i))) c.args.i c.group_number-g.result _ c.group_number-g.ensures none c.give_records.ensures.picture c.give_blocks.ensures.picture;
       sizes = sizes_stay _ _ stay;
       copied = copied_stay _ _ stay;
       keeps = λ histories before. c.give_blocks.ensures.keeps _ histories (c.give_records.ensures.keeps histories before);
@@ -34,7 +37,7 @@ returns-else-not-members_left g c =
       gone = c.give_records.ensures.gone;
       others = c.give_records.ensures.others;
       activity = c.give_records.ensures.activity;
-      picture = picture_with c.give_records.new.slots.items _ (picture_of c.give_records.new.spaces) _ c.args.i c.group_number-g.result _ c.group_number-g.ensures some c.give_records.ensures.picture;
+      picture = picture_with c.give_records.new.slots.items _ (picture_of c.give_records.new.spaces) _ (twins_among g.M.Ialg.meaning.same c.give_records.new.slots.items (asked_by (slot_at c.args.slots.now.items c.args.i))) c.args.i c.group_number-g.result _ c.group_number-g.ensures some c.give_records.ensures.picture;
       sizes = sizes_stay _ _ c.give_records.ensures.spaces;
       copied = copied_stay _ _ c.give_records.ensures.spaces;
       keeps = c.give_records.ensures.keeps;

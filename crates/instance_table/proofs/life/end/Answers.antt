@@ -3,14 +3,17 @@ use Rattle.std.proofs.lemmas.Option.{none-some}
 use Rattle.record_loans.specs.Pieces.{SamePieces}
 use Rattle.lifecycle.specs.States.{SameOnce}
 use Rattle.instance_table.specs.declared.TheConstants.{INSTANCES}
-use Rattle.instance_table.specs.Homes.{with_seen, SameShelves}
+use Rattle.instance_table.specs.Homes.{with_seen, AllHaveHomes, SameShelves}
 use Rattle.instance_table.specs.Holders.{left_with}
 use Rattle.instance_table.specs.Table.{slot_at, once_at, own_of, no_pieces, instance_of, slot_active_in, AreHeld, AreBare}
 use Rattle.instance_table.proofs.Lent.{put_back}
 use Rattle.instance_table.proofs.Changes.{slot_in, homes_of_slot, read_ok_group, fits_in_slot, own_stays, pieces_then, shelves_then}
-use Rattle.instance_table.proofs.Sights.{Sees}
+use Rattle.instance_table.proofs.Sights.{Views, Sees, views_of}
 use Rattle.instance_table.proofs.Idles.{ok_after_still, keeps_by_end}
 use Rattle.instance_table.proofs.Handing.{left_stays, without_stays}
+use Rattle.instance_table.specs.Twins.{asked_by}
+use Rattle.instance_table.proofs.Leasts.{least_stays, least_handed, together_same, together_handed, asked_same}
+use Rattle.instance_table.proofs.Twinned.{next_is_twin}
 use Rattle.instance_table.proofs.Goings.{idle_in_any, stands_put, count_put, homes_put, left_put, held_gone, bare_gone, sees_gone}
 use Rattle.instance_table.proofs.life.end.Goals as goal
 use Rattle.instance_table.proofs.life.end.Goals.{After-hand_on}
@@ -79,6 +82,9 @@ module _ (g : Over) (c : After-hand_on g) where
       sees_gone c.quiet.new.slots.items c.quiet.new.once.items c.args.i c.take_out-g.result c.end_idle-own.new.shared c.put_seen.new.once.items c.quiet.ensures.ok.held once_inside c.take_out-g.ensures.member pieces put
       c.hand_on.new.once.items (c.hand_on.ensures.count ∙ sym count) c.hand_on.ensures.gone c.hand_on.ensures.handed written
 
+  views : Views c.quiet.new.once.items c.args.i no_pieces c.hand_on.new.once.items
+  views = views_of c.quiet.new.slots.items c.quiet.new.once.items c.args.i no_pieces c.hand_on.new.once.items sees
+
   held : AreHeld (set c.quiet.new.slots.items c.args.i None) c.hand_on.new.once.items
   held =
       held_gone c.quiet.new.slots.items c.quiet.new.once.items c.args.i c.take_out-g.result c.end_idle-own.new.shared c.put_seen.new.once.items c.quiet.ensures.ok.held once_inside c.take_out-g.ensures.member pieces put
@@ -92,7 +98,7 @@ module _ (g : Over) (c : After-hand_on g) where
 pub returns-clause-ok : goal.returns-clause-ok
 returns-clause-ok g c =
     rw c.take_out-g.ensures.slots
-    (ok_after_still _ _ _ c.args.i None no_pieces c.hand_on.new.once.items (sees g c) (held g c) (bare g c) c.quiet.ensures.ok (inside g c) c.quiet.ensures.idle refl (λ m at. absurd (none-some m at)))
+    (ok_after_still _ _ _ c.args.i None no_pieces c.hand_on.new.once.items (views g c) (held g c) (bare g c) c.quiet.ensures.ok (inside g c) c.quiet.ensures.idle refl (λ m at. absurd (none-some m at)))
 
 pub returns-clause-none : goal.returns-clause-none
 returns-clause-none g c = (sees g c).here
@@ -125,8 +131,36 @@ returns-clause-handed g c j k =
     (without_stays c.args.once.now.items c.put_seen.new.once.items c.args.i k j (c.requires.ok.once_count ∙ sym (count g c))
     (shelves_then c.args.once.now.items c.quiet.new.once.items c.put_seen.new.once.items c.quiet.ensures.same.stands ended))
 
+-- each piece stood where it stood before it was handed on
+module _ (g : Over) (c : After-hand_on g) where
+  stands : SameShelves c.args.once.now.items c.put_seen.new.once.items
+  stands =
+      shelves_then c.args.once.now.items c.quiet.new.once.items c.put_seen.new.once.items c.quiet.ensures.same.stands
+      (stands_put c.quiet.new.slots.items c.quiet.new.once.items c.args.i c.take_out-g.result c.end_idle-own.new.shared c.put_seen.new.once.items c.quiet.ensures.ok.held (once_inside g c) c.take_out-g.ensures.member (pieces g c) (put g c))
+
+  homes : AllHaveHomes c.put_seen.new.once.items
+  homes = homes_put c.quiet.new.slots.items c.quiet.new.once.items c.args.i c.take_out-g.result c.end_idle-own.new.shared c.put_seen.new.once.items c.quiet.ensures.ok.held (once_inside g c) c.take_out-g.ensures.member (pieces g c) (put g c)
+
+pub returns-clause-least : goal.returns-clause-least
+returns-clause-least g c least =
+    least_handed c.put_seen.new.once.items c.hand_on.new.once.items c.args.i (homes g c) c.hand_on.ensures.handed (least_stays c.args.once.now.items c.put_seen.new.once.items (stands g c) least)
+
+pub returns-clause-together : goal.returns-clause-together
+returns-clause-together g c together =
+    rw c.take_out-g.ensures.slots
+    (together_handed c.put_seen.new.once.items c.hand_on.new.once.items c.args.i (homes g c) c.hand_on.ensures.handed c.quiet.new.slots.items (slot_in c.quiet.new.slots.items c.args.i c.take_out-g.result c.take_out-g.ensures.member)
+    (together_same c.args.slots.now.items c.quiet.new.slots.items c.args.once.now.items c.put_seen.new.once.items c.quiet.ensures.same.slot (stands g c) together))
+
+pub returns-clause-next : goal.returns-clause-next
+returns-clause-next g c least together k m at home =
+    next_is_twin g.M.Ialg.meaning.same (λ a b told. g.met.M.Ialg.same a b (g.met.M.Ialg.compared a b ∙ told)) (λ a. sym (g.met.M.Ialg.compared a a) ∙ g.met.M.Eq.laws.refl a)
+    c.args.slots.now.items c.requires.ok.slot_count c.args.once.now.items c.requires.ok.held least c.requires.ok.bare together c.args.i k m at home
+    (λ j. asked_by (slot_at c.take_out-g.new.slots.items j)) (ap asked_by c.take_out-g.ensures.emptied)
+    (λ j apart. ap asked_by (c.take_out-g.ensures.others j apart) ∙ asked_same (slot_at c.args.slots.now.items j) (slot_at c.quiet.new.slots.items j) (c.quiet.ensures.same.slot j))
+    c.requires.ok.once_count
+
 pub returns-clause-keeps : goal.returns-clause-keeps
 returns-clause-keeps g c histories keeps =
     rw c.take_out-g.ensures.slots
-    (keeps_by_end _ _ _ _ c.args.i None no_pieces c.quiet.ensures.ok (inside g c) c.quiet.ensures.idle refl c.hand_on.new.once.items (sees g c)
-    g.M.Ialg.meaning g.M.Ialg.idle_keeps g.M.Ialg.active_keeps c.args.poison histories tt (c.quiet.ensures.keeps histories keeps))
+    (keeps_by_end _ _ _ _ c.args.i None no_pieces c.quiet.ensures.ok (inside g c) c.quiet.ensures.idle refl c.hand_on.new.once.items (views g c)
+    g.M.Ialg.meaning g.M.Ialg.idle_keeps g.M.Ialg.active_keeps c.args.poison histories (sees g c).written tt (c.quiet.ensures.keeps histories keeps))

@@ -1,5 +1,7 @@
-use Rattle.std.proofs.Common.{◌≡◌, ◌<◌, ℤ, List, [], Option, Some, None, true, is_some, rules, sym, ◌∙◌, subst, arith}
-use Rattle.host_spaces.specs.Picture.{picture_of}
+use Rattle.std.proofs.Common.{◌≡◌, ◌<◌, ℤ, List, [], Option, Some, None, Ok, Err, true, is_some, rules, sym, ◌∙◌, subst, arith}
+use Rattle.host_spaces.specs.Creation.{created_picture}
+use Rattle.host_spaces.specs.Picture.{picture_of, sizes_of}
+use Rattle.instance_table.specs.Twins.{asked, asked_by, twin_of}
 use Rattle.instance_table.specs.Table.{slot_at}
 use Rattle.instance_table.specs.Keeps.{Keeps, with_history}
 use Rattle.sound_machine.specs.Steps.{created, newborn}
@@ -19,7 +21,7 @@ returns-then-lives-clause-machine g c =
       record {
         table = c.asked_for-asked.result;
         asked = c.asked_for-asked.ensures.allowed before.poison;
-        outcome = sym (c.creations_answer_in_order.ensures.taken before c.args.i c.args.group c.args.kind c.args.p.now.items c.asked_for-asked.result living.0 below small living.1);
+        outcome = sym (c.creations_answer_in_order.ensures.taken g.M.Ialg.meaning before c.args.i c.args.group c.args.kind c.args.p.now.items c.asked_for-asked.result living.0 below small living.1);
       },
       kept,
     )
@@ -34,7 +36,7 @@ returns-in_default-clause-machine g c =
       record {
         table = None;
         asked = c.in_default.ensures.allowed before.poison;
-        outcome = sym (c.creations_answer_in_order.ensures.params before c.args.i c.args.group c.args.kind c.args.p.now.items below small
+        outcome = sym (c.creations_answer_in_order.ensures.params g.M.Ialg.meaning before c.args.i c.args.group c.args.kind c.args.p.now.items below small
             (is_free g.M.Ialg.meaning g.M.Ialg.idle_keeps g.M.Ialg.active_keeps _ _ _ c.args.spaces.now before kept c.args.i c.args.group c.args.kind c.args.p.now.items [] empty));
       },
       kept,
@@ -47,17 +49,19 @@ returns-in-Ok-clause-machine g c =
     let empty : slot_at c.args.slots.now.items c.args.i ≡ None = search rules in
     let same : c.copied-params.result.items ≡ c.args.p.now.items = c.copied-params.ensures ∙ c.as_slice.ensures.value in
     λ before e kept. (
-      created before c.args.i (newborn c.args.kind c.args.group c.args.p.now.items) c.in-Some.table (picture_of c.start_in_spaces.new.spaces),
+      created before c.args.i (newborn c.args.kind c.args.group c.args.p.now.items c.in-Some.table) c.in-Some.table (picture_of c.start_in_spaces.new.spaces),
       record {
         table = Some c.in-Some.table;
         asked = c.in-Some.ensures.allowed before.poison;
-        outcome = sym (c.creations_answer_in_order.ensures.granted before c.args.i c.args.group c.args.kind c.args.p.now.items c.in-Some.table (picture_of c.start_in_spaces.new.spaces) below small
+        outcome = sym (c.creations_answer_in_order.ensures.granted g.M.Ialg.meaning before c.args.i c.args.group c.args.kind c.args.p.now.items c.in-Some.table (picture_of c.start_in_spaces.new.spaces) below small
             (is_free g.M.Ialg.meaning g.M.Ialg.idle_keeps g.M.Ialg.active_keeps _ _ _ c.args.spaces.now before kept c.args.i c.args.group c.args.kind c.args.p.now.items c.in-Some.table empty)
-            (picture_is g.M.Ialg.meaning g.M.Ialg.idle_keeps g.M.Ialg.active_keeps _ _ _ c.args.spaces.now before kept c.args.i c.args.group c.args.kind c.args.p.now.items c.in-Some.table _ c.in-Ok.ensures.exact));
+            (picture_is g.M.Ialg.meaning g.M.Ialg.idle_keeps g.M.Ialg.active_keeps _ _ _ c.args.spaces.now before kept c.args.i c.args.group c.args.kind c.args.p.now.items c.in-Some.table _
+            (subst (λ (xs : List ℤ). created_picture (sizes_of c.args.spaces.now) (picture_of c.args.spaces.now) c.args.i c.args.group c.in-Some.table
+            (twin_of g.M.Ialg.meaning.same (λ j. asked_by (slot_at c.args.slots.now.items j)) (asked c.args.kind xs c.in-Some.table)) ≡ Ok (picture_of c.start_in_spaces.new.spaces)) same c.in-Ok.ensures.exact)));
       },
       created_kept g.M.Ialg.meaning g.M.Ialg.idle_keeps g.M.Ialg.active_keeps _ _ _ c.args.spaces.now before kept c.args.i c.args.group c.args.kind c.args.p.now.items c.in-Some.table
           _ _ _ c.start_in_spaces.new.spaces c.in-Ok.ensures.others
-          (subst (λ (xs : List ℤ). IsNewborn c.args.group c.args.kind xs (slot_at c.start_in_spaces.new.slots.items c.args.i)) same c.in-Ok.ensures.newborn)
+          (subst (λ (xs : List ℤ). IsNewborn c.args.group c.args.kind xs c.in-Some.table (slot_at c.start_in_spaces.new.slots.items c.args.i)) same c.in-Ok.ensures.newborn)
           c.in-Ok.ensures.activity
           (subst (λ (w : Option ℤ). Keeps g.M.Ialg.meaning g.M.Ialg.idle_keeps g.M.Ialg.active_keeps w c.start_in_spaces.new.slots.items c.start_in_spaces.new.once.items c.start_in_spaces.new.groups.items (with_history (λ j. history_of (before.living j)) c.args.i [])) (sym e)
           (c.in-Ok.ensures.keeps (λ j. history_of (before.living j))
@@ -71,15 +75,18 @@ returns-in-Err-clause-machine g c =
     let below : c.args.i < 64 = omega arith in
     let small : c.args.group < 8 = omega arith in
     let empty : slot_at c.args.slots.now.items c.args.i ≡ None = search rules in
+    let same : c.copied-params.result.items ≡ c.args.p.now.items = c.copied-params.ensures ∙ c.as_slice.ensures.value in
     let still = c.in-Err.ensures.refused in
     λ before e kept. (
       before,
       record {
         table = Some c.in-Some.table;
         asked = c.in-Some.ensures.allowed before.poison;
-        outcome = sym (c.creations_answer_in_order.ensures.room before c.args.i c.args.group c.args.kind c.args.p.now.items c.in-Some.table c.in-Err.space below small
+        outcome = sym (c.creations_answer_in_order.ensures.room g.M.Ialg.meaning before c.args.i c.args.group c.args.kind c.args.p.now.items c.in-Some.table c.in-Err.space below small
             (is_free g.M.Ialg.meaning g.M.Ialg.idle_keeps g.M.Ialg.active_keeps _ _ _ c.args.spaces.now before kept c.args.i c.args.group c.args.kind c.args.p.now.items c.in-Some.table empty)
-            (picture_is g.M.Ialg.meaning g.M.Ialg.idle_keeps g.M.Ialg.active_keeps _ _ _ c.args.spaces.now before kept c.args.i c.args.group c.args.kind c.args.p.now.items c.in-Some.table _ c.in-Err.ensures.exact));
+            (picture_is g.M.Ialg.meaning g.M.Ialg.idle_keeps g.M.Ialg.active_keeps _ _ _ c.args.spaces.now before kept c.args.i c.args.group c.args.kind c.args.p.now.items c.in-Some.table _
+            (subst (λ (xs : List ℤ). created_picture (sizes_of c.args.spaces.now) (picture_of c.args.spaces.now) c.args.i c.args.group c.in-Some.table
+            (twin_of g.M.Ialg.meaning.same (λ j. asked_by (slot_at c.args.slots.now.items j)) (asked c.args.kind xs c.in-Some.table)) ≡ Err c.in-Err.space) same c.in-Err.ensures.exact)));
       },
       rw (still.0, still.1, still.2, still.3) kept,
     )

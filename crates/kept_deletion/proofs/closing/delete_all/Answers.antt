@@ -10,7 +10,7 @@ loop-i-preserved g c = record {
   none = none_next c.loop-i.slots.items c.delete-answer.new.slots.items c.loop-i.i c.delete-answer.ensures.others c.delete-answer.ensures.gone c.loop-i.invariant.none;
   machine = λ before e kept.
       let amid = c.loop-i.invariant.machine before e kept in
-      let next = c.delete-answer.ensures.machine (without_first before c.loop-i.i) amid.poison amid.kept in
+      let next = c.delete-answer.ensures.machine (without_first g.M.Ialg.meaning before c.loop-i.i) amid.poison amid.kept in
       closing_next g.M.Ialg.meaning g.M.Ialg.idle_keeps g.M.Ialg.active_keeps _ _ _ _ c.args.poison before c.loop-i.i c.delete-answer.result next.0 amid.poison next.1 next.2;
 }
 

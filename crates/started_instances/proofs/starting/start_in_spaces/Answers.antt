@@ -1,14 +1,19 @@
-use Rattle.std.proofs.Common.{Bool, Option, Ok, inl, sym, ap, ◌∙◌, subst, arith}
+use Rattle.std.proofs.Common.{◌≡◌, ℕ, Bool, Option, Ok, inl, sym, ap, ◌∙◌, subst, arith}
 use Rattle.lifecycle.proofs.Words.{are_new}
 use Rattle.space_blocks.specs.declared.placed.Owner.TheVariants.{Record}
-use Rattle.host_spaces.specs.Picture.{blocks_in, picture_of, sizes_of, space_in}
+use Rattle.host_spaces.specs.Picture.{blocks_in, picture_of, renamed, sizes_of, space_in}
+use Rattle.host_spaces.specs.Creation.{created_picture, taken_over}
+use Rattle.host_spaces.specs.Creation.{twin_at as listed_at}
+use Rattle.host_spaces.specs.Pieces.{ArePlacedPieces, without_pieces}
 use Rattle.instance_table.specs.declared.member.Member.{Member}
-use Rattle.instance_table.specs.Table.{slot_at, group_at}
+use Rattle.instance_table.specs.Table.{slot_at, group_at, no_pieces}
+use Rattle.instance_table.specs.Twins.{asked, asked_by, twin_at, twin_of}
 use Rattle.placed_instances.specs.Standing.{SlotIsSame}
 use Rattle.placed_instances.proofs.Slots.{not_a_group, other_instance}
 use Rattle.grown_groups.specs.Blocks.{replaced_pieces}
 use Rattle.grown_groups.specs.Growth.{activity_grown}
-use Rattle.started_instances.proofs.Placing.{none_before, are_placed, is_home}
+use Rattle.started_instances.proofs.Placing.{none_before, are_placed, is_placed}
+use Rattle.started_instances.proofs.Begun.{sharable, twins_stay}
 use Rattle.started_instances.proofs.Replaces.{places_are, replaces_is}
 use Rattle.started_instances.proofs.starting.start_in_spaces.Goals as goal
 
@@ -32,19 +37,42 @@ pub returns-clause-others : goal.returns-clause-others
 returns-clause-others g c j apart =
     subst (λ (s : Option (Member _)). SlotIsSame (slot_at c.args.slots.now.items j) s) (sym (c.begin.ensures.others j apart)) (c.grow.ensures.same j)
 
-pub begin-requires-clause-home : goal.begin-requires-clause-home
-begin-requires-clause-home g c =
-    is_home c.args.i c.args.g c.args.table c.in-Ok.placed.blocks _ c.args.once.now.items _ c.args.spaces.now c.place.new.spaces c.requires.empty c.requires.standing c.in-Ok.ensures.needed c.in-Ok.ensures.blocks
-    c.in-Ok.ensures.others c.place.ensures.stays c.in-Ok.placed.own c.in-Ok.placed.shared (group_at c.grow.new.groups.items c.args.g) c.grow.new.spaces c.records-records.ensures.table
-    c.in-Ok.ensures.records c.in-Ok.ensures.pieces (c.grow.ensures.need c.args.table) c.grow.ensures.others c.grow.ensures.stays
+pub place-requires-clause-twins : goal.place-requires-clause-twins
+place-requires-clause-twins g c k j is =
+    sharable g.M.Ialg.meaning.same (λ a b told. g.met.M.Ialg.same a b (g.met.M.Ialg.compared a b ∙ told)) (λ a. sym (g.met.M.Ialg.compared a a) ∙ g.met.M.Eq.laws.refl a)
+    c.args.slots.now.items c.args.once.now.items c.args.groups.now.items c.requires.ok (record { kind = c.args.kind; params = c.args.params; table = c.args.table; own = no_pieces })
+    c.find_twins-twins.result c.find_twins-twins.ensures k j (sym (c.listed-list.ensures k) ∙ is)
+
+pub begin-requires-clause-twins : goal.begin-requires-clause-twins
+begin-requires-clause-twins g c =
+    twins_stay g.M.Ialg.meaning.same c.args.slots.now.items c.grow.new.slots.items (asked c.args.kind c.args.params.items c.args.table) c.find_twins-twins.result c.grow.ensures.same c.find_twins-twins.ensures
+
+pub begin-requires-clause-placed : goal.begin-requires-clause-placed
+begin-requires-clause-placed g c =
+    let same : ◌≡◌ {A = ℕ → Option ℕ} (λ k. listed_at c.listed-list.result k) (λ k. twin_at c.find_twins-twins.result k) = λ t k. c.listed-list.ensures k t in
+    let pieces : ArePlacedPieces c.args.spaces.now c.args.table (λ k. twin_at c.find_twins-twins.result k) c.in-Ok.placed.own c.in-Ok.placed.shared =
+    subst (λ (twins : ℕ → Option ℕ). ArePlacedPieces c.args.spaces.now c.args.table twins c.in-Ok.placed.own c.in-Ok.placed.shared) same c.in-Ok.ensures.pieces in
+    is_placed c.args.i c.args.g c.args.table c.in-Ok.placed.blocks _ c.args.once.now.items _ c.args.spaces.now c.place.new.spaces c.requires.empty c.requires.standing c.in-Ok.ensures.needed c.in-Ok.ensures.blocks
+    c.in-Ok.ensures.others c.place.ensures.stays (twin_at c.find_twins-twins.result) c.in-Ok.placed.own c.in-Ok.placed.shared (group_at c.grow.new.groups.items c.args.g) c.grow.new.spaces c.records-records.ensures.table
+    c.in-Ok.ensures.records pieces (c.grow.ensures.need c.args.table) c.grow.ensures.others c.grow.ensures.stays
 
 pub returns-clause-exact : goal.returns-clause-exact
 returns-clause-exact g c =
-    c.creations.ensures.made (sizes_of c.args.spaces.now) (picture_of c.args.spaces.now) (picture_of c.place.new.spaces) c.args.i c.args.g c.args.table
+    let twins : ℕ → Option ℕ = λ k. listed_at c.listed-list.result k in
+    let asked_for : ℕ → Option ℕ = λ k. twin_of g.M.Ialg.meaning.same (λ j. asked_by (slot_at c.args.slots.now.items j)) (asked c.args.kind c.args.params.items c.args.table) k in
+    let same : ◌≡◌ {A = ℕ → Option ℕ} twins asked_for = λ t k. (c.listed-list.ensures k ∙ c.find_twins-twins.ensures k) t in
+    let made : created_picture (sizes_of c.args.spaces.now) (picture_of c.args.spaces.now) c.args.i c.args.g c.args.table twins
+    ≡ Ok (renamed (taken_over twins c.args.i) (without_pieces (picture_of c.place.new.spaces) (replaced_pieces c.in-Ok.placed.blocks (group_at c.args.groups.now.items c.args.g)))) =
+    c.creations.ensures.made (sizes_of c.args.spaces.now) (picture_of c.args.spaces.now) (picture_of c.place.new.spaces) c.args.i c.args.g c.args.table twins
     (replaced_pieces c.in-Ok.placed.blocks (group_at c.args.groups.now.items c.args.g)) c.in-Ok.ensures.exact
     (places_are (picture_of c.args.spaces.now) c.args.g c.args.table (group_at c.args.groups.now.items c.args.g) (λ space. (space_in c.args.spaces.now space).region) c.in-Ok.placed.blocks
-    (c.requires.standing.blocks c.args.g) c.in-Ok.ensures.needed)
-    ∙ ap Ok (sym c.grow.ensures.picture)
+    (c.requires.standing.blocks c.args.g) c.in-Ok.ensures.needed) in
+    let taken : ◌≡◌ {A = ℕ → Option ℕ} twins (λ k. twin_at c.find_twins-twins.result k) = λ t k. c.listed-list.ensures k t in
+    ap (created_picture (sizes_of c.args.spaces.now) (picture_of c.args.spaces.now) c.args.i c.args.g c.args.table) (sym same)
+    ∙ made
+    ∙ ap Ok (ap (renamed (taken_over twins c.args.i)) (sym c.grow.ensures.picture)
+    ∙ ap (λ (its : ℕ → Option ℕ). renamed (taken_over its c.args.i) (picture_of c.grow.new.spaces)) taken
+    ∙ sym c.begin.ensures.picture)
 
 pub returns-clause-activity : goal.returns-clause-activity
 returns-clause-activity g c k =
@@ -58,3 +86,17 @@ returns-clause-keeps g c histories lawful before =
     c.begin.ensures.keeps c.args.poison histories lawful
     (are_new c.args.poison (g.M.Ialg.meaning.fill c.args.kind c.args.params.items) c.args.table c.in-Ok.placed.own c.in-Ok.placed.shared c.in-Ok.ensures.poison.own (λ k. inl (c.in-Ok.ensures.poison.shared k)))
     (c.grow.ensures.keeps histories before)
+
+pub returns-clause-stays : goal.returns-clause-stays
+returns-clause-stays g c space = record {
+  region = (c.begin.ensures.stays space).region ∙ (c.grow.ensures.stays space).region ∙ (c.place.ensures.stays space).region;
+  slid = (c.begin.ensures.stays space).slid ∙ (c.grow.ensures.stays space).slid ∙ (c.place.ensures.stays space).slid;
+}
+
+pub returns-in-Err-clause-exact : goal.returns-in-Err-clause-exact
+returns-in-Err-clause-exact g c =
+    let twins : ℕ → Option ℕ = λ k. listed_at c.listed-list.result k in
+    let asked_for : ℕ → Option ℕ = λ k. twin_of g.M.Ialg.meaning.same (λ j. asked_by (slot_at c.args.slots.now.items j)) (asked c.args.kind c.args.params.items c.args.table) k in
+    let same : ◌≡◌ {A = ℕ → Option ℕ} twins asked_for = λ t k. (c.listed-list.ensures k ∙ c.find_twins-twins.ensures k) t in
+    ap (created_picture (sizes_of c.args.spaces.now) (picture_of c.args.spaces.now) c.args.i c.args.g c.args.table) (sym same)
+    ∙ c.creations.ensures.refused (sizes_of c.args.spaces.now) (picture_of c.args.spaces.now) c.args.i c.args.g c.args.table twins c.in-Err.space c.in-Err.ensures.exact

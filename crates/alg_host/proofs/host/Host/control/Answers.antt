@@ -5,6 +5,13 @@ use Rattle.alg_host.specs.Hosts.{Keeps}
 use Rattle.alg_host.proofs.Served.{controls_stay, still_kept}
 use Rattle.alg_host.proofs.host.Host.control.Goals as goal
 
+pub invariant_of-self : goal.invariant_of-self
+invariant_of-self g c = record {
+  ok = c.give_control.ensures.ok;
+  standing = c.places_stay.ensures _ _ _ _ _ _ _ c.give_control.ensures.same c.self.invariant.standing;
+  poisoned = c.give_control.ensures.poisoned;
+}
+
 pub returns-clause-machine : goal.returns-clause-machine
 returns-clause-machine g c = λ before keeps.
     let kept = subst (λ h. Keeps g.M.Ialg.meaning g.M.Ialg.idle_keeps g.M.Ialg.active_keeps h before) (sym c.self.view_is) keeps in

@@ -3,6 +3,13 @@ use Rattle.alg_host.specs.Hosts.{Keeps}
 use Rattle.alg_host.proofs.Served.{SamePlaces, release_stays, still_kept}
 use Rattle.alg_host.proofs.host.Host.release.Goals as goal
 
+pub invariant_of-self : goal.invariant_of-self
+invariant_of-self g c = record {
+  ok = c.put_to_rest.ensures.ok;
+  standing = c.places_stay.ensures _ _ _ _ _ _ _ c.put_to_rest.ensures.same c.self.invariant.standing;
+  poisoned = c.put_to_rest.ensures.poisoned;
+}
+
 pub returns-clause-machine : goal.returns-clause-machine
 returns-clause-machine g c = λ before keeps.
     let kept = subst (λ h. Keeps g.M.Ialg.meaning g.M.Ialg.idle_keeps g.M.Ialg.active_keeps h before) (sym c.self.view_is) keeps in

@@ -14,8 +14,8 @@ use Rattle.host_spaces.proofs.spaces.Spaces.take_out_records.Goals as goal
 pub either_piece-requires : goal.either_piece-requires
 either_piece-requires c =
     record {
-      one = not_both (space_in c.args.self.now (record_at c.args.table.now 0).space).region (placed_size (record_at c.args.table.now 0).size) (record_at c.args.table.now 0).attr
-          (piece_at c.args.own 0) (piece_at c.args.shared 0) (c.requires.pieces.persistent 0) (c.requires.pieces.write_once 0);
+      one = not_both (space_in c.args.self.now (record_at c.args.table.now 0).space).region (placed_size (record_at c.args.table.now 0).size) (record_at c.args.table.now 0).attr (c.requires.pieces.0 0)
+          (piece_at c.args.own 0) (piece_at c.args.shared 0) (c.requires.pieces.1.persistent 0) (c.requires.pieces.1.write_once 0);
     }
 
 pub give_back-requires-clause-region : goal.give_back-requires-clause-region
@@ -32,8 +32,8 @@ give_back-requires-clause-owner c =
 pub either_piece-requires-2 : goal.either_piece-requires-2
 either_piece-requires-2 c =
     record {
-      one = not_both (space_in c.args.self.now (record_at c.args.table.now 1).space).region (placed_size (record_at c.args.table.now 1).size) (record_at c.args.table.now 1).attr
-          (piece_at c.args.own 1) (piece_at c.args.shared 1) (c.requires.pieces.persistent 1) (c.requires.pieces.write_once 1);
+      one = not_both (space_in c.args.self.now (record_at c.args.table.now 1).space).region (placed_size (record_at c.args.table.now 1).size) (record_at c.args.table.now 1).attr (c.requires.pieces.0 1)
+          (piece_at c.args.own 1) (piece_at c.args.shared 1) (c.requires.pieces.1.persistent 1) (c.requires.pieces.1.write_once 1);
     }
 
 pub give_back-requires-2-clause-region : goal.give_back-requires-2-clause-region
@@ -53,8 +53,8 @@ give_back-requires-2-clause-owner c =
 pub either_piece-requires-3 : goal.either_piece-requires-3
 either_piece-requires-3 c =
     record {
-      one = not_both (space_in c.args.self.now (record_at c.args.table.now 2).space).region (placed_size (record_at c.args.table.now 2).size) (record_at c.args.table.now 2).attr
-          (piece_at c.args.own 2) (piece_at c.args.shared 2) (c.requires.pieces.persistent 2) (c.requires.pieces.write_once 2);
+      one = not_both (space_in c.args.self.now (record_at c.args.table.now 2).space).region (placed_size (record_at c.args.table.now 2).size) (record_at c.args.table.now 2).attr (c.requires.pieces.0 2)
+          (piece_at c.args.own 2) (piece_at c.args.shared 2) (c.requires.pieces.1.persistent 2) (c.requires.pieces.1.write_once 2);
     }
 
 pub give_back-requires-3-clause-region : goal.give_back-requires-3-clause-region
@@ -78,8 +78,8 @@ give_back-requires-3-clause-owner c =
 pub either_piece-requires-4 : goal.either_piece-requires-4
 either_piece-requires-4 c =
     record {
-      one = not_both (space_in c.args.self.now (record_at c.args.table.now 3).space).region (placed_size (record_at c.args.table.now 3).size) (record_at c.args.table.now 3).attr
-          (piece_at c.args.own 3) (piece_at c.args.shared 3) (c.requires.pieces.persistent 3) (c.requires.pieces.write_once 3);
+      one = not_both (space_in c.args.self.now (record_at c.args.table.now 3).space).region (placed_size (record_at c.args.table.now 3).size) (record_at c.args.table.now 3).attr (c.requires.pieces.0 3)
+          (piece_at c.args.own 3) (piece_at c.args.shared 3) (c.requires.pieces.1.persistent 3) (c.requires.pieces.1.write_once 3);
     }
 
 pub give_back-requires-4-clause-region : goal.give_back-requires-4-clause-region

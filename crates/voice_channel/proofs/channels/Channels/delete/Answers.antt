@@ -10,7 +10,7 @@ pub returns-then-is_member-clause-machine : goal.returns-then-is_member-clause-m
 returns-then-is_member-clause-machine g c before keeps =
     let below : c.args.i < 64 = omega arith in (
       before,
-      busy_delete before c.args.i (lt-ltb c.args.i 64 below)
+      busy_delete before g.M.Ialg.meaning c.args.i (lt-ltb c.args.i 64 below)
           (lives_alike g.M.Ialg.meaning g.M.Ialg.idle_keeps g.M.Ialg.active_keeps c.args.self.now.host before.host keeps.host c.args.i
           ∙ ap (λ (s : ChannelsState _). hosts.lives s.host c.args.i) (sym c.self.view_is) ∙ sym c.if-not-living.ensures.value)
           (ap (λ (x : List (List ℕ)). is_in_channel x c.args.i) keeps.chained ∙ sym c.if-is_member.ensures),

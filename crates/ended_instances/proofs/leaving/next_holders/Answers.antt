@@ -1,0 +1,18 @@
+use Rattle.std.proofs.Common.{◌≡◌, ℕ, zero, suc, Option, sym, List, ◌∷◌, []}
+use Rattle.host_spaces.specs.Creation.{twin_at}
+use Rattle.instance_table.specs.declared.shelves.Shelf.{Shelf}
+use Rattle.instance_table.specs.Holders.{next_holder}
+use Rattle.instance_table.proofs.Handing.{next_past}
+use Rattle.ended_instances.proofs.leaving.next_holders.Goals as goal
+
+each : (once : List Shelf) (i : ℕ) (a b c d : Option ℕ) → a ≡ next_holder once i 0 → b ≡ next_holder once i 1 → c ≡ next_holder once i 2 → d ≡ next_holder once i 3
+    → (k : ℕ) → twin_at (a ∷ b ∷ c ∷ d ∷ []) k ≡ next_holder once i k
+each once i a b c d first second third fourth zero = first
+each once i a b c d first second third fourth (suc zero) = second
+each once i a b c d first second third fourth (suc (suc zero)) = third
+each once i a b c d first second third fourth (suc (suc (suc zero))) = fourth
+each once i a b c d first second third fourth (suc (suc (suc (suc k)))) = sym (next_past 0 once i k)
+
+pub returns : goal.returns
+returns c =
+    each c.args.once.now.items c.args.i c.next_holder.result c.next_holder-2.result c.next_holder-3.result c.next_holder-4.result c.next_holder.ensures c.next_holder-2.ensures c.next_holder-3.ensures c.next_holder-4.ensures
