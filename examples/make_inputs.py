@@ -54,6 +54,8 @@ write("companded_line/input.raw", mixed([0, -1, 32767, -32768] + [0] * 156, [0] 
 write("dtmf_digit/input.raw", mixed(tone(770, 8000, 204), tone(1336, 8000, 204)) + [0] * 204)
 write("chain_of_three/input.raw", mixed(tone(250, 9000, 160), tone(50, 9000, 160)))
 (HERE / "between_laws/input.ul").write_bytes(bytes(mu_law(x) for x in mixed(tone(440, 9000, 1184), tone(50, 9000, 1184))))
+for line in range(16):
+    (HERE / f"sixteen_lines/input{line}.ul").write_bytes(bytes(mu_law(x) for x in tone(300 + 100 * line, 12000, 80)))
 
 print("dtmf_digit, low pass:", *low_pass(24, 1900))
 for pitch in (697, 770, 852, 941, 1209, 1336, 1477, 1633):
