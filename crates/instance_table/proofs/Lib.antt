@@ -13,6 +13,7 @@ pub mod Unshared
 pub mod Told
 pub mod Finds
 pub mod Likes
+pub mod Bare
 pub mod Joined
 pub mod Joinings
 pub mod Sharing

@@ -122,6 +122,19 @@ no_twin_past same others kind params table k valid past =
     let few = (within_limits table valid).few in
     find_nothing (λ j. is_twin same (asked kind params table) k (others j)) 0 INSTANCES (λ j low high. no_twin same kind params table k (omega (arith, few, past)) (others j))
 
+-- a record that isn't write-once has none
+no_twin_other : {M : Type 0} (same : M → M → Bool) (kind : M) (params : List ℤ) (table : List MemRec) (k : ℕ) → is_once (record_at table k).attr ≡ false → (y : Option (Asked M))
+    → is_twin same (asked kind params table) k y ≡ false
+no_twin_other same kind params table k other None = refl
+no_twin_other same kind params table k other (Some y) =
+    let attr : is_once (record_at (unplaced table) k).attr ≡ false = ap (λ (x : MemRec). is_once x.attr) (record_unplaced table k) ∙ other in
+    and_right (same kind y.kind && pointwise int_eq params y.params) (is_same_once (record_at (unplaced table) k) (record_at y.table k)) (rw attr refl)
+
+pub none_of_other : {M : Type 0} (same : M → M → Bool) (others : ℕ → Option (Asked M)) (kind : M) (params : List ℤ) (table : List MemRec) (k : ℕ) → is_once (record_at table k).attr ≡ false
+    → twin_of same others (asked kind params table) k ≡ None
+none_of_other same others kind params table k other =
+    find_nothing (λ j. is_twin same (asked kind params table) k (others j)) 0 INSTANCES (λ j low high. no_twin_other same kind params table k other (others j))
+
 pub four_twins : (t : Twins) (f : ℕ → Option ℕ) → t.t0 ≡ f 0 → t.t1 ≡ f 1 → t.t2 ≡ f 2 → t.t3 ≡ f 3 → ((k : ℕ) → 4 ≤ k → f k ≡ None) → (k : ℕ) → twin_at t k ≡ f k
 four_twins t f e0 e1 e2 e3 past zero = e0
 four_twins t f e0 e1 e2 e3 past (suc zero) = e1

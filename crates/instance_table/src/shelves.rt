@@ -1,13 +1,14 @@
 //! Shelves: where the pieces of write-once records stand.
-ghost use Rattle.std.specs.Prelude.{◌≡◌, ◌<◌, length, Option, None, is_some};
+ghost use Rattle.std.specs.Prelude.{◌≡◌, ◌<◌, length, true, Option, None, is_some};
+ghost use Rattle.instance_table.specs.declared.shelves.Stand.TheVariants.{Here};
 ghost use Rattle.mem_rec.specs.declared.TheConstants.{TABLE_RECORDS};
 ghost use Rattle.record_loans.specs.Pieces.{piece_at};
-ghost use Rattle.instance_table.specs.Shelves.{stand_at, piece_here, pieces_here, shelf_of, shelf_at, home_of, piece_seen};
+ghost use Rattle.instance_table.specs.Shelves.{stand_at, piece_here, pieces_here, shelf_of, no_shelf, shelf_at, home_of, piece_seen};
 ghost use Rattle.instance_table.specs.Homes.{with_stand, set_stand, put_piece, with_seen, HasHome, HasHomes};
 ghost use Rattle.instance_table.specs.Holders.{stands_with};
 ghost use Rattle.instance_table.specs.Table.{once_at, no_pieces};
 
-use crate::member::end_none;
+use crate::member::{end_absent, end_none};
 use record_loans::Pieces;
 use space_raw::Piece;
 use std::mem;
@@ -26,6 +27,16 @@ impl Stand {
         match self {
             Stand::Here(piece) => piece,
             Stand::With(_home) => None,
+        }
+    }
+
+    /// Whether no piece stands here, and none with another instance.
+    fn is_nothing(&self) -> bool
+        ensures { result ≡ true → self.now ≡ Here None }
+    {
+        match self {
+            Stand::Here(piece) => piece.is_none(),
+            Stand::With(_home) => false,
         }
     }
 
@@ -60,6 +71,13 @@ impl Shelf {
             s2: Stand::Here(p2),
             s3: Stand::Here(p3),
         }
+    }
+
+    /// Whether its instance sees no piece: most instances have no write-once record.
+    fn is_bare(&self) -> bool
+        ensures { result ≡ true → self.now ≡ no_shelf }
+    {
+        self.s0.is_nothing() && self.s1.is_nothing() && self.s2.is_nothing() && self.s3.is_nothing()
     }
 
     /// Where the piece of record `k` stands.
@@ -149,8 +167,8 @@ fn put_record(once: &mut Vec<Shelf>, i: usize, k: usize, piece: Option<Piece>)
     end_none(replace_stand(once, at, k, Stand::Here(piece)).piece());
 }
 
-/// Takes the pieces of an instance's write-once records together, each from its home: [`put_seen`] puts them back.
-pub fn take_seen(once: &mut Vec<Shelf>, i: usize) -> Pieces
+/// Takes the pieces of an instance's write-once records, each from its home.
+fn take_each(once: &mut Vec<Shelf>, i: usize) -> Pieces
     requires number { i < length once.old.items }
     requires homes { HasHomes once.old.items i }
     ensures pieces { result ≡ once_at once.old.items i }
@@ -167,8 +185,24 @@ pub fn take_seen(once: &mut Vec<Shelf>, i: usize) -> Pieces
     }
 }
 
-/// Puts the pieces of an instance's write-once records at their homes, where none are.
-pub fn put_seen(once: &mut Vec<Shelf>, i: usize, pieces: Pieces)
+/// Takes the pieces of an instance's write-once records together, each from its home: [`put_seen`] puts them back.
+pub fn take_seen(once: &mut Vec<Shelf>, i: usize) -> Pieces
+    requires number { i < length once.old.items }
+    requires homes { HasHomes once.old.items i }
+    ensures pieces { result ≡ once_at once.old.items i }
+    ensures left { once.new.items ≡ with_seen once.old.items i no_pieces }
+    ensures length { length once.new.items ≡ length once.old.items }
+    ensures homes { HasHomes once.new.items i }
+    ensures none { once_at once.new.items i ≡ no_pieces }
+{
+    if once[i].is_bare() {
+        return Pieces::none();
+    }
+    take_each(once, i)
+}
+
+/// Puts the pieces of an instance's write-once records, each at its home, where none is.
+fn put_each(once: &mut Vec<Shelf>, i: usize, pieces: Pieces)
     requires number { i < length once.old.items }
     requires homes { HasHomes once.old.items i }
     requires none { once_at once.old.items i ≡ no_pieces }
@@ -179,6 +213,27 @@ pub fn put_seen(once: &mut Vec<Shelf>, i: usize, pieces: Pieces)
     put_record(once, i, 1, p1);
     put_record(once, i, 2, p2);
     put_record(once, i, 3, p3);
+}
+
+/// Whether there is no piece among these.
+fn has_none(pieces: &Pieces) -> bool
+    ensures { result ≡ true → pieces.now ≡ no_pieces }
+{
+    pieces.p0.is_none() && pieces.p1.is_none() && pieces.p2.is_none() && pieces.p3.is_none()
+}
+
+/// Puts the pieces of an instance's write-once records at their homes, where none are.
+pub fn put_seen(once: &mut Vec<Shelf>, i: usize, pieces: Pieces)
+    requires number { i < length once.old.items }
+    requires homes { HasHomes once.old.items i }
+    requires none { once_at once.old.items i ≡ no_pieces }
+    ensures { once.new.items ≡ with_seen once.old.items i pieces }
+{
+    if has_none(&pieces) {
+        end_absent(pieces);
+        return;
+    }
+    put_each(once, i, pieces);
 }
 
 /// Whether an instance has a piece for record `k` among its write-once ones.

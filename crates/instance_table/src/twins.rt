@@ -3,7 +3,7 @@ ghost use Rattle.std.specs.Prelude.{◌≡◌, ◌<◌, length, Some};
 ghost use Rattle.ialg.specs.Records.{record_at, unplaced};
 ghost use Rattle.instance_table.specs.declared.TheConstants.{INSTANCES};
 ghost use Rattle.instance_table.specs.Table.{slot_at};
-ghost use Rattle.instance_table.specs.Twins.{asked, asked_by, is_same_once, is_twin, twin_of, AreTwins};
+ghost use Rattle.instance_table.specs.Twins.{asked, asked_by, is_once, is_same_once, is_twin, twin_of, AreTwins};
 
 use crate::INSTANCES;
 use crate::member::Member;
@@ -34,6 +34,13 @@ fn record_of(table: &MemTab, k: usize) -> MemRec
             base: 0,
         },
     }
+}
+
+/// Whether record `k` of a table is write-once. Others have no twins.
+fn is_once(table: &MemTab, k: usize) -> bool
+    ensures { result ≡ is_once (record_at table.now k).attr }
+{
+    record_of(table, k).attr == Attr::WriteOnce
 }
 
 /// Whether both are write-once records, of one size, alignment and space.
@@ -108,6 +115,9 @@ fn find_twin<M: Ialg>(
     requires { length slots.now.items ≡ INSTANCES }
     ensures { result ≡ twin_of M.meaning.same (λ j. asked_by (slot_at slots.now.items j)) (asked kind params.now.items table.now) k }
 {
+    if !is_once(table, k) {
+        return None;
+    }
     for j in 0..INSTANCES {
         if shares(slots, j, kind, params, table, k) {
             return Some(j as u8);

@@ -2,6 +2,7 @@ use Rattle.std.proofs.Common.{sym, ◌∙◌, arith}
 use Rattle.instance_table.specs.declared.TheConstants.{INSTANCES}
 use Rattle.instance_table.specs.Table.{slot_at}
 use Rattle.instance_table.specs.Twins.{asked, asked_by, is_twin}
+use Rattle.instance_table.proofs.Likes.{none_of_other}
 use Rattle.instance_table.proofs.Finds.{find_step, find_hit, find_end}
 use Rattle.instance_table.proofs.twins.find_twin.Goals as goal
 
@@ -23,3 +24,9 @@ returns g c =
     sym
     (c.loop-j.invariant
     ∙ find_end (λ i. is_twin g.M.Ialg.meaning.same (asked c.args.kind c.args.params.now.items c.args.table.now) c.args.k (asked_by (slot_at c.args.slots.now.items i))) c.loop-j.j INSTANCES (omega arith))
+
+pub returns-then-not-is_once : goal.returns-then-not-is_once
+returns-then-not-is_once g c =
+    sym
+    (none_of_other g.M.Ialg.meaning.same (λ i. asked_by (slot_at c.args.slots.now.items i)) c.args.kind c.args.params.now.items c.args.table.now c.args.k
+    (sym c.is_once.ensures ∙ c.if-not-is_once.true))
