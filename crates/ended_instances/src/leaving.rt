@@ -6,6 +6,7 @@ ghost use Rattle.record_loans.specs.Blocks.{block_piece};
 ghost use Rattle.scratch_group.specs.Blocks.{block_in};
 ghost use Rattle.instance_table.specs.declared.TheConstants.{GROUPS, INSTANCES};
 ghost use Rattle.instance_table.specs.Table.{slot_at, group_at, group_of, is_member_of, activity_at, quieted_by, TablesOk, ArePoisoned};
+ghost use Rattle.instance_table.specs.Homes.{HoldsForOthers};
 ghost use Rattle.instance_table.specs.Holders.{next_holder};
 ghost use Rattle.instance_table.specs.Twins.{asked_by};
 ghost use Rattle.instance_table.specs.Keeps.{Keeps};
@@ -26,7 +27,9 @@ use table_moves::take_block;
 
 /// For each record of an instance the next one that holds it.
 fn next_holders(once: &Vec<Shelf>, i: u8) -> Twins
-    requires { length once.now.items ≡ INSTANCES }
+    requires count { length once.now.items ≡ INSTANCES }
+    requires number { i < INSTANCES }
+    requires held { (k : ℕ) → HoldsForOthers once.now.items i k }
     ensures { (k : ℕ) → twin_at result k ≡ next_holder once.now.items i k }
 {
     [

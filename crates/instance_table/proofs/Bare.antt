@@ -1,5 +1,5 @@
 -- An instance that sees no piece: nothing is taken, and nothing put.
-use Rattle.std.proofs.Common.{◌≡◌, ℕ, zero, suc, List, set, get_or, None, refl, sym, ◌∙◌, ap, subst}
+use Rattle.std.proofs.Common.{◌≡◌, ◌<◌, ℕ, zero, suc, List, [], ◌∷◌, length, set, get_or, None, refl, sym, ◌∙◌, ap, subst, arith}
 use Rattle.std.proofs.lemmas.List.{set-get_or}
 use Rattle.record_loans.specs.declared.pieces.Pieces.{Pieces}
 use Rattle.instance_table.specs.declared.shelves.Stand.{Stand}
@@ -47,3 +47,9 @@ bare_sees once i bare =
 -- a shelf that was read, and was empty
 pub bare_read : (once : List Shelf) (i : ℕ) (s : Shelf) → s ≡ get_or once i s → s ≡ no_shelf → shelf_at once i ≡ no_shelf
 bare_read once i s read is = sym (subst (λ (x : Shelf). x ≡ get_or once i x) is read)
+
+-- a shelf that was read is the one that stands there
+pub read_shelf : (once : List Shelf) (i : ℕ) (s : Shelf) → i < length once → s ≡ get_or once i s → shelf_at once i ≡ s
+read_shelf [] i s inside read = absurd (omega (arith, inside))
+read_shelf (t ∷ once) zero s inside read = sym read
+read_shelf (t ∷ once) (suc i) s inside read = read_shelf once i s (omega (arith, inside)) read

@@ -1,5 +1,5 @@
 -- One instance and its group change.
-use Rattle.std.proofs.Common.{◌≡◌, ◌≢◌, ℕ, ℤ, ◌<◌, inl, inr, List, [], ◌∷◌, zero, suc, length, Option, IsSome, slice_index_or, Some, None, set, get_or-set_same, get_or-set_other, refl, sym, ◌∙◌, ap, subst, arith}
+use Rattle.std.proofs.Common.{◌≡◌, ◌≢◌, ℕ, ℤ, ◌<◌, inl, inr, List, [], ◌∷◌, zero, suc, length, Option, IsSome, slice_index_or, Some, None, set, get_or-set_same, get_or-set_other, set-set, refl, sym, ◌∙◌, ap, subst, arith}
 use Rattle.std.proofs.lemmas.List.{length-set, get_or_read}
 use Rattle.std.proofs.lemmas.Bool.Decides.{eqb_tells}
 use Rattle.std.proofs.lemmas.Bool.{true≢false}
@@ -471,3 +471,27 @@ kept_in_slot slots once groups i m inst o y at is once_is group_is meaning idle_
 pub member_of : {M : Type 0} (slot : Option (Member M)) → IsSome slot → (m : Member M) × (slot ≡ Some m)
 member_of None e = absurd (true≢false (sym e))
 member_of (Some m) e = (m, refl)
+
+-- an active instance stands in its slot
+active_stands : {M : Type 0} (slots : List (Option (Member M))) (i g : ℕ) (o : Option (Member M)) → slot_at slots i ≡ o → slot_active_in o ≡ Some g → (m : Member M) × (slot_at slots i ≡ Some m)
+active_stands slots i g None is active = absurd (none-some _ active)
+active_stands slots i g (Some m) is active = (m, is)
+
+pub active_inside : {M : Type 0} (slots : List (Option (Member M))) (i g : ℕ) → slot_active_in (slot_at slots i) ≡ Some g → i < length slots
+active_inside slots i g active =
+    let stands = active_stands slots i g (slot_at slots i) refl active in
+    slot_in slots i stands.0 stands.1
+
+-- what was put into a slot, and then turned there
+pub turned : {M : Type 0} (slots : List (Option (Member M))) (i : ℕ) (m : Member M) (f : Member M → Member M) (new : List (Option (Member M))) → i < length slots
+    → ((q : Member M) → slot_at (set slots i (Some m)) i ≡ Some q → new ≡ set (set slots i (Some m)) i (Some (f q)))
+    → new ≡ set slots i (Some (f m))
+turned slots i m f new inside turns = rw (turns m (get_or-set_same slots i (Some m) None inside), set-set) refl
+
+-- an instance that lived in a slot before a call stands there still
+pub read_later : {M : Type 0} (a b : List (Option (Member M))) (i : ℕ) → IsSome (slot_at a i) → SameSlot (slot_at a i) (slot_at b i)
+    → (r : Option (Member M)) → r ≡ slice_index_or b i r → slot_at b i ≡ r
+read_later a b i living same r read =
+    let m = member_of (slot_at a i) living in
+    let later = later_member (slot_at a i) (slot_at b i) m.0 m.1 same in
+    sym (get_or_read b i r (slot_in b i later.0 later.1.0) read None)

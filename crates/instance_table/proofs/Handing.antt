@@ -11,7 +11,7 @@ use Rattle.instance_table.specs.declared.shelves.Stand.{Stand}
 use Rattle.instance_table.specs.declared.shelves.Stand.TheVariants.{Here, With}
 use Rattle.instance_table.specs.declared.shelves.Shelf.{Shelf}
 use Rattle.instance_table.specs.Shelves.{stand_at, piece_here, no_shelf, shelf_at, piece_seen}
-use Rattle.instance_table.specs.Homes.{IsPieceHere, AllHaveHomes, IsSameStand, SameShelves}
+use Rattle.instance_table.specs.Homes.{IsPieceHere, AllHaveHomes, HoldsForOthers, IsSameStand, SameShelves}
 use Rattle.instance_table.specs.Holders.{stands_with, holder_from, next_holder, piece_left, left_with, pointed, stand_next, stand_without}
 use Rattle.instance_table.specs.Table.{slot_at, once_at, IsHolder, AreHeld, AreBare}
 use Rattle.instance_table.proofs.Stands.{four_pieces, seen_here, seen_with}
@@ -379,11 +379,28 @@ handed_none once once1 i k none there here j =
     ]
 
 -- no record stands with its own instance
-pub never_own : (once : List Shelf) (i k : ℕ) → AllHaveHomes once → stand_at (shelf_at once i) k ≢ With i
-never_own once i k homes is =
-    let here = homes i k i is in
+pub held_apart : (once : List Shelf) (i k : ℕ) → HoldsForOthers once i k → stand_at (shelf_at once i) k ≢ With i
+held_apart once i k held is =
+    let here = held i is in
     let both : With i ≡ Here (Some here.0) = sym is ∙ here.1 in
     cc
+
+-- what is held for others is so where this record of each instance stands as before
+pub held_column : (a b : List Shelf) (i k : ℕ) → ((j : ℕ) → stand_at (shelf_at b j) k ≡ stand_at (shelf_at a j) k) → HoldsForOthers a i k → HoldsForOthers b i k
+held_column a b i k same held j is =
+    let here = held j (sym (same j) ∙ is) in
+    (here.0, same i ∙ here.1)
+
+next_or_none : (once : List Shelf) (i k : ℕ) (o : Option ℕ) → next_holder once i k ≡ o → HoldsForOthers once i k → stand_at (shelf_at once i) k ≡ Here None → next_holder once i k ≡ None
+next_or_none once i k None is held none = is
+next_or_none once i k (Some h) is held none =
+    let here = held h (next_is once i k h is) in
+    let both : Here None ≡ Here (Some here.0) = sym none ∙ here.1 in
+    cc
+
+-- where no piece is, nobody's record stands with it
+pub nobody_next : (once : List Shelf) (i k : ℕ) → HoldsForOthers once i k → stand_at (shelf_at once i) k ≡ Here None → next_holder once i k ≡ None
+nobody_next once i k held none = next_or_none once i k (next_holder once i k) refl held none
 
 -- record k was handed on, and no other
 pub record HandsOn (i k : ℕ) (once once' : List Shelf) : Type 0 where

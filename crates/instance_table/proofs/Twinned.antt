@@ -37,7 +37,7 @@ use Rattle.instance_table.proofs.Finds.{find_tells, find_first, find_none, find_
 use Rattle.instance_table.proofs.Stands.{seen_here}
 use Rattle.instance_table.proofs.Lent.{no_stand, seen_at}
 use Rattle.instance_table.proofs.Held.{alike_back, alike_then, homes_of_held}
-use Rattle.instance_table.proofs.Handing.{with_told, with_not, with_of, never_own}
+use Rattle.instance_table.proofs.Handing.{with_told, with_not, with_of, held_apart}
 use Rattle.instance_table.proofs.Changes.{slot_in}
 use Rattle.instance_table.proofs.Likes.{twin_tells, twin_told}
 use Rattle.instance_table.proofs.Sharing.{TellsTwin}
@@ -172,7 +172,7 @@ module _ {M : Type 0} (same : M → M → Bool) (one : (a b : M) → same a b �
     module _ (bare : AreBare slots once) (together : AreTogether slots once) (i k : ℕ) (m : Member M) (at : slot_at slots i ≡ Some m) (home : home_of once i k ≡ i)
         (others : ℕ → Option (Asked M)) (gone : others i ≡ None) (there : (j : ℕ) → j ≢ i → others j ≡ asked_by (slot_at slots j)) where
       not_own : stands_with i (stand_at (shelf_at once i) k) ≡ false
-      not_own = with_not i (stand_at (shelf_at once i) k) (never_own once i k (homes_of_held slots once held))
+      not_own = with_not i (stand_at (shelf_at once i) k) (held_apart once i k (λ j. homes_of_held slots once held j k i))
 
       same_test : (j : ℕ) (slot : Option (Member M)) → j ≢ i → slot_at slots j ≡ slot → stands_with i (stand_at (shelf_at once j) k) ≡ is_twin same (asked_of (instance_of m.inst)) k (asked_by slot)
       same_test j None apart is = ap (stands_with i) (ap (λ (s : Shelf). stand_at s k) (bare j is) ∙ no_stand k)

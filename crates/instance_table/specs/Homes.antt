@@ -44,6 +44,10 @@ IsPieceHere s = (p : Span) × (s ≡ Here (Some p))
 abbrev pub AllHaveHomes : List Shelf → Type 0
 AllHaveHomes once = (i k home : ℕ) → stand_at (shelf_at once i) k ≡ With home → IsPieceHere (stand_at (shelf_at once home) k)
 
+-- whoever has record k standing with instance i finds its piece there
+abbrev pub HoldsForOthers : List Shelf → ℕ → ℕ → Type 0
+HoldsForOthers once i k = (j : ℕ) → stand_at (shelf_at once j) k ≡ With i → IsPieceHere (stand_at (shelf_at once i) k)
+
 -- at the same place, with a piece whose words may differ
 abbrev pub IsSameStand : Stand → Stand → Type 0
 IsSameStand (Here p) (Here q) = IsSamePiece p q

@@ -11,55 +11,53 @@ ghost use Rattle.instance_table.specs.Table.{slot_at, group_at, group_of, slot_a
 ghost use Rattle.instance_table.specs.Keeps.{Keeps};
 ghost use Rattle.instance_table.specs.Frames.{SameTables};
 
-use crate::member::{Member, active_group, idle_in, put_in, take_out};
+use crate::member::{Member, active_group, idle_in, make_active, make_idle};
 use crate::shelves::{Shelf, put_seen, take_seen};
 use ialg::Ialg;
 use lifecycle::{Active, Idle, Inst};
 use record_loans::Pieces;
 use scratch_group::Group;
 
-/// Deactivates the active member of a group. In a host of a poison word the blocks are filled with it.
+/// Deactivates the active member of a group, where it stands. In a host of a poison word the blocks are filled with it.
 fn rest_in<M: Ialg>(
-    active: Active<M>,
+    active: &mut Active<M>,
     shared: &mut Pieces,
     group: &mut Group,
     poison: Option<i16>,
-) -> Idle<M>
-    requires fits { Fits active.instance.table active.instance.own shared.old group.old }
-    ensures same { SameInstance active.instance result.instance }
+)
+    requires fits { Fits active.old.instance.table active.old.instance.own shared.old group.old }
+    ensures same { SameInstance active.old.instance active.new.instance }
     ensures shared { SamePieces shared.old shared.new }
-    ensures once { SameOnce active.instance.table shared.old shared.new }
+    ensures once { SameOnce active.old.instance.table shared.old shared.new }
     ensures blocks { (space : Space) → IsSameBlock (block_in group.old space) (block_in group.new space) }
     ensures active { group.new.active ≡ None }
     ensures activations { group.new.activations ≡ group.old.activations }
     ensures poisoned { BlocksArePoison poison group.new }
-    ensures keeps { (w : Option ℤ) (h : History) → ActiveKeeps M.meaning M.active_keeps active.instance w shared.old group.old h
-        → IdleKeeps M.meaning M.idle_keeps result.instance w shared.new h }
+    ensures keeps { (w : Option ℤ) (h : History) → ActiveKeeps M.meaning M.active_keeps active.old.instance w shared.old group.old h
+        → IdleKeeps M.meaning M.idle_keeps active.new.instance w shared.new h }
 {
-    let idle = active.rest(shared, group);
+    active.deactivate(shared, group);
     group.set_active(None);
     if let Some(word) = poison {
         group.fill(word);
     }
-    idle
 }
 
-/// Activates the member of this number of a group that has no active member.
-fn wake_in<M: Ialg>(idle: Idle<M>, shared: &mut Pieces, group: &mut Group, i: u8) -> Active<M>
-    requires fits { Fits idle.instance.table idle.instance.own shared.old group.old }
-    ensures same { SameInstance idle.instance result.instance }
+/// Activates the member of this number, where it stands, of a group that has no active member.
+fn wake_in<M: Ialg>(idle: &mut Idle<M>, shared: &mut Pieces, group: &mut Group, i: u8)
+    requires fits { Fits idle.old.instance.table idle.old.instance.own shared.old group.old }
+    ensures same { SameInstance idle.old.instance idle.new.instance }
     ensures shared { SamePieces shared.old shared.new }
-    ensures once { SameOnce idle.instance.table shared.old shared.new }
+    ensures once { SameOnce idle.old.instance.table shared.old shared.new }
     ensures blocks { (space : Space) → IsSameBlock (block_in group.old space) (block_in group.new space) }
     ensures active { group.new.active ≡ Some i }
     ensures activations { group.new.activations ≡ count_after group.old.activations (Some i) }
     ensures keeps { (w : Option ℤ) (h : History) → BlocksArePoison w group.old
-        → IdleKeeps M.meaning M.idle_keeps idle.instance w shared.old h
-        → ActiveKeeps M.meaning M.active_keeps result.instance w shared.new group.new h }
+        → IdleKeeps M.meaning M.idle_keeps idle.old.instance w shared.old h
+        → ActiveKeeps M.meaning M.active_keeps idle.new.instance w shared.new group.new h }
 {
-    let active = idle.wake(shared, group);
+    idle.activate(shared, group);
     group.set_active(Some(i));
-    active
 }
 
 /// Deactivates the active member of a group, if there is one, and says whether there was one.
@@ -85,23 +83,18 @@ pub fn rest<M: Ialg>(
     let Some(i) = groups[g as usize].active() else {
         return false;
     };
-    let Member { group: _, inst } = take_out(slots, i);
-    match inst {
-        Inst::Running(active) => {
-            let mut shared = take_seen(once, i as usize);
-            let idle = rest_in(active, &mut shared, &mut groups[g as usize], poison);
-            put_seen(once, i as usize, shared);
-            put_in(
-                slots,
-                i,
-                Member {
-                    group: g,
-                    inst: Inst::Idling(idle),
-                },
-            );
-            true
-        }
-        Inst::Idling(_idle) => unreachable!(),
+    match &mut slots[i as usize] {
+        Some(member) => match &mut member.inst {
+            Inst::Running(active) => {
+                let mut shared = take_seen(once, i as usize);
+                rest_in(active, &mut shared, &mut groups[g as usize], poison);
+                put_seen(once, i as usize, shared);
+                make_idle(slots, i);
+                true
+            }
+            Inst::Idling(_) => unreachable!(),
+        },
+        None => unreachable!(),
     }
 }
 
@@ -128,22 +121,17 @@ pub fn touch<M: Ialg>(
         return;
     };
     let _rested = rest(slots, once, groups, poison, g);
-    let Member { group: _, inst } = take_out(slots, i);
-    match inst {
-        Inst::Idling(idle) => {
-            let mut shared = take_seen(once, i as usize);
-            let active = wake_in(idle, &mut shared, &mut groups[g as usize], i);
-            put_seen(once, i as usize, shared);
-            put_in(
-                slots,
-                i,
-                Member {
-                    group: g,
-                    inst: Inst::Running(active),
-                },
-            );
-        }
-        Inst::Running(_active) => unreachable!(),
+    match &mut slots[i as usize] {
+        Some(member) => match &mut member.inst {
+            Inst::Idling(idle) => {
+                let mut shared = take_seen(once, i as usize);
+                wake_in(idle, &mut shared, &mut groups[g as usize], i);
+                put_seen(once, i as usize, shared);
+                make_active(slots, i);
+            }
+            Inst::Running(_) => unreachable!(),
+        },
+        None => unreachable!(),
     }
 }
 

@@ -2,9 +2,8 @@
 ghost use Rattle.std.specs.Prelude.{◌≡◌, ◌≢◌, ◌<◌, ℕ, length, Option, Some, None, nat_eq, if◌then◌else◌};
 ghost use Rattle.mem_rec.specs.declared.TheConstants.{TABLE_RECORDS};
 ghost use Rattle.instance_table.specs.declared.TheConstants.{INSTANCES};
-ghost use Rattle.instance_table.specs.declared.shelves.Stand.TheVariants.{Here, With};
 ghost use Rattle.instance_table.specs.Shelves.{stand_at, piece_here, no_shelf, shelf_at};
-ghost use Rattle.instance_table.specs.Homes.{set_stand, AllHaveHomes};
+ghost use Rattle.instance_table.specs.Homes.{set_stand, AllHaveHomes, HoldsForOthers};
 ghost use Rattle.instance_table.specs.Holders.{stands_with, next_holder, pointed, piece_left, left_with, stand_without};
 ghost use Rattle.instance_table.specs.Table.{once_at};
 
@@ -14,8 +13,8 @@ use crate::shelves::{Shelf, Stand, replace_stand};
 use record_loans::Pieces;
 use space_raw::Piece;
 
-/// The least number of an instance whose record `k` stands with instance `i`.
-pub fn next_holder(once: &Vec<Shelf>, i: u8, k: usize) -> Option<u8>
+/// Looks through all instances for the least number of one whose record `k` stands with instance `i`.
+fn find_holder(once: &Vec<Shelf>, i: u8, k: usize) -> Option<u8>
     requires count { length once.now.items ≡ INSTANCES }
     requires record { k < TABLE_RECORDS }
     ensures { result ≡ next_holder once.now.items i k }
@@ -26,6 +25,20 @@ pub fn next_holder(once: &Vec<Shelf>, i: u8, k: usize) -> Option<u8>
         }
     }
     None
+}
+
+/// The least number of an instance whose record `k` stands with instance `i`: none is looked for where no piece is there.
+pub fn next_holder(once: &Vec<Shelf>, i: u8, k: usize) -> Option<u8>
+    requires count { length once.now.items ≡ INSTANCES }
+    requires number { i < INSTANCES }
+    requires record { k < TABLE_RECORDS }
+    requires held { HoldsForOthers once.now.items i k }
+    ensures { result ≡ next_holder once.now.items i k }
+{
+    if once[i as usize].stand(k).is_nothing() {
+        return None;
+    }
+    find_holder(once, i, k)
 }
 
 /// Puts a stand of record `k` of an instance in the place of one without a piece.
@@ -67,7 +80,7 @@ fn hand_record(once: &mut Vec<Shelf>, i: u8, k: usize) -> Option<Piece>
     requires count { length once.old.items ≡ INSTANCES }
     requires number { i < INSTANCES }
     requires record { k < TABLE_RECORDS }
-    requires apart { stand_at (shelf_at once.old.items i) k ≢ With i }
+    requires held { HoldsForOthers once.old.items i k }
     ensures left { result ≡ piece_left (next_holder once.old.items i k) (stand_at (shelf_at once.old.items i) k) }
     ensures count { length once.new.items ≡ INSTANCES }
     ensures handed { (j : ℕ) → stand_at (shelf_at once.new.items j) k ≡ stand_without once.old.items i k j }

@@ -1,6 +1,8 @@
 //! Slots of the table of instances.
 ghost use Rattle.std.specs.Prelude.{◌≡◌, ◌≢◌, ℕ, ◌<◌, length, Option, Some, None, IsSome, is_some, IfSome, IfNone, OnSome, slice_set};
-ghost use Rattle.instance_table.specs.Table.{slot_at, no_pieces, group_of, slot_active_in};
+ghost use Rattle.lifecycle.specs.declared.instance.Inst.TheVariants.{Idling, Running};
+ghost use Rattle.instance_table.specs.declared.member.Member.{Member};
+ghost use Rattle.instance_table.specs.Table.{slot_at, no_pieces, group_of, slot_active_in, instance_of};
 
 use ialg::Ialg;
 use lifecycle::Inst;
@@ -51,6 +53,47 @@ pub(crate) fn put_in<M: Ialg>(slots: &mut Vec<Option<Member<M>>>, i: u8, member:
     match mem::replace(&mut slots[i as usize], Some(member)) {
         Some(_) => unreachable!(),
         None => {}
+    }
+}
+
+/// Lets the active instance of a slot stand in it as an idle one.
+pub(crate) fn make_idle<M: Ialg>(slots: &mut Vec<Option<Member<M>>>, i: u8)
+    requires { IsSome (slot_active_in (slot_at slots.old.items i)) }
+    ensures { (m : Member M) → slot_at slots.old.items i ≡ Some m
+        → slots.new.items ≡ slice_set slots.old.items i (Some (record m { inst = Idling (record { instance = instance_of m.inst }) })) }
+{
+    let Member { group, inst } = take_out(slots, i);
+    match inst {
+        Inst::Running(active) => put_in(
+            slots,
+            i,
+            Member {
+                group,
+                inst: Inst::Idling(active.idled()),
+            },
+        ),
+        Inst::Idling(_idle) => unreachable!(),
+    }
+}
+
+/// Lets the idle instance of a slot stand in it as an active one.
+pub(crate) fn make_active<M: Ialg>(slots: &mut Vec<Option<Member<M>>>, i: u8)
+    requires living { IsSome (slot_at slots.old.items i) }
+    requires idle { slot_active_in (slot_at slots.old.items i) ≡ None }
+    ensures { (m : Member M) → slot_at slots.old.items i ≡ Some m
+        → slots.new.items ≡ slice_set slots.old.items i (Some (record m { inst = Running (record { instance = instance_of m.inst }) })) }
+{
+    let Member { group, inst } = take_out(slots, i);
+    match inst {
+        Inst::Idling(idle) => put_in(
+            slots,
+            i,
+            Member {
+                group,
+                inst: Inst::Running(idle.woken()),
+            },
+        ),
+        Inst::Running(_active) => unreachable!(),
     }
 }
 

@@ -31,7 +31,7 @@ impl Stand {
     }
 
     /// Whether no piece stands here, and none with another instance.
-    fn is_nothing(&self) -> bool
+    pub(crate) fn is_nothing(&self) -> bool
         ensures { result ≡ true → self.now ≡ Here None }
     {
         match self {

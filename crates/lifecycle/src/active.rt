@@ -88,6 +88,35 @@ impl<M: Ialg> Active<M> {
         answer
     }
 
+    /// Saves what has to last of the scratch records, which are lent to the instance no longer: [`idled`](Active::idled) has to follow.
+    pub fn deactivate(&mut self, shared: &mut Pieces, group: &mut Group)
+        requires fits { Fits self.old.instance.table self.old.instance.own shared.old group.old }
+        ensures same { SameInstance self.old.instance self.new.instance }
+        ensures shared { SamePieces shared.old shared.new }
+        ensures once { SameOnce self.old.instance.table shared.old shared.new }
+        ensures group { SameGroup group.old group.new }
+        ensures fits { Fits self.new.instance.table self.new.instance.own shared.new group.new }
+        ensures keeps { (w : Option ℤ) (h : History) → ActiveKeeps M.meaning M.active_keeps self.old.instance w shared.old group.old h
+            → IdleKeeps M.meaning M.idle_keeps self.new.instance w shared.new h }
+    {
+        let kind = self.instance.kind;
+        group.lend(
+            &Deactivate { kind },
+            &self.instance.table,
+            &mut self.instance.own,
+            shared,
+            &mut (),
+        );
+    }
+
+    /// The instance as an idle one, once it is [deactivated](Active::deactivate).
+    pub fn idled(self) -> Idle<M>
+        ensures { result.instance ≡ self.instance }
+    {
+        let Active { instance } = self;
+        Idle { instance }
+    }
+
     /// Deactivates the instance: its scratch records are lent to it no longer.
     pub fn rest(self, shared: &mut Pieces, group: &mut Group) -> Idle<M>
         requires fits { Fits self.instance.table self.instance.own shared.old group.old }
@@ -99,16 +128,9 @@ impl<M: Ialg> Active<M> {
         ensures keeps { (w : Option ℤ) (h : History) → ActiveKeeps M.meaning M.active_keeps self.instance w shared.old group.old h
             → IdleKeeps M.meaning M.idle_keeps result.instance w shared.new h }
     {
-        let Active { mut instance } = self;
-        let kind = instance.kind;
-        group.lend(
-            &Deactivate { kind },
-            &instance.table,
-            &mut instance.own,
-            shared,
-            &mut (),
-        );
-        Idle { instance }
+        let mut active = self;
+        active.deactivate(shared, group);
+        active.idled()
     }
 
     /// Takes out the piece of record `k`, to be moved: [`moved`](Active::moved) has to follow.

@@ -59,6 +59,36 @@ impl<M: Ialg> Idle<M> {
         }
     }
 
+    /// Prepares the scratch records, which are lent to the instance from now on: [`woken`](Idle::woken) has to follow.
+    pub fn activate(&mut self, shared: &mut Pieces, group: &mut Group)
+        requires fits { Fits self.old.instance.table self.old.instance.own shared.old group.old }
+        ensures same { SameInstance self.old.instance self.new.instance }
+        ensures shared { SamePieces shared.old shared.new }
+        ensures once { SameOnce self.old.instance.table shared.old shared.new }
+        ensures group { SameGroup group.old group.new }
+        ensures fits { Fits self.new.instance.table self.new.instance.own shared.new group.new }
+        ensures keeps { (w : Option ℤ) (h : History) → BlocksArePoison w group.old
+            → IdleKeeps M.meaning M.idle_keeps self.old.instance w shared.old h
+            → ActiveKeeps M.meaning M.active_keeps self.new.instance w shared.new group.new h }
+    {
+        let kind = self.instance.kind;
+        group.lend(
+            &Activate { kind },
+            &self.instance.table,
+            &mut self.instance.own,
+            shared,
+            &mut (),
+        );
+    }
+
+    /// The instance as an active one, once it is [activated](Idle::activate).
+    pub fn woken(self) -> Active<M>
+        ensures { result.instance ≡ self.instance }
+    {
+        let Idle { instance } = self;
+        Active { instance }
+    }
+
     /// Activates the instance: its scratch records are lent to it from now on.
     pub fn wake(self, shared: &mut Pieces, group: &mut Group) -> Active<M>
         requires fits { Fits self.instance.table self.instance.own shared.old group.old }
@@ -71,16 +101,9 @@ impl<M: Ialg> Idle<M> {
             → IdleKeeps M.meaning M.idle_keeps self.instance w shared.old h
             → ActiveKeeps M.meaning M.active_keeps result.instance w shared.new group.new h }
     {
-        let Idle { mut instance } = self;
-        let kind = instance.kind;
-        group.lend(
-            &Activate { kind },
-            &instance.table,
-            &mut instance.own,
-            shared,
-            &mut (),
-        );
-        Active { instance }
+        let mut idle = self;
+        idle.activate(shared, group);
+        idle.woken()
     }
 
     /// Whether the instance takes the control.

@@ -1,4 +1,6 @@
-use Rattle.std.proofs.Common.{◌≡◌, ℕ, ◌∙◌, ap}
+use Rattle.std.proofs.Common.{◌≡◌, ◌<◌, ℕ, length, ◌∙◌, ap, arith}
+use Rattle.instance_table.proofs.Changes.{slot_in}
+use Rattle.instance_table.proofs.Held.{homes_of_held}
 use Rattle.host_spaces.specs.Creation.{handed_on, twin_at}
 use Rattle.instance_table.specs.Holders.{next_holder}
 use Rattle.host_spaces.specs.Picture.{is_instance's, picture_of, renamed, without_owners}
@@ -6,6 +8,15 @@ use Rattle.std.specs.Prelude.{Option}
 use Rattle.ended_instances.proofs.Ended.{handed_same, stay_then}
 use Rattle.ended_instances.proofs.Records.{Going, member_of, records_back, pieces_back, stand_beside, same_beside}
 use Rattle.ended_instances.proofs.leaving.give_records.Goals as goal
+
+pub next_holders-next-requires-clause-number : goal.next_holders-next-requires-clause-number
+next_holders-next-requires-clause-number g c =
+    let its = member_of c.args.slots.now.items c.args.i c.requires.living in
+    let inside : c.args.i < length c.args.slots.now.items = slot_in c.args.slots.now.items c.args.i its.0 its.1 in
+    omega (arith, inside, c.requires.ok.slot_count)
+
+pub next_holders-next-requires-clause-held : goal.next_holders-next-requires-clause-held
+next_holders-next-requires-clause-held g c k j = homes_of_held _ _ c.requires.ok.held j k c.args.i
 
 pub take_out_records-requires-clause-pieces : goal.take_out_records-requires-clause-pieces
 take_out_records-requires-clause-pieces g c =

@@ -16,3 +16,15 @@ each once i a b c d first second third fourth (suc (suc (suc (suc k)))) = sym (n
 pub returns : goal.returns
 returns c =
     each c.args.once.now.items c.args.i c.next_holder.result c.next_holder-2.result c.next_holder-3.result c.next_holder-4.result c.next_holder.ensures c.next_holder-2.ensures c.next_holder-3.ensures c.next_holder-4.ensures
+
+pub next_holder-requires-clause-held : goal.next_holder-requires-clause-held
+next_holder-requires-clause-held c = c.requires.held 0
+
+pub next_holder-requires-2-clause-held : goal.next_holder-requires-2-clause-held
+next_holder-requires-2-clause-held c = c.requires.held 1
+
+pub next_holder-requires-3-clause-held : goal.next_holder-requires-3-clause-held
+next_holder-requires-3-clause-held c = c.requires.held 2
+
+pub next_holder-requires-4-clause-held : goal.next_holder-requires-4-clause-held
+next_holder-requires-4-clause-held c = c.requires.held 3

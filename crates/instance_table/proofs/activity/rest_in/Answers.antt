@@ -5,7 +5,7 @@ use Rattle.instance_table.proofs.activity.rest_in.Goals as goal
 
 pub returns-in-Some-clause-blocks : goal.returns-in-Some-clause-blocks
 returns-in-Some-clause-blocks g c space =
-    let rested = same_blocks _ _ c.rest-idle.ensures.group space in
+    let rested = same_blocks _ _ c.deactivate.ensures.group space in
     rw (c.fill.ensures.blocks space, c.set_active.ensures.blocks space) (same_filled _ _ _ rested)
 
 pub returns-in-Some-clause-poisoned : goal.returns-in-Some-clause-poisoned
@@ -15,4 +15,4 @@ returns-in-Some-clause-poisoned g c =
 
 pub returns-in_default-clause-blocks : goal.returns-in_default-clause-blocks
 returns-in_default-clause-blocks g c space =
-    rw (c.set_active.ensures.blocks space) (same_blocks _ _ c.rest-idle.ensures.group space)
+    rw (c.set_active.ensures.blocks space) (same_blocks _ _ c.deactivate.ensures.group space)

@@ -3,10 +3,10 @@ use Rattle.instance_table.proofs.activity.wake_in.Goals as goal
 
 pub returns-clause-blocks : goal.returns-clause-blocks
 returns-clause-blocks g c space =
-    rw (c.set_active.ensures.blocks space) (same_blocks _ _ c.wake-active.ensures.group space)
+    rw (c.set_active.ensures.blocks space) (same_blocks _ _ c.activate.ensures.group space)
 
 pub returns-clause-keeps : goal.returns-clause-keeps
 returns-clause-keeps g c w h poison before lawful =
-    let s = c.wake-active.result.instance in
-    rw (active_words_at s.table s.own c.wake-active.new.shared c.wake-active.new.group c.set_active.new.self c.set_active.ensures.blocks)
-    (c.wake-active.ensures.keeps w h poison before lawful)
+    let s = c.activate.new.self.instance in
+    rw (active_words_at s.table s.own c.activate.new.shared c.activate.new.group c.set_active.new.self c.set_active.ensures.blocks)
+    (c.activate.ensures.keeps w h poison before lawful)

@@ -1,25 +1,25 @@
 use Rattle.std.proofs.Common.{sym, ◌∙◌, arith}
 use Rattle.instance_table.specs.Holders.{left_with}
 use Rattle.instance_table.proofs.Stands.{four_pieces}
-use Rattle.instance_table.proofs.Handing.{never_own, HandsOn, left1, left2, left3, all_handed, all_gone, once_handed}
+use Rattle.instance_table.proofs.Handing.{held_column, HandsOn, left1, left2, left3, all_handed, all_gone, once_handed}
 use Rattle.instance_table.proofs.holders.hand_on.Goals as goal
 
-pub hand_record-requires-clause-apart : goal.hand_record-requires-clause-apart
-hand_record-requires-clause-apart c = never_own c.args.once.now.items c.args.i 0 c.requires.homes
+pub hand_record-requires-clause-held : goal.hand_record-requires-clause-held
+hand_record-requires-clause-held c j = c.requires.homes j 0 c.args.i
 
-pub hand_record-requires-2-clause-apart : goal.hand_record-requires-2-clause-apart
-hand_record-requires-2-clause-apart c is =
-    never_own c.args.once.now.items c.args.i 1 c.requires.homes (sym (c.hand_record.ensures.beside c.args.i 1 (omega arith)) ∙ is)
+pub hand_record-requires-2-clause-held : goal.hand_record-requires-2-clause-held
+hand_record-requires-2-clause-held c =
+    held_column c.args.once.now.items c.hand_record.new.once.items c.args.i 1 (λ j. c.hand_record.ensures.beside j 1 (omega arith)) (λ j. c.requires.homes j 1 c.args.i)
 
-pub hand_record-requires-3-clause-apart : goal.hand_record-requires-3-clause-apart
-hand_record-requires-3-clause-apart c is =
-    never_own c.args.once.now.items c.args.i 2 c.requires.homes
-    (sym (c.hand_record-2.ensures.beside c.args.i 2 (omega arith) ∙ c.hand_record.ensures.beside c.args.i 2 (omega arith)) ∙ is)
+pub hand_record-requires-3-clause-held : goal.hand_record-requires-3-clause-held
+hand_record-requires-3-clause-held c =
+    held_column c.args.once.now.items c.hand_record-2.new.once.items c.args.i 2
+    (λ j. c.hand_record-2.ensures.beside j 2 (omega arith) ∙ c.hand_record.ensures.beside j 2 (omega arith)) (λ j. c.requires.homes j 2 c.args.i)
 
-pub hand_record-requires-4-clause-apart : goal.hand_record-requires-4-clause-apart
-hand_record-requires-4-clause-apart c is =
-    never_own c.args.once.now.items c.args.i 3 c.requires.homes
-    (sym (c.hand_record-3.ensures.beside c.args.i 3 (omega arith) ∙ c.hand_record-2.ensures.beside c.args.i 3 (omega arith) ∙ c.hand_record.ensures.beside c.args.i 3 (omega arith)) ∙ is)
+pub hand_record-requires-4-clause-held : goal.hand_record-requires-4-clause-held
+hand_record-requires-4-clause-held c =
+    held_column c.args.once.now.items c.hand_record-3.new.once.items c.args.i 3
+    (λ j. c.hand_record-3.ensures.beside j 3 (omega arith) ∙ c.hand_record-2.ensures.beside j 3 (omega arith) ∙ c.hand_record.ensures.beside j 3 (omega arith)) (λ j. c.requires.homes j 3 c.args.i)
 
 pub returns : goal.returns
 returns c =

@@ -3,7 +3,7 @@ use Rattle.instance_table.specs.declared.shelves.Stand.TheVariants.{Here}
 use Rattle.instance_table.specs.Shelves.{piece_here}
 use Rattle.instance_table.specs.Holders.{next_holder}
 use Rattle.instance_table.proofs.Homes.{replaced_here, replaced_there, replaced_beside}
-use Rattle.instance_table.proofs.Handing.{next_is, with_inside, next_points, handed_next, handed_none}
+use Rattle.instance_table.proofs.Handing.{held_apart, next_is, with_inside, next_points, handed_next, handed_none}
 use Rattle.instance_table.proofs.holders.hand_record.Goals as goal
 
 pub put_stand-requires-clause-number : goal.put_stand-requires-clause-number
@@ -19,7 +19,7 @@ put_stand-requires-clause-none c =
     let left = c.replace_stand-stand.new.once.items in
     let there = replaced_there old left c.args.i c.args.k (Here None) c.replace_stand-stand.ensures.new in
     let here = replaced_here old left c.args.i c.args.k (Here None) c.replace_stand-stand.ensures.new (omega (arith, c.requires.number, c.requires.count)) (omega (arith, c.requires.record)) in
-    ap piece_here (next_points old left c.point_all.new.once.items c.point_all.new.once.items c.args.i c.args.k c.in-Some.next next c.requires.apart there here c.point_all.ensures.pointed)
+    ap piece_here (next_points old left c.point_all.new.once.items c.point_all.new.once.items c.args.i c.args.k c.in-Some.next next (held_apart c.args.once.now.items c.args.i c.args.k c.requires.held) there here c.point_all.ensures.pointed)
 
 pub returns-in-Some-clause-handed : goal.returns-in-Some-clause-handed
 returns-in-Some-clause-handed c =
@@ -32,7 +32,7 @@ returns-in-Some-clause-handed c =
     let here = replaced_here old left c.args.i c.args.k (Here None) c.replace_stand-stand.ensures.new (omega (arith, c.requires.number, c.requires.count)) (omega (arith, c.requires.record)) in
     let least = with_inside old c.in-Some.next c.args.k c.args.i (next_is old c.args.i c.args.k c.in-Some.next next) in
     let inside : c.in-Some.next < length others = omega (arith, least, c.requires.count, c.point_all.ensures.count) in
-    handed_next old left others new c.args.i c.args.k c.in-Some.next next c.requires.apart there here c.point_all.ensures.pointed
+    handed_next old left others new c.args.i c.args.k c.in-Some.next next (held_apart c.args.once.now.items c.args.i c.args.k c.requires.held) there here c.point_all.ensures.pointed
     (replaced_there others new c.in-Some.next c.args.k c.replace_stand-stand.result c.put_stand.ensures)
     (replaced_here others new c.in-Some.next c.args.k c.replace_stand-stand.result c.put_stand.ensures inside (omega (arith, c.requires.record)) ∙ c.replace_stand-stand.ensures.old)
 

@@ -1,0 +1,18 @@
+use Rattle.lifecycle.proofs.Frames.{fits_stay}
+use Rattle.lifecycle.proofs.Keeps.{woken}
+use Rattle.lifecycle.proofs.Once.{once_active}
+use Rattle.lifecycle.proofs.idle.Idle.activate.Goals as goal
+
+pub lend-requires-clause-sizes : goal.lend-requires-clause-sizes
+lend-requires-clause-sizes g c = c.requires.fits.lent.sizes
+
+pub returns-clause-fits : goal.returns-clause-fits
+returns-clause-fits g c = fits_stay _ _ _ _ _ _ _ c.lend.ensures.own c.lend.ensures.shared c.lend.ensures.group c.requires.fits
+
+pub returns-clause-keeps : goal.returns-clause-keeps
+returns-clause-keeps g c w h poison keeps lawful =
+    woken g.M.Ialg.meaning g.M.Ialg.idle_keeps g.M.Ialg.active_keeps c.args.self.now.instance.kind c.args.self.now.instance.table c.args.self.now.instance.own c.lend.new.own c.args.shared.now c.lend.new.shared c.args.group.now c.lend.new.self
+    c.requires.fits c.lend.ensures.done.1 c.args.self.now.instance.params.items w h lawful poison (keeps lawful)
+
+pub returns-clause-once : goal.returns-clause-once
+returns-clause-once g c = once_active c.args.self.now.instance.table c.args.self.now.instance.own c.lend.new.own c.args.shared.now c.lend.new.shared c.args.group.now c.lend.new.self c.lend.ensures.done.0
