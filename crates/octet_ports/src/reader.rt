@@ -1,10 +1,10 @@
 //! The lines of a script, which is read ahead.
-ghost use Rattle.std.specs.Prelude.{◌≡◌, ◌+◌, ◌<◌, ◌≤◌, ◌==◌, true, false, [], ◌∷◌, length, Ok, None, All, IfOk, IfErr, IfSome, IsOk};
+ghost use Rattle.std.specs.Prelude.{MatchOption, ◌≡◌, ◌+◌, ◌<◌, ◌≤◌, ◌==◌, true, false, [], ◌∷◌, length, Ok, None, All, IfOk, IfErr, IfSome, IsOk};
 ghost use Rattle.std.specs.Result.{is_err};
 ghost use Rattle.octet_ports.specs.Ports.{Gives};
 ghost use Rattle.octet_ports.specs.Lines.{IsNoFeed, LineCame, LineFails, behind};
 ghost use Rattle.octet_ports.specs.declared.reader.TheConstants.{BUFFER_OCTETS};
-ghost use Rattle.octet_ports.specs.Readers.{OctetCame, EndCame, IsRefused};
+ghost use Rattle.octet_ports.specs.Readers.{BeginsWith, LineTaken, OctetCame, EndCame, IsRefused};
 
 use crate::LINE_FEED;
 use crate::port::PortIn;
@@ -74,6 +74,53 @@ impl LineReader {
     /// where no line feed is ahead, and for no octet past the limit but one that tells that there are more. No more than
     /// [`BUFFER_OCTETS`] are ahead then.
     pub fn read_line<S: PortIn, const MOST: usize>(
+        &mut self,
+        script: &mut S,
+        text: &mut ArrayVec<u8, MOST>,
+    ) -> Result<ReadLine, LineFault>
+        requires ready { (S.source script.old).failed ≡ false }
+        requires empty { text.old.items ≡ [] }
+        ensures ok { IfOk result (λ line. LineCame MOST text.new.items line.long line.last self.old.left self.new.left
+            (behind self.old.octets (S.source script.old)) (behind self.new.octets (S.source script.new))) }
+        ensures last { IfOk result (λ line. line.last ≡ true → self.new.octets ≡ []) }
+        ensures err { IfErr result (λ e. LineFails e self.old.left (behind self.old.octets (S.source script.old)) (S.source script.new)) }
+        ensures gone { is_err result ≡ true → self.new.octets ≡ [] }
+        ensures within { length self.new.octets ≤ self.new.left }
+        ensures few { length self.new.octets ≤ BUFFER_OCTETS }
+        ensures waits { (¬ All IsNoFeed self.old.octets) → script.new ≡ script.old }
+        ensures ready { IsOk result → (S.source script.new).failed ≡ false }
+    {
+        if self.take_line(text) {
+            return Ok(ReadLine {
+                long: false,
+                last: false,
+            });
+        }
+        self.read_octets_of_line(script, text)
+    }
+
+    /// Takes the line whose line feed is ahead, if it is ahead and the text has room for the line: most lines are read so.
+    fn take_line<const MOST: usize>(&mut self, text: &mut ArrayVec<u8, MOST>) -> bool
+        requires empty { text.old.items ≡ [] }
+        ensures taken { result ≡ true → LineTaken MOST text.new.items self.old self.new }
+        ensures nothing { result ≡ false → (self.new ≡ self.old) × (text.new ≡ text.old) }
+        ensures within { length self.new.octets ≤ self.new.left }
+        ensures few { length self.new.octets ≤ BUFFER_OCTETS }
+    {
+        let Some(line) = first_line(&self.buffer[self.at..self.end]) else {
+            return false;
+        };
+        let count = line.len() + 1;
+        if text.try_extend_from_slice(line).is_err() {
+            return false;
+        }
+        self.at += count;
+        self.left -= count as u32;
+        true
+    }
+
+    /// Reads a line as [`read_line`](Self::read_line) does, an octet at a time.
+    fn read_octets_of_line<S: PortIn, const MOST: usize>(
         &mut self,
         script: &mut S,
         text: &mut ArrayVec<u8, MOST>,
@@ -175,4 +222,16 @@ impl LineReader {
             }
         }
     }
+}
+
+/// What stands before the first line feed of these octets.
+fn first_line(octets: &[u8]) -> Option<&[u8]>
+    ensures { MatchOption result (All IsNoFeed octets.now) (λ line. BeginsWith line.now octets.now) }
+{
+    for (end, octet) in octets.iter().enumerate() {
+        if *octet == LINE_FEED {
+            return Some(&octets[..end]);
+        }
+    }
+    None
 }

@@ -186,7 +186,10 @@ fn command_of<'a, M: Named + Copy>(
 ) -> Result<Command<'a, M>, Refusal>
     ensures { row_of result ≡ command_of M.named name.now (to_come words.entry) }
 {
-    if name == b"create".as_slice() {
+    // most lines are feeds
+    if name == b"feed".as_slice() {
+        feed_row(words)
+    } else if name == b"create".as_slice() {
         create_row(words, room)
     } else if name == b"control".as_slice() {
         control_row(words, room)
@@ -200,8 +203,6 @@ fn command_of<'a, M: Named + Copy>(
         Ok(Command::Unchain {
             channel: words.only_number()?,
         })
-    } else if name == b"feed".as_slice() {
-        feed_row(words)
     } else if name == b"compact".as_slice() {
         Ok(Command::Compact {
             space: words.only_space()?,
