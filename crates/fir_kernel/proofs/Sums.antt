@@ -133,15 +133,3 @@ module _ (c x : ℕ → ℤ) (l : ℕ) where
       let fits : FitsSigned w32 (product_sum c x n) = fits_signed_from_abs w32 (product_sum c x n) (omega arith) in
       let plain : s ≡ product_sum c x n = e ∙ int_wrap_fits w32 (product_sum c x n) fits in
       ap (λ z. l_add_of z z) plain ∙ doubled (product_sum c x n) small ∙ sym (l_mac_sum_plain n quiet bound)
-
--- one tap more, and two
-pub one_more : (c x : ℕ → ℤ) (n k m : ℕ) (s r : ℤ) → s ≡ l_mac_sum c x n → r ≡ l_mac_of s (c k) (x k) → k ≡ n → m ≡ n + 1 → r ≡ l_mac_sum c x m
-one_more c x n k m s r before step here more =
-    let next : m ≡ suc n = omega arith in
-    step ∙ rw (here, next) (ap (λ (v : ℤ). l_mac_of v (c n) (x n)) before)
-
-pub two_more : (c x : ℕ → ℤ) (n k m : ℕ) (s r : ℤ) → s ≡ l_mac_sum c x n → r ≡ l_mac_of (l_mac_of s (c n) (x n)) (c k) (x k) → k ≡ n + 1 → m ≡ n + 2 → r ≡ l_mac_sum c x m
-two_more c x n k m s r before step here more =
-    let one : k ≡ suc n = omega arith in
-    let next : m ≡ suc (suc n) = omega arith in
-    step ∙ rw (one, next) (ap (λ (v : ℤ). l_mac_of (l_mac_of v (c n) (x n)) (c (suc n)) (x (suc n))) before)

@@ -106,7 +106,7 @@ fn sum_outputs<const N: usize>(
 
 /// The sums of neighbouring outputs, that at sample `first` first. Taps are outside and outputs inside: each sum
 /// takes its products in the filter's order and saturates after each, while the sums of a block run side by side in
-/// vector registers. Two taps are taken at a time, so that a sum is read and written once for both.
+/// vector registers.
 fn sum_products(coefficients: &[i16], line: &[i16], first: usize, sums: &mut [Sum])
     requires some { 1 ≤ length coefficients.now }
     requires reach { first + length coefficients.now + length sums.old ≤ length line.now + 1 }
@@ -114,67 +114,9 @@ fn sum_products(coefficients: &[i16], line: &[i16], first: usize, sums: &mut [Su
         (λ k. word_at line.now (length coefficients.now - 1 + (first + i) - k)) (length coefficients.now) }
 {
     sums.fill(0);
-    let taps = coefficients.len();
-    for pair in 0..taps / 2 {
-        add_pair(coefficients, line, first, 2 * pair, sums);
-    }
-    if taps % 2 == 1 {
-        add_tap(coefficients, line, first, taps - 1, sums);
-    }
-}
-
-/// Adds the products of tap `k` to the sums of neighbouring outputs, that at sample `first` first.
-fn add_tap(coefficients: &[i16], line: &[i16], first: usize, k: usize, sums: &mut [Sum])
-    requires tap { k < length coefficients.now }
-    requires reach { first + length coefficients.now + length sums.old ≤ length line.now + 1 }
-    ensures { (i : ℕ) → i < length sums.old → word_at sums.new i
-        ≡ l_mac_of (word_at sums.old i) (word_at coefficients.now k) (word_at line.now (length coefficients.now - 1 + (first + i) - k)) }
-{
-    let oldest = first + (coefficients.len() - 1 - k);
-    add_products(coefficients[k], &line[oldest..oldest + sums.len()], sums);
-}
-
-/// Adds the products of the taps `k` and `k + 1` to the sums of neighbouring outputs, that at sample `first` first.
-fn add_pair(coefficients: &[i16], line: &[i16], first: usize, k: usize, sums: &mut [Sum])
-    requires taps { k + 2 ≤ length coefficients.now }
-    requires reach { first + length coefficients.now + length sums.old ≤ length line.now + 1 }
-    ensures { (i : ℕ) → i < length sums.old → word_at sums.new i
-        ≡ l_mac_of (l_mac_of (word_at sums.old i) (word_at coefficients.now k) (word_at line.now (length coefficients.now - 1 + (first + i) - k)))
-        (word_at coefficients.now (k + 1)) (word_at line.now (length coefficients.now - 1 + (first + i) - (k + 1))) }
-{
-    let oldest = first + (coefficients.len() - 2 - k);
-    let newer = &line[oldest + 1..oldest + 1 + sums.len()];
-    let older = &line[oldest..oldest + sums.len()];
-    add_two_products(coefficients[k], coefficients[k + 1], newer, older, sums);
-}
-
-/// Adds the products of two coefficients, each with its sample, to each sum, one after the other.
-fn add_two_products(one: i16, other: i16, newer: &[i16], older: &[i16], sums: &mut [Sum])
-    requires newer { length newer.now ≡ length sums.old }
-    requires older { length older.now ≡ length sums.old }
-    ensures { (i : ℕ) → i < length sums.old → word_at sums.new i
-        ≡ l_mac_of (l_mac_of (word_at sums.old i) one (word_at newer.now i)) other (word_at older.now i) }
-{
-    if one == i16::MIN || other == i16::MIN {
-        add_products(one, newer, sums);
-        add_products(other, older, sums);
-    } else {
-        add_two_doubled(one, other, newer, older, sums);
-    }
-}
-
-/// Adds the products of two coefficients, each with its sample, to each sum, where no product saturates.
-fn add_two_doubled(one: i16, other: i16, newer: &[i16], older: &[i16], sums: &mut [Sum])
-    requires newer { length newer.now ≡ length sums.old }
-    requires older { length older.now ≡ length sums.old }
-    requires one { unsigned_abs one ≤ 32767 }
-    requires other { unsigned_abs other ≤ 32767 }
-    ensures { (i : ℕ) → i < length sums.old → word_at sums.new i
-        ≡ l_mac_of (l_mac_of (word_at sums.old i) one (word_at newer.now i)) other (word_at older.now i) }
-{
-    for (i, sum) in sums.iter_mut().enumerate() {
-        let half = l_add(*sum, doubled(one, newer[i]));
-        *sum = l_add(half, doubled(other, older[i]));
+    for (k, coefficient) in coefficients.iter().enumerate() {
+        let oldest = first + (coefficients.len() - 1 - k);
+        add_products(*coefficient, &line[oldest..oldest + sums.len()], sums);
     }
 }
 
