@@ -1,9 +1,14 @@
--- For private clauses alone: which records a call may write over.
-use Rattle.std.specs.Prelude.{ℕ}
-use Rattle.ialg.specs.Loans.{WritableAt}
-use Rattle.ialg.specs.Records.{record_at}
+-- For private clauses alone: which records a call may write over, and what a babbler counts.
+use Rattle.std.specs.Prelude.{ℕ, ℤ}
+use Rattle.ialg.specs.History.{word_at}
+use Rattle.ialg.specs.Loans.{WritableAt, lent_words}
+use Rattle.ialg.specs.Records.{record_at, words_of}
 use Rattle.ialg.specs.declared.memory.Lent.{Lent}
 
 -- record k is lent, and may be written
 abbrev pub MayBeWritten : Lent → ℕ → Type 0
 MayBeWritten m k = WritableAt m (record_at m.table.now k).space (record_at m.table.now k).base k
+
+-- the first kept word
+abbrev pub block_count : Lent → ℤ
+block_count m = word_at (words_of (lent_words m) 1) 0
