@@ -4,6 +4,7 @@ ghost use Rattle.lifecycle.specs.declared.instance.Inst.TheVariants.{Idling, Run
 ghost use Rattle.instance_table.specs.declared.member.Member.{Member};
 ghost use Rattle.instance_table.specs.Table.{slot_at, no_pieces, group_of, slot_active_in, instance_of};
 
+use core::mem::replace_with;
 use ialg::Ialg;
 use lifecycle::Inst;
 use record_loans::Pieces;
@@ -56,45 +57,54 @@ pub(crate) fn put_in<M: Ialg>(slots: &mut Vec<Option<Member<M>>>, i: u8, member:
     }
 }
 
-/// Lets the active instance of a slot stand in it as an idle one.
+/// A slot with its instance as an idle one.
+fn as_idle<M: Ialg>(slot: Option<Member<M>>, _nothing: ()) -> (Option<Member<M>>, ())
+    ensures { (m : Member M) → slot ≡ Some m
+        → result.0 ≡ Some (record m { inst = Idling (record { instance = instance_of m.inst }) }) }
+{
+    let Some(Member { group, inst }) = slot else {
+        return (None, ());
+    };
+    let idle = match inst {
+        Inst::Running(active) => active.idled(),
+        Inst::Idling(idle) => idle,
+    };
+    let inst = Inst::Idling(idle);
+    (Some(Member { group, inst }), ())
+}
+
+/// A slot with its instance as an active one.
+fn as_active<M: Ialg>(slot: Option<Member<M>>, _nothing: ()) -> (Option<Member<M>>, ())
+    ensures { (m : Member M) → slot ≡ Some m
+        → result.0 ≡ Some (record m { inst = Running (record { instance = instance_of m.inst }) }) }
+{
+    let Some(Member { group, inst }) = slot else {
+        return (None, ());
+    };
+    let active = match inst {
+        Inst::Idling(idle) => idle.woken(),
+        Inst::Running(active) => active,
+    };
+    let inst = Inst::Running(active);
+    (Some(Member { group, inst }), ())
+}
+
+/// Lets the instance of a slot stand in it as an idle one. It changes in its place, so that its own words are not copied.
 pub(crate) fn make_idle<M: Ialg>(slots: &mut Vec<Option<Member<M>>>, i: u8)
-    requires { IsSome (slot_active_in (slot_at slots.old.items i)) }
+    requires { IsSome (slot_at slots.old.items i) }
     ensures { (m : Member M) → slot_at slots.old.items i ≡ Some m
         → slots.new.items ≡ slice_set slots.old.items i (Some (record m { inst = Idling (record { instance = instance_of m.inst }) })) }
 {
-    let Member { group, inst } = take_out(slots, i);
-    match inst {
-        Inst::Running(active) => put_in(
-            slots,
-            i,
-            Member {
-                group,
-                inst: Inst::Idling(active.idled()),
-            },
-        ),
-        Inst::Idling(_idle) => unreachable!(),
-    }
+    replace_with(&mut slots[i as usize], (), as_idle);
 }
 
-/// Lets the idle instance of a slot stand in it as an active one.
+/// Lets the instance of a slot stand in it as an active one, where it stands.
 pub(crate) fn make_active<M: Ialg>(slots: &mut Vec<Option<Member<M>>>, i: u8)
-    requires living { IsSome (slot_at slots.old.items i) }
-    requires idle { slot_active_in (slot_at slots.old.items i) ≡ None }
+    requires { IsSome (slot_at slots.old.items i) }
     ensures { (m : Member M) → slot_at slots.old.items i ≡ Some m
         → slots.new.items ≡ slice_set slots.old.items i (Some (record m { inst = Running (record { instance = instance_of m.inst }) })) }
 {
-    let Member { group, inst } = take_out(slots, i);
-    match inst {
-        Inst::Idling(idle) => put_in(
-            slots,
-            i,
-            Member {
-                group,
-                inst: Inst::Running(idle.woken()),
-            },
-        ),
-        Inst::Running(_active) => unreachable!(),
-    }
+    replace_with(&mut slots[i as usize], (), as_active);
 }
 
 /// The group of an idle instance, or None where the instance is active.

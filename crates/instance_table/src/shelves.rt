@@ -143,7 +143,7 @@ pub(crate) fn replace_stand(once: &mut Vec<Shelf>, i: usize, k: usize, stand: St
     once[i].replace(k, stand)
 }
 
-/// Takes the piece that an instance sees for record `k`.
+/// Takes the piece that an instance sees for record `k`. Most of its records have none.
 fn take_record(once: &mut Vec<Shelf>, i: usize, k: usize) -> Option<Piece>
     requires number { i < length once.old.items }
     requires record { k < TABLE_RECORDS }
@@ -151,6 +151,9 @@ fn take_record(once: &mut Vec<Shelf>, i: usize, k: usize) -> Option<Piece>
     ensures piece { result ≡ piece_seen once.old.items i k }
     ensures left { once.new.items ≡ put_piece once.old.items i k None }
 {
+    if once[i].stand(k).is_nothing() {
+        return None;
+    }
     let at = home(once, i, k);
     replace_stand(once, at, k, Stand::Here(None)).piece()
 }
@@ -163,8 +166,11 @@ fn put_record(once: &mut Vec<Shelf>, i: usize, k: usize, piece: Option<Piece>)
     requires none { piece_seen once.old.items i k ≡ None }
     ensures { once.new.items ≡ put_piece once.old.items i k piece }
 {
+    let Some(piece) = piece else {
+        return;
+    };
     let at = home(once, i, k);
-    end_none(replace_stand(once, at, k, Stand::Here(piece)).piece());
+    end_none(replace_stand(once, at, k, Stand::Here(Some(piece))).piece());
 }
 
 /// Takes the pieces of an instance's write-once records, each from its home.
