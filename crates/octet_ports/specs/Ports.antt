@@ -1,5 +1,5 @@
 -- What is known of ports.
-use Rattle.std.specs.Prelude.{◌≡◌, ℕ, ◌-◌, ◌≤◌, Bool, true, List, [], ◌++◌, length, take, Option, Some, None, is_some, unwrap_or, if◌then◌else◌}
+use Rattle.std.specs.Prelude.{◌≡◌, ℕ, ◌-◌, ◌<◌, ◌≤◌, Bool, true, List, [], ◌++◌, length, take, Option, Some, None, is_some, unwrap_or, if◌then◌else◌}
 
 -- an input: whether it is honest, the octets still to come, and whether it has failed
 pub record Source : Type 0 where
@@ -72,3 +72,9 @@ pub record GivesWithin (most : ℕ) (old new : Source) : Type 0 where
   pub octets : List ℕ
   pub few : length octets ≤ most
   pub gives : Gives octets old new
+
+-- an honest input ended before so many octets came
+pub record EndsWithin (count : ℕ) (old new : Source) : Type 0 where
+  pub stays : old.honest ≡ true → new.honest ≡ true
+  pub few : old.honest ≡ true → length old.coming < count
+  pub at_end : IsAtEnd new

@@ -1,10 +1,9 @@
-//! Ports: what octets come from and go to, and whole buffers and lines through them.
+//! Ports: what octets come from and go to, and whole buffers through them.
 #![tactic(auto)]
 
 mod device;
 mod octets;
 mod port;
-mod reader;
 mod tape;
 #[cfg(test)]
 mod tests;
@@ -12,7 +11,6 @@ mod tests;
 pub use device::{Reading, Writing};
 pub use octets::{read_octets, write_octets};
 pub use port::{PortFault, PortIn, PortOut};
-pub use reader::{BUFFER_OCTETS, LineFault, LineReader, ReadLine};
 pub use tape::{TAPE_OCTETS, TapeIn, TapeOut};
 
 /// The octet that ends a line.

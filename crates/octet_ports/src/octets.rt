@@ -1,8 +1,7 @@
 //! Whole buffers through ports.
 ghost use Rattle.std.specs.Prelude.{◌≡◌, true, false, length, IsOk};
 ghost use Rattle.std.specs.Result.{is_err};
-ghost use Rattle.octet_ports.specs.Ports.{Gives, GivesWithin, Takes, TakesFirst};
-ghost use Rattle.octet_ports.specs.Lines.{EndsWithin};
+ghost use Rattle.octet_ports.specs.Ports.{Gives, GivesWithin, EndsWithin, Takes, TakesFirst};
 
 use crate::port::{PortFault, PortIn, PortOut};
 

@@ -4,7 +4,7 @@ use Rattle.std.proofs.lemmas.List.{map-set, get_or-map}
 use Rattle.std.proofs.lemmas.List.Elements.{All-set, All-get_or}
 use Rattle.std.proofs.lemmas.Grind.{common_steps}
 use Rattle.octet_ports.specs.Ports.{Source, Sink, Gives, Takes, TakesFirst}
-use Rattle.octet_ports.specs.Lines.{EndsWithin}
+use Rattle.octet_ports.specs.Ports.{EndsWithin}
 use Rattle.line_machine.specs.Served.{Machine, FeedAnswer, replies, gives, short_text, refusals}
 use Rattle.script_server.specs.Runs.{StepsAt, IsHonest, no_source, no_sink, run_of}
 use Rattle.script_server.specs.LineRuns.{IsServed, IsCut}

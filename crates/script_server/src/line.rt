@@ -1,8 +1,8 @@
 //! Serves one line.
 ghost use Rattle.std.specs.Prelude.{◌≡◌, ◌<◌, ◌≤◌, ◌⊎◌, List, ℕ, [], true, false, map, length, Ok, All, Any, IfOk, IsOk, IsErrOf};
 ghost use Rattle.std.specs.Result.{is_err};
-ghost use Rattle.octet_ports.specs.Ports.{Sink, Gives, Holds, Takes, TakesFirst, HasPassedAll};
-ghost use Rattle.octet_ports.specs.Lines.{IsLine, EndsWithin};
+ghost use Rattle.octet_ports.specs.Ports.{Sink, Gives, Holds, Takes, TakesFirst, HasPassedAll, EndsWithin};
+ghost use Rattle.line_reader.specs.Lines.{IsLine};
 ghost use Rattle.line_machine.specs.Asks.{IsReady};
 ghost use Rattle.line_machine.specs.Served.{FeedAnswer, LineAnswer};
 ghost use Rattle.line_machine.specs.Widths.{octet_count};

@@ -1,7 +1,7 @@
 use Rattle.std.proofs.Common.{length, arith, ◌∙◌}
 use Rattle.std.proofs.lemmas.Grind.{common_steps}
 use Rattle.octet_ports.specs.Ports.{Gives}
-use Rattle.octet_ports.specs.Lines.{EndsWithin}
+use Rattle.octet_ports.specs.Ports.{EndsWithin}
 use Rattle.script_server.specs.Runs.{no_source, IsReadyIn, HasFailedIn, FailsWithin}
 use Rattle.script_server.proofs.Steps.{steps_at, all_after, any_after, ready_at}
 use Rattle.script_server.proofs.line.read_from.Goals as goal

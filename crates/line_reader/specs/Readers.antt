@@ -2,9 +2,9 @@
 use Rattle.std.specs.Prelude.{◌≡◌, ℕ, ◌+◌, ◌≤◌, ◌⊎◌, true, false, List, [], ◌∷◌, ◌++◌, length, All}
 use Rattle.octet_ports.specs.Ports.{Source, Gives, IsAtEnd}
 use Rattle.octet_ports.specs.declared.TheConstants.{LINE_FEED}
-use Rattle.octet_ports.specs.Lines.{Ahead, IsNoFeed, behind}
-use Rattle.octet_ports.specs.declared.reader.LineFault.{LineFault}
-use Rattle.octet_ports.specs.declared.reader.LineFault.TheVariants.{Port, Limit}
+use Rattle.line_reader.specs.Lines.{Ahead, IsNoFeed, behind}
+use Rattle.line_reader.specs.declared.reader.LineFault.{LineFault}
+use Rattle.line_reader.specs.declared.reader.LineFault.TheVariants.{Port, Limit}
 
 -- the octets begin with this line and its line feed
 pub record BeginsWith (line octets : List ℕ) : Type 0 where

@@ -1,5 +1,5 @@
-use Rattle.octet_ports.proofs.Ahead.{taken_came}
-use Rattle.octet_ports.proofs.reader.LineReader.read_line.Goals as goal
+use Rattle.line_reader.proofs.Ahead.{taken_came}
+use Rattle.line_reader.proofs.reader.LineReader.read_line.Goals as goal
 
 pub returns-then-take_line-clause-ok : goal.returns-then-take_line-clause-ok
 returns-then-take_line-clause-ok g c =

@@ -7,10 +7,10 @@ use Rattle.std.proofs.lemmas.List.Elements.{All-push}
 use Rattle.std.proofs.lemmas.Grind.{common_steps}
 use Rattle.std.proofs.lemmas.Bool.Decides.{nat_tests}
 use Rattle.octet_ports.specs.Ports.{Source, Gives, IsAtEnd}
-use Rattle.octet_ports.specs.Lines.{IsLine, IsNoFeed, LineCame, LineFails}
-use Rattle.octet_ports.specs.Readers.{RefusesFor}
-use Rattle.octet_ports.specs.declared.reader.LineFault.{LineFault}
-use Rattle.octet_ports.specs.declared.reader.LineFault.TheVariants.{Port, Limit}
+use Rattle.line_reader.specs.Lines.{IsLine, IsNoFeed, LineCame, LineFails}
+use Rattle.line_reader.specs.Readers.{RefusesFor}
+use Rattle.line_reader.specs.declared.reader.LineFault.{LineFault}
+use Rattle.line_reader.specs.declared.reader.LineFault.TheVariants.{Port, Limit}
 use Rattle.octet_ports.proofs.Ports.{gives_more}
 
 -- as much of a line as has come, of so many octets that may

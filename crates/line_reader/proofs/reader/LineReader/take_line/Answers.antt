@@ -1,6 +1,6 @@
 use Rattle.std.proofs.Common.{rules}
-use Rattle.octet_ports.proofs.Ahead.{line_taken}
-use Rattle.octet_ports.proofs.reader.LineReader.take_line.Goals as goal
+use Rattle.line_reader.proofs.Ahead.{line_taken}
+use Rattle.line_reader.proofs.reader.LineReader.take_line.Goals as goal
 
 pub returns-clause-taken : goal.returns-clause-taken
 returns-clause-taken g c e =

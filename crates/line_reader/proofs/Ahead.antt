@@ -8,8 +8,8 @@ use Rattle.std.proofs.lemmas.Grind.{common_steps, get_or_default_zero}
 use Rattle.std.proofs.lemmas.List.{append_assoc, drop-drop, drop-take, get_or-take, length-take, take-append-drop}
 use Rattle.std.proofs.Math.Seq.{drop-cons, drop-append-add}
 use Rattle.octet_ports.specs.Ports.{Source}
-use Rattle.octet_ports.specs.Lines.{Ahead, IsNoFeed, LineCame, ahead_of, behind}
-use Rattle.octet_ports.specs.Readers.{BeginsWith, LineTaken}
+use Rattle.line_reader.specs.Lines.{Ahead, IsNoFeed, LineCame, ahead_of, behind}
+use Rattle.line_reader.specs.Readers.{BeginsWith, LineTaken}
 
 pub some_where_feed : (xs : List ℕ) → (All IsNoFeed xs → ⊥) → 0 < length xs
 some_where_feed [] feed = absurd (feed (All-nil IsNoFeed))

@@ -1,8 +1,8 @@
 use Rattle.std.proofs.Common.{◌≡◌, false}
 use Rattle.std.specs.List.{All}
-use Rattle.octet_ports.specs.Lines.{IsNoFeed, behind}
-use Rattle.octet_ports.proofs.Lines.{LineSoFar}
-use Rattle.octet_ports.proofs.reader.LineReader.read_octets_of_line.Given as goal
+use Rattle.line_reader.specs.Lines.{IsNoFeed, behind}
+use Rattle.line_reader.proofs.Lines.{LineSoFar}
+use Rattle.line_reader.proofs.reader.LineReader.read_octets_of_line.Given as goal
 
 abbrev pub invariant-octets : goal.invariant-octets
 invariant-octets g l = record {

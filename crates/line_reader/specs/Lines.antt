@@ -1,10 +1,10 @@
--- What comes from an input: lines, and so many octets.
-use Rattle.std.specs.Prelude.{◌≡◌, ◌≢◌, ℕ, ◌+◌, ◌<◌, ◌≤◌, Bool, true, false, nat_lt, List, [], ◌∷◌, ◌++◌, length, take, drop, All}
+-- What comes from an input: its lines.
+use Rattle.std.specs.Prelude.{◌≡◌, ◌≢◌, ℕ, ◌+◌, ◌≤◌, Bool, true, false, nat_lt, List, [], ◌∷◌, ◌++◌, length, take, drop, All}
 use Rattle.octet_ports.specs.Ports.{Source, Gives, IsAtEnd}
 use Rattle.octet_ports.specs.declared.TheConstants.{LINE_FEED}
-use Rattle.octet_ports.specs.declared.reader.TheConstants.{BUFFER_OCTETS}
-use Rattle.octet_ports.specs.declared.reader.LineFault.{LineFault}
-use Rattle.octet_ports.specs.declared.reader.LineFault.TheVariants.{Port, Limit}
+use Rattle.line_reader.specs.declared.reader.TheConstants.{BUFFER_OCTETS}
+use Rattle.line_reader.specs.declared.reader.LineFault.{LineFault}
+use Rattle.line_reader.specs.declared.reader.LineFault.TheVariants.{Port, Limit}
 
 -- what ends a line: nothing ends the last one
 abbrev pub ending : Bool → List ℕ
@@ -60,9 +60,3 @@ abbrev pub LineFails : LineFault → ℕ → Source → Source → Type 0
 LineFails Port limit old new = (new.failed ≡ true) × ((octets : List ℕ) × BreaksOff octets limit old new)
 LineFails Limit limit old new =
     (new.failed ≡ false) × ((octets : List ℕ) × (next : ℕ) × All IsNoFeed octets × Gives (octets ++ next ∷ []) old new × (limit ≡ length octets))
-
--- an honest input ended before so many octets came
-pub record EndsWithin (count : ℕ) (old new : Source) : Type 0 where
-  pub stays : old.honest ≡ true → new.honest ≡ true
-  pub few : old.honest ≡ true → length old.coming < count
-  pub at_end : IsAtEnd new

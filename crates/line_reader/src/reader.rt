@@ -2,13 +2,12 @@
 ghost use Rattle.std.specs.Prelude.{MatchOption, ◌≡◌, ◌+◌, ◌<◌, ◌≤◌, ◌==◌, true, false, [], ◌∷◌, length, Ok, None, All, IfOk, IfErr, IfSome, IsOk};
 ghost use Rattle.std.specs.Result.{is_err};
 ghost use Rattle.octet_ports.specs.Ports.{Gives};
-ghost use Rattle.octet_ports.specs.Lines.{IsNoFeed, LineCame, LineFails, behind};
-ghost use Rattle.octet_ports.specs.declared.reader.TheConstants.{BUFFER_OCTETS};
-ghost use Rattle.octet_ports.specs.Readers.{BeginsWith, LineTaken, OctetCame, EndCame, IsRefused};
+ghost use Rattle.line_reader.specs.Lines.{IsNoFeed, LineCame, LineFails, behind};
+ghost use Rattle.line_reader.specs.declared.reader.TheConstants.{BUFFER_OCTETS};
+ghost use Rattle.line_reader.specs.Readers.{BeginsWith, LineTaken, OctetCame, EndCame, IsRefused};
 
-use crate::LINE_FEED;
-use crate::port::PortIn;
 use arrayvec::ArrayVec;
+use octet_ports::{LINE_FEED, PortIn};
 use std::marker::Model;
 
 /// How a line was read.
@@ -47,7 +46,7 @@ pub struct LineReader {
 }
 
 impl Model for LineReader {
-    ghost use Rattle.octet_ports.specs.Lines.{Ahead, IsWindow, ahead_of};
+    ghost use Rattle.line_reader.specs.Lines.{Ahead, IsWindow, ahead_of};
 
     ghost Value = { Ahead };
 

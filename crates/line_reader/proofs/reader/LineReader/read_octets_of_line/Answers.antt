@@ -1,9 +1,9 @@
 use Rattle.std.proofs.Common.{rules, ◌≡◌, ◌≤◌, ◌∙◌, length, arith}
 use Rattle.std.proofs.lemmas.Bool.Decides.{nat_tests}
-use Rattle.octet_ports.specs.Readers.{OctetCame}
-use Rattle.octet_ports.proofs.Ahead.{some_where_feed, feed_behind}
-use Rattle.octet_ports.proofs.Lines.{is_line_more, is_line_long, so_far_more, line_fails}
-use Rattle.octet_ports.proofs.reader.LineReader.read_octets_of_line.Goals as goal
+use Rattle.line_reader.specs.Readers.{OctetCame}
+use Rattle.line_reader.proofs.Ahead.{some_where_feed, feed_behind}
+use Rattle.line_reader.proofs.Lines.{is_line_more, is_line_long, so_far_more, line_fails}
+use Rattle.line_reader.proofs.reader.LineReader.read_octets_of_line.Goals as goal
 
 pub returns-in-Err-clause-err : goal.returns-in-Err-clause-err
 returns-in-Err-clause-err g c =
