@@ -46,6 +46,13 @@ activity_after_wake old mid g i new rest idle active count k =
       | inr e ↦ rw e.0 (rw e.0 at (rest k))
     ]
 
+-- an activity told by its parts
+pub same_activity : (all : ℕ → Activity) (g : ℕ) (a b : Activity) → a.active ≡ b.active → a.count ≡ b.count → (k : ℕ) → with_activity all g a k ≡ with_activity all g b k
+same_activity all g a b active count k =
+    ap (λ (x : Activity). with_activity all g x k)
+    (ap (λ (x : Option ℕ). let r : Activity = record { active = x; count = a.count } in r) active
+    ∙ ap (λ (n : ℕ). let r : Activity = record { active = b.active; count = n } in r) count)
+
 -- a group that stays as it is
 pub activity_stays : (all : ℕ → Activity) (g : ℕ) (a : Activity) → a.active ≡ (all g).active → a.count ≡ (all g).count → (k : ℕ) → with_activity all g a k ≡ all k
 activity_stays all g a active count k =

@@ -489,9 +489,13 @@ pub turned : {M : Type 0} (slots : List (Option (Member M))) (i : ℕ) (m : Memb
 turned slots i m f new inside turns = rw (turns m (get_or-set_same slots i (Some m) None inside), set-set) refl
 
 -- an instance that lived in a slot before a call stands there still
+pub read_there : {M : Type 0} (slots : List (Option (Member M))) (i : ℕ) (m : Member M) → slot_at slots i ≡ Some m
+    → (r : Option (Member M)) → r ≡ slice_index_or slots i r → slot_at slots i ≡ r
+read_there slots i m at r read = sym (get_or_read slots i r (slot_in slots i m at) read None)
+
 pub read_later : {M : Type 0} (a b : List (Option (Member M))) (i : ℕ) → IsSome (slot_at a i) → SameSlot (slot_at a i) (slot_at b i)
     → (r : Option (Member M)) → r ≡ slice_index_or b i r → slot_at b i ≡ r
 read_later a b i living same r read =
     let m = member_of (slot_at a i) living in
     let later = later_member (slot_at a i) (slot_at b i) m.0 m.1 same in
-    sym (get_or_read b i r (slot_in b i later.0 later.1.0) read None)
+    read_there b i later.0 later.1.0 r read

@@ -151,9 +151,13 @@ abbrev pub is_active : Option ℕ → ℕ → Bool
 is_active None i = false
 is_active (Some j) i = nat_eq j i
 
+-- with i as the active member from now on, which counts
+abbrev pub woken : ℕ → Activity → Activity
+woken i a = record { active = Some i; count = count_after a.count (Some i) }
+
 -- with i as the active member, which counts unless it is so already
 abbrev pub touched : ℕ → Activity → Activity
-touched i a = if is_active a.active i then a else record { active = Some i; count = count_after a.count (Some i) }
+touched i a = if is_active a.active i then a else woken i a
 
 -- the activities, with the one of group g replaced
 abbrev pub with_activity : (ℕ → Activity) → ℕ → Activity → ℕ → Activity

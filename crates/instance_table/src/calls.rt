@@ -2,17 +2,22 @@
 ghost use Rattle.std.specs.Prelude.{◌≡◌, ◌≤◌, ◌++◌, ◌∷◌, ℕ, ℤ, [], length, Option, Some, None, IsSome, IfSome, IfNone, OnSome, is_some};
 ghost use Rattle.ialg.specs.History.{History, Control, with_samples};
 ghost use Rattle.ialg.specs.Views.{control_of, answer_of};
-ghost use Rattle.lifecycle.specs.States.{IsLawful, Accepts, all_outputs, status_after};
-ghost use Rattle.instance_table.specs.Table.{slot_at, group_of, slot_active_in, instance_of, activity_at, touched_by, TablesOk, ArePoisoned};
+ghost use Rattle.record_loans.specs.Pieces.{SamePieces};
+ghost use Rattle.record_loans.specs.Blocks.{IsSameBlock};
+ghost use Rattle.mem_rec.specs.declared.Space.{Space};
+ghost use Rattle.scratch_group.specs.Blocks.{block_in, count_after, BlocksArePoison};
+ghost use Rattle.lifecycle.specs.States.{Fits, SameInstance, SameOnce, IsLawful, Accepts, IdleKeeps, ActiveKeeps, all_outputs, status_after};
+ghost use Rattle.instance_table.specs.Table.{slot_at, group_of, slot_active_in, instance_of, activity_at, with_activity, woken, touched_by, TablesOk, ArePoisoned};
 ghost use Rattle.instance_table.specs.Keeps.{Keeps, with_history};
 ghost use Rattle.instance_table.specs.Frames.{SameTables};
 ghost use Rattle.instance_table.specs.declared.member.Member.{Member};
 
-use crate::activity::touch;
-use crate::member::Member;
+use crate::activity::{rest, touch};
+use crate::member::{Member, idle_in, make_active};
 use crate::shelves::{Shelf, put_seen, take_seen};
 use ialg::{BLOCK_SAMPLES, Block, Ctl, Ialg, Status};
-use lifecycle::Inst;
+use lifecycle::{Idle, Inst};
+use record_loans::Pieces;
 use scratch_group::Group;
 
 /// Gives the active instance a block of samples.
@@ -53,6 +58,86 @@ fn run<M: Ialg>(
                 Inst::Idling(_) => unreachable!(),
             }
         }
+        None => unreachable!(),
+    }
+}
+
+/// Activates the member of this number, where it stands, of a group that has no active member, and gives it a block of samples:
+/// its records are lent once for both.
+fn wake_and_run_in<M: Ialg>(
+    idle: &mut Idle<M>,
+    shared: &mut Pieces,
+    group: &mut Group,
+    i: u8,
+    input: &[i16],
+    out: &mut Block,
+)
+    requires fits { Fits idle.old.instance.table idle.old.instance.own shared.old group.old }
+    requires empty { out.old.items ≡ [] }
+    requires some { 1 ≤ length input.now }
+    requires within { length input.now ≤ BLOCK_SAMPLES }
+    ensures same { SameInstance idle.old.instance idle.new.instance }
+    ensures shared { SamePieces shared.old shared.new }
+    ensures once { SameOnce idle.old.instance.table shared.old shared.new }
+    ensures blocks { (space : Space) → IsSameBlock (block_in group.old space) (block_in group.new space) }
+    ensures active { group.new.active ≡ Some i }
+    ensures activations { group.new.activations ≡ count_after group.old.activations (Some i) }
+    ensures bounded { length out.new.items ≤ length input.now }
+    ensures keeps { (w : Option ℤ) (h : History) → BlocksArePoison w group.old
+        → IdleKeeps M.meaning M.idle_keeps idle.old.instance w shared.old h
+        → ActiveKeeps M.meaning M.active_keeps idle.new.instance w shared.new group.new (with_samples h input.now) }
+    ensures output { (w : Option ℤ) (h : History) → IsLawful M.meaning idle.old.instance w → BlocksArePoison w group.old
+        → IdleKeeps M.meaning M.idle_keeps idle.old.instance w shared.old h
+        → all_outputs M.meaning idle.old.instance (with_samples h input.now)
+        ≡ all_outputs M.meaning idle.old.instance h ++ out.new.items }
+{
+    idle.activate_and_run(shared, group, input, out);
+    group.set_active(Some(i));
+}
+
+/// Activates an idle instance, whose group `g` has no active member, and gives it a block of samples.
+fn wake_and_run<M: Ialg>(
+    slots: &mut Vec<Option<Member<M>>>,
+    once: &mut Vec<Shelf>,
+    groups: &mut Vec<Group>,
+    i: u8,
+    g: u8,
+    input: &[i16],
+    out: &mut Block,
+)
+    requires living { IsSome (slot_at slots.old.items i) }
+    requires idle { slot_active_in (slot_at slots.old.items i) ≡ None }
+    requires group { g ≡ group_of (slot_at slots.old.items i) }
+    requires resting { (activity_at groups.old.items g).active ≡ None }
+    requires ok { TablesOk slots.old.items once.old.items groups.old.items }
+    requires empty { out.old.items ≡ [] }
+    requires some { 1 ≤ length input.now }
+    requires within { length input.now ≤ BLOCK_SAMPLES }
+    ensures ok { TablesOk slots.new.items once.new.items groups.new.items }
+    ensures poisoned { (w : Option ℤ) → ArePoisoned w groups.old.items → ArePoisoned w groups.new.items }
+    ensures same { SameTables slots.old.items once.old.items groups.old.items slots.new.items once.new.items groups.new.items }
+    ensures activity { (k : ℕ) → activity_at groups.new.items k
+        ≡ with_activity (activity_at groups.old.items) g (woken i (activity_at groups.old.items g)) k }
+    ensures bounded { length out.new.items ≤ length input.now }
+    ensures keeps { (w : Option ℤ) (histories : ℕ → History) → ArePoisoned w groups.old.items
+        → Keeps M.meaning M.idle_keeps M.active_keeps w slots.old.items once.old.items groups.old.items histories
+        → Keeps M.meaning M.idle_keeps M.active_keeps w slots.new.items once.new.items groups.new.items (with_history histories i (with_samples (histories i) input.now)) }
+    ensures output { (w : Option ℤ) (histories : ℕ → History) → ArePoisoned w groups.old.items
+        → Keeps M.meaning M.idle_keeps M.active_keeps w slots.old.items once.old.items groups.old.items histories
+        → (m : Member M) → slot_at slots.old.items i ≡ Some m → IsLawful M.meaning (instance_of m.inst) w
+        → all_outputs M.meaning (instance_of m.inst) (with_samples (histories i) input.now)
+        ≡ all_outputs M.meaning (instance_of m.inst) (histories i) ++ out.new.items }
+{
+    match &mut slots[i as usize] {
+        Some(member) => match &mut member.inst {
+            Inst::Idling(idle) => {
+                let mut shared = take_seen(once, i as usize);
+                wake_and_run_in(idle, &mut shared, &mut groups[g as usize], i, input, out);
+                put_seen(once, i as usize, shared);
+                make_active(slots, i);
+            }
+            Inst::Running(_) => unreachable!(),
+        },
         None => unreachable!(),
     }
 }
@@ -141,8 +226,12 @@ pub fn process<M: Ialg>(
         → all_outputs M.meaning (instance_of m.inst) (with_samples (histories i) input.now)
         ≡ all_outputs M.meaning (instance_of m.inst) (histories i) ++ out.new.items }
 {
-    touch(slots, once, groups, poison, i);
-    run(slots, once, groups, i, input, out);
+    let Some(g) = idle_in(slots, i) else {
+        run(slots, once, groups, i, input, out);
+        return;
+    };
+    let _rested = rest(slots, once, groups, poison, g);
+    wake_and_run(slots, once, groups, i, g, input, out);
 }
 
 /// Gives the instance a control, activated as for a block. None where its kind doesn't take the control: then nothing has happened.

@@ -1,14 +1,14 @@
 -- What is kept from one state to the next.
-use Rattle.std.proofs.Common.{◌≡◌, ℤ, true, false, IsTrue, refl, List, [], Option, Some, sym, subst, ◌∙◌}
+use Rattle.std.proofs.Common.{◌≡◌, ℤ, true, false, IsTrue, refl, List, [], ◌++◌, Option, Some, sym, subst, ◌∙◌}
 use Rattle.mem_rec.specs.declared.MemRec.{MemRec}
-use Rattle.ialg.specs.History.{History}
-use Rattle.ialg.specs.Meaning.{Meaning}
+use Rattle.ialg.specs.History.{History, with_samples}
+use Rattle.ialg.specs.Meaning.{Meaning, outputs_of}
 use Rattle.ialg.specs.Records.{unplaced, AreNew}
 use Rattle.scratch_group.specs.declared.group.Group.{Group}
 use Rattle.record_loans.specs.declared.pieces.Pieces.{Pieces}
 use Rattle.scratch_group.specs.Blocks.{BlocksArePoison}
 use Rattle.scratch_group.specs.Words.{active_words, idle_words}
-use Rattle.lifecycle.specs.Laws.{Started, Woken, Rested, Moved, Freed}
+use Rattle.lifecycle.specs.Laws.{Started, Woken, WokenAndRun, Rested, Moved, Freed}
 use Rattle.lifecycle.specs.States.{Fits, Relation}
 use Rattle.lifecycle.proofs.Words.{lasting_active, lasting_idle, lasting_lent, scratch_is_poison, active_words-same, idle_words-same}
 
@@ -26,6 +26,15 @@ module _ {M : Type 0} (meaning : Meaning M) (idle_keeps active_keeps : Relation 
       → (p : List ℤ) (w : Option ℤ) (h : History) → IsTrue (meaning.lawful kind p w) → BlocksArePoison w g
       → idle_keeps kind p rs (idle_words rs own shared) h → active_keeps kind p rs (active_words rs own' shared' g') h
   woken own own' shared shared' g g' f done p w h lawful poison keeps =
+      done p w h lawful refl f.lent (scratch_is_poison w rs own shared g poison)
+      (subst (λ (wss : List (List ℤ)). idle_keeps kind p rs wss h) (sym (lasting_active rs own shared g)) keeps)
+
+  pub woken_and_run : (own own' shared shared' : Pieces) (g g' : Group) (input out : List ℤ) → Fits rs own shared g
+      → WokenAndRun meaning idle_keeps active_keeps kind input rs false (active_words rs own shared g) (active_words rs own' shared' g') out
+      → (p : List ℤ) (w : Option ℤ) (h : History) → IsTrue (meaning.lawful kind p w) → BlocksArePoison w g
+      → idle_keeps kind p rs (idle_words rs own shared) h
+      → active_keeps kind p rs (active_words rs own' shared' g') (with_samples h input) × (outputs_of meaning kind p (with_samples h input) ≡ outputs_of meaning kind p h ++ out)
+  woken_and_run own own' shared shared' g g' input out f done p w h lawful poison keeps =
       done p w h lawful refl f.lent (scratch_is_poison w rs own shared g poison)
       (subst (λ (wss : List (List ℤ)). idle_keeps kind p rs wss h) (sym (lasting_active rs own shared g)) keeps)
 

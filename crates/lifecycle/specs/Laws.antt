@@ -30,6 +30,14 @@ HasRun meaning active_keeps kind input rs writable old new out = (p : List ℤ) 
     → active_keeps kind p rs new (with_samples h input)
     × (outputs_of meaning kind p (with_samples h input) ≡ outputs_of meaning kind p h ++ out)
 
+-- the activation, and then a block of samples, and what it gave
+abbrev pub WokenAndRun : {M : Type 0} → Meaning M → Relation M → Relation M → M → List ℤ → List MemRec → Bool → List (List ℤ) → List (List ℤ) → List ℤ → Type 0
+WokenAndRun meaning idle_keeps active_keeps kind input rs writable old new out = (p : List ℤ) (w : Option ℤ) (h : History) → IsTrue (meaning.lawful kind p w)
+    → writable ≡ false → AllLent rs old → ScratchIsPoison w rs old
+    → idle_keeps kind p rs (lasting rs old) h
+    → active_keeps kind p rs new (with_samples h input)
+    × (outputs_of meaning kind p (with_samples h input) ≡ outputs_of meaning kind p h ++ out)
+
 -- a control, and its answer
 abbrev pub Controlled : {M : Type 0} → Meaning M → Relation M → M → Ctl → List MemRec → Bool → List (List ℤ) → List (List ℤ) → Status → Type 0
 Controlled meaning active_keeps kind c rs writable old new answer = (p : List ℤ) (w : Option ℤ) (h : History) → IsTrue (meaning.lawful kind p w)

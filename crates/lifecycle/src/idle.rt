@@ -1,18 +1,18 @@
 //! Idle instances.
-ghost use Rattle.std.specs.Prelude.{◌≡◌, ℕ, ℤ, [], Option, Some, None, IsSome, IsTrue};
-ghost use Rattle.ialg.specs.History.{History};
+ghost use Rattle.std.specs.Prelude.{◌≡◌, ◌≤◌, ◌++◌, ℕ, ℤ, [], length, Option, Some, None, IsSome, IsTrue};
+ghost use Rattle.ialg.specs.History.{History, with_samples};
 ghost use Rattle.ialg.specs.Records.{unplaced, AreNew};
 ghost use Rattle.ialg.specs.Views.{control_of};
 ghost use Rattle.scratch_group.specs.Blocks.{BlocksArePoison, SameGroup};
 ghost use Rattle.record_loans.specs.Pieces.{piece_at, with_piece, SamePieces};
 ghost use Rattle.scratch_group.specs.Words.{idle_words};
 ghost use Rattle.lifecycle.specs.Moves.{CanRestore, with_back, settled, HasRoom};
-ghost use Rattle.lifecycle.specs.States.{Fits, SameInstance, SameOnce, IsLawful, IdleKeeps, ActiveKeeps};
+ghost use Rattle.lifecycle.specs.States.{Fits, SameInstance, SameOnce, IsLawful, IdleKeeps, ActiveKeeps, all_outputs};
 
 use crate::Active;
 use crate::instance::{Instance, restore};
-use crate::steps::{Activate, Free, Init, Move};
-use ialg::{Ctl, Ialg, Params};
+use crate::steps::{Activate, ActivateAndProcess, Free, Init, Move};
+use ialg::{BLOCK_SAMPLES, Block, Ctl, Ialg, Params};
 use mem_rec::MemTab;
 use record_loans::Pieces;
 use scratch_group::{Group, lend_lasting, placed};
@@ -78,6 +78,43 @@ impl<M: Ialg> Idle<M> {
             &mut self.instance.own,
             shared,
             &mut (),
+        );
+    }
+
+    /// Prepares the scratch records, as [`activate`](Idle::activate) does, gives the instance a block of samples, and puts what they
+    /// give into `out`. The records are lent once for both. [`woken`](Idle::woken) has to follow.
+    pub fn activate_and_run(
+        &mut self,
+        shared: &mut Pieces,
+        group: &mut Group,
+        input: &[i16],
+        out: &mut Block,
+    )
+        requires fits { Fits self.old.instance.table self.old.instance.own shared.old group.old }
+        requires empty { out.old.items ≡ [] }
+        requires some { 1 ≤ length input.now }
+        requires within { length input.now ≤ BLOCK_SAMPLES }
+        ensures same { SameInstance self.old.instance self.new.instance }
+        ensures shared { SamePieces shared.old shared.new }
+        ensures once { SameOnce self.old.instance.table shared.old shared.new }
+        ensures group { SameGroup group.old group.new }
+        ensures fits { Fits self.new.instance.table self.new.instance.own shared.new group.new }
+        ensures bounded { length out.new.items ≤ length input.now }
+        ensures keeps { (w : Option ℤ) (h : History) → BlocksArePoison w group.old
+            → IdleKeeps M.meaning M.idle_keeps self.old.instance w shared.old h
+            → ActiveKeeps M.meaning M.active_keeps self.new.instance w shared.new group.new (with_samples h input.now) }
+        ensures output { (w : Option ℤ) (h : History) → IsLawful M.meaning self.old.instance w → BlocksArePoison w group.old
+            → IdleKeeps M.meaning M.idle_keeps self.old.instance w shared.old h
+            → all_outputs M.meaning self.old.instance (with_samples h input.now)
+            ≡ all_outputs M.meaning self.old.instance h ++ out.new.items }
+    {
+        let kind = self.instance.kind;
+        group.lend(
+            &ActivateAndProcess { kind, input },
+            &self.instance.table,
+            &mut self.instance.own,
+            shared,
+            out,
         );
     }
 

@@ -2,7 +2,7 @@
 ghost use Rattle.std.specs.Prelude.{◌≡◌, ℕ, ℤ, ◌≤◌, Bool, List, [], length};
 ghost use Rattle.ialg.specs.declared.TheConstants.{BLOCK_SAMPLES};
 ghost use Rattle.ialg.specs.Views.{control_of, answer_of};
-ghost use Rattle.lifecycle.specs.Laws.{StaysOnce, Started, Woken, HasRun, Controlled, Rested, Moved, Freed};
+ghost use Rattle.lifecycle.specs.Laws.{StaysOnce, Started, Woken, HasRun, WokenAndRun, Controlled, Rested, Moved, Freed};
 
 use ialg::{Block, Ctl, Ialg, Lent, Params, Status, Step};
 use mem_rec::MemTab;
@@ -55,6 +55,25 @@ impl<M: Ialg> Step<Block> for Process<'_, M> {
 
     fn perform(&self, mem: &mut Lent<'_>, out: &mut Block) {
         self.kind.process(mem, self.input, out);
+    }
+}
+
+/// algActivate, and then a block of samples, for which the records are lent once.
+#[derive(Drop)]
+pub(crate) struct ActivateAndProcess<'a, M> {
+    pub(crate) kind: M,
+    pub(crate) input: &'a [i16],
+}
+
+impl<M: Ialg> Step<Block> for ActivateAndProcess<'_, M> {
+    ghost can = { λ s o. (o.items ≡ []) × (1 ≤ length s.input.now) × (length s.input.now ≤ BLOCK_SAMPLES) };
+
+    ghost done = { λ s rs writable old new o n. StaysOnce rs writable old new × WokenAndRun M.meaning M.idle_keeps M.active_keeps s.kind s.input.now rs writable old new n.items × (length n.items ≤ length s.input.now) };
+
+    fn perform(&self, mem: &mut Lent<'_>, out: &mut Block) {
+        let kind = &self.kind;
+        kind.alg_activate(mem);
+        kind.process(mem, self.input, out);
     }
 }
 
