@@ -5,9 +5,10 @@ usage: docs/capacity.py PROGRAM
 
 PROGRAM is the built program (`./dsp_console` leaves it as crates/dsp_console_main/out/dsp_console_main). Each figure is the difference
 of two runs: of a script, and of the same script without the lines that are measured. valgrind has to be there. The seconds are the
-least of five runs, so let nothing else run beside them.
+least of fifteen runs, so let nothing else run beside them.
 """
 
+import math
 import os
 import random
 import re
@@ -17,6 +18,7 @@ import sys
 import tempfile
 
 RATE = 8000
+RUNS = 15
 BLOCKS = (1, 8, 80, 160, 256, 1024)
 BOUNDED = " ".join(str(w) for w in [500] * 64)
 LOUD = " ".join(str(w) for w in [32767, -32768] * 32)
@@ -58,17 +60,22 @@ def instructions(script, samples, masks=()):
         return int(re.search(r"Collected : (\d+)", ran.stderr)[1])
 
 
-def seconds(script, samples):
-    """The least processor time of five runs."""
-    with tempfile.TemporaryDirectory() as room:
-        call, least = [PROGRAM, *words(script, samples, room)], None
-        for _ in range(5):
+def seconds_of(*calls):
+    """The least processor time of each call, which run by turns."""
+    least = [math.inf] * len(calls)
+    for _ in range(RUNS):
+        for at, call in enumerate(calls):
             before = resource.getrusage(resource.RUSAGE_CHILDREN)
             subprocess.run(call, stdout=subprocess.DEVNULL, check=True)
             after = resource.getrusage(resource.RUSAGE_CHILDREN)
             took = after.ru_utime + after.ru_stime - before.ru_utime - before.ru_stime
-            least = took if least is None else min(least, took)
-        return least
+            least[at] = min(least[at], took)
+    return least
+
+
+def seconds(script, samples):
+    with tempfile.TemporaryDirectory() as room:
+        return seconds_of([PROGRAM, *words(script, samples, room)])[0]
 
 
 def noise(count):
@@ -105,6 +112,22 @@ def by_width():
             codes = [x % 256 for x in noise(count)]
             found.append(cost([create(0, kind), "chain 0 0"], [f"feed 0 {block}"] * 40, [codes], count, masks))
         print(f"| {kind}, {port} | " + " | ".join(f"{it:,.1f}" for it in found) + " |", flush=True)
+
+
+def by_width_in_time():
+    """How long ports of octets take, where ports of words take 1."""
+    for kind, port, mask in (("mu-law decoder", "from octets", "--in8"), ("mu-law encoder", "to octets", "--out8")):
+        found = []
+        for block in BLOCKS:
+            feeds = 300 * RATE // (block + 7)
+            script = [create(0, kind), "chain 0 0"] + [f"feed 0 {block}"] * feeds
+            samples = [x % 256 for x in noise(block * feeds)]
+            with tempfile.TemporaryDirectory() as one, tempfile.TemporaryDirectory() as other:
+                by_words = [PROGRAM, *words(script, [samples], one)]
+                by_octets = [PROGRAM, *words(script, [samples], other, (mask, "1"))]
+                of_words, of_octets = seconds_of(by_words, by_octets)
+            found.append(of_octets / of_words)
+        print(f"| {kind}, {port} | " + " | ".join(f"{it:.2f}" for it in found) + " |", flush=True)
 
 
 def fed(head, channels=1, block=160, feeds=40):
@@ -154,5 +177,6 @@ if len(sys.argv) != 2:
 PROGRAM = os.path.realpath(sys.argv[1])
 by_block()
 by_width()
+by_width_in_time()
 growth()
 memory()
