@@ -11,7 +11,7 @@ use crate::samples::{read_samples, write_samples};
 use ialg::{BLOCK_SAMPLES, Block, Ialg, Named, Params};
 use line_machine::{Ask, BLOCK_OCTETS, LineMachine, Width};
 use voice_channel::{Channels, Map};
-use voice_script::{FeedSamples, Reply, parse};
+use voice_script::{Command, FeedSamples, Reply, parse};
 
 /// Passes the samples of the octets, by the width of their port, through a channel: they stand in `input` then, and what the channel gives takes the place of what
 /// `given` held.
@@ -63,6 +63,8 @@ impl<M: Ialg + Named> LineMachine for Console<M> {
     fn ask<'a>(&mut self, line: &[u8], map: &'a mut Map) -> Ask<'a> {
         let mut room = Params::new();
         match parse(line, &mut room) {
+            // most lines are feeds, for which no room for another command's reply is cleared
+            Ok(Some(Command::Feed { channel, samples })) => self.feed_asked(channel, samples),
             Ok(Some(command)) => self.obey(command, map),
             Ok(None) => Ask::Nothing,
             Err(refusal) => Ask::Tell(Reply::No(refusal)),

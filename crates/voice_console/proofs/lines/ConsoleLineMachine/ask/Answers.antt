@@ -1,8 +1,13 @@
-use Rattle.std.proofs.Common.{Ok, Err, None, ◌∙◌, ap, refl, sym}
+use Rattle.std.proofs.Common.{Ok, Err, Some, None, ◌∙◌, ap, refl, sym}
 use Rattle.voice_script.specs.Commands.{line_of}
 use Rattle.voice_console.specs.Consoles.{port_widths_of}
 use Rattle.voice_console.proofs.Served.{lined}
 use Rattle.voice_console.proofs.lines.ConsoleLineMachine.ask.Goals as goal
+
+pub returns-in-Ok-Some-Feed-clause-asks : goal.returns-in-Ok-Some-Feed-clause-asks
+returns-in-Ok-Some-Feed-clause-asks g c =
+    lined g.M.Ialg.meaning g.M.Ialg.idle_keeps g.M.Ialg.active_keeps (port_widths_of c.args.self.now) _ _ _ _ _
+    (ap (λ k. line_of (Ok (Some k))) (sym c.in-Ok-Some-Feed.field-0-0-is) ∙ ap (λ o. line_of (Ok o)) (sym c.in-Ok-Some-Feed.field-0-is) ∙ c.in-Ok-Some-Feed.ensures) c.feed_asked.ensures.asks
 
 pub returns-in-Ok-Some-clause-asks : goal.returns-in-Ok-Some-clause-asks
 returns-in-Ok-Some-clause-asks g c =
