@@ -2,16 +2,16 @@
 ghost use Rattle.std.specs.Prelude.{◌≡◌, ℕ, None, length, IfOk, IfErr, IsErrOf};
 ghost use Rattle.mem_rec.specs.declared.Space.{Space};
 ghost use Rattle.scratch_group.specs.Blocks.{block_in};
-ghost use Rattle.instance_table.specs.declared.TheConstants.{INSTANCES, GROUPS};
-ghost use Rattle.instance_table.specs.Shelves.{no_shelf, shelf_at};
-ghost use Rattle.instance_table.specs.Table.{slot_at, once_at, no_pieces, group_at, activity_at, untouched};
+ghost use Rattle.record_shelves.specs.declared.TheConstants.{INSTANCES};
+ghost use Rattle.instance_table.specs.declared.TheConstants.{GROUPS};
+ghost use Rattle.record_shelves.specs.Shelves.{no_shelf, shelf_at, once_at, no_pieces};
+ghost use Rattle.instance_table.specs.Table.{slot_at, group_at, activity_at, untouched};
 ghost use Rattle.host_spaces.specs.Picture.{AreSizes};
 
 use host_spaces::{EmptySpaces, Sizes, StartError};
 use ialg::Ialg;
-use instance_table::{
-    Member, Shelf, empty_groups, empty_once, empty_slots, end_groups, end_once, end_slots,
-};
+use instance_table::{Member, empty_groups, empty_slots, end_groups, end_slots};
+use record_shelves::{Shelf, empty_once, end_once};
 use scratch_group::Group;
 use std::alloc::{AllocError, Allocator, Global};
 

@@ -13,7 +13,7 @@ use Rattle.record_loans.specs.Blocks.{block_piece, block_align, block_words}
 use Rattle.scratch_group.specs.declared.group.Group.{Group}
 use Rattle.scratch_group.specs.Blocks.{block_in}
 use Rattle.lifecycle.specs.States.{Relation}
-use Rattle.lifecycle.proofs.Frames.{same_pieces}
+use Rattle.record_loans.proofs.PieceLemmas.{same_pieces}
 use Rattle.space_blocks.specs.declared.placed.Owner.{Owner}
 use Rattle.space_blocks.specs.declared.placed.Owner.TheVariants.{Record}
 use Rattle.space_blocks.specs.declared.placed.Owner.TheVariants.{Scratch as GroupScratch}
@@ -25,9 +25,9 @@ use Rattle.host_spaces.specs.declared.pieces.OldBlocks.{OldBlocks}
 use Rattle.host_spaces.specs.Picture.{AreSameSpaces, blocks_in, is_group's, picture_of, without_owners}
 use Rattle.host_spaces.specs.Pieces.{old_piece}
 use Rattle.instance_table.specs.declared.member.Member.{Member}
-use Rattle.instance_table.specs.declared.shelves.Shelf.{Shelf}
-use Rattle.instance_table.specs.Shelves.{home_of}
-use Rattle.instance_table.specs.Table.{Activity, slot_at, once_at, group_at, instance_of, is_member_of, activity_at, TablesOk, ArePoisoned}
+use Rattle.record_shelves.specs.declared.shelves.Shelf.{Shelf}
+use Rattle.record_shelves.specs.Shelves.{home_of, once_at}
+use Rattle.instance_table.specs.Table.{Activity, slot_at, group_at, instance_of, is_member_of, activity_at, TablesOk, ArePoisoned}
 use Rattle.instance_table.specs.Keeps.{Keeps}
 use Rattle.table_moves.specs.Moves.{BlockStays, WordsStay}
 use Rattle.table_moves.proofs.Owns.{told_later}

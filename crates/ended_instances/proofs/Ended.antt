@@ -16,10 +16,10 @@ use Rattle.host_spaces.specs.Picture.{Picture, AreSameSpaces, blocks_in, copied_
 use Rattle.host_spaces.specs.Creation.{deleted_picture, handed_on}
 use Rattle.host_spaces.proofs.Pictures.{pictures_equal}
 use Rattle.instance_table.specs.declared.member.Member.{Member}
-use Rattle.instance_table.specs.declared.shelves.Shelf.{Shelf}
-use Rattle.instance_table.specs.Shelves.{home_of}
-use Rattle.instance_table.specs.Holders.{next_holder}
-use Rattle.instance_table.specs.Table.{slot_at, once_at, group_at, instance_of}
+use Rattle.record_shelves.specs.declared.shelves.Shelf.{Shelf}
+use Rattle.record_shelves.specs.Shelves.{home_of, once_at}
+use Rattle.record_shelves.specs.Holders.{next_holder}
+use Rattle.instance_table.specs.Table.{slot_at, group_at, instance_of}
 use Rattle.instance_table.specs.Twins.{asked_by}
 use Rattle.placed_instances.specs.Standing.{AreStanding, table_of}
 use Rattle.placed_instances.proofs.Homes.{own_home}

@@ -13,7 +13,7 @@ use Rattle.record_loans.specs.declared.pieces.Pieces.{Pieces}
 use Rattle.record_loans.specs.Pieces.{piece_at, IsSamePiece, SamePieces}
 use Rattle.scratch_group.specs.declared.group.Group.{Group}
 use Rattle.lifecycle.specs.Rooms.{lasting_piece, piece_of_record}
-use Rattle.lifecycle.proofs.Frames.{piece_same}
+use Rattle.record_loans.proofs.PieceLemmas.{piece_same}
 use Rattle.space_blocks.specs.declared.placed.Owner.{Owner}
 use Rattle.space_blocks.specs.declared.placed.Owner.TheVariants.{Record}
 use Rattle.space_blocks.specs.declared.placed.Owner.TheVariants.{Scratch as GroupScratch}
@@ -22,16 +22,16 @@ use Rattle.host_spaces.specs.declared.spaces.Spaces.{Spaces}
 use Rattle.host_spaces.specs.Picture.{blocks_in, picture_of, space_in}
 use Rattle.host_spaces.specs.Pieces.{ArePlacedPieces, IsPieceOf, is_placed_once, is_write_once, record_block}
 use Rattle.instance_table.specs.declared.member.Member.{Member}
-use Rattle.instance_table.specs.declared.shelves.Stand.{Stand}
-use Rattle.instance_table.specs.declared.shelves.Stand.TheVariants.{Here, With}
-use Rattle.instance_table.specs.declared.shelves.Shelf.{Shelf}
-use Rattle.instance_table.specs.Shelves.{stand_at, shelf_at, home_by, home_of}
-use Rattle.instance_table.specs.Homes.{IsSameStand}
-use Rattle.instance_table.specs.Holders.{next_holder, piece_left, left_with, stand_without}
-use Rattle.instance_table.specs.Table.{slot_at, once_at, group_at, instance_of, AreHeld}
-use Rattle.instance_table.proofs.Stands.{seen_here}
+use Rattle.record_shelves.specs.declared.shelves.Stand.{Stand}
+use Rattle.record_shelves.specs.declared.shelves.Stand.TheVariants.{Here, With}
+use Rattle.record_shelves.specs.declared.shelves.Shelf.{Shelf}
+use Rattle.record_shelves.specs.Shelves.{stand_at, shelf_at, home_by, home_of, once_at}
+use Rattle.record_shelves.specs.Homes.{IsSameStand}
+use Rattle.record_shelves.specs.Holders.{next_holder, piece_left, left_with, stand_without}
+use Rattle.instance_table.specs.Table.{slot_at, group_at, instance_of, AreHeld}
+use Rattle.record_shelves.proofs.Stands.{seen_here}
 use Rattle.instance_table.proofs.Held.{homes_of_held, alike_back}
-use Rattle.instance_table.proofs.Handing.{next_of, next_is, without_apart, without_held, next_here, next_there}
+use Rattle.record_shelves.proofs.Handing.{next_of, next_is, without_apart, without_held, next_here, next_there}
 use Rattle.instance_table.proofs.Together.{holders}
 use Rattle.table_moves.proofs.Holders.{home_same}
 use Rattle.placed_instances.specs.Standing.{IsHome, AreStanding, table_of}

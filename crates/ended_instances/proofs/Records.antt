@@ -26,12 +26,12 @@ use Rattle.host_spaces.specs.declared.spaces.Spaces.{Spaces}
 use Rattle.host_spaces.specs.Picture.{Picture, AreSameSpaces, blocks_in, blocks_without, is_instance's, picture_of, space_in, without_owners}
 use Rattle.host_spaces.specs.Pieces.{HasRecords, ArePlacedPieces, IsPieceOf, is_placed_once, record_block}
 use Rattle.instance_table.specs.declared.member.Member.{Member}
-use Rattle.instance_table.specs.declared.shelves.Shelf.{Shelf}
-use Rattle.instance_table.specs.Shelves.{stand_at, shelf_at, home_of}
-use Rattle.instance_table.specs.Homes.{IsSameStand}
-use Rattle.instance_table.specs.Holders.{next_holder, left_with, stand_without}
-use Rattle.instance_table.specs.Table.{slot_at, once_at, AreHeld, group_at, group_of, no_pieces, own_of, instance_of, is_member_of}
-use Rattle.instance_table.specs.Twins.{AreLeast, AreTogether}
+use Rattle.record_shelves.specs.declared.shelves.Shelf.{Shelf}
+use Rattle.record_shelves.specs.Shelves.{stand_at, shelf_at, home_of, once_at, no_pieces}
+use Rattle.record_shelves.specs.Homes.{IsSameStand}
+use Rattle.record_shelves.specs.Holders.{next_holder, left_with, stand_without, AreLeast}
+use Rattle.instance_table.specs.Table.{slot_at, AreHeld, group_at, group_of, own_of, instance_of, is_member_of}
+use Rattle.instance_table.specs.Twins.{AreTogether}
 use Rattle.instance_table.specs.Frames.{IsSameMember, OthersSame}
 use Rattle.placed_instances.specs.Standing.{IsHome, AreStanding, SlotIsSame, table_of}
 use Rattle.placed_instances.proofs.Homes.{alike_same, home_stays, slot_of_same, slot_same, before, none_before, member_before, pieces_none, is_of_same, none_same, align_same}

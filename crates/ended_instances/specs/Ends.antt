@@ -6,7 +6,7 @@ use Rattle.ialg.specs.History.{History}
 use Rattle.scratch_group.specs.declared.group.Group.{Group}
 use Rattle.lifecycle.specs.States.{Relation}
 use Rattle.instance_table.specs.declared.member.Member.{Member}
-use Rattle.instance_table.specs.declared.shelves.Shelf.{Shelf}
+use Rattle.record_shelves.specs.declared.shelves.Shelf.{Shelf}
 use Rattle.instance_table.specs.Table.{slot_at, group_of, is_member_of, activity_at, quieted_by, TablesOk, ArePoisoned}
 use Rattle.instance_table.specs.Twins.{Asked, asked_by, twin_of}
 use Rattle.instance_table.specs.Keeps.{Keeps}

@@ -8,7 +8,8 @@ use crate::leaving::{give_blocks, give_records};
 use crate::members::{group_number, members_left};
 use host_spaces::Spaces;
 use ialg::Ialg;
-use instance_table::{Member, Shelf};
+use instance_table::Member;
+use record_shelves::Shelf;
 use scratch_group::Group;
 
 /// Ends an instance. Its records are given back, and its group's blocks where no other member is left. An active one is deactivated

@@ -1,12 +1,13 @@
 //! The members of groups.
 ghost use Rattle.std.specs.Prelude.{◌≡◌, ◌<◌, ℕ, length, Some, IsSome};
-ghost use Rattle.instance_table.specs.declared.TheConstants.{INSTANCES};
+ghost use Rattle.record_shelves.specs.declared.TheConstants.{INSTANCES};
 ghost use Rattle.instance_table.specs.declared.member.Member.{Member};
 ghost use Rattle.instance_table.specs.Table.{slot_at, group_of, instance_of, is_member_of};
 ghost use Rattle.ended_instances.specs.Ends.{has_members};
 
 use ialg::Ialg;
-use instance_table::{INSTANCES, Member};
+use instance_table::Member;
+use record_shelves::INSTANCES;
 use lifecycle::Inst;
 use mem_rec::MemTab;
 

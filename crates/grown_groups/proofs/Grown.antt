@@ -27,9 +27,9 @@ use Rattle.host_spaces.specs.declared.spaces.Spaces.{Spaces}
 use Rattle.host_spaces.specs.Picture.{Picture, blocks_in, picture_of, space_in}
 use Rattle.host_spaces.specs.Pieces.{HasBlocks, new_block, old_piece, with_new, without_pieces}
 use Rattle.instance_table.specs.declared.member.Member.{Member}
-use Rattle.instance_table.specs.declared.shelves.Shelf.{Shelf}
-use Rattle.instance_table.specs.Shelves.{stand_at, shelf_at, home_of}
-use Rattle.instance_table.specs.Table.{slot_at, once_at, group_at, instance_of, AreHeld}
+use Rattle.record_shelves.specs.declared.shelves.Shelf.{Shelf}
+use Rattle.record_shelves.specs.Shelves.{stand_at, shelf_at, home_of, once_at}
+use Rattle.instance_table.specs.Table.{slot_at, group_at, instance_of, AreHeld}
 use Rattle.instance_table.proofs.Leasts.{least_stays, together_members}
 use Rattle.instance_table.proofs.Together.{home_lives}
 use Rattle.table_moves.proofs.Holders.{home_same}

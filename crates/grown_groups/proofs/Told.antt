@@ -18,7 +18,8 @@ use Rattle.scratch_group.specs.Words.{placed}
 use Rattle.lifecycle.specs.Moves.{HasRoom}
 use Rattle.lifecycle.specs.Rooms.{NoNeed}
 use Rattle.lifecycle.specs.States.{Fits}
-use Rattle.lifecycle.proofs.Frames.{placed-unplaced, reflexive, same_pieces}
+use Rattle.lifecycle.proofs.Frames.{placed-unplaced}
+use Rattle.record_loans.proofs.PieceLemmas.{reflexive, same_pieces}
 use Rattle.space_blocks.specs.declared.placed.Owner.{Owner}
 use Rattle.space_blocks.specs.declared.placed.Owner.TheVariants.{Scratch}
 use Rattle.space_blocks.specs.declared.placed.Placed.{Placed}
@@ -32,10 +33,10 @@ use Rattle.host_spaces.specs.Pieces.{IsNeeded, new_block, old_piece, with_new, w
 use Rattle.host_spaces.specs.Wants.{block_need}
 use Rattle.instance_table.specs.declared.TheConstants.{GROUPS}
 use Rattle.instance_table.specs.declared.member.Member.{Member}
-use Rattle.instance_table.specs.declared.shelves.Shelf.{Shelf}
-use Rattle.instance_table.specs.Shelves.{stand_at, shelf_at, home_of}
-use Rattle.instance_table.proofs.Lent.{same_stand}
-use Rattle.instance_table.specs.Table.{slot_at, once_at, group_at, instance_of, Activity, activity_at, IsHoused, TablesOk, TablesTold, ArePoisoned}
+use Rattle.record_shelves.specs.declared.shelves.Shelf.{Shelf}
+use Rattle.record_shelves.specs.Shelves.{stand_at, shelf_at, home_of, once_at}
+use Rattle.record_shelves.proofs.Lent.{same_stand}
+use Rattle.instance_table.specs.Table.{slot_at, group_at, instance_of, Activity, activity_at, IsHoused, TablesOk, TablesTold, ArePoisoned}
 use Rattle.instance_table.specs.Frames.{IsSameMember, SameMembers}
 use Rattle.table_moves.specs.Moves.{BlockStays, WordsStay}
 use Rattle.table_moves.proofs.Owns.{told_later}

@@ -6,10 +6,11 @@ use Rattle.record_loans.specs.Blocks.{block_align, block_piece, block_words}
 use Rattle.scratch_group.specs.declared.group.Group.{Group}
 use Rattle.scratch_group.specs.Blocks.{block_in}
 use Rattle.instance_table.specs.declared.member.Member.{Member}
-use Rattle.instance_table.specs.declared.shelves.Shelf.{Shelf}
-use Rattle.instance_table.specs.Shelves.{home_of}
-use Rattle.instance_table.specs.Table.{slot_at, once_at, group_at, no_pieces, instance_of, is_member_of, Activity, activity_at, rested, with_activity}
-use Rattle.instance_table.specs.Twins.{AreLeast, AreTogether}
+use Rattle.record_shelves.specs.declared.shelves.Shelf.{Shelf}
+use Rattle.record_shelves.specs.Shelves.{home_of, once_at, no_pieces}
+use Rattle.instance_table.specs.Table.{slot_at, group_at, instance_of, is_member_of, Activity, activity_at, rested, with_activity}
+use Rattle.record_shelves.specs.Holders.{AreLeast}
+use Rattle.instance_table.specs.Twins.{AreTogether}
 use Rattle.space_blocks.specs.declared.placed.Owner.TheVariants.{Record, Scratch}
 use Rattle.space_blocks.specs.Blocks.{owned}
 use Rattle.host_spaces.specs.declared.pieces.NewBlocks.{NewBlocks}

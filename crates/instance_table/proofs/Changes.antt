@@ -18,19 +18,21 @@ use Rattle.scratch_group.specs.Blocks.{block_in, BlocksArePoison}
 use Rattle.lifecycle.specs.declared.instance.Inst.{Inst}
 use Rattle.lifecycle.specs.declared.instance.Inst.TheVariants.{Idling, Running}
 use Rattle.lifecycle.specs.States.{Relation, Fits, SameInstance, SameOnce}
-use Rattle.lifecycle.proofs.Frames.{same_pieces, same_group}
-use Rattle.instance_table.specs.declared.TheConstants.{INSTANCES, GROUPS}
+use Rattle.record_loans.proofs.PieceLemmas.{same_pieces}
+use Rattle.lifecycle.proofs.Frames.{same_group}
+use Rattle.record_shelves.specs.declared.TheConstants.{INSTANCES}
+use Rattle.instance_table.specs.declared.TheConstants.{GROUPS}
 use Rattle.instance_table.specs.declared.member.Member.{Member}
-use Rattle.instance_table.specs.declared.shelves.Shelf.{Shelf}
-use Rattle.instance_table.specs.declared.shelves.Stand.{Stand}
-use Rattle.instance_table.specs.declared.shelves.Stand.TheVariants.{Here, With}
-use Rattle.instance_table.specs.Shelves.{stand_at, shelf_at}
-use Rattle.instance_table.specs.Homes.{with_seen, HasHomes, AllHaveHomes, IsSameStand, SameShelves}
-use Rattle.instance_table.specs.Table.{slot_at, once_at, group_at, AreHeld, AreBare, no_pieces, no_group, instance_of, own_of, group_of, active_in, slot_active_in, IsHoused, EachIsHoused, Tables, TablesOk, ArePoisoned, activity_at, with_activity}
+use Rattle.record_shelves.specs.declared.shelves.Shelf.{Shelf}
+use Rattle.record_shelves.specs.declared.shelves.Stand.{Stand}
+use Rattle.record_shelves.specs.declared.shelves.Stand.TheVariants.{Here, With}
+use Rattle.record_shelves.specs.Shelves.{stand_at, shelf_at, once_at, no_pieces}
+use Rattle.record_shelves.specs.Homes.{with_seen, HasHomes, AllHaveHomes, IsSameStand, SameShelves}
+use Rattle.instance_table.specs.Table.{slot_at, group_at, AreHeld, AreBare, no_group, instance_of, own_of, group_of, active_in, slot_active_in, IsHoused, EachIsHoused, Tables, TablesOk, ArePoisoned, activity_at, with_activity}
 use Rattle.instance_table.specs.Keeps.{InstKeeps, SlotKeeps, Keeps, with_history}
 use Rattle.instance_table.specs.Frames.{SameSlot, SameTables, SameMember}
 use Rattle.instance_table.proofs.Housing.{same_blocks, housed_stays}
-use Rattle.instance_table.proofs.Lent.{stands_lent, pieces_lent, homes_of_all}
+use Rattle.record_shelves.proofs.Lent.{stands_lent, pieces_lent, homes_of_all}
 use Rattle.instance_table.proofs.Held.{member_stays, members_beside, homes_of_held, held_stays, bare_stays}
 use Rattle.instance_table.proofs.Sights.{Sees, sees_lent, slot_sees}
 
@@ -42,6 +44,11 @@ active_in_own k g (Running s) e = same_Some _ _ e
 active_in_any : {M : Type 0} (k g l : ℕ) (inst : Inst M) → active_in k inst ≡ Some g → active_in l inst ≡ Some l
 active_in_any k g l (Idling s) e = absurd (none-some _ e)
 active_in_any k g l (Running s) e = refl
+
+-- an instance that can't be active isn't
+pub never_active : {M : Type 0} (k : ℕ) (inst : Inst M) → (active_in k inst ≡ Some k → ⊥) → active_in k inst ≡ None
+never_active k (Idling s) never = refl
+never_active k (Running s) never = absurd (never refl)
 
 -- a slot with an instance is in the table
 pub slot_in : {M : Type 0} (slots : List (Option (Member M))) (i : ℕ) (m : Member M) → slot_at slots i ≡ Some m → i < length slots

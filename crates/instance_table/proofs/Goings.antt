@@ -7,17 +7,18 @@ use Rattle.lifecycle.specs.declared.instance.Inst.{Inst}
 use Rattle.lifecycle.specs.declared.instance.Inst.TheVariants.{Idling, Running}
 use Rattle.lifecycle.specs.States.{SameOnce}
 use Rattle.instance_table.specs.declared.member.Member.{Member}
-use Rattle.instance_table.specs.declared.shelves.Shelf.{Shelf}
-use Rattle.instance_table.specs.Shelves.{stand_at, no_shelf, shelf_at}
-use Rattle.instance_table.specs.Homes.{with_seen, AllHaveHomes, SameShelves}
-use Rattle.instance_table.specs.Holders.{left_with, stand_without}
-use Rattle.instance_table.specs.Table.{slot_at, once_at, no_pieces, instance_of, active_in, AreHeld, AreBare}
-use Rattle.instance_table.proofs.Stands.{seen_of}
-use Rattle.instance_table.proofs.Homes.{count_seen}
-use Rattle.instance_table.proofs.Lent.{stands_lent, homes_of_all}
+use Rattle.record_shelves.specs.declared.shelves.Shelf.{Shelf}
+use Rattle.record_shelves.specs.Shelves.{stand_at, no_shelf, shelf_at, once_at, no_pieces}
+use Rattle.record_shelves.specs.Homes.{with_seen, AllHaveHomes, SameShelves}
+use Rattle.record_shelves.specs.Holders.{left_with, stand_without}
+use Rattle.instance_table.specs.Table.{slot_at, instance_of, active_in, AreHeld, AreBare}
+use Rattle.record_shelves.proofs.Stands.{seen_of}
+use Rattle.record_shelves.proofs.Homes.{count_seen}
+use Rattle.record_shelves.proofs.Lent.{stands_lent, homes_of_all}
 use Rattle.instance_table.proofs.Held.{same_members_slot, homes_of_held, held_stays, bare_stays}
 use Rattle.instance_table.proofs.Sights.{Sees, sees_lent}
-use Rattle.instance_table.proofs.Handing.{held_handed, bare_handed, once_handed, left_stays}
+use Rattle.instance_table.proofs.HeldOn.{held_handed, bare_handed}
+use Rattle.record_shelves.proofs.Handing.{once_handed, left_stays}
 
 -- an idle instance is active in no group
 pub idle_in_any : {M : Type 0} (g k : ℕ) (inst : Inst M) → active_in g inst ≡ None → active_in k inst ≡ None

@@ -9,15 +9,17 @@ use Rattle.record_loans.specs.declared.pieces.Pieces.{Pieces}
 use Rattle.scratch_group.specs.declared.group.Group.{Group}
 use Rattle.record_loans.specs.Pieces.{SamePieces}
 use Rattle.lifecycle.specs.States.{Relation, SameOnce, IsLawful}
-use Rattle.instance_table.specs.declared.TheConstants.{INSTANCES, GROUPS}
+use Rattle.record_shelves.specs.declared.TheConstants.{INSTANCES}
+use Rattle.instance_table.specs.declared.TheConstants.{GROUPS}
 use Rattle.instance_table.specs.declared.member.Member.{Member}
-use Rattle.instance_table.specs.declared.shelves.Shelf.{Shelf}
-use Rattle.instance_table.specs.Homes.{with_seen, SameShelves}
-use Rattle.instance_table.specs.Table.{slot_at, once_at, AreHeld, AreBare, group_at, instance_of, slot_active_in, IsHoused, EachIsHoused, Tables, TablesOk}
+use Rattle.record_shelves.specs.declared.shelves.Shelf.{Shelf}
+use Rattle.record_shelves.specs.Homes.{with_seen, SameShelves}
+use Rattle.instance_table.specs.Table.{slot_at, AreHeld, AreBare, group_at, instance_of, slot_active_in, IsHoused, EachIsHoused, Tables, TablesOk}
+use Rattle.record_shelves.specs.Shelves.{once_at}
 use Rattle.instance_table.specs.Keeps.{SlotKeeps, Keeps, with_history}
 use Rattle.instance_table.proofs.Housing.{housed_beside}
 use Rattle.instance_table.specs.Frames.{SameMember, IsSameMember}
-use Rattle.instance_table.proofs.Lent.{stands_lent, homes_of_all}
+use Rattle.record_shelves.proofs.Lent.{stands_lent, homes_of_all}
 use Rattle.instance_table.proofs.Held.{members_beside, homes_of_held, held_stays, bare_stays}
 use Rattle.instance_table.proofs.Sights.{Views, Sees, views_of, sees_lent, slot_sees}
 

@@ -6,17 +6,17 @@ use Rattle.arrayvec.specs.ArrayVec.{ArrayVec}
 use Rattle.mem_rec.specs.declared.MemRec.{MemRec}
 use Rattle.ialg.specs.Records.{unplaced}
 use Rattle.instance_table.specs.declared.member.Member.{Member}
-use Rattle.instance_table.specs.declared.shelves.Stand.{Stand}
-use Rattle.instance_table.specs.declared.shelves.Stand.TheVariants.{Here, With}
-use Rattle.instance_table.specs.declared.shelves.Shelf.{Shelf}
-use Rattle.instance_table.specs.Shelves.{stand_at, shelf_at, home_by, home_of}
-use Rattle.instance_table.specs.Homes.{AllHaveHomes, IsSameStand, SameShelves}
-use Rattle.instance_table.specs.Holders.{stands_with, holder_from, next_holder, stand_without}
+use Rattle.record_shelves.specs.declared.shelves.Stand.{Stand}
+use Rattle.record_shelves.specs.declared.shelves.Stand.TheVariants.{Here, With}
+use Rattle.record_shelves.specs.declared.shelves.Shelf.{Shelf}
+use Rattle.record_shelves.specs.Shelves.{stand_at, shelf_at, home_by, home_of}
+use Rattle.record_shelves.specs.Homes.{AllHaveHomes, IsSameStand, SameShelves}
+use Rattle.record_shelves.specs.Holders.{stands_with, holder_from, next_holder, stand_without, AreLeast}
 use Rattle.instance_table.specs.Table.{slot_at, instance_of}
 use Rattle.instance_table.specs.Frames.{SameSlot, IsSameMember}
-use Rattle.instance_table.specs.Twins.{asked, asked_by, AreLeast, AreTogether}
+use Rattle.instance_table.specs.Twins.{asked, asked_by, AreTogether}
 use Rattle.instance_table.proofs.Held.{SameHolder, IsSameHolder, holder_of_member, alike_stays, with_before}
-use Rattle.instance_table.proofs.Handing.{with_told, told_or_not, next_of, without_gone, stays_here, stays_with, goes, next_here, next_there}
+use Rattle.record_shelves.proofs.Handing.{with_told, told_or_not, next_of, without_gone, stays_here, stays_with, goes, next_here, next_there}
 
 -- each piece stands where it stood
 home_same : (i : ℕ) (s t : Stand) → IsSameStand s t → home_by i t ≡ home_by i s

@@ -18,9 +18,10 @@ use Rattle.ialg.proofs.Tables.{length-unplaced}
 use Rattle.ialg.specs.Records.{record_at, unplaced}
 use Rattle.lifecycle.specs.declared.instance.Instance.{Instance}
 use Rattle.instance_table.specs.Table.{unbased, AreAlike}
-use Rattle.instance_table.specs.Twins.{Asked, is_once, is_same_once, is_twin, twin_of, twin_at, asked}
-use Rattle.instance_table.specs.declared.TheConstants.{INSTANCES}
-use Rattle.instance_table.specs.declared.twins.Twins.{Twins}
+use Rattle.instance_table.specs.Twins.{Asked, is_once, is_same_once, is_twin, twin_of, asked}
+use Rattle.record_shelves.specs.Joining.{twin_at}
+use Rattle.record_shelves.specs.declared.TheConstants.{INSTANCES}
+use Rattle.record_shelves.specs.declared.joining.Twins.{Twins}
 use Rattle.instance_table.proofs.Finds.{find_nothing}
 use Rattle.instance_table.proofs.Held.{record_unplaced}
 

@@ -6,15 +6,15 @@ use Rattle.std.proofs.lemmas.Option.{none-some, same_Some}
 use Rattle.space_raw.specs.Span.{Span}
 use Rattle.lifecycle.specs.declared.instance.Instance.{Instance}
 use Rattle.instance_table.specs.declared.member.Member.{Member}
-use Rattle.instance_table.specs.declared.shelves.Stand.{Stand}
-use Rattle.instance_table.specs.declared.shelves.Stand.TheVariants.{Here, With}
-use Rattle.instance_table.specs.declared.shelves.Shelf.{Shelf}
-use Rattle.instance_table.specs.Shelves.{stand_at, shelf_at, home_by, home_of}
-use Rattle.instance_table.specs.Homes.{IsPieceHere, AllHaveHomes}
+use Rattle.record_shelves.specs.declared.shelves.Stand.{Stand}
+use Rattle.record_shelves.specs.declared.shelves.Stand.TheVariants.{Here, With}
+use Rattle.record_shelves.specs.declared.shelves.Shelf.{Shelf}
+use Rattle.record_shelves.specs.Shelves.{stand_at, shelf_at, home_by, home_of}
+use Rattle.record_shelves.specs.Homes.{IsPieceHere, AllHaveHomes}
 use Rattle.instance_table.specs.Table.{slot_at, instance_of, AreAlike, IsHolder}
-use Rattle.instance_table.specs.Joining.{stand_over, stand_beside, stand_joined, CanJoin}
+use Rattle.record_shelves.specs.Joining.{stand_over, stand_beside, stand_joined, CanJoin}
 use Rattle.instance_table.proofs.Held.{alike_back, alike_then}
-use Rattle.instance_table.proofs.Joined.{home_own_piece, here_not_with, piece_elsewhere, none_with, beside_here, beside_there, over_here, over_home, over_there, home_there}
+use Rattle.record_shelves.proofs.Joined.{home_own_piece, here_not_with, piece_elsewhere, none_with, beside_here, beside_there, over_here, over_home, over_there, home_there}
 
 -- what the twin of a record is: an instance that is alike in it, and none where there is no such instance
 pub record IsTwin {M : Type 0} (slots : List (Option (Member M))) (k : ℕ) (a : Instance M) (t : ℕ) : Type 0 where

@@ -16,12 +16,14 @@ use Rattle.lifecycle.specs.declared.instance.Inst.{Inst}
 use Rattle.lifecycle.specs.declared.instance.Inst.TheVariants.{Idling, Running}
 use Rattle.lifecycle.specs.States.{Relation, SameOnce, IsLawful}
 use Rattle.instance_table.specs.declared.member.Member.{Member}
-use Rattle.instance_table.specs.declared.shelves.Shelf.{Shelf}
-use Rattle.instance_table.specs.Homes.{with_seen}
-use Rattle.instance_table.specs.Table.{slot_at, once_at, group_at, instance_of, AreHeld}
+use Rattle.record_shelves.specs.declared.shelves.Shelf.{Shelf}
+use Rattle.record_shelves.specs.Homes.{with_seen}
+use Rattle.instance_table.specs.Table.{slot_at, group_at, instance_of, AreHeld}
+use Rattle.record_shelves.specs.Shelves.{once_at}
 use Rattle.instance_table.specs.Keeps.{InstKeeps, SlotKeeps}
-use Rattle.instance_table.proofs.Homes.{count_seen, lent_here}
-use Rattle.instance_table.proofs.Lent.{homes_of_all, pieces_lent, words_lent}
+use Rattle.record_shelves.proofs.Homes.{count_seen, lent_here}
+use Rattle.record_shelves.proofs.Lent.{homes_of_all, pieces_lent}
+use Rattle.instance_table.proofs.SeenWords.{words_lent}
 use Rattle.instance_table.proofs.Held.{homes_of_held, alike_at}
 
 -- instance i sees the pieces o from now on, and each other one sees the same pieces

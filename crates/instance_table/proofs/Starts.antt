@@ -16,22 +16,23 @@ use Rattle.scratch_group.specs.Words.{idle_words, lasting_words_by}
 use Rattle.lifecycle.specs.declared.instance.Instance.{Instance}
 use Rattle.lifecycle.specs.States.{Relation, SameInstance, SameOnce, IsLawful}
 use Rattle.lifecycle.specs.Moves.{settled, HasRoom}
-use Rattle.instance_table.specs.declared.TheConstants.{INSTANCES}
+use Rattle.record_shelves.specs.declared.TheConstants.{INSTANCES}
 use Rattle.instance_table.specs.declared.member.Member.{Member}
-use Rattle.instance_table.specs.declared.shelves.Shelf.{Shelf}
-use Rattle.instance_table.specs.declared.shelves.Stand.{Stand}
-use Rattle.instance_table.specs.declared.twins.Twins.{Twins}
-use Rattle.instance_table.specs.Shelves.{stand_at, no_shelf, shelf_at, home_of, piece_seen}
-use Rattle.instance_table.specs.Homes.{with_seen, HasHomes, AllHaveHomes, IsSameStand, SameShelves}
-use Rattle.instance_table.specs.Table.{slot_at, once_at, group_at, instance_of, AreAlike, AreHeld, AreBare, TablesOk}
+use Rattle.record_shelves.specs.declared.shelves.Shelf.{Shelf}
+use Rattle.record_shelves.specs.declared.shelves.Stand.{Stand}
+use Rattle.record_shelves.specs.declared.joining.Twins.{Twins}
+use Rattle.record_shelves.specs.Shelves.{stand_at, no_shelf, shelf_at, home_of, piece_seen, once_at}
+use Rattle.record_shelves.specs.Homes.{with_seen, HasHomes, AllHaveHomes, IsSameStand, SameShelves}
+use Rattle.instance_table.specs.Table.{slot_at, group_at, instance_of, AreAlike, AreHeld, AreBare, TablesOk}
 use Rattle.instance_table.specs.Keeps.{InstKeeps, SlotKeeps, Keeps}
-use Rattle.instance_table.specs.Twins.{twin_at, AreLeast, AreTogether}
-use Rattle.instance_table.specs.Joining.{stand_joined, piece_joined, pieces_joined, CanJoin}
-use Rattle.instance_table.proofs.Homes.{count_seen, lent_here, seen_shared, seen_apart}
-use Rattle.instance_table.proofs.Lent.{four_stands, no_stand, seen_at, stands_lent, pieces_lent, homes_of_all}
+use Rattle.record_shelves.specs.Joining.{twin_at, stand_joined, piece_joined, pieces_joined, CanJoin}
+use Rattle.record_shelves.specs.Holders.{AreLeast}
+use Rattle.instance_table.specs.Twins.{AreTogether}
+use Rattle.record_shelves.proofs.Homes.{count_seen, lent_here, seen_shared, seen_apart}
+use Rattle.record_shelves.proofs.Lent.{four_stands, no_stand, seen_at, stands_lent, pieces_lent, homes_of_all}
 use Rattle.instance_table.proofs.Held.{same_shape, same_members_slot, holder_of_member, homes_of_held, held_stays, bare_stays, alike_at}
 use Rattle.instance_table.proofs.Sights.{Views}
-use Rattle.instance_table.proofs.Joined.{bare_at, others_all, homes_all, least_all}
+use Rattle.record_shelves.proofs.Joined.{bare_at, others_all, homes_all, least_all}
 use Rattle.instance_table.proofs.Sharing.{IsTwin, TellsTwin, Shares, column_shares}
 use Rattle.instance_table.proofs.Leasts.{least_stays, together_stays}
 use Rattle.instance_table.proofs.Fills.{Fills, idle_words_at, idle_once, fill_seen}

@@ -2,11 +2,11 @@
 use Rattle.std.proofs.Common.{◌≡◌, ℕ, List, Option, Some, None, refl, sym, ◌∙◌, subst}
 use Rattle.std.proofs.lemmas.Option.{none-some}
 use Rattle.instance_table.specs.declared.member.Member.{Member}
-use Rattle.instance_table.specs.declared.shelves.Stand.{Stand}
-use Rattle.instance_table.specs.declared.shelves.Stand.TheVariants.{Here, With}
-use Rattle.instance_table.specs.declared.shelves.Shelf.{Shelf}
-use Rattle.instance_table.specs.Shelves.{stand_at, shelf_at, home_by, home_of}
-use Rattle.instance_table.specs.Homes.{IsPieceHere}
+use Rattle.record_shelves.specs.declared.shelves.Stand.{Stand}
+use Rattle.record_shelves.specs.declared.shelves.Stand.TheVariants.{Here, With}
+use Rattle.record_shelves.specs.declared.shelves.Shelf.{Shelf}
+use Rattle.record_shelves.specs.Shelves.{stand_at, shelf_at, home_by, home_of}
+use Rattle.record_shelves.specs.Homes.{IsPieceHere}
 use Rattle.instance_table.specs.Table.{slot_at, instance_of, AreAlike, IsHolder, AreHeld}
 use Rattle.instance_table.specs.Twins.{AreTogether}
 use Rattle.instance_table.proofs.Held.{SameHolder, IsSameHolder, alike_stays}

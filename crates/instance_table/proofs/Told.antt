@@ -15,16 +15,18 @@ use Rattle.scratch_group.specs.Words.{record_place}
 use Rattle.lifecycle.specs.declared.instance.Inst.{Inst}
 use Rattle.lifecycle.specs.Moves.{settled}
 use Rattle.lifecycle.specs.States.{SameInstance}
-use Rattle.lifecycle.proofs.Frames.{same_pieces, same_group}
-use Rattle.instance_table.specs.declared.TheConstants.{INSTANCES}
+use Rattle.record_loans.proofs.PieceLemmas.{same_pieces}
+use Rattle.lifecycle.proofs.Frames.{same_group}
+use Rattle.record_shelves.specs.declared.TheConstants.{INSTANCES}
 use Rattle.instance_table.specs.declared.member.Member.{Member}
-use Rattle.instance_table.specs.declared.shelves.Shelf.{Shelf}
-use Rattle.instance_table.specs.Homes.{with_seen, HasHomes, AllHaveHomes, SameShelves}
-use Rattle.instance_table.specs.Table.{slot_at, once_at, group_at, no_group, instance_of, is_member_of, IsHoused, IsTold, TablesOk, TablesTold}
+use Rattle.record_shelves.specs.declared.shelves.Shelf.{Shelf}
+use Rattle.record_shelves.specs.Homes.{with_seen, HasHomes, AllHaveHomes, SameShelves}
+use Rattle.instance_table.specs.Table.{slot_at, group_at, no_group, instance_of, is_member_of, IsHoused, IsTold, TablesOk, TablesTold}
+use Rattle.record_shelves.specs.Shelves.{once_at}
 use Rattle.instance_table.specs.Frames.{SameMember, IsSameMember, SameMembers}
 use Rattle.instance_table.proofs.Housing.{same_blocks, room_of_housed, room_stays, housed_stays}
-use Rattle.instance_table.proofs.Homes.{lent_here}
-use Rattle.instance_table.proofs.Lent.{same_shelves, stands_lent, homes_of_all}
+use Rattle.record_shelves.proofs.Homes.{lent_here}
+use Rattle.record_shelves.proofs.Lent.{same_shelves, stands_lent, homes_of_all}
 use Rattle.instance_table.proofs.Held.{same_members_slot}
 use Rattle.instance_table.proofs.Changes.{slot_in, pieces_then, shelves_then, block_then, pieces_stay, blocks_stay}
 

@@ -22,22 +22,22 @@ use Rattle.scratch_group.specs.Blocks.{block_in}
 use Rattle.scratch_group.specs.Words.{words_by, record_words, active_words, scratch_offset}
 use Rattle.lifecycle.specs.declared.instance.Instance.{Instance}
 use Rattle.lifecycle.proofs.Places.{some_words}
-use Rattle.instance_table.specs.declared.TheConstants.{INSTANCES}
+use Rattle.record_shelves.specs.declared.TheConstants.{INSTANCES}
 use Rattle.instance_table.specs.declared.member.Member.{Member}
-use Rattle.instance_table.specs.declared.shelves.Stand.{Stand}
-use Rattle.instance_table.specs.declared.shelves.Stand.TheVariants.{Here, With}
-use Rattle.instance_table.specs.declared.shelves.Shelf.{Shelf}
-use Rattle.instance_table.specs.Shelves.{stand_at, shelf_at, home_by, home_of}
-use Rattle.instance_table.specs.Homes.{IsPieceHere}
-use Rattle.instance_table.specs.Holders.{stands_with, holder_from, next_holder}
-use Rattle.instance_table.specs.Table.{slot_at, once_at, group_at, instance_of, AreAlike, IsHolder, AreHeld, AreBare, TablesOk}
-use Rattle.instance_table.specs.Twins.{Asked, asked, asked_by, is_twin, twin_of, AreLeast, AreTogether}
-use Rattle.instance_table.specs.Joining.{CanJoin}
+use Rattle.record_shelves.specs.declared.shelves.Stand.{Stand}
+use Rattle.record_shelves.specs.declared.shelves.Stand.TheVariants.{Here, With}
+use Rattle.record_shelves.specs.declared.shelves.Shelf.{Shelf}
+use Rattle.record_shelves.specs.Shelves.{stand_at, shelf_at, home_by, home_of, once_at}
+use Rattle.record_shelves.specs.Homes.{IsPieceHere}
+use Rattle.record_shelves.specs.Holders.{stands_with, holder_from, next_holder, AreLeast}
+use Rattle.instance_table.specs.Table.{slot_at, group_at, instance_of, AreAlike, IsHolder, AreHeld, AreBare, TablesOk}
+use Rattle.instance_table.specs.Twins.{Asked, asked, asked_by, is_twin, twin_of, AreTogether}
+use Rattle.record_shelves.specs.Joining.{CanJoin}
 use Rattle.instance_table.proofs.Finds.{find_tells, find_first, find_none, find_same}
-use Rattle.instance_table.proofs.Stands.{seen_here}
-use Rattle.instance_table.proofs.Lent.{no_stand, seen_at}
+use Rattle.record_shelves.proofs.Stands.{seen_here}
+use Rattle.record_shelves.proofs.Lent.{no_stand, seen_at}
 use Rattle.instance_table.proofs.Held.{alike_back, alike_then, homes_of_held}
-use Rattle.instance_table.proofs.Handing.{with_told, with_not, with_of, held_apart}
+use Rattle.record_shelves.proofs.Handing.{with_told, with_not, with_of, held_apart}
 use Rattle.instance_table.proofs.Changes.{slot_in}
 use Rattle.instance_table.proofs.Likes.{twin_tells, twin_told}
 use Rattle.instance_table.proofs.Sharing.{TellsTwin}

@@ -1,5 +1,5 @@
 -- Which instances share the block of a write-once record.
-use Rattle.std.specs.Prelude.{ℕ, zero, suc, ℤ, ◌≡◌, ◌<◌, Bool, true, false, ◌&&◌, ◌==◌, List, Option, Some, None, find}
+use Rattle.std.specs.Prelude.{ℕ, ℤ, ◌≡◌, Bool, true, false, ◌&&◌, ◌==◌, List, Option, Some, None, find}
 use Rattle.std.specs.List.{range_with_len}
 use Rattle.std.specs.Cmp.Lexicographic.{pointwise}
 use Rattle.std.specs.Ordering.{int_eq}
@@ -8,12 +8,12 @@ use Rattle.mem_rec.specs.declared.Attr.{Attr}
 use Rattle.mem_rec.specs.declared.Attr.TheVariants.{Scratch, Persist, WriteOnce}
 use Rattle.mem_rec.specs.Records.{same_space}
 use Rattle.ialg.specs.Records.{record_at, unplaced}
-use Rattle.instance_table.specs.declared.TheConstants.{INSTANCES}
+use Rattle.record_shelves.specs.declared.TheConstants.{INSTANCES}
 use Rattle.instance_table.specs.declared.member.Member.{Member}
-use Rattle.instance_table.specs.declared.shelves.Shelf.{Shelf}
-use Rattle.instance_table.specs.declared.shelves.Stand.TheVariants.{With}
-use Rattle.instance_table.specs.declared.twins.Twins.{Twins}
-use Rattle.instance_table.specs.Shelves.{stand_at, shelf_at, home_of}
+use Rattle.record_shelves.specs.declared.shelves.Shelf.{Shelf}
+use Rattle.record_shelves.specs.declared.joining.Twins.{Twins}
+use Rattle.record_shelves.specs.Joining.{twin_at}
+use Rattle.record_shelves.specs.Shelves.{home_of}
 use Rattle.instance_table.specs.Table.{slot_at, instance_of, AreAlike}
 
 -- an instance as it was asked for: its kind, its parameters, and the memory that the kind asks for, without bases
@@ -49,20 +49,9 @@ abbrev pub asked_by : {M : Type 0} → Option (Member M) → Option (Asked M)
 asked_by None = None
 asked_by (Some m) = Some (asked (instance_of m.inst).kind (instance_of m.inst).params.items (instance_of m.inst).table)
 
-abbrev pub twin_at : Twins → ℕ → Option ℕ
-twin_at t zero = t.t0
-twin_at t (suc zero) = t.t1
-twin_at t (suc (suc zero)) = t.t2
-twin_at t (suc (suc (suc zero))) = t.t3
-twin_at t (suc (suc (suc (suc k)))) = None
-
 -- these are the twins of what is asked for, among the instances in the slots
 abbrev pub AreTwins : {M : Type 0} → (M → M → Bool) → List (Option (Member M)) → Asked M → Twins → Type 0
 AreTwins same slots x t = (k : ℕ) → twin_at t k ≡ twin_of same (λ j. asked_by (slot_at slots j)) x k
-
--- a record that stands with another instance stands with one of a lower number: the home is the least holder
-abbrev pub AreLeast : List Shelf → Type 0
-AreLeast once = (i k home : ℕ) → stand_at (shelf_at once i) k ≡ With home → home < i
 
 -- instances that are alike in a record have it with one instance
 abbrev pub AreTogether : {M : Type 0} → List (Option (Member M)) → List Shelf → Type 0

@@ -1,5 +1,5 @@
 //! Which member of a group is active.
-ghost use Rattle.std.specs.Prelude.{◌≡◌, ℕ, ℤ, ◌<◌, length, Option, Some, None, IsSome, is_some};
+ghost use Rattle.std.specs.Prelude.{◌≡◌, ℕ, ℤ, ◌<◌, Option, Some, None, IsSome, is_some};
 ghost use Rattle.ialg.specs.History.{History};
 ghost use Rattle.record_loans.specs.Pieces.{SamePieces};
 ghost use Rattle.record_loans.specs.Blocks.{IsSameBlock};
@@ -12,10 +12,10 @@ ghost use Rattle.instance_table.specs.Keeps.{Keeps};
 ghost use Rattle.instance_table.specs.Frames.{SameTables};
 
 use crate::member::{Member, active_group, idle_in, make_active, make_idle};
-use crate::shelves::{Shelf, put_seen, take_seen};
 use ialg::Ialg;
 use lifecycle::{Active, Idle, Inst};
 use record_loans::Pieces;
+use record_shelves::{Shelf, put_seen, take_seen};
 use scratch_group::Group;
 
 /// Deactivates the active member of a group, where it stands. In a host of a poison word the blocks are filled with it.

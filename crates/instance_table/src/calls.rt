@@ -14,10 +14,10 @@ ghost use Rattle.instance_table.specs.declared.member.Member.{Member};
 
 use crate::activity::{rest, touch};
 use crate::member::{Member, idle_in, make_active};
-use crate::shelves::{Shelf, put_seen, take_seen};
 use ialg::{BLOCK_SAMPLES, Block, Ctl, Ialg, Status};
 use lifecycle::{Idle, Inst};
 use record_loans::Pieces;
+use record_shelves::{Shelf, put_seen, take_seen};
 use scratch_group::Group;
 
 /// Gives the active instance a block of samples.

@@ -6,29 +6,19 @@
 
 mod activity;
 mod calls;
-mod holders;
-mod joining;
 mod life;
 mod member;
 mod moves;
-mod shelves;
 mod tables;
 mod twins;
 
 pub use activity::{quiet, rest, touch};
 pub use calls::{command, process};
-pub use holders::next_holder;
 pub use life::{end, start};
 pub use member::{Member, lives};
 pub use moves::tell_members;
-pub use shelves::{Shelf, Stand, home, put_seen, sees, take_seen};
-pub use tables::{
-    empty_groups, empty_once, empty_slots, end_groups, end_once, end_slots, in_order,
-};
-pub use twins::{Twins, find_twins};
-
-/// Instances have the numbers below this.
-pub const INSTANCES: usize = 64;
+pub use tables::{empty_groups, empty_slots, end_groups, end_slots, in_order};
+pub use twins::find_twins;
 
 /// Groups have the numbers below this.
 pub const GROUPS: u8 = 8;

@@ -6,27 +6,25 @@ ghost use Rattle.record_loans.specs.Pieces.{piece_at, SamePieces};
 ghost use Rattle.scratch_group.specs.Words.{idle_words};
 ghost use Rattle.lifecycle.specs.States.{Fits, SameOnce};
 ghost use Rattle.lifecycle.specs.Moves.{HasRoom, settled};
-ghost use Rattle.instance_table.specs.declared.TheConstants.{INSTANCES, GROUPS};
+ghost use Rattle.record_shelves.specs.declared.TheConstants.{INSTANCES};
+ghost use Rattle.instance_table.specs.declared.TheConstants.{GROUPS};
 ghost use Rattle.instance_table.specs.declared.member.Member.{Member};
-ghost use Rattle.instance_table.specs.Shelves.{stand_at, shelf_at, home_of};
-ghost use Rattle.instance_table.specs.Homes.{IsSameStand};
-ghost use Rattle.instance_table.specs.Holders.{left_with, next_holder, stand_without};
-ghost use Rattle.instance_table.specs.Table.{slot_at, once_at, no_pieces, group_at, own_of, instance_of, active_in, activity_at, quieted_by, TablesOk, ArePoisoned};
-ghost use Rattle.instance_table.specs.Twins.{asked, asked_by, twin_at, twin_of, AreTwins, AreLeast, AreTogether};
-ghost use Rattle.instance_table.specs.Joining.{stand_joined, pieces_joined};
+ghost use Rattle.record_shelves.specs.Shelves.{stand_at, shelf_at, home_of, once_at, no_pieces};
+ghost use Rattle.record_shelves.specs.Homes.{IsSameStand};
+ghost use Rattle.record_shelves.specs.Holders.{left_with, next_holder, stand_without, AreLeast};
+ghost use Rattle.instance_table.specs.Table.{slot_at, group_at, own_of, instance_of, active_in, activity_at, quieted_by, TablesOk, ArePoisoned};
+ghost use Rattle.instance_table.specs.Twins.{asked, asked_by, twin_of, AreTwins, AreTogether};
+ghost use Rattle.record_shelves.specs.Joining.{twin_at, stand_joined, pieces_joined};
 ghost use Rattle.instance_table.specs.Keeps.{Keeps, with_history};
 ghost use Rattle.instance_table.specs.Frames.{OthersStay, OthersSame, IsStarted};
 
 use crate::activity::quiet;
-use crate::holders::hand_on;
-use crate::joining::join;
 use crate::member::{Member, put_in, take_out};
-use crate::shelves::{Shelf, put_seen, take_seen};
-use crate::twins::Twins;
 use ialg::{Ialg, Params};
 use lifecycle::{Idle, Inst};
 use mem_rec::MemTab;
 use record_loans::Pieces;
+use record_shelves::{Shelf, Twins, hand_on, join, put_seen, take_seen};
 use scratch_group::Group;
 
 /// Starts an instance in an empty slot, in the pieces that were placed for it and those of its twins, with which it shares the others. It is

@@ -2,13 +2,11 @@
 ghost use Rattle.std.specs.Prelude.{◌≡◌, ◌≢◌, ℕ, ◌<◌, length, Option, Some, None, IsSome, is_some, IfSome, IfNone, OnSome, slice_set};
 ghost use Rattle.lifecycle.specs.declared.instance.Inst.TheVariants.{Idling, Running};
 ghost use Rattle.instance_table.specs.declared.member.Member.{Member};
-ghost use Rattle.instance_table.specs.Table.{slot_at, no_pieces, group_of, slot_active_in, instance_of};
+ghost use Rattle.instance_table.specs.Table.{slot_at, group_of, slot_active_in, instance_of};
 
 use core::mem::replace_with;
 use ialg::Ialg;
 use lifecycle::Inst;
-use record_loans::Pieces;
-use space_raw::Piece;
 use std::mem;
 
 /// An instance, and the number of its group.
@@ -89,7 +87,7 @@ fn as_active<M: Ialg>(slot: Option<Member<M>>, _nothing: ()) -> (Option<Member<M
     (Some(Member { group, inst }), ())
 }
 
-/// Lets the instance of a slot stand in it as an idle one. It changes in its place, so that its own words are not copied.
+/// Lets the instance of a slot stand in it as an idle one.
 pub(crate) fn make_idle<M: Ialg>(slots: &mut Vec<Option<Member<M>>>, i: u8)
     requires { IsSome (slot_at slots.old.items i) }
     ensures { (m : Member M) → slot_at slots.old.items i ≡ Some m
@@ -98,7 +96,7 @@ pub(crate) fn make_idle<M: Ialg>(slots: &mut Vec<Option<Member<M>>>, i: u8)
     replace_with(&mut slots[i as usize], (), as_idle);
 }
 
-/// Lets the instance of a slot stand in it as an active one, where it stands.
+/// Lets the instance of a slot stand in it as an active one.
 pub(crate) fn make_active<M: Ialg>(slots: &mut Vec<Option<Member<M>>>, i: u8)
     requires { IsSome (slot_at slots.old.items i) }
     ensures { (m : Member M) → slot_at slots.old.items i ≡ Some m
@@ -120,27 +118,6 @@ pub(crate) fn idle_in<M: Ialg>(slots: &Vec<Option<Member<M>>>, i: u8) -> Option<
             Inst::Running(_) => None,
         },
         None => unreachable!(),
-    }
-}
-
-/// Ends a table of no pieces.
-pub(crate) fn end_absent(pieces: Pieces)
-    requires { pieces ≡ no_pieces }
-{
-    let Pieces { p0, p1, p2, p3 } = pieces;
-    end_none(p0);
-    end_none(p1);
-    end_none(p2);
-    end_none(p3);
-}
-
-/// Ends a piece that isn't there.
-pub(crate) fn end_none(piece: Option<Piece>)
-    requires { piece ≡ None }
-{
-    match piece {
-        Some(_piece) => unreachable!(),
-        None => {}
     }
 }
 

@@ -3,20 +3,20 @@ ghost use Rattle.std.specs.Prelude.{◌≡◌, ℕ, ℤ, Option, None, length, I
 ghost use Rattle.ialg.specs.History.{History};
 ghost use Rattle.mem_rec.specs.declared.Space.{Space};
 ghost use Rattle.scratch_group.specs.Blocks.{block_in};
-ghost use Rattle.instance_table.specs.declared.TheConstants.{INSTANCES, GROUPS};
-ghost use Rattle.instance_table.specs.Shelves.{no_shelf, shelf_at};
-ghost use Rattle.instance_table.specs.Table.{slot_at, once_at, no_pieces, IsUnshared, group_at, activity_at, untouched, TablesOk, ArePoisoned};
+ghost use Rattle.record_shelves.specs.declared.TheConstants.{INSTANCES};
+ghost use Rattle.instance_table.specs.declared.TheConstants.{GROUPS};
+ghost use Rattle.record_shelves.specs.Shelves.{no_shelf, shelf_at};
+ghost use Rattle.instance_table.specs.Table.{slot_at, group_at, activity_at, untouched, TablesOk, ArePoisoned};
 ghost use Rattle.instance_table.specs.Keeps.{Keeps};
 
-use crate::member::{Member, end_absent};
-use crate::shelves::Shelf;
-use crate::{GROUPS, INSTANCES};
+use crate::GROUPS;
+use crate::member::Member;
 use ialg::Ialg;
-use record_loans::Pieces;
+use record_shelves::{INSTANCES, Shelf};
 use scratch_group::Group;
 use std::alloc::{AllocError, Allocator};
 
-/// A slot for each instance number, each of them empty. This table and the two below stand over any allocator, and ask it once each.
+/// A slot for each instance number, each of them empty. This table and the one below stand over any allocator, and ask it once each.
 pub fn empty_slots<M: Ialg, A: Allocator>(alloc: A) -> Result<Vec<Option<Member<M>>, A>, AllocError>
     ensures count { IfOk result (λ v. length v.items ≡ INSTANCES) }
     ensures empty { IfOk result (λ v. (i : ℕ) → slot_at v.items i ≡ None) }
@@ -26,20 +26,6 @@ pub fn empty_slots<M: Ialg, A: Allocator>(alloc: A) -> Result<Vec<Option<Member<
         slots.push_reserved(None);
     }
     Ok(slots)
-}
-
-/// For each instance number the pieces of its write-once records, of which there are none.
-pub fn empty_once<A: Allocator>(alloc: A) -> Result<Vec<Shelf, A>, AllocError>
-    ensures count { IfOk result (λ v. length v.items ≡ INSTANCES) }
-    ensures empty { IfOk result (λ v. (i : ℕ) → once_at v.items i ≡ no_pieces) }
-    ensures unshared { IfOk result (λ v. (i : ℕ) → IsUnshared v.items i) }
-    ensures bare { IfOk result (λ v. (i : ℕ) → shelf_at v.items i ≡ no_shelf) }
-{
-    let mut once = Vec::with_capacity(alloc, INSTANCES)?;
-    for _ in 0..INSTANCES {
-        once.push_reserved(Shelf::of(Pieces::none()));
-    }
-    Ok(once)
 }
 
 /// Groups without blocks and members.
@@ -67,17 +53,6 @@ pub fn end_slots<M: Ialg, A: Allocator>(slots: Vec<Option<Member<M>>, A>)
         }
     }
     slots.destroy_empty();
-}
-
-/// Ends a table of no pieces.
-pub fn end_once<A: Allocator>(once: Vec<Shelf, A>)
-    requires { (i : ℕ) → once_at once.items i ≡ no_pieces }
-{
-    let mut once = once;
-    while let Some(shelf) = once.pop() {
-        end_absent(shelf.pieces());
-    }
-    once.destroy_empty();
 }
 
 /// Ends groups whose blocks were all taken out.

@@ -1,24 +1,15 @@
 //! Which instances share the write-once records of one that is to be created.
 ghost use Rattle.std.specs.Prelude.{◌≡◌, ◌<◌, length, Some};
 ghost use Rattle.ialg.specs.Records.{record_at, unplaced};
-ghost use Rattle.instance_table.specs.declared.TheConstants.{INSTANCES};
+ghost use Rattle.record_shelves.specs.declared.TheConstants.{INSTANCES};
 ghost use Rattle.instance_table.specs.Table.{slot_at};
 ghost use Rattle.instance_table.specs.Twins.{asked, asked_by, is_once, is_same_once, is_twin, twin_of, AreTwins};
 
-use crate::INSTANCES;
 use crate::member::Member;
 use ialg::{Ialg, Params};
 use lifecycle::{Inst, Instance};
 use mem_rec::{Attr, MemRec, MemTab, Space};
-
-/// For each record of an instance the least number of another one that shares it, if there is one.
-#[derive(Clone, Copy)]
-pub struct Twins {
-    pub t0: Option<u8>,
-    pub t1: Option<u8>,
-    pub t2: Option<u8>,
-    pub t3: Option<u8>,
-}
+use record_shelves::{INSTANCES, Twins};
 
 /// Record `k` of a table, blank past its end.
 fn record_of(table: &MemTab, k: usize) -> MemRec

@@ -12,8 +12,9 @@ use Rattle.ialg.specs.History.{History}
 use Rattle.scratch_group.specs.declared.group.Group.{Group}
 use Rattle.lifecycle.specs.States.{Relation}
 use Rattle.instance_table.specs.declared.member.Member.{Member}
-use Rattle.instance_table.specs.declared.shelves.Shelf.{Shelf}
-use Rattle.instance_table.specs.Table.{slot_at, once_at, Activity, activity_at, rested, with_activity}
+use Rattle.record_shelves.specs.declared.shelves.Shelf.{Shelf}
+use Rattle.instance_table.specs.Table.{slot_at, Activity, activity_at, rested, with_activity}
+use Rattle.record_shelves.specs.Shelves.{once_at}
 use Rattle.instance_table.specs.Keeps.{Keeps, SlotKeeps, with_history}
 use Rattle.host_spaces.specs.declared.spaces.Sizes.{Sizes}
 use Rattle.host_spaces.specs.declared.spaces.Spaces.{Spaces}

@@ -11,7 +11,8 @@ ghost use Rattle.kept_moves.specs.Hosts.{HostKeeps};
 
 use host_spaces::Spaces;
 use ialg::{Ialg, Params, Refusal, copied};
-use instance_table::{GROUPS, INSTANCES, Member, Shelf, lives};
+use instance_table::{GROUPS, Member, lives};
+use record_shelves::{INSTANCES, Shelf};
 use mem_rec::MemTab;
 use scratch_group::Group;
 use sound_machine::creations_answer_in_order;

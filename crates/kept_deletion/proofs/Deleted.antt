@@ -8,8 +8,9 @@ use Rattle.ialg.specs.Meaning.{Meaning}
 use Rattle.scratch_group.specs.declared.group.Group.{Group}
 use Rattle.lifecycle.specs.States.{Relation}
 use Rattle.instance_table.specs.declared.member.Member.{Member}
-use Rattle.instance_table.specs.declared.shelves.Shelf.{Shelf}
-use Rattle.instance_table.specs.Table.{Activity, slot_at, once_at, group_of, is_member_of, activity_at, quieted, with_activity}
+use Rattle.record_shelves.specs.declared.shelves.Shelf.{Shelf}
+use Rattle.instance_table.specs.Table.{Activity, slot_at, group_of, is_member_of, activity_at, quieted, with_activity}
+use Rattle.record_shelves.specs.Shelves.{once_at}
 use Rattle.instance_table.specs.Keeps.{Keeps, SlotKeeps}
 use Rattle.host_spaces.specs.declared.spaces.Spaces.{Spaces}
 use Rattle.host_spaces.specs.Picture.{Picture, picture_of}

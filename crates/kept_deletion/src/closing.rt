@@ -10,7 +10,8 @@ ghost use Rattle.kept_moves.specs.Hosts.{HostKeeps};
 use crate::deletions::delete;
 use host_spaces::Spaces;
 use ialg::Ialg;
-use instance_table::{INSTANCES, Member, Shelf};
+use instance_table::Member;
+use record_shelves::{INSTANCES, Shelf};
 use scratch_group::Group;
 
 /// Deletes all instances, in ascending number, as the machine does. No block is left in the spaces.

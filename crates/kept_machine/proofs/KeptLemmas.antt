@@ -12,8 +12,9 @@ use Rattle.ialg.specs.Records.{unplaced}
 use Rattle.scratch_group.specs.declared.group.Group.{Group}
 use Rattle.lifecycle.specs.States.{Relation, IsLawful, all_outputs, status_after}
 use Rattle.instance_table.specs.declared.member.Member.{Member}
-use Rattle.instance_table.specs.declared.shelves.Shelf.{Shelf}
-use Rattle.instance_table.specs.Table.{Activity, slot_at, once_at, group_at, group_of, instance_of, activity_at, touched, touched_by, rested, with_activity}
+use Rattle.record_shelves.specs.declared.shelves.Shelf.{Shelf}
+use Rattle.instance_table.specs.Table.{Activity, slot_at, group_at, group_of, instance_of, activity_at, touched, touched_by, rested, with_activity}
+use Rattle.record_shelves.specs.Shelves.{once_at}
 use Rattle.instance_table.specs.Keeps.{Keeps, SlotKeeps, with_history}
 use Rattle.instance_table.specs.Frames.{SameSlot, SameTables, IsSameMember, SameMembers}
 use Rattle.sound_machine.specs.State.{Living, State, with_living}

@@ -10,7 +10,7 @@ use Rattle.ialg.specs.declared.refusal.Refusal.{Refusal}
 use Rattle.scratch_group.specs.declared.group.Group.{Group}
 use Rattle.lifecycle.specs.States.{Relation}
 use Rattle.instance_table.specs.declared.member.Member.{Member}
-use Rattle.instance_table.specs.declared.shelves.Shelf.{Shelf}
+use Rattle.record_shelves.specs.declared.shelves.Shelf.{Shelf}
 use Rattle.instance_table.specs.Table.{slot_at, instance_of, activity_at}
 use Rattle.instance_table.specs.Keeps.{Keeps}
 use Rattle.sound_machine.specs.State.{Living, State}

@@ -10,7 +10,8 @@ ghost use Rattle.sound_machine.specs.Steps.{processed};
 ghost use Rattle.kept_machine.specs.Kept.{TablesKeep, told};
 
 use ialg::{BLOCK_SAMPLES, Block, Ctl, Ialg, Refusal, Status};
-use instance_table::{GROUPS, INSTANCES, Member, Shelf, command, lives, process, rest};
+use instance_table::{GROUPS, Member, command, lives, process, rest};
+use record_shelves::{INSTANCES, Shelf};
 use scratch_group::Group;
 
 /// Gives the instance a block of samples, as the machine does.

@@ -7,7 +7,8 @@ ghost use Rattle.sound_machine.specs.State.{State};
 ghost use Rattle.kept_machine.specs.Kept.{TablesKeep};
 
 use ialg::Ialg;
-use instance_table::{Member, Shelf, tell_members};
+use instance_table::{Member, tell_members};
+use record_shelves::Shelf;
 use scratch_group::Group;
 
 /// Tells each member of the group where its records lie now. The tables keep the state that they kept: the machine's instances know no

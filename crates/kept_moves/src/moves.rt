@@ -11,7 +11,8 @@ ghost use Rattle.kept_moves.specs.Hosts.{HostKeeps};
 
 use host_spaces::Spaces;
 use ialg::Ialg;
-use instance_table::{Member, Shelf};
+use instance_table::Member;
+use record_shelves::Shelf;
 use mem_rec::Space;
 use placed_instances::{in_order, make_next_move};
 use scratch_group::Group;

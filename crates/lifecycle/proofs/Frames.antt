@@ -14,17 +14,11 @@ use Rattle.scratch_group.specs.Blocks.{block_in, SameGroup}
 use Rattle.record_loans.specs.Pieces.{piece_at, piece_words, piece_place, IsSamePiece, SamePieces, IsInSpace}
 use Rattle.scratch_group.specs.Words.{words_by, record_words, active_words, scratch_end, scratch_offset, place_by, record_place, with_bases, placed}
 use Rattle.scratch_group.proofs.Tables.{unplaced-with_bases}
+use Rattle.record_loans.proofs.PieceLemmas.{piece_same, reflexive, same_pieces}
 use Rattle.lifecycle.specs.States.{Fits}
 use Rattle.std.specs.Int.{next_multiple_of}
 use Rattle.ialg.proofs.Tables.{record_at-unplaced}
 use Rattle.lifecycle.proofs.Words.{active_words-same, size-same, ends-unplaced}
-
-pub piece_same : (a b : Pieces) (k : ℕ) → SamePieces a b → IsSamePiece (piece_at a k) (piece_at b k)
-piece_same a b zero s = s.p0
-piece_same a b (suc zero) s = s.p1
-piece_same a b (suc (suc zero)) s = s.p2
-piece_same a b (suc (suc (suc zero))) s = s.p3
-piece_same a b (suc (suc (suc (suc k)))) s = refl
 
 pub block_same : (a b : Group) (space : Space) → SameGroup a b → IsSamePiece (block_piece (block_in a space)) (block_piece (block_in b space))
 block_same a b Daram s = s.daram.0
@@ -87,10 +81,6 @@ pub fits_stay : (rs : List MemRec) (own own' shared shared' : Pieces) (g g' : Gr
     → Fits rs own shared g → Fits rs own' shared' g'
 fits_stay rs own own' shared shared' g g' so ss sg f = fits_at rs own own' shared shared' g g' so ss (λ space. block_same g g' space sg) f
 
-pub reflexive : (p : Option Span) → IsSamePiece p p
-reflexive None = refl
-reflexive (Some p) = (refl, refl, refl)
-
 pub same_group : (g : Group) → SameGroup g g
 same_group g = record {
   daram = (reflexive (block_piece g.daram), refl);
@@ -120,9 +110,6 @@ fits_settled rs rs' own own0 shared g e er f =
 
 pub unplaced-placed : (rs rs' : List MemRec) (own shared : Pieces) (g : Group) → rs' ≡ placed rs own shared g → unplaced rs ≡ unplaced rs'
 unplaced-placed rs rs' own shared g e = sym (ap unplaced e ∙ unplaced-with_bases rs (record_place rs own shared g))
-
-pub same_pieces : (ps : Pieces) → SamePieces ps ps
-same_pieces ps = record { p0 = reflexive ps.p0; p1 = reflexive ps.p1; p2 = reflexive ps.p2; p3 = reflexive ps.p3 }
 
 -- another member was active meanwhile
 pub fits_beside : (rs : List MemRec) (own shared : Pieces) (g g' : Group) → SameGroup g g' → Fits rs own shared g → Fits rs own shared g'

@@ -19,9 +19,9 @@ use Rattle.space_blocks.specs.Blocks.{Owns, block_of, block_of_piece, owned}
 use Rattle.host_spaces.specs.declared.spaces.Spaces.{Spaces}
 use Rattle.host_spaces.specs.Picture.{blocks_in, picture_of}
 use Rattle.instance_table.specs.declared.member.Member.{Member}
-use Rattle.instance_table.specs.declared.shelves.Shelf.{Shelf}
-use Rattle.instance_table.specs.Shelves.{home_of}
-use Rattle.instance_table.specs.Table.{AreHeld, slot_at, once_at, group_at, instance_of}
+use Rattle.record_shelves.specs.declared.shelves.Shelf.{Shelf}
+use Rattle.record_shelves.specs.Shelves.{home_of, once_at}
+use Rattle.instance_table.specs.Table.{AreHeld, slot_at, group_at, instance_of}
 use Rattle.instance_table.proofs.Held.{alike_at}
 use Rattle.placed_instances.specs.Standing.{AreStanding, table_of}
 use Rattle.placed_instances.specs.Lent.{AreHolders, lent_record, record_in}

@@ -27,8 +27,9 @@ use Rattle.host_spaces.specs.declared.spaces.Spaces.{Spaces}
 use Rattle.host_spaces.specs.Picture.{blocks_in, picture_of, space_in}
 use Rattle.instance_table.specs.declared.TheConstants.{GROUPS}
 use Rattle.instance_table.specs.declared.member.Member.{Member}
-use Rattle.instance_table.specs.declared.shelves.Shelf.{Shelf}
-use Rattle.instance_table.specs.Table.{slot_at, once_at, group_at, no_group, instance_of, own_of, activity_at, Activity, TablesOk, TablesTold, ArePoisoned}
+use Rattle.record_shelves.specs.declared.shelves.Shelf.{Shelf}
+use Rattle.instance_table.specs.Table.{slot_at, group_at, no_group, instance_of, own_of, activity_at, Activity, TablesOk, TablesTold, ArePoisoned}
+use Rattle.record_shelves.specs.Shelves.{once_at}
 use Rattle.table_moves.specs.Moves.{WordsStay}
 use Rattle.table_moves.proofs.Owns.{told_later}
 use Rattle.lifecycle.specs.Moves.{HasRoom}

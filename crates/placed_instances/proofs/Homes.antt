@@ -17,7 +17,7 @@ use Rattle.record_loans.specs.Blocks.{block_piece, block_align, IsSameBlock}
 use Rattle.scratch_group.specs.declared.group.Group.{Group}
 use Rattle.scratch_group.specs.Blocks.{block_in, block_needed}
 use Rattle.lifecycle.specs.Rooms.{NoNeed, lasting_piece, piece_of_record}
-use Rattle.lifecycle.proofs.Frames.{piece_same}
+use Rattle.record_loans.proofs.PieceLemmas.{piece_same}
 use Rattle.space_blocks.specs.declared.placed.Owner.{Owner}
 use Rattle.space_blocks.specs.declared.placed.Owner.TheVariants.{Record}
 use Rattle.space_blocks.specs.declared.placed.Owner.TheVariants.{Scratch as GroupScratch}
@@ -27,9 +27,9 @@ use Rattle.host_spaces.specs.declared.spaces.Spaces.{Spaces}
 use Rattle.host_spaces.specs.Picture.{blocks_in, picture_of, space_in}
 use Rattle.host_spaces.specs.Pieces.{IsPieceOf, record_block}
 use Rattle.instance_table.specs.declared.member.Member.{Member}
-use Rattle.instance_table.specs.declared.shelves.Shelf.{Shelf}
-use Rattle.instance_table.specs.Shelves.{stand_at, shelf_at, home_of}
-use Rattle.instance_table.specs.Table.{slot_at, once_at, group_at, no_pieces, instance_of, is_member_of}
+use Rattle.record_shelves.specs.declared.shelves.Shelf.{Shelf}
+use Rattle.record_shelves.specs.Shelves.{stand_at, shelf_at, home_of, once_at, no_pieces}
+use Rattle.instance_table.specs.Table.{slot_at, group_at, instance_of, is_member_of}
 use Rattle.instance_table.specs.Frames.{SameSlot, SameMember, IsSameMember, SameMembers, SameTables}
 use Rattle.instance_table.proofs.Leasts.{least_stays, together_members}
 use Rattle.table_moves.proofs.Holders.{home_same}

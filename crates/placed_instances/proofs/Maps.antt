@@ -26,12 +26,12 @@ use Rattle.host_spaces.specs.declared.spaces.Spaces.{Spaces}
 use Rattle.host_spaces.specs.Picture.{Picture, blocks_in, empty_picture, picture_of}
 use Rattle.host_spaces.specs.Pieces.{record_block}
 use Rattle.instance_table.specs.declared.member.Member.{Member}
-use Rattle.instance_table.specs.declared.shelves.Shelf.{Shelf}
-use Rattle.instance_table.specs.declared.shelves.Stand.TheVariants.{Here, With}
-use Rattle.instance_table.specs.Shelves.{stand_at, no_shelf, shelf_at, home_of}
-use Rattle.instance_table.specs.Table.{TablesOk, slot_at, once_at, group_at, no_group, no_pieces, instance_of}
-use Rattle.instance_table.proofs.Stands.{seen_of}
-use Rattle.instance_table.proofs.Lent.{no_stand}
+use Rattle.record_shelves.specs.declared.shelves.Shelf.{Shelf}
+use Rattle.record_shelves.specs.declared.shelves.Stand.TheVariants.{Here, With}
+use Rattle.record_shelves.specs.Shelves.{stand_at, no_shelf, shelf_at, home_of, once_at, no_pieces}
+use Rattle.instance_table.specs.Table.{TablesOk, slot_at, group_at, no_group, instance_of}
+use Rattle.record_shelves.proofs.Stands.{seen_of}
+use Rattle.record_shelves.proofs.Lent.{no_stand}
 use Rattle.placed_instances.specs.Standing.{AreStanding, table_of}
 use Rattle.placed_instances.proofs.Rooms.{compare, either}
 use Rattle.placed_instances.proofs.Homes.{own_home, home_record}

@@ -26,12 +26,12 @@ use Rattle.host_spaces.specs.declared.spaces.Spaces.{Spaces}
 use Rattle.host_spaces.specs.Picture.{blocks_in, picture_of, space_in}
 use Rattle.host_spaces.specs.Pieces.{HasBlocks, IsPieceOf, is_write_once, record_block}
 use Rattle.instance_table.specs.declared.member.Member.{Member}
-use Rattle.instance_table.specs.declared.shelves.Shelf.{Shelf}
-use Rattle.instance_table.specs.declared.shelves.Stand.TheVariants.{Here}
-use Rattle.instance_table.specs.Shelves.{stand_at, piece_here, shelf_at, home_by, home_of}
-use Rattle.instance_table.specs.Homes.{AllHaveHomes}
-use Rattle.instance_table.specs.Table.{slot_at, once_at, group_at, AreBare, instance_of, is_member_of}
-use Rattle.instance_table.proofs.Lent.{no_stand, seen_at}
+use Rattle.record_shelves.specs.declared.shelves.Shelf.{Shelf}
+use Rattle.record_shelves.specs.declared.shelves.Stand.TheVariants.{Here}
+use Rattle.record_shelves.specs.Shelves.{stand_at, piece_here, shelf_at, home_by, home_of, once_at}
+use Rattle.record_shelves.specs.Homes.{AllHaveHomes}
+use Rattle.instance_table.specs.Table.{slot_at, group_at, AreBare, instance_of, is_member_of}
+use Rattle.record_shelves.proofs.Lent.{no_stand, seen_at}
 use Rattle.instance_table.proofs.Held.{IsSameHolder}
 use Rattle.instance_table.proofs.Together.{together_by_homes}
 use Rattle.table_moves.specs.Moves.{inst_with, slot_with, own_set, holds_with, slid_to}

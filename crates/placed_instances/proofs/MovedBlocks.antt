@@ -12,7 +12,8 @@ use Rattle.scratch_group.specs.declared.group.Group.{Group}
 use Rattle.scratch_group.specs.Blocks.{block_in}
 use Rattle.lifecycle.specs.Moves.{HasRoom}
 use Rattle.lifecycle.specs.States.{Fits}
-use Rattle.lifecycle.proofs.Frames.{same_pieces, placed-unplaced}
+use Rattle.record_loans.proofs.PieceLemmas.{same_pieces}
+use Rattle.lifecycle.proofs.Frames.{placed-unplaced}
 use Rattle.space_blocks.specs.declared.placed.Owner.TheVariants.{Record}
 use Rattle.space_blocks.specs.declared.placed.Owner.TheVariants.{Scratch as GroupScratch}
 use Rattle.space_blocks.specs.Blocks.{block_of_piece, owned}
@@ -20,9 +21,9 @@ use Rattle.host_spaces.specs.declared.spaces.Spaces.{Spaces}
 use Rattle.host_spaces.specs.Picture.{blocks_in, picture_of, space_in}
 use Rattle.host_spaces.specs.Pieces.{HasBlocks}
 use Rattle.instance_table.specs.declared.member.Member.{Member}
-use Rattle.instance_table.specs.declared.shelves.Shelf.{Shelf}
-use Rattle.instance_table.specs.Shelves.{home_of}
-use Rattle.instance_table.specs.Table.{slot_at, once_at, group_at, instance_of}
+use Rattle.record_shelves.specs.declared.shelves.Shelf.{Shelf}
+use Rattle.record_shelves.specs.Shelves.{home_of, once_at}
+use Rattle.instance_table.specs.Table.{slot_at, group_at, instance_of}
 use Rattle.table_moves.specs.Moves.{BlockStays, SlotStays, WordsStay}
 use Rattle.placed_instances.specs.Standing.{IsOf, AreStanding, AreOrdered, table_of}
 use Rattle.placed_instances.proofs.Rooms.{either, room_at_home}

@@ -20,9 +20,9 @@ use Rattle.host_spaces.specs.declared.spaces.Spaces.{Spaces}
 use Rattle.host_spaces.specs.Picture.{blocks_in, picture_of}
 use Rattle.host_spaces.specs.Pieces.{record_block}
 use Rattle.instance_table.specs.declared.member.Member.{Member}
-use Rattle.instance_table.specs.declared.shelves.Shelf.{Shelf}
-use Rattle.instance_table.specs.Shelves.{home_of}
-use Rattle.instance_table.specs.Table.{slot_at, once_at, group_at, instance_of}
+use Rattle.record_shelves.specs.declared.shelves.Shelf.{Shelf}
+use Rattle.record_shelves.specs.Shelves.{home_of, once_at}
+use Rattle.instance_table.specs.Table.{slot_at, group_at, instance_of}
 use Rattle.placed_instances.specs.Standing.{AreStanding, table_of}
 use Rattle.placed_instances.specs.Moves.{IsNextOf}
 use Rattle.placed_instances.proofs.Rooms.{either}

@@ -21,14 +21,14 @@ use Rattle.host_spaces.specs.declared.spaces.Spaces.{Spaces}
 use Rattle.host_spaces.specs.Picture.{blocks_in, picture_of, space_in}
 use Rattle.host_spaces.specs.Pieces.{IsPieceOf, is_write_once}
 use Rattle.instance_table.specs.declared.member.Member.{Member}
-use Rattle.instance_table.specs.declared.shelves.Shelf.{Shelf}
-use Rattle.instance_table.specs.declared.shelves.Stand.{Stand}
-use Rattle.instance_table.specs.declared.shelves.Stand.TheVariants.{Here, With}
-use Rattle.instance_table.specs.Shelves.{stand_at, piece_here, shelf_at, home_of}
-use Rattle.instance_table.specs.Homes.{HasHomes, AllHaveHomes, with_seen}
-use Rattle.instance_table.specs.Table.{slot_at, once_at, group_at, instance_of, TablesOk}
-use Rattle.instance_table.proofs.Homes.{lent_here, count_seen}
-use Rattle.instance_table.proofs.Lent.{homes_of_all, lent_last, seen_at}
+use Rattle.record_shelves.specs.declared.shelves.Shelf.{Shelf}
+use Rattle.record_shelves.specs.declared.shelves.Stand.{Stand}
+use Rattle.record_shelves.specs.declared.shelves.Stand.TheVariants.{Here, With}
+use Rattle.record_shelves.specs.Shelves.{stand_at, piece_here, shelf_at, home_of, once_at}
+use Rattle.record_shelves.specs.Homes.{HasHomes, AllHaveHomes, with_seen}
+use Rattle.instance_table.specs.Table.{slot_at, group_at, instance_of, TablesOk}
+use Rattle.record_shelves.proofs.Homes.{lent_here, count_seen}
+use Rattle.record_shelves.proofs.Lent.{homes_of_all, lent_last, seen_at}
 use Rattle.instance_table.proofs.Held.{homes_of_held}
 use Rattle.table_moves.specs.Moves.{holds_with, slid_to, SameWords, TablesWaiting, WordsStay}
 use Rattle.table_moves.proofs.Slides.{seen_slid, waiting_slid}

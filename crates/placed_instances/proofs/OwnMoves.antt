@@ -30,11 +30,11 @@ use Rattle.host_spaces.specs.declared.spaces.Sizes.{Sizes}
 use Rattle.host_spaces.specs.Picture.{blocks_in, picture_of, sizes_of, space_in}
 use Rattle.host_spaces.specs.Pieces.{IsPieceOf}
 use Rattle.instance_table.specs.declared.member.Member.{Member}
-use Rattle.instance_table.specs.declared.shelves.Shelf.{Shelf}
-use Rattle.instance_table.specs.declared.shelves.Stand.{Stand}
-use Rattle.instance_table.specs.declared.shelves.Stand.TheVariants.{Here, With}
-use Rattle.instance_table.specs.Shelves.{stand_at, shelf_at, home_by, home_of}
-use Rattle.instance_table.specs.Table.{slot_at, once_at, group_at, instance_of, own_of, IsHolder, AreHeld, EachIsHoused, TablesOk}
+use Rattle.record_shelves.specs.declared.shelves.Shelf.{Shelf}
+use Rattle.record_shelves.specs.declared.shelves.Stand.{Stand}
+use Rattle.record_shelves.specs.declared.shelves.Stand.TheVariants.{Here, With}
+use Rattle.record_shelves.specs.Shelves.{stand_at, shelf_at, home_by, home_of, once_at}
+use Rattle.instance_table.specs.Table.{slot_at, group_at, instance_of, own_of, IsHolder, AreHeld, EachIsHoused, TablesOk}
 use Rattle.instance_table.specs.Frames.{SameMembers}
 use Rattle.table_moves.specs.Moves.{inst_with, slot_with, own_set, IsThere, IsHousedBut, TablesThere, TablesBut, MemberStays, SlotStays, SameWords, WordsStay}
 use Rattle.table_moves.proofs.Owns.{tables_map, set_again, active_with, own_set_same, own_set_other, but_all, but_own}

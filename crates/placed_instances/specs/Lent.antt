@@ -7,8 +7,9 @@ use Rattle.ialg.specs.Records.{record_at}
 use Rattle.record_loans.specs.declared.pieces.Pieces.{Pieces}
 use Rattle.lifecycle.specs.Rooms.{piece_of_record}
 use Rattle.instance_table.specs.declared.member.Member.{Member}
-use Rattle.instance_table.specs.declared.shelves.Shelf.{Shelf}
-use Rattle.instance_table.specs.Table.{slot_at, once_at, instance_of, AreAlike}
+use Rattle.record_shelves.specs.declared.shelves.Shelf.{Shelf}
+use Rattle.instance_table.specs.Table.{slot_at, instance_of, AreAlike}
+use Rattle.record_shelves.specs.Shelves.{once_at}
 use Rattle.placed_instances.specs.Standing.{table_of}
 
 -- the piece of record k of what stands in a slot, which sees these pieces for its write-once records, if it is of this space

@@ -6,7 +6,7 @@ use Rattle.ialg.specs.History.{History}
 use Rattle.scratch_group.specs.declared.group.Group.{Group}
 use Rattle.lifecycle.specs.States.{Relation}
 use Rattle.instance_table.specs.declared.member.Member.{Member}
-use Rattle.instance_table.specs.declared.shelves.Shelf.{Shelf}
+use Rattle.record_shelves.specs.declared.shelves.Shelf.{Shelf}
 use Rattle.instance_table.specs.Table.{TablesOk, ArePoisoned, activity_at}
 use Rattle.instance_table.specs.Keeps.{Keeps}
 use Rattle.space_blocks.specs.declared.placed.Owner.{Owner}

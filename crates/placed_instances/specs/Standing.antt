@@ -11,10 +11,11 @@ use Rattle.scratch_group.specs.declared.group.Group.{Group}
 use Rattle.scratch_group.specs.Blocks.{block_in}
 use Rattle.lifecycle.specs.Rooms.{NoNeed, piece_of_record}
 use Rattle.instance_table.specs.declared.member.Member.{Member}
-use Rattle.instance_table.specs.declared.shelves.Shelf.{Shelf}
-use Rattle.instance_table.specs.Shelves.{home_of}
-use Rattle.instance_table.specs.Table.{slot_at, once_at, group_at, no_pieces, instance_of, is_member_of}
-use Rattle.instance_table.specs.Twins.{AreLeast, AreTogether}
+use Rattle.record_shelves.specs.declared.shelves.Shelf.{Shelf}
+use Rattle.record_shelves.specs.Shelves.{home_of, once_at, no_pieces}
+use Rattle.instance_table.specs.Table.{slot_at, group_at, instance_of, is_member_of}
+use Rattle.record_shelves.specs.Holders.{AreLeast}
+use Rattle.instance_table.specs.Twins.{AreTogether}
 use Rattle.space_blocks.specs.declared.placed.Owner.TheVariants.{Record}
 use Rattle.space_blocks.specs.Blocks.{owned}
 use Rattle.space_blocks.specs.Spaces.{AreInOrder}

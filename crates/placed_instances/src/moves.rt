@@ -1,8 +1,10 @@
 //! Moves: the next block of a space is slid down to its packed place, and whoever has records in it is told.
 ghost use Rattle.std.specs.Prelude.{◌≡◌, ◌<◌, length, true, false, Some, None, IsSome, is_some};
 ghost use Rattle.record_loans.specs.Pieces.{piece_at};
-ghost use Rattle.instance_table.specs.declared.TheConstants.{INSTANCES, GROUPS};
-ghost use Rattle.instance_table.specs.Table.{slot_at, once_at, own_of, TablesOk};
+ghost use Rattle.record_shelves.specs.declared.TheConstants.{INSTANCES};
+ghost use Rattle.instance_table.specs.declared.TheConstants.{GROUPS};
+ghost use Rattle.instance_table.specs.Table.{slot_at, own_of, TablesOk};
+ghost use Rattle.record_shelves.specs.Shelves.{once_at};
 ghost use Rattle.space_blocks.specs.declared.placed.Owner.{Owner};
 ghost use Rattle.space_blocks.specs.declared.placed.Placed.{Placed};
 ghost use Rattle.space_blocks.specs.Moves.{next_block};
@@ -13,7 +15,8 @@ ghost use Rattle.placed_instances.specs.Moves.{HasMoved, IsNextOf};
 use crate::order::in_order;
 use host_spaces::Spaces;
 use ialg::Ialg;
-use instance_table::{Member, Shelf, sees, tell_members};
+use instance_table::{Member, tell_members};
+use record_shelves::{Shelf, sees};
 use mem_rec::Space;
 use scratch_group::Group;
 use space_blocks::Owner;

@@ -18,15 +18,16 @@ use Rattle.lifecycle.specs.declared.instance.Inst.{Inst}
 use Rattle.lifecycle.specs.declared.instance.Inst.TheVariants.{Idling, Running}
 use Rattle.lifecycle.specs.Moves.{settled}
 use Rattle.lifecycle.specs.States.{Fits, SameInstance}
-use Rattle.lifecycle.proofs.Frames.{same_pieces}
+use Rattle.record_loans.proofs.PieceLemmas.{same_pieces}
 use Rattle.instance_table.specs.declared.member.Member.{Member}
-use Rattle.instance_table.specs.declared.shelves.Shelf.{Shelf}
-use Rattle.instance_table.specs.declared.twins.Twins.{Twins}
-use Rattle.instance_table.specs.Shelves.{stand_at, shelf_at, home_of}
-use Rattle.instance_table.specs.Homes.{IsSameStand}
-use Rattle.instance_table.specs.Table.{slot_at, once_at, no_pieces, group_at, instance_of, active_in, is_member_of, AreHeld, TablesOk}
-use Rattle.instance_table.specs.Twins.{Asked, asked, asked_by, twin_at, twin_of, AreTwins, AreLeast, AreTogether}
-use Rattle.instance_table.specs.Joining.{pieces_joined, stand_joined}
+use Rattle.record_shelves.specs.declared.shelves.Shelf.{Shelf}
+use Rattle.record_shelves.specs.declared.joining.Twins.{Twins}
+use Rattle.record_shelves.specs.Shelves.{stand_at, shelf_at, home_of, once_at, no_pieces}
+use Rattle.record_shelves.specs.Homes.{IsSameStand}
+use Rattle.instance_table.specs.Table.{slot_at, group_at, instance_of, active_in, is_member_of, AreHeld, TablesOk}
+use Rattle.instance_table.specs.Twins.{Asked, asked, asked_by, twin_of, AreTwins, AreTogether}
+use Rattle.record_shelves.specs.Joining.{twin_at, pieces_joined, stand_joined}
+use Rattle.record_shelves.specs.Holders.{AreLeast}
 use Rattle.instance_table.specs.Frames.{IsIdle, IsStarted, OthersStay}
 use Rattle.instance_table.proofs.Sharing.{IsTwin}
 use Rattle.instance_table.proofs.Twinned.{tells_twin, twin_at_home}

@@ -24,15 +24,14 @@ use Rattle.host_spaces.specs.declared.spaces.Spaces.{Spaces}
 use Rattle.host_spaces.specs.Picture.{AreSameSpaces, blocks_in, picture_of, space_in}
 use Rattle.host_spaces.specs.Pieces.{IsPieceOf, is_placed_once, is_write_once, record_block}
 use Rattle.instance_table.specs.declared.member.Member.{Member}
-use Rattle.instance_table.specs.declared.twins.Twins.{Twins}
-use Rattle.instance_table.specs.declared.shelves.Stand.{Stand}
-use Rattle.instance_table.specs.declared.shelves.Stand.TheVariants.{Here, With}
-use Rattle.instance_table.specs.declared.shelves.Shelf.{Shelf}
-use Rattle.instance_table.specs.Shelves.{stand_at, shelf_at, home_by, home_of}
-use Rattle.instance_table.specs.Homes.{IsSameStand}
-use Rattle.instance_table.specs.Table.{slot_at, once_at, group_at, instance_of, unbased, AreHeld}
-use Rattle.instance_table.specs.Twins.{twin_at}
-use Rattle.instance_table.specs.Joining.{piece_joined, pieces_joined, stand_joined}
+use Rattle.record_shelves.specs.declared.joining.Twins.{Twins}
+use Rattle.record_shelves.specs.declared.shelves.Stand.{Stand}
+use Rattle.record_shelves.specs.declared.shelves.Stand.TheVariants.{Here, With}
+use Rattle.record_shelves.specs.declared.shelves.Shelf.{Shelf}
+use Rattle.record_shelves.specs.Shelves.{stand_at, shelf_at, home_by, home_of, once_at}
+use Rattle.record_shelves.specs.Homes.{IsSameStand}
+use Rattle.instance_table.specs.Table.{slot_at, group_at, instance_of, unbased, AreHeld}
+use Rattle.record_shelves.specs.Joining.{twin_at, piece_joined, pieces_joined, stand_joined}
 use Rattle.instance_table.proofs.Held.{homes_of_held}
 use Rattle.instance_table.proofs.Sharing.{IsTwin}
 use Rattle.instance_table.proofs.Together.{home_lives}

@@ -6,13 +6,13 @@ use Rattle.scratch_group.specs.declared.group.Group.{Group}
 use Rattle.lifecycle.specs.declared.instance.Inst.{Inst}
 use Rattle.lifecycle.specs.declared.instance.Inst.TheVariants.{Idling, Running}
 use Rattle.lifecycle.specs.Moves.{restored}
-use Rattle.instance_table.specs.declared.TheConstants.{INSTANCES}
+use Rattle.record_shelves.specs.declared.TheConstants.{INSTANCES}
 use Rattle.instance_table.specs.declared.member.Member.{Member}
-use Rattle.instance_table.specs.declared.shelves.Stand.{Stand}
-use Rattle.instance_table.specs.declared.shelves.Stand.TheVariants.{Here, With}
-use Rattle.instance_table.specs.declared.shelves.Shelf.{Shelf}
-use Rattle.instance_table.specs.Shelves.{stand_at, shelf_at, home_by}
-use Rattle.instance_table.specs.Homes.{IsSameStand, SameShelves}
+use Rattle.record_shelves.specs.declared.shelves.Stand.{Stand}
+use Rattle.record_shelves.specs.declared.shelves.Stand.TheVariants.{Here, With}
+use Rattle.record_shelves.specs.declared.shelves.Shelf.{Shelf}
+use Rattle.record_shelves.specs.Shelves.{stand_at, shelf_at, home_by}
+use Rattle.record_shelves.specs.Homes.{IsSameStand, SameShelves}
 use Rattle.instance_table.specs.Table.{slot_at, own_of, instance_of, TablesOk}
 use Rattle.instance_table.proofs.Changes.{slot_in}
 use Rattle.table_moves.specs.Moves.{inst_with, slot_with, own_set, all_but, all_from, holds_with, IsWaiting, IsWaitingBut, TablesWaiting, TablesWaitingBut}

@@ -14,13 +14,14 @@ use Rattle.lifecycle.specs.declared.instance.Instance.{Instance}
 use Rattle.lifecycle.specs.declared.instance.Inst.{Inst}
 use Rattle.lifecycle.specs.declared.instance.Inst.TheVariants.{Idling, Running}
 use Rattle.lifecycle.specs.Moves.{restored, HasRoom}
-use Rattle.lifecycle.proofs.Frames.{same_pieces, same_group}
+use Rattle.record_loans.proofs.PieceLemmas.{same_pieces}
+use Rattle.lifecycle.proofs.Frames.{same_group}
 use Rattle.instance_table.specs.declared.TheConstants.{GROUPS}
 use Rattle.instance_table.specs.declared.member.Member.{Member}
-use Rattle.instance_table.specs.declared.shelves.Stand.{Stand}
-use Rattle.instance_table.specs.declared.shelves.Shelf.{Shelf}
-use Rattle.instance_table.specs.Shelves.{stand_at, shelf_at}
-use Rattle.instance_table.specs.Table.{slot_at, once_at, group_at, own_of, instance_of, active_in, slot_active_in, activity_at, Activity, IsHoused, EachIsHoused, AreAlike, IsHolder, AreHeld, AreBare, Tables, TablesOk, TablesTold}
+use Rattle.record_shelves.specs.declared.shelves.Stand.{Stand}
+use Rattle.record_shelves.specs.declared.shelves.Shelf.{Shelf}
+use Rattle.record_shelves.specs.Shelves.{stand_at, shelf_at, once_at}
+use Rattle.instance_table.specs.Table.{slot_at, group_at, own_of, instance_of, active_in, slot_active_in, activity_at, Activity, IsHoused, EachIsHoused, AreAlike, IsHolder, AreHeld, AreBare, Tables, TablesOk, TablesTold}
 use Rattle.instance_table.proofs.Housing.{same_blocks, housed_stays, room_stays}
 use Rattle.table_moves.specs.Moves.{inst_with, slot_with, own_set, IsHousedBut, TablesBut, IsWaiting}
 

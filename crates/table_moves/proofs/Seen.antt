@@ -19,8 +19,9 @@ use Rattle.lifecycle.specs.declared.instance.Inst.{Inst}
 use Rattle.lifecycle.specs.declared.instance.Inst.TheVariants.{Idling, Running}
 use Rattle.lifecycle.specs.States.{Relation}
 use Rattle.instance_table.specs.declared.member.Member.{Member}
-use Rattle.instance_table.specs.declared.shelves.Shelf.{Shelf}
-use Rattle.instance_table.specs.Table.{slot_at, once_at, group_at, instance_of, active_in, slot_active_in, IsHoused, TablesOk}
+use Rattle.record_shelves.specs.declared.shelves.Shelf.{Shelf}
+use Rattle.instance_table.specs.Table.{slot_at, group_at, instance_of, active_in, slot_active_in, IsHoused, TablesOk}
+use Rattle.record_shelves.specs.Shelves.{once_at}
 use Rattle.instance_table.specs.Keeps.{InstKeeps, SlotKeeps, Keeps}
 use Rattle.table_moves.specs.Moves.{SameWords, SlotStays, BlockStays, WordsStay}
 

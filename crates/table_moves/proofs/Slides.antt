@@ -7,15 +7,15 @@ use Rattle.record_loans.specs.Pieces.{piece_at, with_piece}
 use Rattle.scratch_group.specs.declared.group.Group.{Group}
 use Rattle.lifecycle.specs.Moves.{HasRoom}
 use Rattle.instance_table.specs.declared.member.Member.{Member}
-use Rattle.instance_table.specs.declared.shelves.Stand.{Stand}
-use Rattle.instance_table.specs.declared.shelves.Stand.TheVariants.{Here, With}
-use Rattle.instance_table.specs.declared.shelves.Shelf.{Shelf}
-use Rattle.instance_table.specs.Shelves.{stand_at, piece_here, pieces_here, no_shelf, shelf_at, home_by, home_of, piece_seen}
-use Rattle.instance_table.specs.Homes.{HasHomes, IsPieceHere, AllHaveHomes}
-use Rattle.instance_table.specs.Table.{slot_at, once_at, group_at, instance_of, IsHolder, AreHeld, AreBare, EachIsHoused, TablesOk}
-use Rattle.instance_table.proofs.Stands.{four_pieces}
-use Rattle.instance_table.proofs.Homes.{lent_at, lent_apart, stand_seen, count_seen}
-use Rattle.instance_table.proofs.Lent.{four_stands, no_stand, homes_of_all, piece_inside, seen_at}
+use Rattle.record_shelves.specs.declared.shelves.Stand.{Stand}
+use Rattle.record_shelves.specs.declared.shelves.Stand.TheVariants.{Here, With}
+use Rattle.record_shelves.specs.declared.shelves.Shelf.{Shelf}
+use Rattle.record_shelves.specs.Shelves.{stand_at, piece_here, pieces_here, no_shelf, shelf_at, home_by, home_of, piece_seen, once_at}
+use Rattle.record_shelves.specs.Homes.{HasHomes, IsPieceHere, AllHaveHomes}
+use Rattle.instance_table.specs.Table.{slot_at, group_at, instance_of, IsHolder, AreHeld, AreBare, EachIsHoused, TablesOk}
+use Rattle.record_shelves.proofs.Stands.{four_pieces}
+use Rattle.record_shelves.proofs.Homes.{lent_at, lent_apart, stand_seen, count_seen}
+use Rattle.record_shelves.proofs.Lent.{four_stands, no_stand, homes_of_all, piece_inside, seen_at}
 use Rattle.table_moves.specs.Moves.{holds_with, slid_to, TablesWaiting}
 
 past_four : (s : Shelf) (k : ℕ) → stand_at s (suc (suc (suc (suc k)))) ≡ Here None

@@ -15,11 +15,13 @@ use Rattle.lifecycle.specs.declared.instance.Inst.{Inst}
 use Rattle.lifecycle.specs.Moves.{restored}
 use Rattle.lifecycle.specs.States.{Relation, SameOnce}
 use Rattle.lifecycle.proofs.Frames.{same_group}
-use Rattle.instance_table.specs.declared.TheConstants.{INSTANCES, GROUPS}
+use Rattle.record_shelves.specs.declared.TheConstants.{INSTANCES}
+use Rattle.instance_table.specs.declared.TheConstants.{GROUPS}
 use Rattle.instance_table.specs.declared.member.Member.{Member}
-use Rattle.instance_table.specs.declared.shelves.Shelf.{Shelf}
-use Rattle.instance_table.specs.Homes.{with_seen}
-use Rattle.instance_table.specs.Table.{slot_at, once_at, group_at, own_of, instance_of, active_in, slot_active_in, IsHoused, EachIsHoused, Tables, TablesOk, ArePoisoned}
+use Rattle.record_shelves.specs.declared.shelves.Shelf.{Shelf}
+use Rattle.record_shelves.specs.Homes.{with_seen}
+use Rattle.instance_table.specs.Table.{slot_at, group_at, own_of, instance_of, active_in, slot_active_in, IsHoused, EachIsHoused, Tables, TablesOk, ArePoisoned}
+use Rattle.record_shelves.specs.Shelves.{once_at}
 use Rattle.instance_table.specs.Keeps.{InstKeeps, SlotKeeps, Keeps}
 use Rattle.instance_table.specs.Frames.{SameMember, SameMembers}
 use Rattle.instance_table.proofs.Housing.{same_blocks}

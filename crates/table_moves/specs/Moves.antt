@@ -11,11 +11,11 @@ use Rattle.scratch_group.specs.Blocks.{block_in}
 use Rattle.lifecycle.specs.declared.instance.Inst.{Inst}
 use Rattle.lifecycle.specs.declared.instance.Inst.TheVariants.{Idling, Running}
 use Rattle.instance_table.specs.declared.member.Member.{Member}
-use Rattle.instance_table.specs.declared.shelves.Shelf.{Shelf}
+use Rattle.record_shelves.specs.declared.shelves.Shelf.{Shelf}
 use Rattle.lifecycle.specs.Moves.{HasRoom}
-use Rattle.instance_table.specs.Shelves.{home_of}
-use Rattle.instance_table.specs.Homes.{with_seen}
-use Rattle.instance_table.specs.Table.{slot_at, once_at, group_at, instance_of, active_in, slot_active_in, Tables, IsHoused}
+use Rattle.record_shelves.specs.Shelves.{home_of, once_at}
+use Rattle.record_shelves.specs.Homes.{with_seen}
+use Rattle.instance_table.specs.Table.{slot_at, group_at, instance_of, active_in, slot_active_in, Tables, IsHoused}
 
 -- an instance with these pieces for its own records
 abbrev pub inst_with : {M : Type 0} → Inst M → Pieces → Inst M

@@ -13,11 +13,11 @@ ghost use Rattle.scratch_group.specs.Blocks.{block_in};
 ghost use Rattle.lifecycle.specs.Moves.{HasRoom};
 ghost use Rattle.instance_table.specs.declared.TheConstants.{GROUPS};
 ghost use Rattle.instance_table.specs.declared.member.Member.{Member};
-ghost use Rattle.instance_table.specs.declared.shelves.Shelf.{Shelf};
-ghost use Rattle.instance_table.specs.declared.shelves.Stand.TheVariants.{Here};
-ghost use Rattle.instance_table.specs.Shelves.{stand_at, shelf_at, pieces_here};
-ghost use Rattle.instance_table.specs.Homes.{AllHaveHomes};
-ghost use Rattle.instance_table.specs.Table.{slot_at, once_at, group_at, instance_of, activity_at, TablesOk, TablesTold, ArePoisoned};
+ghost use Rattle.record_shelves.specs.declared.shelves.Shelf.{Shelf};
+ghost use Rattle.record_shelves.specs.declared.shelves.Stand.TheVariants.{Here};
+ghost use Rattle.record_shelves.specs.Shelves.{stand_at, shelf_at, pieces_here, once_at};
+ghost use Rattle.record_shelves.specs.Homes.{AllHaveHomes};
+ghost use Rattle.instance_table.specs.Table.{slot_at, group_at, instance_of, activity_at, TablesOk, TablesTold, ArePoisoned};
 ghost use Rattle.instance_table.specs.Keeps.{Keeps};
 ghost use Rattle.table_moves.specs.Moves.{own_set, slid_to, holds_with, TablesBut, TablesWaiting, WordsStay};
 

@@ -2,12 +2,14 @@
 ghost use Rattle.std.specs.Prelude.{◌≡◌, ◌<◌, length, Some, None, IsSome};
 ghost use Rattle.mem_rec.specs.declared.TheConstants.{TABLE_RECORDS};
 ghost use Rattle.record_loans.specs.Pieces.{piece_at, with_piece};
-ghost use Rattle.instance_table.specs.Homes.{HasHomes, with_seen};
-ghost use Rattle.instance_table.specs.Table.{slot_at, once_at, own_of};
+ghost use Rattle.record_shelves.specs.Homes.{HasHomes, with_seen};
+ghost use Rattle.instance_table.specs.Table.{slot_at, own_of};
+ghost use Rattle.record_shelves.specs.Shelves.{once_at};
 ghost use Rattle.table_moves.specs.Moves.{own_set};
 
 use ialg::Ialg;
-use instance_table::{Member, Shelf, put_seen, take_seen};
+use instance_table::Member;
+use record_shelves::{Shelf, put_seen, take_seen};
 use lifecycle::Inst;
 use space_raw::Piece;
 

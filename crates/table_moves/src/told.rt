@@ -3,15 +3,17 @@ ghost use Rattle.std.specs.Prelude.{◌≡◌, ◌+◌, ◌<◌, ℕ, ℤ, Bool,
 ghost use Rattle.mem_rec.specs.declared.TheConstants.{TABLE_RECORDS};
 ghost use Rattle.ialg.specs.History.{History};
 ghost use Rattle.lifecycle.specs.Moves.{restored, CanRestore, with_back, HasRoom};
-ghost use Rattle.instance_table.specs.declared.TheConstants.{INSTANCES};
+ghost use Rattle.record_shelves.specs.declared.TheConstants.{INSTANCES};
 ghost use Rattle.instance_table.specs.declared.member.Member.{Member};
-ghost use Rattle.instance_table.specs.Table.{slot_at, once_at, group_at, own_of, instance_of, activity_at, TablesOk, ArePoisoned};
+ghost use Rattle.instance_table.specs.Table.{slot_at, group_at, own_of, instance_of, activity_at, TablesOk, ArePoisoned};
+ghost use Rattle.record_shelves.specs.Shelves.{once_at};
 ghost use Rattle.instance_table.specs.Keeps.{Keeps};
 ghost use Rattle.instance_table.specs.Frames.{SameMembers};
 ghost use Rattle.table_moves.specs.Moves.{own_set, all_but, all_from, holds_with, TablesThere, TablesBut, TablesWaiting, TablesWaitingBut};
 
 use ialg::Ialg;
-use instance_table::{INSTANCES, Member, Shelf, home, lives, put_seen, take_seen};
+use instance_table::{Member, lives};
+use record_shelves::{INSTANCES, Shelf, home, put_seen, take_seen};
 use lifecycle::Inst;
 use scratch_group::Group;
 use space_raw::Piece;

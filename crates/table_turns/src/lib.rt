@@ -14,7 +14,8 @@ ghost use Rattle.instance_table.specs.Frames.{SameTables};
 mod tests;
 
 use ialg::{BLOCK_SAMPLES, Block, Ialg};
-use instance_table::{Member, Shelf, process};
+use instance_table::{Member, process};
+use record_shelves::Shelf;
 use scratch_group::Group;
 
 /// The first instance is given two blocks, and between them the second is given one. What the first gives are the outputs of its own

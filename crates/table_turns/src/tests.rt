@@ -1,8 +1,7 @@
 //! Tables without instances.
 use alg_g711::G711;
-use instance_table::{
-    empty_groups, empty_once, empty_slots, end_groups, end_once, end_slots, in_order, rest,
-};
+use instance_table::{empty_groups, empty_slots, end_groups, end_slots, in_order, rest};
+use record_shelves::{empty_once, end_once};
 
 #[test]
 fn tables_are_made_and_ended(rt: HostRuntime) {

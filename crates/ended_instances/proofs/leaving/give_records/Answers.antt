@@ -2,7 +2,7 @@ use Rattle.std.proofs.Common.{◌≡◌, ◌<◌, ℕ, length, ◌∙◌, ap, ar
 use Rattle.instance_table.proofs.Changes.{slot_in}
 use Rattle.instance_table.proofs.Held.{homes_of_held}
 use Rattle.host_spaces.specs.Creation.{handed_on, twin_at}
-use Rattle.instance_table.specs.Holders.{next_holder}
+use Rattle.record_shelves.specs.Holders.{next_holder}
 use Rattle.host_spaces.specs.Picture.{is_instance's, picture_of, renamed, without_owners}
 use Rattle.std.specs.Prelude.{Option}
 use Rattle.ended_instances.proofs.Ended.{handed_same, stay_then}

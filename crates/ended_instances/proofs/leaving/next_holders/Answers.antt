@@ -1,8 +1,8 @@
 use Rattle.std.proofs.Common.{◌≡◌, ℕ, zero, suc, Option, sym, List, ◌∷◌, []}
 use Rattle.host_spaces.specs.Creation.{twin_at}
-use Rattle.instance_table.specs.declared.shelves.Shelf.{Shelf}
-use Rattle.instance_table.specs.Holders.{next_holder}
-use Rattle.instance_table.proofs.Handing.{next_past}
+use Rattle.record_shelves.specs.declared.shelves.Shelf.{Shelf}
+use Rattle.record_shelves.specs.Holders.{next_holder}
+use Rattle.record_shelves.proofs.Handing.{next_past}
 use Rattle.ended_instances.proofs.leaving.next_holders.Goals as goal
 
 each : (once : List Shelf) (i : ℕ) (a b c d : Option ℕ) → a ≡ next_holder once i 0 → b ≡ next_holder once i 1 → c ≡ next_holder once i 2 → d ≡ next_holder once i 3

@@ -7,9 +7,10 @@ use Rattle.record_loans.specs.Blocks.{IsSameBlock}
 use Rattle.scratch_group.specs.Blocks.{block_in}
 use Rattle.lifecycle.specs.declared.instance.Inst.TheVariants.{Idling, Running}
 use Rattle.lifecycle.specs.States.{SameInstance, SameOnce}
-use Rattle.instance_table.specs.Homes.{HasHomes}
-use Rattle.instance_table.specs.Table.{slot_at, once_at, group_at, slot_active_in, instance_of}
-use Rattle.instance_table.proofs.Lent.{put_back}
+use Rattle.record_shelves.specs.Homes.{HasHomes}
+use Rattle.instance_table.specs.Table.{slot_at, group_at, slot_active_in, instance_of}
+use Rattle.record_shelves.specs.Shelves.{once_at}
+use Rattle.record_shelves.proofs.Lent.{put_back}
 use Rattle.instance_table.proofs.Changes.{homes_of_slot, read_ok_group, read_active, read_alone, read_slot, once_inside, active_inside, turned, fits_in_slot, tables_after_change, ok_after_change, poisoned_after_change, keeps_after_change}
 use Rattle.instance_table.proofs.activity.rest.Goals as goal
 use Rattle.instance_table.proofs.activity.rest.Goals.{After-make_idle}

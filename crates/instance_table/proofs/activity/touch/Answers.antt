@@ -1,4 +1,4 @@
-use Rattle.std.proofs.Common.{◌≡◌, ℕ, ◌<◌, Some, None, set, refl, sym, ◌∙◌, ap, subst}
+use Rattle.std.proofs.Common.{rules, arith, ◌≡◌, ℕ, ◌<◌, Some, None, set, refl, sym, ◌∙◌, ap, subst}
 use Rattle.std.proofs.lemmas.List.{get_or-set_same}
 use Rattle.std.proofs.lemmas.Option.{none-some}
 use Rattle.mem_rec.specs.declared.Space.{Space}
@@ -8,10 +8,11 @@ use Rattle.scratch_group.specs.Blocks.{block_in}
 use Rattle.lifecycle.specs.declared.instance.Inst.TheVariants.{Idling, Running}
 use Rattle.lifecycle.specs.States.{SameInstance, SameOnce}
 use Rattle.instance_table.specs.declared.TheConstants.{GROUPS}
-use Rattle.instance_table.specs.Homes.{HasHomes}
-use Rattle.instance_table.specs.Table.{once_at, group_at, group_of, slot_at, slot_active_in, activity_at, instance_of}
-use Rattle.instance_table.proofs.Lent.{put_back}
-use Rattle.instance_table.proofs.Changes.{homes_of_slot, read_ok_group, read_later, slot_in, turned, fits_in_slot, tables_after_change, tables_then, ok_after_change, poisoned_after_change, activity_after_change, keeps_after_change}
+use Rattle.record_shelves.specs.Homes.{HasHomes}
+use Rattle.record_shelves.specs.Shelves.{once_at}
+use Rattle.instance_table.specs.Table.{group_at, group_of, slot_at, slot_active_in, activity_at, instance_of}
+use Rattle.record_shelves.proofs.Lent.{put_back}
+use Rattle.instance_table.proofs.Changes.{member_of, once_inside, homes_of_slot, read_ok_group, read_later, slot_in, turned, fits_in_slot, tables_after_change, tables_then, ok_after_change, poisoned_after_change, activity_after_change, keeps_after_change}
 use Rattle.instance_table.proofs.Activities.{same_group_of, not_active, none_active_after, activity_after_wake}
 use Rattle.instance_table.proofs.activity.touch.Goals as goal
 use Rattle.instance_table.proofs.activity.touch.Goals.{After-make_active}
@@ -40,6 +41,26 @@ wake_in-requires g c =
     let once_is = sym c.take_seen-shared.ensures.pieces in
     let group_is = read_ok_group _ _ _ c.rest-rested.ensures.ok _ in_range _ c.index_mut-in-Idling.ensures.value in
     record { fits = fits_in_slot _ _ _ _ _ _ _ _ _ c.rest-rested.ensures.ok in_slot c.in-Idling.is group once_is group_is }
+
+pub rest-rested-requires-clause-range : goal.rest-rested-requires-clause-range
+rest-rested-requires-clause-range g c =
+    let m = member_of (slot_at c.args.slots.now.items c.args.i) c.requires.living in
+    let group : m.0.group ≡ c.in-Some.g = ap group_of (sym m.1) ∙ sym c.in-Some.ensures.group in
+    subst (λ (k : ℕ). k < GROUPS) group (c.requires.ok.group_range c.args.i m.0 m.1)
+
+pub take_seen-shared-requires-clause-number : goal.take_seen-shared-requires-clause-number
+take_seen-shared-requires-clause-number g c =
+    once_inside c.rest-rested.new.slots.items c.rest-rested.new.once.items c.rest-rested.new.groups.items c.rest-rested.ensures.ok c.args.i _ (read_later _ _ c.args.i c.requires.living (c.rest-rested.ensures.same.slot c.args.i) _ c.index_mut.ensures.value ∙ c.in-Some-index_mut.is)
+
+pub put_seen-requires-clause-number : goal.put_seen-requires-clause-number
+put_seen-requires-clause-number g c =
+    let inside = once_inside c.rest-rested.new.slots.items c.rest-rested.new.once.items c.rest-rested.new.groups.items c.rest-rested.ensures.ok c.args.i _ (read_later _ _ c.args.i c.requires.living (c.rest-rested.ensures.same.slot c.args.i) _ c.index_mut.ensures.value ∙ c.in-Some-index_mut.is) in
+    omega (arith, inside, c.take_seen-shared.ensures.length)
+
+pub make_active-requires : goal.make_active-requires
+make_active-requires g c =
+    let in_slot = read_later _ _ c.args.i c.requires.living (c.rest-rested.ensures.same.slot c.args.i) _ c.index_mut.ensures.value ∙ c.in-Some-index_mut.is in
+    rw (get_or-set_same c.rest-rested.new.slots.items c.args.i (Some (record c.in-Some-index_mut.member { inst = Idling c.wake_in.new.idle })) None (slot_in _ _ _ in_slot)) (search rules)
 
 -- after the deactivation the instance is in the same group, which has no active member
 module _ (g : Over) (c : After-make_active g) where

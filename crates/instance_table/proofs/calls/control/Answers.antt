@@ -6,10 +6,11 @@ use Rattle.record_loans.specs.Blocks.{IsSameBlock}
 use Rattle.scratch_group.specs.Blocks.{block_in}
 use Rattle.lifecycle.specs.declared.instance.Inst.TheVariants.{Running}
 use Rattle.lifecycle.specs.States.{SameInstance, SameOnce}
-use Rattle.instance_table.specs.Homes.{HasHomes}
-use Rattle.instance_table.specs.Table.{slot_at, once_at, group_at, instance_of, activity_at}
+use Rattle.record_shelves.specs.Homes.{HasHomes}
+use Rattle.instance_table.specs.Table.{slot_at, group_at, instance_of, activity_at}
+use Rattle.record_shelves.specs.Shelves.{once_at}
 use Rattle.instance_table.proofs.Housing.{same_blocks, lawful_before}
-use Rattle.instance_table.proofs.Lent.{put_back}
+use Rattle.record_shelves.proofs.Lent.{put_back}
 use Rattle.instance_table.proofs.Changes.{homes_of_slot, read_slot, read_ok_group, known_active, kept_in_slot, fits_in_slot, tables_after_change, ok_after_change, poisoned_after_change, activity_after_change, keeps_after_step}
 use Rattle.instance_table.proofs.Activities.{activity_stays}
 use Rattle.instance_table.proofs.calls.control.Goals as goal

@@ -2,15 +2,16 @@ use Rattle.std.proofs.Common.{◌≡◌, ◌<◌, None, length, set, sym, ◌∙
 use Rattle.std.proofs.lemmas.Option.{none-some}
 use Rattle.record_loans.specs.Pieces.{SamePieces}
 use Rattle.lifecycle.specs.States.{SameOnce}
-use Rattle.instance_table.specs.declared.TheConstants.{INSTANCES}
-use Rattle.instance_table.specs.Homes.{with_seen, AllHaveHomes, SameShelves}
-use Rattle.instance_table.specs.Holders.{left_with}
-use Rattle.instance_table.specs.Table.{slot_at, once_at, own_of, no_pieces, instance_of, slot_active_in, AreHeld, AreBare}
-use Rattle.instance_table.proofs.Lent.{put_back}
+use Rattle.record_shelves.specs.declared.TheConstants.{INSTANCES}
+use Rattle.record_shelves.specs.Homes.{with_seen, AllHaveHomes, SameShelves}
+use Rattle.record_shelves.specs.Holders.{left_with}
+use Rattle.instance_table.specs.Table.{slot_at, own_of, instance_of, slot_active_in, AreHeld, AreBare}
+use Rattle.record_shelves.specs.Shelves.{once_at, no_pieces}
+use Rattle.record_shelves.proofs.Lent.{put_back}
 use Rattle.instance_table.proofs.Changes.{slot_in, homes_of_slot, read_ok_group, fits_in_slot, own_stays, pieces_then, shelves_then}
 use Rattle.instance_table.proofs.Sights.{Views, Sees, views_of}
 use Rattle.instance_table.proofs.Idles.{ok_after_still, keeps_by_end}
-use Rattle.instance_table.proofs.Handing.{left_stays, without_stays}
+use Rattle.record_shelves.proofs.Handing.{left_stays, without_stays}
 use Rattle.instance_table.specs.Twins.{asked_by}
 use Rattle.instance_table.proofs.Leasts.{least_stays, least_handed, together_same, together_handed, asked_same}
 use Rattle.instance_table.proofs.Twinned.{next_is_twin}

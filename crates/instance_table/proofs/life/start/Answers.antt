@@ -5,12 +5,12 @@ use Rattle.ialg.specs.Records.{unplaced}
 use Rattle.record_loans.specs.declared.pieces.Pieces.{Pieces}
 use Rattle.scratch_group.proofs.Tables.{unplaced-with_bases}
 use Rattle.record_loans.specs.Pieces.{piece_at, SamePieces}
-use Rattle.instance_table.specs.Homes.{with_seen}
-use Rattle.instance_table.specs.Table.{IsHoused, EachIsHoused, once_at, group_at, slot_active_in}
-use Rattle.instance_table.specs.Twins.{twin_at}
-use Rattle.instance_table.specs.Joining.{pieces_joined, CanJoin}
+use Rattle.record_shelves.specs.Homes.{with_seen}
+use Rattle.instance_table.specs.Table.{IsHoused, EachIsHoused, group_at, slot_active_in}
+use Rattle.record_shelves.specs.Shelves.{once_at}
+use Rattle.record_shelves.specs.Joining.{twin_at, pieces_joined, CanJoin}
 use Rattle.instance_table.proofs.Housing.{settled_stays}
-use Rattle.instance_table.proofs.Lent.{put_back, homes_of_all}
+use Rattle.record_shelves.proofs.Lent.{put_back, homes_of_all}
 use Rattle.instance_table.proofs.Held.{homes_of_held}
 use Rattle.instance_table.proofs.Changes.{read_ok_group}
 use Rattle.instance_table.proofs.Idles.{is_new, ok_after_still, keeps_by_still}

@@ -8,9 +8,10 @@ use Rattle.lifecycle.specs.declared.instance.Inst.TheVariants.{Idling, Running}
 use Rattle.lifecycle.specs.States.{SameOnce}
 use Rattle.lifecycle.proofs.Frames.{same_group}
 use Rattle.instance_table.specs.Frames.{SameMember}
-use Rattle.instance_table.specs.Table.{slot_at, once_at, instance_of, group_at, slot_active_in, activity_at, IsHoused, IsTold}
+use Rattle.instance_table.specs.Table.{slot_at, instance_of, group_at, slot_active_in, activity_at, IsHoused, IsTold}
+use Rattle.record_shelves.specs.Shelves.{once_at}
 use Rattle.instance_table.proofs.Housing.{same_blocks, settled_stays, settled_at}
-use Rattle.instance_table.proofs.Lent.{put_back}
+use Rattle.record_shelves.proofs.Lent.{put_back}
 use Rattle.instance_table.proofs.Held.{in_group, homes_of_held, once_unplaced}
 use Rattle.instance_table.proofs.Changes.{homes_in, read_ok_slot, read_ok_group, kept_in_slot, tables_by_change, poisoned_after_change, keeps_after_change, blocks_stay, pieces_stay}
 use Rattle.instance_table.proofs.Activities.{activity_stays, group_change}

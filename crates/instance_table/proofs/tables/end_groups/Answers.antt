@@ -3,7 +3,7 @@ use Rattle.mem_rec.specs.declared.Space.{Space}
 use Rattle.scratch_group.specs.declared.group.Group.{Group}
 use Rattle.scratch_group.specs.Blocks.{block_in}
 use Rattle.instance_table.specs.Table.{no_group}
-use Rattle.instance_table.proofs.Ends.{last_of}
+use Rattle.record_shelves.proofs.Ends.{last_of}
 use Rattle.instance_table.proofs.tables.end_groups.Goals as goal
 
 pub end-requires : goal.end-requires

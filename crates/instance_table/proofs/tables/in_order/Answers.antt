@@ -1,11 +1,11 @@
 use Rattle.std.proofs.Common.{◌≡◌, None, ap, sym, ◌∙◌}
 use Rattle.std.proofs.lemmas.Option.{none-some}
-use Rattle.instance_table.specs.declared.shelves.Stand.TheVariants.{Here, With}
-use Rattle.instance_table.specs.declared.shelves.Shelf.{Shelf}
-use Rattle.instance_table.specs.Shelves.{stand_at}
+use Rattle.record_shelves.specs.declared.shelves.Stand.TheVariants.{Here, With}
+use Rattle.record_shelves.specs.declared.shelves.Shelf.{Shelf}
+use Rattle.record_shelves.specs.Shelves.{stand_at}
 use Rattle.instance_table.specs.Table.{slot_active_in, group_at, Activity}
 use Rattle.instance_table.proofs.Housing.{none_poisoned}
-use Rattle.instance_table.proofs.Lent.{no_stand}
+use Rattle.record_shelves.proofs.Lent.{no_stand}
 use Rattle.instance_table.proofs.tables.in_order.Goals as goal
 
 pub returns-clause-ok : goal.returns-clause-ok

@@ -1,5 +1,5 @@
 use Rattle.std.proofs.Common.{sym, ◌∙◌, arith}
-use Rattle.instance_table.specs.declared.TheConstants.{INSTANCES}
+use Rattle.record_shelves.specs.declared.TheConstants.{INSTANCES}
 use Rattle.instance_table.specs.Table.{slot_at}
 use Rattle.instance_table.specs.Twins.{asked, asked_by, is_twin}
 use Rattle.instance_table.proofs.Likes.{none_of_other}

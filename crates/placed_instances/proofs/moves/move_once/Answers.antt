@@ -1,5 +1,5 @@
 use Rattle.host_spaces.specs.Picture.{blocks_in, picture_of}
-use Rattle.instance_table.proofs.Lent.{homes_of_all}
+use Rattle.record_shelves.proofs.Lent.{homes_of_all}
 use Rattle.instance_table.proofs.Held.{homes_of_held}
 use Rattle.table_moves.proofs.Seen.{words_seen}
 use Rattle.placed_instances.proofs.Homes.{standing_stays}

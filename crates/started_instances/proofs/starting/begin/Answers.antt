@@ -1,7 +1,7 @@
 use Rattle.std.proofs.Common.{◌≡◌, ℕ, Option, sym, ◌∙◌, ap}
 use Rattle.host_spaces.specs.Creation.{taken_over}
 use Rattle.host_spaces.specs.Creation.{twin_at as listed_at}
-use Rattle.instance_table.specs.Twins.{twin_at}
+use Rattle.record_shelves.specs.Joining.{twin_at}
 use Rattle.host_spaces.specs.Picture.{picture_of, renamed}
 use Rattle.started_instances.proofs.Begun.{Joins, joining, none_placed, room_joined, joined_stands, newborn}
 use Rattle.started_instances.proofs.starting.begin.Goals as goal

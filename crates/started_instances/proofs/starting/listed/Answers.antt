@@ -1,8 +1,8 @@
 use Rattle.std.proofs.Common.{◌≡◌, ℕ, zero, suc, refl}
 use Rattle.std.proofs.Common.{[], ◌∷◌}
 use Rattle.host_spaces.specs.Creation.{twin_at as listed_at}
-use Rattle.instance_table.specs.declared.twins.Twins.{Twins}
-use Rattle.instance_table.specs.Twins.{twin_at}
+use Rattle.record_shelves.specs.declared.joining.Twins.{Twins}
+use Rattle.record_shelves.specs.Joining.{twin_at}
 use Rattle.started_instances.proofs.starting.listed.Goals as goal
 
 each : (t : Twins) (k : ℕ) → listed_at (t.t0 ∷ t.t1 ∷ t.t2 ∷ t.t3 ∷ []) k ≡ twin_at t k

@@ -1,8 +1,8 @@
 use Rattle.std.proofs.Common.{Some, ap, ◌∙◌}
 use Rattle.record_loans.specs.declared.pieces.Pieces.{Pieces}
 use Rattle.record_loans.specs.Pieces.{with_piece}
-use Rattle.instance_table.specs.Homes.{with_seen}
-use Rattle.instance_table.proofs.Lent.{put_back}
+use Rattle.record_shelves.specs.Homes.{with_seen}
+use Rattle.record_shelves.proofs.Lent.{put_back}
 use Rattle.table_moves.proofs.records.put_once.Goals as goal
 
 pub returns : goal.returns

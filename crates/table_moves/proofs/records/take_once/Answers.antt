@@ -1,10 +1,10 @@
 use Rattle.std.proofs.Common.{List, None, ap, sym, subst, ◌∙◌}
 use Rattle.record_loans.specs.declared.pieces.Pieces.{Pieces}
 use Rattle.record_loans.specs.Pieces.{with_piece}
-use Rattle.instance_table.specs.declared.shelves.Shelf.{Shelf}
-use Rattle.instance_table.specs.Homes.{HasHomes, with_seen}
-use Rattle.instance_table.proofs.Homes.{homes_lent}
-use Rattle.instance_table.proofs.Lent.{put_back}
+use Rattle.record_shelves.specs.declared.shelves.Shelf.{Shelf}
+use Rattle.record_shelves.specs.Homes.{HasHomes, with_seen}
+use Rattle.record_shelves.proofs.Homes.{homes_lent}
+use Rattle.record_shelves.proofs.Lent.{put_back}
 use Rattle.table_moves.proofs.records.take_once.Goals as goal
 
 pub returns-clause-left : goal.returns-clause-left

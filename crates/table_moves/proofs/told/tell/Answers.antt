@@ -8,12 +8,13 @@ use Rattle.lifecycle.specs.declared.instance.Inst.TheVariants.{Idling, Running}
 use Rattle.lifecycle.specs.Moves.{with_back}
 use Rattle.lifecycle.specs.States.{SameOnce}
 use Rattle.instance_table.specs.declared.TheConstants.{GROUPS}
-use Rattle.instance_table.specs.Homes.{HasHomes}
-use Rattle.instance_table.specs.Table.{slot_at, once_at, group_at, no_group, instance_of, slot_active_in, activity_at, IsHoused}
+use Rattle.record_shelves.specs.Homes.{HasHomes}
+use Rattle.instance_table.specs.Table.{slot_at, group_at, no_group, instance_of, slot_active_in, activity_at, IsHoused}
+use Rattle.record_shelves.specs.Shelves.{once_at}
 use Rattle.instance_table.specs.Frames.{SameMember}
 use Rattle.instance_table.proofs.Housing.{same_blocks, settled_stays, settled_at}
-use Rattle.instance_table.proofs.Homes.{lent_here}
-use Rattle.instance_table.proofs.Lent.{put_back}
+use Rattle.record_shelves.proofs.Homes.{lent_here}
+use Rattle.record_shelves.proofs.Lent.{put_back}
 use Rattle.instance_table.proofs.Held.{once_unplaced}
 use Rattle.instance_table.proofs.Changes.{homes_in, read_ok_slot, read_ok_group}
 use Rattle.instance_table.proofs.Activities.{activity_stays, group_change}

@@ -1,0 +1,8 @@
+pub mod Stands
+pub mod Homes
+pub mod Lent
+pub mod Bare
+pub mod Handing
+pub mod Joined
+pub mod Joinings
+pub mod Ends

@@ -1,0 +1,11 @@
+use Rattle.std.proofs.Common.{◌≡◌, ◌≤◌, ℕ, length, vec_capacity}
+use Rattle.record_shelves.specs.declared.TheConstants.{INSTANCES}
+use Rattle.record_shelves.specs.Shelves.{shelf_at, no_shelf}
+use Rattle.record_shelves.proofs.tables.empty_once.Given as goal
+
+abbrev pub invariant-loop : goal.invariant-loop
+invariant-loop g l = record {
+  count : length l.once.items ≡ l.counter;
+  room : INSTANCES ≤ vec_capacity l.once;
+  empty : (i : ℕ) → shelf_at l.once.items i ≡ no_shelf;
+}

@@ -1,0 +1,4 @@
+pub mod Shelves
+pub mod Homes
+pub mod Holders
+pub mod Joining
