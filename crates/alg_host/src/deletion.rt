@@ -6,9 +6,9 @@ ghost use Rattle.alg_host.specs.Hosts.{lives, Serves};
 use crate::Host;
 use ialg::{Ialg, Refusal};
 use instance_table::{end_groups, end_slots};
-use record_shelves::end_once;
 use kept_deletion::delete_all;
 use placed_instances::nobody_stands;
+use record_shelves::end_once;
 
 impl<M: Ialg> Host<M> {
     /// Deletes instance `i`: it is deactivated if it is active, algFree is called, its records go, and its group's blocks with the last

@@ -22,8 +22,8 @@ use crate::members::table_copied;
 use host_spaces::{OldBlocks, Spaces, Twins};
 use ialg::Ialg;
 use instance_table::{Member, end};
-use record_shelves::{Shelf, next_holder};
 use mem_rec::Space;
+use record_shelves::{Shelf, next_holder};
 use scratch_group::Group;
 use table_moves::take_block;
 

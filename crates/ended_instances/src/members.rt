@@ -7,9 +7,9 @@ ghost use Rattle.ended_instances.specs.Ends.{has_members};
 
 use ialg::Ialg;
 use instance_table::Member;
-use record_shelves::INSTANCES;
 use lifecycle::Inst;
 use mem_rec::MemTab;
+use record_shelves::INSTANCES;
 
 /// The group of an instance.
 pub(crate) fn group_number<M: Ialg>(slots: &Vec<Option<Member<M>>>, i: u8) -> u8

@@ -24,8 +24,8 @@ use crate::blocks::{put_new_blocks, replaces_any};
 use host_spaces::{NewBlocks, Spaces};
 use ialg::Ialg;
 use instance_table::{Member, rest, tell_members};
-use record_shelves::Shelf;
 use placed_instances::in_order;
+use record_shelves::Shelf;
 use scratch_group::Group;
 
 /// Whether a new block stands in place of an old one of the group.

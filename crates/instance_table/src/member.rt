@@ -55,54 +55,48 @@ pub(crate) fn put_in<M: Ialg>(slots: &mut Vec<Option<Member<M>>>, i: u8, member:
     }
 }
 
-/// A slot with its instance as an idle one.
-fn as_idle<M: Ialg>(slot: Option<Member<M>>, _nothing: ()) -> (Option<Member<M>>, ())
-    ensures { (m : Member M) → slot ≡ Some m
-        → result.0 ≡ Some (record m { inst = Idling (record { instance = instance_of m.inst }) }) }
+/// The instance as an idle one.
+fn as_idle<M: Ialg>(inst: Inst<M>, _nothing: ()) -> (Inst<M>, ())
+    ensures { result.0 ≡ Idling (record { instance = instance_of inst }) }
 {
-    let Some(Member { group, inst }) = slot else {
-        return (None, ());
-    };
-    let idle = match inst {
-        Inst::Running(active) => active.idled(),
-        Inst::Idling(idle) => idle,
-    };
-    let inst = Inst::Idling(idle);
-    (Some(Member { group, inst }), ())
+    match inst {
+        Inst::Running(active) => (Inst::Idling(active.idled()), ()),
+        Inst::Idling(idle) => (Inst::Idling(idle), ()),
+    }
 }
 
-/// A slot with its instance as an active one.
-fn as_active<M: Ialg>(slot: Option<Member<M>>, _nothing: ()) -> (Option<Member<M>>, ())
-    ensures { (m : Member M) → slot ≡ Some m
-        → result.0 ≡ Some (record m { inst = Running (record { instance = instance_of m.inst }) }) }
+/// The instance as an active one.
+fn as_active<M: Ialg>(inst: Inst<M>, _nothing: ()) -> (Inst<M>, ())
+    ensures { result.0 ≡ Running (record { instance = instance_of inst }) }
 {
-    let Some(Member { group, inst }) = slot else {
-        return (None, ());
-    };
-    let active = match inst {
-        Inst::Idling(idle) => idle.woken(),
-        Inst::Running(active) => active,
-    };
-    let inst = Inst::Running(active);
-    (Some(Member { group, inst }), ())
+    match inst {
+        Inst::Idling(idle) => (Inst::Running(idle.woken()), ()),
+        Inst::Running(active) => (Inst::Running(active), ()),
+    }
 }
 
-/// Lets the instance of a slot stand in it as an idle one.
+/// Lets the instance of a slot stand in it as an idle one. No word of it is copied.
 pub(crate) fn make_idle<M: Ialg>(slots: &mut Vec<Option<Member<M>>>, i: u8)
     requires { IsSome (slot_at slots.old.items i) }
     ensures { (m : Member M) → slot_at slots.old.items i ≡ Some m
         → slots.new.items ≡ slice_set slots.old.items i (Some (record m { inst = Idling (record { instance = instance_of m.inst }) })) }
 {
-    replace_with(&mut slots[i as usize], (), as_idle);
+    match &mut slots[i as usize] {
+        Some(member) => replace_with(&mut member.inst, (), as_idle),
+        None => unreachable!(),
+    }
 }
 
-/// Lets the instance of a slot stand in it as an active one.
+/// Lets the instance of a slot stand in it as an active one. No word of it is copied.
 pub(crate) fn make_active<M: Ialg>(slots: &mut Vec<Option<Member<M>>>, i: u8)
     requires { IsSome (slot_at slots.old.items i) }
     ensures { (m : Member M) → slot_at slots.old.items i ≡ Some m
         → slots.new.items ≡ slice_set slots.old.items i (Some (record m { inst = Running (record { instance = instance_of m.inst }) })) }
 {
-    replace_with(&mut slots[i as usize], (), as_active);
+    match &mut slots[i as usize] {
+        Some(member) => replace_with(&mut member.inst, (), as_active),
+        None => unreachable!(),
+    }
 }
 
 /// The group of an idle instance, or None where the instance is active.

@@ -12,9 +12,9 @@ ghost use Rattle.kept_moves.specs.Hosts.{HostKeeps};
 use host_spaces::Spaces;
 use ialg::Ialg;
 use instance_table::Member;
-use record_shelves::Shelf;
 use mem_rec::Space;
 use placed_instances::{in_order, make_next_move};
+use record_shelves::Shelf;
 use scratch_group::Group;
 
 /// Moves the first block of the space that isn't at its packed place there, as the machine does, and says whether a block moved.

@@ -28,10 +28,10 @@ use grown_groups::grow;
 use host_spaces::{Placement, Spaces, creations};
 use ialg::{Ialg, Params};
 use instance_table::{Member, find_twins, start};
-use record_shelves::{Shelf, Twins};
 use mem_rec::{MemTab, Space};
 use placed_instances::{in_order, maps_have_room};
 use record_loans::Pieces;
+use record_shelves::{Shelf, Twins};
 use scratch_group::Group;
 use space_blocks::blocks_are_few;
 

@@ -9,8 +9,8 @@ ghost use Rattle.table_moves.specs.Moves.{own_set};
 
 use ialg::Ialg;
 use instance_table::Member;
-use record_shelves::{Shelf, put_seen, take_seen};
 use lifecycle::Inst;
+use record_shelves::{Shelf, put_seen, take_seen};
 use space_raw::Piece;
 
 /// Takes the piece of record `k` out of an instance that has it for its own, to be moved: [`tell`](crate::tell) puts it back.

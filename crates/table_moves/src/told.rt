@@ -13,8 +13,8 @@ ghost use Rattle.table_moves.specs.Moves.{own_set, all_but, all_from, holds_with
 
 use ialg::Ialg;
 use instance_table::{Member, lives};
-use record_shelves::{INSTANCES, Shelf, home, put_seen, take_seen};
 use lifecycle::Inst;
+use record_shelves::{INSTANCES, Shelf, home, put_seen, take_seen};
 use scratch_group::Group;
 use space_raw::Piece;
 
