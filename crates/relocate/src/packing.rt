@@ -1,7 +1,8 @@
 //! The next move of a space's blocks.
-ghost use Rattle.std.specs.Prelude.{◌≡◌, ◌↔◌, map, IfSome, IsNone};
+ghost use Rattle.std.specs.Prelude.{◌≡◌, ◌≤◌, ◌↔◌, map, IfSome, IsNone};
 ghost use Rattle.relocate.specs.declared.packing.Spot.{Spot};
-ghost use Rattle.relocate.specs.Spots.{AreSpots};
+ghost use Rattle.std.specs.Int.{next_multiple_of};
+ghost use Rattle.relocate.specs.Spots.{AreSpots, IsSpot};
 ghost use Rattle.relocate.specs.Packing.{IsNextMove, IsPacked, next_move_of};
 
 /// Where a block stands in its space, how many words of 16 bits it has, and the alignment that its place is a multiple of.
@@ -38,6 +39,20 @@ pub struct Move {
     pub to: u32,
 }
 
+/// Where a block goes that stands behind a packed end: the least multiple of its alignment from there on. Most stand right at the end,
+/// and their place is a multiple already: for these nothing is divided.
+fn packed_place(spot: Spot, end: u32) -> u32
+    requires spot { IsSpot spot }
+    requires behind { end ≤ spot.place }
+    ensures { result ≡ next_multiple_of end spot.align }
+{
+    if spot.place == end {
+        end
+    } else {
+        end.next_multiple_of(spot.align)
+    }
+}
+
 /// The first block that isn't at its packed place goes there. `None` exactly where every block is at its packed place, as it is
 /// without blocks. The blocks are in place order, at multiples of their alignments, and none meets another.
 pub fn next_move<B: Standing>(blocks: &[B]) -> Option<Move>
@@ -49,7 +64,7 @@ pub fn next_move<B: Standing>(blocks: &[B]) -> Option<Move>
     let mut end: u32 = 0;
     for (index, block) in blocks.iter().enumerate() {
         let spot = block.spot();
-        let to = end.next_multiple_of(spot.align);
+        let to = packed_place(spot, end);
         if spot.place != to {
             return Some(Move { index, to });
         }

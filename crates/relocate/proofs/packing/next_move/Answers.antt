@@ -10,7 +10,7 @@ returns-then-spot-to-clause-first g c = next_is_first (map g.B.Standing.stands c
 pub returns-then-spot-to-clause-packed : goal.returns-then-spot-to-clause-packed
 returns-then-spot-to-clause-packed g c =
     let spots = map g.B.Standing.stands c.args.blocks.now in
-    let some : next_move_of spots ≡ Some (record { index = c.loop-index.index; to = c.next_multiple_of-to.result }) = grind (arith, common_steps) in
+    let some : next_move_of spots ≡ Some (record { index = c.loop-index.index; to = c.packed_place-to.result }) = grind (arith, common_steps) in
     ((λ (bad : true ≡ false). cc), (λ packed. let none = none_where_packed spots packed in cc))
 
 pub returns-clause-packed : goal.returns-clause-packed
