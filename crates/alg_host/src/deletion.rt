@@ -5,7 +5,7 @@ ghost use Rattle.alg_host.specs.Hosts.{lives, Serves};
 
 use crate::Host;
 use ialg::{Ialg, Refusal};
-use instance_table::{end_groups, end_slots};
+use instance_life::{end_groups, end_slots};
 use kept_deletion::delete_all;
 use placed_instances::nobody_stands;
 use record_shelves::end_once;

@@ -10,7 +10,8 @@ ghost use Rattle.host_spaces.specs.Picture.{AreSizes};
 
 use host_spaces::{EmptySpaces, Sizes, StartError};
 use ialg::Ialg;
-use instance_table::{Member, empty_groups, empty_slots, end_groups, end_slots};
+use instance_life::{empty_groups, empty_slots, end_groups, end_slots};
+use instance_table::Member;
 use record_shelves::{Shelf, empty_once, end_once};
 use scratch_group::Group;
 use std::alloc::{AllocError, Allocator, Global};

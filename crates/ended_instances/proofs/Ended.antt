@@ -20,7 +20,7 @@ use Rattle.record_shelves.specs.declared.shelves.Shelf.{Shelf}
 use Rattle.record_shelves.specs.Shelves.{home_of, once_at}
 use Rattle.record_shelves.specs.Holders.{next_holder}
 use Rattle.instance_table.specs.Table.{slot_at, group_at, instance_of}
-use Rattle.instance_table.specs.Twins.{asked_by}
+use Rattle.instance_life.specs.Twins.{asked_by}
 use Rattle.placed_instances.specs.Standing.{AreStanding, table_of}
 use Rattle.placed_instances.proofs.Homes.{own_home}
 use Rattle.placed_instances.proofs.OwnMoves.{same_sizes}

@@ -32,7 +32,7 @@ use Rattle.instance_table.specs.Table.{slot_at, group_at, instance_of, AreHeld}
 use Rattle.record_shelves.proofs.Stands.{seen_here}
 use Rattle.instance_table.proofs.Held.{homes_of_held, alike_back}
 use Rattle.record_shelves.proofs.Handing.{next_of, next_is, without_apart, without_held, next_here, next_there}
-use Rattle.instance_table.proofs.Together.{holders}
+use Rattle.instance_life.proofs.Together.{holders}
 use Rattle.table_moves.proofs.Holders.{home_same}
 use Rattle.placed_instances.specs.Standing.{IsHome, AreStanding, table_of}
 use Rattle.placed_instances.proofs.Homes.{home_record, lasting_alike, no_record, piece_alike, record_alike, renamed_record}

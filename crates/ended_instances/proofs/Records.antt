@@ -31,7 +31,7 @@ use Rattle.record_shelves.specs.Shelves.{stand_at, shelf_at, home_of, once_at, n
 use Rattle.record_shelves.specs.Homes.{IsSameStand}
 use Rattle.record_shelves.specs.Holders.{next_holder, left_with, stand_without, AreLeast}
 use Rattle.instance_table.specs.Table.{slot_at, AreHeld, group_at, group_of, own_of, instance_of, is_member_of}
-use Rattle.instance_table.specs.Twins.{AreTogether}
+use Rattle.instance_life.specs.Twins.{AreTogether}
 use Rattle.instance_table.specs.Frames.{IsSameMember, OthersSame}
 use Rattle.placed_instances.specs.Standing.{IsHome, AreStanding, SlotIsSame, table_of}
 use Rattle.placed_instances.proofs.Homes.{alike_same, home_stays, slot_of_same, slot_same, before, none_before, member_before, pieces_none, is_of_same, none_same, align_same}

@@ -8,7 +8,7 @@ use Rattle.lifecycle.specs.States.{Relation}
 use Rattle.instance_table.specs.declared.member.Member.{Member}
 use Rattle.record_shelves.specs.declared.shelves.Shelf.{Shelf}
 use Rattle.instance_table.specs.Table.{slot_at, group_of, is_member_of, activity_at, quieted_by, TablesOk, ArePoisoned}
-use Rattle.instance_table.specs.Twins.{Asked, asked_by, twin_of}
+use Rattle.instance_life.specs.Twins.{Asked, asked_by, twin_of}
 use Rattle.instance_table.specs.Keeps.{Keeps}
 use Rattle.host_spaces.specs.declared.spaces.Spaces.{Spaces}
 use Rattle.host_spaces.specs.Picture.{copied_in, picture_of, sizes_of}

@@ -30,8 +30,8 @@ use Rattle.instance_table.specs.declared.member.Member.{Member}
 use Rattle.record_shelves.specs.declared.shelves.Shelf.{Shelf}
 use Rattle.record_shelves.specs.Shelves.{stand_at, shelf_at, home_of, once_at}
 use Rattle.instance_table.specs.Table.{slot_at, group_at, instance_of, AreHeld}
-use Rattle.instance_table.proofs.Leasts.{least_stays, together_members}
-use Rattle.instance_table.proofs.Together.{home_lives}
+use Rattle.instance_life.proofs.Leasts.{least_stays, together_members}
+use Rattle.instance_life.proofs.Together.{home_lives}
 use Rattle.table_moves.proofs.Holders.{home_same}
 use Rattle.instance_table.specs.Frames.{IsSameMember, SameMembers}
 use Rattle.placed_instances.specs.Standing.{IsHome, IsOf, AreOrdered, table_of}

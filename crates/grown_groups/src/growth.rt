@@ -23,7 +23,8 @@ ghost use Rattle.grown_groups.specs.Growth.{ArePlaced, AreGrown, activity_grown}
 use crate::blocks::{put_new_blocks, replaces_any};
 use host_spaces::{NewBlocks, Spaces};
 use ialg::Ialg;
-use instance_table::{Member, rest, tell_members};
+use instance_life::tell_members;
+use instance_table::{Member, rest};
 use placed_instances::in_order;
 use record_shelves::Shelf;
 use scratch_group::Group;

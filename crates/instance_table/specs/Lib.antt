@@ -1,4 +1,3 @@
 pub mod Table
 pub mod Keeps
 pub mod Frames
-pub mod Twins

@@ -6,19 +6,11 @@
 
 mod activity;
 mod calls;
-mod life;
 mod member;
-mod moves;
-mod tables;
-mod twins;
 
 pub use activity::{quiet, rest, touch};
 pub use calls::{command, process};
-pub use life::{end, start};
-pub use member::{Member, lives};
-pub use moves::tell_members;
-pub use tables::{empty_groups, empty_slots, end_groups, end_slots, in_order};
-pub use twins::find_twins;
+pub use member::{Member, lives, put_in, take_out};
 
 /// Groups have the numbers below this.
 pub const GROUPS: u8 = 8;

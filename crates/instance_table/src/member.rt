@@ -26,7 +26,7 @@ pub fn lives<M: Ialg>(slots: &Vec<Option<Member<M>>>, i: u8) -> bool
 }
 
 /// Takes the instance out of its slot.
-pub(crate) fn take_out<M: Ialg>(slots: &mut Vec<Option<Member<M>>>, i: u8) -> Member<M>
+pub fn take_out<M: Ialg>(slots: &mut Vec<Option<Member<M>>>, i: u8) -> Member<M>
     requires { IsSome (slot_at slots.old.items i) }
     ensures member { slot_at slots.old.items i ≡ Some result }
     ensures slots { slots.new.items ≡ slice_set slots.old.items i None }
@@ -41,7 +41,7 @@ pub(crate) fn take_out<M: Ialg>(slots: &mut Vec<Option<Member<M>>>, i: u8) -> Me
 }
 
 /// Puts an instance into an empty slot.
-pub(crate) fn put_in<M: Ialg>(slots: &mut Vec<Option<Member<M>>>, i: u8, member: Member<M>)
+pub fn put_in<M: Ialg>(slots: &mut Vec<Option<Member<M>>>, i: u8, member: Member<M>)
     requires room { i < length slots.old.items }
     requires empty { slot_at slots.old.items i ≡ None }
     ensures slots { slots.new.items ≡ slice_set slots.old.items i (Some member) }

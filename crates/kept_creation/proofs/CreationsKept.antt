@@ -21,7 +21,7 @@ use Rattle.host_spaces.specs.declared.spaces.Spaces.{Spaces}
 use Rattle.host_spaces.specs.Creation.{created_picture, replaces}
 use Rattle.host_spaces.specs.Picture.{AreSameSpaces, Picture, copied_in, picture_of, sizes_of, space_in}
 use Rattle.placed_instances.proofs.OwnMoves.{same_sizes}
-use Rattle.instance_table.specs.Twins.{asked, asked_by, twin_of}
+use Rattle.instance_life.specs.Twins.{asked, asked_by, twin_of}
 use Rattle.sound_machine.specs.State.{Living, State, twins_of, with_living}
 use Rattle.kept_machine.proofs.TwinsKept.{twins_same}
 use Rattle.sound_machine.specs.Choices.{MayAsk}

@@ -22,7 +22,7 @@ use Rattle.kept_machine.specs.Kept.{IsLiving, history_of}
 use Rattle.kept_machine.proofs.KeptLemmas.{Found, found}
 use Rattle.kept_moves.specs.Hosts.{HostKeeps}
 use Rattle.kept_moves.proofs.MovesKept.{still_living}
-use Rattle.instance_table.specs.Twins.{Asked, asked_by}
+use Rattle.instance_life.specs.Twins.{Asked, asked_by}
 use Rattle.std.specs.Option.{option_map}
 use Rattle.kept_machine.proofs.TwinsKept.{asked_same, twins_same}
 use Rattle.ended_instances.specs.Ends.{HasEnded, has_members, twins_among}

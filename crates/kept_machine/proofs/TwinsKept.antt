@@ -6,7 +6,7 @@ use Rattle.mem_rec.specs.declared.MemRec.{MemRec}
 use Rattle.std.specs.Prelude.{ℤ}
 use Rattle.instance_table.specs.declared.member.Member.{Member}
 use Rattle.instance_table.specs.Table.{slot_at, instance_of}
-use Rattle.instance_table.specs.Twins.{Asked, asked_by, twin_of}
+use Rattle.instance_life.specs.Twins.{Asked, asked_by, twin_of}
 use Rattle.sound_machine.specs.State.{Living, asked_of}
 use Rattle.kept_machine.specs.Kept.{IsLiving}
 

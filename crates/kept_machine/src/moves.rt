@@ -7,7 +7,8 @@ ghost use Rattle.sound_machine.specs.State.{State};
 ghost use Rattle.kept_machine.specs.Kept.{TablesKeep};
 
 use ialg::Ialg;
-use instance_table::{Member, tell_members};
+use instance_life::tell_members;
+use instance_table::Member;
 use record_shelves::Shelf;
 use scratch_group::Group;
 

@@ -31,7 +31,7 @@ use Rattle.record_shelves.specs.declared.shelves.Shelf.{Shelf}
 use Rattle.record_shelves.specs.Shelves.{stand_at, shelf_at, home_of, once_at, no_pieces}
 use Rattle.instance_table.specs.Table.{slot_at, group_at, instance_of, is_member_of}
 use Rattle.instance_table.specs.Frames.{SameSlot, SameMember, IsSameMember, SameMembers, SameTables}
-use Rattle.instance_table.proofs.Leasts.{least_stays, together_members}
+use Rattle.instance_life.proofs.Leasts.{least_stays, together_members}
 use Rattle.table_moves.proofs.Holders.{home_same}
 use Rattle.placed_instances.specs.Standing.{IsHome, IsOf, AreStanding, table_of, SlotIsSame}
 

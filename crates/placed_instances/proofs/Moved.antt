@@ -33,7 +33,7 @@ use Rattle.record_shelves.specs.Homes.{AllHaveHomes}
 use Rattle.instance_table.specs.Table.{slot_at, group_at, AreBare, instance_of, is_member_of}
 use Rattle.record_shelves.proofs.Lent.{no_stand, seen_at}
 use Rattle.instance_table.proofs.Held.{IsSameHolder}
-use Rattle.instance_table.proofs.Together.{together_by_homes}
+use Rattle.instance_life.proofs.Together.{together_by_homes}
 use Rattle.table_moves.specs.Moves.{inst_with, slot_with, own_set, holds_with, slid_to}
 use Rattle.table_moves.proofs.Owns.{own_set_same, own_set_other}
 use Rattle.table_moves.proofs.Holders.{not_equal}

@@ -15,7 +15,7 @@ use Rattle.record_shelves.specs.declared.shelves.Shelf.{Shelf}
 use Rattle.record_shelves.specs.Shelves.{home_of, once_at, no_pieces}
 use Rattle.instance_table.specs.Table.{slot_at, group_at, instance_of, is_member_of}
 use Rattle.record_shelves.specs.Holders.{AreLeast}
-use Rattle.instance_table.specs.Twins.{AreTogether}
+use Rattle.instance_life.specs.Twins.{AreTogether}
 use Rattle.space_blocks.specs.declared.placed.Owner.TheVariants.{Record}
 use Rattle.space_blocks.specs.Blocks.{owned}
 use Rattle.space_blocks.specs.Spaces.{AreInOrder}

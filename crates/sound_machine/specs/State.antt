@@ -9,7 +9,7 @@ use Rattle.ialg.specs.Meaning.{Meaning}
 use Rattle.host_spaces.specs.declared.spaces.Sizes.{Sizes}
 use Rattle.host_spaces.specs.Picture.{Picture, empty_picture}
 use Rattle.instance_table.specs.Table.{Activity, untouched}
-use Rattle.instance_table.specs.Twins.{Asked, twin_of}
+use Rattle.instance_life.specs.Twins.{Asked, twin_of}
 
 -- an instance, as its creation named it, the memory that its kind asked for, and what it was given since then
 pub record Living (M : Type 0) : Type 0 where

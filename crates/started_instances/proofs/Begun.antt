@@ -25,12 +25,12 @@ use Rattle.record_shelves.specs.declared.joining.Twins.{Twins}
 use Rattle.record_shelves.specs.Shelves.{stand_at, shelf_at, home_of, once_at, no_pieces}
 use Rattle.record_shelves.specs.Homes.{IsSameStand}
 use Rattle.instance_table.specs.Table.{slot_at, group_at, instance_of, active_in, is_member_of, AreHeld, TablesOk}
-use Rattle.instance_table.specs.Twins.{Asked, asked, asked_by, twin_of, AreTwins, AreTogether}
+use Rattle.instance_life.specs.Twins.{Asked, asked, asked_by, twin_of, AreTwins, AreTogether}
 use Rattle.record_shelves.specs.Joining.{twin_at, pieces_joined, stand_joined}
 use Rattle.record_shelves.specs.Holders.{AreLeast}
 use Rattle.instance_table.specs.Frames.{IsIdle, IsStarted, OthersStay}
-use Rattle.instance_table.proofs.Sharing.{IsTwin}
-use Rattle.instance_table.proofs.Twinned.{tells_twin, twin_at_home}
+use Rattle.instance_life.proofs.Sharing.{IsTwin}
+use Rattle.instance_life.proofs.Twinned.{tells_twin, twin_at_home}
 use Rattle.space_blocks.specs.declared.placed.Owner.{Owner}
 use Rattle.space_blocks.specs.declared.placed.Owner.TheVariants.{Record}
 use Rattle.space_blocks.specs.Blocks.{owned, renamed_blocks}

@@ -33,8 +33,8 @@ use Rattle.record_shelves.specs.Homes.{IsSameStand}
 use Rattle.instance_table.specs.Table.{slot_at, group_at, instance_of, unbased, AreHeld}
 use Rattle.record_shelves.specs.Joining.{twin_at, piece_joined, pieces_joined, stand_joined}
 use Rattle.instance_table.proofs.Held.{homes_of_held}
-use Rattle.instance_table.proofs.Sharing.{IsTwin}
-use Rattle.instance_table.proofs.Together.{home_lives}
+use Rattle.instance_life.proofs.Sharing.{IsTwin}
+use Rattle.instance_life.proofs.Together.{home_lives}
 use Rattle.table_moves.proofs.Holders.{home_same, ltb_tells, not_equal}
 use Rattle.placed_instances.specs.Standing.{IsHome, table_of}
 use Rattle.placed_instances.proofs.Homes.{home_record, no_record, renamed_record}

@@ -8,7 +8,7 @@ ghost use Rattle.scratch_group.specs.Words.{idle_words};
 ghost use Rattle.record_shelves.specs.declared.TheConstants.{INSTANCES};
 ghost use Rattle.instance_table.specs.declared.TheConstants.{GROUPS};
 ghost use Rattle.instance_table.specs.Table.{slot_at, group_at, activity_at, TablesOk, ArePoisoned};
-ghost use Rattle.instance_table.specs.Twins.{asked, asked_by, twin_of, AreTwins};
+ghost use Rattle.instance_life.specs.Twins.{asked, asked_by, twin_of, AreTwins};
 ghost use Rattle.record_shelves.specs.Joining.{twin_at};
 ghost use Rattle.instance_table.specs.Keeps.{Keeps, with_history};
 ghost use Rattle.space_blocks.specs.declared.TheConstants.{SPACE_BLOCKS};
@@ -27,7 +27,8 @@ ghost use Rattle.started_instances.specs.Started.{IsNewborn, IsPlaced, OthersAre
 use grown_groups::grow;
 use host_spaces::{Placement, Spaces, creations};
 use ialg::{Ialg, Params};
-use instance_table::{Member, find_twins, start};
+use instance_life::{find_twins, start};
+use instance_table::Member;
 use mem_rec::{MemTab, Space};
 use placed_instances::{in_order, maps_have_room};
 use record_loans::Pieces;

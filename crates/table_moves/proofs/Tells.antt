@@ -27,8 +27,8 @@ use Rattle.instance_table.specs.Frames.{SameMember, SameMembers}
 use Rattle.instance_table.proofs.Housing.{same_blocks}
 use Rattle.instance_table.proofs.Held.{homes_of_held}
 use Rattle.instance_table.proofs.Changes.{tables_by_change, poisoned_after_change, keeps_after_change, blocks_stay, pieces_stay}
-use Rattle.instance_table.proofs.Idles.{tables_by_quiet, keeps_after_end}
-use Rattle.instance_table.proofs.Told.{members_after, members_after_quiet}
+use Rattle.instance_life.proofs.Idles.{tables_by_quiet, keeps_after_end}
+use Rattle.instance_life.proofs.Told.{members_after, members_after_quiet}
 use Rattle.table_moves.specs.Moves.{own_set, slot_with, IsThere, IsHousedBut, IsWaiting, IsWaitingBut, all_but, TablesThere, TablesBut, TablesWaiting, TablesWaitingBut}
 use Rattle.table_moves.proofs.Owns.{Beside, tables_map, set_again, own_set_same, active_with, but_own, housed_beside, waiting_beside, member_back}
 

@@ -1,6 +1,7 @@
 //! Tables without instances.
 use alg_g711::G711;
-use instance_table::{empty_groups, empty_slots, end_groups, end_slots, in_order, rest};
+use instance_life::{empty_groups, empty_slots, end_groups, end_slots, in_order};
+use instance_table::rest;
 use record_shelves::{empty_once, end_once};
 
 #[test]

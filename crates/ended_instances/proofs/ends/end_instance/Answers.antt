@@ -2,7 +2,7 @@ use Rattle.std.proofs.Common.{sym, ◌∙◌}
 use Rattle.std.proofs.lemmas.Bool.{true≢false}
 use Rattle.host_spaces.specs.Picture.{picture_of}
 use Rattle.instance_table.specs.Table.{slot_at}
-use Rattle.instance_table.specs.Twins.{asked_by}
+use Rattle.instance_life.specs.Twins.{asked_by}
 use Rattle.ended_instances.specs.Ends.{twins_among}
 use Rattle.ended_instances.proofs.Belonging.{none_left}
 use Rattle.ended_instances.proofs.Blocks.{stand_all}

@@ -1,7 +1,7 @@
 use Rattle.std.proofs.Common.{◌≡◌, ◌<◌, ℤ, List, [], Option, Some, None, Ok, Err, true, is_some, rules, sym, ◌∙◌, subst, arith}
 use Rattle.host_spaces.specs.Creation.{created_picture}
 use Rattle.host_spaces.specs.Picture.{picture_of, sizes_of}
-use Rattle.instance_table.specs.Twins.{asked, asked_by, twin_of}
+use Rattle.instance_life.specs.Twins.{asked, asked_by, twin_of}
 use Rattle.instance_table.specs.Table.{slot_at}
 use Rattle.instance_table.specs.Keeps.{Keeps, with_history}
 use Rattle.sound_machine.specs.Steps.{created, newborn}

@@ -8,7 +8,7 @@ use Rattle.host_spaces.specs.Pieces.{ArePlacedPieces, without_pieces}
 use Rattle.instance_table.specs.declared.member.Member.{Member}
 use Rattle.instance_table.specs.Table.{slot_at, group_at}
 use Rattle.record_shelves.specs.Shelves.{no_pieces}
-use Rattle.instance_table.specs.Twins.{asked, asked_by, twin_of}
+use Rattle.instance_life.specs.Twins.{asked, asked_by, twin_of}
 use Rattle.record_shelves.specs.Joining.{twin_at}
 use Rattle.placed_instances.specs.Standing.{SlotIsSame}
 use Rattle.placed_instances.proofs.Slots.{not_a_group, other_instance}

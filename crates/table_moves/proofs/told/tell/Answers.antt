@@ -18,7 +18,7 @@ use Rattle.record_shelves.proofs.Lent.{put_back}
 use Rattle.instance_table.proofs.Held.{once_unplaced}
 use Rattle.instance_table.proofs.Changes.{homes_in, read_ok_slot, read_ok_group}
 use Rattle.instance_table.proofs.Activities.{activity_stays, group_change}
-use Rattle.instance_table.proofs.Told.{told_member}
+use Rattle.instance_life.proofs.Told.{told_member}
 use Rattle.table_moves.proofs.Owns.{member_back}
 use Rattle.table_moves.proofs.Tells.{ok_of_idle, waiting_of_idle, same_of_idle, keeps_of_idle, ok_of_active, waiting_of_active, poisoned_of_active, same_of_active, keeps_of_active}
 use Rattle.table_moves.proofs.told.tell.Goals as goal

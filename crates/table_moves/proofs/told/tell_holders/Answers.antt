@@ -1,5 +1,5 @@
 use Rattle.std.proofs.Common.{◌∙◌, refl, arith}
-use Rattle.instance_table.proofs.Told.{members_then, same_members}
+use Rattle.instance_life.proofs.Told.{members_then, same_members}
 use Rattle.table_moves.specs.Moves.{holds_with}
 use Rattle.table_moves.proofs.Holders.{all_wait, none_waits}
 use Rattle.table_moves.proofs.told.tell_holders.Goals as goal

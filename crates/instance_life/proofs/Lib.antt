@@ -1,0 +1,13 @@
+pub mod HeldOn
+pub mod Idles
+pub mod Goings
+pub mod Told
+pub mod Finds
+pub mod Likes
+pub mod Sharing
+pub mod Leasts
+pub mod Together
+pub mod Twinned
+pub mod Fills
+pub mod Starts
+pub mod Ends
