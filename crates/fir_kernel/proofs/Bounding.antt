@@ -1,5 +1,5 @@
 -- The filter's output from the plain sum of a bounded block.
-use Rattle.std.proofs.Common.{◌≡◌, ℕ, ℤ, pos, ◌+◌, ◌-◌, ◌<◌, ◌≤◌, unsigned_abs, List, length, take, replicate, w32, inl, inr, ap, ◌∙◌, arith, get_or-take, length-take}
+use Rattle.std.proofs.Common.{◌≡◌, ℕ, ℤ, pos, ◌+◌, ◌-◌, ◌<◌, ◌≤◌, unsigned_abs, List, length, take, drop, replicate, w32, inl, inr, refl, ap, ◌∙◌, arith, get_or-take, length-take}
 use Rattle.std.specs.Int.{int_wrap}
 use Rattle.std.proofs.lemmas.Bool.{cases_lt}
 use Rattle.std.proofs.lemmas.List.{get_or_past, get_or-replicate, length-replicate}
@@ -7,7 +7,8 @@ use Rattle.basic_op.specs.Operators.{round_of, l_add_of}
 use Rattle.ialg.specs.History.{word_at}
 use Rattle.fir_kernel.specs.Sums.{filtered_at}
 use Rattle.fir_kernel.specs.Bounded.{product_sum, IsBounded}
-use Rattle.fir_kernel.proofs.Sums.{product_sum-silent, product_sum-turned, wrapped_sum_is}
+use Rattle.fir_kernel.proofs.Parts.{part_at}
+use Rattle.fir_kernel.proofs.Sums.{product_sum-same, product_sum-silent, product_sum-turned, wrapped_sum_is}
 
 pub zeros_at : (n j : ℕ) → word_at (replicate n (pos 0)) j ≡ pos 0
 zeros_at n j = elim (cases_lt j n) [
@@ -24,13 +25,38 @@ front_silent words m j e = elim (cases_lt j m) [
       get_or_past (take m words) j (pos 0) short
 ]
 
-module _ (cs taps line : List ℤ) (m n : ℕ) (some : 1 ≤ length cs) (few : length cs ≤ m)
-    (reversed : (j k : ℕ) → j + k + 1 ≡ length cs → word_at taps j ≡ word_at cs k)
-    (rest : (j : ℕ) → length cs ≤ j → word_at taps j ≡ pos 0)
-    (bounded : IsBounded cs (take (n + length cs) line)) where
-  pub bounded_output : (i : ℕ) (s y : ℤ) → i ≤ n → s ≡ int_wrap w32 (product_sum (word_at (take m taps)) (λ j. word_at line (i + j)) m)
+module _ (cs line : List ℤ) (n : ℕ) (bounded : IsBounded cs (take (n + length cs) line)) where
+  -- the wrapped sum, doubled and rounded, is the output
+  pub output_is : (i : ℕ) (s y : ℤ) → 1 ≤ length cs → i ≤ n
+      → s ≡ int_wrap w32 (product_sum (word_at cs) (λ k. word_at line (length cs - 1 + i - k)) (length cs))
       → y ≡ round_of (l_add_of s s) → y ≡ filtered_at cs line i
-  bounded_output i s y b e f =
+  output_is i s y some b sum f =
+      let x : ℕ → ℤ = λ k. word_at line (length cs - 1 + i - k) in
+      let quiet : (k : ℕ) → k < length cs → unsigned_abs (x k) ≤ bounded.0 =
+      λ k h.
+      let a : length cs - 1 + i - k < n + length cs = omega arith in
+      let same : word_at (take (n + length cs) line) (length cs - 1 + i - k) ≡ x k = get_or-take (n + length cs) line (length cs - 1 + i - k) (pos 0) a in
+      rw same at (bounded.1 (length cs - 1 + i - k)) in
+      f ∙ ap round_of (wrapped_sum_is (word_at cs) x bounded.0 (length cs) s quiet bounded.2 sum)
+
+  -- by the coefficients in order, and the window that ends with the newest sample
+  pub output_turned : (i : ℕ) (s y : ℤ) → 1 ≤ length cs → i ≤ n
+      → s ≡ int_wrap w32 (product_sum (word_at cs) (λ k. word_at (take (i + length cs - i) (drop i line)) (length cs - 1 - k)) (length cs))
+      → y ≡ round_of (l_add_of s s) → y ≡ filtered_at cs line i
+  output_turned i s y some b e f =
+      output_is i s y some b
+      (e ∙ ap (int_wrap w32) (product_sum-same (word_at cs) (word_at cs) _ _ (length cs) (λ k h. refl)
+      (λ k h. let a : i + (length cs - 1 - k) ≡ length cs - 1 + i - k = omega arith in
+      part_at line i (i + length cs) (length cs - 1 - k) (omega arith) ∙ ap (word_at line) a)))
+      f
+
+  -- by taps, which are the coefficients turned, with silent ones behind them
+  pub output_by_taps : (taps : List ℤ) (m : ℕ) → 1 ≤ length cs → length cs ≤ m
+      → ((j k : ℕ) → j + k + 1 ≡ length cs → word_at taps j ≡ word_at cs k)
+      → ((j : ℕ) → length cs ≤ j → word_at taps j ≡ pos 0)
+      → (i : ℕ) (s y : ℤ) → i ≤ n → s ≡ int_wrap w32 (product_sum (word_at (take m taps)) (λ j. word_at line (i + j)) m)
+      → y ≡ round_of (l_add_of s s) → y ≡ filtered_at cs line i
+  output_by_taps taps m some few reversed rest i s y b e f =
       let x : ℕ → ℤ = λ k. word_at line (length cs - 1 + i - k) in
       let c' : ℕ → ℤ = word_at (take m taps) in
       let x' : ℕ → ℤ = λ j. word_at line (i + j) in
@@ -40,10 +66,4 @@ module _ (cs taps line : List ℤ) (m n : ℕ) (some : 1 ≤ length cs) (few : l
       let turned : product_sum c' x' (length cs) ≡ product_sum (word_at cs) x (length cs) =
       product_sum-turned (word_at cs) x c' x' (length cs) (λ j k h. let a : j < m = omega arith in get_or-take m taps j (pos 0) a ∙ reversed j k h)
       (λ j k h. let a : i + j ≡ length cs - 1 + i - k = omega arith in ap (word_at line) a) in
-      let sum : s ≡ int_wrap w32 (product_sum (word_at cs) x (length cs)) = e ∙ ap (λ d. int_wrap w32 (product_sum c' x' d)) whole ∙ ap (int_wrap w32) (short ∙ turned) in
-      let quiet : (k : ℕ) → k < length cs → unsigned_abs (x k) ≤ bounded.0 =
-      λ k h.
-      let a : length cs - 1 + i - k < n + length cs = omega arith in
-      let same : word_at (take (n + length cs) line) (length cs - 1 + i - k) ≡ x k = get_or-take (n + length cs) line (length cs - 1 + i - k) (pos 0) a in
-      rw same at (bounded.1 (length cs - 1 + i - k)) in
-      f ∙ ap round_of (wrapped_sum_is (word_at cs) x bounded.0 (length cs) s quiet bounded.2 sum)
+      output_is i s y some b (e ∙ ap (λ d. int_wrap w32 (product_sum c' x' d)) whole ∙ ap (int_wrap w32) (short ∙ turned)) f

@@ -1,5 +1,5 @@
 //! The filter where no sum can saturate: plain sums, in whatever order the vector registers take the products.
-ghost use Rattle.std.specs.Prelude.{◌≡◌, ◌↔◌, ◌<◌, ◌≤◌, ◌+◌, ◌*◌, ◌%◌, ◌+ℤ◌, ◌*ℤ◌, ℕ, length, take, IsTrue};
+ghost use Rattle.std.specs.Prelude.{◌≡◌, ◌↔◌, ◌<◌, ◌≤◌, ◌+◌, ◌-◌, ◌*◌, ◌%◌, ◌+ℤ◌, ◌*ℤ◌, ℕ, length, take, IsTrue};
 ghost use Rattle.std.specs.Int.{int_wrap, w32};
 ghost use Rattle.basic_op.specs.Operators.{l_add_of, round_of};
 ghost use Rattle.ialg.specs.History.{word_at};
@@ -43,6 +43,30 @@ fn loudest(samples: &[i16]) -> u16
         loudest = sample.unsigned_abs().max(loudest);
     }
     loudest
+}
+
+/// The one output of the filter for sample `at` of the block, where no sum can saturate over the samples up to it. It needs no arrays.
+pub(crate) fn output_bounded(coefficients: &[i16], line: &[i16], at: usize) -> i16
+    requires some { 1 ≤ length coefficients.now }
+    requires reach { at + length coefficients.now ≤ length line.now }
+    requires bounded { IsBounded coefficients.now (take (at + length coefficients.now) line.now) }
+    ensures { result ≡ filtered_at coefficients.now line.now at }
+{
+    let sum = dot_turned(coefficients, &line[at..at + coefficients.len()]);
+    round(l_add(sum, sum))
+}
+
+/// The sum of the products of the coefficients with a window of samples, of which the newest stands last: wrapped to 32 bits.
+fn dot_turned(coefficients: &[i16], window: &[i16]) -> i32
+    requires { length window.now ≡ length coefficients.now }
+    ensures { result ≡ int_wrap w32 (product_sum (word_at coefficients.now)
+        (λ k. word_at window.now (length coefficients.now - 1 - k)) (length coefficients.now)) }
+{
+    let mut sum: i32 = 0;
+    for (k, coefficient) in coefficients.iter().enumerate() {
+        sum = add_product(sum, *coefficient, window[coefficients.len() - 1 - k]);
+    }
+    sum
 }
 
 /// Runs the filter as [`filter`](crate::filter) does, where no sum can saturate over the samples up to `last`. There is

@@ -4,7 +4,7 @@ ghost use Rattle.basic_op.specs.Operators.{l_mac_of, l_mult_of, round_of};
 ghost use Rattle.ialg.specs.History.{word_at};
 ghost use Rattle.fir_kernel.specs.Sums.{filtered_at, l_mac_sum};
 
-use crate::bounded::{filter_bounded, is_bounded, product};
+use crate::bounded::{filter_bounded, is_bounded, output_bounded, product};
 use crate::{FEW_SAMPLES, MOST_COEFFICIENTS, SHORT_BLOCK};
 use basic_op::{l_add, l_mac, round};
 use ialg::BLOCK_SAMPLES;
@@ -52,10 +52,12 @@ fn filter_within<const N: usize>(
         return;
     }
     let last = first + step * (out.len() - 1);
-    if is_bounded(coefficients, &line[..last + coefficients.len()]) {
-        filter_bounded::<N>(coefficients, line, first, step, last, out);
-    } else {
+    if !is_bounded(coefficients, &line[..last + coefficients.len()]) {
         filter_exact::<N>(coefficients, line, first, step, out);
+    } else if out.len() == 1 {
+        out[0] = output_bounded(coefficients, line, first);
+    } else {
+        filter_bounded::<N>(coefficients, line, first, step, last, out);
     }
 }
 

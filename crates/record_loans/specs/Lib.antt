@@ -1,3 +1,3 @@
 pub mod Pieces
 pub mod Blocks
-pub mod Cuts
+pub mod Loans

@@ -6,7 +6,7 @@ ghost use Rattle.scratch_group.specs.Words.{scratch_end, scratch_offset};
 ghost use Rattle.scratch_group.specs.Plans.{cut_of, idle_cut_of, active_plan_of, idle_plan_of, IsWithinLimits};
 
 use mem_rec::{Attr, GREATEST_ALIGNMENT, MemRec, MemTab, RECORD_WORDS, Space};
-use record_loans::{Cut, Plan, Source};
+use record_cuts::{Cut, Plan, Source};
 
 /// The most words by which a record moves the end of those before it: the greatest record, behind the greatest gap.
 pub(crate) const GREATEST_STEP: u32 = RECORD_WORDS + GREATEST_ALIGNMENT;

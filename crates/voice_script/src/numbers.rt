@@ -1,63 +1,48 @@
 //! Words that are numbers, and their ranges.
-ghost use Rattle.std.specs.Prelude.{◌≡◌, length, min, MatchOption, IfOk, IfErr, is_ok, false, true};
-ghost use Rattle.std.specs.List.{list_all};
-ghost use Rattle.std.specs.Char.{is_ascii_digit};
-ghost use Rattle.voice_script.specs.Script.{is_digits, digits_value, value_of};
+ghost use Rattle.std.specs.Prelude.{◌≡◌, min, MatchOption, IfOk, IfErr, is_ok, false, true};
+ghost use Rattle.voice_script.specs.Script.{is_digits, digits_value, is_number, value_of};
 ghost use Rattle.voice_script.specs.Readings.{Limits};
 
 use crate::limits::{FEED_SAMPLES, GREATEST_MAGNITUDE};
 use crate::samples::FeedSamples;
 use ialg::Refusal;
 
-fn all_digits(digits: &[u8]) -> bool
-    ensures { result ≡ list_all is_ascii_digit digits.now }
+/// The value of one or more decimal digits, as far as the greatest magnitude. None for everything else.
+fn magnitude(digits: &[u8]) -> Option<u32>
+    ensures { MatchOption result (is_digits digits.now ≡ false)
+        (λ value. (is_digits digits.now ≡ true) × (value ≡ min (digits_value digits.now) GREATEST_MAGNITUDE)) }
 {
-    digits.iter().all(|digit| digit.is_ascii_digit())
-}
-
-fn is_digits(digits: &[u8]) -> bool
-    ensures { result ≡ is_digits digits.now }
-{
-    !digits.is_empty() && all_digits(digits)
-}
-
-fn magnitude(digits: &[u8]) -> u32
-    ensures { result ≡ min (digits_value digits.now) GREATEST_MAGNITUDE }
-{
+    if digits.is_empty() {
+        return None;
+    }
     let mut value = 0;
     for digit in digits {
+        if !digit.is_ascii_digit() {
+            return None;
+        }
         value = (10 * value + u32::from(digit.saturating_sub(b'0'))).min(GREATEST_MAGNITUDE);
     }
-    value
+    Some(value)
 }
 
-/// The word's value, as far as the greatest magnitude.
-fn value_of(word: &[u8]) -> i32
-    ensures { Limits (value_of word.now) result }
+/// The value of an optional minus and one or more digits, as far as the greatest magnitude. None for everything else.
+fn value_of(word: &[u8]) -> Option<i32>
+    ensures { MatchOption result (is_number word.now ≡ false)
+        (λ value. (is_number word.now ≡ true) × Limits (value_of word.now) value) }
 {
     match word {
-        [b'-', digits @ ..] => -(magnitude(digits) as i32),
-        _ => magnitude(word) as i32,
+        [b'-', digits @ ..] => Some(-(magnitude(digits)? as i32)),
+        _ => Some(magnitude(word)? as i32),
     }
 }
 
-ghost use Rattle.voice_script.specs.Script.{is_number};
-
-/// Whether the word is an optional minus and one or more digits.
-fn is_number(word: &[u8]) -> bool
-    ensures { result ≡ is_number word.now }
-{
-    match word {
-        [b'-', digits @ ..] => is_digits(digits),
-        _ => is_digits(word),
-    }
-}
-
-/// A word that is a number.
+/// A word that is a number, with its value as far as the greatest magnitude.
 #[derive(Clone, Copy)]
 pub(crate) struct Number<'a> {
     word: &'a [u8],
+    value: i32,
     ghost numeric: { is_number word.now ≡ true },
+    ghost limits: { Limits (value_of word.now) value },
 }
 
 impl<'a> Number<'a> {
@@ -67,10 +52,9 @@ impl<'a> Number<'a> {
     pub(crate) fn of(word: &'a [u8]) -> Option<Number<'a>>
         ensures { MatchOption result (is_number word.now ≡ false) (λ number. number.word.now ≡ word.now) }
     {
-        if is_number(word) {
-            Some(Number { word })
-        } else {
-            None
+        match value_of(word) {
+            Some(value) => Some(Number { word, value }),
+            None => None,
         }
     }
 
@@ -80,7 +64,7 @@ impl<'a> Number<'a> {
         ensures value { IfOk result (λ n. n ≡ natural self.entry.word.now) }
         ensures range { IfErr result (λ refusal. refusal ≡ Refusal.Range) }
     {
-        u8::try_from(value_of(self.word)).map_err(|_| Refusal::Range)
+        u8::try_from(self.value).map_err(|_| Refusal::Range)
     }
 
     /// The number of a feed's samples: `range` beyond 1 to [`FEED_SAMPLES`].
@@ -89,7 +73,7 @@ impl<'a> Number<'a> {
         ensures value { IfOk result (λ n. n.number ≡ natural self.entry.word.now) }
         ensures range { IfErr result (λ refusal. refusal ≡ Refusal.Range) }
     {
-        let value = value_of(self.word);
+        let value = self.value;
         if 1 <= value && value <= i32::from(FEED_SAMPLES) {
             Ok(FeedSamples::new(value as u16))
         } else {
@@ -103,6 +87,6 @@ impl<'a> Number<'a> {
         ensures value { IfOk result (λ n. n ≡ value_of self.entry.word.now) }
         ensures range { IfErr result (λ refusal. refusal ≡ Refusal.Range) }
     {
-        i16::try_from(value_of(self.word)).map_err(|_| Refusal::Range)
+        i16::try_from(self.value).map_err(|_| Refusal::Range)
     }
 }

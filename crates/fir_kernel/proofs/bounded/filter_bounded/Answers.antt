@@ -2,7 +2,7 @@ use Rattle.std.proofs.Common.{◌≡◌, ◌≤◌, ◌+◌, ◌*◌, ◌∙◌,
 use Rattle.std.specs.Int.{int_wrap}
 use Rattle.ialg.specs.History.{word_at}
 use Rattle.fir_kernel.specs.Bounded.{product_sum}
-use Rattle.fir_kernel.proofs.Bounding.{zeros_at, bounded_output}
+use Rattle.fir_kernel.proofs.Bounding.{zeros_at, output_by_taps}
 use Rattle.fir_kernel.proofs.bounded.filter_bounded.Goals as goal
 use Rattle.fir_kernel.proofs.bounded.filter_bounded.Goals.{then-coefficients-le-LANES, else-coefficients-le-LANES}
 
@@ -20,7 +20,7 @@ returns g c i b =
     let all : length taps ≡ 64 = c.reverse.auto.taps in
     let front : length (take m taps) ≡ m = simp length-take (omega arith) in
     let at = c.args.first + c.args.step * i in
-    bounded_output cs taps line m c.args.last c.requires.some size.0
-    c.reverse.ensures.reversed (λ j h. c.reverse.ensures.rest j h ∙ zeros_at 64 j) c.requires.bounded at _ _ (c.requires.last i b)
+    output_by_taps cs line c.args.last c.requires.bounded taps m c.requires.some size.0
+    c.reverse.ensures.reversed (λ j h. c.reverse.ensures.rest j h ∙ zeros_at 64 j) at _ _ (c.requires.last i b)
     (c.sum_windows.ensures i (omega arith) ∙ ap (λ n. int_wrap w32 (product_sum (word_at (take m taps)) (λ j. word_at line (at + j)) n)) front)
     (c.round_doubled.ensures i b)

@@ -1,16 +1,11 @@
--- How records are cut out of pieces and blocks.
-use Rattle.std.specs.Prelude.{ℕ, ℤ, Bool, true, false, if◌then◌else◌, ◌+◌, ◌≤◌, ◌-◌, List, [], ◌∷◌, take, drop, length, Option}
+-- How records are cut out of the words of pieces and blocks.
+use Rattle.std.specs.Prelude.{◌≡◌, ℕ, ℤ, Bool, true, false, ◌+◌, ◌≤◌, ◌-◌, List, [], ◌∷◌, take, drop}
 use Rattle.mem_rec.specs.declared.Space.{Space}
 use Rattle.mem_rec.specs.declared.Space.TheVariants.{Daram, Saram, External}
-use Rattle.space_raw.specs.Span.{Span}
-use Rattle.record_loans.specs.declared.plan.Source.{Source}
-use Rattle.record_loans.specs.declared.plan.Source.TheVariants.{Absent, Own, Shared, InDaram, InSaram, InExternal}
-use Rattle.record_loans.specs.declared.plan.Cut.{Cut}
-use Rattle.record_loans.specs.declared.plan.Plan.{Plan}
-use Rattle.record_loans.specs.declared.block.ScratchBlock.{ScratchBlock}
-use Rattle.record_loans.specs.declared.pieces.Pieces.{Pieces}
-use Rattle.record_loans.specs.Blocks.{block_words}
-use Rattle.record_loans.specs.Pieces.{piece_words}
+use Rattle.record_cuts.specs.declared.plan.Source.{Source}
+use Rattle.record_cuts.specs.declared.plan.Source.TheVariants.{Absent, Own, Shared, InDaram, InSaram, InExternal}
+use Rattle.record_cuts.specs.declared.plan.Cut.{Cut}
+use Rattle.record_cuts.specs.declared.plan.Plan.{Plan}
 
 abbrev pub is_shared : Source → Bool
 is_shared Shared = true
@@ -19,10 +14,6 @@ is_shared Own = false
 is_shared InDaram = false
 is_shared InSaram = false
 is_shared InExternal = false
-
--- the piece of a record: the shared one for a record that is cut out of it
-abbrev pub held : Source → Option Span → Option Span → Option Span
-held c own shared = if is_shared c then shared else own
 
 -- the words of a cut, where the record's piece has the words o, and d, s and e are left of the blocks
 abbrev pub words_from : Source → ℕ → ℕ → List ℤ → List ℤ → List ℤ → List ℤ → List ℤ
@@ -78,14 +69,12 @@ plan_words p o0 o1 o2 o3 d s e = take p.object o0 ∷ cut_words (p.first ∷ p.s
 abbrev pub PlanFits : Plan → ℕ → ℕ → ℕ → ℕ → ℕ → ℕ → ℕ → Type 0
 PlanFits p o0 o1 o2 o3 d s e = (p.object ≤ o0) × CutsFit (p.first ∷ p.second ∷ p.third ∷ []) (o1 ∷ o2 ∷ o3 ∷ []) d s e
 
--- the words that a plan cuts out of pieces and blocks
-abbrev pub lent_by : Plan → Pieces → Pieces → Option ScratchBlock → Option ScratchBlock → Option ScratchBlock → List (List ℤ)
-lent_by plan own shared d s e = plan_words plan (piece_words own.p0)
-    (piece_words (held plan.first.source own.p1 shared.p1)) (piece_words (held plan.second.source own.p2 shared.p2)) (piece_words (held plan.third.source own.p3 shared.p3))
-    (block_words d) (block_words s) (block_words e)
+-- a filter's plan: record 1 lies in a piece of its own, record 2 in the block in `daram`, and there is no record 3
+pub record IsFilterPlan (p : Plan) : Type 0 where
+  pub kept : p.first.source ≡ Own
+  pub running : p.second.source ≡ InDaram
+  pub none : p.third.size ≡ 0
 
--- there are enough words for a plan
-abbrev pub LentFits : Plan → Pieces → Pieces → Option ScratchBlock → Option ScratchBlock → Option ScratchBlock → Type 0
-LentFits plan own shared d s e = PlanFits plan (length (piece_words own.p0))
-    (length (piece_words (held plan.first.source own.p1 shared.p1))) (length (piece_words (held plan.second.source own.p2 shared.p2))) (length (piece_words (held plan.third.source own.p3 shared.p3)))
-    (length (block_words d)) (length (block_words s)) (length (block_words e))
+-- the words of each record of a filter, with those of its own pieces and of the block in `daram`
+abbrev pub filter_words : Plan → List ℤ → List ℤ → List ℤ → List (List ℤ)
+filter_words p o0 o1 d = take p.object o0 ∷ take p.first.size o1 ∷ take p.second.size (drop p.second.gap d) ∷ [] ∷ []
