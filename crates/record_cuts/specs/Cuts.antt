@@ -1,11 +1,12 @@
 -- How records are cut out of the words of pieces and blocks.
-use Rattle.std.specs.Prelude.{◌≡◌, ℕ, ℤ, Bool, true, false, ◌+◌, ◌≤◌, ◌-◌, List, [], ◌∷◌, take, drop}
+use Rattle.std.specs.Prelude.{ℕ, ℤ, Bool, true, false, ◌+◌, ◌≤◌, ◌-◌, List, [], ◌∷◌, take, drop}
 use Rattle.mem_rec.specs.declared.Space.{Space}
 use Rattle.mem_rec.specs.declared.Space.TheVariants.{Daram, Saram, External}
 use Rattle.record_cuts.specs.declared.plan.Source.{Source}
 use Rattle.record_cuts.specs.declared.plan.Source.TheVariants.{Absent, Own, Shared, InDaram, InSaram, InExternal}
 use Rattle.record_cuts.specs.declared.plan.Cut.{Cut}
 use Rattle.record_cuts.specs.declared.plan.Plan.{Plan}
+use Rattle.record_cuts.specs.declared.plan.FilterSizes.{FilterSizes}
 
 abbrev pub is_shared : Source → Bool
 is_shared Shared = true
@@ -69,12 +70,12 @@ plan_words p o0 o1 o2 o3 d s e = take p.object o0 ∷ cut_words (p.first ∷ p.s
 abbrev pub PlanFits : Plan → ℕ → ℕ → ℕ → ℕ → ℕ → ℕ → ℕ → Type 0
 PlanFits p o0 o1 o2 o3 d s e = (p.object ≤ o0) × CutsFit (p.first ∷ p.second ∷ p.third ∷ []) (o1 ∷ o2 ∷ o3 ∷ []) d s e
 
--- a filter's plan: record 1 lies in a piece of its own, record 2 in the block in `daram`, and there is no record 3
-pub record IsFilterPlan (p : Plan) : Type 0 where
-  pub kept : p.first.source ≡ Own
-  pub running : p.second.source ≡ InDaram
-  pub none : p.third.size ≡ 0
-
 -- the words of each record of a filter, with those of its own pieces and of the block in `daram`
-abbrev pub filter_words : Plan → List ℤ → List ℤ → List ℤ → List (List ℤ)
-filter_words p o0 o1 d = take p.object o0 ∷ take p.first.size o1 ∷ take p.second.size (drop p.second.gap d) ∷ [] ∷ []
+abbrev pub filter_words : FilterSizes → List ℤ → List ℤ → List ℤ → List (List ℤ)
+filter_words n o0 o1 d = take n.object o0 ∷ take n.kept o1 ∷ take n.running d ∷ [] ∷ []
+
+-- the pieces and the block have enough words for a filter
+pub record FilterFits (n : FilterSizes) (o0 o1 d : ℕ) : Type 0 where
+  pub object : n.object ≤ o0
+  pub kept : n.kept ≤ o1
+  pub running : n.running ≤ d

@@ -1,8 +1,8 @@
 //! Records are cut out of plain slices, so that what the slices hold afterwards is known.
 ghost use Rattle.std.specs.Prelude.{◌≡◌, ◌+◌, ◌≤◌, ◌++◌, ℕ, ℤ, Bool, List, [], ◌∷◌, length};
-ghost use Rattle.record_cuts.specs.Cuts.{cut_words, CutsFit, plan_words, PlanFits, filter_words};
+ghost use Rattle.record_cuts.specs.Cuts.{cut_words, CutsFit, plan_words, PlanFits, filter_words, FilterFits};
 
-use crate::plan::{Cut, Plan, Source};
+use crate::plan::{Cut, FilterSizes, Plan, Source};
 use ialg::{Step, lend};
 use mem_rec::MemTab;
 
@@ -232,29 +232,26 @@ pub fn lend_cuts<O, S: Step<O>>(
     );
 }
 
-/// Performs the step with the records of a filter, which its plan cuts out of the words of the own pieces, `w0` and `w1`, and of the
-/// block in `daram`. Other pieces and blocks aren't looked at.
-#[tactic(auto, using(crate::proofs::Parts::part_read, crate::proofs::Parts::front_read))]
+/// Performs the step with the records of a filter, which are cut out of the words of its own pieces, `w0` and `w1`, and of the block in
+/// `daram`, each from the start on.
+#[tactic(auto, using(crate::proofs::Parts::front_read))]
 pub fn lend_filter_cuts<O, S: Step<O>>(
     step: &S,
     table: &MemTab,
     writable: bool,
-    plan: &Plan,
+    sizes: FilterSizes,
     w0: &mut [i16],
     w1: &mut [i16],
     daram: &mut [i16],
     out: &mut O,
 )
     requires can { S.can step.now out.old }
-    requires object { plan.now.object ≤ length w0.old }
-    requires kept { plan.now.first.size ≤ length w1.old }
-    requires running { plan.now.second.gap + plan.now.second.size ≤ length daram.old }
-    ensures { S.done step.now table.now writable (filter_words plan.now w0.old w1.old daram.old)
-        (filter_words plan.now w0.new w1.new daram.new) out.old out.new }
+    requires fit { FilterFits sizes (length w0.old) (length w1.old) (length daram.old) }
+    ensures { S.done step.now table.now writable (filter_words sizes w0.old w1.old daram.old)
+        (filter_words sizes w0.new w1.new daram.new) out.old out.new }
 {
-    let (object, _rest) = w0.split_at_mut(plan.object);
-    let (kept, _rest) = w1.split_at_mut(plan.first.size);
-    let (_gap, rest) = daram.split_at_mut(plan.second.gap);
-    let (running, _rest) = rest.split_at_mut(plan.second.size);
+    let (object, _rest) = w0.split_at_mut(sizes.object);
+    let (kept, _rest) = w1.split_at_mut(sizes.kept);
+    let (running, _rest) = daram.split_at_mut(sizes.running);
     lend(step, table, writable, object, kept, running, &mut [], out);
 }

@@ -8,4 +8,4 @@ mod cuts;
 mod plan;
 
 pub use cuts::{lend_cuts, lend_filter_cuts};
-pub use plan::{Cut, Plan, Source};
+pub use plan::{Cut, FilterSizes, Plan, Source};

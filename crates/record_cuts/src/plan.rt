@@ -1,6 +1,6 @@
 //! Where the words of an instance's records lie.
-ghost use Rattle.std.specs.Prelude.{◌≡◌, ◌↔◌, IsTrue};
-ghost use Rattle.record_cuts.specs.Cuts.{is_shared, IsFilterPlan};
+ghost use Rattle.std.specs.Prelude.{◌≡◌};
+ghost use Rattle.record_cuts.specs.Cuts.{is_shared};
 
 /// Where the words of a record lie.
 #[derive(Clone, Copy, PartialEq, Eq, Debug)]
@@ -52,14 +52,10 @@ pub struct Plan {
     pub third: Cut,
 }
 
-impl Plan {
-    /// Whether this is the plan of a filter that is active: record 1 lies in a piece of its own, record 2 in the block in `daram`, and
-    /// there is no record 3.
-    pub fn is_of_filter(&self) -> bool
-        ensures { IsTrue result ↔ IsFilterPlan self.now }
-    {
-        self.first.source == Source::Own
-            && self.second.source == Source::InDaram
-            && self.third.size == 0
-    }
+/// How many words each record of a filter has: the object, the kept words, and the running words in the block in `daram`.
+#[derive(Clone, Copy, PartialEq, Eq, Debug)]
+pub struct FilterSizes {
+    pub object: usize,
+    pub kept: usize,
+    pub running: usize,
 }

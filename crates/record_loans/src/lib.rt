@@ -10,5 +10,5 @@ mod loans;
 mod pieces;
 
 pub use block::ScratchBlock;
-pub use loans::{lend_with_blocks, lend_without_blocks};
+pub use loans::{lend_filter, lend_with_blocks, lend_without_blocks};
 pub use pieces::Pieces;

@@ -1,17 +1,17 @@
 //! Records are lent: pieces are chosen, and pieces and blocks become slices, one loan a function.
 //!
 //! Three or four of these functions become one where the code is made, so that a loan costs no call.
-ghost use Rattle.std.specs.Prelude.{◌≡◌, ◌≤◌, ◌+◌, ℕ, ℤ, [], length, Option, Some, None, IsSome};
+ghost use Rattle.std.specs.Prelude.{◌≡◌, ◌≤◌, ℕ, ℤ, [], length, Option, Some, None};
 ghost use Rattle.record_loans.specs.Blocks.{block_words, IsSameBlock};
 ghost use Rattle.record_loans.specs.Pieces.{piece_words, IsSamePiece, SamePieces};
-ghost use Rattle.record_cuts.specs.Cuts.{filter_words, plan_words, PlanFits};
+ghost use Rattle.record_cuts.specs.Cuts.{filter_words, plan_words, FilterFits, PlanFits};
 ghost use Rattle.record_loans.specs.Loans.{held, lent_by, LentFits};
 
 use crate::block::ScratchBlock;
 use crate::pieces::Pieces;
 use ialg::Step;
 use mem_rec::MemTab;
-use record_cuts::{Plan, lend_cuts, lend_filter_cuts};
+use record_cuts::{FilterSizes, Plan, lend_cuts, lend_filter_cuts};
 use space_raw::Piece;
 
 /// Performs the step with the records that the plan cuts out of an instance's own pieces and those that are lent to it. A record
@@ -85,161 +85,6 @@ pub fn lend_with_blocks<O, S: Step<O>>(
     ensures saram { IsSameBlock saram.old saram.new }
     ensures external { IsSameBlock external.old external.new }
 {
-    if plan.is_of_filter() && own.p0.is_some() && own.p1.is_some() && daram.is_some() {
-        lend_filter(
-            step,
-            table,
-            writable,
-            plan,
-            &mut own.p0,
-            &mut own.p1,
-            daram,
-            out,
-        );
-    } else {
-        lend_any(
-            step, table, writable, plan, own, shared, daram, saram, external, out,
-        );
-    }
-}
-
-/// Performs the step with the records of a filter, and lends the piece of record 0. Most instances are filters, and theirs are the
-/// shortest steps: so other pieces and blocks aren't looked at.
-#[inline(always)]
-fn lend_filter<O, S: Step<O>>(
-    step: &S,
-    table: &MemTab,
-    writable: bool,
-    plan: &Plan,
-    p0: &mut Option<Piece>,
-    p1: &mut Option<Piece>,
-    daram: &mut Option<ScratchBlock>,
-    out: &mut O,
-)
-    requires can { S.can step.now out.old }
-    requires there { IsSome p0.old × IsSome p1.old × IsSome daram.old }
-    requires object { plan.now.object ≤ length (piece_words p0.old) }
-    requires kept { plan.now.first.size ≤ length (piece_words p1.old) }
-    requires running { plan.now.second.gap + plan.now.second.size ≤ length (block_words daram.old) }
-    ensures done { S.done step.now table.now writable (filter_words plan.now (piece_words p0.old) (piece_words p1.old) (block_words daram.old))
-        (filter_words plan.now (piece_words p0.new) (piece_words p1.new) (block_words daram.new)) out.old out.new }
-    ensures p0 { IsSamePiece p0.old p0.new }
-    ensures p1 { IsSamePiece p1.old p1.new }
-    ensures daram { IsSameBlock daram.old daram.new }
-{
-    match p0 {
-        Some(object) => lend_filter_kept(
-            step,
-            table,
-            writable,
-            plan,
-            object.words_mut(),
-            p1,
-            daram,
-            out,
-        ),
-        None => unreachable!(),
-    }
-}
-
-/// Lends the piece of record 1 of a filter.
-#[inline(always)]
-fn lend_filter_kept<O, S: Step<O>>(
-    step: &S,
-    table: &MemTab,
-    writable: bool,
-    plan: &Plan,
-    w0: &mut [i16],
-    p1: &mut Option<Piece>,
-    daram: &mut Option<ScratchBlock>,
-    out: &mut O,
-)
-    requires can { S.can step.now out.old }
-    requires there { IsSome p1.old × IsSome daram.old }
-    requires object { plan.now.object ≤ length w0.old }
-    requires kept { plan.now.first.size ≤ length (piece_words p1.old) }
-    requires running { plan.now.second.gap + plan.now.second.size ≤ length (block_words daram.old) }
-    ensures done { S.done step.now table.now writable (filter_words plan.now w0.old (piece_words p1.old) (block_words daram.old))
-        (filter_words plan.now w0.new (piece_words p1.new) (block_words daram.new)) out.old out.new }
-    ensures p1 { IsSamePiece p1.old p1.new }
-    ensures daram { IsSameBlock daram.old daram.new }
-{
-    match p1 {
-        Some(kept) => lend_filter_running(
-            step,
-            table,
-            writable,
-            plan,
-            w0,
-            kept.words_mut(),
-            daram,
-            out,
-        ),
-        None => unreachable!(),
-    }
-}
-
-/// Lends the block in `daram` to a filter.
-#[inline(always)]
-fn lend_filter_running<O, S: Step<O>>(
-    step: &S,
-    table: &MemTab,
-    writable: bool,
-    plan: &Plan,
-    w0: &mut [i16],
-    w1: &mut [i16],
-    daram: &mut Option<ScratchBlock>,
-    out: &mut O,
-)
-    requires can { S.can step.now out.old }
-    requires there { IsSome daram.old }
-    requires object { plan.now.object ≤ length w0.old }
-    requires kept { plan.now.first.size ≤ length w1.old }
-    requires running { plan.now.second.gap + plan.now.second.size ≤ length (block_words daram.old) }
-    ensures done { S.done step.now table.now writable (filter_words plan.now w0.old w1.old (block_words daram.old))
-        (filter_words plan.now w0.new w1.new (block_words daram.new)) out.old out.new }
-    ensures daram { IsSameBlock daram.old daram.new }
-{
-    match daram {
-        Some(block) => lend_filter_cuts(
-            step,
-            table,
-            writable,
-            plan,
-            w0,
-            w1,
-            block.piece.words_mut(),
-            out,
-        ),
-        None => unreachable!(),
-    }
-}
-
-/// Performs the step as [`lend_with_blocks`] does, whatever the plan.
-#[inline(never)]
-fn lend_any<O, S: Step<O>>(
-    step: &S,
-    table: &MemTab,
-    writable: bool,
-    plan: &Plan,
-    own: &mut Pieces,
-    shared: &mut Pieces,
-    daram: &mut Option<ScratchBlock>,
-    saram: &mut Option<ScratchBlock>,
-    external: &mut Option<ScratchBlock>,
-    out: &mut O,
-)
-    requires can { S.can step.now out.old }
-    requires fit { LentFits plan.now own.old shared.old daram.old saram.old external.old }
-    ensures done { S.done step.now table.now writable
-        (lent_by plan.now own.old shared.old daram.old saram.old external.old)
-        (lent_by plan.now own.new shared.new daram.new saram.new external.new) out.old out.new }
-    ensures own { SamePieces own.old own.new }
-    ensures shared { SamePieces shared.old shared.new }
-    ensures daram { IsSameBlock daram.old daram.new }
-    ensures saram { IsSameBlock saram.old saram.new }
-    ensures external { IsSameBlock external.old external.new }
-{
     choose_first(
         step,
         table,
@@ -257,6 +102,143 @@ fn lend_any<O, S: Step<O>>(
         external,
         out,
     );
+}
+
+/// Performs the step with the records of a filter, out of its own pieces and the block in `daram`. Most instances are filters, and theirs
+/// are the shortest steps: so their loans are three, and no other piece or block is looked at.
+pub fn lend_filter<O, S: Step<O>>(
+    step: &S,
+    table: &MemTab,
+    writable: bool,
+    sizes: FilterSizes,
+    own: &mut Pieces,
+    daram: &mut Option<ScratchBlock>,
+    out: &mut O,
+)
+    requires can { S.can step.now out.old }
+    requires some { 1 ≤ sizes.object × 1 ≤ sizes.kept × 1 ≤ sizes.running }
+    requires fit { FilterFits sizes (length (piece_words own.old.p0)) (length (piece_words own.old.p1)) (length (block_words daram.old)) }
+    ensures done { S.done step.now table.now writable
+        (filter_words sizes (piece_words own.old.p0) (piece_words own.old.p1) (block_words daram.old))
+        (filter_words sizes (piece_words own.new.p0) (piece_words own.new.p1) (block_words daram.new)) out.old out.new }
+    ensures own { SamePieces own.old own.new }
+    ensures daram { IsSameBlock daram.old daram.new }
+{
+    lend_filter_object(
+        step,
+        table,
+        writable,
+        sizes,
+        &mut own.p0,
+        &mut own.p1,
+        daram,
+        out,
+    );
+}
+
+/// Lends the piece of record 0 of a filter.
+#[inline(always)]
+fn lend_filter_object<O, S: Step<O>>(
+    step: &S,
+    table: &MemTab,
+    writable: bool,
+    sizes: FilterSizes,
+    p0: &mut Option<Piece>,
+    p1: &mut Option<Piece>,
+    daram: &mut Option<ScratchBlock>,
+    out: &mut O,
+)
+    requires can { S.can step.now out.old }
+    requires some { 1 ≤ sizes.object × 1 ≤ sizes.kept × 1 ≤ sizes.running }
+    requires fit { FilterFits sizes (length (piece_words p0.old)) (length (piece_words p1.old)) (length (block_words daram.old)) }
+    ensures done { S.done step.now table.now writable (filter_words sizes (piece_words p0.old) (piece_words p1.old) (block_words daram.old))
+        (filter_words sizes (piece_words p0.new) (piece_words p1.new) (block_words daram.new)) out.old out.new }
+    ensures p0 { IsSamePiece p0.old p0.new }
+    ensures p1 { IsSamePiece p1.old p1.new }
+    ensures daram { IsSameBlock daram.old daram.new }
+{
+    match p0 {
+        Some(object) => lend_filter_kept(
+            step,
+            table,
+            writable,
+            sizes,
+            object.words_mut(),
+            p1,
+            daram,
+            out,
+        ),
+        None => unreachable!(),
+    }
+}
+
+/// Lends the piece of record 1 of a filter.
+#[inline(always)]
+fn lend_filter_kept<O, S: Step<O>>(
+    step: &S,
+    table: &MemTab,
+    writable: bool,
+    sizes: FilterSizes,
+    w0: &mut [i16],
+    p1: &mut Option<Piece>,
+    daram: &mut Option<ScratchBlock>,
+    out: &mut O,
+)
+    requires can { S.can step.now out.old }
+    requires some { 1 ≤ sizes.object × 1 ≤ sizes.kept × 1 ≤ sizes.running }
+    requires fit { FilterFits sizes (length w0.old) (length (piece_words p1.old)) (length (block_words daram.old)) }
+    ensures done { S.done step.now table.now writable (filter_words sizes w0.old (piece_words p1.old) (block_words daram.old))
+        (filter_words sizes w0.new (piece_words p1.new) (block_words daram.new)) out.old out.new }
+    ensures p1 { IsSamePiece p1.old p1.new }
+    ensures daram { IsSameBlock daram.old daram.new }
+{
+    match p1 {
+        Some(kept) => lend_filter_running(
+            step,
+            table,
+            writable,
+            sizes,
+            w0,
+            kept.words_mut(),
+            daram,
+            out,
+        ),
+        None => unreachable!(),
+    }
+}
+
+/// Lends the block in `daram` to a filter.
+#[inline(always)]
+fn lend_filter_running<O, S: Step<O>>(
+    step: &S,
+    table: &MemTab,
+    writable: bool,
+    sizes: FilterSizes,
+    w0: &mut [i16],
+    w1: &mut [i16],
+    daram: &mut Option<ScratchBlock>,
+    out: &mut O,
+)
+    requires can { S.can step.now out.old }
+    requires some { 1 ≤ sizes.object × 1 ≤ sizes.kept × 1 ≤ sizes.running }
+    requires fit { FilterFits sizes (length w0.old) (length w1.old) (length (block_words daram.old)) }
+    ensures done { S.done step.now table.now writable (filter_words sizes w0.old w1.old (block_words daram.old))
+        (filter_words sizes w0.new w1.new (block_words daram.new)) out.old out.new }
+    ensures daram { IsSameBlock daram.old daram.new }
+{
+    match daram {
+        Some(block) => lend_filter_cuts(
+            step,
+            table,
+            writable,
+            sizes,
+            w0,
+            w1,
+            block.piece.words_mut(),
+            out,
+        ),
+        None => unreachable!(),
+    }
 }
 
 /// Chooses the piece of record 1.

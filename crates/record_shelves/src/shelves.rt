@@ -172,6 +172,7 @@ fn put_record(once: &mut Vec<Shelf>, i: usize, k: usize, piece: Option<Piece>)
 }
 
 /// Takes the pieces of an instance's write-once records, each from its home.
+#[inline(never)]
 fn take_each(once: &mut Vec<Shelf>, i: usize) -> Pieces
     requires number { i < length once.old.items }
     requires homes { HasHomes once.old.items i }
@@ -190,6 +191,7 @@ fn take_each(once: &mut Vec<Shelf>, i: usize) -> Pieces
 }
 
 /// Takes the pieces of an instance's write-once records together, each from its home: [`put_seen`] puts them back.
+#[inline(always)]
 pub fn take_seen(once: &mut Vec<Shelf>, i: usize) -> Pieces
     requires number { i < length once.old.items }
     requires homes { HasHomes once.old.items i }
@@ -206,6 +208,7 @@ pub fn take_seen(once: &mut Vec<Shelf>, i: usize) -> Pieces
 }
 
 /// Puts the pieces of an instance's write-once records, each at its home, where none is.
+#[inline(never)]
 fn put_each(once: &mut Vec<Shelf>, i: usize, pieces: Pieces)
     requires number { i < length once.old.items }
     requires homes { HasHomes once.old.items i }
@@ -227,6 +230,7 @@ fn has_none(pieces: &Pieces) -> bool
 }
 
 /// Puts the pieces of an instance's write-once records at their homes, where none are.
+#[inline(always)]
 pub fn put_seen(once: &mut Vec<Shelf>, i: usize, pieces: Pieces)
     requires number { i < length once.old.items }
     requires homes { HasHomes once.old.items i }

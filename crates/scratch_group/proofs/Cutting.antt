@@ -143,13 +143,13 @@ fit_step rs own shared g k cs os t long later = (
   rw (less_is rs g k Daram, less_is rs g k Saram, less_is rs g k External) later,
 )
 
-first_end : (rs : List MemRec) (space : Space) → IsTrue (is_table rs) → scratch_end rs 1 space ≡ 0
+pub first_end : (rs : List MemRec) (space : Space) → IsTrue (is_table rs) → scratch_end rs 1 space ≡ 0
 first_end rs space t = scratch_end-suc rs 0 space ∙ ap (λ a. next_end a (record_at rs 0).space (record_at rs 0).size (record_at rs 0).align space 0) (object_attr rs t)
 
 first_rest : (rs : List MemRec) (g : Group) (space : Space) → IsTrue (is_table rs) → rest rs g 1 space ≡ block_words (block_in g space)
 first_rest rs g space t = ap (λ n. drop n (block_words (block_in g space))) (first_end rs space t)
 
-object_words : (rs : List MemRec) (own shared : Pieces) (g : Group) → IsTrue (is_table rs) → take (record_at rs 0).size (piece_words own.p0) ≡ record_words rs own shared g 0
+pub object_words : (rs : List MemRec) (own shared : Pieces) (g : Group) → IsTrue (is_table rs) → take (record_at rs 0).size (piece_words own.p0) ≡ record_words rs own shared g 0
 object_words rs own shared g t =
     sym (ap (λ a. words_by a (record_at rs 0).size (piece_words own.p0) (piece_words shared.p0) (drop (scratch_offset rs 0) (block_words (block_in g (record_at rs 0).space)))) (object_attr rs t))
 

@@ -6,10 +6,10 @@ ghost use Rattle.scratch_group.specs.Blocks.{block_in, block_spot, block_needed,
 ghost use Rattle.record_loans.specs.Pieces.{piece_place, IsInSpace, SamePieces};
 ghost use Rattle.scratch_group.specs.Words.{active_words, HasWords};
 
-use crate::plan::active_plan;
+use crate::plan::{active_plan, filter_sizes};
 use ialg::Step;
 use mem_rec::{Layout, MemTab, Space, scratch_layout};
-use record_loans::{Pieces, ScratchBlock, lend_with_blocks};
+use record_loans::{Pieces, ScratchBlock, lend_filter, lend_with_blocks};
 use space_raw::Piece;
 
 /// The size and the alignment of a block that is to be placed, in words.
@@ -188,6 +188,28 @@ impl Group {
     /// Performs the step with the records of an active instance: its persistent records in its own pieces, its write-once records
     /// in those that are lent to it, for reading alone, and its scratch records at the layout's offsets of the blocks.
     pub fn lend<O, S: Step<O>>(
+        &mut self,
+        step: &S,
+        table: &MemTab,
+        own: &mut Pieces,
+        shared: &mut Pieces,
+        out: &mut O,
+    )
+        requires can { S.can step.now out.old }
+        requires sizes { HasWords table.now own.old shared.old self.old }
+        ensures done { S.done step.now table.now false (active_words table.now own.old shared.old self.old) (active_words table.now own.new shared.new self.new) out.old out.new }
+        ensures own { SamePieces own.old own.new }
+        ensures shared { SamePieces shared.old shared.new }
+        ensures group { SameGroup self.old self.new }
+    {
+        match filter_sizes(table) {
+            Some(sizes) => lend_filter(step, table, false, sizes, own, &mut self.daram, out),
+            None => self.lend_by_plan(step, table, own, shared, out),
+        }
+    }
+
+    /// Performs the step as [`lend`](Group::lend) does, whatever the table.
+    fn lend_by_plan<O, S: Step<O>>(
         &mut self,
         step: &S,
         table: &MemTab,

@@ -1,12 +1,13 @@
 //! How the records of a table are cut out of an instance's pieces and its group's blocks.
-ghost use Rattle.std.specs.Prelude.{◌≡◌, ◌≤◌, ◌<◌, ◌+◌, ◌-◌, ◌*◌, ℕ, drop, take, length, IsTrue};
+ghost use Rattle.std.specs.Prelude.{◌≡◌, ◌≤◌, ◌<◌, ◌+◌, ◌-◌, ◌*◌, ℕ, drop, take, length, IfSome, IsTrue};
 ghost use Rattle.mem_rec.specs.Records.{is_table};
 ghost use Rattle.ialg.specs.Records.{record_at};
 ghost use Rattle.scratch_group.specs.Words.{scratch_end, scratch_offset};
-ghost use Rattle.scratch_group.specs.Plans.{cut_of, idle_cut_of, active_plan_of, idle_plan_of, IsWithinLimits};
+ghost use Rattle.scratch_group.specs.Plans.{cut_of, idle_cut_of, active_plan_of, idle_plan_of, IsOfFilter, IsWithinLimits};
 
+use ialg::FILTER_RECORDS;
 use mem_rec::{Attr, GREATEST_ALIGNMENT, MemRec, MemTab, RECORD_WORDS, Space};
-use record_cuts::{Cut, Plan, Source};
+use record_cuts::{Cut, FilterSizes, Plan, Source};
 
 /// The most words by which a record moves the end of those before it: the greatest record, behind the greatest gap.
 pub(crate) const GREATEST_STEP: u32 = RECORD_WORDS + GREATEST_ALIGNMENT;
@@ -162,4 +163,26 @@ pub(crate) fn idle_plan(table: &MemTab) -> Plan
         second: idle_cut(table, 2),
         third: idle_cut(table, 3),
     }
+}
+
+/// The sizes of a filter's records, where the table is one of a filter: behind the object one persistent record, and one scratch record in
+/// `daram`. None for every other table.
+pub(crate) fn filter_sizes(table: &MemTab) -> Option<FilterSizes>
+    ensures sizes { IfSome result (IsOfFilter table.now) }
+    ensures table { IsTrue (is_table table.now) }
+{
+    let _records = table.records();
+    if table.len() != FILTER_RECORDS {
+        return None;
+    }
+    let kept = record(table, 1);
+    let running = record(table, 2);
+    if kept.attr != Attr::Persist || !running.is_scratch_of(Space::Daram) {
+        return None;
+    }
+    Some(FilterSizes {
+        object: object_size(table),
+        kept: kept.size as usize,
+        running: running.size as usize,
+    })
 }

@@ -1,4 +1,4 @@
-use Rattle.ialg.proofs.memory.Lent.read_likely.Goals as goal
+use Rattle.ialg.proofs.memory.Lent.read.Goals as goal
 
 pub returns-in-Some : goal.returns-in-Some
 returns-in-Some c = (c.in-Some.k, c.in-Some.ensures, c.record.ensures)
