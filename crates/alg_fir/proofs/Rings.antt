@@ -1,8 +1,9 @@
 -- The ring of a filter, and the place that is written behind it.
-use Rattle.std.proofs.Common.{◌≡◌, ◌≢◌, ℕ, ℤ, pos, ◌+◌, ◌-◌, ◌<◌, List, ◌∷◌, length, inl, inr, sym, ap, subst, ◌∙◌, arith, get_or-set_other, get_or-set_same}
+use Rattle.std.proofs.Common.{◌≡◌, ◌≢◌, ℕ, ℤ, pos, ◌+◌, ◌-◌, ◌%◌, ◌<◌, List, ◌∷◌, length, inl, inr, sym, ap, subst, ◌∙◌, arith, get_or-set_other, get_or-set_same}
 use Rattle.std.proofs.Math.ListN.{set, length-set}
+use Rattle.std.proofs.Math.Nat.{mod-eq_of_lt}
 use Rattle.ialg.specs.declared.TheConstants.{BLOCK_SAMPLES}
-use Rattle.ialg.specs.History.{History, Control, Reset, word_at}
+use Rattle.ialg.specs.History.{History, Control, Reset, past, word_at}
 use Rattle.fir_kernel.specs.Rings.{IsRing}
 use Rattle.fir_kernel.proofs.RingLemmas.{by_mod}
 use Rattle.alg_fir.specs.Keeps.{KeepsPast, KeepsRing}
@@ -18,6 +19,13 @@ ring_of_past taps place h past_words words e long past copied = record {
       let z : j ≡ 0 + j = omega arith in
       copied j (omega arith) ∙ ap (word_at past_words) z ∙ past j k (omega arith);
 }
+
+-- a past sample that stands before the next place, with no turn of the ring between
+pub straight_at : (count size next : ℕ) (words : List ℤ) (h : History) → IsRing count size words next h
+    → (i k : ℕ) → k < count → i + k + 1 ≡ next → word_at words i ≡ past h k
+straight_at count size next words h ring i k b e =
+    let here : next < size = ring.within in
+    ring.samples i k b (omega arith) (ap (λ n. n % size) e ∙ mod-eq_of_lt here)
 
 -- the place is written behind the ring
 pub placed : (taps : ℕ) (h : History) (words : List ℤ) (next : ℕ) (v : ℤ) → v ≡ pos next → length words ≡ taps - 1 + BLOCK_SAMPLES

@@ -1,6 +1,6 @@
 //! The delay line of a filter: a ring of past samples in scratch words, and in the last of them the place of the next
 //! sample.
-ghost use Rattle.std.specs.Prelude.{◌≡◌, ◌≤◌, ◌+◌, ◌-◌, ◌*◌, ◌<◌, ℕ, ℤ, [], List, length};
+ghost use Rattle.std.specs.Prelude.{◌≡◌, ◌≤◌, ◌+◌, ◌-◌, ◌*◌, ◌<◌, ℕ, ℤ, [], List, length, IsTrue};
 ghost use Rattle.ialg.specs.History.{History, words_in_force};
 ghost use Rattle.fir_kernel.specs.Rings.{IsRing};
 ghost use Rattle.alg_fir.specs.Keeps.{AreOutputs, KeepsPast, KeepsRing, Ran};
@@ -42,8 +42,8 @@ pub(crate) fn refill(past: &[i16], ring: &mut [i16])
     }
 }
 
-/// Runs a filter over a block: past samples and block are laid out in a line, and then the block enters the ring, in
-/// which `next` is the place of the next sample.
+/// Runs a filter over a block, which enters the ring, in which `next` is the place of the next sample. Where past samples and block don't
+/// stand there in a row, they are laid out in a line before.
 pub(crate) fn run_block(
     coefficients: &[i16],
     ring: &mut [i16],
@@ -67,13 +67,71 @@ pub(crate) fn run_block(
         → IsRing (length p - 1) (length ring.old - 1) ring.old next h
         → Ran p h input.now ring.new × AreOutputs p h input.now taken.first taken.step out.new.items }
 {
-    if input.len() <= FEW_SAMPLES {
+    if is_straight(coefficients.len(), ring.len(), next, input.len()) {
+        run_straight(coefficients, ring, next, input, taken, out);
+    } else if input.len() <= FEW_SAMPLES {
         run_line::<FEW_LINE_WORDS>(coefficients, ring, next, input, taken, out);
     } else if input.len() <= SHORT_BLOCK {
         run_line::<SHORT_LINE_WORDS>(coefficients, ring, next, input, taken, out);
     } else {
         run_line::<LINE_WORDS>(coefficients, ring, next, input, taken, out);
     }
+}
+
+/// Whether the past samples and a block stand in a row in the ring, once the block is in it, and as many words behind its last window as
+/// the filter's runs of taps take.
+fn is_straight(taps: usize, ring_words: usize, next: usize, samples: usize) -> bool
+    requires few { taps ≤ MOST_COEFFICIENTS }
+    requires small { ring_words ≤ MOST_RING_WORDS }
+    requires next { next < ring_words }
+    requires within { samples ≤ BLOCK_SAMPLES }
+    ensures { IsTrue result → (taps ≤ next + 1) × (next + samples < ring_words)
+        × (next + samples + MOST_COEFFICIENTS ≤ ring_words + taps) }
+{
+    taps <= next + 1
+        && next + samples < ring_words
+        && next + samples + MOST_COEFFICIENTS <= ring_words + taps
+}
+
+/// Runs a filter over a block as [`run_block`] does, in the ring itself.
+fn run_straight(
+    coefficients: &[i16],
+    ring: &mut [i16],
+    next: usize,
+    input: &[i16],
+    taken: Taken,
+    out: &mut Block,
+)
+    requires some { 1 ≤ length coefficients.now }
+    requires few { length coefficients.now ≤ MOST_COEFFICIENTS }
+    requires past { length coefficients.now ≤ next + 1 }
+    requires next { next + 1 < length ring.old }
+    requires room { next + length input.now < length ring.old }
+    requires windows { next + length input.now + MOST_COEFFICIENTS ≤ length ring.old + length coefficients.now }
+    requires small { length ring.old ≤ MOST_RING_WORDS }
+    requires within { length input.now ≤ BLOCK_SAMPLES }
+    requires reach { (i : ℕ) → i < taken.count → taken.first + taken.step * i < length input.now }
+    requires count { taken.count ≤ length input.now }
+    requires empty { out.old.items ≡ [] }
+    ensures count { length out.new.items ≡ taken.count }
+    ensures law { (p : List ℤ) (h : History) → coefficients.now ≡ words_in_force p h
+        → length coefficients.now ≡ length p → length ring.old ≡ length p - 1 + BLOCK_SAMPLES
+        → IsRing (length p - 1) (length ring.old - 1) ring.old next h
+        → Ran p h input.now ring.new × AreOutputs p h input.now taken.first taken.step out.new.items }
+{
+    let past = coefficients.len() - 1;
+    let size = ring.len() - 1;
+    let after = enter(ring, size, next, input);
+    // the filter writes over these samples: they give the outputs their room
+    let _fits = out.try_extend_from_slice(&input[..taken.count]);
+    filter(
+        coefficients,
+        &ring[next - past..],
+        taken.first,
+        taken.step,
+        out.as_mut_slice(),
+    );
+    ring[size] = after as i16;
 }
 
 /// Runs a filter over a block as [`run_block`] does, in a line of `N` words, which are cleared first.

@@ -1,5 +1,7 @@
 //! A ring of samples: the first `size` words, in which each sample takes the place of the oldest.
-ghost use Rattle.std.specs.Prelude.{◌≡◌, ◌<◌, ◌≤◌, ◌+◌, ◌-◌, ◌^◌, ℕ, length, pos};
+ghost use Rattle.std.specs.Prelude.{◌≡◌, ◌<◌, ◌≤◌, ◌+◌, ◌-◌, ◌^◌, ℕ, length, pos, FitsSigned};
+ghost use Rattle.std.specs.List.{All};
+ghost use Rattle.std.specs.Int.{w16};
 ghost use Rattle.ialg.specs.History.{History, past, with_samples, word_at};
 ghost use Rattle.fir_kernel.specs.Rings.{IsRing};
 
@@ -45,6 +47,12 @@ pub fn enter(words: &mut [i16], size: usize, next: usize, samples: &[i16]) -> us
     ensures ring { (count : ℕ) (h : History) → count ≤ size → IsRing count size words.old next h
         → IsRing count size words.new result (with_samples h samples.now) }
     ensures behind { (k : ℕ) → size ≤ k → word_at words.new k ≡ word_at words.old k }
+
+    // Where the samples have room before the ring's end, they stand in a row, and the words before them stay.
+    ensures row { next + length samples.now ≤ size
+        → (k : ℕ) → k < length samples.now → word_at words.new (next + k) ≡ word_at samples.now k }
+    ensures before { next + length samples.now ≤ size → (k : ℕ) → k < next → word_at words.new k ≡ word_at words.old k }
+    ensures read { All (FitsSigned w16) samples.now }
 {
     let mut at = next;
     for sample in samples {

@@ -1,5 +1,5 @@
 -- How the records of a table are cut. No public contract speaks of it.
-use Rattle.std.specs.Prelude.{ℕ, ◌≡◌, ◌-◌, ◌≤◌, List, length}
+use Rattle.std.specs.Prelude.{ℕ, ◌≡◌, ◌-◌, ◌≤◌, List, length, ⊥}
 use Rattle.mem_rec.specs.declared.TheConstants.{RECORD_WORDS, LEAST_ALIGNMENT, GREATEST_ALIGNMENT}
 use Rattle.mem_rec.specs.declared.MemRec.{MemRec}
 use Rattle.mem_rec.specs.declared.Space.{Space}
@@ -65,3 +65,7 @@ pub record IsOfFilter (rs : List MemRec) (n : FilterSizes) : Type 0 where
   pub scratch : (record_at rs 2).attr ≡ Scratch
   pub space : (record_at rs 2).space ≡ Daram
   pub running : (record_at rs 2).size ≡ n.running
+
+-- the table of no filter
+abbrev pub IsOfNoFilter : List MemRec → Type 0
+IsOfNoFilter rs = (n : FilterSizes) → IsOfFilter rs n → ⊥

@@ -1,9 +1,9 @@
 //! How the records of a table are cut out of an instance's pieces and its group's blocks.
-ghost use Rattle.std.specs.Prelude.{◌≡◌, ◌≤◌, ◌<◌, ◌+◌, ◌-◌, ◌*◌, ℕ, drop, take, length, IfSome, IsTrue};
+ghost use Rattle.std.specs.Prelude.{◌≡◌, ◌≤◌, ◌<◌, ◌+◌, ◌-◌, ◌*◌, ℕ, drop, take, length, MatchOption, IsTrue};
 ghost use Rattle.mem_rec.specs.Records.{is_table};
 ghost use Rattle.ialg.specs.Records.{record_at};
 ghost use Rattle.scratch_group.specs.Words.{scratch_end, scratch_offset};
-ghost use Rattle.scratch_group.specs.Plans.{cut_of, idle_cut_of, active_plan_of, idle_plan_of, IsOfFilter, IsWithinLimits};
+ghost use Rattle.scratch_group.specs.Plans.{cut_of, idle_cut_of, active_plan_of, idle_plan_of, IsOfFilter, IsOfNoFilter, IsWithinLimits};
 
 use ialg::FILTER_RECORDS;
 use mem_rec::{Attr, GREATEST_ALIGNMENT, MemRec, MemTab, RECORD_WORDS, Space};
@@ -168,7 +168,7 @@ pub(crate) fn idle_plan(table: &MemTab) -> Plan
 /// The sizes of a filter's records, where the table is one of a filter: behind the object one persistent record, and one scratch record in
 /// `daram`. None for every other table.
 pub(crate) fn filter_sizes(table: &MemTab) -> Option<FilterSizes>
-    ensures sizes { IfSome result (IsOfFilter table.now) }
+    ensures sizes { MatchOption result (IsOfNoFilter table.now) (IsOfFilter table.now) }
     ensures table { IsTrue (is_table table.now) }
 {
     let _records = table.records();

@@ -1,5 +1,6 @@
-use Rattle.std.proofs.Common.{◌≡◌, ◌<◌, ◌≤◌, ◌+◌, suc, ◌∷◌, length, take, FitsSigned, rules, w16, inl, inr, arith, ap, ◌∙◌}
+use Rattle.std.proofs.Common.{◌≡◌, ◌≢◌, ◌<◌, ◌≤◌, ◌+◌, suc, pos, ◌∷◌, length, take, FitsSigned, rules, w16, inl, inr, arith, ap, ◌∙◌, below_more, get_or-set_other, get_or-set_same}
 use Rattle.std.proofs.lemmas.Int.{to_z-of_z}
+use Rattle.std.proofs.lemmas.Grind.{common_steps}
 use Rattle.ialg.specs.History.{Sample, with_samples, word_at}
 use Rattle.ialg.proofs.Histories.{with_samples-take, with_samples-whole}
 use Rattle.fir_kernel.proofs.RingLemmas.{Turns, entered}
@@ -11,6 +12,7 @@ loop-sample-preserved c =
     let xs = c.args.samples.now in
     let i = c.loop-sample.sample-index in
     let x = word_at xs i in
+    let next = c.args.next in
     let here = c.loop-sample.invariant.within in
     let f : FitsSigned w16 (word_at xs i) = search rules in
     let more : i < length xs = omega arith in
@@ -30,6 +32,23 @@ loop-sample-preserved c =
           rw (to_z-of_z w16 x f, e)
           (entered count c.args.size c.loop-sample.at c.if-at-size.at c.loop-sample.words (with_samples h (take i xs)) x few room both.0 both.1
           (c.loop-sample.invariant.ring count h few old));
+      straight = λ fits further.
+          let at = c.loop-sample.invariant.straight fits more in
+          elim c.if-at-size.branch [
+            | then-at-size w ↦ omega arith
+            | else-at-size w ↦ absurd (omega arith)
+          ];
+      row = λ fits.
+          let at = c.loop-sample.invariant.straight fits more in
+          let inside : c.loop-sample.at < length c.loop-sample.words = omega arith in
+          rw (to_z-of_z w16 x f)
+          (below_more _ _ (λ k h. let ne : next + k ≢ c.loop-sample.at = omega arith in rw get_or-set_other (c.loop-sample.invariant.row fits k h))
+          (rw (← at) (get_or-set_same c.loop-sample.words c.loop-sample.at x (pos 0) inside)));
+      before = λ fits k h.
+          let at = c.loop-sample.invariant.straight fits more in
+          let ne : k ≢ c.loop-sample.at = omega arith in
+          rw get_or-set_other (c.loop-sample.invariant.before fits k h);
+      read = λ k d h. grind (arith, common_steps, c.loop-sample.invariant.read);
     }
 
 pub returns-clause-ring : goal.returns-clause-ring
