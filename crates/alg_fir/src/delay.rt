@@ -93,6 +93,20 @@ fn is_straight(taps: usize, ring_words: usize, next: usize, samples: usize) -> b
         && next + samples + MOST_COEFFICIENTS <= ring_words + taps
 }
 
+/// Gives as many outputs their room as these samples are: the filter writes over them.
+#[inline(always)]
+fn make_room(samples: &[i16], out: &mut Block)
+    requires empty { out.old.items ≡ [] }
+    requires within { length samples.now ≤ BLOCK_SAMPLES }
+    ensures { length out.new.items ≡ length samples.now }
+{
+    // one sample needs no call that copies
+    let _fits = match samples {
+        [sample] => out.try_push(*sample).is_ok(),
+        _ => out.try_extend_from_slice(samples).is_ok(),
+    };
+}
+
 /// Runs a filter over a block as [`run_block`] does, in the ring itself.
 fn run_straight(
     coefficients: &[i16],
@@ -122,8 +136,7 @@ fn run_straight(
     let past = coefficients.len() - 1;
     let size = ring.len() - 1;
     let after = enter(ring, size, next, input);
-    // the filter writes over these samples: they give the outputs their room
-    let _fits = out.try_extend_from_slice(&input[..taken.count]);
+    make_room(&input[..taken.count], out);
     filter(
         coefficients,
         &ring[next - past..],
@@ -165,8 +178,7 @@ fn run_line<const N: usize>(
     let mut line = [0; N];
     unroll(ring, size, next, past, &mut line, 0);
     place(&mut line, past, input);
-    // the filter writes over these samples: they give the outputs their room
-    let _fits = out.try_extend_from_slice(&input[..taken.count]);
+    make_room(&input[..taken.count], out);
     filter(
         coefficients,
         &line,

@@ -1,9 +1,9 @@
 -- Places around a ring.
-use Rattle.std.proofs.Common.{◌≡◌, ◌≢◌, ◌⊎◌, ℕ, ℤ, zero, suc, pos, ◌+◌, ◌-◌, ◌%◌, ◌<◌, ◌≤◌, List, ◌∷◌, length, inl, inr, sym, ap, ◌∙◌, arith, get_or-set_other, get_or-set_same}
+use Rattle.std.proofs.Common.{◌≡◌, ◌≢◌, ◌⊎◌, ℕ, ℤ, zero, suc, pos, ◌+◌, ◌-◌, ◌%◌, ◌<◌, ◌≤◌, List, [], ◌∷◌, length, inl, inr, refl, sym, ap, subst, ◌∙◌, arith, get_or-set_other, get_or-set_same}
 use Rattle.std.proofs.Math.Nat.{mod-eq_of_lt, add-mod_right}
-use Rattle.std.proofs.Math.ListN.{set}
+use Rattle.std.proofs.Math.ListN.{set, length-set}
 use Rattle.std.proofs.lemmas.Bool.{cases_lt}
-use Rattle.ialg.specs.History.{History, Sample, past, word_at}
+use Rattle.ialg.specs.History.{History, Sample, past, with_samples, word_at}
 use Rattle.fir_kernel.specs.Rings.{IsRing}
 
 -- once around at most
@@ -79,3 +79,75 @@ module _ (count size next : ℕ) (words : List ℤ) (h : History) (ring : IsRing
   around_at i j k e b f =
       let here : next < size = ring.within in
       ring.samples i k (omega arith) b (mod_around (i + k + 1) size next here f)
+
+-- the samples are written one behind the other, from word `next` on
+abbrev written : List ℤ → ℕ → List ℤ → List ℤ
+written words next [] = words
+written words next (x ∷ xs) = written (set words next x) (suc next) xs
+
+written_before : (words : List ℤ) (next : ℕ) (xs : List ℤ) (j : ℕ) → j < next → word_at (written words next xs) j ≡ word_at words j
+written_before words next [] j b = refl
+written_before words next (x ∷ xs) j b =
+    let ne : j ≢ next = omega arith in
+    written_before (set words next x) (suc next) xs j (omega arith) ∙ get_or-set_other words next j x (pos 0) ne
+
+written_after : (words : List ℤ) (next : ℕ) (xs : List ℤ) (j : ℕ) → next + length xs ≤ j → word_at (written words next xs) j ≡ word_at words j
+written_after words next [] j b = refl
+written_after words next (x ∷ xs) j b =
+    let ne : j ≢ next = omega arith in
+    written_after (set words next x) (suc next) xs j (omega arith) ∙ get_or-set_other words next j x (pos 0) ne
+
+written_at : (words : List ℤ) (next : ℕ) (xs : List ℤ) (k : ℕ) → next + length xs ≤ length words → k < length xs
+    → word_at (written words next xs) (next + k) ≡ word_at xs k
+written_at words next [] k room b = absurd (omega arith)
+written_at words next (x ∷ xs) zero room b =
+    let here : next + 0 ≡ next = omega arith in
+    let inside : next < length words = omega arith in
+    ap (word_at (written (set words next x) (suc next) xs)) here ∙ written_before (set words next x) (suc next) xs next (omega arith)
+    ∙ get_or-set_same words next x (pos 0) inside
+written_at words next (x ∷ xs) (suc k) room b =
+    let on : next + suc k ≡ suc next + k = omega arith in
+    let same : length (set words next x) ≡ length words = length-set words next x in
+    ap (word_at (written (set words next x) (suc next) xs)) on ∙ written_at (set words next x) (suc next) xs k (omega arith) (omega arith)
+
+-- where the next place is behind a row of so many samples, or the first one again
+abbrev pub Follows : ℕ → ℕ → ℕ → ℕ → Type 0
+Follows size next many after = (next + many ≡ after) ⊎ ((next + many ≡ size) × (after ≡ 0))
+
+entered_in_row : (count size : ℕ) (words : List ℤ) (next after : ℕ) (h : History) (xs : List ℤ) → count ≤ size → size ≤ length words
+    → next + length xs ≤ size → after < size → Follows size next (length xs) after → IsRing count size words next h
+    → IsRing count size (written words next xs) after (with_samples h xs)
+entered_in_row count size words next after h [] few room fits within follows ring =
+    let here : next < size = ring.within in
+    let same : next ≡ after = elim follows [ inl e ↦ omega arith | inr e ↦ absurd (omega arith) ] in
+    subst (λ n. IsRing count size words n h) same ring
+entered_in_row count size words next after h (x ∷ []) few room fits within follows ring =
+    let turns : Turns size next after = elim follows [ inl e ↦ inl (omega arith) | inr e ↦ inr (omega arith, e.1) ] in
+    entered count size next after words h x few room within turns ring
+entered_in_row count size words next after h (x ∷ y ∷ ys) few room fits within follows ring =
+    let same : length (set words next x) ≡ length words = length-set words next x in
+    let further : Follows size (suc next) (length (y ∷ ys)) after = elim follows [ inl e ↦ inl (omega arith) | inr e ↦ inr (omega arith, e.1) ] in
+    entered_in_row count size (set words next x) (suc next) after (Sample x ∷ h) (y ∷ ys) few (omega arith) (omega arith) within further
+    (entered count size next (suc next) words h x few room (omega arith) (inl (omega arith)) ring)
+
+-- the samples stand in a row, and the words before and behind it are as they were
+pub row_entered : (count size : ℕ) (words new : List ℤ) (next after : ℕ) (h : History) (xs : List ℤ) → count ≤ size → size ≤ length words
+    → next + length xs ≤ size → after < size → Follows size next (length xs) after
+    → ((k : ℕ) → k < length xs → word_at new (next + k) ≡ word_at xs k)
+    → ((k : ℕ) → k < next → word_at new k ≡ word_at words k)
+    → ((k : ℕ) → next + length xs ≤ k → word_at new k ≡ word_at words k)
+    → IsRing count size words next h → IsRing count size new after (with_samples h xs)
+row_entered count size words new next after h xs few room fits within follows row before behind ring =
+    let in_row = entered_in_row count size words next after h xs few room fits within follows ring in
+    let same : (j : ℕ) → word_at new j ≡ word_at (written words next xs) j =
+    λ j. elim (cases_lt j next) [
+      | inl b ↦ before j b ∙ sym (written_before words next xs j b)
+      | inr b ↦ elim (cases_lt j (next + length xs)) [
+        | inl i ↦
+            let at : next + (j - next) ≡ j = omega arith in
+            let less : j - next < length xs = omega arith in
+            ap (word_at new) (sym at) ∙ row (j - next) less ∙ sym (written_at words next xs (j - next) (omega arith) less) ∙ ap (word_at (written words next xs)) at
+        | inr o ↦ behind j o ∙ sym (written_after words next xs j o)
+      ]
+    ] in
+    record { within = within; samples = λ j k c b e. same j ∙ in_row.samples j k c b e }

@@ -6,19 +6,34 @@ ghost use Rattle.ialg.specs.History.{word_at};
 ghost use Rattle.fir_kernel.specs.Bounded.{product_sum, magnitude_sum, NoneLouder, IsBounded};
 ghost use Rattle.fir_kernel.specs.Sums.{filtered_at};
 
-use crate::{LEAST_UNBOUNDED_SUM, MOST_COEFFICIENTS};
+use crate::{GREATEST_MAGNITUDE, LEAST_UNBOUNDED_SUM, MOST_COEFFICIENTS};
 use basic_op::{l_add, round};
 use ialg::BLOCK_SAMPLES;
 
 /// How many products are summed at once: a loop of so many is unrolled into vector products.
 const LANES: usize = 32;
 
-/// Whether no sum of the filter over these samples can saturate.
+/// Whether no sum of the filter over these samples can saturate. Of most filters none can, however loud the samples are: then these aren't
+/// looked through.
 pub(crate) fn is_bounded(coefficients: &[i16], samples: &[i16]) -> bool
     requires { length coefficients.now ≤ MOST_COEFFICIENTS }
     ensures { IsTrue result ↔ IsBounded coefficients.now samples.now }
 {
-    u64::from(magnitude(coefficients)) * u64::from(loudest(samples)) < LEAST_UNBOUNDED_SUM
+    let magnitude = u64::from(magnitude(coefficients));
+    if magnitude * GREATEST_MAGNITUDE < LEAST_UNBOUNDED_SUM {
+        read(samples);
+        return true;
+    }
+    magnitude * u64::from(loudest(samples)) < LEAST_UNBOUNDED_SUM
+}
+
+/// Reads all samples. Nothing is left of it where the code is made.
+fn read(samples: &[i16])
+    ensures { NoneLouder samples.now GREATEST_MAGNITUDE }
+{
+    for sample in samples {
+        let _sample = *sample;
+    }
 }
 
 /// The sum of the coefficients' magnitudes.

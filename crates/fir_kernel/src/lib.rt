@@ -22,3 +22,6 @@ pub const FEW_SAMPLES: usize = 16;
 
 /// The least magnitude of a sum of products that leaves 32 bits when it is doubled.
 pub const LEAST_UNBOUNDED_SUM: u64 = 1 << 30;
+
+/// The greatest magnitude of a sample.
+pub const GREATEST_MAGNITUDE: u64 = 1 << 15;

@@ -5,6 +5,7 @@ ghost use Rattle.std.specs.Int.{w16};
 ghost use Rattle.ialg.specs.History.{History, past, with_samples, word_at};
 ghost use Rattle.fir_kernel.specs.Rings.{IsRing};
 
+use crate::FEW_SAMPLES;
 use ialg::place;
 
 /// The place that the last word names.
@@ -39,8 +40,49 @@ pub fn unroll(words: &[i16], size: usize, next: usize, count: usize, line: &mut 
     }
 }
 
-/// Enters the samples one by one, each at the place of the oldest: the place of the next one. The words behind the ring stay.
+/// Enters the samples one after the other, each at the place of the oldest: the place of the next one. The words behind the ring stay.
 pub fn enter(words: &mut [i16], size: usize, next: usize, samples: &[i16]) -> usize
+    requires size { size ≤ length words.old }
+    requires next { next < size }
+    ensures within { result < size }
+    ensures ring { (count : ℕ) (h : History) → count ≤ size → IsRing count size words.old next h
+        → IsRing count size words.new result (with_samples h samples.now) }
+    ensures behind { (k : ℕ) → size ≤ k → word_at words.new k ≡ word_at words.old k }
+
+    // Where the samples have room before the ring's end, they stand in a row, and the words before them stay.
+    ensures row { next + length samples.now ≤ size
+        → (k : ℕ) → k < length samples.now → word_at words.new (next + k) ≡ word_at samples.now k }
+    ensures before { next + length samples.now ≤ size → (k : ℕ) → k < next → word_at words.new k ≡ word_at words.old k }
+    ensures read { All (FitsSigned w16) samples.now }
+{
+    // a few samples are written sooner than a call that copies them is made
+    if samples.len() > FEW_SAMPLES && next + samples.len() <= size {
+        enter_row(words, size, next, samples)
+    } else {
+        enter_each(words, size, next, samples)
+    }
+}
+
+/// Enters samples that have room before the ring's end, together.
+fn enter_row(words: &mut [i16], size: usize, next: usize, samples: &[i16]) -> usize
+    requires size { size ≤ length words.old }
+    requires next { next < size }
+    requires room { next + length samples.now ≤ size }
+    ensures within { result < size }
+    ensures ring { (count : ℕ) (h : History) → count ≤ size → IsRing count size words.old next h
+        → IsRing count size words.new result (with_samples h samples.now) }
+    ensures behind { (k : ℕ) → size ≤ k → word_at words.new k ≡ word_at words.old k }
+    ensures row { (k : ℕ) → k < length samples.now → word_at words.new (next + k) ≡ word_at samples.now k }
+    ensures before { (k : ℕ) → k < next → word_at words.new k ≡ word_at words.old k }
+    ensures read { All (FitsSigned w16) samples.now }
+{
+    place(words, next, samples);
+    let after = next + samples.len();
+    if after < size { after } else { 0 }
+}
+
+/// Enters the samples one by one, around the ring.
+fn enter_each(words: &mut [i16], size: usize, next: usize, samples: &[i16]) -> usize
     requires size { size ≤ length words.old }
     requires next { next < size }
     ensures within { result < size }

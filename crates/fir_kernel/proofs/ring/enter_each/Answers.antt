@@ -4,8 +4,8 @@ use Rattle.std.proofs.lemmas.Grind.{common_steps}
 use Rattle.ialg.specs.History.{Sample, with_samples, word_at}
 use Rattle.ialg.proofs.Histories.{with_samples-take, with_samples-whole}
 use Rattle.fir_kernel.proofs.RingLemmas.{Turns, entered}
-use Rattle.fir_kernel.proofs.ring.enter.Goals as goal
-use Rattle.fir_kernel.proofs.ring.enter.Goals.{then-at-size, else-at-size}
+use Rattle.fir_kernel.proofs.ring.enter_each.Goals as goal
+use Rattle.fir_kernel.proofs.ring.enter_each.Goals.{then-at-size, else-at-size}
 
 pub loop-sample-preserved : goal.loop-sample-preserved
 loop-sample-preserved c =

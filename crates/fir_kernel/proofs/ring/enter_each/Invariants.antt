@@ -2,7 +2,7 @@ use Rattle.std.proofs.Common.{◌≡◌, ◌<◌, ◌≤◌, ◌+◌, ℕ, ℤ, 
 use Rattle.std.specs.Int.{w16}
 use Rattle.ialg.specs.History.{History, with_samples, word_at}
 use Rattle.fir_kernel.specs.Rings.{IsRing}
-use Rattle.fir_kernel.proofs.ring.enter.Given as goal
+use Rattle.fir_kernel.proofs.ring.enter_each.Given as goal
 
 abbrev pub invariant-loop-sample : goal.invariant-loop-sample
 invariant-loop-sample l = record {
