@@ -1,5 +1,5 @@
 -- Blocks of codes and samples.
-use Rattle.std.proofs.Common.{◌≡◌, ℕ, zero, suc, ℤ, pos, ◌%◌, ◌<◌, Some, List, [], ◌∷◌, ◌++◌, length, map, take, drop, refl, sym, ap, ◌∙◌, append_assoc, append-nil, arith}
+use Rattle.std.proofs.Common.{◌≡◌, ℕ, suc, ℤ, pos, ◌%◌, ◌<◌, Some, List, [], ◌∷◌, ◌++◌, length, map, take, drop, refl, sym, ap, ◌∙◌, append_assoc, append-nil, arith}
 use Rattle.std.specs.Int.{w16, cast_unsigned}
 use Rattle.std.proofs.lemmas.List.{take_at}
 use Rattle.std.proofs.lemmas.List.FromFn.{length-map-range_with_len, get_or-map-range_with_len}
@@ -26,12 +26,6 @@ pub samples_written : (law : Law) (ws : List ℤ) → length ws ≡ CODES
 samples_written law ws size at =
     let l = length-samples_of_codes law in
     same_by_words ws (samples_of_codes law) (size ∙ sym l) (λ j b. let few : j < CODES = omega (arith, b, l) in at j few ∙ sym (sample_at law j few))
-
--- word by word
-word-map : (f : ℤ → ℤ) (xs : List ℤ) (k : ℕ) → k < length xs → word_at (map f xs) k ≡ f (word_at xs k)
-word-map f [] k b = absurd (omega arith)
-word-map f (x ∷ xs) zero b = refl
-word-map f (x ∷ xs) (suc k) b = word-map f xs k (omega arith)
 
 pub is_map : (f : ℤ → ℤ) (xs ys : List ℤ) → length ys ≡ length xs
     → ((k : ℕ) → k < length xs → word_at ys k ≡ f (word_at xs k)) → ys ≡ map f xs

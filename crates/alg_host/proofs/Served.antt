@@ -1,6 +1,5 @@
 -- What a call leaves of the state, and that the host keeps what comes after it.
-use Rattle.std.proofs.Common.{◌≡◌, ℕ, ℤ, false, List, [], ◌∷◌, Option, Some, None, is_some, Result, Ok, Err, OnErr, refl, ap, sym, ◌∙◌, subst}
-use Rattle.std.proofs.lemmas.Bool.{true≢false}
+use Rattle.std.proofs.Common.{◌≡◌, ℕ, ℤ, List, [], ◌∷◌, Option, Some, None, Result, Ok, Err, OnErr, refl, ap, sym, ◌∙◌, subst}
 use Rattle.mem_rec.specs.declared.MemRec.{MemRec}
 use Rattle.mem_rec.specs.declared.Space.{Space}
 use Rattle.ialg.specs.declared.refusal.Refusal.{Refusal}
@@ -90,10 +89,6 @@ delete_poison kinds before i =
 pub on_refusal : {A E : Type 0} (r : Result A E) (P Q : Type 0) → (P → Q) → OnErr r P → OnErr r Q
 on_refusal (Ok a) P Q imp is = tt
 on_refusal (Err e) P Q imp is = imp is
-
-pub not_there : {A : Type 0} (o : Option A) → is_some o ≡ false → o ≡ None
-not_there None e = refl
-not_there (Some a) e = absurd (true≢false e)
 
 -- ---- creations
 

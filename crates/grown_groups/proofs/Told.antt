@@ -19,7 +19,7 @@ use Rattle.lifecycle.specs.Moves.{HasRoom}
 use Rattle.lifecycle.specs.Rooms.{NoNeed}
 use Rattle.lifecycle.specs.States.{Fits}
 use Rattle.lifecycle.proofs.Frames.{placed-unplaced}
-use Rattle.record_loans.proofs.PieceLemmas.{reflexive, same_pieces}
+use Rattle.record_loans.proofs.PieceLemmas.{same_pieces}
 use Rattle.space_blocks.specs.declared.placed.Owner.{Owner}
 use Rattle.space_blocks.specs.declared.placed.Owner.TheVariants.{Scratch}
 use Rattle.space_blocks.specs.declared.placed.Placed.{Placed}
@@ -34,10 +34,9 @@ use Rattle.host_spaces.specs.Wants.{block_need}
 use Rattle.instance_table.specs.declared.TheConstants.{GROUPS}
 use Rattle.instance_table.specs.declared.member.Member.{Member}
 use Rattle.record_shelves.specs.declared.shelves.Shelf.{Shelf}
-use Rattle.record_shelves.specs.Shelves.{stand_at, shelf_at, home_of, once_at}
-use Rattle.record_shelves.proofs.Lent.{same_stand}
+use Rattle.record_shelves.specs.Shelves.{home_of, once_at}
 use Rattle.instance_table.specs.Table.{slot_at, group_at, instance_of, Activity, activity_at, IsHoused, TablesOk, TablesTold, ArePoisoned}
-use Rattle.instance_table.specs.Frames.{IsSameMember, SameMembers}
+use Rattle.instance_table.specs.Frames.{IsSameMember}
 use Rattle.table_moves.specs.Moves.{BlockStays, WordsStay}
 use Rattle.table_moves.proofs.Owns.{told_later}
 use Rattle.placed_instances.specs.Standing.{AreOrdered, IsHome, IsOf, table_of}
@@ -53,14 +52,6 @@ use Rattle.grown_groups.proofs.Grown.{grown_now, room_of_grown}
 same_member : {M : Type 0} (slot : Option (Member M)) → IsSameMember slot slot
 same_member None = refl
 same_member (Some m) = record { group = refl; kind = refl; params = refl; table = refl; own = same_pieces (instance_of m.inst).own }
-
-pub members_itself : {M : Type 0} (slots : List (Option (Member M))) (once : List Shelf) (groups : List Group) → SameMembers slots once groups slots once groups
-members_itself slots once groups = record {
-  slot = λ i. same_member (slot_at slots i);
-  pieces = λ i. same_pieces (once_at once i);
-  stands = λ i k. same_stand (stand_at (shelf_at once i) k);
-  blocks = λ g space. (reflexive (block_piece (block_in (group_at groups g) space)), refl);
-}
 
 -- ---- one space after the other
 

@@ -1,14 +1,13 @@
 -- Lists of requests, made one after the other.
-use Rattle.std.proofs.Common.{◌≡◌, ℕ, ℤ, false, zero, suc, ◌+◌, ◌<◌, ◌≤◌, List, [], ◌∷◌, ◌++◌, length, map, take, refl, sym, ap, ◌∙◌, subst, arith, set, get_or, append-nil, append_assoc}
+use Rattle.std.proofs.Common.{◌≡◌, ℕ, zero, suc, ◌+◌, ◌<◌, ◌≤◌, List, [], ◌∷◌, ◌++◌, length, map, take, refl, sym, ap, ◌∙◌, subst, arith, set, get_or, append-nil, append_assoc}
 use Rattle.std.proofs.lemmas.List.{length-map}
 use Rattle.ialg.specs.Meaning.{Meaning}
 use Rattle.lifecycle.specs.States.{Relation}
 use Rattle.sound_machine.specs.State.{State}
 use Rattle.sound_machine.specs.Calls.{Call, Leads}
-use Rattle.sound_machine.specs.Calls.Call.{Lives}
 use Rattle.alg_host.specs.Hosts.{HostState}
 use Rattle.host_calls.specs.declared.request.Request.{Request}
-use Rattle.host_calls.specs.Requests.{made, not_given, all_made, asked, AreServed}
+use Rattle.host_calls.specs.Requests.{made, all_made, asked, AreServed}
 
 leads_more : {M : Type 0} (kinds : Meaning M) (calls more : List (Call M)) (before mid after : State M)
     → Leads kinds before calls mid → Leads kinds mid more after → Leads kinds before (calls ++ more) after
@@ -60,9 +59,3 @@ pub record MadeUpTo {M : Type 0} (meaning : Meaning M) (idle_keeps active_keeps 
   pub same : map asked requests' ≡ map asked requests
   pub count : length requests' ≡ length requests
   pub served : AreServed meaning idle_keeps active_keeps (all_made (take k requests')) host host'
-
--- nobody was given the block, since no instance has the number
-pub served_not_given : {M : Type 0} (meaning : Meaning M) (idle_keeps active_keeps : Relation M) (i : ℕ) (block : List ℤ) (a : HostState M)
-    → AreServed meaning idle_keeps active_keeps (Lives i false ∷ []) a a → AreServed meaning idle_keeps active_keeps (not_given i block) a a
-served_not_given meaning idle_keeps active_keeps i [] a absent = served_none meaning idle_keeps active_keeps a
-served_not_given meaning idle_keeps active_keeps i (x ∷ xs) a absent = absent

@@ -1,5 +1,5 @@
 -- What was granted to an instance and its group.
-use Rattle.std.proofs.Common.{◌≡◌, ◌≢◌, inl, inr, ℕ, ℤ, zero, suc, ◌≤◌, Bool, true, false, if◌then◌else◌, IsTrue, List, [], ◌∷◌, length, Option, Some, None, ◌||◌, is_some, refl, sym, ap, subst, ◌∙◌, arith}
+use Rattle.std.proofs.Common.{◌≡◌, ◌≢◌, inl, inr, ℕ, ℤ, zero, suc, ◌≤◌, Bool, true, false, if◌then◌else◌, IsTrue, List, [], ◌∷◌, length, Option, Some, None, ◌||◌, is_some, refl, sym, ap, ◌∙◌, arith}
 use Rattle.std.proofs.Math.ListN.{get_or-eq_default}
 use Rattle.std.proofs.lemmas.List.Elements.{All-nil}
 use Rattle.mem_rec.specs.declared.MemRec.{MemRec}
@@ -99,9 +99,6 @@ pub itself_space : (a : Space) → same_space a a ≡ true
 itself_space Daram = refl
 itself_space Saram = refl
 itself_space External = refl
-
-same_is : (a b : Space) → a ≡ b → same_space a b ≡ true
-same_is a b e = subst (λ (x : Space). same_space a x ≡ true) e (itself_space a)
 
 pub other_is : (a b : Space) → b ≢ a → same_space a b ≡ false
 other_is Daram Daram apart = absurd (apart refl)

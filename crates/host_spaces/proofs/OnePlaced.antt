@@ -2,7 +2,6 @@
 use Rattle.std.proofs.Common.{◌≡◌, ◌≢◌, ◌⊎◌, inl, inr, ℕ, zero, suc, ◌+◌, ◌<◌, ◌≤◌, ℤ, true, if◌then◌else◌, List, [], ◌∷◌, length, get_or, drop, Option, Some, None, Contains, refl, sym, ap, subst, ◌∙◌, arith}
 use Rattle.std.specs.Prelude.{Result, Ok, Err, IfOk}
 use Rattle.std.proofs.lemmas.Bool.{cases_eq, cases_lt}
-use Rattle.std.proofs.Math.ListN.{get_or-eq_default}
 use Rattle.std.proofs.lemmas.List.Elements.{All-nil}
 use Rattle.std.proofs.Math.Seq.{drop-cons}
 use Rattle.mem_rec.specs.declared.Space.{Space}
@@ -48,15 +47,8 @@ at_none (w ∷ ws) (suc k) d o lt e = at_none ws k d o (omega arith) e
 next_want : (wants : List (Option Wanted)) (k : ℕ) (o : Option Wanted) → k < length wants → want_at wants k ≡ o → drop k wants ≡ o ∷ drop (suc k) wants
 next_want wants k o lt e = drop-cons wants k None lt ∙ ap (λ (x : Option Wanted). x ∷ drop (suc k) wants) e
 
-pub after_none : (wants : List (Option Wanted)) (k : ℕ) → k < length wants → want_at wants k ≡ None → somes (drop k wants) ≡ somes (drop (suc k) wants)
-after_none wants k lt e = ap somes (next_want wants k None lt e)
-
 pub after_some : (wants : List (Option Wanted)) (k : ℕ) (w : Wanted) → k < length wants → want_at wants k ≡ Some w → somes (drop k wants) ≡ w ∷ somes (drop (suc k) wants)
 after_some wants k w lt e = ap somes (next_want wants k (Some w) lt e)
-
-pub count_none : (space : Space) (wants : List (Option Wanted)) (k : ℕ) → k < length wants → want_at wants k ≡ None → count_in space (drop k wants) ≡ count_in space (drop (suc k) wants)
-count_none space wants k lt e =
-    let same : count_in space (drop k wants) ≡ 0 + count_in space (drop (suc k) wants) = ap (count_in space) (next_want wants k None lt e) in omega arith
 
 count_some : (space : Space) (wants : List (Option Wanted)) (k : ℕ) (w : Wanted) → k < length wants → want_at wants k ≡ Some w
     → count_in space (drop k wants) ≡ one_in space (Some w) + count_in space (drop (suc k) wants)
@@ -80,11 +72,6 @@ module _ (old mid : Spaces) (w : Wanted) (p : Span) (m : IsOne old mid w p) (wan
       (λ apart. let least = room space in let count = count_some space wants k w lt is in
       let long = ap (λ (s : SpaceState). length s.blocks) (m.elsewhere space apart) in omega arith)
 
-pub room_here : (old : Spaces) (w : Wanted) (wants : List (Option Wanted)) (k : ℕ) → k < length wants → want_at wants k ≡ Some w
-    → ((space : Space) → length (space_in old space).blocks + count_in space (drop k wants) ≤ SPACE_BLOCKS) → length (space_in old w.space).blocks < SPACE_BLOCKS
-room_here old w wants k lt is room =
-    let least = room w.space in let count = count_some w.space wants k w lt is in let one : one_in w.space (Some w) ≡ 1 = ap (λ t. if t then 1 else 0) (one_here w.space) in omega arith
-
 -- ---- the definition places it there
 
 full_size : (w : Wanted) → IsWithinLimits w → placed_size w.size ≡ w.size
@@ -96,12 +83,6 @@ place_seen old w limits =
     ap (λ n. least_place (space_in old w.space).region.size (ranges (space_in old w.space).blocks) n w.align) (full_size w limits)
     ∙ ap (λ n. least_place n (ranges (space_in old w.space).blocks) w.size w.align) (sym (seen_words old w.space))
     ∙ ap (λ bs. least_place (words_in (sizes_of old) w.space) (ranges bs) w.size w.align) (sym (seen_blocks old w.space))
-
-pub exact_none : (old : Spaces) (w : Wanted) (ws : List Wanted) → IsWithinLimits w
-    → None ≡ least_place (space_in old w.space).region.size (ranges (space_in old w.space).blocks) (placed_size w.size) w.align
-    → all_placed (sizes_of old) (picture_of old) (w ∷ ws) ≡ Err w.space
-exact_none old w ws limits none =
-    ap (λ o. goes_on o w (λ b. all_placed (sizes_of old) (put_block (picture_of old) w.space b) ws)) (sym (none ∙ place_seen old w limits))
 
 module _ (old mid : Spaces) (w : Wanted) (p : Span) (m : IsOne old mid w p) (limits : IsWithinLimits w) where
   long : length p.words ≡ w.size
@@ -189,15 +170,6 @@ nothing_at (suc (suc (suc (suc (suc (suc (suc j))))))) = refl
 some_none : {X : Type 0} (w : Wanted) → None ≡ Some w → X
 some_none w e = let bad : None ≡ Some w = e in cc
 
-pub granted_none : (spaces : Spaces) (word : Option ℤ) (k : ℕ) (wants : List (Option Wanted)) → length wants ≤ k → IsGranted spaces spaces word k wants nothing
-granted_none spaces word k wants end = record {
-  before = λ j lt. nothing_at j;
-  slots = λ j le. for_none spaces (want_at wants j) (slot_at nothing j) (get_or-eq_default wants None (omega arith)) (nothing_at j);
-  poison = λ j. subst (λ p. ArePoison word (piece_words p)) (sym (nothing_at j)) (no_poison word);
-  blocks = λ j w p le is at. some_none w (sym (get_or-eq_default wants None (omega arith)) ∙ is);
-  others = λ o space apart. refl;
-}
-
 pub granted_skip : (old new : Spaces) (word : Option ℤ) (k : ℕ) (wants : List (Option Wanted)) (made : Granted) → want_at wants k ≡ None
     → IsGranted old new word (suc k) wants made → IsGranted old new word k wants made
 granted_skip old new word k wants made none g = record {
@@ -216,9 +188,6 @@ granted_skip old new word k wants made none g = record {
 
 module _ (old mid new : Spaces) (word : Option ℤ) (k : ℕ) (wants : List (Option Wanted)) (made : Granted) (w : Wanted) (p : Span) (lt : k < 7) (is : want_at wants k ≡ Some w)
     (limits : IsWithinLimits w) (m : IsOne old mid w p) (filled : ArePoison word p.words) (apart : AreApartWants wants) (g : IsGranted mid new word (suc k) wants made) where
-  abbrev with_it : Granted
-  with_it = with_slot made k (Some p)
-
   other_slot : (j : ℕ) → j ≢ k → slot_at (with_slot made k (Some p)) j ≡ slot_at made j
   other_slot j differs = slot_other made k j (Some p) differs
 

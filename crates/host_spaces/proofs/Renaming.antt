@@ -140,9 +140,6 @@ renamed_there n k from to owner apart =
     ap (λ t. if (from == owner) && t then Record to n else Record owner k) e
     ∙ ap (λ t. if t then Record to n else Record owner k) (with_false (from == owner))
 
-taker_none : (i owner : ℕ) → taker None i owner ≡ owner
-taker_none i owner = refl
-
 heir_none : (i owner : ℕ) → heir None i owner ≡ owner
 heir_none i owner = elim (true_or_false (owner == i)) [
   | inl is ↦ ap (λ t. if t then i else owner) is ∙ sym (eqb-true owner i is)

@@ -2,7 +2,7 @@
 use Rattle.std.proofs.Common.{◌≡◌, ℕ, zero, suc, ◌+◌, ◌-◌, ◌<◌, ◌≤◌, inl, inr, Bool, true, false, Some, None, refl, sym, ◌∙◌, ap, arith}
 use Rattle.std.specs.Prelude.{find}
 use Rattle.std.specs.List.{range_with_len}
-use Rattle.std.proofs.lemmas.Bool.{true≢false, cases_Bool, cases_eq}
+use Rattle.std.proofs.lemmas.Bool.{cases_Bool, cases_eq}
 use Rattle.std.proofs.lemmas.Option.{none-some, same_Some}
 
 -- the least of these numbers that passes
@@ -75,18 +75,6 @@ find_same p q from (suc count) same =
     let rest : find p (range_with_len (from + 1) count) ≡ find q (range_with_len (from + 1) count) =
     find_same p q (from + 1) count (λ j low high. same j (omega (arith, low)) (omega (arith, high))) in
     rw (first, rest) refl
-
--- some number passes, so there is a least one
-pub find_some : (p : ℕ → Bool) (from count j : ℕ) → from ≤ j → j < from + count → p j ≡ true → (r : ℕ) × (find p (range_with_len from count) ≡ Some r)
-find_some p from zero j low high passes = absurd (omega (arith, low, high))
-find_some p from (suc count) j low high passes =
-    elim (cases_Bool (p from)) [
-      | inl e ↦ (from, rw e refl)
-      | inr e ↦
-          let other : from ≡ j → ⊥ = λ same. true≢false (sym passes ∙ ap p (sym same) ∙ e) in
-          let later = find_some p (from + 1) count j (omega (arith, low, other)) (omega (arith, high)) passes in
-          (later.0, rw e later.1)
-    ]
 
 -- one step of the search, as a loop makes it
 pub find_step : (p : ℕ → Bool) (j n : ℕ) → j < n → p j ≡ false → find p (range_with_len j (n - j)) ≡ find p (range_with_len (j + 1) (n - (j + 1)))

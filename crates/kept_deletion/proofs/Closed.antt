@@ -59,10 +59,6 @@ pub record IsClosing {M : Type 0} (meaning : Meaning M) (idle_keeps active_keeps
 
 module _ {M : Type 0} (meaning : Meaning M) (idle_keeps active_keeps : Relation M) (slots : List (Option (Member M))) (once : List Shelf) (groups : List Group) (spaces : Spaces)
     (w : Option ℤ) (before : State M) where
-  pub closing_start : before.poison ≡ w → HostKeeps meaning idle_keeps active_keeps slots once groups spaces before
-      → IsClosing meaning idle_keeps active_keeps slots once groups spaces 0 w before
-  closing_start e kept = record { poison = e; kept = kept }
-
   pub closing_next : (n : ℕ) (answer : Result (Unit {0}) Refusal) (after : State M) → (without_first meaning before n).poison ≡ w
       → ◌≡◌ {A = Outcome M (Unit {0})} (answer, after) (delete meaning (without_first meaning before n) n)
       → HostKeeps meaning idle_keeps active_keeps slots once groups spaces after

@@ -3,7 +3,6 @@ use Rattle.std.proofs.Common.{◌≡◌, ◌≤◌, ◌<◌, ℕ, ℤ, Bool, tru
 use Rattle.std.specs.Prelude.{nat_eq, is_some, IsSome, IsTrue, Ok, Err}
 use Rattle.space_blocks.specs.declared.TheConstants.{INSTANCES, GROUPS}
 use Rattle.ialg.specs.declared.refusal.Refusal.TheVariants.{Command}
-use Rattle.std.proofs.lemmas.Bool.{eq-eqb}
 use Rattle.std.proofs.lemmas.Bool.Decides.{eqb_tells}
 use Rattle.space_heap.proofs.RangeTests.{either}
 use Rattle.ialg.specs.History.{History, Ctl, Control, with_samples}
@@ -67,9 +66,6 @@ module _ {M : Type 0} where
   aged : (slot : Option (Member M)) (x : Living M) (h : History) → IsLiving slot (Some x) → IsLiving slot (Some (record x { history = h }))
   aged None x h is = is
   aged (Some m) x h is = record { kind = is.kind; params = is.params; table = is.table; group = is.group }
-
-  at_own : (living : ℕ → Option (Living M)) (i : ℕ) (x : Option (Living M)) → with_living living i x i ≡ x
-  at_own living i x = ap (λ b. cond b x (living i)) (eq-eqb i i refl)
 
   at_other : (living : ℕ → Option (Living M)) (i : ℕ) (x : Option (Living M)) (j : ℕ) → nat_eq j i ≡ false → with_living living i x j ≡ living j
   at_other living i x j off = ap (λ b. cond b x (living j)) off

@@ -90,14 +90,6 @@ pub record IsAmid {M : Type 0} (meaning : Meaning M) (idle_keeps active_keeps : 
   pub same : compact before space ≡ ((compact now space).0 + moved, (compact now space).1)
 
 module _ {M : Type 0} (meaning : Meaning M) (idle_keeps active_keeps : Relation M) (space : Space) where
-  pub amid_start : (slots : List (Option (Member M))) (once : List Shelf) (groups : List Group) (spaces : Spaces) (before : State M)
-      → HostKeeps meaning idle_keeps active_keeps slots once groups spaces before → IsAmid meaning idle_keeps active_keeps space slots once groups spaces 0 before
-  amid_start slots once groups spaces before kept = record {
-    now = before;
-    kept = kept;
-    same = ap (λ (n : ℕ). let o : ℕ × State M = (n, (compact before space).1) in o) (let e : (compact before space).0 ≡ (compact before space).0 + 0 = omega arith in e);
-  }
-
   counted : (slots : List (Option (Member M))) (once : List Shelf) (groups : List Group) (spaces : Spaces) (state : State M)
       → HostKeeps meaning idle_keeps active_keeps slots once groups spaces state → state.copied < 2 ^ 64
   counted slots once groups spaces state kept = let e = kept.copied in omega (arith, e)

@@ -1,13 +1,12 @@
 -- A line as it comes, an octet at a time.
 use Rattle.std.proofs.Common.{◌≡◌, ◌≢◌, ℕ, ◌+◌, ◌≤◌, Bool, true, false, List, [], ◌∷◌, ◌++◌, length, refl, ap, length-append, arith}
 use Rattle.std.specs.List.{All}
-use Rattle.std.proofs.lemmas.Bool.{false≢true}
 use Rattle.std.proofs.lemmas.List.{append-nil}
 use Rattle.std.proofs.lemmas.List.Elements.{All-push}
 use Rattle.std.proofs.lemmas.Grind.{common_steps}
 use Rattle.std.proofs.lemmas.Bool.Decides.{nat_tests}
-use Rattle.octet_ports.specs.Ports.{Source, Gives, IsAtEnd}
-use Rattle.line_reader.specs.Lines.{IsLine, IsNoFeed, LineCame, LineFails}
+use Rattle.octet_ports.specs.Ports.{Source, Gives}
+use Rattle.line_reader.specs.Lines.{IsLine, IsNoFeed, LineFails}
 use Rattle.line_reader.specs.Readers.{RefusesFor}
 use Rattle.line_reader.specs.declared.reader.LineFault.{LineFault}
 use Rattle.line_reader.specs.declared.reader.LineFault.TheVariants.{Port, Limit}
@@ -59,28 +58,6 @@ so_far_more {most} {limit} {left} {new_left} x came line gives e = record {
   line = line;
   gives = gives_more came.gives gives;
   used = let u = came.used in let l = length-append came.octets (x ∷ []) in omega arith;
-}
-
--- a line feed came behind it
-pub line_came : {most limit left new_left : ℕ} {text : List ℕ} {long : Bool} {a b c : Source}
-    → LineSoFar most text long limit left a b → Gives (10 ∷ []) b c → left ≡ new_left + 1 → LineCame most text long false limit new_left a c
-line_came {most} {limit} {left} {new_left} came gives e = record {
-  octets = came.octets;
-  line = came.line;
-  gives = gives_more came.gives gives;
-  used = let u = came.used in let l = length-append came.octets (10 ∷ []) in omega arith;
-  at_end = λ bad. absurd (false≢true bad);
-}
-
--- the input's end came behind it
-pub line_last : {most limit left : ℕ} {text : List ℕ} {long : Bool} {a b c : Source}
-    → LineSoFar most text long limit left a b → Gives [] b c → IsAtEnd c → LineCame most text long true limit left a c
-line_last {most} {limit} {left} came gives ends = record {
-  octets = came.octets;
-  line = came.line;
-  gives = gives_more came.gives gives;
-  used = let u = came.used in let l = length-append came.octets [] in omega arith;
-  at_end = λ last. ends;
 }
 
 -- the input gave out behind it

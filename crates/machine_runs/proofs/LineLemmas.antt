@@ -245,10 +245,6 @@ refusals_of_feed : {X : Type 0} (channel : ℕ) (output text : List ℕ) → 1 �
 unfolding refusals
 refusals_of_feed channel output text le = none_refused le
 
-refusals_of_none : {X : Type 0} → 1 ≤ refusals [] → X
-unfolding refusals
-refusals_of_none le = none_refused le
-
 module _ {M : Type 0} (kinds : Meaning M) (widths : Widths) where
   -- ---- runs of calls
 

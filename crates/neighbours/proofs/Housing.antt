@@ -36,10 +36,6 @@ block_serves b need align h a = none_needed _ _ (large_enough need align (length
 pub first : (n : ℕ) (xs : List ℤ) → n ≤ length xs → length (take n xs) ≡ n
 first n xs h = omega (arith, length-take n xs)
 
-apart_from_none : (p : Option Span) → AreSeparate p None
-apart_from_none None = tt
-apart_from_none (Some s) = tt
-
 module _ (o q : Span) (b : ScratchBlock) (active : Option ℕ) (activations : ℕ) (ho : IsHome 4 o) (hq : IsHome 4 q) (hb : IsHome 1028 b.piece) (fine : b.align ≡ 16) where
   abbrev own : Pieces
   own = record { p0 = Some o; p1 = Some q; p2 = None; p3 = None }

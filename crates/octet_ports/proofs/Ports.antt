@@ -18,9 +18,6 @@ holds_none s = record { stays = λ h. h; taken = λ h. grind (arith, common_step
 pub waits_none : (s : Sink) → Waits s s
 waits_none s = record { stays = λ h. h; passed = λ h. refl }
 
-pub takes_none : (s : Sink) → Takes [] s s
-takes_none s = record { holds = holds_none s; waits = waits_none s }
-
 -- what an output over a writer is known to hold is what the writer is known to hold
 pub known_of_sink : (held : Option (List ℕ)) (waiting : ℕ) (failed : Bool) → held ≡ known_to_hold (sink_of held waiting failed)
 known_of_sink None waiting failed = refl

@@ -116,11 +116,6 @@ module _ {M : Type 0} (slots : List (Option (Member M))) (once : List Shelf) (gr
 
 -- ---- whether the record that moves is an own or a write-once one
 
-none_past : (a : Attr) → lasting_piece a None None ≡ None
-none_past Scratch = refl
-none_past Persist = refl
-none_past WriteOnce = refl
-
 pub few : (a : Attr) (own shared : Pieces) (k : ℕ) (p : Span) → lasting_piece a (piece_at own k) (piece_at shared k) ≡ Some p → k < 4
 few Scratch own shared k p e = absurd (none-some _ e)
 few Persist own shared k p e = piece_there own k p e

@@ -1,5 +1,5 @@
 -- Devices that are passed on one after the other.
-use Rattle.std.proofs.Common.{◌≡◌, ◌≢◌, ◌<◌, ◌≤◌, ℕ, ◌+◌, List, ◌++◌, length, take, drop, refl, ◌∙◌, arith, subst}
+use Rattle.std.proofs.Common.{◌≡◌, ◌≢◌, ◌<◌, ◌≤◌, ℕ, ◌+◌, List, length, ◌∙◌, arith, subst}
 use Rattle.std.proofs.Common.{get_or, set, get_or-set_other, get_or-set_same, below_more}
 use Rattle.std.proofs.lemmas.Grind.{common_steps}
 use Rattle.std.proofs.lemmas.List.{get_or_default}
@@ -9,17 +9,6 @@ pub record EachSoFar {X : Type 0} (Does : X → X → Type 0) (olds news : List 
   pub count : length news ≡ length olds
   pub done : (k : ℕ) → k < place → (d : X) → k < length olds → Does (get_or olds k d) (get_or news k d)
   pub rest : (k : ℕ) (d : X) → place ≤ k → get_or news k d ≡ get_or olds k d
-
-pub none_so_far : {X : Type 0} (Does : X → X → Type 0) (xs : List X) → EachSoFar Does xs xs 0
-none_so_far Does xs = record {
-  count = refl;
-  done = λ k below d within. absurd (omega arith);
-  rest = λ k d from. refl;
-}
-
--- a list that another of its length was written over is that one
-pub written_over : {X : Type 0} (xs ys : List X) (count : ℕ) → count ≡ length xs → length ys ≡ length xs → take count (ys ++ drop (length ys) xs) ≡ ys
-written_over xs ys count whole same = grind (arith, common_steps)
 
 -- one more did this
 pub one_more : {X : Type 0} (Does : X → X → Type 0) (olds news : List X) (place : ℕ) (e y : X) → EachSoFar Does olds news place → place < length news

@@ -1,6 +1,5 @@
 -- The first mark of samples that were lost.
-use Rattle.std.proofs.Common.{◌≡◌, ◌<◌, ◌≤◌, ⊎_elim, ℕ, ◌+◌, min, List, length, sym, ap, ◌∙◌, arith, subst, get_or, below_more, Any, ◌++◌, ◌∷◌, []}
-use Rattle.std.proofs.lemmas.Grind.{common_steps}
+use Rattle.std.proofs.Common.{◌≡◌, ◌<◌, ◌≤◌, ⊎_elim, ℕ, ◌+◌, min, List, length, sym, ap, ◌∙◌, arith, subst, get_or, below_more}
 use Rattle.std.proofs.lemmas.Bool.{cases_lt}
 use Rattle.std.proofs.lemmas.List.{get_or_default}
 
@@ -33,7 +32,3 @@ module _ {X : Type 0} (before : X → ℕ) (IsTaken : X → Type 0) (xs : List X
             (λ above. (place, x, omega arith, get_or_default xs place x e inside, (omega (arith, above), lost)))
             (cases_lt count (before x));
       }
-
--- what holds of the last holds of some
-pub any_last : {X : Type 0} (P : X → Type 0) (xs : List X) (x : X) → P x → Any P (xs ++ x ∷ [])
-any_last P xs x p = (length xs, x, grind (arith, common_steps), grind (arith, common_steps), p)

@@ -1,7 +1,6 @@
 -- What changes on the shelves, where an instance's pieces were taken together and put back with other words.
-use Rattle.std.proofs.Common.{◌≡◌, ℕ, zero, suc, ◌<◌, inl, inr, List, [], ◌∷◌, length, Option, Some, None, set, get_or-set_same, get_or-set_other, refl, sym, ◌∙◌, ap, subst, arith}
+use Rattle.std.proofs.Common.{◌≡◌, ℕ, zero, suc, ◌<◌, inl, inr, List, [], ◌∷◌, length, Option, Some, None, refl, sym, ◌∙◌, ap, subst, arith}
 use Rattle.std.proofs.lemmas.Bool.Decides.{eqb_tells}
-use Rattle.std.proofs.lemmas.List.{length-set}
 use Rattle.space_raw.specs.Span.{Span}
 use Rattle.record_loans.specs.declared.pieces.Pieces.{Pieces}
 use Rattle.record_loans.specs.Pieces.{piece_at, IsSamePiece, SamePieces}
@@ -9,9 +8,9 @@ use Rattle.record_loans.proofs.PieceLemmas.{reflexive, piece_same}
 use Rattle.record_shelves.specs.declared.shelves.Stand.{Stand}
 use Rattle.record_shelves.specs.declared.shelves.Stand.TheVariants.{Here, With}
 use Rattle.record_shelves.specs.declared.shelves.Shelf.{Shelf}
-use Rattle.record_shelves.specs.Shelves.{stand_at, piece_here, shelf_of, no_shelf, shelf_at, home_by, home_of, piece_seen, once_at, no_pieces}
+use Rattle.record_shelves.specs.Shelves.{stand_at, piece_here, no_shelf, shelf_at, home_by, home_of, piece_seen, once_at, no_pieces}
 use Rattle.record_shelves.specs.Homes.{with_seen, HasHome, HasHomes, AllHaveHomes, IsSameStand, SameShelves}
-use Rattle.record_shelves.proofs.Homes.{lent_stand, lent_at, lent_apart, lent_by, stand_seen, count_seen, homes_lent, home_lent, seen_shared, seen_apart}
+use Rattle.record_shelves.proofs.Homes.{lent_stand, lent_by, stand_seen, count_seen, homes_lent, home_lent, seen_shared, seen_apart}
 
 -- shelves with the same stands are the same
 pub four_stands : (a b : Shelf) → ((k : ℕ) → stand_at a k ≡ stand_at b k) → a ≡ b
@@ -68,33 +67,6 @@ module _ (once : List Shelf) (i : ℕ) (homes : HasHomes once i) where
   -- the pieces were taken together, and put back
   pub put_back : (once' once'' : List Shelf) (o : Pieces) → once' ≡ with_seen once i no_pieces → once'' ≡ with_seen once' i o → once'' ≡ with_seen once i o
   put_back once' once'' o taken put = put ∙ ap (λ (l : List Shelf). with_seen l i o) taken ∙ lent_last no_pieces o
-
-pub shelf_piece : (o : Pieces) (k : ℕ) → stand_at (shelf_of o) k ≡ Here (piece_at o k)
-shelf_piece o zero = refl
-shelf_piece o (suc zero) = refl
-shelf_piece o (suc (suc zero)) = refl
-shelf_piece o (suc (suc (suc zero))) = refl
-shelf_piece o (suc (suc (suc (suc k)))) = refl
-
--- pieces that stand with their instance
-pub homes_of_shelf : (once : List Shelf) (i : ℕ) (o : Pieces) → i < length once → shelf_at once i ≡ shelf_of o → (k : ℕ) → (home_of once i k ≡ i) × HasHome once i k
-homes_of_shelf once i o inside is k =
-    let here : stand_at (shelf_at once i) k ≡ Here (piece_at o k) = ap (λ (s : Shelf). stand_at s k) is ∙ shelf_piece o k in
-    let home : home_of once i k ≡ i = ap (home_by i) here in
-    (home, record { inside = rw home inside; settled = (piece_at o k, ap (λ (x : ℕ). stand_at (shelf_at once x) k) home ∙ here) })
-
--- are put back there
-pub lent_unshared : (once : List Shelf) (i : ℕ) (o o' : Pieces) → i < length once → shelf_at once i ≡ shelf_of o → with_seen once i o' ≡ set once i (shelf_of o')
-lent_unshared once i o o' inside is =
-    let homes : HasHomes once i = λ k. (homes_of_shelf once i o inside is k).1 in
-    same_lists (with_seen once i o') (set once i (shelf_of o')) (simp length-set (count_seen once i homes o'))
-    (λ j. each_stand IsEqualAt (shelf_at (with_seen once i o') j) (shelf_at (set once i (shelf_of o')) j) (λ k. refl)
-    (λ k below. stand_seen once i homes o' k j below
-    ∙ lent_by _ _ (piece_at o' k) j _ _ (homes_of_shelf once i o inside is k).0 refl
-    ∙ elim (eqb_tells j i) [
-      | inl e ↦ lent_at i (piece_at o' k) j _ e.1 ∙ sym (shelf_piece o' k) ∙ rw e.1 (sym (ap (λ (s : Shelf). stand_at s k) (get_or-set_same once i (shelf_of o') no_shelf inside)))
-      | inr e ↦ lent_apart i (piece_at o' k) j _ e.1 ∙ sym (ap (λ (s : Shelf). stand_at s k) (get_or-set_other once i j (shelf_of o') no_shelf e.1))
-    ]))
 
 pub no_stand : (k : ℕ) → stand_at no_shelf k ≡ Here None
 no_stand zero = refl

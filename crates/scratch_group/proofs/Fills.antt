@@ -1,17 +1,16 @@
 -- Blocks that were filled, and blocks that grow.
-use Rattle.std.proofs.Common.{rules, ◌≡◌, ℕ, ℤ, ◌≤◌, Bool, true, false, length, Option, Some, None, refl, sym, subst, arith}
-use Rattle.std.specs.Prelude.{if◌then◌else◌, ◌||◌, ◌&&◌, nat_eq, nat_le, replicate}
+use Rattle.std.proofs.Common.{rules, ◌≡◌, ℕ, ℤ, Bool, true, false, length, Option, Some, None, refl, sym, subst}
+use Rattle.std.specs.Prelude.{if◌then◌else◌, ◌||◌, replicate}
 use Rattle.std.specs.List.{All}
 use Rattle.std.proofs.lemmas.List.{length-replicate}
 use Rattle.std.proofs.lemmas.List.Elements.{All-replicate}
 use Rattle.mem_rec.specs.declared.Space.TheVariants.{Daram, Saram, External}
-use Rattle.std.proofs.lemmas.Bool.Decides.{nat_tests}
 use Rattle.ialg.specs.Records.{ArePoison}
 use Rattle.scratch_group.specs.declared.group.Need.{Need}
 use Rattle.record_loans.specs.declared.block.ScratchBlock.{ScratchBlock}
 use Rattle.scratch_group.specs.declared.group.Group.{Group}
-use Rattle.record_loans.specs.Blocks.{block_words, block_align, IsSameBlock}
-use Rattle.scratch_group.specs.Blocks.{block_needed, serves, filled, BlocksArePoison, SameGroup}
+use Rattle.record_loans.specs.Blocks.{block_words, IsSameBlock}
+use Rattle.scratch_group.specs.Blocks.{filled, BlocksArePoison, SameGroup}
 
 all_same : (v : ℤ) (n : ℕ) → All (λ x. x ≡ v) (replicate n v)
 all_same v n = All-replicate (λ x. x ≡ v) n v refl
@@ -60,16 +59,3 @@ no_block false x h = cc
 or_more : (t u : Bool) → (t || false) ≡ true → (t || u) ≡ true
 or_more true u h = refl
 or_more false u h = cc
-
-none_serves : (need size align fine : ℕ) → size ≤ 0 → (nat_eq need 0 || nat_le need size && nat_le align fine) ≡ true → (nat_eq need 0 || false) ≡ true
-none_serves need size align fine long h = grind (arith, nat_tests)
-
-serves_more : (b b' : Option ScratchBlock) (need align : ℕ) → length (block_words b) ≤ length (block_words b') → block_align b ≤ block_align b'
-    → (nat_eq need 0 || serves b need align) ≡ true → (nat_eq need 0 || serves b' need align) ≡ true
-serves_more None b' need align long fine h = or_more (nat_eq need 0) (serves b' need align) h
-serves_more (Some b) None need align long fine h = none_serves need (length b.piece.words) align b.align long h
-serves_more (Some b) (Some b') need align long fine h = grind (arith, nat_tests)
-
-pub needed_no_more : (b b' : Option ScratchBlock) (need align : ℕ) → length (block_words b) ≤ length (block_words b') → block_align b ≤ block_align b'
-    → block_needed b need align ≡ None → block_needed b' need align ≡ None
-needed_no_more b b' need align long fine h = no_block _ _ (serves_more b b' need align long fine (test_true _ _ h))

@@ -39,30 +39,6 @@ module _ (cs : List (Option ℤ)) (place n : ℕ) (xs : List ℤ) (there : IsRun
 abbrev Slots : Type 0
 Slots = List (Option ℤ)
 
-filled_some : (ws : List ℤ) → filled (map Some ws) ≡ ws
-filled_some [] = refl
-filled_some (w ∷ ws) = ap (λ xs. w ∷ xs) (filled_some ws)
-
--- what was written is there
-written_run : (cs : Slots) (p : ℕ) (ws : List ℤ) (r : ℕ) → r ≡ p + length ws → r ≤ length cs → take (length ws) (drop p (take p cs ++ (map Some ws ++ drop r cs))) ≡ map Some ws
-written_run [] (suc p) ws r e le = let l : r ≤ 0 = le in absurd (omega arith)
-written_run [] zero (w ∷ ws) r e le = let l : r ≤ 0 = le in let long : r ≡ zero + suc (length ws) = e in absurd (omega arith)
-written_run [] zero [] r e le = refl
-written_run (c ∷ cs) (suc p) ws zero e le = absurd (omega arith)
-written_run (c ∷ cs) (suc p) ws (suc r) e le = let l : suc r ≤ suc (length cs) = le in written_run cs p ws r (omega arith) (omega arith)
-written_run (c ∷ cs) zero [] r e le = refl
-written_run (c ∷ cs) zero (w ∷ ws) zero e le = let long : zero ≡ zero + suc (length ws) = e in absurd (omega arith)
-written_run (c ∷ cs) zero (w ∷ ws) (suc r) e le = let l : suc r ≤ suc (length cs) = le in let long : suc r ≡ zero + suc (length ws) = e in
-    ap (λ (xs : Slots). Some w ∷ xs) (written_run cs zero ws r (omega arith) (omega arith))
-
-pub run_written : (cs : Slots) (p : ℕ) (ws : List ℤ) → p + length ws ≤ length cs → run_of (with_run cs p ws) p (length ws) ≡ ws
-run_written cs p ws le = ap filled (written_run cs p ws (p + length ws) refl le) ∙ filled_some ws
-
-pub is_run_written : (cs : Slots) (p : ℕ) (ws : List ℤ) → p + length ws ≤ length cs → IsRun (with_run cs p ws) p (length ws)
-is_run_written cs p ws le =
-    let long = with_long cs p ws le in
-    (written_run cs p ws (p + length ws) refl le ∙ ap (map Some) (sym (run_written cs p ws le)), omega arith)
-
 -- what lies before or behind the written words stays
 stays_before : (cs : Slots) (p : ℕ) (xs : Slots) (q m : ℕ) → q + m ≤ p → p ≤ length cs → take m (drop q (take p cs ++ xs)) ≡ take m (drop q cs)
 stays_before cs p xs zero zero le inside = refl
@@ -95,11 +71,6 @@ module _ (cs : Slots) (p : ℕ) (ws : List ℤ) (q m : ℕ) (inside : p + length
 
   pub run_elsewhere : (q + m ≤ p) ⊎ (p + length ws ≤ q) → run_of (with_run cs p ws) q m ≡ run_of cs q m
   run_elsewhere apart = ap filled (elsewhere apart)
-
-  pub is_run_elsewhere : (q + m ≤ p) ⊎ (p + length ws ≤ q) → IsRun cs q m → IsRun (with_run cs p ws) q m
-  is_run_elsewhere apart there =
-      let long = with_long cs p ws inside in
-      (elsewhere apart ∙ there.0 ∙ ap (map Some) (sym (run_elsewhere apart)), omega (arith, there.1))
 
 -- a run that left and came back
 returned : (cs : Slots) (p n : ℕ) (ws : List ℤ) (r : ℕ) → n ≡ length ws → r ≡ p + n → r ≤ length cs → take n (drop p cs) ≡ map Some ws

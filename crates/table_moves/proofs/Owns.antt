@@ -21,7 +21,7 @@ use Rattle.instance_table.specs.declared.member.Member.{Member}
 use Rattle.record_shelves.specs.declared.shelves.Stand.{Stand}
 use Rattle.record_shelves.specs.declared.shelves.Shelf.{Shelf}
 use Rattle.record_shelves.specs.Shelves.{stand_at, shelf_at, once_at}
-use Rattle.instance_table.specs.Table.{slot_at, group_at, own_of, instance_of, active_in, slot_active_in, activity_at, Activity, IsHoused, EachIsHoused, AreAlike, IsHolder, AreHeld, AreBare, Tables, TablesOk, TablesTold}
+use Rattle.instance_table.specs.Table.{slot_at, group_at, instance_of, active_in, slot_active_in, activity_at, Activity, IsHoused, EachIsHoused, AreAlike, IsHolder, AreHeld, AreBare, Tables, TablesOk, TablesTold}
 use Rattle.instance_table.proofs.Housing.{same_blocks, housed_stays, room_stays}
 use Rattle.table_moves.specs.Moves.{inst_with, slot_with, own_set, IsHousedBut, TablesBut, IsWaiting}
 
@@ -189,7 +189,3 @@ told_later g slots once groups groups' ok count activity blocks room = record {
 -- the instance with the piece that comes back
 abbrev pub member_back : {M : Type 0} → Option (ℕ × Span) → Member M → Member M
 member_back back m = record m { inst = inst_with m.inst (restored back (instance_of m.inst).own) }
-
-pub slots_back : {M : Type 0} (slots : List (Option (Member M))) (i : ℕ) (m : Member M) (back : Option (ℕ × Span)) → slot_at slots i ≡ Some m
-    → own_set slots i (restored back (own_of (slot_at slots i))) ≡ set slots i (Some (member_back back m))
-slots_back slots i m back at = rw at refl

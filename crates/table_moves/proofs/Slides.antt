@@ -18,9 +18,6 @@ use Rattle.record_shelves.proofs.Homes.{lent_at, lent_apart, stand_seen, count_s
 use Rattle.record_shelves.proofs.Lent.{four_stands, no_stand, homes_of_all, piece_inside, seen_at}
 use Rattle.table_moves.specs.Moves.{holds_with, slid_to, TablesWaiting}
 
-past_four : (s : Shelf) (k : ℕ) → stand_at s (suc (suc (suc (suc k)))) ≡ Here None
-past_four s k = refl
-
 -- pieces with another one for a record
 with_same : (o : Pieces) (k : ℕ) (p : Option Span) → k < 4 → piece_at (with_piece o k p) k ≡ p
 with_same o zero p below = refl

@@ -1,6 +1,5 @@
 -- Words of a line.
-use Rattle.std.proofs.Common.{◌≡◌, ◌≢◌, ℕ, ◌+◌, ◌≤◌, true, false, List, [], ◌∷◌, ◌++◌, length, eqb, cond, All, refl, ap, ◌∙◌, arith}
-use Rattle.std.proofs.lemmas.Grind.{common_steps}
+use Rattle.std.proofs.Common.{◌≡◌, ◌≢◌, ℕ, ◌+◌, false, List, [], ◌∷◌, ◌++◌, length, eqb, cond, All, refl, ap, arith}
 use Rattle.std.proofs.lemmas.Bool.Decides.{nat_tests}
 use Rattle.std.proofs.lemmas.List.Splits.{slice_split_at, slice_split_none}
 use Rattle.voice_script.specs.Script.{is_empty, without_return, is_blank, words_of}
@@ -20,11 +19,6 @@ without_return-other [] last n = let e : eqb last 13 ≡ false = grind (arith, n
 without_return-other (b ∷ []) last n = ap (λ t. b ∷ t) (without_return-other [] last n)
 without_return-other (b ∷ c ∷ text) last n = ap (λ t. b ∷ t) (without_return-other (c ∷ text) last n)
 
-pub length-without_return : (line : List ℕ) → length (without_return line) ≤ length line
-length-without_return [] = omega arith
-length-without_return (b ∷ []) = elim (eqb b 13) as (λ t. length (cond t [] (b ∷ [])) ≤ 1) [ true ↦ omega arith | false ↦ omega arith ]
-length-without_return (b ∷ c ∷ bs) = let h = length-without_return (c ∷ bs) in omega arith
-
 -- the words of a line up to a blank, and of the rest
 pub words_of-parts : (line word after : List ℕ) → PartsAtBlank line word after
     → words_of line ≡ cond (is_empty word) (words_of after) (word ∷ words_of after)
@@ -37,6 +31,3 @@ words_of-parts line (w ∷ ws) after p =
 pub words_of-last : (line : List ℕ) → All IsNoBlank line → words_of line ≡ cond (is_empty line) [] (line ∷ [])
 words_of-last [] a = refl
 words_of-last (b ∷ bs) a = rw (slice_split_none is_blank (b ∷ bs) a) refl
-
-pub length-parts : (line word after : List ℕ) → PartsAtBlank line word after → length line ≡ length word + 1 + length after
-length-parts line word after p = ap length p.parts ∙ grind (arith, common_steps)
