@@ -6,6 +6,7 @@ ghost use Rattle.script_server.specs.Runs.{AreReady, AllWait, ServesAll, EndsWel
 use crate::limits::SCRIPT_OCTETS;
 use crate::line::{Buffers, Desk, flush_outputs, serve_line};
 use arrayvec::ArrayVec;
+use ialg::Words;
 use line_machine::{BLOCK_OCTETS, LineMachine};
 use line_reader::LineReader;
 use octet_ports::{PortIn, PortOut};
@@ -52,6 +53,7 @@ fn serve_script<T: LineMachine, S: PortIn, I: PortIn, O: PortOut, P: PortOut>(
     let mut text: ArrayVec<u8, LINE_OCTETS> = ArrayVec::new();
     let mut desk = Desk {
         map: Map::new(),
+        words: Words::new(),
         buffers: Buffers {
             text: ArrayVec::new(),
             block: [0; BLOCK_OCTETS],

@@ -10,7 +10,7 @@ ghost use Rattle.voice_console.specs.Consoles.{channels_of, port_widths_of, Take
 
 use crate::Console;
 use crate::replies::{tell_done, tell_flag, tell_stat, tell_status};
-use ialg::{Ctl, Ialg, Params};
+use ialg::{Ctl, Ialg, Params, Words};
 use line_machine::Ask;
 use mem_rec::Space;
 use voice_channel::Map;
@@ -25,12 +25,13 @@ impl<M: Ialg> Console<M> {
         tell_done(self.channels.create(i, kind, group, parameters))
     }
 
-    pub(crate) fn control<'a>(&mut self, i: u8, control: &Ctl) -> Reply<'a>
+    /// Puts the words that are answered in place of what `room` held.
+    pub(crate) fn control<'a>(&mut self, i: u8, control: &Ctl, room: &'a mut Words) -> Reply<'a>
         ensures channels { channels_of self.new ≡ channels_of self.old }
         ensures widths { self.new.widths ≡ self.old.widths }
         ensures asks { Serves M.meaning M.idle_keeps M.active_keeps (ControlAsks M.meaning i (control_of control.now)) (tells (reply_of result)) self.old self.new }
     {
-        tell_status(self.channels.control(i, control))
+        tell_status(self.channels.control(i, control), room)
     }
 
     pub(crate) fn delete<'a>(&mut self, i: u8) -> Reply<'a>

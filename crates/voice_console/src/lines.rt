@@ -8,7 +8,7 @@ ghost use Rattle.console_machine.specs.Samples.{samples_at};
 
 use crate::Console;
 use crate::samples::{read_samples, write_samples};
-use ialg::{BLOCK_SAMPLES, Block, Ialg, Named, Params};
+use ialg::{BLOCK_SAMPLES, Block, Ialg, Named, Params, Words};
 use line_machine::{Ask, BLOCK_OCTETS, LineMachine, Width};
 use voice_channel::{Channels, Map};
 use voice_script::{Command, FeedSamples, Reply, parse};
@@ -60,12 +60,12 @@ impl<M: Ialg + Named> LineMachine for Console<M> {
         self.widths.output(channel)
     }
 
-    fn ask<'a>(&mut self, line: &[u8], map: &'a mut Map) -> Ask<'a> {
+    fn ask<'a>(&mut self, line: &[u8], map: &'a mut Map, words: &'a mut Words) -> Ask<'a> {
         let mut room = Params::new();
         match parse(line, &mut room) {
-            // most lines are feeds, for which no room for another command's reply is cleared
+            // most lines are feeds, for which no room for another command's words is cleared
             Ok(Some(Command::Feed { channel, samples })) => self.feed_asked(channel, samples),
-            Ok(Some(command)) => self.obey(command, map),
+            Ok(Some(command)) => self.obey(command, map, words),
             Ok(None) => Ask::Nothing,
             Err(refusal) => Ask::Tell(Reply::No(refusal)),
         }

@@ -6,14 +6,20 @@ ghost use Rattle.console_machine.specs.Console.{CommandAsks};
 ghost use Rattle.voice_console.specs.Consoles.{channels_of, port_widths_of, TakesFeeds, Serves};
 
 use crate::Console;
-use ialg::{Ctl, Ialg, copied};
+use ialg::{Ctl, Ialg, Words, copied};
 use line_machine::Ask;
 use voice_channel::Map;
 use voice_script::Command;
 
 impl<M: Ialg> Console<M> {
-    /// Does what a command asks; a feed's samples are yet to come.
-    pub(crate) fn obey<'a>(&mut self, command: Command<'_, M>, map: &'a mut Map) -> Ask<'a>
+    /// Does what a command asks; a feed's samples are yet to come. A map or words that are told of stand in `map` and `room` then.
+    #[inline(never)]
+    pub(crate) fn obey<'a>(
+        &mut self,
+        command: Command<'_, M>,
+        map: &'a mut Map,
+        room: &'a mut Words,
+    ) -> Ask<'a>
         ensures channels { channels_of self.new ≡ channels_of self.old }
         ensures widths { self.new.widths ≡ self.old.widths }
         ensures ready { AskIsReady TakesFeeds channels_of self.new result }
@@ -27,10 +33,10 @@ impl<M: Ialg> Console<M> {
                 parameters,
             } => Ask::Tell(self.create(instance, kind, group, parameters)),
             Command::Set { instance, words } => {
-                Ask::Tell(self.control(instance, &Ctl::Set(copied(words.as_slice()))))
+                Ask::Tell(self.control(instance, &Ctl::Set(copied(words.as_slice())), room))
             }
-            Command::Reset { instance } => Ask::Tell(self.control(instance, &Ctl::Reset)),
-            Command::Get { instance } => Ask::Tell(self.control(instance, &Ctl::Get)),
+            Command::Reset { instance } => Ask::Tell(self.control(instance, &Ctl::Reset, room)),
+            Command::Get { instance } => Ask::Tell(self.control(instance, &Ctl::Get, room)),
             Command::Delete { instance } => Ask::Tell(self.delete(instance)),
             Command::Chain { channel, members } => Ask::Tell(self.chain(channel, &members)),
             Command::Unchain { channel } => Ask::Tell(self.unchain(channel)),

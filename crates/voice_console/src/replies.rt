@@ -5,7 +5,7 @@ ghost use Rattle.kept_machine.specs.Kept.{told};
 ghost use Rattle.voice_channel.specs.Hosts.{stat_told};
 ghost use Rattle.console_machine.specs.Console.{done, status_told, flag_told, activity_told};
 
-use ialg::{Refusal, Status};
+use ialg::{Refusal, Status, Words};
 use voice_channel::Stat;
 use voice_script::Reply;
 
@@ -18,12 +18,15 @@ pub(crate) fn tell_done<'a>(answer: Result<(), Refusal>) -> Reply<'a>
     }
 }
 
-pub(crate) fn tell_status<'a>(answer: Result<Status, Refusal>) -> Reply<'a>
+pub(crate) fn tell_status<'a>(answer: Result<Status, Refusal>, room: &'a mut Words) -> Reply<'a>
     ensures { reply_of result ≡ status_told (told answer) }
 {
     match answer {
         Ok(Status::Done) => Reply::Done,
-        Ok(Status::Words(words)) => Reply::Words(words),
+        Ok(Status::Words(words)) => {
+            *room = words;
+            Reply::Words(room)
+        }
         Err(refusal) => Reply::No(refusal),
     }
 }

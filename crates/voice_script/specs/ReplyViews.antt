@@ -5,7 +5,7 @@ use Rattle.voice_script.specs.declared.replies.Reply.TheVariants.{Done, Words, C
 
 abbrev pub reply_of : Reply → replies.Reply
 reply_of Done = replies.Done
-reply_of (Words words) = replies.Words words.items
+reply_of (Words words) = replies.Words words.now.items
 reply_of (Count count) = replies.Count count
 reply_of (Flag flag) = replies.Flag flag
 reply_of (Stat stat) = replies.Stat stat.active stat.activations

@@ -16,13 +16,13 @@ use space_blocks::{Map, Owner, Placed};
 /// The line of a reply.
 pub type ReplyText = ArrayVec<u8, REPLY_OCTETS>;
 
-/// What is replied to a command. A map is thousands of octets, so its reply names it where it stands.
+/// What is replied to a command. A map is thousands of octets and words are more than a hundred, so their replies name them where they stand.
 #[derive(PartialEq, Eq, Debug, Drop)]
 pub enum Reply<'a> {
     /// It is done.
     Done,
     /// An instance's words.
-    Words(Words),
+    Words(&'a Words),
     /// So many samples were output, or so many blocks were moved.
     Count(u32),
     /// Whether something was there to do.
