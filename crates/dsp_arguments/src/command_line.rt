@@ -20,6 +20,18 @@ fn space_option(alloc: Global, space: &'static str) -> Arg<'static> {
         .value_parser(clap::value_parser!(u32))
 }
 
+/// The option for the word that fills memory.
+fn poison_option(alloc: Global) -> Arg<'static> {
+    Arg::new(alloc, "poison")
+        .long("poison")
+        .value_name("WORD")
+        .help(
+            "Fill new and resting memory with this word of 16 bits: 0 to 65535; without it nothing is filled",
+        )
+        .action(ArgAction::Set)
+        .value_parser(clap::value_parser!(u16))
+}
+
 /// An option for the channels whose ports carry octets.
 fn mask_option(alloc: Global, name: &'static str, help: &'static str) -> Arg<'static> {
     Arg::new(alloc, name)
@@ -30,48 +42,54 @@ fn mask_option(alloc: Global, name: &'static str, help: &'static str) -> Arg<'st
         .value_parser(clap::value_parser!(u16))
 }
 
-/// What `clap` finds in the words, which don't begin with the program's name.
-fn matches<'a>(alloc: Global, words: &'a [&'a str]) -> Result<ArgMatches<'a>, Error> {
-    let poison = Arg::new(alloc, "poison")
-        .long("poison")
-        .value_name("WORD")
-        .help(
-            "Fill new and resting memory with this word of 16 bits: 0 to 65535; without it nothing is filled",
-        )
-        .action(ArgAction::Set)
-        .value_parser(clap::value_parser!(u16));
-    let in8 = mask_option(
-        alloc,
-        "in8",
-        "The channels, a bit each, whose IN is of samples of one octet, 0 to 255: 0 to 65535; without it none",
-    );
-    let out8 = mask_option(
-        alloc,
-        "out8",
-        "The channels, a bit each, whose OUT takes of each sample the low octet alone: 0 to 65535; without it none",
-    );
-    let script = Arg::new(alloc, "SCRIPT")
+/// The path of the script.
+fn script_argument(alloc: Global) -> Arg<'static> {
+    Arg::new(alloc, "SCRIPT")
         .help("The file of commands, a line each")
         .required(true)
-        .action(ArgAction::Set);
-    let ports = Arg::new(alloc, "PORTS")
+        .action(ArgAction::Set)
+}
+
+/// The paths of the ports.
+fn ports_argument(alloc: Global) -> Arg<'static> {
+    Arg::new(alloc, "PORTS")
         .value_name("IN OUT")
         .help(
             "1 to 16 pairs of files of samples of 16 bits, the low octet first: pair n, from 0 on, is what channel n reads and what it writes",
         )
         .num_args(0..)
-        .action(ArgAction::Append);
+        .action(ArgAction::Append)
+}
+
+/// The options and arguments, in the order that the help has.
+fn accepted(alloc: Global) -> Result<Vec<Arg<'static>>, Error> {
+    let accepted = vec![in alloc;
+        space_option(alloc, "daram"),
+        space_option(alloc, "saram"),
+        space_option(alloc, "external"),
+        poison_option(alloc),
+        mask_option(
+            alloc,
+            "in8",
+            "The channels, a bit each, whose IN is of samples of one octet, 0 to 255: 0 to 65535; without it none",
+        ),
+        mask_option(
+            alloc,
+            "out8",
+            "The channels, a bit each, whose OUT takes of each sample the low octet alone: 0 to 65535; without it none",
+        ),
+        script_argument(alloc),
+        ports_argument(alloc),
+    ]?;
+    Ok(accepted)
+}
+
+/// What `clap` finds in the words, which don't begin with the program's name.
+fn matches<'a>(alloc: Global, words: &'a [&'a str]) -> Result<ArgMatches<'a>, Error> {
     Command::new(alloc, "dsp_console")
         .no_binary_name(true)
         .override_usage("dsp_console [OPTIONS] <SCRIPT> <IN OUT> [IN OUT]...")
-        .arg(space_option(alloc, "daram"))?
-        .arg(space_option(alloc, "saram"))?
-        .arg(space_option(alloc, "external"))?
-        .arg(poison)?
-        .arg(in8)?
-        .arg(out8)?
-        .arg(script)?
-        .arg(ports)?
+        .args(accepted(alloc)?)?
         .try_get_matches_from(words)
 }
 
