@@ -3,10 +3,8 @@
 
 mod limits;
 mod machine;
-mod rooms;
 mod width;
 
 pub use limits::{BLOCK_OCTETS, WORD_OCTETS};
 pub use machine::{Ask, LineMachine};
-pub use rooms::Rooms;
 pub use width::{PortWidths, Width};

@@ -8,8 +8,9 @@ ghost use Rattle.line_machine.specs.Asks.{asked_of, IsReady, AskIsReady};
 ghost use Rattle.line_machine.specs.Widths.{Widths, octet_count};
 
 use crate::limits::BLOCK_OCTETS;
-use crate::rooms::Rooms;
 use crate::width::Width;
+use ialg::{Params, Words};
+use space_blocks::Map;
 use voice_script::{FeedSamples, Reply};
 
 /// What a line asks of the ports.
@@ -51,8 +52,15 @@ pub trait LineMachine {
     fn output_width(&self, channel: u8) -> Width
         ensures { result ≡ (widths self.now).output channel };
 
-    /// Does what the line asks; a feed's samples are yet to come. Whatever `rooms` held, the map or the words that are told of stand there then.
-    fn ask<'a>(&mut self, line: &[u8], rooms: &'a mut Rooms) -> Ask<'a>
+    /// Does what the line asks; a feed's samples are yet to come. The words of the line, which are an instance's parameters or a control's,
+    /// stand in `parameters` meanwhile, whatever that held. A map that is told of stands in `map` then, and an instance's words in `words`.
+    fn ask<'a>(
+        &mut self,
+        line: &[u8],
+        parameters: &mut Params,
+        map: &'a mut Map,
+        words: &'a mut Words,
+    ) -> Ask<'a>
         requires short { length line.now ≤ LINE_OCTETS }
         ensures channels { channels self.new ≡ channels self.old }
         ensures widths { widths self.new ≡ widths self.old }

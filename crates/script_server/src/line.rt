@@ -12,15 +12,19 @@ ghost use Rattle.script_server.specs.Runs.{StepsAt, no_source, no_sink, IsHonest
 ghost use Rattle.script_server.specs.LineRuns.{IsServed, IsCut, IsUnfed};
 
 use crate::serving::PortsFault;
-use ialg::Refusal;
-use line_machine::{Ask, BLOCK_OCTETS, LineMachine, Rooms};
+use ialg::{Params, Refusal, Words};
+use line_machine::{Ask, BLOCK_OCTETS, LineMachine};
 use octet_ports::{PortFault, PortIn, PortOut, read_octets, write_octets};
+use space_blocks::Map;
 use voice_script::{FeedSamples, LINE_OCTETS, Reply, ReplyText, write_reply};
 
-/// What a line needs beside its machine and its ports. To make it clears thousands of octets, so a run has one.
+/// Room for the words of a line, for a map and for words that are told of, and the buffers of replies and feeds. To make them clears thousands of
+/// octets, so a run has one of each.
 #[derive(Drop)]
 pub(crate) struct Desk {
-    pub(crate) rooms: Rooms,
+    pub(crate) parameters: Params,
+    pub(crate) map: Map,
+    pub(crate) words: Words,
     pub(crate) buffers: Buffers,
 }
 
@@ -178,7 +182,7 @@ pub(crate) fn serve_line<T: LineMachine, I: PortIn, O: PortOut, P: PortOut>(
             Err(fault) => Err(fault),
         };
     }
-    match machine.ask(line, &mut desk.rooms) {
+    match machine.ask(line, &mut desk.parameters, &mut desk.map, &mut desk.words) {
         Ask::Nothing => Ok(false),
         Ask::Tell(reply) => {
             let refused = reply.is_refusal();

@@ -6,9 +6,11 @@ ghost use Rattle.script_server.specs.Runs.{AreReady, AllWait, ServesAll, EndsWel
 use crate::limits::SCRIPT_OCTETS;
 use crate::line::{Buffers, Desk, flush_outputs, serve_line};
 use arrayvec::ArrayVec;
-use line_machine::{BLOCK_OCTETS, LineMachine, Rooms};
+use ialg::{Params, Words};
+use line_machine::{BLOCK_OCTETS, LineMachine};
 use line_reader::LineReader;
 use octet_ports::{PortIn, PortOut};
+use space_blocks::Map;
 use voice_script::LINE_OCTETS;
 
 /// Which ports ended a run.
@@ -50,7 +52,9 @@ fn serve_script<T: LineMachine, S: PortIn, I: PortIn, O: PortOut, P: PortOut>(
     let mut refused: u64 = 0;
     let mut text: ArrayVec<u8, LINE_OCTETS> = ArrayVec::new();
     let mut desk = Desk {
-        rooms: Rooms::new(),
+        parameters: Params::new(),
+        map: Map::new(),
+        words: Words::new(),
         buffers: Buffers {
             text: ArrayVec::new(),
             block: [0; BLOCK_OCTETS],

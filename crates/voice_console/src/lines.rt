@@ -8,9 +8,9 @@ ghost use Rattle.console_machine.specs.Samples.{samples_at};
 
 use crate::Console;
 use crate::samples::{read_samples, write_samples};
-use ialg::{BLOCK_SAMPLES, Block, Ialg, Named};
-use line_machine::{Ask, BLOCK_OCTETS, LineMachine, Rooms, Width};
-use voice_channel::Channels;
+use ialg::{BLOCK_SAMPLES, Block, Ialg, Named, Params, Words};
+use line_machine::{Ask, BLOCK_OCTETS, LineMachine, Width};
+use voice_channel::{Channels, Map};
 use voice_script::{Command, FeedSamples, Reply, parse};
 
 /// Passes the samples of the octets, by the width of their port, through a channel: they stand in `input` then, and what the channel gives takes the place of what
@@ -60,11 +60,17 @@ impl<M: Ialg + Named> LineMachine for Console<M> {
         self.widths.output(channel)
     }
 
-    fn ask<'a>(&mut self, line: &[u8], rooms: &'a mut Rooms) -> Ask<'a> {
-        match parse(line, &mut rooms.parameters) {
+    fn ask<'a>(
+        &mut self,
+        line: &[u8],
+        parameters: &mut Params,
+        map: &'a mut Map,
+        words: &'a mut Words,
+    ) -> Ask<'a> {
+        match parse(line, parameters) {
             // most lines are feeds, for which no room for another command's words is cleared
             Ok(Some(Command::Feed { channel, samples })) => self.feed_asked(channel, samples),
-            Ok(Some(command)) => self.obey(command, &mut rooms.map, &mut rooms.words),
+            Ok(Some(command)) => self.obey(command, map, words),
             Ok(None) => Ask::Nothing,
             Err(refusal) => Ask::Tell(Reply::No(refusal)),
         }
