@@ -1,3 +1,4 @@
 pub mod Table
 pub mod Keeps
 pub mod Frames
+pub mod Shelved

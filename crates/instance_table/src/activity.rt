@@ -1,5 +1,5 @@
 //! Which member of a group is active.
-ghost use Rattle.std.specs.Prelude.{◌≡◌, ℕ, ℤ, ◌<◌, Option, Some, None, IsSome, is_some};
+ghost use Rattle.std.specs.Prelude.{◌≡◌, ℕ, ℤ, ◌<◌, length, Option, Some, None, IsSome, is_some};
 ghost use Rattle.ialg.specs.History.{History};
 ghost use Rattle.record_loans.specs.Pieces.{SamePieces};
 ghost use Rattle.record_loans.specs.Blocks.{IsSameBlock};
@@ -9,14 +9,17 @@ ghost use Rattle.lifecycle.specs.States.{Fits, SameInstance, SameOnce, IdleKeeps
 ghost use Rattle.instance_table.specs.declared.TheConstants.{GROUPS};
 ghost use Rattle.instance_table.specs.Table.{slot_at, group_at, group_of, slot_active_in, activity_at, rested, touched_by, quieted_by, with_activity, TablesOk, ArePoisoned};
 ghost use Rattle.instance_table.specs.Keeps.{Keeps};
+ghost use Rattle.record_shelves.specs.Shelves.{once_at};
+ghost use Rattle.record_shelves.specs.Homes.{HasHomes};
+ghost use Rattle.instance_table.specs.Shelved.{SameShelf};
 ghost use Rattle.instance_table.specs.Frames.{SameTables};
 
 use crate::member::{Member, active_group, idle_in, make_active, make_idle};
 use ialg::Ialg;
 use lifecycle::{Active, Idle, Inst};
 use record_loans::Pieces;
-use record_shelves::{Shelf, put_seen, take_seen};
-use scratch_group::Group;
+use record_shelves::{Shelf, end_absent, put_seen, take_seen};
+use scratch_group::{Group, is_filter};
 
 /// Deactivates the active member of a group, where it stands. In a host of a poison word the blocks are filled with it.
 fn rest_in<M: Ialg>(
@@ -40,6 +43,62 @@ fn rest_in<M: Ialg>(
     group.set_active(None);
     if let Some(word) = poison {
         group.fill(word);
+    }
+}
+
+/// Deactivates the active member of a group, where it stands, as `rest_in` does, with its write-once records off the shelf.
+#[inline(never)]
+fn rest_shelved<M: Ialg>(
+    active: &mut Active<M>,
+    once: &mut Vec<Shelf>,
+    i: u8,
+    group: &mut Group,
+    poison: Option<i16>,
+)
+    requires number { i < length once.old.items }
+    requires homes { HasHomes once.old.items i }
+    requires fits { Fits active.old.instance.table active.old.instance.own (once_at once.old.items i) group.old }
+    ensures same { SameInstance active.old.instance active.new.instance }
+    ensures shelf { SameShelf active.old.instance.table i once.old.items once.new.items }
+    ensures blocks { (space : Space) → IsSameBlock (block_in group.old space) (block_in group.new space) }
+    ensures active { group.new.active ≡ None }
+    ensures activations { group.new.activations ≡ group.old.activations }
+    ensures poisoned { BlocksArePoison poison group.new }
+    ensures keeps { (w : Option ℤ) (h : History) → ActiveKeeps M.meaning M.active_keeps active.old.instance w (once_at once.old.items i) group.old h
+        → IdleKeeps M.meaning M.idle_keeps active.new.instance w (once_at once.new.items i) h }
+{
+    let mut shared = take_seen(once, i as usize);
+    rest_in(active, &mut shared, group, poison);
+    put_seen(once, i as usize, shared);
+}
+
+/// Deactivates the active member of a group, where it stands, as [`rest_shelved`] does. A filter has no write-once record, so that its shelf isn't
+/// looked at: most instances are filters.
+fn rest_member<M: Ialg>(
+    active: &mut Active<M>,
+    once: &mut Vec<Shelf>,
+    i: u8,
+    group: &mut Group,
+    poison: Option<i16>,
+)
+    requires number { i < length once.old.items }
+    requires homes { HasHomes once.old.items i }
+    requires fits { Fits active.old.instance.table active.old.instance.own (once_at once.old.items i) group.old }
+    ensures same { SameInstance active.old.instance active.new.instance }
+    ensures shelf { SameShelf active.old.instance.table i once.old.items once.new.items }
+    ensures blocks { (space : Space) → IsSameBlock (block_in group.old space) (block_in group.new space) }
+    ensures active { group.new.active ≡ None }
+    ensures activations { group.new.activations ≡ group.old.activations }
+    ensures poisoned { BlocksArePoison poison group.new }
+    ensures keeps { (w : Option ℤ) (h : History) → ActiveKeeps M.meaning M.active_keeps active.old.instance w (once_at once.old.items i) group.old h
+        → IdleKeeps M.meaning M.idle_keeps active.new.instance w (once_at once.new.items i) h }
+{
+    if is_filter(&active.instance.table) {
+        let mut none = Pieces::none();
+        rest_in(active, &mut none, group, poison);
+        end_absent(none);
+    } else {
+        rest_shelved(active, once, i, group, poison);
     }
 }
 
@@ -86,9 +145,7 @@ pub fn rest<M: Ialg>(
     match &mut slots[i as usize] {
         Some(member) => match &mut member.inst {
             Inst::Running(active) => {
-                let mut shared = take_seen(once, i as usize);
-                rest_in(active, &mut shared, &mut groups[g as usize], poison);
-                put_seen(once, i as usize, shared);
+                rest_member(active, once, i, &mut groups[g as usize], poison);
                 make_idle(slots, i);
                 true
             }

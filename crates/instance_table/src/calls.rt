@@ -1,24 +1,95 @@
 //! What an active instance is given.
-ghost use Rattle.std.specs.Prelude.{◌≡◌, ◌≤◌, ◌++◌, ◌∷◌, ℕ, ℤ, [], length, Option, Some, None, IsSome, IfSome, IfNone, OnSome, is_some};
+ghost use Rattle.std.specs.Prelude.{◌≡◌, ◌≤◌, ◌++◌, ◌∷◌, ◌<◌, ℕ, ℤ, [], length, Option, Some, None, IsSome, IfSome, IfNone, OnSome, is_some};
 ghost use Rattle.ialg.specs.History.{History, Control, with_samples};
 ghost use Rattle.ialg.specs.Views.{control_of, answer_of};
 ghost use Rattle.record_loans.specs.Pieces.{SamePieces};
 ghost use Rattle.record_loans.specs.Blocks.{IsSameBlock};
 ghost use Rattle.mem_rec.specs.declared.Space.{Space};
-ghost use Rattle.scratch_group.specs.Blocks.{block_in, count_after, BlocksArePoison};
+ghost use Rattle.scratch_group.specs.Blocks.{block_in, count_after, BlocksArePoison, SameGroup};
 ghost use Rattle.lifecycle.specs.States.{Fits, SameInstance, SameOnce, IsLawful, Accepts, IdleKeeps, ActiveKeeps, all_outputs, status_after};
 ghost use Rattle.instance_table.specs.Table.{slot_at, group_of, slot_active_in, instance_of, activity_at, with_activity, woken, touched_by, TablesOk, ArePoisoned};
 ghost use Rattle.instance_table.specs.Keeps.{Keeps, with_history};
 ghost use Rattle.instance_table.specs.Frames.{SameTables};
+ghost use Rattle.instance_table.specs.Shelved.{SameShelf};
+ghost use Rattle.record_shelves.specs.Shelves.{once_at};
+ghost use Rattle.record_shelves.specs.Homes.{HasHomes};
 ghost use Rattle.instance_table.specs.declared.member.Member.{Member};
 
 use crate::activity::{rest, touch};
 use crate::member::{Member, idle_in, make_active};
 use ialg::{BLOCK_SAMPLES, Block, Ctl, Ialg, Status};
-use lifecycle::{Idle, Inst};
+use lifecycle::{Active, Idle, Inst};
 use record_loans::Pieces;
-use record_shelves::{Shelf, put_seen, take_seen};
-use scratch_group::Group;
+use record_shelves::{Shelf, end_absent, put_seen, take_seen};
+use scratch_group::{Group, is_filter};
+
+/// Gives the active member of a group a block of samples, with its write-once records off the shelf.
+#[inline(never)]
+fn run_shelved<M: Ialg>(
+    active: &mut Active<M>,
+    once: &mut Vec<Shelf>,
+    i: u8,
+    group: &mut Group,
+    input: &[i16],
+    out: &mut Block,
+)
+    requires number { i < length once.old.items }
+    requires homes { HasHomes once.old.items i }
+    requires fits { Fits active.old.instance.table active.old.instance.own (once_at once.old.items i) group.old }
+    requires empty { out.old.items ≡ [] }
+    requires some { 1 ≤ length input.now }
+    requires within { length input.now ≤ BLOCK_SAMPLES }
+    ensures same { SameInstance active.old.instance active.new.instance }
+    ensures shelf { SameShelf active.old.instance.table i once.old.items once.new.items }
+    ensures group { SameGroup group.old group.new }
+    ensures bounded { length out.new.items ≤ length input.now }
+    ensures keeps { (w : Option ℤ) (h : History) → ActiveKeeps M.meaning M.active_keeps active.old.instance w (once_at once.old.items i) group.old h
+        → ActiveKeeps M.meaning M.active_keeps active.new.instance w (once_at once.new.items i) group.new (with_samples h input.now) }
+    ensures output { (w : Option ℤ) (h : History) → IsLawful M.meaning active.old.instance w
+        → ActiveKeeps M.meaning M.active_keeps active.old.instance w (once_at once.old.items i) group.old h
+        → all_outputs M.meaning active.old.instance (with_samples h input.now)
+        ≡ all_outputs M.meaning active.old.instance h ++ out.new.items }
+{
+    let mut shared = take_seen(once, i as usize);
+    active.run(&mut shared, group, input, out);
+    put_seen(once, i as usize, shared);
+}
+
+/// Gives the active member of a group a block of samples, as [`run_shelved`] does. The shelf of a filter, which has no write-once record, isn't
+/// looked at.
+fn run_member<M: Ialg>(
+    active: &mut Active<M>,
+    once: &mut Vec<Shelf>,
+    i: u8,
+    group: &mut Group,
+    input: &[i16],
+    out: &mut Block,
+)
+    requires number { i < length once.old.items }
+    requires homes { HasHomes once.old.items i }
+    requires fits { Fits active.old.instance.table active.old.instance.own (once_at once.old.items i) group.old }
+    requires empty { out.old.items ≡ [] }
+    requires some { 1 ≤ length input.now }
+    requires within { length input.now ≤ BLOCK_SAMPLES }
+    ensures same { SameInstance active.old.instance active.new.instance }
+    ensures shelf { SameShelf active.old.instance.table i once.old.items once.new.items }
+    ensures group { SameGroup group.old group.new }
+    ensures bounded { length out.new.items ≤ length input.now }
+    ensures keeps { (w : Option ℤ) (h : History) → ActiveKeeps M.meaning M.active_keeps active.old.instance w (once_at once.old.items i) group.old h
+        → ActiveKeeps M.meaning M.active_keeps active.new.instance w (once_at once.new.items i) group.new (with_samples h input.now) }
+    ensures output { (w : Option ℤ) (h : History) → IsLawful M.meaning active.old.instance w
+        → ActiveKeeps M.meaning M.active_keeps active.old.instance w (once_at once.old.items i) group.old h
+        → all_outputs M.meaning active.old.instance (with_samples h input.now)
+        ≡ all_outputs M.meaning active.old.instance h ++ out.new.items }
+{
+    if is_filter(&active.instance.table) {
+        let mut none = Pieces::none();
+        active.run(&mut none, group, input, out);
+        end_absent(none);
+    } else {
+        run_shelved(active, once, i, group, input, out);
+    }
+}
 
 /// Gives the active instance a block of samples.
 fn run<M: Ialg>(
@@ -51,9 +122,7 @@ fn run<M: Ialg>(
             let group = &mut groups[member.group as usize];
             match &mut member.inst {
                 Inst::Running(active) => {
-                    let mut shared = take_seen(once, i as usize);
-                    active.run(&mut shared, group, input, out);
-                    put_seen(once, i as usize, shared);
+                    run_member(active, once, i, group, input, out);
                 }
                 Inst::Idling(_) => unreachable!(),
             }
@@ -95,6 +164,81 @@ fn wake_and_run_in<M: Ialg>(
     group.set_active(Some(i));
 }
 
+/// Activates the member of this number, where it stands, and gives it a block of samples, as `wake_and_run_in` does, with its write-once records
+/// off the shelf.
+#[inline(never)]
+fn wake_and_run_shelved<M: Ialg>(
+    idle: &mut Idle<M>,
+    once: &mut Vec<Shelf>,
+    i: u8,
+    group: &mut Group,
+    input: &[i16],
+    out: &mut Block,
+)
+    requires number { i < length once.old.items }
+    requires homes { HasHomes once.old.items i }
+    requires fits { Fits idle.old.instance.table idle.old.instance.own (once_at once.old.items i) group.old }
+    requires empty { out.old.items ≡ [] }
+    requires some { 1 ≤ length input.now }
+    requires within { length input.now ≤ BLOCK_SAMPLES }
+    ensures same { SameInstance idle.old.instance idle.new.instance }
+    ensures shelf { SameShelf idle.old.instance.table i once.old.items once.new.items }
+    ensures blocks { (space : Space) → IsSameBlock (block_in group.old space) (block_in group.new space) }
+    ensures active { group.new.active ≡ Some i }
+    ensures activations { group.new.activations ≡ count_after group.old.activations (Some i) }
+    ensures bounded { length out.new.items ≤ length input.now }
+    ensures keeps { (w : Option ℤ) (h : History) → BlocksArePoison w group.old
+        → IdleKeeps M.meaning M.idle_keeps idle.old.instance w (once_at once.old.items i) h
+        → ActiveKeeps M.meaning M.active_keeps idle.new.instance w (once_at once.new.items i) group.new (with_samples h input.now) }
+    ensures output { (w : Option ℤ) (h : History) → IsLawful M.meaning idle.old.instance w → BlocksArePoison w group.old
+        → IdleKeeps M.meaning M.idle_keeps idle.old.instance w (once_at once.old.items i) h
+        → all_outputs M.meaning idle.old.instance (with_samples h input.now)
+        ≡ all_outputs M.meaning idle.old.instance h ++ out.new.items }
+{
+    let mut shared = take_seen(once, i as usize);
+    wake_and_run_in(idle, &mut shared, group, i, input, out);
+    put_seen(once, i as usize, shared);
+}
+
+/// Activates the member of this number, where it stands, and gives it a block of samples, as [`wake_and_run_shelved`] does. The shelf of a filter,
+/// which has no write-once record, isn't looked at.
+fn wake_and_run_member<M: Ialg>(
+    idle: &mut Idle<M>,
+    once: &mut Vec<Shelf>,
+    i: u8,
+    group: &mut Group,
+    input: &[i16],
+    out: &mut Block,
+)
+    requires number { i < length once.old.items }
+    requires homes { HasHomes once.old.items i }
+    requires fits { Fits idle.old.instance.table idle.old.instance.own (once_at once.old.items i) group.old }
+    requires empty { out.old.items ≡ [] }
+    requires some { 1 ≤ length input.now }
+    requires within { length input.now ≤ BLOCK_SAMPLES }
+    ensures same { SameInstance idle.old.instance idle.new.instance }
+    ensures shelf { SameShelf idle.old.instance.table i once.old.items once.new.items }
+    ensures blocks { (space : Space) → IsSameBlock (block_in group.old space) (block_in group.new space) }
+    ensures active { group.new.active ≡ Some i }
+    ensures activations { group.new.activations ≡ count_after group.old.activations (Some i) }
+    ensures bounded { length out.new.items ≤ length input.now }
+    ensures keeps { (w : Option ℤ) (h : History) → BlocksArePoison w group.old
+        → IdleKeeps M.meaning M.idle_keeps idle.old.instance w (once_at once.old.items i) h
+        → ActiveKeeps M.meaning M.active_keeps idle.new.instance w (once_at once.new.items i) group.new (with_samples h input.now) }
+    ensures output { (w : Option ℤ) (h : History) → IsLawful M.meaning idle.old.instance w → BlocksArePoison w group.old
+        → IdleKeeps M.meaning M.idle_keeps idle.old.instance w (once_at once.old.items i) h
+        → all_outputs M.meaning idle.old.instance (with_samples h input.now)
+        ≡ all_outputs M.meaning idle.old.instance h ++ out.new.items }
+{
+    if is_filter(&idle.instance.table) {
+        let mut none = Pieces::none();
+        wake_and_run_in(idle, &mut none, group, i, input, out);
+        end_absent(none);
+    } else {
+        wake_and_run_shelved(idle, once, i, group, input, out);
+    }
+}
+
 /// Activates an idle instance, whose group `g` has no active member, and gives it a block of samples.
 fn wake_and_run<M: Ialg>(
     slots: &mut Vec<Option<Member<M>>>,
@@ -131,9 +275,7 @@ fn wake_and_run<M: Ialg>(
     match &mut slots[i as usize] {
         Some(member) => match &mut member.inst {
             Inst::Idling(idle) => {
-                let mut shared = take_seen(once, i as usize);
-                wake_and_run_in(idle, &mut shared, &mut groups[g as usize], i, input, out);
-                put_seen(once, i as usize, shared);
+                wake_and_run_member(idle, once, i, &mut groups[g as usize], input, out);
                 make_active(slots, i);
             }
             Inst::Running(_) => unreachable!(),

@@ -8,12 +8,15 @@ use mem_rec::MemTab;
 use record_loans::Pieces;
 use space_raw::Piece;
 
-/// An instance: its kind, its parameters, its table with bases, and the pieces of its persistent records.
+/// An instance: its kind, its table with bases, the pieces of its persistent records, and its parameters.
+///
+/// What a block of samples takes stands side by side, so that the caches of a small processor hold it for many instances. The parameters, which
+/// none of that needs, stand behind it.
 pub struct Instance<M> {
     pub kind: M,
-    pub params: Params,
     pub table: MemTab,
     pub own: Pieces,
+    pub params: Params,
 }
 
 /// An instance in either state.

@@ -16,22 +16,20 @@ with_same s (suc (suc zero)) x is = ap (λ (y : Stand). with_stand s 2 y) (sym i
 with_same s (suc (suc (suc zero))) x is = ap (λ (y : Stand). with_stand s 3 y) (sym is)
 with_same s (suc (suc (suc (suc k)))) x is = refl
 
--- at a home without a piece
-put_none : (once : List Shelf) (i k : ℕ) → HasHome once i k → piece_seen once i k ≡ None → put_piece once i k None ≡ once
-put_none once i k home none =
+-- the piece that stands at a record's home
+put_again : (once : List Shelf) (i k : ℕ) → HasHome once i k → put_piece once i k (piece_seen once i k) ≡ once
+put_again once i k home =
     let p = home.settled in
-    let here : stand_at (shelf_at once (home_of once i k)) k ≡ Here None = p.1 ∙ ap Here (sym (ap piece_here p.1) ∙ none) in
-    ap (set once (home_of once i k)) (with_same (shelf_at once (home_of once i k)) k (Here None) here) ∙ set-get_or once (home_of once i k) no_shelf
+    let here : stand_at (shelf_at once (home_of once i k)) k ≡ Here (piece_seen once i k) = p.1 ∙ ap Here (sym (ap piece_here p.1)) in
+    ap (set once (home_of once i k)) (with_same (shelf_at once (home_of once i k)) k (Here (piece_seen once i k)) here) ∙ set-get_or once (home_of once i k) no_shelf
+
+-- what an instance sees stands there
+pub seen_again : (once : List Shelf) (i : ℕ) → HasHomes once i → with_seen once i (once_at once i) ≡ once
+unfolding with_seen
+seen_again once i homes = rw (put_again once i 0 (homes 0), put_again once i 1 (homes 1), put_again once i 2 (homes 2), put_again once i 3 (homes 3)) refl
 
 pub seen_none : (once : List Shelf) (i : ℕ) → HasHomes once i → once_at once i ≡ no_pieces → with_seen once i no_pieces ≡ once
-unfolding with_seen
-seen_none once i homes none =
-    rw (
-      put_none once i 0 (homes 0) (ap (λ (o : Pieces). o.p0) none),
-      put_none once i 1 (homes 1) (ap (λ (o : Pieces). o.p1) none),
-      put_none once i 2 (homes 2) (ap (λ (o : Pieces). o.p2) none),
-      put_none once i 3 (homes 3) (ap (λ (o : Pieces). o.p3) none),
-    ) refl
+seen_none once i homes none = ap (with_seen once i) (sym none) ∙ seen_again once i homes
 
 -- an empty shelf
 nothing_at : (once : List Shelf) (i k : ℕ) → shelf_at once i ≡ no_shelf → stand_at no_shelf k ≡ Here None → piece_seen once i k ≡ None

@@ -11,7 +11,7 @@ mod tables;
 
 pub use holders::{hand_on, next_holder};
 pub use joining::{Twins, join};
-pub use shelves::{Shelf, Stand, home, put_seen, sees, take_seen};
+pub use shelves::{Shelf, Stand, end_absent, home, put_seen, sees, take_seen};
 pub use tables::{empty_once, end_once};
 
 /// Instances have the numbers below this.

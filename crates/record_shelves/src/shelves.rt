@@ -258,7 +258,7 @@ pub fn sees(once: &Vec<Shelf>, i: usize, k: usize) -> bool
 }
 
 /// Ends a table of no pieces.
-pub(crate) fn end_absent(pieces: Pieces)
+pub fn end_absent(pieces: Pieces)
     requires { pieces ≡ no_pieces }
 {
     let Pieces { p0, p1, p2, p3 } = pieces;

@@ -15,3 +15,4 @@ mod tests;
 pub use bases::{lends_at_the_layout, placed};
 pub use group::{Group, Need, Stat};
 pub use lasting::lend_lasting;
+pub use plan::is_filter;

@@ -2,7 +2,7 @@
 ghost use Rattle.std.specs.Prelude.{◌≡◌, ◌≤◌, ◌<◌, ◌+◌, ◌-◌, ◌*◌, ℕ, drop, take, length, MatchOption, IsTrue};
 ghost use Rattle.mem_rec.specs.Records.{is_table};
 ghost use Rattle.ialg.specs.Records.{record_at};
-ghost use Rattle.scratch_group.specs.Words.{scratch_end, scratch_offset};
+ghost use Rattle.scratch_group.specs.Words.{is_filter, scratch_end, scratch_offset};
 ghost use Rattle.scratch_group.specs.Plans.{cut_of, idle_cut_of, active_plan_of, idle_plan_of, IsOfFilter, IsOfNoFilter, IsWithinLimits};
 
 use ialg::FILTER_RECORDS;
@@ -163,6 +163,19 @@ pub(crate) fn idle_plan(table: &MemTab) -> Plan
         second: idle_cut(table, 2),
         third: idle_cut(table, 3),
     }
+}
+
+/// Whether the table is one of a filter: behind the object one persistent record, and one scratch record in `daram`. None of these is write-once.
+#[inline(always)]
+pub fn is_filter(table: &MemTab) -> bool
+    ensures exact { result ≡ is_filter table.now }
+    ensures table { IsTrue (is_table table.now) }
+{
+    // a table's records are valid, as its list of records says
+    let _records = table.records();
+    table.len() == FILTER_RECORDS
+        && record(table, 1).attr == Attr::Persist
+        && record(table, 2).is_scratch_of(Space::Daram)
 }
 
 /// The sizes of a filter's records, where the table is one of a filter: behind the object one persistent record, and one scratch record in
