@@ -42,12 +42,24 @@ fn give_out(block: &[i16], out: &mut Block)
     let _fits = out.try_extend_from_slice(block);
 }
 
+/// Empties a block. One sample needs no call that clears.
+#[inline(always)]
+fn empty(block: &mut Block)
+    ensures { block.new.items ≡ [] }
+{
+    if block.len() == 1 {
+        let _sample = block.pop();
+    } else {
+        block.clear();
+    }
+}
+
 /// Gives a member the block, unless that is empty: what the member gives takes the place of what `given` held.
 fn run<M: Ialg>(host: &mut Host<M>, member: u8, block: &[i16], given: &mut Block)
     requires within { length block.now ≤ BLOCK_SAMPLES }
     ensures { PassesThrough M.meaning M.idle_keeps M.active_keeps (member ∷ []) block.now given.new.items host.old host.new }
 {
-    given.clear();
+    empty(given);
     // Members live in every state that the channels keep, so the second is always so.
     if !block.is_empty() && host.living(member) {
         host.process(member, block, given);
@@ -74,7 +86,7 @@ fn pass_on<M: Ialg>(
     pass_on(host, *next, behind, to, from, out);
 }
 
-/// Passes a block through members in order: each takes what the one before it gave.
+/// Passes a block through members in order: each takes what the one before it gave. What the last gives takes the place of what `out` held.
 fn pass<M: Ialg>(
     host: &mut Host<M>,
     members: &[u8],
@@ -83,10 +95,10 @@ fn pass<M: Ialg>(
     out: &mut Block,
 )
     requires within { length block.now ≤ BLOCK_SAMPLES }
-    requires empty { out.old.items ≡ [] }
     ensures { PassesThrough M.meaning M.idle_keeps M.active_keeps members.now block.now out.new.items host.old host.new }
 {
     let Some((member, further)) = members.split_first() else {
+        empty(out);
         give_out(block, out);
         return;
     };
@@ -107,12 +119,11 @@ fn pass<M: Ialg>(
 
 impl<M: Ialg> Channels<M> {
     /// Gives a block of samples to a channel: it passes through the members in order, each taking what the one before it gave, and what
-    /// the last gave is pushed to `out`. Where a member gives nothing, those behind it are neither activated nor run.
+    /// the last gave takes the place of what `out` held. Where a member gives nothing, those behind it are neither activated nor run.
     pub fn feed(&mut self, c: u8, input: &[i16], out: &mut Block)
         requires ready { is_chained (members_at self.old.chained c) ≡ true }
         requires some { 1 ≤ length input.now }
         requires within { length input.now ≤ BLOCK_SAMPLES }
-        requires empty { out.old.items ≡ [] }
         ensures chained { self.new.chained ≡ self.old.chained }
         ensures machine { Serves M.meaning M.idle_keeps M.active_keeps (Feed c input.now out.new.items) self.old self.new }
     {

@@ -31,7 +31,6 @@ fn pass<M: Ialg>(
 {
     let block = &mut input[..usize::from(samples.number())];
     read_samples(width, octets, block);
-    given.clear();
     channels.feed(channel, block, given);
 }
 
