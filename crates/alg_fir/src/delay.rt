@@ -1,6 +1,6 @@
 //! The delay line of a filter: a ring of past samples in scratch words, and in the last of them the place of the next
 //! sample.
-ghost use Rattle.std.specs.Prelude.{◌≡◌, ◌≤◌, ◌+◌, ◌-◌, ◌*◌, ◌<◌, ℕ, ℤ, [], List, length, IsTrue};
+ghost use Rattle.std.specs.Prelude.{◌≡◌, ◌↔◌, ◌≤◌, ◌+◌, ◌-◌, ◌*◌, ◌<◌, ℕ, ℤ, [], List, length, IsTrue};
 ghost use Rattle.ialg.specs.History.{History, words_in_force};
 ghost use Rattle.fir_kernel.specs.Rings.{IsRing};
 ghost use Rattle.alg_fir.specs.Keeps.{AreOutputs, KeepsPast, KeepsRing, Ran};
@@ -85,7 +85,7 @@ fn is_straight(taps: usize, ring_words: usize, next: usize, samples: usize) -> b
     requires small { ring_words ≤ MOST_RING_WORDS }
     requires next { next < ring_words }
     requires within { samples ≤ BLOCK_SAMPLES }
-    ensures { IsTrue result → (taps ≤ next + 1) × (next + samples < ring_words)
+    ensures { IsTrue result ↔ (taps ≤ next + 1) × (next + samples < ring_words)
         × (next + samples + MOST_COEFFICIENTS ≤ ring_words + taps) }
 {
     taps <= next + 1
