@@ -22,6 +22,9 @@ use record_shelves::{Shelf, end_absent, put_seen, take_seen};
 use scratch_group::{Group, is_filter};
 
 /// Deactivates the active member of a group, where it stands. In a host of a poison word the blocks are filled with it.
+///
+/// It is inlined, so that where no record is lent off a shelf none of what would be lent is made.
+#[inline(always)]
 fn rest_in<M: Ialg>(
     active: &mut Active<M>,
     shared: &mut Pieces,

@@ -133,6 +133,9 @@ fn run<M: Ialg>(
 
 /// Activates the member of this number, where it stands, of a group that has no active member, and gives it a block of samples:
 /// its records are lent once for both.
+///
+/// It is inlined, so that where no record is lent off a shelf none of what would be lent is made.
+#[inline(always)]
 fn wake_and_run_in<M: Ialg>(
     idle: &mut Idle<M>,
     shared: &mut Pieces,
