@@ -44,6 +44,9 @@ pub(crate) fn refill(past: &[i16], ring: &mut [i16])
 
 /// Runs a filter over a block, which enters the ring, in which `next` is the place of the next sample. Where past samples and block don't
 /// stand there in a row, they are laid out in a line before.
+///
+/// It is inlined, and the lines aren't, so that a block of a sample needs neither a call nor room for a line.
+#[inline(always)]
 pub(crate) fn run_block(
     coefficients: &[i16],
     ring: &mut [i16],
@@ -108,6 +111,7 @@ fn make_room(samples: &[i16], out: &mut Block)
 }
 
 /// Runs a filter over a block as [`run_block`] does, in the ring itself.
+#[inline(always)]
 fn run_straight(
     coefficients: &[i16],
     ring: &mut [i16],
@@ -148,6 +152,7 @@ fn run_straight(
 }
 
 /// Runs a filter over a block as [`run_block`] does, in a line of `N` words, which are cleared first.
+#[inline(never)]
 fn run_line<const N: usize>(
     coefficients: &[i16],
     ring: &mut [i16],

@@ -85,7 +85,8 @@ fn dot_turned(coefficients: &[i16], window: &[i16]) -> i32
 }
 
 /// Runs the filter as [`filter`](crate::filter) does, where no sum can saturate over the samples up to `last`. There is
-/// no output for a later one.
+/// no output for a later one. It is a call of its own, so that one output needs no room for arrays.
+#[inline(never)]
 pub(crate) fn filter_bounded<const N: usize>(
     coefficients: &[i16],
     line: &[i16],

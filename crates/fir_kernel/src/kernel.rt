@@ -61,7 +61,8 @@ fn filter_within<const N: usize>(
     }
 }
 
-/// Runs the filter where a sum may saturate.
+/// Runs the filter where a sum may saturate. It is a call of its own, so that one output needs no room for arrays.
+#[inline(never)]
 fn filter_exact<const N: usize>(
     coefficients: &[i16],
     line: &[i16],
