@@ -23,6 +23,7 @@ pub struct Active<M> {
 
 impl<M: Ialg> Active<M> {
     /// Gives the instance a block of samples, and puts what they give into `out`.
+    #[inline(always)]
     pub fn run(&mut self, shared: &mut Pieces, group: &mut Group, input: &[i16], out: &mut Block)
         requires fits { Fits self.old.instance.table self.old.instance.own shared.old group.old }
         requires empty { out.old.items ≡ [] }
@@ -89,6 +90,7 @@ impl<M: Ialg> Active<M> {
     }
 
     /// Saves what has to last of the scratch records, which are lent to the instance no longer: [`idled`](Active::idled) has to follow.
+    #[inline(always)]
     pub fn deactivate(&mut self, shared: &mut Pieces, group: &mut Group)
         requires fits { Fits self.old.instance.table self.old.instance.own shared.old group.old }
         ensures same { SameInstance self.old.instance self.new.instance }

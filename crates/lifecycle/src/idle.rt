@@ -83,6 +83,7 @@ impl<M: Ialg> Idle<M> {
 
     /// Prepares the scratch records, as [`activate`](Idle::activate) does, gives the instance a block of samples, and puts what they
     /// give into `out`. The records are lent once for both. [`woken`](Idle::woken) has to follow.
+    #[inline(always)]
     pub fn activate_and_run(
         &mut self,
         shared: &mut Pieces,

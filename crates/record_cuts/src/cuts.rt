@@ -234,6 +234,7 @@ pub fn lend_cuts<O, S: Step<O>>(
 
 /// Performs the step with the records of a filter, which are cut out of the words of its own pieces, `w0` and `w1`, and of the block in
 /// `daram`, each from the start on.
+#[inline(always)]
 #[tactic(auto, using(crate::proofs::Parts::front_read))]
 pub fn lend_filter_cuts<O, S: Step<O>>(
     step: &S,

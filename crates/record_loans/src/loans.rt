@@ -106,6 +106,7 @@ pub fn lend_with_blocks<O, S: Step<O>>(
 
 /// Performs the step with the records of a filter, out of its own pieces and the block in `daram`. Most instances are filters, and theirs
 /// are the shortest steps: so their loans are three, and no other piece or block is looked at.
+#[inline(always)]
 pub fn lend_filter<O, S: Step<O>>(
     step: &S,
     table: &MemTab,

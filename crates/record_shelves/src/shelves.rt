@@ -257,7 +257,7 @@ pub fn sees(once: &Vec<Shelf>, i: usize, k: usize) -> bool
     }
 }
 
-/// Ends a table of no pieces.
+/// Ends a table of no pieces. It answers nothing and leaves nothing behind, so that there is no more to say.
 pub fn end_absent(pieces: Pieces)
     requires { pieces ≡ no_pieces }
 {

@@ -187,6 +187,7 @@ impl Group {
 
     /// Performs the step with the records of an active instance: its persistent records in its own pieces, its write-once records
     /// in those that are lent to it, for reading alone, and its scratch records at the layout's offsets of the blocks.
+    #[inline(always)]
     pub fn lend<O, S: Step<O>>(
         &mut self,
         step: &S,

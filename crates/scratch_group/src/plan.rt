@@ -180,6 +180,7 @@ pub fn is_filter(table: &MemTab) -> bool
 
 /// The sizes of a filter's records, where the table is one of a filter: behind the object one persistent record, and one scratch record in
 /// `daram`. None for every other table.
+#[inline(always)]
 pub(crate) fn filter_sizes(table: &MemTab) -> Option<FilterSizes>
     ensures sizes { MatchOption result (IsOfNoFilter table.now) (IsOfFilter table.now) }
     ensures table { IsTrue (is_table table.now) }
