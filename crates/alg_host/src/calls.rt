@@ -16,7 +16,7 @@ impl<M: Ialg> Host<M> {
         ensures value { result ≡ lives self.now i }
         ensures machine { Serves M.meaning M.idle_keeps M.active_keeps (Lives i result) self.now self.now }
     {
-        instance_table::lives(&self.slots, i)
+        self.tables.lives(i)
     }
 
     /// Gives instance `i` a control. It becomes the active member of its group, unless it is so already.
@@ -30,14 +30,7 @@ impl<M: Ialg> Host<M> {
         ensures machine { Serves M.meaning M.idle_keeps M.active_keeps (Control i (control_of c.now) (told result)) self.old self.new }
     {
         places_stay::<M>();
-        give_control(
-            &mut self.slots,
-            &mut self.once,
-            &mut self.groups,
-            self.poison,
-            i,
-            c,
-        )
+        give_control(&mut self.tables, self.poison, i, c)
     }
 
     /// Gives instance `i` a block of samples, and pushes what it gives out, no more samples than it got. It becomes the active member of
@@ -50,14 +43,6 @@ impl<M: Ialg> Host<M> {
         ensures machine { Serves M.meaning M.idle_keeps M.active_keeps (Process i input.now out.new.items) self.old self.new }
     {
         places_stay::<M>();
-        give_block(
-            &mut self.slots,
-            &mut self.once,
-            &mut self.groups,
-            self.poison,
-            i,
-            input,
-            out,
-        );
+        give_block(&mut self.tables, self.poison, i, input, out);
     }
 }

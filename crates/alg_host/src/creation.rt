@@ -20,9 +20,7 @@ impl<M: Ialg> Host<M> {
         ensures machine { Serves M.meaning M.idle_keeps M.active_keeps (Create i kind group p.now.items result) self.old self.new }
     {
         kept_creation::create(
-            &mut self.slots,
-            &mut self.once,
-            &mut self.groups,
+            &mut self.tables,
             &mut self.spaces,
             self.poison,
             i,

@@ -21,13 +21,7 @@ impl<M: Ialg> Host<M> {
         ensures machine { Serves M.meaning M.idle_keeps M.active_keeps (Release group result) self.old self.new }
     {
         places_stay::<M>();
-        put_to_rest(
-            &mut self.slots,
-            &mut self.once,
-            &mut self.groups,
-            self.poison,
-            group,
-        )
+        put_to_rest(&mut self.tables, self.poison, group)
     }
 
     /// The active member of the group and its count of activations.
@@ -41,7 +35,8 @@ impl<M: Ialg> Host<M> {
         if group >= GROUPS {
             return Err(Refusal::Range);
         }
-        let group = &self.groups[group as usize];
+        let tables = &self.tables;
+        let group = &tables.groups[group as usize];
         Ok(Stat {
             active: group.active(),
             activations: group.activations(),

@@ -8,18 +8,13 @@ use crate::memory::{HostMemory, Tables};
 use host_spaces::{Sizes, Spaces, StartError};
 use ialg::Ialg;
 use instance_life::in_order;
-use instance_table::Member;
 use placed_instances::nobody_stands;
-use record_shelves::Shelf;
-use scratch_group::Group;
 use std::alloc::Global;
 use std::marker::Model;
 
 /// A host of instances of the kinds `M`. It can't be copied, and must be given back by [`close`](Host::close).
 pub struct Host<M> {
-    pub(crate) slots: Vec<Option<Member<M>>>,
-    pub(crate) once: Vec<Shelf>,
-    pub(crate) groups: Vec<Group>,
+    pub(crate) tables: instance_table::Tables<M>,
     pub(crate) spaces: Spaces,
     pub(crate) poison: Option<i16>,
 }
@@ -29,9 +24,9 @@ impl<M> Model for Host<M> {
 
     ghost Value = { HostState M };
 
-    ghost view = { λ h. record { slots = h.slots.items; once = h.once.items; groups = h.groups.items; spaces = h.spaces; poison = h.poison } };
+    ghost view = { λ h. record { slots = h.tables.slots; once = h.tables.once; groups = h.tables.groups; spaces = h.spaces; poison = h.poison } };
 
-    ghost invariant = { λ h. IsHost (record { slots = h.slots.items; once = h.once.items; groups = h.groups.items; spaces = h.spaces; poison = h.poison }) };
+    ghost invariant = { λ h. IsHost (record { slots = h.tables.slots; once = h.tables.once; groups = h.tables.groups; spaces = h.spaces; poison = h.poison }) };
 }
 
 impl<M: Ialg> Host<M> {
@@ -57,10 +52,13 @@ impl<M: Ialg> Host<M> {
         let spaces = Spaces::of(spaces);
         in_order(&slots, &once, &groups);
         nobody_stands::<M>();
-        Ok(Host {
+        let tables = instance_table::Tables {
             slots,
             once,
             groups,
+        };
+        Ok(Host {
+            tables,
             spaces,
             poison,
         })

@@ -15,26 +15,14 @@ impl<M: Ialg> Host<M> {
     pub fn step(&mut self, space: Space) -> bool
         ensures machine { Serves M.meaning M.idle_keeps M.active_keeps (Step space result) self.old self.new }
     {
-        kept_moves::step(
-            &mut self.slots,
-            &mut self.once,
-            &mut self.groups,
-            &mut self.spaces,
-            space,
-        )
+        kept_moves::step(&mut self.tables, &mut self.spaces, space)
     }
 
     /// Steps until no block of the space moves, and says how many blocks moved; each moves once.
     pub fn compact(&mut self, space: Space) -> u32
         ensures machine { Serves M.meaning M.idle_keeps M.active_keeps (Compact space result) self.old self.new }
     {
-        kept_moves::compact(
-            &mut self.slots,
-            &mut self.once,
-            &mut self.groups,
-            &mut self.spaces,
-            space,
-        )
+        kept_moves::compact(&mut self.tables, &mut self.spaces, space)
     }
 
     /// The blocks of the space in place order: whose each is, where it stands, its size and its alignment in words.

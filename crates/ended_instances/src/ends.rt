@@ -8,30 +8,26 @@ use crate::leaving::{give_blocks, give_records};
 use crate::members::{group_number, members_left};
 use host_spaces::Spaces;
 use ialg::Ialg;
-use instance_table::Member;
-use record_shelves::Shelf;
-use scratch_group::Group;
+use instance_table::Tables;
 
 /// Ends an instance. Its records are given back, and its group's blocks where no other member is left. An active one is deactivated
 /// first, and the blocks are filled with the poison word, if there is one.
 pub fn end_instance<M: Ialg>(
-    slots: &mut Vec<Option<Member<M>>>,
-    once: &mut Vec<Shelf>,
-    groups: &mut Vec<Group>,
+    tables: &mut Tables<M>,
     spaces: &mut Spaces,
     poison: Option<i16>,
     i: u8,
 )
-    requires living { IsSome (slot_at slots.old.items i) }
-    requires ok { TablesOk slots.old.items once.old.items groups.old.items }
-    requires standing { AreStanding slots.old.items once.old.items groups.old.items spaces.old }
-    requires poisoned { ArePoisoned poison groups.old.items }
-    ensures { HasEnded M.meaning M.idle_keeps M.active_keeps poison i slots.old.items once.old.items groups.old.items spaces.old
-        slots.new.items once.new.items groups.new.items spaces.new }
+    requires living { IsSome (slot_at tables.old.slots i) }
+    requires ok { TablesOk tables.old.slots tables.old.once tables.old.groups }
+    requires standing { AreStanding tables.old.slots tables.old.once tables.old.groups spaces.old }
+    requires poisoned { ArePoisoned poison tables.old.groups }
+    ensures { HasEnded M.meaning M.idle_keeps M.active_keeps poison i tables.old.slots tables.old.once tables.old.groups spaces.old
+        tables.new.slots tables.new.once tables.new.groups spaces.new }
 {
-    let g = group_number(slots, i);
-    give_records(slots, once, groups, spaces, poison, i);
-    if !members_left(slots, g) {
-        give_blocks(slots, once, groups, spaces, g);
+    let g = group_number(&tables.slots, i);
+    give_records(tables, spaces, poison, i);
+    if !members_left(&tables.slots, g) {
+        give_blocks(&tables.slots, &tables.once, &mut tables.groups, spaces, g);
     }
 }

@@ -22,7 +22,7 @@ use crate::members::table_copied;
 use host_spaces::{OldBlocks, Spaces, Twins};
 use ialg::Ialg;
 use instance_life::end;
-use instance_table::Member;
+use instance_table::{Member, Tables};
 use mem_rec::Space;
 use record_shelves::{Shelf, next_holder};
 use scratch_group::Group;
@@ -45,32 +45,30 @@ fn next_holders(once: &Vec<Shelf>, i: u8) -> Twins
 
 /// Ends an instance, and gives back its records that no other instance holds. The others are their next holders' from then on.
 pub(crate) fn give_records<M: Ialg>(
-    slots: &mut Vec<Option<Member<M>>>,
-    once: &mut Vec<Shelf>,
-    groups: &mut Vec<Group>,
+    tables: &mut Tables<M>,
     spaces: &mut Spaces,
     poison: Option<i16>,
     i: u8,
 )
-    requires living { IsSome (slot_at slots.old.items i) }
-    requires ok { TablesOk slots.old.items once.old.items groups.old.items }
-    requires standing { AreStanding slots.old.items once.old.items groups.old.items spaces.old }
-    requires poisoned { ArePoisoned poison groups.old.items }
-    ensures ok { TablesOk slots.new.items once.new.items groups.new.items }
-    ensures standing { AreStandingBut (group_of (slot_at slots.old.items i)) slots.new.items once.new.items groups.new.items spaces.new }
-    ensures poisoned { ArePoisoned poison groups.new.items }
-    ensures gone { slot_at slots.new.items i ≡ None }
-    ensures others { (j : ℕ) → j ≢ i → SlotIsSame (slot_at slots.old.items j) (slot_at slots.new.items j) }
-    ensures activity { (k : ℕ) → activity_at groups.new.items k ≡ quieted_by slots.old.items groups.old.items i k }
+    requires living { IsSome (slot_at tables.old.slots i) }
+    requires ok { TablesOk tables.old.slots tables.old.once tables.old.groups }
+    requires standing { AreStanding tables.old.slots tables.old.once tables.old.groups spaces.old }
+    requires poisoned { ArePoisoned poison tables.old.groups }
+    ensures ok { TablesOk tables.new.slots tables.new.once tables.new.groups }
+    ensures standing { AreStandingBut (group_of (slot_at tables.old.slots i)) tables.new.slots tables.new.once tables.new.groups spaces.new }
+    ensures poisoned { ArePoisoned poison tables.new.groups }
+    ensures gone { slot_at tables.new.slots i ≡ None }
+    ensures others { (j : ℕ) → j ≢ i → SlotIsSame (slot_at tables.old.slots j) (slot_at tables.new.slots j) }
+    ensures activity { (k : ℕ) → activity_at tables.new.groups k ≡ quieted_by tables.old.slots tables.old.groups i k }
     ensures picture { picture_of spaces.new ≡ without_owners (is_instance's i)
-        (renamed (handed_on (twins_among M.meaning.same slots.new.items (asked_by (slot_at slots.old.items i))) i) (picture_of spaces.old)) }
+        (renamed (handed_on (twins_among M.meaning.same tables.new.slots (asked_by (slot_at tables.old.slots i))) i) (picture_of spaces.old)) }
     ensures spaces { AreSameSpaces spaces.old spaces.new }
-    ensures keeps { (histories : ℕ → History) → Keeps M.meaning M.idle_keeps M.active_keeps poison slots.old.items once.old.items groups.old.items histories
-        → Keeps M.meaning M.idle_keeps M.active_keeps poison slots.new.items once.new.items groups.new.items histories }
+    ensures keeps { (histories : ℕ → History) → Keeps M.meaning M.idle_keeps M.active_keeps poison tables.old.slots tables.old.once tables.old.groups histories
+        → Keeps M.meaning M.idle_keeps M.active_keeps poison tables.new.slots tables.new.once tables.new.groups histories }
 {
-    let table = table_copied(slots, i);
-    let next = next_holders(once, i);
-    let (own, shared) = end(slots, once, groups, poison, i);
+    let table = table_copied(&tables.slots, i);
+    let next = next_holders(&tables.once, i);
+    let (own, shared) = end(tables, poison, i);
     spaces.hand_on(i, &next);
     spaces.take_out_records(i, &table, own, shared);
 }

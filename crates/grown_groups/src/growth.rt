@@ -24,9 +24,8 @@ use crate::blocks::{put_new_blocks, replaces_any};
 use host_spaces::{NewBlocks, Spaces};
 use ialg::Ialg;
 use instance_life::tell_members;
-use instance_table::{Member, rest};
+use instance_table::Tables;
 use placed_instances::in_order;
-use record_shelves::Shelf;
 use scratch_group::Group;
 
 /// Whether a new block stands in place of an old one of the group.
@@ -38,87 +37,72 @@ fn replaces_in(groups: &Vec<Group>, g: u8, blocks: &NewBlocks) -> bool
 }
 
 /// Deactivates the active member of the group, if there is one, where a block is replaced.
-fn rest_where<M: Ialg>(
-    slots: &mut Vec<Option<Member<M>>>,
-    once: &mut Vec<Shelf>,
-    groups: &mut Vec<Group>,
-    poison: Option<i16>,
-    g: u8,
-    replaced: bool,
-)
+fn rest_where<M: Ialg>(tables: &mut Tables<M>, poison: Option<i16>, g: u8, replaced: bool)
     requires range { g < GROUPS }
-    requires ok { TablesOk slots.old.items once.old.items groups.old.items }
-    requires poisoned { ArePoisoned poison groups.old.items }
-    ensures ok { TablesOk slots.new.items once.new.items groups.new.items }
-    ensures poisoned { ArePoisoned poison groups.new.items }
-    ensures idle { replaced ≡ true → (group_at groups.new.items g).active ≡ None }
-    ensures same { SameMembers slots.old.items once.old.items groups.old.items slots.new.items once.new.items groups.new.items }
-    ensures activity { (k : ℕ) → activity_at groups.new.items k ≡ activity_grown replaced groups.old.items g k }
-    ensures keeps { (histories : ℕ → History) → Keeps M.meaning M.idle_keeps M.active_keeps poison slots.old.items once.old.items groups.old.items histories
-        → Keeps M.meaning M.idle_keeps M.active_keeps poison slots.new.items once.new.items groups.new.items histories }
+    requires ok { TablesOk tables.old.slots tables.old.once tables.old.groups }
+    requires poisoned { ArePoisoned poison tables.old.groups }
+    ensures ok { TablesOk tables.new.slots tables.new.once tables.new.groups }
+    ensures poisoned { ArePoisoned poison tables.new.groups }
+    ensures idle { replaced ≡ true → (group_at tables.new.groups g).active ≡ None }
+    ensures same { SameMembers tables.old.slots tables.old.once tables.old.groups tables.new.slots tables.new.once tables.new.groups }
+    ensures activity { (k : ℕ) → activity_at tables.new.groups k ≡ activity_grown replaced tables.old.groups g k }
+    ensures keeps { (histories : ℕ → History) → Keeps M.meaning M.idle_keeps M.active_keeps poison tables.old.slots tables.old.once tables.old.groups histories
+        → Keeps M.meaning M.idle_keeps M.active_keeps poison tables.new.slots tables.new.once tables.new.groups histories }
 {
     if replaced {
-        let _was_active = rest(slots, once, groups, poison, g);
+        let _was_active = tables.deactivate_in(poison, g);
     }
 }
 
 /// Tells each member of the group where its records lie now, where a block was replaced.
-fn tell_where<M: Ialg>(
-    slots: &mut Vec<Option<Member<M>>>,
-    once: &mut Vec<Shelf>,
-    groups: &mut Vec<Group>,
-    g: u8,
-    replaced: bool,
-)
+fn tell_where<M: Ialg>(tables: &mut Tables<M>, g: u8, replaced: bool)
     requires range { g < GROUPS }
-    requires told { replaced ≡ true → TablesTold g 0 slots.old.items once.old.items groups.old.items }
-    requires ok { replaced ≡ false → TablesOk slots.old.items once.old.items groups.old.items }
-    ensures ok { TablesOk slots.new.items once.new.items groups.new.items }
-    ensures poisoned { (w : Option ℤ) → ArePoisoned w groups.old.items → ArePoisoned w groups.new.items }
-    ensures same { SameMembers slots.old.items once.old.items groups.old.items slots.new.items once.new.items groups.new.items }
-    ensures activity { (k : ℕ) → activity_at groups.new.items k ≡ activity_at groups.old.items k }
-    ensures keeps { (w : Option ℤ) (histories : ℕ → History) → Keeps M.meaning M.idle_keeps M.active_keeps w slots.old.items once.old.items groups.old.items histories
-        → Keeps M.meaning M.idle_keeps M.active_keeps w slots.new.items once.new.items groups.new.items histories }
+    requires told { replaced ≡ true → TablesTold g 0 tables.old.slots tables.old.once tables.old.groups }
+    requires ok { replaced ≡ false → TablesOk tables.old.slots tables.old.once tables.old.groups }
+    ensures ok { TablesOk tables.new.slots tables.new.once tables.new.groups }
+    ensures poisoned { (w : Option ℤ) → ArePoisoned w tables.old.groups → ArePoisoned w tables.new.groups }
+    ensures same { SameMembers tables.old.slots tables.old.once tables.old.groups tables.new.slots tables.new.once tables.new.groups }
+    ensures activity { (k : ℕ) → activity_at tables.new.groups k ≡ activity_at tables.old.groups k }
+    ensures keeps { (w : Option ℤ) (histories : ℕ → History) → Keeps M.meaning M.idle_keeps M.active_keeps w tables.old.slots tables.old.once tables.old.groups histories
+        → Keeps M.meaning M.idle_keeps M.active_keeps w tables.new.slots tables.new.once tables.new.groups histories }
 {
     if replaced {
-        tell_members(slots, once, groups, g);
+        tell_members(&mut tables.slots, &mut tables.once, &mut tables.groups, g);
     }
 }
 
 /// The group has these new blocks from now on, which were placed while its old ones stand. Where one is replaced the active member of
 /// the group is deactivated first, the old block goes back, and then each member, in ascending number, is told where its records lie.
 pub fn grow<M: Ialg>(
-    slots: &mut Vec<Option<Member<M>>>,
-    once: &mut Vec<Shelf>,
-    groups: &mut Vec<Group>,
+    tables: &mut Tables<M>,
     spaces: &mut Spaces,
     poison: Option<i16>,
     g: u8,
     blocks: NewBlocks,
 )
     requires range { g < GROUPS }
-    requires ok { TablesOk slots.old.items once.old.items groups.old.items }
-    requires poisoned { ArePoisoned poison groups.old.items }
-    requires placed { ArePlaced g blocks slots.old.items once.old.items groups.old.items spaces.old }
+    requires ok { TablesOk tables.old.slots tables.old.once tables.old.groups }
+    requires poisoned { ArePoisoned poison tables.old.groups }
+    requires placed { ArePlaced g blocks tables.old.slots tables.old.once tables.old.groups spaces.old }
     requires words { (space : Space) → ArePoison poison (block_words (new_block blocks space)) }
-    ensures ok { TablesOk slots.new.items once.new.items groups.new.items }
-    ensures poisoned { ArePoisoned poison groups.new.items }
-    ensures grown { AreGrown g slots.new.items once.new.items groups.new.items spaces.new }
-    ensures need { (rs : List MemRec) → ((space : Space) → IsNeeded (space_in spaces.old space).region (block_need rs (group_at groups.old.items g) space) (new_block blocks space))
-        → NoNeed rs (group_at groups.new.items g) }
-    ensures same { SameInstances slots.old.items slots.new.items }
-    ensures activity { (k : ℕ) → activity_at groups.new.items k ≡ activity_grown (replaced_in blocks (group_at groups.old.items g)) groups.old.items g k }
-    ensures picture { picture_of spaces.new ≡ without_pieces (picture_of spaces.old) (replaced_pieces blocks (group_at groups.old.items g)) }
+    ensures ok { TablesOk tables.new.slots tables.new.once tables.new.groups }
+    ensures poisoned { ArePoisoned poison tables.new.groups }
+    ensures grown { AreGrown g tables.new.slots tables.new.once tables.new.groups spaces.new }
+    ensures need { (rs : List MemRec) → ((space : Space) → IsNeeded (space_in spaces.old space).region (block_need rs (group_at tables.old.groups g) space) (new_block blocks space))
+        → NoNeed rs (group_at tables.new.groups g) }
+    ensures same { SameInstances tables.old.slots tables.new.slots }
+    ensures activity { (k : ℕ) → activity_at tables.new.groups k ≡ activity_grown (replaced_in blocks (group_at tables.old.groups g)) tables.old.groups g k }
+    ensures picture { picture_of spaces.new ≡ without_pieces (picture_of spaces.old) (replaced_pieces blocks (group_at tables.old.groups g)) }
     ensures others { (o : Owner) (space : Space) → o ≢ Scratch g → owned o (blocks_in (picture_of spaces.new) space) ≡ owned o (blocks_in (picture_of spaces.old) space) }
     ensures stays { AreSameSpaces spaces.old spaces.new }
-    ensures keeps { (histories : ℕ → History) → Keeps M.meaning M.idle_keeps M.active_keeps poison slots.old.items once.old.items groups.old.items histories
-        → Keeps M.meaning M.idle_keeps M.active_keeps poison slots.new.items once.new.items groups.new.items histories }
+    ensures keeps { (histories : ℕ → History) → Keeps M.meaning M.idle_keeps M.active_keeps poison tables.old.slots tables.old.once tables.old.groups histories
+        → Keeps M.meaning M.idle_keeps M.active_keeps poison tables.new.slots tables.new.once tables.new.groups histories }
 {
-    let replaced = replaces_in(groups, g, &blocks);
-    rest_where(slots, once, groups, poison, g, replaced);
+    let replaced = replaces_in(&tables.groups, g, &blocks);
+    rest_where(tables, poison, g, replaced);
     in_order(spaces);
-    let old = put_new_blocks(groups, g, blocks);
+    let old = put_new_blocks(&mut tables.groups, g, blocks);
     spaces.take_out_blocks(g, old);
     in_order(spaces);
-    tell_where(slots, once, groups, g, replaced);
+    tell_where(tables, g, replaced);
 }

@@ -11,10 +11,9 @@ ghost use Rattle.kept_moves.specs.Hosts.{HostKeeps};
 
 use host_spaces::Spaces;
 use ialg::{Ialg, Params, Refusal, copied};
-use instance_table::{GROUPS, Member, lives};
+use instance_table::{GROUPS, Tables};
 use mem_rec::MemTab;
-use record_shelves::{INSTANCES, Shelf};
-use scratch_group::Group;
+use record_shelves::INSTANCES;
 use sound_machine::creations_answer_in_order;
 use started_instances::start_in_spaces;
 
@@ -36,9 +35,7 @@ fn asked_for<M: Ialg>(kind: M, p: &Params) -> Option<MemTab>
 /// asked for its memory first, also where a number is refused then: only its answer says what it may ask for. All places are found before
 /// any instance is called, and the new one is called last.
 pub fn create<M: Ialg>(
-    slots: &mut Vec<Option<Member<M>>>,
-    once: &mut Vec<Shelf>,
-    groups: &mut Vec<Group>,
+    tables: &mut Tables<M>,
     spaces: &mut Spaces,
     poison: Option<i16>,
     i: u8,
@@ -46,33 +43,31 @@ pub fn create<M: Ialg>(
     group: u8,
     p: &Params,
 ) -> Result<(), Refusal>
-    requires ok { TablesOk slots.old.items once.old.items groups.old.items }
-    requires standing { AreStanding slots.old.items once.old.items groups.old.items spaces.old }
-    requires poisoned { ArePoisoned poison groups.old.items }
-    ensures ok { TablesOk slots.new.items once.new.items groups.new.items }
-    ensures standing { AreStanding slots.new.items once.new.items groups.new.items spaces.new }
-    ensures poisoned { ArePoisoned poison groups.new.items }
-    ensures refused { OnErr result ((slots.new ≡ slots.old) × (once.new ≡ once.old) × (groups.new ≡ groups.old) × (spaces.new ≡ spaces.old)) }
+    requires ok { TablesOk tables.old.slots tables.old.once tables.old.groups }
+    requires standing { AreStanding tables.old.slots tables.old.once tables.old.groups spaces.old }
+    requires poisoned { ArePoisoned poison tables.old.groups }
+    ensures ok { TablesOk tables.new.slots tables.new.once tables.new.groups }
+    ensures standing { AreStanding tables.new.slots tables.new.once tables.new.groups spaces.new }
+    ensures poisoned { ArePoisoned poison tables.new.groups }
+    ensures refused { OnErr result ((tables.new ≡ tables.old) × (spaces.new ≡ spaces.old)) }
     ensures machine { (before : State M) → before.poison ≡ poison
-        → HostKeeps M.meaning M.idle_keeps M.active_keeps slots.old.items once.old.items groups.old.items spaces.old before
+        → HostKeeps M.meaning M.idle_keeps M.active_keeps tables.old.slots tables.old.once tables.old.groups spaces.old before
         → (after : State M) × Does M.meaning before (Create i kind group p.now.items result) after
-        × HostKeeps M.meaning M.idle_keeps M.active_keeps slots.new.items once.new.items groups.new.items spaces.new after }
+        × HostKeeps M.meaning M.idle_keeps M.active_keeps tables.new.slots tables.new.once tables.new.groups spaces.new after }
 {
     creations_answer_in_order::<M>();
     let asked = asked_for(kind, p);
     if usize::from(i) >= INSTANCES || group >= GROUPS {
         return Err(Refusal::Range);
     }
-    if lives(slots, i) {
+    if tables.lives(i) {
         return Err(Refusal::Taken);
     }
     let Some(table) = asked else {
         return Err(Refusal::Params);
     };
     let params = copied(p.as_slice());
-    match start_in_spaces(
-        slots, once, groups, spaces, poison, i, group, kind, params, table,
-    ) {
+    match start_in_spaces(tables, spaces, poison, i, group, kind, params, table) {
         Ok(()) => Ok(()),
         Err(space) => Err(Refusal::Room(space)),
     }

@@ -10,31 +10,24 @@ ghost use Rattle.kept_moves.specs.Hosts.{HostKeeps};
 use crate::deletions::delete;
 use host_spaces::Spaces;
 use ialg::Ialg;
-use instance_table::Member;
-use record_shelves::{INSTANCES, Shelf};
-use scratch_group::Group;
+use instance_table::Tables;
+use record_shelves::INSTANCES;
 
 /// Deletes all instances, in ascending number, as the machine does. No block is left in the spaces.
-pub fn delete_all<M: Ialg>(
-    slots: &mut Vec<Option<Member<M>>>,
-    once: &mut Vec<Shelf>,
-    groups: &mut Vec<Group>,
-    spaces: &mut Spaces,
-    poison: Option<i16>,
-)
-    requires ok { TablesOk slots.old.items once.old.items groups.old.items }
-    requires standing { AreStanding slots.old.items once.old.items groups.old.items spaces.old }
-    requires poisoned { ArePoisoned poison groups.old.items }
-    ensures ok { TablesOk slots.new.items once.new.items groups.new.items }
-    ensures standing { AreStanding slots.new.items once.new.items groups.new.items spaces.new }
-    ensures poisoned { ArePoisoned poison groups.new.items }
-    ensures none { (i : ℕ) → slot_at slots.new.items i ≡ None }
+pub fn delete_all<M: Ialg>(tables: &mut Tables<M>, spaces: &mut Spaces, poison: Option<i16>)
+    requires ok { TablesOk tables.old.slots tables.old.once tables.old.groups }
+    requires standing { AreStanding tables.old.slots tables.old.once tables.old.groups spaces.old }
+    requires poisoned { ArePoisoned poison tables.old.groups }
+    ensures ok { TablesOk tables.new.slots tables.new.once tables.new.groups }
+    ensures standing { AreStanding tables.new.slots tables.new.once tables.new.groups spaces.new }
+    ensures poisoned { ArePoisoned poison tables.new.groups }
+    ensures none { (i : ℕ) → slot_at tables.new.slots i ≡ None }
     ensures empty { picture_of spaces.new ≡ empty_picture }
     ensures machine { (before : State M) → before.poison ≡ poison
-        → HostKeeps M.meaning M.idle_keeps M.active_keeps slots.old.items once.old.items groups.old.items spaces.old before
-        → HostKeeps M.meaning M.idle_keeps M.active_keeps slots.new.items once.new.items groups.new.items spaces.new (closed M.meaning before) }
+        → HostKeeps M.meaning M.idle_keeps M.active_keeps tables.old.slots tables.old.once tables.old.groups spaces.old before
+        → HostKeeps M.meaning M.idle_keeps M.active_keeps tables.new.slots tables.new.once tables.new.groups spaces.new (closed M.meaning before) }
 {
     for i in 0..INSTANCES as u8 {
-        let _answer = delete(slots, once, groups, spaces, poison, i);
+        let _answer = delete(tables, spaces, poison, i);
     }
 }

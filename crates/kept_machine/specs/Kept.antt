@@ -13,6 +13,8 @@ use Rattle.instance_table.specs.declared.member.Member.{Member}
 use Rattle.record_shelves.specs.declared.shelves.Shelf.{Shelf}
 use Rattle.instance_table.specs.Table.{slot_at, instance_of, activity_at}
 use Rattle.instance_table.specs.Keeps.{Keeps}
+use Rattle.instance_table.specs.View.{View}
+use Rattle.instance_table.specs.Steps.{Laws}
 use Rattle.sound_machine.specs.State.{Living, State}
 
 -- the member is this instance
@@ -40,6 +42,10 @@ pub record TablesKeep {M : Type 0} (meaning : Meaning M) (idle_keeps active_keep
   pub living : (i : ℕ) → IsLiving (slot_at slots i) (state.living i)
   pub activity : (g : ℕ) → activity_at groups g ≡ state.activity g
   pub histories : Keeps meaning idle_keeps active_keeps state.poison slots once groups (λ i. history_of (state.living i))
+
+-- the same, of all that the tables hold
+abbrev pub KeepsState : {M : Type 0} → Laws M → View M → State M → Type 0
+KeepsState laws t state = TablesKeep laws.meaning laws.idle_keeps laws.active_keeps t.slots t.once t.groups state
 
 -- what a control is answered, as plain values
 abbrev pub told : Result Status Refusal → Result meaning.Status Refusal

@@ -11,53 +11,39 @@ ghost use Rattle.kept_moves.specs.Hosts.{HostKeeps};
 
 use host_spaces::Spaces;
 use ialg::Ialg;
-use instance_table::Member;
+use instance_table::Tables;
 use mem_rec::Space;
 use placed_instances::{in_order, make_next_move};
-use record_shelves::Shelf;
-use scratch_group::Group;
 
 /// Moves the first block of the space that isn't at its packed place there, as the machine does, and says whether a block moved.
-pub fn step<M: Ialg>(
-    slots: &mut Vec<Option<Member<M>>>,
-    once: &mut Vec<Shelf>,
-    groups: &mut Vec<Group>,
-    spaces: &mut Spaces,
-    space: Space,
-) -> bool
-    requires ok { TablesOk slots.old.items once.old.items groups.old.items }
-    requires standing { AreStanding slots.old.items once.old.items groups.old.items spaces.old }
-    ensures ok { TablesOk slots.new.items once.new.items groups.new.items }
-    ensures standing { AreStanding slots.new.items once.new.items groups.new.items spaces.new }
-    ensures poisoned { (w : Option ℤ) → ArePoisoned w groups.old.items → ArePoisoned w groups.new.items }
+pub fn step<M: Ialg>(tables: &mut Tables<M>, spaces: &mut Spaces, space: Space) -> bool
+    requires ok { TablesOk tables.old.slots tables.old.once tables.old.groups }
+    requires standing { AreStanding tables.old.slots tables.old.once tables.old.groups spaces.old }
+    ensures ok { TablesOk tables.new.slots tables.new.once tables.new.groups }
+    ensures standing { AreStanding tables.new.slots tables.new.once tables.new.groups spaces.new }
+    ensures poisoned { (w : Option ℤ) → ArePoisoned w tables.old.groups → ArePoisoned w tables.new.groups }
     ensures fewer { result ≡ true → unpacked_count (spots_of (blocks_in (picture_of spaces.new) space)) + 1 ≡ unpacked_count (spots_of (blocks_in (picture_of spaces.old) space)) }
-    ensures machine { (before : State M) → HostKeeps M.meaning M.idle_keeps M.active_keeps slots.old.items once.old.items groups.old.items spaces.old before
+    ensures machine { (before : State M) → HostKeeps M.meaning M.idle_keeps M.active_keeps tables.old.slots tables.old.once tables.old.groups spaces.old before
         → ((result, (steps.step before space).1) ≡ steps.step before space)
-        × HostKeeps M.meaning M.idle_keeps M.active_keeps slots.new.items once.new.items groups.new.items spaces.new (steps.step before space).1 }
+        × HostKeeps M.meaning M.idle_keeps M.active_keeps tables.new.slots tables.new.once tables.new.groups spaces.new (steps.step before space).1 }
 {
-    make_next_move(slots, once, groups, spaces, space)
+    make_next_move(tables, spaces, space)
 }
 
 /// Makes next moves of the space until all its blocks are packed, as the machine does, and says how many blocks moved: each moves once.
-pub fn compact<M: Ialg>(
-    slots: &mut Vec<Option<Member<M>>>,
-    once: &mut Vec<Shelf>,
-    groups: &mut Vec<Group>,
-    spaces: &mut Spaces,
-    space: Space,
-) -> u32
-    requires ok { TablesOk slots.old.items once.old.items groups.old.items }
-    requires standing { AreStanding slots.old.items once.old.items groups.old.items spaces.old }
-    ensures ok { TablesOk slots.new.items once.new.items groups.new.items }
-    ensures standing { AreStanding slots.new.items once.new.items groups.new.items spaces.new }
-    ensures poisoned { (w : Option ℤ) → ArePoisoned w groups.old.items → ArePoisoned w groups.new.items }
-    ensures machine { (before : State M) → HostKeeps M.meaning M.idle_keeps M.active_keeps slots.old.items once.old.items groups.old.items spaces.old before
+pub fn compact<M: Ialg>(tables: &mut Tables<M>, spaces: &mut Spaces, space: Space) -> u32
+    requires ok { TablesOk tables.old.slots tables.old.once tables.old.groups }
+    requires standing { AreStanding tables.old.slots tables.old.once tables.old.groups spaces.old }
+    ensures ok { TablesOk tables.new.slots tables.new.once tables.new.groups }
+    ensures standing { AreStanding tables.new.slots tables.new.once tables.new.groups spaces.new }
+    ensures poisoned { (w : Option ℤ) → ArePoisoned w tables.old.groups → ArePoisoned w tables.new.groups }
+    ensures machine { (before : State M) → HostKeeps M.meaning M.idle_keeps M.active_keeps tables.old.slots tables.old.once tables.old.groups spaces.old before
         → ((result, (steps.compact before space).1) ≡ steps.compact before space)
-        × HostKeeps M.meaning M.idle_keeps M.active_keeps slots.new.items once.new.items groups.new.items spaces.new (steps.compact before space).1 }
+        × HostKeeps M.meaning M.idle_keeps M.active_keeps tables.new.slots tables.new.once tables.new.groups spaces.new (steps.compact before space).1 }
 {
     in_order(spaces);
     let mut moved = 0;
-    while step(slots, once, groups, spaces, space) {
+    while step(tables, spaces, space) {
         moved += 1;
     }
     moved

@@ -16,87 +16,62 @@ use crate::order::in_order;
 use host_spaces::Spaces;
 use ialg::Ialg;
 use instance_life::tell_members;
-use instance_table::Member;
+use instance_table::Tables;
 use mem_rec::Space;
-use record_shelves::{Shelf, sees};
-use scratch_group::Group;
+use record_shelves::sees;
 use space_blocks::Owner;
 use space_raw::Piece;
 use table_moves::{put_block, put_once, take_block, take_once, take_own, tell, tell_holders};
 
 /// Moves a record that an instance has for its own.
-fn move_own<M: Ialg>(
-    slots: &mut Vec<Option<Member<M>>>,
-    once: &mut Vec<Shelf>,
-    groups: &mut Vec<Group>,
-    spaces: &mut Spaces,
-    space: Space,
-    i: u8,
-    k: u8,
-)
-    requires ok { TablesOk slots.old.items once.old.items groups.old.items }
-    requires standing { AreStanding slots.old.items once.old.items groups.old.items spaces.old }
+fn move_own<M: Ialg>(tables: &mut Tables<M>, spaces: &mut Spaces, space: Space, i: u8, k: u8)
+    requires ok { TablesOk tables.old.slots tables.old.once tables.old.groups }
+    requires standing { AreStanding tables.old.slots tables.old.once tables.old.groups spaces.old }
     requires next { IsNextOf spaces.old space (Owner.Record i k) }
-    requires own { IsSome (piece_at (own_of (slot_at slots.old.items i)) k) }
-    ensures { HasMoved M.meaning M.idle_keeps M.active_keeps space slots.old.items once.old.items groups.old.items spaces.old
-        slots.new.items once.new.items groups.new.items spaces.new }
+    requires own { IsSome (piece_at (own_of (slot_at tables.old.slots i)) k) }
+    ensures { HasMoved M.meaning M.idle_keeps M.active_keeps space tables.old.slots tables.old.once tables.old.groups spaces.old
+        tables.new.slots tables.new.once tables.new.groups spaces.new }
 {
-    let piece = take_own(slots, i, k as usize);
+    let piece = take_own(&mut tables.slots, i, k as usize);
     let moved = spaces.make_move(space, piece);
     in_order(spaces);
-    tell(slots, once, groups, i, Some((k as usize, moved)));
+    tell(tables, i, Some((k as usize, moved)));
 }
 
 /// Moves a write-once record that stands with an instance. All its holders are told.
-fn move_once<M: Ialg>(
-    slots: &mut Vec<Option<Member<M>>>,
-    once: &mut Vec<Shelf>,
-    groups: &mut Vec<Group>,
-    spaces: &mut Spaces,
-    space: Space,
-    i: u8,
-    k: u8,
-)
-    requires ok { TablesOk slots.old.items once.old.items groups.old.items }
-    requires standing { AreStanding slots.old.items once.old.items groups.old.items spaces.old }
+fn move_once<M: Ialg>(tables: &mut Tables<M>, spaces: &mut Spaces, space: Space, i: u8, k: u8)
+    requires ok { TablesOk tables.old.slots tables.old.once tables.old.groups }
+    requires standing { AreStanding tables.old.slots tables.old.once tables.old.groups spaces.old }
     requires next { IsNextOf spaces.old space (Owner.Record i k) }
-    requires number { i < length once.old.items }
-    requires shared { IsSome (piece_at (once_at once.old.items i) k) }
-    ensures { HasMoved M.meaning M.idle_keeps M.active_keeps space slots.old.items once.old.items groups.old.items spaces.old
-        slots.new.items once.new.items groups.new.items spaces.new }
+    requires number { i < length tables.old.once }
+    requires shared { IsSome (piece_at (once_at tables.old.once i) k) }
+    ensures { HasMoved M.meaning M.idle_keeps M.active_keeps space tables.old.slots tables.old.once tables.old.groups spaces.old
+        tables.new.slots tables.new.once tables.new.groups spaces.new }
 {
-    let piece = take_once(once, i, k as usize);
+    let piece = take_once(&mut tables.once, i, k as usize);
     let moved = spaces.make_move(space, piece);
     in_order(spaces);
-    put_once(once, i, k as usize, moved);
-    tell_holders(slots, once, groups, i, k as usize);
+    put_once(&mut tables.once, i, k as usize, moved);
+    tell_holders(tables, i, k as usize);
 }
 
 /// Moves the block of a group.
-fn move_block<M: Ialg>(
-    slots: &mut Vec<Option<Member<M>>>,
-    once: &mut Vec<Shelf>,
-    groups: &mut Vec<Group>,
-    spaces: &mut Spaces,
-    space: Space,
-    g: u8,
-    align: u32,
-)
-    requires ok { TablesOk slots.old.items once.old.items groups.old.items }
-    requires standing { AreStanding slots.old.items once.old.items groups.old.items spaces.old }
+fn move_block<M: Ialg>(tables: &mut Tables<M>, spaces: &mut Spaces, space: Space, g: u8, align: u32)
+    requires ok { TablesOk tables.old.slots tables.old.once tables.old.groups }
+    requires standing { AreStanding tables.old.slots tables.old.once tables.old.groups spaces.old }
     requires number { g < GROUPS }
     requires next { IsNextOf spaces.old space (Owner.Scratch g) }
     requires align { (b : Placed) → next_block (blocks_in (picture_of spaces.old) space) ≡ Some b → b.align ≡ align }
-    ensures { HasMoved M.meaning M.idle_keeps M.active_keeps space slots.old.items once.old.items groups.old.items spaces.old
-        slots.new.items once.new.items groups.new.items spaces.new }
+    ensures { HasMoved M.meaning M.idle_keeps M.active_keeps space tables.old.slots tables.old.once tables.old.groups spaces.old
+        tables.new.slots tables.new.once tables.new.groups spaces.new }
 {
-    match take_block(groups, g, space) {
+    match take_block(&mut tables.groups, g, space) {
         Some(piece) => {
             let moved = spaces.make_move(space, piece);
             in_order(spaces);
-            let old = put_block(groups, g, space, moved, align);
+            let old = put_block(&mut tables.groups, g, space, moved, align);
             end_none(old);
-            tell_members(slots, once, groups, g);
+            tell_members(&mut tables.slots, &mut tables.once, &mut tables.groups, g);
         }
         None => unreachable!(),
     }
@@ -115,32 +90,26 @@ fn end_none(piece: Option<Piece>)
 /// Makes the next move of a space: its first block that isn't at its packed place is slid down to it, with its words, and each instance that
 /// has words in it is told, in ascending number: its owner, and all that share the record with it, or each member of its group. Says whether
 /// a block moved.
-pub fn make_next_move<M: Ialg>(
-    slots: &mut Vec<Option<Member<M>>>,
-    once: &mut Vec<Shelf>,
-    groups: &mut Vec<Group>,
-    spaces: &mut Spaces,
-    space: Space,
-) -> bool
-    requires ok { TablesOk slots.old.items once.old.items groups.old.items }
-    requires standing { AreStanding slots.old.items once.old.items groups.old.items spaces.old }
+pub fn make_next_move<M: Ialg>(tables: &mut Tables<M>, spaces: &mut Spaces, space: Space) -> bool
+    requires ok { TablesOk tables.old.slots tables.old.once tables.old.groups }
+    requires standing { AreStanding tables.old.slots tables.old.once tables.old.groups spaces.old }
     ensures answer { result ≡ is_some (next_block (blocks_in (picture_of spaces.old) space)) }
-    ensures moved { result ≡ true → HasMoved M.meaning M.idle_keeps M.active_keeps space slots.old.items once.old.items groups.old.items spaces.old
-        slots.new.items once.new.items groups.new.items spaces.new }
-    ensures packed { result ≡ false → (slots.new ≡ slots.old) × (once.new ≡ once.old) × (groups.new ≡ groups.old) × (spaces.new ≡ spaces.old) }
+    ensures moved { result ≡ true → HasMoved M.meaning M.idle_keeps M.active_keeps space tables.old.slots tables.old.once tables.old.groups spaces.old
+        tables.new.slots tables.new.once tables.new.groups spaces.new }
+    ensures packed { result ≡ false → (tables.new ≡ tables.old) × (spaces.new ≡ spaces.old) }
 {
     let Some(block) = spaces.next_move(space) else {
         return false;
     };
     match block.owner {
         Owner::Record(i, k) => {
-            if sees(once, i as usize, k as usize) {
-                move_once(slots, once, groups, spaces, space, i, k);
+            if sees(&tables.once, i as usize, k as usize) {
+                move_once(tables, spaces, space, i, k);
             } else {
-                move_own(slots, once, groups, spaces, space, i, k);
+                move_own(tables, spaces, space, i, k);
             }
         }
-        Owner::Scratch(g) => move_block(slots, once, groups, spaces, space, g, block.align),
+        Owner::Scratch(g) => move_block(tables, spaces, space, g, block.align),
     }
     true
 }

@@ -28,11 +28,11 @@ use grown_groups::grow;
 use host_spaces::{Placement, Spaces, creations};
 use ialg::{Ialg, Params};
 use instance_life::{find_twins, start};
-use instance_table::Member;
+use instance_table::Tables;
 use mem_rec::{MemTab, Space};
 use placed_instances::{in_order, maps_have_room};
 use record_loans::Pieces;
-use record_shelves::{Shelf, Twins};
+use record_shelves::Twins;
 use scratch_group::Group;
 use space_blocks::blocks_are_few;
 
@@ -76,9 +76,7 @@ fn place(
 /// Starts an instance whose records are placed, but for those that it shares with its twins, and whose group has the blocks for it. A shared
 /// block is the new instance's from now on where that one has the lower number.
 fn begin<M: Ialg>(
-    slots: &mut Vec<Option<Member<M>>>,
-    once: &mut Vec<Shelf>,
-    groups: &Vec<Group>,
+    tables: &mut Tables<M>,
     spaces: &mut Spaces,
     i: u8,
     g: u8,
@@ -91,39 +89,36 @@ fn begin<M: Ialg>(
 )
     requires number { i < INSTANCES }
     requires group { g < GROUPS }
-    requires empty { slot_at slots.old.items i ≡ None }
-    requires ok { TablesOk slots.old.items once.old.items groups.now.items }
-    requires grown { AreGrown g slots.old.items once.old.items groups.now.items spaces.old }
-    requires twins { AreTwins M.meaning.same slots.old.items (asked kind params.items table) twins }
-    requires placed { IsPlaced spaces.old i (twin_at twins) table own shared (group_at groups.now.items g) }
-    requires gone { (j k : ℕ) (space : Space) → slot_at slots.old.items j ≡ None → j ≢ i → owned (Record j k) (blocks_in (picture_of spaces.old) space) ≡ [] }
-    ensures ok { TablesOk slots.new.items once.new.items groups.now.items }
-    ensures standing { AreStanding slots.new.items once.new.items groups.now.items spaces.new }
-    ensures others { (j : ℕ) → j ≢ i → slot_at slots.new.items j ≡ slot_at slots.old.items j }
-    ensures newborn { IsNewborn g kind params.items table (slot_at slots.new.items i) }
+    requires empty { slot_at tables.old.slots i ≡ None }
+    requires ok { TablesOk tables.old.slots tables.old.once tables.old.groups }
+    requires grown { AreGrown g tables.old.slots tables.old.once tables.old.groups spaces.old }
+    requires twins { AreTwins M.meaning.same tables.old.slots (asked kind params.items table) twins }
+    requires placed { IsPlaced spaces.old i (twin_at twins) table own shared (group_at tables.old.groups g) }
+    requires gone { (j k : ℕ) (space : Space) → slot_at tables.old.slots j ≡ None → j ≢ i → owned (Record j k) (blocks_in (picture_of spaces.old) space) ≡ [] }
+    ensures groups { tables.new.groups ≡ tables.old.groups }
+    ensures ok { TablesOk tables.new.slots tables.new.once tables.new.groups }
+    ensures standing { AreStanding tables.new.slots tables.new.once tables.new.groups spaces.new }
+    ensures others { (j : ℕ) → j ≢ i → slot_at tables.new.slots j ≡ slot_at tables.old.slots j }
+    ensures newborn { IsNewborn g kind params.items table (slot_at tables.new.slots i) }
     ensures picture { picture_of spaces.new ≡ renamed (taken_over (twin_at twins) i) (picture_of spaces.old) }
     ensures stays { AreSameSpaces spaces.old spaces.new }
     ensures keeps { (w : Option ℤ) (histories : ℕ → History)
         → (IsTrue (M.meaning.lawful kind params.items w) → M.meaning.table kind params.items ≡ Some (unplaced table))
         → AreNew w (M.meaning.fill kind params.items) table (idle_words table own shared)
-        → Keeps M.meaning M.idle_keeps M.active_keeps w slots.old.items once.old.items groups.now.items histories
-        → Keeps M.meaning M.idle_keeps M.active_keeps w slots.new.items once.new.items groups.now.items (with_history histories i []) }
+        → Keeps M.meaning M.idle_keeps M.active_keeps w tables.old.slots tables.old.once tables.old.groups histories
+        → Keeps M.meaning M.idle_keeps M.active_keeps w tables.new.slots tables.new.once tables.new.groups (with_history histories i []) }
 {
     let list = listed(&twins);
     spaces.take_over(i, &list);
     in_order(spaces);
-    start(
-        slots, once, groups, i, g, kind, params, table, own, shared, twins,
-    );
+    start(tables, i, g, kind, params, table, own, shared, twins);
 }
 
 /// Starts instance `i` of group `g` in an empty slot, with this table of its kind. A write-once record that a living instance shares gets no
 /// block: it stands with the least of those that share it. All other blocks that it needs are placed first, while the old ones of its group
 /// stand, and it is called last. Or says the space of the first block that has no place; then nothing has happened.
 pub fn start_in_spaces<M: Ialg>(
-    slots: &mut Vec<Option<Member<M>>>,
-    once: &mut Vec<Shelf>,
-    groups: &mut Vec<Group>,
+    tables: &mut Tables<M>,
     spaces: &mut Spaces,
     poison: Option<i16>,
     i: u8,
@@ -134,33 +129,33 @@ pub fn start_in_spaces<M: Ialg>(
 ) -> Result<(), Space>
     requires number { i < INSTANCES }
     requires group { g < GROUPS }
-    requires empty { slot_at slots.old.items i ≡ None }
-    requires ok { TablesOk slots.old.items once.old.items groups.old.items }
-    requires standing { AreStanding slots.old.items once.old.items groups.old.items spaces.old }
-    requires poisoned { ArePoisoned poison groups.old.items }
-    ensures ok { TablesOk slots.new.items once.new.items groups.new.items }
-    ensures standing { AreStanding slots.new.items once.new.items groups.new.items spaces.new }
-    ensures poisoned { ArePoisoned poison groups.new.items }
-    ensures exact { created_picture (sizes_of spaces.old) (picture_of spaces.old) i g table (twin_of M.meaning.same (λ j. asked_by (slot_at slots.old.items j)) (asked kind params.items table))
+    requires empty { slot_at tables.old.slots i ≡ None }
+    requires ok { TablesOk tables.old.slots tables.old.once tables.old.groups }
+    requires standing { AreStanding tables.old.slots tables.old.once tables.old.groups spaces.old }
+    requires poisoned { ArePoisoned poison tables.old.groups }
+    ensures ok { TablesOk tables.new.slots tables.new.once tables.new.groups }
+    ensures standing { AreStanding tables.new.slots tables.new.once tables.new.groups spaces.new }
+    ensures poisoned { ArePoisoned poison tables.new.groups }
+    ensures exact { created_picture (sizes_of spaces.old) (picture_of spaces.old) i g table (twin_of M.meaning.same (λ j. asked_by (slot_at tables.old.slots j)) (asked kind params.items table))
         ≡ result_map (λ _. picture_of spaces.new) result }
-    ensures refused { OnErr result ((slots.new ≡ slots.old) × (once.new ≡ once.old) × (groups.new ≡ groups.old) × (spaces.new ≡ spaces.old)) }
+    ensures refused { OnErr result ((tables.new ≡ tables.old) × (spaces.new ≡ spaces.old)) }
     ensures stays { AreSameSpaces spaces.old spaces.new }
-    ensures others { OnOk result (OthersAreSame i slots.old.items slots.new.items) }
-    ensures newborn { OnOk result (IsNewborn g kind params.items table (slot_at slots.new.items i)) }
-    ensures activity { OnOk result ((k : ℕ) → activity_at groups.new.items k ≡ activity_grown (replaces (picture_of spaces.old) g table) groups.old.items g k) }
+    ensures others { OnOk result (OthersAreSame i tables.old.slots tables.new.slots) }
+    ensures newborn { OnOk result (IsNewborn g kind params.items table (slot_at tables.new.slots i)) }
+    ensures activity { OnOk result ((k : ℕ) → activity_at tables.new.groups k ≡ activity_grown (replaces (picture_of spaces.old) g table) tables.old.groups g k) }
     ensures keeps { OnOk result ((histories : ℕ → History)
         → (IsTrue (M.meaning.lawful kind params.items poison) → M.meaning.table kind params.items ≡ Some (unplaced table))
-        → Keeps M.meaning M.idle_keeps M.active_keeps poison slots.old.items once.old.items groups.old.items histories
-        → Keeps M.meaning M.idle_keeps M.active_keeps poison slots.new.items once.new.items groups.new.items (with_history histories i [])) }
+        → Keeps M.meaning M.idle_keeps M.active_keeps poison tables.old.slots tables.old.once tables.old.groups histories
+        → Keeps M.meaning M.idle_keeps M.active_keeps poison tables.new.slots tables.new.once tables.new.groups (with_history histories i [])) }
 {
     maps_have_room::<M>();
     blocks_are_few();
     creations();
     // a table is valid, as its records say
     let _records = table.records();
-    let twins = find_twins(slots, kind, &params, &table);
+    let twins = find_twins(&tables.slots, kind, &params, &table);
     let list = listed(&twins);
-    let placed = match place(spaces, i, g, &table, &list, groups, poison) {
+    let placed = match place(spaces, i, g, &table, &list, &tables.groups, poison) {
         Ok(placed) => placed,
         Err(space) => return Err(space),
     };
@@ -169,9 +164,9 @@ pub fn start_in_spaces<M: Ialg>(
         shared,
         blocks,
     } = placed;
-    grow(slots, once, groups, spaces, poison, g, blocks);
+    grow(tables, spaces, poison, g, blocks);
     begin(
-        slots, once, groups, spaces, i, g, kind, params, table, own, shared, twins,
+        tables, spaces, i, g, kind, params, table, own, shared, twins,
     );
     Ok(())
 }

@@ -1,5 +1,5 @@
 -- An instance is told where its records lie, with the piece that comes back.
-use Rattle.std.proofs.Common.{◌≡◌, ◌≢◌, ℕ, ℤ, ◌<◌, Bool, true, false, inl, inr, List, length, Option, Some, None, set, refl, sym, ◌∙◌, ap, subst, arith}
+use Rattle.std.proofs.Common.{◌≡◌, ◌≢◌, ℕ, ℤ, ◌<◌, Bool, inl, inr, List, length, Option, Some, None, set, refl, ◌∙◌, ap, subst, arith}
 use Rattle.std.proofs.lemmas.Bool.{false≢true}
 use Rattle.std.proofs.lemmas.Bool.Decides.{eqb_tells}
 use Rattle.space_raw.specs.Span.{Span}
@@ -29,7 +29,7 @@ use Rattle.instance_table.proofs.Held.{homes_of_held}
 use Rattle.instance_table.proofs.Changes.{tables_by_change, poisoned_after_change, keeps_after_change, blocks_stay, pieces_stay}
 use Rattle.instance_life.proofs.Idles.{tables_by_quiet, keeps_after_end}
 use Rattle.instance_life.proofs.Told.{members_after, members_after_quiet}
-use Rattle.table_moves.specs.Moves.{own_set, slot_with, IsThere, IsHousedBut, IsWaiting, IsWaitingBut, all_but, TablesThere, TablesBut, TablesWaiting, TablesWaitingBut}
+use Rattle.table_moves.specs.Moves.{own_set, slot_with, IsThere, IsWaiting, all_but, TablesThere, TablesBut, TablesWaiting, TablesWaitingBut}
 use Rattle.table_moves.proofs.Owns.{Beside, tables_map, set_again, own_set_same, active_with, but_own, housed_beside, waiting_beside, member_back}
 
 -- instance i was told, and whatever held of the others does

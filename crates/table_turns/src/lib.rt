@@ -6,24 +6,19 @@ ghost use Rattle.ialg.specs.declared.TheConstants.{BLOCK_SAMPLES};
 ghost use Rattle.ialg.specs.History.{History, with_samples};
 ghost use Rattle.lifecycle.specs.States.{IsLawful, all_outputs};
 ghost use Rattle.instance_table.specs.declared.member.Member.{Member};
-ghost use Rattle.instance_table.specs.Table.{slot_at, instance_of, TablesOk, ArePoisoned};
-ghost use Rattle.instance_table.specs.Keeps.{Keeps};
-ghost use Rattle.instance_table.specs.Frames.{SameTables};
+ghost use Rattle.instance_table.specs.Table.{slot_at, instance_of};
+ghost use Rattle.instance_table.specs.Steps.{laws, Ready, Stays, AreKept};
 
 #[cfg(test)]
 mod tests;
 
 use ialg::{BLOCK_SAMPLES, Block, Ialg};
-use instance_table::{Member, process};
-use record_shelves::Shelf;
-use scratch_group::Group;
+use instance_table::Tables;
 
 /// The first instance is given two blocks, and between them the second is given one. What the first gives are the outputs of its own
 /// two blocks, under each poison word and under none.
 pub fn take_turns<M: Ialg>(
-    slots: &mut Vec<Option<Member<M>>>,
-    once: &mut Vec<Shelf>,
-    groups: &mut Vec<Group>,
+    tables: &mut Tables<M>,
     poison: Option<i16>,
     first: u8,
     second: u8,
@@ -34,23 +29,20 @@ pub fn take_turns<M: Ialg>(
     other: &mut Block,
     more: &mut Block,
 )
-    requires living { IsSome (slot_at slots.old.items first) × IsSome (slot_at slots.old.items second) }
+    requires living { IsSome (slot_at tables.old.slots first) × IsSome (slot_at tables.old.slots second) }
     requires apart { first ≢ second }
-    requires ok { TablesOk slots.old.items once.old.items groups.old.items }
-    requires poisoned { ArePoisoned poison groups.old.items }
+    requires ready { Ready poison tables.old }
     requires empty { (out.old.items ≡ []) × (other.old.items ≡ []) × (more.old.items ≡ []) }
     requires some { (1 ≤ length before.now) × (1 ≤ length between.now) × (1 ≤ length after.now) }
     requires within { (length before.now ≤ BLOCK_SAMPLES) × (length between.now ≤ BLOCK_SAMPLES) × (length after.now ≤ BLOCK_SAMPLES) }
-    ensures ok { TablesOk slots.new.items once.new.items groups.new.items }
-    ensures poisoned { ArePoisoned poison groups.new.items }
-    ensures same { SameTables slots.old.items once.old.items groups.old.items slots.new.items once.new.items groups.new.items }
+    ensures stays { Stays poison tables.old tables.new }
     ensures output { (histories : ℕ → History) (m : Member M)
-        → Keeps M.meaning M.idle_keeps M.active_keeps poison slots.old.items once.old.items groups.old.items histories
-        → slot_at slots.old.items first ≡ Some m → IsLawful M.meaning (instance_of m.inst) poison
+        → AreKept (laws M.meaning M.idle_keeps M.active_keeps) poison tables.old histories
+        → slot_at tables.old.slots first ≡ Some m → IsLawful M.meaning (instance_of m.inst) poison
         → all_outputs M.meaning (instance_of m.inst) (with_samples (with_samples (histories first) before.now) after.now)
         ≡ (all_outputs M.meaning (instance_of m.inst) (histories first) ++ out.new.items) ++ more.new.items }
 {
-    process(slots, once, groups, poison, first, before, out);
-    process(slots, once, groups, poison, second, between, other);
-    process(slots, once, groups, poison, first, after, more);
+    tables.process(poison, first, before, out);
+    tables.process(poison, second, between, other);
+    tables.process(poison, first, after, more);
 }

@@ -6,17 +6,20 @@ use Rattle.instance_table.proofs.Housing.{lawful_after}
 use Rattle.instance_table.proofs.Histories.{history_here, history_there}
 use Rattle.table_turns.proofs.take_turns.Goals as goal
 
-pub returns-clause-same : goal.returns-clause-same
-returns-clause-same g c =
-    tables_then _ _ _ _ _ _ _ _ _ (tables_then _ _ _ _ _ _ _ _ _ c.process.ensures.same c.process-2.ensures.same) c.process-3.ensures.same
+pub returns-clause-stays : goal.returns-clause-stays
+returns-clause-stays g c = record {
+  ok = c.process-3.ensures.step.ok;
+  poisoned = c.process-3.ensures.step.poisoned;
+  same = tables_then _ _ _ _ _ _ _ _ _ (tables_then _ _ _ _ _ _ _ _ _ c.process.ensures.step.same c.process-2.ensures.step.same) c.process-3.ensures.step.same;
+}
 
 pub returns-clause-output : goal.returns-clause-output
 returns-clause-output g c histories m keeps at lawful =
     let given = with_samples (histories c.args.first) c.args.before.now in
     let once = with_history histories c.args.first given in
     let twice = with_history once c.args.second (with_samples (once c.args.second) c.args.between.now) in
-    let kept = c.process-2.ensures.keeps once (c.process.ensures.keeps histories keeps) in
-    let meanwhile = tables_then _ _ _ _ _ _ _ _ _ c.process.ensures.same c.process-2.ensures.same in
+    let kept = c.process-2.ensures.step.keeps once (c.process.ensures.step.keeps histories keeps) in
+    let meanwhile = tables_then _ _ _ _ _ _ _ _ _ c.process.ensures.step.same c.process-2.ensures.step.same in
     let later = later_member _ _ m at (meanwhile.slot c.args.first) in
     let same = later.1.1 in
     let still : twice c.args.first ≡ given =

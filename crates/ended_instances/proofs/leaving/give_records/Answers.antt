@@ -11,52 +11,52 @@ use Rattle.ended_instances.proofs.leaving.give_records.Goals as goal
 
 pub next_holders-next-requires-clause-number : goal.next_holders-next-requires-clause-number
 next_holders-next-requires-clause-number g c =
-    let its = member_of c.args.slots.now.items c.args.i c.requires.living in
-    let inside : c.args.i < length c.args.slots.now.items = slot_in c.args.slots.now.items c.args.i its.0 its.1 in
+    let its = member_of c.args.tables.now.slots c.args.i c.requires.living in
+    let inside : c.args.i < length c.args.tables.now.slots = slot_in c.args.tables.now.slots c.args.i its.0 its.1 in
     omega (arith, inside, c.requires.ok.slot_count)
 
 pub next_holders-next-requires-clause-held : goal.next_holders-next-requires-clause-held
-next_holders-next-requires-clause-held g c k j = homes_of_held _ _ c.requires.ok.held j k c.args.i
+next_holders-next-requires-clause-held g c k j = homes_of_held _ _ (rw (← c.tables.view_is) at c.requires.ok).held j k c.args.i
 
 pub take_out_records-requires-clause-pieces : goal.take_out_records-requires-clause-pieces
 take_out_records-requires-clause-pieces g c =
-    let its = member_of c.args.slots.now.items c.args.i c.requires.living in
-    let going : Going c.args.i c.args.slots.now.items c.args.once.now.items c.args.groups.now.items c.args.spaces.now c.hand_on.new.self = record {
+    let its = member_of c.args.tables.now.slots c.args.i c.requires.living in
+    let going : Going c.args.i c.args.tables.now.slots c.args.tables.now.once c.args.tables.now.groups c.args.spaces.now c.hand_on.new.self = record {
       next = (λ k. twin_at c.next_holders-next.result k);
       standing = c.requires.standing;
       held = c.requires.ok.held;
-      is_next = c.next_holders-next.ensures;
+      is_next = rw (← c.tables.view_is) c.next_holders-next.ensures;
       others = c.hand_on.ensures.others;
       handed = c.hand_on.ensures.handed;
       left = c.hand_on.ensures.left;
       stays = c.hand_on.ensures.stays;
     } in
     pieces_back c.args.i _ _ _ c.args.spaces.now c.hand_on.new.self c.end-own.result.0 c.end-own.result.1 c.table_copied-table.result going
-    c.end-own.ensures.own c.end-own.ensures.shared c.table_copied-table.ensures its.0 its.1
+    c.end-own.ensures.own c.end-own.ensures.shared (rw (← c.tables.view_is) c.table_copied-table.ensures) its.0 its.1
 
 pub take_out_records-requires-clause-records : goal.take_out_records-requires-clause-records
 take_out_records-requires-clause-records g c =
-    let its = member_of c.args.slots.now.items c.args.i c.requires.living in
-    let going : Going c.args.i c.args.slots.now.items c.args.once.now.items c.args.groups.now.items c.args.spaces.now c.hand_on.new.self = record {
+    let its = member_of c.args.tables.now.slots c.args.i c.requires.living in
+    let going : Going c.args.i c.args.tables.now.slots c.args.tables.now.once c.args.tables.now.groups c.args.spaces.now c.hand_on.new.self = record {
       next = (λ k. twin_at c.next_holders-next.result k);
       standing = c.requires.standing;
       held = c.requires.ok.held;
-      is_next = c.next_holders-next.ensures;
+      is_next = rw (← c.tables.view_is) c.next_holders-next.ensures;
       others = c.hand_on.ensures.others;
       handed = c.hand_on.ensures.handed;
       left = c.hand_on.ensures.left;
       stays = c.hand_on.ensures.stays;
     } in
     records_back c.args.i _ _ _ c.args.spaces.now c.hand_on.new.self c.end-own.result.0 c.end-own.result.1 c.table_copied-table.result going
-    c.end-own.ensures.own c.end-own.ensures.shared c.table_copied-table.ensures its.0 its.1
+    c.end-own.ensures.own c.end-own.ensures.shared (rw (← c.tables.view_is) c.table_copied-table.ensures) its.0 its.1
 
 pub returns-clause-standing : goal.returns-clause-standing
 returns-clause-standing g c =
-    let going : Going c.args.i c.args.slots.now.items c.args.once.now.items c.args.groups.now.items c.args.spaces.now c.hand_on.new.self = record {
+    let going : Going c.args.i c.args.tables.now.slots c.args.tables.now.once c.args.tables.now.groups c.args.spaces.now c.hand_on.new.self = record {
       next = (λ k. twin_at c.next_holders-next.result k);
       standing = c.requires.standing;
       held = c.requires.ok.held;
-      is_next = c.next_holders-next.ensures;
+      is_next = rw (← c.tables.view_is) c.next_holders-next.ensures;
       others = c.hand_on.ensures.others;
       handed = c.hand_on.ensures.handed;
       left = c.hand_on.ensures.left;
@@ -71,12 +71,13 @@ returns-clause-others g c = same_beside c.args.i _ _ _ _ _ _ c.end-own.ensures.o
 
 pub returns-clause-picture : goal.returns-clause-picture
 returns-clause-picture g c =
-    let its = member_of c.args.slots.now.items c.args.i c.requires.living in
-    let same : ◌≡◌ {A = ℕ → Option ℕ} (λ k. twin_at c.next_holders-next.result k) (λ k. next_holder c.args.once.now.items c.args.i k) = λ t k. c.next_holders-next.ensures k t in
+    let its = member_of c.args.tables.now.slots c.args.i c.requires.living in
+    let next_is : (k : ℕ) → twin_at c.next_holders-next.result k ≡ next_holder c.args.tables.now.once c.args.i k = rw (← c.tables.view_is) c.next_holders-next.ensures in
+    let same : ◌≡◌ {A = ℕ → Option ℕ} (λ k. twin_at c.next_holders-next.result k) (λ k. next_holder c.args.tables.now.once c.args.i k) = λ t k. next_is k t in
     c.take_out_records.ensures.picture
     ∙ ap (without_owners (is_instance's c.args.i)) (c.hand_on.ensures.picture
     ∙ ap (λ (next : ℕ → Option ℕ). renamed (handed_on next c.args.i) (picture_of c.args.spaces.now)) same
-    ∙ handed_same g.M.Ialg.meaning.same c.args.i c.args.slots.now.items c.end-own.new.slots.items c.args.once.now.items c.args.groups.now.items c.args.spaces.now c.requires.standing its.0 its.1
+    ∙ handed_same g.M.Ialg.meaning.same c.args.i c.args.tables.now.slots c.end-own.new.tables.slots c.args.tables.now.once c.args.tables.now.groups c.args.spaces.now c.requires.standing its.0 its.1
     (λ k home. c.end-own.ensures.next c.requires.standing.least c.requires.standing.together k its.0 its.1 home))
 
 pub returns-clause-spaces : goal.returns-clause-spaces

@@ -13,6 +13,7 @@ use Rattle.instance_table.proofs.Housing.{settled_stays}
 use Rattle.record_shelves.proofs.Lent.{put_back, homes_of_all}
 use Rattle.instance_table.proofs.Held.{homes_of_held}
 use Rattle.instance_table.proofs.Changes.{read_ok_group}
+use Rattle.instance_table.proofs.Stepping.{ok_in}
 use Rattle.instance_life.proofs.Idles.{is_new, ok_after_still, keeps_by_still}
 use Rattle.instance_life.proofs.Twinned.{tells_twin_as, can_join}
 use Rattle.instance_life.proofs.Sharing.{TellsTwin}
@@ -22,25 +23,25 @@ use Rattle.instance_life.proofs.life.start.Goals.{After-put_in}
 use Rattle.instance_life.proofs.life.start.Given.{Over}
 
 pub join-requires-clause-homes : goal.join-requires-clause-homes
-join-requires-clause-homes g c = homes_of_held c.args.slots.now.items c.args.once.now.items c.requires.ok.held
+join-requires-clause-homes g c = homes_of_held c.tables.inside.slots.items c.tables.inside.once.items (ok_in c.tables.view_is c.requires.ok).held
 
 pub join-requires-clause-twins : goal.join-requires-clause-twins
 join-requires-clause-twins g c k =
     can_join g.M.Ialg.meaning.same (λ a b told. g.met.M.Ialg.same a b (g.met.M.Ialg.compared a b ∙ told)) (λ a. sym (g.met.M.Ialg.compared a a) ∙ g.met.M.Eq.laws.refl a)
-    c.args.slots.now.items c.requires.ok.slot_count c.args.once.now.items c.args.groups.now.items c.requires.ok c.requires.least
+    c.tables.inside.slots.items (ok_in c.tables.view_is c.requires.ok).slot_count c.tables.inside.once.items c.tables.inside.groups.items (ok_in c.tables.view_is c.requires.ok) (rw (← c.tables.view_is) at c.requires.least)
     (record { kind = c.args.kind; params = c.args.params; table = c.args.table; own = c.args.own }) c.records-records.ensures.table
-    k (twin_at c.args.twins k) (piece_at c.args.shared k) (c.requires.twins k) (c.requires.placed k)
+    k (twin_at c.args.twins k) (piece_at c.args.shared k) ((rw (← c.tables.view_is) at c.requires.twins) k) (c.requires.placed k)
 
 pub take_seen-seen-requires-clause-homes : goal.take_seen-seen-requires-clause-homes
 take_seen-seen-requires-clause-homes g c = homes_of_all c.join.new.once.items c.args.i c.join.ensures.homes (omega (arith, c.requires.number, c.join.ensures.count))
 
 pub init-idle-requires : goal.init-idle-requires
 init-idle-requires g c =
-    let group_is = read_ok_group _ _ _ c.requires.ok c.args.g c.requires.group _ c.index.ensures in
+    let group_is = read_ok_group _ _ _ (ok_in c.tables.view_is c.requires.ok) c.args.g c.requires.group _ c.index.ensures in
     record {
       fits =
           room_at (record { kind = c.args.kind; params = c.args.params; table = c.args.table; own = c.args.own }) _ _ _ _
-          (c.take_seen-seen.ensures.pieces ∙ c.join.ensures.pieces) group_is c.requires.fits;
+          (c.take_seen-seen.ensures.pieces ∙ c.join.ensures.pieces) group_is (rw (← c.tables.view_is) at c.requires.fits);
     }
 
 -- the instance has joined its twins, and was started
@@ -56,30 +57,30 @@ module _ (g : Over) (c : After-put_in g) where
   pieces : SamePieces (once_at c.join.new.once.items c.args.i) c.init-idle.new.shared
   pieces = rw (← c.take_seen-seen.ensures.pieces) c.init-idle.ensures.shared
 
-  seen : c.take_seen-seen.result ≡ pieces_joined c.args.once.now.items c.args.twins c.args.shared
+  seen : c.take_seen-seen.result ≡ pieces_joined c.tables.inside.once.items c.args.twins c.args.shared
   seen = c.take_seen-seen.ensures.pieces ∙ c.join.ensures.pieces
 
   table_same : unplaced c.init-idle.result.instance.table ≡ unplaced c.args.table
   table_same = ap unplaced c.init-idle.ensures.same.table ∙ unplaced-with_bases c.args.table _
 
-  can : (k : ℕ) → CanJoin c.args.once.now.items k (twin_at c.args.twins k) (piece_at c.args.shared k)
+  can : (k : ℕ) → CanJoin c.tables.inside.once.items k (twin_at c.args.twins k) (piece_at c.args.shared k)
   can k =
       can_join g.M.Ialg.meaning.same (λ x y told. g.met.M.Ialg.same x y (g.met.M.Ialg.compared x y ∙ told)) (λ x. sym (g.met.M.Ialg.compared x x) ∙ g.met.M.Eq.laws.refl x)
-      c.args.slots.now.items c.requires.ok.slot_count c.args.once.now.items c.args.groups.now.items c.requires.ok c.requires.least
+      c.tables.inside.slots.items (ok_in c.tables.view_is c.requires.ok).slot_count c.tables.inside.once.items c.tables.inside.groups.items (ok_in c.tables.view_is c.requires.ok) (rw (← c.tables.view_is) at c.requires.least)
       (record { kind = c.args.kind; params = c.args.params; table = c.args.table; own = c.args.own }) c.records-records.ensures.table
-      k (twin_at c.args.twins k) (piece_at c.args.shared k) (c.requires.twins k) (c.requires.placed k)
+      k (twin_at c.args.twins k) (piece_at c.args.shared k) ((rw (← c.tables.view_is) at c.requires.twins) k) (c.requires.placed k)
 
-  tells : (k : ℕ) → TellsTwin c.args.slots.now.items k c.init-idle.result.instance (twin_at c.args.twins k)
+  tells : (k : ℕ) → TellsTwin c.tables.inside.slots.items k c.init-idle.result.instance (twin_at c.args.twins k)
   tells k =
       tells_twin_as g.M.Ialg.meaning.same (λ x y told. g.met.M.Ialg.same x y (g.met.M.Ialg.compared x y ∙ told)) (λ x. sym (g.met.M.Ialg.compared x x) ∙ g.met.M.Eq.laws.refl x)
-      c.args.slots.now.items c.requires.ok.slot_count (record { kind = c.args.kind; params = c.args.params; table = c.args.table; own = c.args.own }) c.init-idle.result.instance
-      c.init-idle.ensures.same.kind c.init-idle.ensures.same.params table_same k (twin_at c.args.twins k) (c.requires.twins k)
+      c.tables.inside.slots.items (ok_in c.tables.view_is c.requires.ok).slot_count (record { kind = c.args.kind; params = c.args.params; table = c.args.table; own = c.args.own }) c.init-idle.result.instance
+      c.init-idle.ensures.same.kind c.init-idle.ensures.same.params table_same k (twin_at c.args.twins k) ((rw (← c.tables.view_is) at c.requires.twins) k)
 
-  begins : Begins c.args.slots.now.items c.args.once.now.items c.args.groups.now.items c.args.i (record { group = c.args.g; inst = Idling c.init-idle.result }) c.args.twins c.args.shared c.join.new.once.items
+  begins : Begins c.tables.inside.slots.items c.tables.inside.once.items c.tables.inside.groups.items c.args.i (record { group = c.args.g; inst = Idling c.init-idle.result }) c.args.twins c.args.shared c.join.new.once.items
   begins = record {
-    ok = c.requires.ok;
+    ok = (ok_in c.tables.view_is c.requires.ok);
     inside = c.requires.number;
-    empty = c.requires.empty;
+    empty = (rw (← c.tables.view_is) at c.requires.empty);
     tells = tells;
     can = can;
     count = c.join.ensures.count;
@@ -88,49 +89,50 @@ module _ (g : Over) (c : After-put_in g) where
 
 pub returns-clause-ok : goal.returns-clause-ok
 returns-clause-ok g c =
-    let group_is = read_ok_group _ _ _ c.requires.ok c.args.g c.requires.group _ c.index.ensures in
+    let group_is = read_ok_group _ _ _ (ok_in c.tables.view_is c.requires.ok) c.args.g c.requires.group _ c.index.ensures in
     let s = c.init-idle.result.instance in
-    let housed : IsHoused s c.init-idle.new.shared (group_at c.args.groups.now.items c.args.g) = record {
+    let housed : IsHoused s c.init-idle.new.shared (group_at c.tables.inside.groups.items c.args.g) = record {
       fits = rw group_is c.init-idle.ensures.fits;
       settled = rw group_is (settled_stays _ s _ _ c.index.result.now c.init-idle.ensures.same c.init-idle.ensures.shared);
     } in
-    rw c.put_in.ensures.slots
+    rw c.put_in.ensures.filled.is
     (ok_after_still _ _ _ c.args.i (Some (record { group = c.args.g; inst = Idling c.init-idle.result })) c.init-idle.new.shared c.put_seen.new.once.items
     (views_start (begins g c) c.init-idle.new.shared (pieces g c) c.put_seen.new.once.items (put g c))
     (held_start (begins g c) c.init-idle.new.shared (pieces g c) c.put_seen.new.once.items (put g c))
     (bare_start (begins g c) c.init-idle.new.shared (pieces g c) c.put_seen.new.once.items (put g c))
-    c.requires.ok c.requires.number (ap slot_active_in c.requires.empty) refl
+    (ok_in c.tables.view_is c.requires.ok) c.requires.number (ap slot_active_in (rw (← c.tables.view_is) at c.requires.empty)) refl
     (is_new EachIsHoused _ c.args.i _ _ c.requires.group housed))
 
 pub returns-clause-others : goal.returns-clause-others
 returns-clause-others g c = record {
-  slot = c.put_in.ensures.others;
-  pieces = λ j apart. (views_start (begins g c) c.init-idle.new.shared (pieces g c) c.put_seen.new.once.items (put g c)).others j apart;
+  slot = rw (← c.tables.view_is) c.put_in.ensures.filled.others;
+  pieces = rw (← c.tables.view_is, c.put_in.ensures.filled.is) (λ j apart. (views_start (begins g c) c.init-idle.new.shared (pieces g c) c.put_seen.new.once.items (put g c)).others j apart);
 }
 
 pub returns-clause-stands : goal.returns-clause-stands
-returns-clause-stands g c j k = stands_joined (begins g c) c.init-idle.new.shared (pieces g c) c.put_seen.new.once.items (put g c) j k
+returns-clause-stands g c j k = rw (← c.tables.view_is, c.put_in.ensures.filled.is) (stands_joined (begins g c) c.init-idle.new.shared (pieces g c) c.put_seen.new.once.items (put g c) j k)
 
 pub returns-clause-least : goal.returns-clause-least
-returns-clause-least g c = least_start (begins g c) c.init-idle.new.shared (pieces g c) c.put_seen.new.once.items (put g c) c.requires.least
+returns-clause-least g c = rw c.put_in.ensures.filled.is (least_start (begins g c) c.init-idle.new.shared (pieces g c) c.put_seen.new.once.items (put g c) (rw (← c.tables.view_is) at c.requires.least))
 
 pub returns-clause-together : goal.returns-clause-together
-returns-clause-together g c = rw c.put_in.ensures.slots (together_start (begins g c) c.init-idle.new.shared (pieces g c) c.put_seen.new.once.items (put g c) c.requires.together)
+returns-clause-together g c = rw c.put_in.ensures.filled.is (together_start (begins g c) c.init-idle.new.shared (pieces g c) c.put_seen.new.once.items (put g c) (rw (← c.tables.view_is) at c.requires.together))
 
 pub returns-clause-started : goal.returns-clause-started
 returns-clause-started g c =
-    let group_is = read_ok_group _ _ _ c.requires.ok c.args.g c.requires.group _ c.index.ensures in
-    rw c.put_in.ensures.filled
+    let group_is = read_ok_group _ _ _ (ok_in c.tables.view_is c.requires.ok) c.args.g c.requires.group _ c.index.ensures in
+    rw (← c.tables.view_is, c.put_in.ensures.filled.there)
     (refl, started_at (record { kind = c.args.kind; params = c.args.params; table = c.args.table; own = c.args.own }) c.init-idle.result.instance _ _ _ _ (seen g c) group_is c.init-idle.ensures.same)
 
 pub returns-clause-pieces : goal.returns-clause-pieces
 returns-clause-pieces g c =
-    subst (λ (x : Pieces). SamePieces x (once_at c.put_seen.new.once.items c.args.i)) c.join.ensures.pieces
+    rw (← c.tables.view_is, c.put_in.ensures.filled.is)
+    (subst (λ (x : Pieces). SamePieces x (once_at c.put_seen.new.once.items c.args.i)) c.join.ensures.pieces
     (subst (λ (x : Pieces). SamePieces (once_at c.join.new.once.items c.args.i) x)
-    (sym (views_start (begins g c) c.init-idle.new.shared (pieces g c) c.put_seen.new.once.items (put g c)).here) (pieces g c))
+    (sym (views_start (begins g c) c.init-idle.new.shared (pieces g c) c.put_seen.new.once.items (put g c)).here) (pieces g c)))
 
 pub returns-clause-keeps : goal.returns-clause-keeps
-returns-clause-keeps g c w histories table new keeps =
+returns-clause-keeps g c = rw (← c.tables.view_is, c.put_in.ensures.filled.is) (λ w histories table new keeps.
     let kept : IdleKeeps g.M.Ialg.meaning g.M.Ialg.idle_keeps c.init-idle.result.instance w c.init-idle.new.shared [] =
     (λ lawful.
     let before : IsTrue (g.M.Ialg.meaning.lawful c.args.kind c.args.params.items w) = rw (c.init-idle.ensures.same.kind, c.init-idle.ensures.same.params) at lawful in
@@ -139,11 +141,10 @@ returns-clause-keeps g c w histories table new keeps =
     (new_start (begins g c) g.M.Ialg.meaning g.M.Ialg.idle_keeps g.M.Ialg.active_keeps g.met.M.Ialg.idle_fill g.met.M.Ialg.active_fill w histories keeps (record { kind = c.args.kind; params = c.args.params; table = c.args.table; own = c.args.own })
     c.init-idle.ensures.same.kind c.init-idle.ensures.same.params (table_same g c) before new))
     lawful) in
-    rw c.put_in.ensures.slots
-    (keeps_by_still EachIsHoused _ _ _ c.args.i (Some (record { group = c.args.g; inst = Idling c.init-idle.result })) c.init-idle.new.shared c.requires.ok c.requires.number (ap slot_active_in c.requires.empty) refl
+    keeps_by_still EachIsHoused _ _ _ c.args.i (Some (record { group = c.args.g; inst = Idling c.init-idle.result })) c.init-idle.new.shared (ok_in c.tables.view_is c.requires.ok) c.requires.number (ap slot_active_in (rw (← c.tables.view_is) at c.requires.empty)) refl
     c.put_seen.new.once.items (views_start (begins g c) c.init-idle.new.shared (pieces g c) c.put_seen.new.once.items (put g c))
     g.M.Ialg.meaning g.M.Ialg.idle_keeps g.M.Ialg.active_keeps w histories []
     (λ j m apart slot lawful.
     written_start (begins g c) c.init-idle.new.shared (pieces g c) c.put_seen.new.once.items (put g c) g.M.Ialg.meaning g.M.Ialg.idle_keeps g.M.Ialg.active_keeps
-    g.met.M.Ialg.idle_fill g.met.M.Ialg.active_fill w (group_at c.args.groups.now.items c.args.g) [] kept j m (group_at c.args.groups.now.items m.group) (histories j) apart slot lawful (keeps_slot c.args.groups.now.items g.M.Ialg.meaning g.M.Ialg.idle_keeps g.M.Ialg.active_keeps w _ m (once_at c.args.once.now.items j) (histories j) slot (keeps j)))
+    g.met.M.Ialg.idle_fill g.met.M.Ialg.active_fill w (group_at c.tables.inside.groups.items c.args.g) [] kept j m (group_at c.tables.inside.groups.items m.group) (histories j) apart slot lawful (keeps_slot c.tables.inside.groups.items g.M.Ialg.meaning g.M.Ialg.idle_keeps g.M.Ialg.active_keeps w _ m (once_at c.tables.inside.once.items j) (histories j) slot (keeps j)))
     kept keeps)

@@ -14,7 +14,7 @@ pub returns-then-lives-clause-machine : goal.returns-then-lives-clause-machine
 returns-then-lives-clause-machine g c =
     let below : c.args.i < 64 = omega arith in
     let small : c.args.group < 8 = omega arith in
-    let there : is_some (slot_at c.args.slots.now.items c.args.i) ≡ true = search rules in
+    let there : is_some (slot_at c.args.tables.now.slots c.args.i) ≡ true = search rules in
     λ before e kept.
     let living = is_taken g.M.Ialg.meaning g.M.Ialg.idle_keeps g.M.Ialg.active_keeps _ _ _ c.args.spaces.now before kept c.args.i c.args.group c.args.kind c.args.p.now.items [] there in (
       before,
@@ -30,7 +30,7 @@ pub returns-in_default-clause-machine : goal.returns-in_default-clause-machine
 returns-in_default-clause-machine g c =
     let below : c.args.i < 64 = omega arith in
     let small : c.args.group < 8 = omega arith in
-    let empty : slot_at c.args.slots.now.items c.args.i ≡ None = search rules in
+    let empty : slot_at c.args.tables.now.slots c.args.i ≡ None = search rules in
     λ before e kept. (
       before,
       record {
@@ -46,7 +46,7 @@ pub returns-in-Ok-clause-machine : goal.returns-in-Ok-clause-machine
 returns-in-Ok-clause-machine g c =
     let below : c.args.i < 64 = omega arith in
     let small : c.args.group < 8 = omega arith in
-    let empty : slot_at c.args.slots.now.items c.args.i ≡ None = search rules in
+    let empty : slot_at c.args.tables.now.slots c.args.i ≡ None = search rules in
     let same : c.copied-params.result.items ≡ c.args.p.now.items = c.copied-params.ensures ∙ c.as_slice.ensures.value in
     λ before e kept. (
       created before c.args.i (newborn c.args.kind c.args.group c.args.p.now.items c.in-Some.table) c.in-Some.table (picture_of c.start_in_spaces.new.spaces),
@@ -57,16 +57,16 @@ returns-in-Ok-clause-machine g c =
             (is_free g.M.Ialg.meaning g.M.Ialg.idle_keeps g.M.Ialg.active_keeps _ _ _ c.args.spaces.now before kept c.args.i c.args.group c.args.kind c.args.p.now.items c.in-Some.table empty)
             (picture_is g.M.Ialg.meaning g.M.Ialg.idle_keeps g.M.Ialg.active_keeps _ _ _ c.args.spaces.now before kept c.args.i c.args.group c.args.kind c.args.p.now.items c.in-Some.table _
             (subst (λ (xs : List ℤ). created_picture (sizes_of c.args.spaces.now) (picture_of c.args.spaces.now) c.args.i c.args.group c.in-Some.table
-            (twin_of g.M.Ialg.meaning.same (λ j. asked_by (slot_at c.args.slots.now.items j)) (asked c.args.kind xs c.in-Some.table)) ≡ Ok (picture_of c.start_in_spaces.new.spaces)) same c.in-Ok.ensures.exact)));
+            (twin_of g.M.Ialg.meaning.same (λ j. asked_by (slot_at c.args.tables.now.slots j)) (asked c.args.kind xs c.in-Some.table)) ≡ Ok (picture_of c.start_in_spaces.new.spaces)) same c.in-Ok.ensures.exact)));
       },
       created_kept g.M.Ialg.meaning g.M.Ialg.idle_keeps g.M.Ialg.active_keeps _ _ _ c.args.spaces.now before kept c.args.i c.args.group c.args.kind c.args.p.now.items c.in-Some.table
           _ _ _ c.start_in_spaces.new.spaces c.in-Ok.ensures.others
-          (subst (λ (xs : List ℤ). IsNewborn c.args.group c.args.kind xs c.in-Some.table (slot_at c.start_in_spaces.new.slots.items c.args.i)) same c.in-Ok.ensures.newborn)
+          (subst (λ (xs : List ℤ). IsNewborn c.args.group c.args.kind xs c.in-Some.table (slot_at c.start_in_spaces.new.tables.slots c.args.i)) same c.in-Ok.ensures.newborn)
           c.in-Ok.ensures.activity
-          (subst (λ (w : Option ℤ). Keeps g.M.Ialg.meaning g.M.Ialg.idle_keeps g.M.Ialg.active_keeps w c.start_in_spaces.new.slots.items c.start_in_spaces.new.once.items c.start_in_spaces.new.groups.items (with_history (λ j. history_of (before.living j)) c.args.i [])) (sym e)
+          (subst (λ (w : Option ℤ). Keeps g.M.Ialg.meaning g.M.Ialg.idle_keeps g.M.Ialg.active_keeps w c.start_in_spaces.new.tables.slots c.start_in_spaces.new.tables.once c.start_in_spaces.new.tables.groups (with_history (λ j. history_of (before.living j)) c.args.i [])) (sym e)
           (c.in-Ok.ensures.keeps (λ j. history_of (before.living j))
           (asks g.M.Ialg.meaning c.args.poison c.args.kind c.args.p.now.items c.copied-params.result.items c.in-Some.table same (c.in-Some.ensures.allowed c.args.poison) (c.in-Some.ensures.unplaced c.args.poison))
-          (subst (λ (w : Option ℤ). Keeps g.M.Ialg.meaning g.M.Ialg.idle_keeps g.M.Ialg.active_keeps w c.args.slots.now.items c.args.once.now.items c.args.groups.now.items (λ j. history_of (before.living j))) e kept.tables.histories)))
+          (subst (λ (w : Option ℤ). Keeps g.M.Ialg.meaning g.M.Ialg.idle_keeps g.M.Ialg.active_keeps w c.args.tables.now.slots c.args.tables.now.once c.args.tables.now.groups (λ j. history_of (before.living j))) e kept.tables.histories)))
           c.start_in_spaces.ensures.stays,
     )
 
@@ -74,7 +74,7 @@ pub returns-in-Err-clause-machine : goal.returns-in-Err-clause-machine
 returns-in-Err-clause-machine g c =
     let below : c.args.i < 64 = omega arith in
     let small : c.args.group < 8 = omega arith in
-    let empty : slot_at c.args.slots.now.items c.args.i ≡ None = search rules in
+    let empty : slot_at c.args.tables.now.slots c.args.i ≡ None = search rules in
     let same : c.copied-params.result.items ≡ c.args.p.now.items = c.copied-params.ensures ∙ c.as_slice.ensures.value in
     let still = c.in-Err.ensures.refused in
     λ before e kept. (
@@ -86,7 +86,7 @@ returns-in-Err-clause-machine g c =
             (is_free g.M.Ialg.meaning g.M.Ialg.idle_keeps g.M.Ialg.active_keeps _ _ _ c.args.spaces.now before kept c.args.i c.args.group c.args.kind c.args.p.now.items c.in-Some.table empty)
             (picture_is g.M.Ialg.meaning g.M.Ialg.idle_keeps g.M.Ialg.active_keeps _ _ _ c.args.spaces.now before kept c.args.i c.args.group c.args.kind c.args.p.now.items c.in-Some.table _
             (subst (λ (xs : List ℤ). created_picture (sizes_of c.args.spaces.now) (picture_of c.args.spaces.now) c.args.i c.args.group c.in-Some.table
-            (twin_of g.M.Ialg.meaning.same (λ j. asked_by (slot_at c.args.slots.now.items j)) (asked c.args.kind xs c.in-Some.table)) ≡ Err c.in-Err.space) same c.in-Err.ensures.exact)));
+            (twin_of g.M.Ialg.meaning.same (λ j. asked_by (slot_at c.args.tables.now.slots j)) (asked c.args.kind xs c.in-Some.table)) ≡ Err c.in-Err.space) same c.in-Err.ensures.exact)));
       },
-      rw (still.0, still.1, still.2, still.3) kept,
+      rw (still.0, still.1) kept,
     )

@@ -11,12 +11,12 @@ use Rattle.kept_moves.proofs.moves.compact.Given as goal
 
 abbrev pub invariant-loop-space : goal.invariant-loop-space
 invariant-loop-space g l = record {
-  ok : TablesOk l.slots.items l.once.items l.groups.items;
-  standing : AreStanding l.slots.items l.once.items l.groups.items l.spaces;
-  poisoned : (w : Option ℤ) → ArePoisoned w l.fn.groups.items → ArePoisoned w l.groups.items;
+  ok : TablesOk l.tables.slots l.tables.once l.tables.groups;
+  standing : AreStanding l.tables.slots l.tables.once l.tables.groups l.spaces;
+  poisoned : (w : Option ℤ) → ArePoisoned w l.fn.tables.groups → ArePoisoned w l.tables.groups;
   counted : l.moved + unpacked_count (spots_of (blocks_in (picture_of l.spaces) l.space)) ≡ unpacked_count (spots_of (blocks_in (picture_of l.fn.spaces) l.space));
-  amid : (before : State _) → HostKeeps g.M.Ialg.meaning g.M.Ialg.idle_keeps g.M.Ialg.active_keeps l.fn.slots.items l.fn.once.items l.fn.groups.items l.fn.spaces before
-      → IsAmid g.M.Ialg.meaning g.M.Ialg.idle_keeps g.M.Ialg.active_keeps l.space l.slots.items l.once.items l.groups.items l.spaces l.moved before;
+  amid : (before : State _) → HostKeeps g.M.Ialg.meaning g.M.Ialg.idle_keeps g.M.Ialg.active_keeps l.fn.tables.slots l.fn.tables.once l.fn.tables.groups l.fn.spaces before
+      → IsAmid g.M.Ialg.meaning g.M.Ialg.idle_keeps g.M.Ialg.active_keeps l.space l.tables.slots l.tables.once l.tables.groups l.spaces l.moved before;
 }
 
 abbrev pub decreases-loop-space : goal.decreases-loop-space

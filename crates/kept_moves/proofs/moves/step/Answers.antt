@@ -10,4 +10,4 @@ returns-clause-fewer g c moved =
 pub returns-clause-machine : goal.returns-clause-machine
 returns-clause-machine g c before kept =
     step_kept g.M.Ialg.meaning g.M.Ialg.idle_keeps g.M.Ialg.active_keeps c.args.space _ _ _ _ _ _ _ _ before kept _ c.make_next_move.ensures.answer c.make_next_move.ensures.moved
-    (λ packed. let still = c.make_next_move.ensures.packed packed in rw (still.0, still.1, still.2, still.3) kept)
+    (λ packed. let still = c.make_next_move.ensures.packed packed in rw (still.0, still.1) kept)

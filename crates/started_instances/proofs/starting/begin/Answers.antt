@@ -8,7 +8,7 @@ use Rattle.started_instances.proofs.starting.begin.Goals as goal
 
 pub start-requires-clause-placed : goal.start-requires-clause-placed
 start-requires-clause-placed g c =
-    let joins : Joins c.args.i c.args.g c.args.slots.now.items c.args.once.now.items c.args.groups.now.items c.args.spaces.now c.take_over.new.self
+    let joins : Joins c.args.i c.args.g c.args.tables.now.slots c.args.tables.now.once c.args.tables.now.groups c.args.spaces.now c.take_over.new.self
     (record { kind = c.args.kind; params = c.args.params; table = c.args.table; own = c.args.own }) c.args.shared c.args.twins =
     joining g.M.Ialg.meaning.same (λ a b told. g.met.M.Ialg.same a b (g.met.M.Ialg.compared a b ∙ told)) (λ a. sym (g.met.M.Ialg.compared a a) ∙ g.met.M.Eq.laws.refl a)
     c.args.i c.args.g _ _ _ c.args.spaces.now c.take_over.new.self _ c.args.shared c.args.twins _ c.listed-list.ensures c.requires.ok c.requires.empty c.requires.grown c.requires.twins c.requires.placed
@@ -17,7 +17,7 @@ start-requires-clause-placed g c =
 
 pub start-requires-clause-fits : goal.start-requires-clause-fits
 start-requires-clause-fits g c =
-    let joins : Joins c.args.i c.args.g c.args.slots.now.items c.args.once.now.items c.args.groups.now.items c.args.spaces.now c.take_over.new.self
+    let joins : Joins c.args.i c.args.g c.args.tables.now.slots c.args.tables.now.once c.args.tables.now.groups c.args.spaces.now c.take_over.new.self
     (record { kind = c.args.kind; params = c.args.params; table = c.args.table; own = c.args.own }) c.args.shared c.args.twins =
     joining g.M.Ialg.meaning.same (λ a b told. g.met.M.Ialg.same a b (g.met.M.Ialg.compared a b ∙ told)) (λ a. sym (g.met.M.Ialg.compared a a) ∙ g.met.M.Eq.laws.refl a)
     c.args.i c.args.g _ _ _ c.args.spaces.now c.take_over.new.self _ c.args.shared c.args.twins _ c.listed-list.ensures c.requires.ok c.requires.empty c.requires.grown c.requires.twins c.requires.placed
@@ -26,17 +26,18 @@ start-requires-clause-fits g c =
 
 pub returns-clause-standing : goal.returns-clause-standing
 returns-clause-standing g c =
-    let joins : Joins c.args.i c.args.g c.args.slots.now.items c.args.once.now.items c.args.groups.now.items c.args.spaces.now c.take_over.new.self
+    let joins : Joins c.args.i c.args.g c.args.tables.now.slots c.args.tables.now.once c.args.tables.now.groups c.args.spaces.now c.take_over.new.self
     (record { kind = c.args.kind; params = c.args.params; table = c.args.table; own = c.args.own }) c.args.shared c.args.twins =
     joining g.M.Ialg.meaning.same (λ a b told. g.met.M.Ialg.same a b (g.met.M.Ialg.compared a b ∙ told)) (λ a. sym (g.met.M.Ialg.compared a a) ∙ g.met.M.Eq.laws.refl a)
     c.args.i c.args.g _ _ _ c.args.spaces.now c.take_over.new.self _ c.args.shared c.args.twins _ c.listed-list.ensures c.requires.ok c.requires.empty c.requires.grown c.requires.twins c.requires.placed
     c.take_over.ensures.taken c.take_over.ensures.left c.take_over.ensures.others c.take_over.ensures.stays in
-    joined_stands c.args.i c.args.g _ _ _ c.args.spaces.now c.take_over.new.self _ c.args.shared c.args.twins joins _ _ c.requires.gone
-    c.start.ensures.others c.start.ensures.started c.start.ensures.pieces c.start.ensures.stands c.start.ensures.least c.start.ensures.together
+    rw c.start.ensures.groups
+    (joined_stands c.args.i c.args.g _ _ _ c.args.spaces.now c.take_over.new.self _ c.args.shared c.args.twins joins _ _ c.requires.gone
+    c.start.ensures.others c.start.ensures.started c.start.ensures.pieces c.start.ensures.stands c.start.ensures.least c.start.ensures.together)
 
 pub returns-clause-newborn : goal.returns-clause-newborn
 returns-clause-newborn g c =
-    let joins : Joins c.args.i c.args.g c.args.slots.now.items c.args.once.now.items c.args.groups.now.items c.args.spaces.now c.take_over.new.self
+    let joins : Joins c.args.i c.args.g c.args.tables.now.slots c.args.tables.now.once c.args.tables.now.groups c.args.spaces.now c.take_over.new.self
     (record { kind = c.args.kind; params = c.args.params; table = c.args.table; own = c.args.own }) c.args.shared c.args.twins =
     joining g.M.Ialg.meaning.same (λ a b told. g.met.M.Ialg.same a b (g.met.M.Ialg.compared a b ∙ told)) (λ a. sym (g.met.M.Ialg.compared a a) ∙ g.met.M.Eq.laws.refl a)
     c.args.i c.args.g _ _ _ c.args.spaces.now c.take_over.new.self _ c.args.shared c.args.twins _ c.listed-list.ensures c.requires.ok c.requires.empty c.requires.grown c.requires.twins c.requires.placed

@@ -6,7 +6,7 @@ use Rattle.table_moves.proofs.told.tell_holders.Goals as goal
 
 pub loop-j-init : goal.loop-j-init
 loop-j-init g c = record {
-  waiting = all_wait (holds_with c.args.once.now.items c.args.i c.args.k) _ _ _ c.requires.waiting;
+  waiting = all_wait (holds_with c.args.tables.now.once c.args.i c.args.k) _ _ _ c.requires.waiting;
   poisoned = λ w h. h;
   same = same_members _ _ _;
   activity = λ k. refl;
@@ -26,4 +26,4 @@ loop-j-preserved g c = record {
 }
 
 pub returns-clause-ok : goal.returns-clause-ok
-returns-clause-ok g c = none_waits (holds_with c.loop-j.once.items c.args.i c.args.k) _ _ _ c.loop-j.j (omega arith) c.loop-j.invariant.waiting
+returns-clause-ok g c = none_waits (holds_with c.loop-j.tables.once c.args.i c.args.k) _ _ _ c.loop-j.j (omega arith) c.loop-j.invariant.waiting

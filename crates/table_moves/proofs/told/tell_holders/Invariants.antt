@@ -8,10 +8,10 @@ use Rattle.table_moves.proofs.told.tell_holders.Given as goal
 
 abbrev pub invariant-loop-j : goal.invariant-loop-j
 invariant-loop-j g l = record {
-  waiting : TablesWaiting (all_from (holds_with l.once.items l.i l.k) l.j) l.slots.items l.once.items l.groups.items;
-  poisoned : (w : Option ℤ) → ArePoisoned w l.fn.groups.items → ArePoisoned w l.groups.items;
-  same : SameMembers l.fn.slots.items l.fn.once.items l.fn.groups.items l.slots.items l.once.items l.groups.items;
-  activity : (g : ℕ) → activity_at l.groups.items g ≡ activity_at l.fn.groups.items g;
-  keeps : (w : Option ℤ) (histories : ℕ → History) → Keeps g.M.Ialg.meaning g.M.Ialg.idle_keeps g.M.Ialg.active_keeps w l.fn.slots.items l.fn.once.items l.fn.groups.items histories
-      → Keeps g.M.Ialg.meaning g.M.Ialg.idle_keeps g.M.Ialg.active_keeps w l.slots.items l.once.items l.groups.items histories;
+  waiting : TablesWaiting (all_from (holds_with l.tables.once l.i l.k) l.j) l.tables.slots l.tables.once l.tables.groups;
+  poisoned : (w : Option ℤ) → ArePoisoned w l.fn.tables.groups → ArePoisoned w l.tables.groups;
+  same : SameMembers l.fn.tables.slots l.fn.tables.once l.fn.tables.groups l.tables.slots l.tables.once l.tables.groups;
+  activity : (g : ℕ) → activity_at l.tables.groups g ≡ activity_at l.fn.tables.groups g;
+  keeps : (w : Option ℤ) (histories : ℕ → History) → Keeps g.M.Ialg.meaning g.M.Ialg.idle_keeps g.M.Ialg.active_keeps w l.fn.tables.slots l.fn.tables.once l.fn.tables.groups histories
+      → Keeps g.M.Ialg.meaning g.M.Ialg.idle_keeps g.M.Ialg.active_keeps w l.tables.slots l.tables.once l.tables.groups histories;
 }

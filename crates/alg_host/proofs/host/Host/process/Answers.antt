@@ -6,9 +6,9 @@ use Rattle.alg_host.proofs.host.Host.process.Goals as goal
 
 pub invariant_of-self : goal.invariant_of-self
 invariant_of-self g c = record {
-  ok = c.give_block.ensures.ok;
-  standing = c.places_stay.ensures _ _ _ _ _ _ _ c.give_block.ensures.same c.self.invariant.standing;
-  poisoned = c.give_block.ensures.poisoned;
+  ok = c.give_block.ensures.stays.ok;
+  standing = c.places_stay.ensures _ _ _ _ _ _ _ c.give_block.ensures.stays.same c.self.invariant.standing;
+  poisoned = c.give_block.ensures.stays.poisoned;
 }
 
 pub returns : goal.returns
@@ -20,8 +20,8 @@ returns g c = record {
         processed before c.args.i c.args.input.now,
         did.0,
         record {
-          kept = still_kept g.M.Ialg.meaning g.M.Ialg.idle_keeps g.M.Ialg.active_keeps c.self.inside.slots.items c.give_block.new.slots.items
-              c.self.inside.once.items c.give_block.new.once.items c.self.inside.groups.items c.give_block.new.groups.items c.self.inside.spaces
+          kept = still_kept g.M.Ialg.meaning g.M.Ialg.idle_keeps g.M.Ialg.active_keeps c.self.inside.tables.slots c.give_block.new.tables.slots
+              c.self.inside.tables.once c.give_block.new.tables.once c.self.inside.tables.groups c.give_block.new.tables.groups c.self.inside.spaces
               before (processed before c.args.i c.args.input.now) kept.kept same did.1;
           poison = same.poison ∙ kept.poison;
         },
