@@ -1,3 +1,4 @@
+// SPDX-License-Identifier: Apache-2.0
 //! Allocators for tests: one that has no memory, one that counts its calls, and one that refuses a request of a given number.
 //! That each of them is an allocator, whose blocks are memory and go back to where they came from, is proved. No clause can say
 //! what a cell holds, so what is counted, and which request is refused, is shown by tests alone.

@@ -1,3 +1,4 @@
+// SPDX-License-Identifier: Apache-2.0
 //! Records of memory, tables of them, and the layout of a table's scratch records.
 //!
 //! An algorithm describes the memory that it wants by records (SPRU360, `IALG_MemRec`): size, alignment, space and
@@ -189,6 +190,3 @@ impl MemTab {
         MemTab { records }
     }
 }
-
-#[cfg(test)]
-mod tests;

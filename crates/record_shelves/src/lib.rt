@@ -1,3 +1,4 @@
+// SPDX-License-Identifier: Apache-2.0
 //! Where the pieces of write-once records stand: instances whose records are equal share one piece.
 //!
 //! Each instance number has a shelf, with a stand for each record of its table. A piece stands with the least of the instances that hold it,

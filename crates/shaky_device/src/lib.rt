@@ -1,3 +1,4 @@
+// SPDX-License-Identifier: Apache-2.0
 //! A device for tests, which fails at a call of a given number. No clause of a reader or a writer says when it fails: that is
 //! shown by the tests that use it.
 #![tactic(auto)]

@@ -1,3 +1,4 @@
+// SPDX-License-Identifier: Apache-2.0
 //! The blocks of one space of 16-bit words: a heap, and which block of it is whose.
 //!
 //! The blocks stand in place order, each with its owner: a record of an instance, or a group's scratch. A block is placed at its least
@@ -7,8 +8,6 @@
 mod blocks;
 mod laws;
 mod placed;
-#[cfg(test)]
-mod tests;
 
 pub use blocks::{Map, SpaceBlocks};
 pub use laws::{blocks_are_apart, blocks_are_few, moves_pack};
