@@ -5,7 +5,7 @@ ghost use Rattle.alg_host.specs.Hosts.{Serves, stat_told};
 
 use crate::Host;
 use ialg::{Ialg, Refusal};
-use instance_table::GROUPS;
+use mem_rec::GROUPS;
 use kept_machine::put_to_rest;
 use placed_instances::places_stay;
 use scratch_group::Stat;

@@ -11,9 +11,9 @@ ghost use Rattle.kept_moves.specs.Hosts.{HostKeeps};
 
 use host_spaces::Spaces;
 use ialg::{Ialg, Params, Refusal, copied};
-use instance_table::{GROUPS, Member, lives};
-use mem_rec::MemTab;
-use record_shelves::{INSTANCES, Shelf};
+use instance_table::{Member, lives};
+use mem_rec::{GROUPS, INSTANCES, MemTab};
+use record_shelves::Shelf;
 use scratch_group::Group;
 use sound_machine::creations_answer_in_order;
 use started_instances::start_in_spaces;

@@ -11,7 +11,8 @@ use crate::deletions::delete;
 use host_spaces::Spaces;
 use ialg::Ialg;
 use instance_table::Member;
-use record_shelves::{INSTANCES, Shelf};
+use mem_rec::INSTANCES;
+use record_shelves::Shelf;
 use scratch_group::Group;
 
 /// Deletes all instances, in ascending number, as the machine does. No block is left in the spaces.

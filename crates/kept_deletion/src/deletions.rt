@@ -11,7 +11,8 @@ use ended_instances::end_instance;
 use host_spaces::Spaces;
 use ialg::{Ialg, Refusal};
 use instance_table::{Member, lives};
-use record_shelves::{INSTANCES, Shelf};
+use mem_rec::INSTANCES;
+use record_shelves::Shelf;
 use scratch_group::Group;
 
 /// Deletes an instance, as the machine does: its records go, and its group's blocks where no other member is left. It is active no more,

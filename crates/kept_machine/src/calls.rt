@@ -10,8 +10,9 @@ ghost use Rattle.sound_machine.specs.Steps.{processed};
 ghost use Rattle.kept_machine.specs.Kept.{TablesKeep, told};
 
 use ialg::{BLOCK_SAMPLES, Block, Ctl, Ialg, Refusal, Status};
-use instance_table::{GROUPS, Member, command, lives, process, rest};
-use record_shelves::{INSTANCES, Shelf};
+use mem_rec::{GROUPS, INSTANCES};
+use instance_table::{Member, command, lives, process, rest};
+use record_shelves::Shelf;
 use scratch_group::Group;
 
 /// Gives the instance a block of samples, as the machine does.

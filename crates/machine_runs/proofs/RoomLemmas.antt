@@ -13,7 +13,7 @@ use Rattle.ialg.specs.Refusals.{first_refusal}
 use Rattle.ialg.specs.Meaning.{Meaning}
 use Rattle.space_heap.specs.Places.{Range as Stretch, is_free, least_place, meets}
 use Rattle.space_heap.proofs.RangeTests.{either, both_true}
-use Rattle.space_blocks.specs.declared.TheConstants.{INSTANCES, GROUPS}
+use Rattle.mem_rec.specs.declared.TheConstants.{INSTANCES, GROUPS}
 use Rattle.space_blocks.specs.Blocks.{ranges}
 use Rattle.host_spaces.specs.declared.spaces.Sizes.{Sizes}
 use Rattle.host_spaces.specs.declared.wants.Wanted.{Wanted}

@@ -4,7 +4,7 @@ use Rattle.mem_rec.specs.declared.MemRec.{MemRec}
 use Rattle.mem_rec.specs.declared.Space.{Space}
 use Rattle.ialg.specs.Meaning.{Meaning}
 use Rattle.space_heap.specs.Places.{is_free}
-use Rattle.space_blocks.specs.declared.TheConstants.{INSTANCES, GROUPS}
+use Rattle.mem_rec.specs.declared.TheConstants.{INSTANCES, GROUPS}
 use Rattle.space_blocks.specs.Blocks.{ranges}
 use Rattle.host_spaces.specs.declared.spaces.Sizes.{Sizes}
 use Rattle.host_spaces.specs.declared.wants.Wanted.{Wanted}

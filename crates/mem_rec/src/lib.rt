@@ -16,6 +16,12 @@ use arrayvec::ArrayVec;
 pub use layout::{Layout, scratch_layout};
 use std::marker::Model;
 
+/// Instances of a host have the numbers below this.
+pub const INSTANCES: usize = 64;
+
+/// Scratch groups of a host have the numbers below this.
+pub const GROUPS: u8 = 8;
+
 /// The most records of a table.
 pub const TABLE_RECORDS: usize = 4;
 

@@ -14,6 +14,3 @@ pub use holders::{hand_on, next_holder};
 pub use joining::{Twins, join};
 pub use shelves::{Shelf, Stand, end_absent, home, put_seen, sees, take_seen};
 pub use tables::{empty_once, end_once};
-
-/// Instances have the numbers below this.
-pub const INSTANCES: usize = 64;

@@ -1,9 +1,8 @@
 //! Shelves without pieces: how they are made and ended.
 ghost use Rattle.std.specs.Prelude.{◌≡◌, ℕ, length, IfOk};
-ghost use Rattle.record_shelves.specs.declared.TheConstants.{INSTANCES};
+ghost use Rattle.mem_rec.specs.declared.TheConstants.{INSTANCES};
 ghost use Rattle.record_shelves.specs.Shelves.{no_shelf, shelf_at, once_at, no_pieces, IsUnshared};
-
-use crate::INSTANCES;
+use mem_rec::INSTANCES;
 use crate::shelves::{Shelf, end_absent};
 use record_loans::Pieces;
 use std::alloc::{AllocError, Allocator};

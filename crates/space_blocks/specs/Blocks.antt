@@ -1,10 +1,9 @@
 -- The blocks of one space, with their owners.
 use Rattle.std.specs.Prelude.{ℕ, ◌≤◌, ◌<◌, ◌&&◌, ◌==◌, Bool, false, not, List, [], ◌∷◌, map, filter, length, Option, Some, None, nat_lt, if◌then◌else◌}
 use Rattle.std.specs.List.{Contains}
-use Rattle.mem_rec.specs.declared.TheConstants.{TABLE_RECORDS}
+use Rattle.mem_rec.specs.declared.TheConstants.{TABLE_RECORDS, GROUPS, INSTANCES}
 use Rattle.space_raw.specs.Span.{Span}
 use Rattle.space_heap.specs.Places.{Range}
-use Rattle.space_blocks.specs.declared.TheConstants.{GROUPS, INSTANCES}
 use Rattle.space_blocks.specs.declared.placed.Owner.{Owner}
 use Rattle.space_blocks.specs.declared.placed.Owner.TheVariants.{Record, Scratch}
 use Rattle.space_blocks.specs.declared.placed.Placed.{Placed}

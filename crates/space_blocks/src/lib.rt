@@ -11,14 +11,8 @@ mod placed;
 
 pub use blocks::{Map, SpaceBlocks};
 pub use laws::{blocks_are_apart, blocks_are_few, moves_pack};
-use mem_rec::TABLE_RECORDS;
+use mem_rec::{GROUPS, INSTANCES, TABLE_RECORDS};
 pub use placed::{Owner, Placed};
-
-/// Instances have the numbers below this.
-pub const INSTANCES: usize = 64;
-
-/// Groups have the numbers below this.
-pub const GROUPS: u8 = 8;
 
 /// The most blocks of a space where no owner has two: a record is one block at most, and a group has one in each space.
 pub const MAP_BLOCKS: usize = INSTANCES * TABLE_RECORDS + GROUPS as usize;

@@ -213,6 +213,17 @@ fn different_samples() -> [i16; BLOCK_SAMPLES] {
     samples
 }
 
+/// How many words of a ring changed.
+fn changes(before: &[i16], after: &[i16]) -> usize {
+    let mut changed = 0usize;
+    for (old, new) in before.iter().zip(after.iter()) {
+        if old != new {
+            changed = changed.saturating_add(1);
+        }
+    }
+    changed
+}
+
 #[test]
 fn one_more_sample_changes_two_words_of_the_ring(rt: HostRuntime) {
     let (mut kept, mut ring) = ([POISON; 127], [POISON; 1_087]);
@@ -223,13 +234,23 @@ fn one_more_sample_changes_two_words_of_the_ring(rt: HostRuntime) {
     let before = ring;
     let mut out = Block::new();
     Fir::run(&kept, &mut ring, &[-7], &mut out);
-    let mut changed = 0usize;
-    for (old, new) in before.iter().zip(ring.iter()) {
-        if old != new {
-            changed = changed.saturating_add(1);
-        }
-    }
+    let changed = changes(&before, &ring);
     assert!(rt; changed == 1 || changed == 2);
+}
+
+// The second block goes around the ring's end, so that past samples and block don't stand there in a row.
+#[test]
+fn a_block_around_the_rings_end_shifts_no_past_sample(rt: HostRuntime) {
+    let (mut kept, mut ring) = ([POISON; 127], [POISON; 1_087]);
+    Fir::start(&[1; 64], &mut kept);
+    Fir::restore(&kept, &mut ring);
+    let mut out = Block::new();
+    Fir::run(&kept, &mut ring, &different_samples(), &mut out);
+    let before = ring;
+    let mut out = Block::new();
+    Fir::run(&kept, &mut ring, &[-7; 600], &mut out);
+    let changed = changes(&before, &ring);
+    assert!(rt; 599 < changed && changed <= 601);
 }
 
 #[test]

@@ -7,7 +7,7 @@ use Rattle.record_loans.specs.Blocks.{IsSameBlock}
 use Rattle.scratch_group.specs.Blocks.{block_in}
 use Rattle.lifecycle.specs.declared.instance.Inst.TheVariants.{Idling, Running}
 use Rattle.lifecycle.specs.States.{SameInstance, SameOnce}
-use Rattle.instance_table.specs.declared.TheConstants.{GROUPS}
+use Rattle.mem_rec.specs.declared.TheConstants.{GROUPS}
 use Rattle.record_shelves.specs.Homes.{HasHomes}
 use Rattle.record_shelves.specs.Shelves.{once_at}
 use Rattle.instance_table.specs.Table.{group_at, group_of, slot_at, slot_active_in, activity_at, instance_of}

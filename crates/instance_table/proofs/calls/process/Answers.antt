@@ -1,6 +1,6 @@
 use Rattle.std.proofs.Common.{◌≡◌, ◌<◌, ℕ, Some, refl, sym, ◌∙◌, ap, subst}
 use Rattle.std.proofs.lemmas.Option.{none-some}
-use Rattle.instance_table.specs.declared.TheConstants.{GROUPS}
+use Rattle.mem_rec.specs.declared.TheConstants.{GROUPS}
 use Rattle.instance_table.specs.Table.{slot_at, group_at, group_of, slot_active_in, activity_at, woken}
 use Rattle.instance_table.proofs.Changes.{tables_then, later_member, member_of, never_active}
 use Rattle.instance_table.proofs.Activities.{same_group_of, not_active, none_active_after, activity_after_wake}

@@ -5,7 +5,7 @@ use Rattle.record_loans.specs.Blocks.{IsSameBlock}
 use Rattle.scratch_group.specs.Blocks.{block_in}
 use Rattle.lifecycle.specs.declared.instance.Inst.TheVariants.{Idling, Running}
 use Rattle.lifecycle.specs.States.{SameInstance, SameOnce}
-use Rattle.instance_table.specs.declared.TheConstants.{GROUPS}
+use Rattle.mem_rec.specs.declared.TheConstants.{GROUPS}
 use Rattle.record_shelves.specs.Shelves.{once_at}
 use Rattle.instance_table.specs.Table.{group_at, group_of, slot_at, slot_active_in, activity_at, woken, instance_of}
 use Rattle.instance_table.proofs.Changes.{homes_of_slot, read_ok_group, read_there, member_of, slot_in, turned, kept_in_slot, fits_in_slot, tables_after_change, ok_after_change, poisoned_after_change, activity_after_change, keeps_after_step}
