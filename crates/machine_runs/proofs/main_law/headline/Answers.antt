@@ -15,7 +15,6 @@ returns-clause-run g c = λ kinds named widths sizes poison lines inputs answer 
       runs = ran.1;
       each = λ i kind g' p later lawful born.
           c.births_go_by_their_histories.ensures.born kinds (start sizes poison inputs).state.host answer.run.state.host ran.0 i g' kind p later ran.2 lawful born;
-      inputs = called.1.inputs;
       outputs = called.1.outputs;
       refuses = record {
         only = c.creations_alone_lack_room.ensures.only kinds;
