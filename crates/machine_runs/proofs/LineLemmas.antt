@@ -216,7 +216,7 @@ module _ {M : Type 0} (kinds : Meaning M) (widths : Widths) where
     pub lead : Leads kinds before.state made after.state
     pub outputs : (c : ℕ) → held c written ≡ octets_at (widths.output c) (fed_out c made)
 
-  and_then : (a b c : Run (Channels M)) (first later : List Written) (made more : List (Call M)) → Serves a b first made → Serves b c later more → Serves a c (first ++ later) (made ++ more)
+  pub and_then : (a b c : Run (Channels M)) (first later : List Written) (made more : List (Call M)) → Serves a b first made → Serves b c later more → Serves a c (first ++ later) (made ++ more)
   and_then a b c first later made more one two = record {
     lead = leads_on made more a.state b.state c.state one.lead two.lead;
     outputs = λ k. held_more k first later ∙ ap (λ r. r ++ held k later) (one.outputs k) ∙ ap (λ r. octets_at (widths.output k) (fed_out k made) ++ r) (two.outputs k)
@@ -282,7 +282,7 @@ module _ {M : Type 0} (kinds : Meaning M) (widths : Widths) where
       pub serves : Serves run answer.run answer.written made
       pub refused : 1 ≤ refusals answer.written → answer.run.state ≡ run.state
 
-    abbrev Leaves : Type 0
+    abbrev pub Leaves : Type 0
     Leaves = (before after : Channels M) (call : Call M) (refusal : Refusal) → Does kinds before call after → refusal_of call ≡ Some refusal → after ≡ before
 
     -- nothing is called, and a reply is told or none
@@ -470,3 +470,56 @@ module _ {M : Type 0} (kinds : Meaning M) (widths : Widths) where
     are_calls leaves lines run answer a =
         let did = all_did leaves lines run answer a in
         (did.0, record { lead = did.2.lead; commands = did.1; outputs = did.2.outputs })
+
+    -- ---- the first lines, and those after them
+
+    pub record DidFirst (first more : List (List ℕ)) (run : Run (Channels M)) (answer : Answer (Channels M)) : Type 0 where
+      pub so_far : Answer (Channels M)
+      pub served : LinesAnswer machine run first so_far
+      pub later : List Written
+      pub written : answer.written ≡ so_far.written ++ later
+      pub made : List (Call M)
+      pub commands : LinesMake named first (left widths run) made (left widths so_far.run)
+      pub serves : Serves run so_far.run so_far.written made
+      pub made_later : List (Call M)
+      pub serves_later : Serves so_far.run answer.run later made_later
+      pub all_commands : LinesMake named (first ++ more) (left widths run) (made ++ made_later) (left widths answer.run)
+
+    pub did_first : Leaves → (first more : List (List ℕ)) (run : Run (Channels M)) (answer : Answer (Channels M)) → LinesAnswer machine run (first ++ more) answer
+        → DidFirst first more run answer
+    did_first leaves [] more run answer a =
+        let did = all_did leaves more run answer a in
+        record {
+          so_far = record { run = run; written = [] };
+          served = refl;
+          later = answer.written;
+          written = refl;
+          made = [];
+          commands = (refl, λ c. refl);
+          serves = nothing run;
+          made_later = did.0;
+          serves_later = did.2;
+          all_commands = did.1;
+        }
+    did_first leaves (line ∷ first) more run answer a =
+        let one = one_did leaves run line a.0 a.1 in
+        let rest = did_first leaves first more a.0.run a.2 a.3 in
+        record {
+          so_far = then_answer a.0.written rest.so_far;
+          served = (a.0, a.1, rest.so_far, rest.served, refl);
+          later = rest.later;
+          written = ap (λ (b : Answer (Channels M)). b.written) a.4 ∙ ap (λ w. a.0.written ++ w) rest.written ∙ sym (append_assoc a.0.written rest.so_far.written rest.later);
+          made = one.made ++ rest.made;
+          commands = (left widths a.0.run, one.made, rest.made, one.asked, rest.commands, refl);
+          serves = and_then run a.0.run rest.so_far.run a.0.written rest.so_far.written one.made rest.made one.serves rest.serves;
+          made_later = rest.made_later;
+          serves_later = subst (λ (b : Answer (Channels M)). Serves rest.so_far.run b.run rest.later rest.made_later) (sym a.4) rest.serves_later;
+          all_commands = (
+            left widths a.0.run,
+            one.made,
+            rest.made ++ rest.made_later,
+            one.asked,
+            subst (λ (b : Answer (Channels M)). LinesMake named (first ++ more) (left widths a.0.run) (rest.made ++ rest.made_later) (left widths b.run)) (sym a.4) rest.all_commands,
+            append_assoc one.made rest.made rest.made_later,
+          );
+        }
