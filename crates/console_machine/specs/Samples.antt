@@ -17,19 +17,12 @@ abbrev pub samples_of : List ℕ → List ℤ
 samples_of (low ∷ high ∷ octets) = cast_signed w16 (low + 256 * high) ∷ samples_of octets
 samples_of _ = []
 
--- the low eight bits of each sample
-abbrev pub low_octets_of : List ℤ → List ℕ
-low_octets_of xs = map (λ x. cast_unsigned w16 x % 256) xs
-
--- each octet is a sample, 0 to 255
-abbrev pub octet_samples_of : List ℕ → List ℤ
-octet_samples_of octets = map pos octets
-
--- by the width of the port that they go to, or come from
+-- by the width of the port that they go to: of octets the low eight bits of each sample
 abbrev pub octets_at : Width → List ℤ → List ℕ
 octets_at Word xs = octets_of xs
-octets_at Octet xs = low_octets_of xs
+octets_at Octet xs = map (λ x. cast_unsigned w16 x % 256) xs
 
+-- by the width of the port that they come from: each octet is a sample, 0 to 255
 abbrev pub samples_at : Width → List ℕ → List ℤ
 samples_at Word octets = samples_of octets
-samples_at Octet octets = octet_samples_of octets
+samples_at Octet octets = map pos octets

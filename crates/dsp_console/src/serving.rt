@@ -7,7 +7,6 @@ ghost use Rattle.line_machine.specs.Widths.{widths_of};
 ghost use Rattle.console_machine.specs.Console.{console_machine, start};
 ghost use Rattle.script_server.specs.Runs.{AreReady, EndsWell, EndsByRead, EndsByWrite, IsHonest, IsUnused, known_of, octets_to_come, run_of};
 ghost use Rattle.voice_console.specs.Consoles.{Keeps, channels_of, port_widths_of};
-ghost use Rattle.voice_script.specs.Script.{lines_of};
 ghost use Rattle.dsp_console.specs.Fresh.{fresh};
 ghost use Rattle.dsp_console.specs.Headline.{RunHeadline};
 ghost use Rattle.dsp_console.specs.Lawful.{EndsLawfullyByRead, EndsLawfullyByWrite, ServesLawfully};
@@ -120,7 +119,7 @@ pub fn run<M: Ialg + Named, S: PortIn, I: PortIn, O: PortOut, P: PortOut>(
 
     // Over any list of commands: the headline.
     ensures headline { IsHonest (S.source script.old) → All IsHonest (map I.source inputs.old.items)
-        → IfOk result (λ summary. RunHeadline M.meaning M.named (widths_of config.in8 config.out8) (lines_of (S.source script.old).coming) config.sizes config.poison
+        → IfOk result (λ summary. RunHeadline M.meaning M.named (widths_of config.in8 config.out8) config.sizes config.poison summary.refused
         (known_of S.source I.source O.sink P.sink script.old inputs.old.items outputs.old.items replies.old)
         (known_of S.source I.source O.sink P.sink script.new inputs.new.items outputs.new.items replies.new)) }
 

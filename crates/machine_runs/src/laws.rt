@@ -33,8 +33,8 @@ pub fn calls_run_on_the_host<M>()
 /// nothing.
 pub fn births_go_by_their_histories<M>()
     ensures born { (kinds : Meaning M) (before after : State M) (calls : List (host_calls.Call M)) (i g : ℕ) (kind : M) (p : List ℤ) (later : List (host_calls.Call M))
-        → host_calls.Leads kinds before calls after → IsTrue (kinds.lawful kind p before.poison) → Born i kind g p calls later
-        → GoesByItsHistory kinds i kind g p later after }
+        → host_calls.Leads kinds before calls after → IsTrue (kinds.lawful kind p before.poison) → (born : Born i kind g p calls later)
+        → GoesByItsHistory kinds i kind g p later born.rest after }
     ensures process { (i : ℕ) (block out : List ℤ) → host_calls.refusal_of {M = M} (Process i block out) ≡ None }
 {}
 
