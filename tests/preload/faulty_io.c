@@ -9,7 +9,8 @@
  *   FAULT_ERRNO    its errno; 0 at a write: it takes no byte
  *   FAULT_STAYS    where it is 1, that descriptor's later calls fail as well; else only the one does
  *   FAULT_REPORT   a file that is told at the end which call failed first, "KIND DESCRIPTOR", where KIND is read,
- *                  write or none, and then how many bytes were read from each descriptor, from 0
+ *                  write or none, and then, of each descriptor from 0 on, how many bytes were read and how
+ *                  often its end was, "BYTES:ENDS"
  */
 #define _GNU_SOURCE
 #include <errno.h>
@@ -26,7 +27,7 @@ static int shortened, one, failure, stays, failed_descriptor = -1;
 static const char *kind = "none";
 
 #define DESCRIPTORS 64
-static unsigned long taken[DESCRIPTORS];
+static unsigned long taken[DESCRIPTORS], ends[DESCRIPTORS];
 
 static long number(const char *name, long otherwise) {
     const char *text = getenv(name);
@@ -44,10 +45,11 @@ __attribute__((constructor)) static void begin(void) {
 
 __attribute__((destructor)) static void end(void) {
     const char *path = getenv("FAULT_REPORT");
-    char text[24 * DESCRIPTORS];
+    char text[48 * DESCRIPTORS];
     int length = snprintf(text, sizeof text, "%s %d", kind, failed_descriptor);
     for (int descriptor = 0; descriptor < DESCRIPTORS; descriptor++)
-        length += snprintf(text + length, sizeof text - (size_t)length, " %lu", taken[descriptor]);
+        length += snprintf(text + length, sizeof text - (size_t)length, " %lu:%lu", taken[descriptor],
+                           ends[descriptor]);
     int file = path ? (int)syscall(SYS_openat, AT_FDCWD, path, O_WRONLY | O_CREAT | O_TRUNC, 0600) : -1;
     if (file >= 0) {
         syscall(SYS_write, file, text, (size_t)length);
@@ -88,8 +90,10 @@ ssize_t read(int descriptor, void *buffer, size_t count) {
         return -1;
     }
     ssize_t got = syscall(SYS_read, descriptor, buffer, some_of(count));
-    if (got > 0 && descriptor >= 0 && descriptor < DESCRIPTORS)
-        taken[descriptor] += (unsigned long)got;
+    if (descriptor >= 0 && descriptor < DESCRIPTORS) {
+        taken[descriptor] += got > 0 ? (unsigned long)got : 0;
+        ends[descriptor] += got == 0 && count > 0;
+    }
     return got;
 }
 

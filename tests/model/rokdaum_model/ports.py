@@ -11,16 +11,19 @@ class PortFault(Exception):
 
 
 class TapeIn:
-    """An input over memory: at most `step` bytes a call, a fault at the call numbered `fuse`, from 0, or where it is `broken`
-    a fault in place of the end."""
+    """An input over memory: at most `step` bytes a call, a fault at the call numbered `fuse`, from 0. Where `ends` is given, the
+    end is answered so many times, and then there is a fault."""
 
-    def __init__(self, data: bytes, step: Optional[int] = None, fuse: Optional[int] = None, broken: bool = False):
-        self.data, self.at, self.step, self.fuse, self.broken, self.calls = data, 0, step, fuse, broken, 0
+    def __init__(self, data: bytes, step: Optional[int] = None, fuse: Optional[int] = None, ends: Optional[int] = None):
+        self.data, self.at, self.step, self.fuse, self.ends, self.calls = data, 0, step, fuse, ends, 0
 
     def get(self, n: int) -> bytes:
         """Up to n bytes, none at the end."""
-        if self.calls == self.fuse or (self.broken and self.at == len(self.data)):
+        at_end = self.at == len(self.data)
+        if self.calls == self.fuse or (at_end and self.ends == 0):
             raise PortFault
+        if at_end and self.ends is not None:
+            self.ends -= 1
         self.calls += 1
         taken = self.data[self.at:self.at + (n if self.step is None else min(n, self.step))]
         self.at += len(taken)
