@@ -1,6 +1,7 @@
 """What the tests of the program stand on: a folder of their own, and runs of the program in it.
 
-The program is the one that the environment names in ROKDAUM_PROGRAM, else the one that `./dsp_console` builds.
+The environment may name the program in ROKDAUM_PROGRAM (else it is the one that `./dsp_console` builds), and in ROKDAUM_PATIENCE
+how many seconds a run or a reply is waited for.
 """
 
 from __future__ import annotations
@@ -21,7 +22,7 @@ sys.path.insert(0, str(Path(__file__).resolve().parents[1] / "model"))
 from rokdaum_model.program import find_program  # noqa: E402
 
 PROGRAM = str(find_program(os.environ.get("ROKDAUM_PROGRAM")))
-PATIENCE = 60.0
+PATIENCE = float(os.environ.get("ROKDAUM_PATIENCE", "60"))   # seconds that a run or a reply is waited for
 HALF = b"create 0 fir 0 16384\nchain 0 0\n"
 """A channel that halves its samples."""
 

@@ -73,17 +73,16 @@ class Pairs(ConsoleCase):
         self.assertEqual(self.read("out"), words(1, 2, 3))
 
     def test_each_size_is_of_its_own_space(self) -> None:
-        """A filter has four words in external, one rounded to four in saram, and its scratch in daram."""
-        script = b"create 0 fir 0 1\nmap daram\nmap saram\nmap external\n"
-        maps = {"daram": b"ok g0@0+1024\n", "saram": b"ok i0.r1@0+4\n", "external": b"ok i0.r0@0+4\n"}
-        granted = b"ok\n" + b"".join(maps.values())
-        least = {"daram": 1024, "saram": 4, "external": 4}
+        """A filter of five coefficients has its scratch in daram, nine words in saram and four in external."""
+        script = b"create 0 fir 0 1 2 3 4 5\nmap daram\nmap saram\nmap external\n"
+        granted = b"ok\nok g0@0+1028\nok i0.r1@0+12\nok i0.r0@0+4\n"
+        least = {"daram": 1028, "saram": 12, "external": 4}
         for space, size in least.items():
             ended = self.run_script(script, f"--{space}={size}", "in", "out")
             self.assertEqual((ended.status, ended.replies), (0, granted), f"--{space} {size}")
             ended = self.run_script(script, f"--{space}={size - 4}", "in", "out")
             self.assertEqual((ended.status, ended.replies), (1, b"no 7 room\nok\nok\nok\n"), f"--{space} {size - 4}")
-        ended = self.run_script(script, "--daram=1024", "--saram=4", "--external=4", "in", "out")
+        ended = self.run_script(script, "--daram=1028", "--saram=12", "--external=4", "in", "out")
         self.assertEqual((ended.status, ended.replies), (0, granted))
 
     def test_a_poison_word_does_not_show(self) -> None:

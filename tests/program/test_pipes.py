@@ -14,12 +14,18 @@ from typing import Optional
 from console_case import HALF, PATIENCE, PROGRAM, WRITE_FAILED, ConsoleCase, words
 
 
+def end_by_signals() -> None:
+    """In a child: the signals that end a program do so, also where whoever started the tests ignores them."""
+    for sent in (signal.SIGINT, signal.SIGHUP, signal.SIGTERM):
+        signal.signal(sent, signal.SIG_DFL)
+
+
 class Dialogue:
     """A run whose SCRIPT is a pipe, line by line: each line is written when the reply before it has come."""
 
     def __init__(self, case: ConsoleCase, *ports: str):
         self.process = subprocess.Popen([PROGRAM, "/dev/stdin", *ports], cwd=case.folder, stdin=subprocess.PIPE,
-                                        stdout=subprocess.PIPE, stderr=subprocess.PIPE, bufsize=0)
+                                        stdout=subprocess.PIPE, stderr=subprocess.PIPE, bufsize=0, preexec_fn=end_by_signals)
         case.addCleanup(self.stop)
 
     def ask(self, line: bytes, seconds: float = PATIENCE) -> Optional[bytes]:
