@@ -285,9 +285,11 @@ class Checker:
                 crates = crates_of_heading(line, self.repository)
                 scope = set().union(*(self.repository.below(crate) for crate in crates)) if crates and scoped else set()
                 known = self.repository.words_of(scope) | set(self.repository.stands_on) | self.repository.edits if scope else self.repository.every_word
+            # What another crate has may be named beside it.
+            beside = self.repository.words_of({span for span in SPAN.findall(line) if span in self.repository.stands_on}) if scope else set()
             spans = re.findall(r"(?<![\w/.])(?:\./)?[\w.*-]+(?:/[\w.*-]+)+/?", line) if code else SPAN.findall(line)
             for span in spans:
-                for wrong in self.wrong_words(span, known, code):
+                for wrong in self.wrong_words(span, known | beside if beside else known, code):
                     where = " in these crates or below" if scope else ""
                     found.append(Problem(name, number, f"`{wrong}` isn't there{where}"))
             if not code:
