@@ -3,7 +3,7 @@
 """Keeps the documents true to the sources.
 
     tools/documents.py --check     says what README.md, docs/*.md and the examples' pages name or link to and isn't there, and what is stale
-    tools/documents.py --write     fills in what it makes: the counted numbers, and the column `headline` of docs/DEFINITIONS.md
+    tools/documents.py --write     fills in what it makes: counted numbers, reading lists, and the column `headline` of docs/DEFINITIONS.md
 
 What is checked:
 
@@ -12,7 +12,8 @@ What is checked:
   x and the y stand in the contract of a function z, in the record z, or in the crate or the crates that have z.
 - **Paths**, in backticks and in blocks of commands. A word in capitals is a placeholder.
 - **Links** and their anchors.
-- **Counted numbers** between `<!-- count: NAME -->` and `<!-- -->`.
+- **Counted numbers** between `<!-- count: NAME -->` and `<!-- -->`, and the reading list of the main theorem between `<!-- list: headline -->`
+  and `<!-- end of the list -->`.
 - **The length of README.md**: at most 250 lines of at most 120 letters.
 """
 from __future__ import annotations
@@ -43,6 +44,7 @@ WORD = re.compile(r"[A-Za-z_][A-Za-z0-9_']*")
 SPAN = re.compile(r"`([^`\n]+)`")
 LINK = re.compile(r"(?<!!)\[[^\]\n]*\]\(([^)\s]+)\)|!\[[^\]\n]*\]\(([^)\s]+)\)|src=\"([^\"]+)\"")
 COUNT = re.compile(r"<!-- count: (\w+) -->(.*?)<!-- -->", re.S)
+LIST = re.compile(r"<!-- list: (\w+) -->\n(.*?)<!-- end of the list -->", re.S)
 OF = re.compile(r"((?:`[^`\n]+`(?:,? and |, )?)+) of (?:the )?((?:`[^`\n]+`(?:,? and |, )?)+)")
 
 
@@ -353,6 +355,12 @@ class Checker:
                 found.append(Problem(name, number, f"nothing counts {match[1]}"))
             elif match[2] != f"{counts[match[1]]():,}":
                 found.append(Problem(name, number, f"{match[1]} is {counts[match[1]]():,}, and not {match[2]}: tools/documents.py --write"))
+        for match in LIST.finditer(text):
+            number = text.count("\n", 0, match.start()) + 1
+            if match[1] != "headline":
+                found.append(Problem(name, number, f"nothing lists {match[1]}"))
+            elif match[2] != reading_list(self.repository):
+                found.append(Problem(name, number, "the reading list is stale: tools/documents.py --write"))
         if text.count("<!-- count:") != len(COUNT.findall(text)):
             found.append(Problem(name, 0, "a counted number has no end"))
         return found
@@ -373,8 +381,20 @@ class Checker:
         return found
 
 
+def reading_list(repository: Repository) -> str:
+    """The definitions that the main theorem needs, crate by crate, from the top of crates.txt down."""
+    order = list(repository.stands_on)
+    rows = ["| crate | files of `specs/` | definitions | lines |", "|---|---|---|---|"]
+    for crate, found in sorted(repository.headline.by_crate().items(), key=lambda item: -order.index(item[0])):
+        files = ", ".join(f"`{file}`" for file in dict.fromkeys(one.file for one in found))
+        rows.append(f"| `{crate}` | {files} | {len(found)} | {sum(len(one.code()) for one in found)} |")
+    return "\n".join(rows) + "\n"
+
+
 def with_counts(text: str, repository: Repository) -> str:
+    """The text with its counted numbers and its reading lists as they are now."""
     counts = repository.counts()
+    text = LIST.sub(lambda found: f"<!-- list: headline -->\n{reading_list(repository)}<!-- end of the list -->" if found[1] == "headline" else found[0], text)
     return COUNT.sub(lambda found: f"<!-- count: {found[1]} -->{counts[found[1]]():,}<!-- -->" if found[1] in counts else found[0], text)
 
 
