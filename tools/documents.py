@@ -323,7 +323,9 @@ class Checker:
     def wrong_owners(self, line: str) -> Iterator[tuple[str, str]]:
         """In `x`, `y` of `z`: each x and y that no z has."""
         for found in OF.finditer(line):
-            owners = [WORD.findall(span)[-1] for span in SPAN.findall(found[2]) if WORD.findall(span)]
+            owners = [WORD.findall(span)[-1] for span in SPAN.findall(found[2]) if WORD.findall(span) and "/" not in span]
+            if len(owners) < len(SPAN.findall(found[2])):
+                continue
             for span in SPAN.findall(found[1]):
                 parts = WORD.findall(span)
                 # Of a dotted name the first word is the field. What others own, and what has no owner here, can't be looked up.
