@@ -1,4 +1,5 @@
 #!/usr/bin/env python3
+# SPDX-License-Identifier: Apache-2.0
 """Measures what a channel costs: instructions a sample or a call, by callgrind, and seconds.
 
 usage: docs/capacity.py PROGRAM

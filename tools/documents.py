@@ -376,9 +376,7 @@ class Checker:
         return [Problem(DEFINITIONS, at, "the column `headline` is stale: tools/documents.py --write") for at in stale]
 
     def length(self) -> list[Problem]:
-        """Comments are not counted: a reader doesn't see them."""
-        text = (self.repository.root / "README.md").read_text(encoding="utf-8")
-        lines = re.sub(r"<!--.*?-->", "", text).splitlines()
+        lines = (self.repository.root / "README.md").read_text(encoding="utf-8").splitlines()
         found = [Problem("README.md", at, f"{len(line)} letters") for at, line in enumerate(lines, 1) if len(line) > README_LETTERS]
         if len(lines) > README_LINES:
             found.append(Problem("README.md", len(lines), f"{len(lines)} lines"))
