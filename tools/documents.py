@@ -373,7 +373,12 @@ class Checker:
             return []
         text = path.read_text(encoding="utf-8")
         stale = [at for at, (old, new) in enumerate(zip(text.splitlines(), with_column(text, self.repository).splitlines()), 1) if old != new]
-        return [Problem(DEFINITIONS, at, "the column `headline` is stale: tools/documents.py --write") for at in stale]
+        found = [Problem(DEFINITIONS, at, "the column `headline` is stale: tools/documents.py --write") for at in stale]
+        listed = listed_definitions(text, self.repository)
+        for crate, file, name in sorted(self.repository.headline.found):
+            if (crate, name) not in listed:
+                found.append(Problem(DEFINITIONS, 0, f"`{name}` of {crate}, {file}, which the main theorem needs, isn't listed"))
+        return found
 
     def length(self) -> list[Problem]:
         lines = (self.repository.root / "README.md").read_text(encoding="utf-8").splitlines()
@@ -405,6 +410,23 @@ def cells(row: str) -> list[str]:
     return [cell.strip() for cell in re.split(r"\|(?=(?:[^`]*`[^`]*`)*[^`]*$)", row.strip().strip("|"))]
 
 
+def names_in(cell: str) -> list[str]:
+    """The names in backticks in a cell. Of a dotted name the last word counts."""
+    return [WORD.findall(span)[-1] for span in SPAN.findall(cell) if WORD.findall(span)]
+
+
+def listed_definitions(text: str, repository: Repository) -> set[tuple[str, str]]:
+    """Each name in a first cell, with each crate of the heading above it."""
+    found: set[tuple[str, str]] = set()
+    scope: set[str] = set()
+    for line in text.splitlines():
+        if line.startswith("#"):
+            scope = crates_of_heading(line, repository)
+        elif line.startswith("|"):
+            found |= {(crate, name) for crate in scope for name in names_in(cells(line)[0])}
+    return found
+
+
 def with_column(text: str, repository: Repository) -> str:
     """The list of definitions with its column `headline`: which names of a row the main theorem needs."""
     needed: dict[str, set[str]] = defaultdict(set)
@@ -423,10 +445,10 @@ def with_column(text: str, repository: Repository) -> str:
         elif found and width and set(line) <= set("|-: "):
             line = "|" + "---|" * (width + 1)
         elif found and width:
-            names = [WORD.findall(span)[-1] for span in SPAN.findall(found[0]) if WORD.findall(span)]
+            names = names_in(found[0])
             wanted = [name for name in names if any(name in needed[crate] for crate in scope)]
             mark = "all" if wanted and len(wanted) == len(names) else ", ".join(f"`{name}`" for name in wanted)
-            line = f"| {' | '.join([*found[:width], mark])} |".replace("|  |", "| |")
+            line = f"| {' | '.join([*found[:width], mark])} |".replace("|  |", "| |").replace("|  |", "| |")
         else:
             width = 0 if not found else width
         rows.append(line)

@@ -166,6 +166,48 @@ class Numbers(Checkout):
         self.assert_one("121 letters")
 
 
+class Definitions(Checkout):
+    """The list of definitions, in a repository whose main theorem is `run` of `dsp_console`."""
+
+    TABLE = "# Definitions\n\n## `low`: `Numbers`\n\n| definition | what it is | headline |\n|---|---|---|\n| `doubled`, `alone` | twice | `doubled` |\n"
+
+    def setUp(self) -> None:
+        super().setUp()
+        self.put("crates.txt", "low:\nvoice_set:\ndsp_console: low\n")
+        self.put("docs/MORE.md", MORE.replace(">2<", ">3<"))
+        self.put("crates/dsp_console/src/lib.rt", "ghost use Rattle.low.specs.Numbers.{doubled};\npub fn run()\n    ensures headline { doubled 1 ≡ 2 }\n{\n}\n")
+        self.put("crates/voice_set/specs/Voices.antt", "abbrev pub voice_meaning : ℕ\nvoice_meaning = 1\n\nabbrev pub voice_named : ℕ\nvoice_named = 1\n")
+        self.rest = "| `voice_meaning`, `voice_named` | both | all |\n"
+        self.table = self.TABLE + "\n## `voice_set`: `Voices`\n\n| definition | what it is | headline |\n|---|---|---|\n" + self.rest
+        self.put("docs/DEFINITIONS.md", self.table)
+
+    def test_a_true_list(self) -> None:
+        self.assertEqual(self.problems(), [])
+
+    def test_a_stale_column_is_found_and_written(self) -> None:
+        self.put("docs/DEFINITIONS.md", self.table.replace("| twice | `doubled` |", "| twice | |"))
+        self.assert_one("docs/DEFINITIONS.md:7", "stale")
+        self.assertEqual(documents.write(documents.Repository(self.root)), ["docs/DEFINITIONS.md"])
+        self.assertEqual((self.root / "docs/DEFINITIONS.md").read_text(), self.table)
+
+    def test_a_list_without_a_column_gets_one(self) -> None:
+        bare = self.table.replace(" headline |", "").replace("|---|---|---|", "|---|---|").replace("twice | `doubled` |", "twice |").replace("both | all |", "both |")
+        self.put("docs/DEFINITIONS.md", bare)
+        documents.write(documents.Repository(self.root))
+        self.assertEqual((self.root / "docs/DEFINITIONS.md").read_text(), self.table)
+
+    def test_a_definition_that_is_not_listed(self) -> None:
+        self.put("docs/DEFINITIONS.md", self.table.replace(self.rest, "| `voice_meaning` | one | all |\n"))
+        self.assert_one("`voice_named` of voice_set", "isn't listed")
+
+    def test_a_stale_reading_list(self) -> None:
+        self.put("docs/MORE.md", "# A part\n\n<!-- list: headline -->\n<!-- end of the list -->\n")
+        self.assert_one("the reading list is stale")
+        documents.write(documents.Repository(self.root))
+        self.assertEqual(self.problems(), [])
+        self.assertIn("| `low` | `Numbers` | 1 | 2 |", (self.root / "docs/MORE.md").read_text())
+
+
 class Closures(Checkout):
     def setUp(self) -> None:
         super().setUp()
