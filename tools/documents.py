@@ -303,9 +303,11 @@ class Checker:
         for path in re.findall(r"(?<![\w/.])(?:\./)?[\w.*-]+(?:/[\w.*-]+)+/?", span):
             if path.removeprefix("./").split("/")[0] in TOP_FOLDERS and not self.is_path(path.removeprefix("./")):
                 yield path
-        if code:
+        if code or span.startswith("-- "):  # a comment of a source
             return
         for word in WORD.findall(re.sub(r"(?:\./)?[\w.*-]+(?:/[\w.*-]+)+/?", " ", span)):
+            if word.startswith("_") and any(name.endswith(word) for name in known):
+                continue
             if len(word) < 3 or word in known or re.fullmatch(r"[A-Z][A-Z0-9_]*", word) and word not in self.outside:
                 continue
             if word in self.outside:
