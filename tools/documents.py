@@ -14,6 +14,7 @@ What is checked:
 - **Links** and their anchors.
 - **Counted numbers** between `<!-- count: NAME -->` and `<!-- -->`, and the reading list of the main theorem between `<!-- list: headline -->`
   and `<!-- end of the list -->`.
+- **Crates**: each has its row in docs/ARCHITECTURE.md.
 - **The length of README.md**: at most 250 lines of at most 120 letters.
 """
 from __future__ import annotations
@@ -33,6 +34,7 @@ import closure as reading  # noqa: E402  (the folder of this file has to be on t
 
 ROOT = Path(__file__).resolve().parent.parent
 DEFINITIONS = "docs/DEFINITIONS.md"
+ARCHITECTURE = "docs/ARCHITECTURE.md"
 OUTSIDE_NAMES = "tools/outside_names.txt"
 README_LINES, README_LETTERS = 250, 120
 
@@ -272,6 +274,7 @@ class Checker:
             found += self.links(path, name, text)
             found += self.counted(name, text)
         found += self.column()
+        found += self.rows_of_crates()
         found += self.length()
         for word in sorted(set(self.outside) - self.used_outside):
             found.append(Problem(OUTSIDE_NAMES, 0, f"`{word}` stands in no document"))
@@ -381,6 +384,14 @@ class Checker:
             if (crate, name) not in listed:
                 found.append(Problem(DEFINITIONS, 0, f"`{name}` of {crate}, {file}, which the main theorem needs, isn't listed"))
         return found
+
+    def rows_of_crates(self) -> list[Problem]:
+        """Each crate that ARCHITECTURE.md has no row for."""
+        path = self.repository.root / ARCHITECTURE
+        if not path.is_file():
+            return []
+        rows = {name for line in path.read_text(encoding="utf-8").splitlines() if line.startswith("| `") for name in names_in(cells(line)[0])}
+        return [Problem(ARCHITECTURE, 0, f"the crate `{crate}` has no row") for crate in self.repository.stands_on if crate not in rows]
 
     def length(self) -> list[Problem]:
         lines = (self.repository.root / "README.md").read_text(encoding="utf-8").splitlines()

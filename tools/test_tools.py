@@ -118,6 +118,10 @@ class Names(Checkout):
         self.put("docs/PROVED.md", "# Proved\n\n## `low`\n\n`halve`\n")
         self.assert_one("docs/PROVED.md:5", "`halve`", "these crates")
 
+    def test_a_crate_without_a_row(self) -> None:
+        self.put("docs/ARCHITECTURE.md", "| crate | does |\n|---|---|\n| `low` | little |\n")
+        self.assert_one("`high` has no row")
+
     def test_outside_names(self) -> None:
         self.put("README.md", README + "\n`sox`\n")
         self.put("tools/outside_names.txt", "Debian: sox\n")
