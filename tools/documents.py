@@ -264,6 +264,9 @@ class Checker:
         self.repository = repository
         self.outside = read_outside(repository.root)
         self.used_outside: set[str] = set()
+        kept_out = repository.root / ".gitignore"
+        # What commands make and nobody keeps may be named.
+        self.ignored = kept_out.read_text(encoding="utf-8").split() if kept_out.is_file() else []
 
     def check(self) -> list[Problem]:
         found: list[Problem] = []
@@ -321,7 +324,7 @@ class Checker:
     def is_path(self, path: str) -> bool:
         if any(part.isupper() and part.isalpha() for part in re.split(r"[/.]", path)):
             return True
-        if any(fnmatch.fnmatch(path, pattern) for pattern in MADE):
+        if any(fnmatch.fnmatch(path, pattern) for pattern in (*MADE, *self.ignored)):
             return True
         return any(self.repository.root.glob(path.rstrip("/"))) if "*" in path else (self.repository.root / path).exists()
 

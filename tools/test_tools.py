@@ -135,6 +135,13 @@ class Names(Checkout):
         self.assertEqual([problem.split(": ")[1] for problem in found], ["`crates/low/src/none.rt` isn't there", "`docs/none.md` isn't there"])
 
 
+    def test_what_git_ignores_may_be_named(self) -> None:
+        self.put("README.md", README + "\n    examples/one/out.raw\n")
+        self.assert_one("`examples/one/out.raw`")
+        self.put(".gitignore", "out/\nexamples/*/out.raw\n")
+        self.assertEqual(self.problems(), [])
+
+
 class Links(Checkout):
     def test_a_link_to_nowhere(self) -> None:
         self.put("README.md", README + "\n[a](docs/NONE.md)\n")
