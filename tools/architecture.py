@@ -5,6 +5,7 @@
     tools/architecture.py --write     draws it anew
     tools/architecture.py --check     says whether the kept picture is what would be drawn
     tools/architecture.py --layers    prints the layers with their crates, from the top down
+    tools/architecture.py --sections  prints crates.txt in sections, a heading for each layer, from the bottom up
 
 A comment line `## TITLE` in crates.txt begins a layer. Where there is none, a crate's layer is the one that the table below names.
 An arrow goes from a crate to each crate that it stands on and that no other arrow leads to already.
@@ -26,14 +27,14 @@ LAYERS: tuple[tuple[str, str], ...] = (
     ("tests", r"test_\w+|trial_\w+|\w+_rows|\w+_trace|\w+_turns|rogue_kit|mixed_console|scribbler|neighbours|slicer_life|shaky_device|counting_alloc|host_calls"),
     ("program", r"dsp_console_main|dsp_arguments|port_pairs"),
     ("engine", r"dsp_console|voice_console|script_server|port_journal|octet_ports|line_reader"),
-    ("script", r"voice_script|line_machine"),
     ("channels", r"voice_channel"),
-    ("specification", r"\w+_spec|sound_machine|channel_machine|console_machine|machine_runs|run_theorem|host_map"),
     ("host", r"alg_host|kept_\w+|host_(?:moves|create|delete|refines)"),
-    ("instances in spaces", r"(?:placed|grown|started|ended)_\w+|host_placed"),
+    ("specification", r"\w+_spec|sound_machine|channel_machine|console_machine|machine_runs|run_theorem"),
+    ("script", r"voice_script|line_machine"),
+    ("instances in spaces", r"(?:placed|grown|started|ended)_\w+|host_(?:placed|spaces)"),
     ("tables of instances", r"instance_\w+|table_\w+|record_shelves|host_(?:table|life|shared)"),
     ("one instance", r"lifecycle|scratch_group|record_(?:loans|cuts)"),
-    ("spaces", r"host_spaces|space_blocks|relocate|space_heap|space_raw"),
+    ("spaces", r"space_blocks|relocate|space_heap|space_raw|host_map"),
     ("algorithms", r"voice_set|alg_\w+|fir_kernel"),
     ("base", r"basic_op|mem_rec|ialg"),
 )
@@ -104,6 +105,29 @@ def layer_by_name(crate: str) -> str:
     return next((title for title, pattern in LAYERS if re.fullmatch(pattern, crate)), OTHERS)
 
 
+def sections(text: str, house: House) -> str:
+    """The lines of crates.txt by layers. A comment stays with the crate below it, but for those that only say what the heading says."""
+    lines: dict[str, list[str]] = {}
+    comments: list[str] = []
+    for line in text.splitlines():
+        if found := re.match(r"(\w+)[^:#]*:", line):
+            lines[found[1]] = [*comments, line]
+            comments = []
+        elif line.startswith("#") and not line.startswith("## ") and not re.match(r"# (for tests alone|a program$|each crate)", line):
+            comments.append(line)
+    parts = ["# each crate and the libraries that it uses, from the bottom up"]
+    for title in reversed(house.titles):
+        parts += ["", f"## {title}"] + [line for crate in house.of_layer(title) for line in lines[crate]]
+    return "\n".join(parts) + "\n"
+
+
+def upward(house: House) -> list[tuple[str, str]]:
+    """Each crate that stands on one of a layer above its own."""
+    height = {title: at for at, title in enumerate(house.titles)}
+    pairs = [(crate, other) for crate in house.below for other in house.below[crate]]
+    return [(crate, other) for crate, other in pairs if height[house.layer[other]] < height[house.layer[crate]]]
+
+
 def draw(house: House) -> str:
     """The picture as SVG text."""
     place: dict[str, tuple[int, int]] = {}
@@ -160,12 +184,19 @@ def main(words: list[str]) -> int:
     wanted.add_argument("--write", action="store_true", help="draw the picture anew")
     wanted.add_argument("--check", action="store_true", help="say whether the kept picture is stale")
     wanted.add_argument("--layers", action="store_true", help="print the layers with their crates")
+    wanted.add_argument("--sections", action="store_true", help="print crates.txt in sections")
     given = parser.parse_args(words)
-    house = House.read((given.root / "crates.txt").read_text(encoding="utf-8"))
+    text = (given.root / "crates.txt").read_text(encoding="utf-8")
+    house = House.read(text)
     if given.layers:
         for title in house.titles:
             print(f"{title}: {' '.join(house.of_layer(title))}")
         return 0
+    if given.sections:
+        print(sections(text, house), end="")
+        for crate, other in upward(house):
+            print(f"{crate} stands on {other}, of a layer above its own", file=sys.stderr)
+        return 1 if upward(house) else 0
     picture, path = draw(house), given.root / PICTURE
     if given.write:
         path.write_text(picture, encoding="utf-8")

@@ -266,6 +266,19 @@ class Pictures(unittest.TestCase):
         house = architecture.House.read("ialg:\nnobody_knows: ialg\n")
         self.assertEqual(house.of_layer(architecture.OTHERS), ["nobody_knows"])
 
+    def test_sections(self) -> None:
+        text = "# each crate\nialg:\n# for tests alone\ntrial_runs: voice_set\n# the kernel of filters\nalg_fir: ialg\nvoice_set: alg_fir\n"
+        wanted = "# each crate and the libraries that it uses, from the bottom up\n\n## base\nialg:\n\n## algorithms\n# the kernel of filters\nalg_fir: ialg\nvoice_set: alg_fir\n\n## tests\ntrial_runs: voice_set\n"
+        house = architecture.House.read(text)
+        self.assertEqual(architecture.sections(text, house), wanted)
+        again = architecture.House.read(wanted)
+        self.assertEqual((again.layer, again.titles), (house.layer, house.titles))
+        self.assertEqual(architecture.sections(wanted, again), wanted)
+
+    def test_a_crate_that_stands_on_a_layer_above(self) -> None:
+        house = architecture.House.read("ialg: alg_fir\nalg_fir:\n")
+        self.assertEqual(architecture.upward(house), [("ialg", "alg_fir")])
+
     def test_a_stale_picture(self) -> None:
         with tempfile.TemporaryDirectory() as folder:
             root = Path(folder)
