@@ -2,7 +2,7 @@
 # SPDX-License-Identifier: Apache-2.0
 """Keeps the documents true to the sources.
 
-    tools/documents.py --check     says what README.md, docs/*.md and the examples' pages name or link to and isn't there, and what is stale
+    tools/documents.py --check     says what the pages at the top, in docs and in examples name or link to and isn't there, and what is stale
     tools/documents.py --write     fills in what it makes: counted numbers, reading lists, and the column `headline` of docs/DEFINITIONS.md
 
 What is checked:
@@ -218,7 +218,7 @@ def read_outside(root: Path) -> dict[str, str]:
 
 
 def documents(root: Path) -> list[Path]:
-    return [root / "README.md", *sorted((root / "docs").glob("*.md")), *sorted((root / "examples").rglob("*.md"))]
+    return [*sorted(root.glob("*.md")), *sorted((root / "docs").glob("*.md")), *sorted((root / "examples").rglob("*.md"))]
 
 
 def prose(text: str) -> Iterator[tuple[int, str, bool]]:

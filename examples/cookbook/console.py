@@ -54,9 +54,10 @@ def answers(lines: Sequence[str], ports: Iterable[Path], options: Sequence[str] 
         script.write("\n".join(lines) + "\n")
         script.flush()
         words = [*program(), *options, script.name, *map(str, ports)]
-        ran = subprocess.run(words, stdin=subprocess.DEVNULL, stdout=subprocess.PIPE, stderr=subprocess.PIPE, text=True, check=False)
+        # The standard error is the caller's: there the first use says how far it is, and a failed run why.
+        ran = subprocess.run(words, stdin=subprocess.DEVNULL, stdout=subprocess.PIPE, text=True, check=False)
     if ran.returncode not in (0, 1):
-        sys.exit(f"status {ran.returncode}: {ran.stderr.strip()}")
+        sys.exit(f"dsp_console ended with status {ran.returncode}")
     return ran.stdout.splitlines()
 
 
