@@ -19,8 +19,8 @@ RATE = 8000
 LONGEST_FEED = 1024
 
 
-class Refused(Exception):
-    """A line of a script was refused: its number, its text and the reply."""
+class Refused(SystemExit):
+    """A line of a script was refused: its number, its text and the reply. Who doesn't catch it ends with that line."""
 
 
 def program() -> list[str]:
