@@ -20,10 +20,9 @@ from pathlib import Path
 
 TOP = Path(__file__).resolve().parent.parent
 CRATES = TOP / "crates"
+# The crate of the program, and that of its like with kinds that break the laws, which only tests run.
 NAME = "dsp_console_main"
-PROGRAM = CRATES / NAME / "out" / NAME
-# The checksum of the sources that the program was built from.
-BUILT_FROM = CRATES / NAME / "out" / "built_from"
+MIXED = "mixed_console"
 # What a crate is proved from.
 SOURCES = ("src", "specs", "proofs")
 # What else a program's folder has, for its stored run.
@@ -46,6 +45,16 @@ class CantBuild(Exception):
     def __init__(self, why: str, status: int) -> None:
         super().__init__(why)
         self.status = status
+
+
+def path_of(name: str = NAME) -> Path:
+    """Where a program stands once it is built."""
+    return CRATES / name / "out" / name
+
+
+def built_from(name: str = NAME) -> Path:
+    """The file with the checksum of the sources that a program was built from."""
+    return CRATES / name / "out" / "built_from"
 
 
 def uses() -> dict[str, list[str]]:
@@ -86,10 +95,10 @@ def octets_of(path: str) -> bytes:
         return file.read()
 
 
-def checksum() -> str:
-    """A checksum of all that the program is built from: the lines of crates.txt and each file of each crate of its closure."""
+def checksum(name: str = NAME) -> str:
+    """A checksum of all that a program is built from: the lines of crates.txt and each file of each crate of its closure."""
     listed, total = uses(), hashlib.sha256()
-    for crate in closure():
+    for crate in closure(name):
         total.update(f"{crate}: {' '.join(listed[crate])}\n".encode())
         for path in source_files(crate):
             text = octets_of(path)
@@ -97,15 +106,23 @@ def checksum() -> str:
     return total.hexdigest()
 
 
-def is_built() -> bool:
-    """Whether the program is there and was built from the sources as they stand."""
-    return os.access(PROGRAM, os.X_OK) and BUILT_FROM.is_file() and BUILT_FROM.read_text() == checksum()
+def is_built(name: str = NAME) -> bool:
+    """Whether a program is there and was built from the sources as they stand."""
+    sources = built_from(name)
+    return os.access(path_of(name), os.X_OK) and sources.is_file() and sources.read_text() == checksum(name)
 
 
-def take(made: Path, sources: str) -> None:
+def keep(name: str, sources: str) -> None:
+    """Says of the program that `rt ci` has just made in its place that it was made from these sources, if they still stand."""
+    if os.access(path_of(name), os.X_OK) and sources == checksum(name):
+        built_from(name).write_text(sources)
+
+
+def take(made: Path, name: str, sources: str) -> None:
     """Puts a program that was made from these sources in its place, whole or not at all."""
-    PROGRAM.parent.mkdir(parents=True, exist_ok=True)
-    for path, put in ((PROGRAM, lambda to: shutil.copy2(made, to)), (BUILT_FROM, lambda to: to.write_text(sources))):
+    program = path_of(name)
+    program.parent.mkdir(parents=True, exist_ok=True)
+    for path, put in ((program, lambda to: shutil.copy2(made, to)), (built_from(name), lambda to: to.write_text(sources))):
         part = path.with_suffix(f".{os.getpid()}")
         put(part)
         os.replace(part, path)
@@ -200,17 +217,17 @@ def copy_closure(room: Path, crates: list[str]) -> None:
                 shutil.copy(path, room / "crates" / crate)
 
 
-def build(say) -> None:
-    """Proves what the program stands on, and builds it, or raises why it can't be. What `say` is given is for a person to read."""
+def build(say, name: str = NAME) -> None:
+    """Proves what a program stands on, and builds it, or raises why it can't be. What `say` is given is for a person to read."""
     look_at_kit(say)
     folder = Path(tempfile.gettempdir())
     look_at_disk(folder)
-    crates, sources = closure(), checksum()
+    crates, sources = closure(name), checksum(name)
     progress = Progress(crates, say)
     progress.begin()
     log = folder / f"dsp_console-build-{os.getpid()}.log"
-    with tempfile.TemporaryDirectory(prefix="dsp_console-build-", dir=folder) as name:
-        room = Path(name)
+    with tempfile.TemporaryDirectory(prefix="dsp_console-build-", dir=folder) as copy:
+        room = Path(copy)
         copy_closure(room, crates)
         with open(log, "w", encoding="utf-8") as kept:
             ran = subprocess.Popen(["rt", "ci"], cwd=room, stdin=subprocess.DEVNULL, stdout=subprocess.PIPE, stderr=subprocess.STDOUT, text=True, errors="replace")
@@ -223,10 +240,10 @@ def build(say) -> None:
                 if refused:
                     say(f"{refused[1]} is refused")
             status = ran.wait()
-        made = room / "crates" / NAME / "out" / NAME
+        made = room / "crates" / name / "out" / name
         if status or not os.access(made, os.X_OK):
             raise CantBuild(f"not built: rt ci ended with status {status}, and all that it said is in {log}", NOT_BUILT)
-        take(made, sources)
+        take(made, name, sources)
     log.unlink()
     say("built")
 

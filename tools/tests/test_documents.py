@@ -1,5 +1,5 @@
 # SPDX-License-Identifier: Apache-2.0
-"""Tests of the tools that keep the documents: python3 -m unittest discover tools."""
+"""Tests of the tools that keep the documents: python3 -m unittest discover -t tools -s tools/tests."""
 from __future__ import annotations
 
 import contextlib
@@ -9,7 +9,7 @@ import tempfile
 import unittest
 from pathlib import Path
 
-sys.path.insert(0, str(Path(__file__).resolve().parent))
+sys.path.insert(0, str(Path(__file__).resolve().parents[1]))
 import architecture  # noqa: E402
 import closure  # noqa: E402
 import documents  # noqa: E402
