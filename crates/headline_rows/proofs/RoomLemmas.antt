@@ -6,6 +6,7 @@ use Rattle.std.proofs.lemmas.Bool.{lt-leb}
 use Rattle.space_heap.specs.Places.{is_free, meets}
 use Rattle.mem_rec.specs.declared.Space.{Space}
 use Rattle.mem_rec.specs.declared.Space.TheVariants.{Daram, External}
+use Rattle.space_blocks.specs.declared.placed.Owner.TheVariants.{Record}
 use Rattle.host_spaces.specs.Picture.{Picture, empty_picture, place_in, put_block}
 use Rattle.host_spaces.specs.declared.wants.Wanted.{Wanted}
 use Rattle.machine_runs.specs.Room.{FallsShort, HasNoPlace}
@@ -33,11 +34,18 @@ no_eight zero = refl
 no_eight (suc k) =
     ap (λ b. b && not (list_any (meets (record { place = suc k * 4; size = 8 })) (record { place = 0; size = 4 } ∷ []))) (lt-leb (suc k * 4 + 8) 8 (omega arith))
 
+-- the picture with the first block, and with the second one
+abbrev one_block : Picture
+one_block = put_block empty_picture Daram (record { owner = Record 0 0; place = 0; size = 4; align = 4 })
+
+abbrev two_blocks : Picture
+two_blocks = put_block one_block External (record { owner = Record 0 1; place = 0; size = 4; align = 4 })
+
 enough : (space : Space) → FallsShort small empty_picture (wanted_in Daram 0 4 ∷ wanted_in External 1 4 ∷ wanted_in Daram 2 4 ∷ []) space → ⊥
 enough space e =
     let one = placed empty_picture (wanted_in Daram 0 4) (wanted_in External 1 4 ∷ wanted_in Daram 2 4 ∷ []) space 0 refl (λ none. true_is_false (none 0)) e in
-    let two = placed _ (wanted_in External 1 4) (wanted_in Daram 2 4 ∷ []) space 0 refl (λ none. true_is_false (none 0)) one in
-    placed _ (wanted_in Daram 2 4) [] space 4 refl (λ none. true_is_false (none 1)) two
+    let two = placed one_block (wanted_in External 1 4) (wanted_in Daram 2 4 ∷ []) space 0 refl (λ none. true_is_false (none 0)) one in
+    placed two_blocks (wanted_in Daram 2 4) [] space 4 refl (λ none. true_is_false (none 1)) two
 
 first : (space : Space) → FallsShort small empty_picture (wanted_in External 0 8 ∷ wanted_in Daram 1 16 ∷ []) space → space ≡ External
 first space (inl none) = sym none.1

@@ -1,6 +1,7 @@
 -- Lines whose calls are known, one after the other.
 use Rattle.std.proofs.Common.{◌≡◌, ◌≤◌, ◌<◌, ◌+◌, ℕ, ℤ, suc, Bool, true, false, List, [], ◌∷◌, ◌++◌, length, Option, Some, None, Result, Ok, Err, inl, inr, refl, ap, sym, ◌∙◌, subst, arith, length-append}
-use Rattle.std.specs.Prelude.{◌==◌, if◌then◌else◌}
+use Rattle.std.specs.Prelude.{◌==◌, nat_le, if◌then◌else◌}
+use Rattle.std.proofs.lemmas.Bool.{leb-true}
 use Rattle.std.proofs.lemmas.Bool.Decides.{eqb_tells}
 use Rattle.space_heap.proofs.RangeTests.{either}
 use Rattle.ialg.specs.declared.refusal.Refusal.{Refusal}
@@ -17,8 +18,10 @@ use Rattle.channel_machine.specs.Calls.Call.{Ready, Feed}
 use Rattle.channel_machine.specs.Answers.{answered}
 use Rattle.channel_machine.proofs.AnswerLemmas.{computed}
 use Rattle.voice_script.specs.Script as script
+use Rattle.voice_script.specs.Script.{parsed}
+use Rattle.voice_script.specs.declared.limits.TheConstants.{LINE_OCTETS}
 use Rattle.machine_runs.specs.HostRuns.{AsHostCalls, IsPassing, RunsOnHost}
-use Rattle.machine_runs.specs.Lines.{ALineMakes, CommandMakes, IsFed, IsShort, Left, LinesMake, Makes}
+use Rattle.machine_runs.specs.Lines.{CommandMakes, IsFed, Left, LineMakes, LinesMake, Makes}
 
 same_cons : {x y : ℤ} {xs ys : List ℤ} → x ∷ xs ≡ y ∷ ys → (x ≡ y) × (xs ≡ ys)
 same_cons e = (cc, cc)
@@ -48,24 +51,24 @@ module _ {M : Type 0} (kinds : Meaning M) (named : List ℕ → Option M) where
 
   -- a line makes one call, whose answer is known
   pub told : {line : List ℕ} {lines : List (List ℕ)} {known : ℕ → List ℤ} {state : Channels M} {P : List (Call M) → List (host_calls.Call M) → Type 0}
-      {A : Type 0} (call : A → Call M) (answer : A) (host : List (host_calls.Call M))
+      {A : Type 0} (call : A → Call M) (answer : A) (next : Channels M) (host : List (host_calls.Call M))
       → AreLawful kinds state.host.poison
-      → ((left after : Left) (made : List (Call M)) → ALineMakes named line left made after → Makes call left made after)
-      → ((a : A) → ◌≡◌ {A = Call M × Channels M} (answered kinds state (call a)) (answered kinds state (call answer)))
-      → (answered kinds state (call answer)).0 ≡ call answer
+      → nat_le (length line) LINE_OCTETS ≡ true
+      → ((left after : Left) (made : List (Call M)) → LineMakes (parsed named line) left made after → Makes call left made after)
+      → ((a : A) → ◌≡◌ {A = Call M × Channels M} (answered kinds state (call a)) (call answer, next))
       → ((asked : List (host_calls.Call M)) → AsHostCalls state (call answer) asked → asked ≡ host)
-      → Holds lines known (answered kinds state (call answer)).1 (λ made asked. P (call answer ∷ made) (host ++ asked))
+      → Holds lines known next (λ made asked. P (call answer ∷ made) (host ++ asked))
       → Holds (line ∷ lines) known state P
-  told {lines = lines} {state = state} {P = P} call answer host lawful makes same is hosts then = record {
+  told {line = line} {lines = lines} {state = state} {P = P} call answer next host lawful fits makes same hosts go = record {
     always = λ left after made asked end k m r.
-        let one = makes left m.0 m.1 m.3 in
+        let one = makes left m.0 m.1 (m.3.fits (leb-true (length line) LINE_OCTETS fits)) in
         let made_is : made ≡ call one.0 ∷ m.2 = m.5 ∙ ap (λ first. first ++ m.2) one.1 in
         let ran = subst (λ calls. RunsOnHost kinds state calls asked end) made_is r in
         let c = computed kinds state ran.0 lawful (call one.0) ran.3 ∙ same one.0 in
-        let its : call one.0 ≡ call answer = ap (λ o. o.0) c ∙ is in
+        let its : call one.0 ≡ call answer = ap (λ o. o.0) c in
         let asks : ran.1 ≡ host = hosts ran.1 (subst (λ x. AsHostCalls state x ran.1) its ran.4) in
-        let later : RunsOnHost kinds (answered kinds state (call answer)).1 m.2 ran.2 end = subst (λ s. RunsOnHost kinds s m.2 ran.2 end) (ap (λ o. o.1) c) ran.5 in
-        let p = then.always m.0 after m.2 ran.2 end (λ d. one.2 d ∙ k d) m.4 later in
+        let later : RunsOnHost kinds next m.2 ran.2 end = subst (λ s. RunsOnHost kinds s m.2 ran.2 end) (ap (λ o. o.1) c) ran.5 in
+        let p = go.always m.0 after m.2 ran.2 end (λ d. one.2 d ∙ k d) m.4 later in
         subst (λ x. P x asked) (sym (made_is ∙ ap (λ x. x ∷ m.2) its)) (subst (λ x. P (call answer ∷ m.2) x) (sym (ran.6 ∙ ap (λ first. first ++ ran.2) asks)) p);
   }
 
@@ -77,7 +80,7 @@ module _ {M : Type 0} (kinds : Meaning M) (named : List ℕ → Option M) where
   err_is_no_ok refusal e = absurd (cc)
 
   -- a channel of one member that has enough samples is fed the first of them
-  module _ {state : Channels M} (known : ℕ → List ℤ) (c i n : ℕ) (x : ℤ) (xs rest : List ℤ)
+  module _ (state : Channels M) (known : ℕ → List ℤ) (c i n : ℕ) (x : ℤ) (xs rest : List ℤ)
       (ready : channel_refusal state c ≡ None) (only : members_at state.chained c ≡ i ∷ []) (has : known c ≡ (x ∷ xs) ++ rest) (so_many : length (x ∷ xs) ≡ n) where
     abbrev next : Channels M
     next = on_host state (processed state.host i (x ∷ xs))
@@ -117,30 +120,35 @@ module _ {M : Type 0} (kinds : Meaning M) (named : List ℕ → Option M) where
         let parts : length ((x ∷ xs) ++ rest) ≡ length (x ∷ xs) + length rest = length-append (x ∷ xs) rest in
         absurd (omega (arith, few, long, parts, so_many))
 
+    module _ (P : List (Call M) → List (host_calls.Call M) → Type 0) (lines : List (List ℕ))
+        (go : (out : List ℤ) → Holds lines left_then next (λ made asked. P (Ready c (Ok tt) ∷ Feed c (x ∷ xs) out ∷ made) (Process i (x ∷ xs) out ∷ asked)))
+        (left after : Left) (made : List (Call M)) (asked : List (host_calls.Call M)) (end : Channels M) (k : (d : ℕ) → left d ≡ known d)
+        (between : Left) (first later : List (Call M)) (on : LinesMake named lines between later after) (joined : made ≡ first ++ later)
+        (r : RunsOnHost kinds state made asked end) where
+      is_fed : IsFed c n left first between → P made asked
+      is_fed f =
+          let parts = same_parts f.block (between c) (x ∷ xs) rest (f.count ∙ sym so_many) (sym f.taken ∙ k c ∙ has) in
+          let is : made ≡ Ready c (Ok tt) ∷ Feed c (x ∷ xs) f.out ∷ later =
+          joined ∙ ap (λ calls. calls ++ later) (f.calls ∙ ap (λ block. Ready c (Ok tt) ∷ Feed c block f.out ∷ []) parts.0) in
+          let ran = subst (λ calls. RunsOnHost kinds state calls asked end) is r in
+          let begun : RunsOnHost kinds state (Feed c (x ∷ xs) f.out ∷ later) ran.2 end =
+          subst (λ s. RunsOnHost kinds s (Feed c (x ∷ xs) f.out ∷ later) ran.2 end) (ap (λ o. o.1) (is_ready (Ok tt) ran.0 ran.3)) ran.5 in
+          let gone : RunsOnHost kinds next later begun.2 end = subst (λ s. RunsOnHost kinds s later begun.2 end) (fed_state f.out begun.0 begun.3) begun.5 in
+          let asks : asked ≡ Process i (x ∷ xs) f.out ∷ begun.2 =
+          ran.6 ∙ ap (λ none. none ++ ran.2) ran.4 ∙ begun.6 ∙ ap (λ few. few ++ begun.2) (asked_is f.out begun.1 begun.4) in
+          subst (λ calls. P calls asked) (sym is) (subst (λ later_asked. P (Ready c (Ok tt) ∷ Feed c (x ∷ xs) f.out ∷ later) later_asked) (sym asks)
+          ((go f.out).always between after later begun.2 end (is_left left between k parts.1 f.others) on gone))
+
+      by_three : CommandMakes (script.Feed c n) left first between → P made asked
+      by_three (inl refused) = not_refused refused.0 later made asked end (joined ∙ ap (λ calls. calls ++ later) refused.1) r
+      by_three (inr (inl short)) = not_short left (k c) short.few
+      by_three (inr (inr f)) = is_fed f
+
     pub fed : {line : List ℕ} {lines : List (List ℕ)} {P : List (Call M) → List (host_calls.Call M) → Type 0}
-        → ((left after : Left) (made : List (Call M)) → ALineMakes named line left made after → CommandMakes (script.Feed c n) left made after)
+        → nat_le (length line) LINE_OCTETS ≡ true
+        → ((left after : Left) (made : List (Call M)) → LineMakes (parsed named line) left made after → CommandMakes (script.Feed c n) left made after)
         → ((out : List ℤ) → Holds lines left_then next (λ made asked. P (Ready c (Ok tt) ∷ Feed c (x ∷ xs) out ∷ made) (Process i (x ∷ xs) out ∷ asked)))
         → Holds (line ∷ lines) known state P
-    fed {lines = lines} {P = P} makes then = record { always = λ left after made asked end k m r. by_three left after made asked end k m.0 m.1 m.2 m.4 m.5 r (makes left m.0 m.1 m.3) }
-      where
-        module _ (left after : Left) (made : List (Call M)) (asked : List (host_calls.Call M)) (end : Channels M) (k : (d : ℕ) → left d ≡ known d)
-            (between : Left) (first later : List (Call M)) (on : LinesMake named lines between later after) (joined : made ≡ first ++ later)
-            (r : RunsOnHost kinds state made asked end) where
-          is_fed : IsFed c n left first between → P made asked
-          is_fed f =
-              let parts = same_parts f.block (between c) (x ∷ xs) rest (f.count ∙ sym so_many) (sym f.taken ∙ k c ∙ has) in
-              let is : made ≡ Ready c (Ok tt) ∷ Feed c (x ∷ xs) f.out ∷ later =
-              joined ∙ ap (λ calls. calls ++ later) (f.calls ∙ ap (λ block. Ready c (Ok tt) ∷ Feed c block f.out ∷ []) parts.0) in
-              let ran = subst (λ calls. RunsOnHost kinds state calls asked end) is r in
-              let begun : RunsOnHost kinds state (Feed c (x ∷ xs) f.out ∷ later) ran.2 end =
-              subst (λ s. RunsOnHost kinds s (Feed c (x ∷ xs) f.out ∷ later) ran.2 end) (ap (λ o. o.1) (is_ready (Ok tt) ran.0 ran.3)) ran.5 in
-              let gone : RunsOnHost kinds next later begun.2 end = subst (λ s. RunsOnHost kinds s later begun.2 end) (fed_state f.out begun.0 begun.3) begun.5 in
-              let asks : asked ≡ Process i (x ∷ xs) f.out ∷ begun.2 =
-              ran.6 ∙ ap (λ none. none ++ ran.2) ran.4 ∙ begun.6 ∙ ap (λ first. first ++ begun.2) (asked_is f.out begun.1 begun.4) in
-              subst (λ calls. P calls asked) (sym is) (subst (λ later_asked. P (Ready c (Ok tt) ∷ Feed c (x ∷ xs) f.out ∷ later) later_asked) (sym asks)
-              ((then f.out).always between after later begun.2 end (is_left left between k parts.1 f.others) on gone))
-
-          by_three : CommandMakes (script.Feed c n) left first between → P made asked
-          by_three (inl refused) = not_refused refused.0 later made asked end (joined ∙ ap (λ calls. calls ++ later) refused.1) r
-          by_three (inr (inl short)) = not_short left (k c) short.few
-          by_three (inr (inr f)) = is_fed f
+    fed {line = line} {lines = lines} {P = P} fits makes go = record {
+      always = λ left after made asked end k m r. by_three P lines go left after made asked end k m.0 m.1 m.2 m.4 m.5 r (makes left m.0 m.1 (m.3.fits (leb-true (length line) LINE_OCTETS fits)));
+    }

@@ -31,9 +31,9 @@ pub fn run_row<S: PortIn, I: PortIn, O: PortOut, P: PortOut>(
     voices_are_lawful();
     voices_give_their_equations();
     let sizes = Sizes {
-        daram: 65_536,
-        saram: 65_536,
-        external: 65_536,
+        daram: 4_096,
+        saram: 16,
+        external: 16,
     };
     let config = Config {
         sizes,
