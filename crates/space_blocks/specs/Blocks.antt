@@ -52,13 +52,6 @@ abbrev pub without_piece : Option Span → List Placed → List Placed
 without_piece None blocks = blocks
 without_piece (Some p) blocks = without_at p.place blocks
 
--- a block that begins at one place begins at another from now on
-abbrev pub block_from : ℕ → ℕ → Placed → Placed
-block_from from to b = if b.place == from then record b { place = to } else b
-
-abbrev pub with_place : ℕ → ℕ → List Placed → List Placed
-with_place from to blocks = map (block_from from to) blocks
-
 -- the owner `to` for the owner `from`
 abbrev pub renaming : Owner → Owner → Owner → Owner
 renaming from to owner = if same_owner from owner then to else owner
