@@ -10,7 +10,6 @@ use Rattle.std.proofs.Math.Seq.{drop-append_seam, drop-nil, take-append_seam}
 use Rattle.space_heap.proofs.RangeTests.{either, true_or_false}
 use Rattle.ialg.specs.Meaning.{Meaning, Status}
 use Rattle.ialg.specs.declared.refusal.Refusal.{Refusal}
-use Rattle.instance_table.specs.Table.{Activity}
 use Rattle.channel_machine.specs.Channels.{Channels}
 use Rattle.channel_machine.specs.Steps.{unless, channel_refusal}
 use Rattle.channel_machine.specs.Calls as calls
@@ -29,7 +28,7 @@ use Rattle.line_machine.specs.Served.{Answer, Asked, AskedAnswer, FeedAnswer, Fe
 use Rattle.console_machine.specs.Samples.{octets_at, octets_of, samples_at, samples_of}
 use Rattle.console_machine.specs.Console.{Calls, CommandAsks, LineAsks, console_machine, feed_asked, status_reply, told_by}
 use Rattle.machine_runs.specs.HostRuns.{Leads}
-use Rattle.machine_runs.specs.Lines.{ALineMakes, AreCalls, CommandMakes, IsFed, IsSame, IsSameBut, IsShort, Left, LineMakes, LinesMake, Makes, fed_out, output_in, samples_left as left}
+use Rattle.machine_runs.specs.Lines.{ALineMakes, AreCalls, CommandMakes, IsSame, IsSameBut, Left, LineMakes, LinesMake, Makes, fed_out, output_in, samples_left as left}
 
 -- ---- octets
 
