@@ -22,24 +22,15 @@ use Rattle.line_machine.specs.declared.width.Width.{Width}
 use Rattle.line_machine.specs.Widths.{Widths, octet_count}
 use Rattle.console_machine.specs.Samples.{octets_at, samples_at}
 
--- ---- what is told of answers
+-- ---- what is told of answers: why a call was refused, or what it answered
 
-abbrev pub done : Result (Unit {0}) Refusal → Reply
-done (Ok _) = replies.Done
-done (Err refusal) = No refusal
+abbrev pub told_by : {A : Type 0} → (A → Reply) → Result A Refusal → Reply
+told_by reply (Ok answer) = reply answer
+told_by reply (Err refusal) = No refusal
 
-abbrev pub status_told : Result Status Refusal → Reply
-status_told (Ok meaning.Done) = replies.Done
-status_told (Ok (meaning.Words words)) = replies.Words words
-status_told (Err refusal) = No refusal
-
-abbrev pub flag_told : Result Bool Refusal → Reply
-flag_told (Ok flag) = replies.Flag flag
-flag_told (Err refusal) = No refusal
-
-abbrev pub activity_told : Result Activity Refusal → Reply
-activity_told (Ok activity) = replies.Stat activity.active activity.count
-activity_told (Err refusal) = No refusal
+abbrev pub status_reply : Status → Reply
+status_reply meaning.Done = replies.Done
+status_reply (meaning.Words words) = replies.Words words
 
 -- a channel that is ready asks for its samples' octets, by the width of its input
 abbrev pub feed_asked : Width → ℕ → ℕ → Result (Unit {0}) Refusal → Asked
@@ -56,19 +47,19 @@ pub record CommandCall (M : Type 0) : Type 1 where
 
 -- a feed asks first whether its channel is ready
 abbrev pub call_of : {M : Type 0} → Command M → CommandCall M
-call_of (script.Create i kind g words) = record { Answer = Result (Unit {0}) Refusal; call = λ a. OfHost (host_calls.Create i kind g words a); told = done }
-call_of (script.Set i words) = record { Answer = Result Status Refusal; call = λ a. OfHost (host_calls.Control i (history.Set words) a); told = status_told }
-call_of (script.Reset i) = record { Answer = Result Status Refusal; call = λ a. OfHost (host_calls.Control i history.Reset a); told = status_told }
-call_of (script.Get i) = record { Answer = Result Status Refusal; call = λ a. OfHost (host_calls.Control i history.Get a); told = status_told }
-call_of (script.Delete i) = record { Answer = Result (Unit {0}) Refusal; call = λ a. calls.Remove i a; told = done }
-call_of (script.Chain c is) = record { Answer = Result (Unit {0}) Refusal; call = λ a. calls.Chain c is a; told = done }
-call_of (script.Unchain c) = record { Answer = Result (Unit {0}) Refusal; call = λ a. calls.Unchain c a; told = done }
-call_of (script.Feed c n) = record { Answer = Result (Unit {0}) Refusal; call = λ a. calls.Ready c a; told = done }
+call_of (script.Create i kind g words) = record { Answer = Result (Unit {0}) Refusal; call = λ a. OfHost (host_calls.Create i kind g words a); told = told_by (λ _. replies.Done) }
+call_of (script.Set i words) = record { Answer = Result Status Refusal; call = λ a. OfHost (host_calls.Control i (history.Set words) a); told = told_by status_reply }
+call_of (script.Reset i) = record { Answer = Result Status Refusal; call = λ a. OfHost (host_calls.Control i history.Reset a); told = told_by status_reply }
+call_of (script.Get i) = record { Answer = Result Status Refusal; call = λ a. OfHost (host_calls.Control i history.Get a); told = told_by status_reply }
+call_of (script.Delete i) = record { Answer = Result (Unit {0}) Refusal; call = λ a. calls.Remove i a; told = told_by (λ _. replies.Done) }
+call_of (script.Chain c is) = record { Answer = Result (Unit {0}) Refusal; call = λ a. calls.Chain c is a; told = told_by (λ _. replies.Done) }
+call_of (script.Unchain c) = record { Answer = Result (Unit {0}) Refusal; call = λ a. calls.Unchain c a; told = told_by (λ _. replies.Done) }
+call_of (script.Feed c n) = record { Answer = Result (Unit {0}) Refusal; call = λ a. calls.Ready c a; told = told_by (λ _. replies.Done) }
 call_of (script.Compact space) = record { Answer = ℕ; call = λ a. OfHost (host_calls.Compact space a); told = replies.Count }
 call_of (script.Step space) = record { Answer = Bool; call = λ a. OfHost (host_calls.Step space a); told = replies.Flag }
-call_of (script.Release g) = record { Answer = Result Bool Refusal; call = λ a. OfHost (host_calls.Release g a); told = flag_told }
+call_of (script.Release g) = record { Answer = Result Bool Refusal; call = λ a. OfHost (host_calls.Release g a); told = told_by replies.Flag }
 call_of (script.Map space) = record { Answer = List Placed; call = λ a. OfHost (host_calls.Map space a); told = replies.Map }
-call_of (script.Stat g) = record { Answer = Result Activity Refusal; call = λ a. OfHost (host_calls.Stat g a); told = activity_told }
+call_of (script.Stat g) = record { Answer = Result Activity Refusal; call = λ a. OfHost (host_calls.Stat g a); told = told_by (λ a. replies.Stat a.active a.count) }
 
 module _ {M : Type 0} (kinds : Meaning M) where
   -- the channels are called, and the line asks what follows from their answer

@@ -5,12 +5,9 @@ use Rattle.std.specs.List.{flat_map}
 use Rattle.line_machine.specs.declared.width.Width.{Width}
 use Rattle.line_machine.specs.declared.width.Width.TheVariants.{Word, Octet}
 
--- the low octet and the high one of a number of 16 bits
-abbrev pub two_octets : ℕ → List ℕ
-two_octets bits = bits % 256 ∷ bits / 256 % 256 ∷ []
-
+-- of each sample's 16 bits the low octet and the high one
 abbrev pub octets_of : List ℤ → List ℕ
-octets_of xs = flat_map (λ x. two_octets (cast_unsigned w16 x)) xs
+octets_of xs = flat_map (λ x. cast_unsigned w16 x % 256 ∷ cast_unsigned w16 x / 256 % 256 ∷ []) xs
 
 -- an odd last octet is no sample
 abbrev pub samples_of : List ℕ → List ℤ

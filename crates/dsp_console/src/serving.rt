@@ -103,6 +103,10 @@ fn serve_console<M: Ialg + Named, S: PortIn, I: PortIn, O: PortOut, P: PortOut>(
 /// input, an output or the replies failed, some of the script behind the last line that was served may be gone.
 ///
 /// After `Read` or `Write` what was served before stands in the outputs and the replies, and the port that failed says so.
+///
+/// What is served is said of honest ports. Whether a port is honest is a word of the contract, which the code can't see: so between ports
+/// that behave as honest ones do, of which nothing is proved, as those over files, a run does what it is proved to do between honest ones.
+/// A device that does what no honest port can, as one that gives octets after it ended, is outside of that.
 pub fn run<M: Ialg + Named, S: PortIn, I: PortIn, O: PortOut, P: PortOut>(
     alloc: Global,
     config: Config,

@@ -1,9 +1,8 @@
 -- Lines whose calls are known, one after the other.
-use Rattle.std.proofs.Common.{◌≡◌, ◌≤◌, ◌<◌, ◌+◌, ℕ, ℤ, suc, Bool, true, false, List, [], ◌∷◌, ◌++◌, length, Option, Some, None, Result, Ok, Err, inl, inr, refl, ap, sym, ◌∙◌, subst, arith, length-append}
+use Rattle.std.proofs.Common.{◌≡◌, ◌<◌, ◌+◌, ℕ, ℤ, true, List, [], ◌∷◌, ◌++◌, length, take, drop, Option, None, Result, Ok, Err, inl, inr, ap, sym, ◌∙◌, subst, arith, length-append}
+use Rattle.std.proofs.Math.Seq.{drop-append_seam, take-append_seam}
 use Rattle.std.specs.Prelude.{◌==◌, nat_le, if◌then◌else◌}
 use Rattle.std.proofs.lemmas.Bool.{leb-true}
-use Rattle.std.proofs.lemmas.Bool.Decides.{eqb_tells}
-use Rattle.space_heap.proofs.RangeTests.{either}
 use Rattle.ialg.specs.declared.refusal.Refusal.{Refusal}
 use Rattle.ialg.specs.Meaning.{Meaning}
 use Rattle.sound_machine.specs.State.{State}
@@ -21,20 +20,7 @@ use Rattle.voice_script.specs.Script as script
 use Rattle.voice_script.specs.Script.{parsed}
 use Rattle.voice_script.specs.declared.limits.TheConstants.{LINE_OCTETS}
 use Rattle.machine_runs.specs.HostRuns.{AsHostCalls, IsPassing, RunsOnHost}
-use Rattle.machine_runs.specs.Lines.{CommandMakes, IsFed, Left, LineMakes, LinesMake, Makes}
-
-same_cons : {x y : ℤ} {xs ys : List ℤ} → x ∷ xs ≡ y ∷ ys → (x ≡ y) × (xs ≡ ys)
-same_cons e = (cc, cc)
-
--- two equal lists, whose first parts are equally long, have equal parts
-same_parts : (a b c d : List ℤ) → length a ≡ length c → a ++ b ≡ c ++ d → (a ≡ c) × (b ≡ d)
-same_parts [] b [] d l e = (refl, e)
-same_parts [] b (y ∷ c) d l e = absurd (omega (arith, l))
-same_parts (x ∷ a) b [] d l e = absurd (omega (arith, l))
-same_parts (x ∷ a) b (y ∷ c) d l e =
-    let both = same_cons e in
-    let rest = same_parts a b c d (omega (arith, l)) both.1 in
-    (ap (λ z. z ∷ a) both.0 ∙ ap (λ zs. y ∷ zs) rest.0, rest.1)
+use Rattle.machine_runs.specs.Lines.{CommandMakes, IsFed, IsSameBut, Left, LineMakes, LinesMake, Makes}
 
 module _ {M : Type 0} (kinds : Meaning M) (named : List ℕ → Option M) where
   -- whatever these lines made from here, where the inputs have these samples left, this holds of it
@@ -102,11 +88,15 @@ module _ {M : Type 0} (kinds : Meaning M) (named : List ℕ → Option M) where
         let p : IsPassing (i ∷ []) (x ∷ xs) out asked = subst (λ is. IsPassing is (x ∷ xs) out asked) only passing in
         p.2 ∙ ap (λ given. Process i (x ∷ xs) given ∷ p.1) (sym p.3.0) ∙ ap (λ later. Process i (x ∷ xs) out ∷ later) p.3.1
 
-    is_left : (left between : Left) → ((d : ℕ) → left d ≡ known d) → between c ≡ rest → ((d : ℕ) → (d ≡ c → ⊥) → between d ≡ left d) → (d : ℕ) → between d ≡ left_then d
-    is_left left between k its others d =
-        either (eqb_tells d c)
-        (λ same. ap between same.1 ∙ its ∙ sym (ap (λ b. if b then rest else known d) same.0))
-        (λ apart. others d apart.1 ∙ k d ∙ sym (ap (λ b. if b then rest else known d) apart.0))
+    -- the block is the first samples, and the others are left
+    parts : (left : Left) → ((d : ℕ) → left d ≡ known d) → (take n (left c) ≡ x ∷ xs) × (drop n (left c) ≡ rest)
+    parts left k = (
+      ap (take n) (k c ∙ has) ∙ ap (λ m. take m ((x ∷ xs) ++ rest)) (sym so_many) ∙ take-append_seam (x ∷ xs) rest,
+      ap (drop n) (k c ∙ has) ∙ ap (λ m. drop m ((x ∷ xs) ++ rest)) (sym so_many) ∙ drop-append_seam (x ∷ xs) rest,
+    )
+
+    is_left : (left between : Left) → ((d : ℕ) → left d ≡ known d) → IsSameBut c (drop n (left c)) left between → (d : ℕ) → between d ≡ left_then d
+    is_left left between k others d = others d ∙ ap (λ ys. if d == c then ys else left d) (parts left k).1 ∙ ap (λ ys. if d == c then rest else ys) (k d)
 
     not_refused : {X : Type 0} (refusal : Refusal) (later made : List (Call M)) (asked : List (host_calls.Call M)) (end : Channels M)
         → made ≡ Ready c (Err refusal) ∷ later → RunsOnHost kinds state made asked end → X
@@ -127,9 +117,8 @@ module _ {M : Type 0} (kinds : Meaning M) (named : List ℕ → Option M) where
         (r : RunsOnHost kinds state made asked end) where
       is_fed : IsFed c n left first between → P made asked
       is_fed f =
-          let parts = same_parts f.block (between c) (x ∷ xs) rest (f.count ∙ sym so_many) (sym f.taken ∙ k c ∙ has) in
           let is : made ≡ Ready c (Ok tt) ∷ Feed c (x ∷ xs) f.out ∷ later =
-          joined ∙ ap (λ calls. calls ++ later) (f.calls ∙ ap (λ block. Ready c (Ok tt) ∷ Feed c block f.out ∷ []) parts.0) in
+          joined ∙ ap (λ calls. calls ++ later) (f.calls ∙ ap (λ block. Ready c (Ok tt) ∷ Feed c block f.out ∷ []) (parts left k).0) in
           let ran = subst (λ calls. RunsOnHost kinds state calls asked end) is r in
           let begun : RunsOnHost kinds state (Feed c (x ∷ xs) f.out ∷ later) ran.2 end =
           subst (λ s. RunsOnHost kinds s (Feed c (x ∷ xs) f.out ∷ later) ran.2 end) (ap (λ o. o.1) (is_ready (Ok tt) ran.0 ran.3)) ran.5 in
@@ -137,7 +126,7 @@ module _ {M : Type 0} (kinds : Meaning M) (named : List ℕ → Option M) where
           let asks : asked ≡ Process i (x ∷ xs) f.out ∷ begun.2 =
           ran.6 ∙ ap (λ none. none ++ ran.2) ran.4 ∙ begun.6 ∙ ap (λ few. few ++ begun.2) (asked_is f.out begun.1 begun.4) in
           subst (λ calls. P calls asked) (sym is) (subst (λ later_asked. P (Ready c (Ok tt) ∷ Feed c (x ∷ xs) f.out ∷ later) later_asked) (sym asks)
-          ((go f.out).always between after later begun.2 end (is_left left between k parts.1 f.others) on gone))
+          ((go f.out).always between after later begun.2 end (is_left left between k f.others) on gone))
 
       by_three : CommandMakes (script.Feed c n) left first between → P made asked
       by_three (inl refused) = not_refused refused.0 later made asked end (joined ∙ ap (λ calls. calls ++ later) refused.1) r

@@ -1,5 +1,5 @@
 -- Worked rows of where a creation finds no room.
-use Rattle.std.specs.Prelude.{◌≡◌, ℕ, List, [], ◌∷◌}
+use Rattle.std.specs.Prelude.{◌≡◌, ℕ, [], ◌∷◌}
 use Rattle.mem_rec.specs.declared.Space.{Space}
 use Rattle.mem_rec.specs.declared.Space.TheVariants.{Daram, External}
 use Rattle.space_blocks.specs.declared.placed.Owner.TheVariants.{Record}

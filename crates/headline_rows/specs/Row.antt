@@ -1,5 +1,5 @@
 -- A worked row of the headline: a script of a few lines, and what its first filter gave.
-use Rattle.std.specs.Prelude.{◌≡◌, ◌<◌, ℕ, ℤ, pos, List, [], ◌∷◌, ◌++◌, Option, Ok, All, length, slice_index_or}
+use Rattle.std.specs.Prelude.{◌≡◌, ℕ, ℤ, pos, List, [], ◌∷◌, Option, Ok, All, slice_index_or}
 use Rattle.mem_rec.specs.declared.Space.TheVariants.{Daram}
 use Rattle.ialg.specs.History.{Sample}
 use Rattle.octet_ports.specs.Ports.{Holds}
@@ -12,7 +12,6 @@ use Rattle.voice_set.specs.declared.voice.Voice.{Voice}
 use Rattle.voice_set.specs.declared.voice.Voice.TheVariants.{Fir}
 use Rattle.voice_set.specs.Voices.{voice_meaning, voice_named}
 use Rattle.line_machine.specs.Served.{Answer}
-use Rattle.line_machine.specs.Widths.{Widths, widths_of}
 use Rattle.console_machine.specs.Samples.{octets_of}
 use Rattle.script_server.specs.Runs.{AreReady, Devices, IsHonest, IsReadyIn, no_sink, octets_to_come}
 use Rattle.machine_runs.specs.Births.{Born}

@@ -1,16 +1,15 @@
 -- Lines of a console are calls of its channels.
-use Rattle.std.proofs.Common.{◌≡◌, ◌≤◌, ◌<◌, ◌⊎◌, ◌+◌, ◌*◌, ◌%◌, ℕ, ℤ, zero, suc, Bool, true, false, List, [], ◌∷◌, ◌++◌, pos, map, filter, length, take, drop, Option, Some, None, Result, Ok, Err, inl, inr, refl, ap, sym, ◌∙◌, subst, append-nil, append_assoc, take-append-drop, arith, get_or, set}
+use Rattle.std.proofs.Common.{◌≡◌, ◌≤◌, ◌<◌, ◌⊎◌, ◌+◌, ◌*◌, ◌/◌, ◌%◌, ℕ, ℤ, zero, suc, Bool, true, false, List, [], ◌∷◌, ◌++◌, pos, map, filter, length, take, drop, Option, Some, None, Result, Ok, Err, inl, inr, refl, ap, sym, ◌∙◌, subst, append-nil, append_assoc, take-append-drop, length-append, arith, get_or, set}
 use Rattle.std.specs.Prelude.{◌==◌, if◌then◌else◌}
 use Rattle.std.specs.Int.{w16, cast_signed, cast_unsigned}
 use Rattle.std.proofs.lemmas.List.{map-append, get_or-set_other, length-map, length-take-le}
 use Rattle.std.proofs.lemmas.List.Elements.{filter-append}
 use Rattle.std.proofs.lemmas.Grind.{flat_map-append}
 use Rattle.std.proofs.lemmas.Bool.Decides.{eqb_tells}
-use Rattle.std.proofs.Math.Seq.{drop-nil}
+use Rattle.std.proofs.Math.Seq.{drop-append_seam, drop-nil, take-append_seam}
 use Rattle.space_heap.proofs.RangeTests.{either, true_or_false}
 use Rattle.ialg.specs.Meaning.{Meaning, Status}
 use Rattle.ialg.specs.declared.refusal.Refusal.{Refusal}
-use Rattle.instance_table.specs.Table.{Activity}
 use Rattle.channel_machine.specs.Channels.{Channels}
 use Rattle.channel_machine.specs.Steps.{unless, channel_refusal}
 use Rattle.channel_machine.specs.Calls as calls
@@ -26,10 +25,10 @@ use Rattle.line_machine.specs.declared.width.Width.TheVariants as carried
 use Rattle.line_machine.specs.Widths.{Widths, octet_count}
 use Rattle.line_machine.specs.Served as served
 use Rattle.line_machine.specs.Served.{Answer, Asked, AskedAnswer, FeedAnswer, FedAnswer, LineAnswer, LinesAnswer, Octet, Output, Replied, Run, ServedAnswer, Written, at_state, after_reading, held_by, octets_left, order_of, refusals, replies, same_port, tells, then_answer}
-use Rattle.console_machine.specs.Samples.{octets_at, octets_of, samples_at, samples_of, two_octets}
-use Rattle.console_machine.specs.Console.{Calls, CommandAsks, LineAsks, activity_told, console_machine, done, feed_asked, flag_told, status_told}
+use Rattle.console_machine.specs.Samples.{octets_at, octets_of, samples_at, samples_of}
+use Rattle.console_machine.specs.Console.{Calls, CommandAsks, LineAsks, console_machine, feed_asked, status_reply, told_by}
 use Rattle.machine_runs.specs.HostRuns.{Leads}
-use Rattle.machine_runs.specs.Lines.{ALineMakes, AreCalls, CommandMakes, IsFed, IsSame, IsShort, Left, LineMakes, LinesMake, Makes, fed_out, output_in, samples_left as left}
+use Rattle.machine_runs.specs.Lines.{ALineMakes, AreCalls, CommandMakes, IsSame, IsSameBut, Left, LineMakes, LinesMake, Makes, fed_out, output_in, samples_left as left}
 
 -- ---- octets
 
@@ -73,7 +72,7 @@ unfolding order_of
 held_of_output c d octets = ap (held_by (Some c)) (append-nil (map (λ b. (Some d, b)) octets)) ∙ held_of_octets c d octets
 
 octets_more : (xs ys : List ℤ) → octets_of (xs ++ ys) ≡ octets_of xs ++ octets_of ys
-octets_more xs ys = flat_map-append (λ x. two_octets (cast_unsigned w16 x)) xs ys
+octets_more xs ys = flat_map-append (λ x. cast_unsigned w16 x % 256 ∷ cast_unsigned w16 x / 256 % 256 ∷ []) xs ys
 
 -- and so by each width
 octets_more_at : (width : Width) (xs ys : List ℤ) → octets_at width (xs ++ ys) ≡ octets_at width xs ++ octets_at width ys
@@ -155,6 +154,21 @@ fewer_at : (width : Width) (n : ℕ) (octets : List ℕ) → length octets < oct
 fewer_at carried.Word n octets lt = samples_fewer n octets (subst (λ k. length octets < k) (sym (twice_is n)) lt)
 fewer_at carried.Octet n octets lt = subst (λ k. k < n) (sym (length-map octets pos)) lt
 
+-- the samples of the first octets are the first samples, and those of the others are the others
+parts_at : (width : Width) (n : ℕ) (octets : List ℕ) → octet_count width n ≤ length octets
+    → (n ≤ length (samples_at width octets)) × (take n (samples_at width octets) ≡ samples_at width (take (octet_count width n) octets))
+    × (drop n (samples_at width octets) ≡ samples_at width (drop (octet_count width n) octets))
+parts_at width n octets enough =
+    let first = samples_at width (take (octet_count width n) octets) in
+    let rest = samples_at width (drop (octet_count width n) octets) in
+    let counted : length first ≡ n = count_at width n (take (octet_count width n) octets) (length-take-le (octet_count width n) octets enough) in
+    let whole : samples_at width octets ≡ first ++ rest = split_at width n octets in
+    let long : length (samples_at width octets) ≡ length first + length rest = ap (λ xs. length xs) whole ∙ length-append first rest in (
+      omega (arith, counted, long),
+      ap (take n) whole ∙ ap (λ k. take k (first ++ rest)) (sym counted) ∙ take-append_seam first rest,
+      ap (drop n) whole ∙ ap (λ k. drop k (first ++ rest)) (sym counted) ∙ drop-append_seam first rest,
+    )
+
 drop_all : (n : ℕ) (xs : List ℕ) → length xs ≤ n → drop n xs ≡ []
 drop_all n [] le = drop-nil n
 drop_all zero (x ∷ xs) le = absurd (omega arith)
@@ -166,6 +180,13 @@ set_there [] i n = sym (drop-nil n)
 set_there (xs ∷ all) zero n = refl
 set_there (xs ∷ all) (suc i) n = set_there all i n
 
+-- the samples on one input are these, and all others are the same
+same_but : (c : ℕ) (rest : List ℤ) (before after : Left) → after c ≡ rest → ((d : ℕ) → (d ≡ c → ⊥) → after d ≡ before d) → IsSameBut c rest before after
+same_but c rest before after its others d =
+    either (eqb_tells d c)
+    (λ same. ap after same.1 ∙ its ∙ sym (ap (λ b. if b then rest else before d) same.0))
+    (λ apart. others d apart.1 ∙ sym (ap (λ b. if b then rest else before d) apart.0))
+
 -- ---- replies
 
 -- what is told of a refused call is a refusal
@@ -175,22 +196,14 @@ Tells {A} call reply = (a : A) → is_refusal (reply a) ≡ true → (refusal : 
 no_refusal : {X : Type 0} → false ≡ true → X
 no_refusal e = cc
 
-tells_done : {M : Type 0} (call : Result (Unit {0}) Refusal → Call M) → ((refusal : Refusal) → refusal_of (call (Err refusal)) ≡ Some refusal) → Tells call done
-tells_done call same (Ok answer) e = no_refusal e
-tells_done call same (Err refusal) e = (refusal, same refusal)
+tells_by : {A M : Type 0} (call : Result A Refusal → Call M) (reply : A → Reply) → ((a : A) → is_refusal (reply a) ≡ true → ⊥)
+    → ((refusal : Refusal) → refusal_of (call (Err refusal)) ≡ Some refusal) → Tells call (told_by reply)
+tells_by call reply never same (Ok answer) e = absurd (never answer e)
+tells_by call reply never same (Err refusal) e = (refusal, same refusal)
 
-tells_status : {M : Type 0} (call : Result Status Refusal → Call M) → ((refusal : Refusal) → refusal_of (call (Err refusal)) ≡ Some refusal) → Tells call status_told
-tells_status call same (Ok Status.Done) e = no_refusal e
-tells_status call same (Ok (Status.Words words)) e = no_refusal e
-tells_status call same (Err refusal) e = (refusal, same refusal)
-
-tells_flag : {M : Type 0} (call : Result Bool Refusal → Call M) → ((refusal : Refusal) → refusal_of (call (Err refusal)) ≡ Some refusal) → Tells call flag_told
-tells_flag call same (Ok flag) e = no_refusal e
-tells_flag call same (Err refusal) e = (refusal, same refusal)
-
-tells_activity : {M : Type 0} (call : Result Activity Refusal → Call M) → ((refusal : Refusal) → refusal_of (call (Err refusal)) ≡ Some refusal) → Tells call activity_told
-tells_activity call same (Ok activity) e = no_refusal e
-tells_activity call same (Err refusal) e = (refusal, same refusal)
+never_status : (status : Status) → is_refusal (status_reply status) ≡ true → ⊥
+never_status Status.Done e = no_refusal e
+never_status (Status.Words words) e = no_refusal e
 
 none_refused : {X : Type 0} → 1 ≤ 0 → X
 none_refused le = absurd (omega arith)
@@ -311,9 +324,9 @@ module _ {M : Type 0} (kinds : Meaning M) (widths : Widths) where
 
     module _ (leaves : Leaves) (run : Run (Channels M)) (state : Channels M) (asked : Asked) (answer : Answer (Channels M)) where
       -- one call, and its answer is told
-      told_by : {A : Type 0} (call : A → Call M) (reply : A → Reply) → ((a : A) → IsQuiet (call a)) → Tells call reply
+      made_by : {A : Type 0} (call : A → Call M) (reply : A → Reply) → ((a : A) → IsQuiet (call a)) → Tells call reply
           → (a : A) → Does kinds run.state (call a) state → asked ≡ tells (reply a) → AskedAnswer machine (at_state run state) asked answer → Did (Makes call) run answer
-      told_by call reply quiet tells_so a does e answered =
+      made_by call reply quiet tells_so a does e answered =
           let is : answer ≡ replies (at_state run state) (reply_text (reply a)) (is_refusal (reply a)) = subst (λ b. AskedAnswer machine (at_state run state) b answer) e answered in
           record {
             made = call a ∷ [];
@@ -328,27 +341,24 @@ module _ {M : Type 0} (kinds : Meaning M) (widths : Widths) where
 
       by_call : {A : Type 0} (call : A → Call M) (reply : A → Reply) → ((a : A) → IsQuiet (call a)) → Tells call reply
           → Calls kinds call (λ a. tells (reply a)) run.state asked state → AskedAnswer machine (at_state run state) asked answer → Did (Makes call) run answer
-      by_call call reply quiet tells_so c answered = told_by call reply quiet tells_so c.answer c.does c.asks answered
+      by_call call reply quiet tells_so c answered = made_by call reply quiet tells_so c.answer c.does c.asks answered
+
+      by_told : {A : Type 0} (call : Result A Refusal → Call M) (reply : A → Reply) → ((a : A) → is_refusal (reply a) ≡ true → ⊥)
+          → ((a : Result A Refusal) → IsQuiet (call a)) → ((refusal : Refusal) → refusal_of (call (Err refusal)) ≡ Some refusal)
+          → Calls kinds call (λ a. tells (told_by reply a)) run.state asked state → AskedAnswer machine (at_state run state) asked answer → Did (Makes call) run answer
+      by_told call reply never quiet same does a = by_call call (told_by reply) quiet (tells_by call reply never same) does a
 
       by_done : (call : Result (Unit {0}) Refusal → Call M) → ((a : Result (Unit {0}) Refusal) → IsQuiet (call a)) → ((refusal : Refusal) → refusal_of (call (Err refusal)) ≡ Some refusal)
-          → Calls kinds call (λ a. tells (done a)) run.state asked state → AskedAnswer machine (at_state run state) asked answer → Did (Makes call) run answer
-      by_done call quiet same does a = by_call call done quiet (tells_done call same) does a
+          → Calls kinds call (λ a. tells (told_by (λ _. replies_told.Done) a)) run.state asked state → AskedAnswer machine (at_state run state) asked answer → Did (Makes call) run answer
+      by_done call quiet same does a = by_told call (λ _. replies_told.Done) (λ b e. no_refusal e) quiet same does a
 
       by_status : (call : Result Status Refusal → Call M) → ((a : Result Status Refusal) → IsQuiet (call a)) → ((refusal : Refusal) → refusal_of (call (Err refusal)) ≡ Some refusal)
-          → Calls kinds call (λ a. tells (status_told a)) run.state asked state → AskedAnswer machine (at_state run state) asked answer → Did (Makes call) run answer
-      by_status call quiet same does a = by_call call status_told quiet (tells_status call same) does a
-
-      by_flag : (call : Result Bool Refusal → Call M) → ((a : Result Bool Refusal) → IsQuiet (call a)) → ((refusal : Refusal) → refusal_of (call (Err refusal)) ≡ Some refusal)
-          → Calls kinds call (λ a. tells (flag_told a)) run.state asked state → AskedAnswer machine (at_state run state) asked answer → Did (Makes call) run answer
-      by_flag call quiet same does a = by_call call flag_told quiet (tells_flag call same) does a
-
-      by_activity : (call : Result Activity Refusal → Call M) → ((a : Result Activity Refusal) → IsQuiet (call a)) → ((refusal : Refusal) → refusal_of (call (Err refusal)) ≡ Some refusal)
-          → Calls kinds call (λ a. tells (activity_told a)) run.state asked state → AskedAnswer machine (at_state run state) asked answer → Did (Makes call) run answer
-      by_activity call quiet same does a = by_call call activity_told quiet (tells_activity call same) does a
+          → Calls kinds call (λ a. tells (told_by status_reply a)) run.state asked state → AskedAnswer machine (at_state run state) asked answer → Did (Makes call) run answer
+      by_status call quiet same does a = by_told call status_reply never_status quiet same does a
 
       ready_told : (c : ℕ) (r : Refusal) → Does kinds run.state (calls.Ready c (Err r)) state → asked ≡ tells (replies_told.No r)
           → AskedAnswer machine (at_state run state) asked answer → Did (Makes (λ (b : Refusal). calls.Ready c (Err b))) run answer
-      ready_told c r does e answered = told_by (λ (b : Refusal). calls.Ready c (Err b)) (λ b. replies_told.No b) (λ b k. refl) (λ b e'. (b, refl)) r does e answered
+      ready_told c r does e answered = made_by (λ (b : Refusal). calls.Ready c (Err b)) (λ b. replies_told.No b) (λ b k. refl) (λ b e'. (b, refl)) r does e answered
 
       -- a feed
       by_feed : (c n : ℕ) → Calls kinds (λ a. calls.Ready c a) (feed_asked (widths.input c) c n) run.state asked state → AskedAnswer machine (at_state run state) asked answer
@@ -374,9 +384,10 @@ module _ {M : Type 0} (kinds : Meaning M) (widths : Widths) where
                 made = call ∷ [];
                 asked = inr (inl (record {
                   few = fewer_at (widths.input c) n (octets_left ready c) less;
-                  none = ap (λ (b : Answer (Channels M)). left widths b.run c) is
-                      ∙ ap (samples_at (widths.input c)) (set_there ready.inputs c (octets_for c n) ∙ drop_all (octets_for c n) (octets_left ready c) (omega (arith, less))) ∙ no_samples (widths.input c);
-                  others = λ d ne. ap (λ (b : Answer (Channels M)). left widths b.run d) is ∙ ap (samples_at (widths.input d)) (get_or-set_other ready.inputs c d _ [] ne);
+                  none = same_but c [] (left widths run) (left widths answer.run)
+                      (ap (λ (b : Answer (Channels M)). left widths b.run c) is
+                      ∙ ap (samples_at (widths.input c)) (set_there ready.inputs c (octets_for c n) ∙ drop_all (octets_for c n) (octets_left ready c) (omega (arith, less))) ∙ no_samples (widths.input c))
+                      (λ d ne. ap (λ (b : Answer (Channels M)). left widths b.run d) is ∙ ap (samples_at (widths.input d)) (get_or-set_other ready.inputs c d _ [] ne));
                   calls = refl;
                 }));
                 serves = subst (λ (b : Answer (Channels M)). Serves run b.run b.written (call ∷ [])) (sym is)
@@ -388,16 +399,16 @@ module _ {M : Type 0} (kinds : Meaning M) (widths : Widths) where
               (λ enough.
               let f = feed.whole enough in
               let block = samples_for c (take (octets_for c n) (octets_left ready c)) in
+              let parts = parts_at (widths.input c) n (octets_left ready c) enough in
               record {
                 made = call ∷ calls.Feed c block f.taken.out ∷ [];
                 asked = inr (inr (record {
-                  block = block;
+                  enough = parts.0;
+                  others = same_but c (drop n (left widths run c)) (left widths run) (left widths answer.run)
+                      (ap (λ (b : Answer (Channels M)). left widths b.run c) f.answered ∙ ap (samples_at (widths.input c)) (set_there ready.inputs c (octets_for c n)) ∙ sym parts.2)
+                      (λ d ne. ap (λ (b : Answer (Channels M)). left widths b.run d) f.answered ∙ ap (samples_at (widths.input d)) (get_or-set_other ready.inputs c d _ [] ne));
                   out = f.taken.out;
-                  count = count_at (widths.input c) n (take (octets_for c n) (octets_left ready c)) (length-take-le (octets_for c n) (octets_left ready c) enough);
-                  taken = split_at (widths.input c) n (octets_left ready c)
-                      ∙ ap (λ r. block ++ r) (sym (ap (λ (b : Answer (Channels M)). left widths b.run c) f.answered ∙ ap (samples_at (widths.input c)) (set_there ready.inputs c (octets_for c n))));
-                  others = λ d ne. ap (λ (b : Answer (Channels M)). left widths b.run d) f.answered ∙ ap (samples_at (widths.input d)) (get_or-set_other ready.inputs c d _ [] ne);
-                  calls = refl;
+                  calls = ap (λ xs. call ∷ calls.Feed c xs f.taken.out ∷ []) (sym parts.1);
                 }));
                 serves = and_then run ready answer.run [] answer.written (call ∷ []) (calls.Feed c block f.taken.out ∷ []) first (fed ready c n answer f);
                 refused = λ le. refusals_of_feed c f.output f.told (subst (λ (b : Answer (Channels M)). 1 ≤ refusals b.written) f.answered le);
@@ -422,9 +433,9 @@ module _ {M : Type 0} (kinds : Meaning M) (widths : Widths) where
       by_command (script.Feed c n) does a = by_feed c n does a
       by_command (script.Compact space) does a = by_call _ replies_told.Count (λ b c. refl) (λ b e. no_refusal e) does a
       by_command (script.Step space) does a = by_call _ replies_told.Flag (λ b c. refl) (λ b e. no_refusal e) does a
-      by_command (script.Release g) does a = by_flag _ (λ b c. refl) (λ r. refl) does a
+      by_command (script.Release g) does a = by_told _ replies_told.Flag (λ b e. no_refusal e) (λ b c. refl) (λ r. refl) does a
       by_command (script.Map space) does a = by_call _ replies_told.Map (λ b c. refl) (λ b e. no_refusal e) does a
-      by_command (script.Stat g) does a = by_activity _ (λ b c. refl) (λ r. refl) does a
+      by_command (script.Stat g) does a = by_told _ (λ b. replies_told.Stat b.active b.count) (λ b e. no_refusal e) (λ b c. refl) (λ r. refl) does a
 
       by_line : (line : Result (Option (Command M)) Refusal) → LineAsks kinds widths line run.state asked state → AskedAnswer machine (at_state run state) asked answer
           → Did (LineMakes line) run answer

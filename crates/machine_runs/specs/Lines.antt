@@ -1,5 +1,5 @@
 -- Lines of a console as calls of channels.
-use Rattle.std.specs.Prelude.{ℕ, ℤ, ◌≡◌, ◌⊎◌, ◌<◌, ◌≤◌, ◌==◌, List, [], ◌∷◌, ◌++◌, length, Option, Some, Result, Ok, Err, if◌then◌else◌}
+use Rattle.std.specs.Prelude.{ℕ, ℤ, ◌≡◌, ◌⊎◌, ◌<◌, ◌≤◌, ◌==◌, List, [], ◌∷◌, ◌++◌, length, drop, take, Option, Some, Result, Ok, Err, if◌then◌else◌}
 use Rattle.std.specs.List.{flat_map}
 use Rattle.ialg.specs.declared.refusal.Refusal.{Refusal}
 use Rattle.ialg.specs.Meaning.{Meaning}
@@ -24,9 +24,9 @@ Left = ℕ → List ℤ
 abbrev pub IsSame : Left → Left → Type 0
 IsSame left after = (c : ℕ) → after c ≡ left c
 
--- on all inputs but one
-abbrev pub OthersAreSame : ℕ → Left → Left → Type 0
-OthersAreSame c left after = (d : ℕ) → (d ≡ c → ⊥) → after d ≡ left d
+-- the same, but with these samples on input c
+abbrev pub IsSameBut : ℕ → List ℤ → Left → Left → Type 0
+IsSameBut c rest left after = (d : ℕ) → after d ≡ (if d == c then rest else left d)
 
 -- the samples that are left on the inputs of a run, by the widths of their ports
 abbrev pub samples_left : {M : Type 0} → Widths → Run (Channels M) → Left
@@ -52,18 +52,15 @@ module _ {M : Type 0} where
   -- a feed is short: its channel is ready, but fewer samples are left than it asks for, and none afterwards
   pub record IsShort (c n : ℕ) (left : Left) (made : List (Call M)) (after : Left) : Type 0 where
     pub few : length (left c) < n
-    pub none : after c ≡ []
-    pub others : OthersAreSame c left after
+    pub none : IsSameBut c [] left after
     pub calls : made ≡ calls.Ready c (Ok tt) ∷ []
 
   -- a feed is fed: its channel is ready, the first samples that are left are its block, as many as it asks for, and the others are left
   pub record IsFed (c n : ℕ) (left : Left) (made : List (Call M)) (after : Left) : Type 0 where
-    pub block : List ℤ
+    pub enough : n ≤ length (left c)
+    pub others : IsSameBut c (drop n (left c)) left after
     pub out : List ℤ
-    pub count : length block ≡ n
-    pub taken : left c ≡ block ++ after c
-    pub others : OthersAreSame c left after
-    pub calls : made ≡ calls.Ready c (Ok tt) ∷ calls.Feed c block out ∷ []
+    pub calls : made ≡ calls.Ready c (Ok tt) ∷ calls.Feed c (take n (left c)) out ∷ []
 
   -- a feed is refused, short or fed. Every other command makes its one call
   abbrev pub CommandMakes : Command M → Left → List (Call M) → Left → Type 0
