@@ -59,10 +59,9 @@ class Started:
 class Slot:
     """A folder in which one run at a time is made."""
 
-    def __init__(self, program: Path, top: Path, number: int, environment: Optional[dict[str, str]] = None):
-        self.program, self.folder, self.environment = str(program), top / str(number), environment
+    def __init__(self, program: Path, top: Path, number: int):
+        self.program, self.folder = str(program), top / str(number)
         self.folder.mkdir()
-        self.ins: dict[int, bytes] = {}
 
     def _write_ports(self, case: Case) -> None:
         """The inputs, and outputs that hold something or aren't there."""
@@ -85,7 +84,7 @@ class Slot:
         files = (open(self.folder / "replies", "wb"), open(self.folder / "stderr", "wb"))
         process = subprocess.Popen(
             [self.program, *words], cwd=self.folder, stdin=subprocess.PIPE if piped else subprocess.DEVNULL,
-            stdout=files[0], stderr=files[1], env=environment or self.environment)
+            stdout=files[0], stderr=files[1], env=environment)
         return Started(case, process, files)
 
     def finish(self, started: Started, timeout: float = TIMEOUT) -> Result:
@@ -105,12 +104,17 @@ class Slot:
                       [out.read_bytes() if out.exists() else None for out in outs])
 
 
-class Slots:
-    """Slots in a temporary folder in memory, which goes at the end."""
+def temporary_folder() -> tempfile.TemporaryDirectory:
+    """A folder for a whole command, in memory where there is such, which goes with it."""
+    return tempfile.TemporaryDirectory(prefix="rokdaum-", dir=memory_folder())
 
-    def __init__(self, program: Path, count: int, environment: Optional[dict[str, str]] = None):
-        self.top = Path(tempfile.mkdtemp(prefix="rokdaum-", dir=memory_folder()))
-        self.slots = [Slot(program, self.top, number, environment) for number in range(count)]
+
+class Slots:
+    """Slots in a folder of their own below `top`, which goes at the end."""
+
+    def __init__(self, program: Path, count: int, top: str):
+        self.top = Path(tempfile.mkdtemp(dir=top))
+        self.slots = [Slot(program, self.top, number) for number in range(count)]
 
     def __enter__(self) -> Sequence[Slot]:
         return self.slots

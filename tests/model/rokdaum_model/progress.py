@@ -9,8 +9,8 @@ import time
 class Progress:
     """A count on its way to a total. On a terminal one line is written over; else there is a line every half minute."""
 
-    def __init__(self, total: int, what: str):
-        self.total, self.what, self.done, self.failed = total, what, 0, 0
+    def __init__(self, total: int, what: str, rated: bool = True):
+        self.total, self.what, self.rated, self.done, self.failed = total, what, rated, 0, 0
         self.began = self.said = time.monotonic()
         self.terminal = sys.stderr.isatty()
 
@@ -33,8 +33,9 @@ class Progress:
 
     def _say(self, before: str, behind: str) -> None:
         left = (self.total - self.done) / max(self.rate(), 1e-9)
-        print(f"{before}{self.done:,} of {self.total:,} {self.what}, {self.failed} differ, {self.rate():.0f} a second, "
-              f"{left:.0f} s left  ", end=behind, file=sys.stderr, flush=True)
+        rate = f"{self.rate():.0f} a second, " if self.rated else ""
+        print(f"{before}{self.done:,} of {self.total:,} {self.what}, {self.failed} differ, {rate}{left:.0f} s left  ",
+              end=behind, file=sys.stderr, flush=True)
 
     def end(self) -> None:
         """Ends the line on a terminal."""
