@@ -4,7 +4,7 @@ ghost use Rattle.line_machine.specs.Served.{held_by, order_of, refusals};
 ghost use Rattle.line_machine.specs.Widths.{widths_of};
 ghost use Rattle.console_machine.specs.Answers.{served};
 ghost use Rattle.voice_set.specs.Voices.{voice_meaning, voice_named};
-ghost use Rattle.dsp_console.specs.declared.tests.TheConstants.{FULL};
+ghost use Rattle.test_console.specs.declared.engine.TheConstants.{FULL};
 
 use arrayvec::ArrayVec;
 use dsp_console::{Config, Fault, Sizes, Summary, outcome, run};
