@@ -19,4 +19,3 @@ pub use long::{
 pub use norm::{div_s, norm_l, norm_s};
 pub use shift::{l_shl, l_shr, shl, shr};
 pub use short::{abs_s, add, mult, mult_r, negate, sub};
-

@@ -9,8 +9,8 @@ ghost use Rattle.instance_table.specs.Table.{slot_at, group_at, activity_at, unt
 ghost use Rattle.instance_table.specs.Keeps.{Keeps};
 
 use ialg::Ialg;
-use mem_rec::{GROUPS, INSTANCES};
 use instance_table::Member;
+use mem_rec::{GROUPS, INSTANCES};
 use record_shelves::Shelf;
 use scratch_group::Group;
 use std::alloc::{AllocError, Allocator};

@@ -10,8 +10,8 @@ ghost use Rattle.sound_machine.specs.Steps.{processed};
 ghost use Rattle.kept_machine.specs.Kept.{TablesKeep, told};
 
 use ialg::{BLOCK_SAMPLES, Block, Ctl, Ialg, Refusal, Status};
-use mem_rec::{GROUPS, INSTANCES};
 use instance_table::{Member, command, lives, process, rest};
+use mem_rec::{GROUPS, INSTANCES};
 use record_shelves::Shelf;
 use scratch_group::Group;
 

@@ -2,8 +2,9 @@
 ghost use Rattle.std.specs.Prelude.{◌≡◌, ℕ, length, IfOk};
 ghost use Rattle.mem_rec.specs.declared.TheConstants.{INSTANCES};
 ghost use Rattle.record_shelves.specs.Shelves.{no_shelf, shelf_at, once_at, no_pieces, IsUnshared};
-use mem_rec::INSTANCES;
+
 use crate::shelves::{Shelf, end_absent};
+use mem_rec::INSTANCES;
 use record_loans::Pieces;
 use std::alloc::{AllocError, Allocator};
 
