@@ -170,7 +170,7 @@ module _ (poison : Option ℤ) (lawful : AreLawful voice_meaning poison) where
       } in
       let gave : outputs_in 0 (life made.one made.two made.three) ≡ pos 1 ∷ pos 3 ∷ pos 5 ∷ [] =
       (says.each 0 Fir 0 mean (life made.one made.two made.three) (lawful Fir mean) born).outputs ∙ fir mean (Sample (pos 6) ∷ Sample (pos 4) ∷ Sample (pos 2) ∷ []) in
-      record { one = made.one; two = made.two; three = made.three; born = born; rest = refl; given = refl; gave = gave; fed = made.given ∙ gave }
+      record { one = made.one; two = made.two; three = made.three; born = born; rest = refl; given = refl; gave = gave; fed = made.given ∙ gave; written = says.outputs 0 ∙ ap octets_of (made.given ∙ gave) }
 
   pub row_gave : FirGives → (result : Result Summary Fault) (old new : Devices) → CanRunRow old → length old.outputs ≡ 2
       → IfOk result (λ summary. RunHeadline voice_meaning voice_named words row_sizes poison summary.refused old new)
@@ -181,6 +181,6 @@ module _ (poison : Option ℤ) (lawful : AreLawful voice_meaning poison) where
         run = run;
         first = first;
         output = subst (λ octets. HoldsMore octets (slice_index_or old.outputs 0 no_sink) (slice_index_or new.outputs 0 no_sink))
-            (run.says.outputs 0 ∙ ap octets_of first.fed) (run.serves.writes.output 0 (omega (arith, two)));
+            first.written (run.serves.writes.output 0 (omega (arith, two)));
       }
   row_gave fir (Err fault) old new can two run = tt

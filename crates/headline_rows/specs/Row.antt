@@ -1,5 +1,5 @@
 -- A worked row of the headline: a script of a few lines, and what its first filter gave.
-use Rattle.std.specs.Prelude.{◌≡◌, ℕ, ℤ, pos, List, [], ◌∷◌, Option, Ok, All, slice_index_or}
+use Rattle.std.specs.Prelude.{◌≡◌, ℕ, ℤ, pos, List, [], ◌∷◌, Option, Some, Ok, All, slice_index_or}
 use Rattle.mem_rec.specs.declared.Space.TheVariants.{Daram}
 use Rattle.ialg.specs.History.{Sample}
 use Rattle.octet_ports.specs.Ports.{Holds}
@@ -11,7 +11,7 @@ use Rattle.channel_machine.specs.Channels.{Channels}
 use Rattle.voice_set.specs.declared.voice.Voice.{Voice}
 use Rattle.voice_set.specs.declared.voice.Voice.TheVariants.{Fir}
 use Rattle.voice_set.specs.Voices.{voice_meaning, voice_named}
-use Rattle.line_machine.specs.Served.{Answer}
+use Rattle.line_machine.specs.Served.{Answer, held_by, order_of}
 use Rattle.console_machine.specs.Samples.{octets_of}
 use Rattle.script_server.specs.Runs.{AreReady, Devices, IsHonest, IsReadyIn, no_sink, octets_to_come}
 use Rattle.machine_runs.specs.Births.{Born}
@@ -40,7 +40,7 @@ life one two three =
     Create 1 Fir 0 mean (Ok tt) ∷ Process 0 (pos 2 ∷ pos 4 ∷ []) one ∷ Process 1 (pos 10 ∷ []) two ∷ Delete 2 (Ok tt) ∷ Compact Daram 1
     ∷ Process 0 (pos 6 ∷ []) three ∷ []
 
--- what the headline says of instance 0, which is deleted before the run ends
+-- what the headline alone says of instance 0, which is deleted before the run ends
 pub record FirstGave {poison : Option ℤ} {lines inputs : List (List ℕ)} {answer : Answer (Channels Voice)} (says : Headline voice_meaning voice_named words row_sizes poison lines inputs answer) : Type 0 where
   pub one : List ℤ
   pub two : List ℤ
@@ -49,8 +49,9 @@ pub record FirstGave {poison : Option ℤ} {lines inputs : List (List ℕ)} {ans
   pub rest : born.rest ≡ Delete 0 (Ok tt) ∷ []
   pub given : history_of_run 0 [] (life one two three) ≡ Sample (pos 6) ∷ Sample (pos 4) ∷ Sample (pos 2) ∷ []
   pub gave : outputs_in 0 (life one two three) ≡ pos 1 ∷ pos 3 ∷ pos 5 ∷ []
-  -- and it is all that channel 0 gave
+  -- it is all that channel 0 gave, and what was written on its output
   pub fed : fed_out 0 says.calls ≡ pos 1 ∷ pos 3 ∷ pos 5 ∷ []
+  pub written : held_by (Some 0) (order_of answer.written) ≡ octets_of (pos 1 ∷ pos 3 ∷ pos 5 ∷ [])
 
 -- the row's script and inputs are to come, of honest ports that haven't failed
 pub record CanRunRow (devices : Devices) : Type 0 where
