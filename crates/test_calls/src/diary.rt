@@ -93,7 +93,7 @@ impl Ialg for Diary {
     fn alg_control(&self, mem: &mut Lent<'_>, c: &Ctl) -> Status {
         note(mem, CONTROL);
         match c {
-            Ctl::Get => Status::Words(diary(mem)),
+            Ctl::Get => Status::Words(written(mem)),
             _ => Status::Done,
         }
     }
@@ -165,7 +165,7 @@ fn write(words: &mut [i16], call: i16) {
 }
 
 // The calls that were written down, the first one first.
-fn diary(mem: &Lent<'_>) -> Words {
+fn written(mem: &Lent<'_>) -> Words {
     let table = mem.table();
     if table.len() <= DIARY {
         return Words::new();

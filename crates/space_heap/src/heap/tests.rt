@@ -29,10 +29,10 @@ fn of_eight_words(region: Region, all: Piece) -> Heap
 fn a_heap_is_six_fields(rt: HostRuntime) -> Result<(), Fail> {
     let (region, all) = Region::make(rt.alloc(), 8)?;
     let mut heap = of_eight_words(region, all);
-    assert!(rt; (heap.size(), heap.free(), heap.slid()) == (8, 8, 0));
+    assert_eq!(rt; (heap.size(), heap.free(), heap.slid()), (8, 8, 0));
     match heap.take(5, 4) {
         Some(block) => {
-            assert!(rt; (block.place(), block.len(), heap.free()) == (0, 8, 0));
+            assert_eq!(rt; (block.place(), block.len(), heap.free()), (0, 8, 0));
             heap.give(block);
         }
         None => assert!(rt; false),
