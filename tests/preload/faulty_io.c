@@ -1,3 +1,4 @@
+/* SPDX-License-Identifier: Apache-2.0 */
 /* Devices that break, are interrupted, or give and take little at a time: put before a program by LD_PRELOAD.
  *
  * Of each call of read and write (not of the standard error's) it decides by a seed. The environment says:

@@ -1,3 +1,4 @@
+# SPDX-License-Identifier: Apache-2.0
 """What the tests of the program stand on: a folder of their own, and runs of the program in it.
 
 The environment may name the program in ROKDAUM_PROGRAM (else it is the one that `./dsp_console` builds), and in ROKDAUM_PATIENCE

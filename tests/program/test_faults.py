@@ -1,3 +1,4 @@
+# SPDX-License-Identifier: Apache-2.0
 """What is told and what is kept where a file can't be read or written any more."""
 
 from __future__ import annotations

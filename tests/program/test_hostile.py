@@ -1,3 +1,4 @@
+# SPDX-License-Identifier: Apache-2.0
 """Odd scripts, odd files and closed descriptors."""
 
 from __future__ import annotations

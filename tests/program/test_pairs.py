@@ -1,3 +1,4 @@
+# SPDX-License-Identifier: Apache-2.0
 """Which file is which channel's, what its bytes are, and which option is for what."""
 
 from __future__ import annotations

@@ -1,3 +1,4 @@
+# SPDX-License-Identifier: Apache-2.0
 """SCRIPT, INs, OUTs and replies that are pipes."""
 
 from __future__ import annotations

@@ -1,3 +1,4 @@
+# SPDX-License-Identifier: Apache-2.0
 """The exit status, and the line on the standard error."""
 
 from __future__ import annotations

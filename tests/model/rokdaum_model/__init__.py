@@ -1,3 +1,4 @@
+# SPDX-License-Identifier: Apache-2.0
 """An independent model of `dsp_console`, written from the definitions and not from the program.
 
 An instance is the history of what it was granted, and its output is the difference equation over that history. A space is a

@@ -1,3 +1,4 @@
+# SPDX-License-Identifier: Apache-2.0
 """The model as a program with the command line of `dsp_console`:
 
     python3 -m rokdaum_model [--mixed] [--form history|running] [the words of dsp_console]

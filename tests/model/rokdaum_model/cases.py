@@ -1,3 +1,4 @@
+# SPDX-License-Identifier: Apache-2.0
 """A case: one run of the program with what is expected of it, in memory or as a folder.
 
 A folder holds `arguments` (the words of the command line, one a line), `script`, `in0`, `in1` .., and what is expected:

@@ -1,3 +1,4 @@
+# SPDX-License-Identifier: Apache-2.0
 """Companding of ITU-T G.711 on samples of 16 bits.
 
 A code is 0 to 255. A negative sample x has the interval of -1 - x.

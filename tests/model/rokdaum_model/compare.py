@@ -1,3 +1,4 @@
+# SPDX-License-Identifier: Apache-2.0
 """What a run of the program gave beside what was expected of it."""
 
 from __future__ import annotations

@@ -1,3 +1,4 @@
+# SPDX-License-Identifier: Apache-2.0
 """A run: a script is served over ports, line by line."""
 
 from __future__ import annotations

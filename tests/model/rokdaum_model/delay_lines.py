@@ -1,3 +1,4 @@
+# SPDX-License-Identifier: Apache-2.0
 """The same algorithms with delay lines in place of histories: the same outputs, sooner."""
 
 from __future__ import annotations

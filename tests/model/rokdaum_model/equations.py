@@ -1,3 +1,4 @@
+# SPDX-License-Identifier: Apache-2.0
 """One step of each recursion, in the order of its sums."""
 
 from __future__ import annotations

@@ -1,3 +1,4 @@
+# SPDX-License-Identifier: Apache-2.0
 """What must not matter to a run: the form in which the model computes, the poison word, how the samples between two controls
 are cut into feeds, moves anywhere, and which groups instances are in."""
 

@@ -1,3 +1,4 @@
+# SPDX-License-Identifier: Apache-2.0
 """The five kinds of algorithms: their parameters, their records, the controls that they take, and their difference equations
 over a whole history."""
 

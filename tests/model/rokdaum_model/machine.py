@@ -1,3 +1,4 @@
+# SPDX-License-Identifier: Apache-2.0
 """The host of instances and its channels: who is there, which blocks stand where, and who is active."""
 
 from __future__ import annotations

@@ -1,3 +1,4 @@
+# SPDX-License-Identifier: Apache-2.0
 """Records of memory, the layout of scratch, and spaces as pictures of their blocks.
 
 A space is a set of blocks. A new block goes to the least place at which it meets none of them (first fit by place). Words

@@ -1,3 +1,4 @@
+# SPDX-License-Identifier: Apache-2.0
 """Scripts made from others by small changes of their bytes, words and lines."""
 
 from __future__ import annotations

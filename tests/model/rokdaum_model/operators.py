@@ -1,3 +1,4 @@
+# SPDX-License-Identifier: Apache-2.0
 """The basic operators of ITU-T G.191 as functions of whole numbers.
 
 A Word16 is -32768 to 32767, a Word32 is -2147483648 to 2147483647. Where a result doesn't fit its type, the operator

@@ -1,3 +1,4 @@
+# SPDX-License-Identifier: Apache-2.0
 """The one order of all that a run writes: of each line first its output, then its reply. What a run that was cut short may
 have written."""
 

@@ -1,3 +1,4 @@
+# SPDX-License-Identifier: Apache-2.0
 """Ports: what a run reads from and writes to, over memory and over files."""
 
 from __future__ import annotations

@@ -1,3 +1,4 @@
+# SPDX-License-Identifier: Apache-2.0
 """The C library that shortens and breaks a program's calls of read and write: how it is built, and what it reports."""
 
 from __future__ import annotations

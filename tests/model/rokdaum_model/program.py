@@ -1,3 +1,4 @@
+# SPDX-License-Identifier: Apache-2.0
 """Runs of the program over files in a folder of its own, several at a time."""
 
 from __future__ import annotations

@@ -1,3 +1,4 @@
+# SPDX-License-Identifier: Apache-2.0
 """How far a long command is, on the standard error: how many are done, how many a second, and what is left."""
 
 from __future__ import annotations

@@ -1,3 +1,4 @@
+# SPDX-License-Identifier: Apache-2.0
 """Random samples, inputs and configurations."""
 
 from __future__ import annotations

@@ -1,3 +1,4 @@
+# SPDX-License-Identifier: Apache-2.0
 """Random scripts with their inputs and what they answer.
 
 A script is written line by line against a living session, so that most lines mean something: instances are there, channels

@@ -1,3 +1,4 @@
+# SPDX-License-Identifier: Apache-2.0
 """The kinds of `mixed_console` that break the laws of algorithms. Of what they give only a part is determined."""
 
 from __future__ import annotations

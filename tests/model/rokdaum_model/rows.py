@@ -1,3 +1,4 @@
+# SPDX-License-Identifier: Apache-2.0
 """Worked rows: scripts whose replies and outputs were computed by hand. They stand in `rows.json`.
 
 Of a row, `script` has its lines, or `raw_script` its bytes. An input or output is `samples` (words, the low byte first, with

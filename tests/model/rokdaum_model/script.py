@@ -1,3 +1,4 @@
+# SPDX-License-Identifier: Apache-2.0
 """The grammar of a script's lines."""
 
 from __future__ import annotations

@@ -1,3 +1,4 @@
+# SPDX-License-Identifier: Apache-2.0
 """What a living algorithm does, and the form of it that is the definition itself: a history of all that it was given."""
 
 from __future__ import annotations

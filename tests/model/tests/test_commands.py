@@ -1,3 +1,4 @@
+# SPDX-License-Identifier: Apache-2.0
 """The commands `tests/differential` and `tests/fuzz`, with the model in the program's place: as it is, and with something wrong."""
 
 from __future__ import annotations

@@ -1,3 +1,4 @@
+# SPDX-License-Identifier: Apache-2.0
 """Comparing and command lines."""
 
 from __future__ import annotations

@@ -1,3 +1,4 @@
+# SPDX-License-Identifier: Apache-2.0
 """Places, layouts and moves."""
 
 from __future__ import annotations

@@ -1,3 +1,4 @@
+# SPDX-License-Identifier: Apache-2.0
 """Vectors of G.191's operators and of G.711, and laws over all values."""
 
 from __future__ import annotations

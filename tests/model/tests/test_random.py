@@ -1,3 +1,4 @@
+# SPDX-License-Identifier: Apache-2.0
 """Random scripts: what must not matter doesn't, and they are the same each time."""
 
 from __future__ import annotations

@@ -1,3 +1,4 @@
+# SPDX-License-Identifier: Apache-2.0
 """The worked rows, and runs over ports that give little or fail."""
 
 from __future__ import annotations
