@@ -24,7 +24,7 @@ PICTURE = Path("docs/architecture.svg")
 
 # The layers from the top down, where crates.txt has no headings: a crate belongs to the first whose pattern it matches as a whole.
 LAYERS: tuple[tuple[str, str], ...] = (
-    ("tests", r"test_\w+|trial_\w+|\w+_rows|\w+_trace|\w+_turns|rogue_kit|mixed_console|scribbler|neighbours|slicer_life|shaky_device|counting_alloc|host_calls"),
+    ("tests", r"test_\w+|trial_\w+|\w+_rows|\w+_trace|\w+_turns|rogue_kit|mixed_console|scribbler|neighbours|slicer_life|host_calls"),
     ("program", r"dsp_console_main|dsp_arguments|port_pairs"),
     ("engine", r"dsp_console|voice_console|script_server|port_journal|octet_ports|line_reader"),
     ("channels", r"voice_channel"),

@@ -9,10 +9,10 @@ ghost use Rattle.test_console.specs.declared.engine.TheConstants.{FULL};
 use arrayvec::ArrayVec;
 use dsp_console::{Config, Fault, Sizes, Summary, outcome, run};
 use octet_ports::{PortIn, PortOut, Reading, TapeIn, TapeOut, Writing};
-use shaky_device::{HELD_OCTETS, Shaky};
 use std::alloc::{AllocError, Global};
 use std::process::Abort;
 use std::test::Fail;
+use test_doubles::{HELD_OCTETS, Shaky};
 use voice_set::{Voice, voices_are_lawful};
 
 const NEVER: u64 = u64::MAX;

@@ -3,16 +3,29 @@ use octet_ports::{
     PortFault, PortIn, PortOut, Reading, TAPE_OCTETS, TapeIn, TapeOut, Writing, read_octets,
     write_octets,
 };
-use shaky_device::Shaky;
+use std::alloc::{AllocError, Global};
 use std::test::Fail;
+use test_doubles::{HELD_OCTETS, Shaky};
 
 const NEVER: u64 = u64::MAX;
 
 /// As many octets as a device takes or gives at a time.
 const WIDE: usize = 512;
 
+/// As few as a device takes or gives at a time, more than one.
+pub const FEW: usize = 3;
+
 /// More octets than wait in any run between two flushes.
 const MILLION_AND_MORE: usize = 1_100_000;
+
+/// So many octets, of which none is as the one before.
+pub fn numbered(alloc: Global, count: usize) -> Result<Vec<u8>, AllocError> {
+    let mut octets = Vec::new(alloc);
+    for place in 0..count {
+        octets.push((place % 251) as u8)?;
+    }
+    Ok(octets)
+}
 
 #[test]
 fn a_tape_is_full_at_4096(rt: HostRuntime) {
@@ -71,6 +84,25 @@ fn ports_take_long_buffers(rt: HostRuntime) {
     let put = output.put(&octets);
     assert!(rt; put == Ok(WIDE));
     assert!(rt; !input.failed() && !output.failed());
+}
+
+#[test]
+fn few_octets_at_a_time_lose_nothing(rt: HostRuntime) -> Result<(), Fail> {
+    let octets = numbered(rt.alloc(), HELD_OCTETS)?;
+    let mut output = Writing::new(Shaky::new(b"", FEW, NEVER));
+    let answer = write_octets(&mut output, &octets);
+    assert!(rt; answer.is_ok());
+    assert!(rt; !output.failed());
+    let device = output.into_inner();
+    assert!(rt; device.written == 2_048);
+    assert!(rt; device.held.as_slice() == octets.as_slice());
+    let mut input = Reading::new(Shaky::new(&octets, FEW, NEVER));
+    let mut got = vec![in rt.alloc(); 0u8; HELD_OCTETS]?;
+    let whole = read_octets(&mut input, &mut got);
+    assert!(rt; whole == Ok(true));
+    assert!(rt; !input.failed());
+    assert!(rt; got.as_slice() == octets.as_slice());
+    Ok(())
 }
 
 #[test]

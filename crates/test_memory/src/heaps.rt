@@ -1,9 +1,7 @@
 //! What no clause says: that a heap is made where memory is there, and what comes of a refused request.
-use counting_alloc::{Counted, Refusing};
 use space_heap::{Heap, HeapError};
-use space_raw::Region;
 use std::alloc::Global;
-use std::test::Fail;
+use test_doubles::Metered;
 
 // What came of asking for a heap and closing it again.
 #[derive(Drop)]
@@ -11,15 +9,14 @@ struct Asked {
     answer: Result<(), HeapError>,
     // how often memory was asked for
     requests: u64,
-    // how many of the requests were granted, and how many blocks went back
-    calls: u64,
+    // how many blocks came back
+    returned: u64,
 }
 
 // The request of that number is refused.
 fn ask(alloc: Global, words: u32, refused: u64) -> Asked {
-    let counted = Counted::new(alloc);
-    let refusing = Refusing::new(&counted, refused);
-    let answer = match Heap::new(&refusing, words) {
+    let metered = Metered::refusing(alloc, refused);
+    let answer = match Heap::new(&metered, words) {
         Ok(heap) => {
             heap.close();
             Ok(())
@@ -28,30 +25,21 @@ fn ask(alloc: Global, words: u32, refused: u64) -> Asked {
     };
     Asked {
         answer,
-        requests: refusing.requests(),
-        calls: counted.calls(),
+        requests: metered.requests(),
+        returned: metered.returned(),
     }
 }
 
 #[test]
-fn each_request_is_refused_in_turn(rt: HostRuntime) -> Result<(), Fail> {
+fn memory_is_asked_for_once_and_given_back_once(rt: HostRuntime) {
     for words in [0u32, 4, 12, 65_532, 65_536] {
-        let counted = Counted::new(rt.alloc());
-        let (region, all) = Region::make(&counted, words)?;
-        let of_a_region = counted.calls();
-        region.close(all);
-        let granted = ask(rt.alloc(), words, u64::MAX);
+        let granted = ask(rt.alloc(), words, 1);
         assert!(rt; granted.answer.is_ok());
-        assert!(rt; (granted.requests, granted.calls) == (of_a_region, counted.calls()));
-        for number in 0..granted.requests {
-            let refused = ask(rt.alloc(), words, number);
-            assert!(rt; matches!(refused.answer, Err(HeapError::Memory)));
-            assert!(rt;
-                (refused.requests, refused.calls) == (number + 1, number.saturating_mul(2))
-            );
-        }
+        assert!(rt; (granted.requests, granted.returned) == (1, 1));
+        let refused = ask(rt.alloc(), words, 0);
+        assert!(rt; matches!(refused.answer, Err(HeapError::Memory)));
+        assert!(rt; (refused.requests, refused.returned) == (1, 0));
     }
-    Ok(())
 }
 
 #[test]
@@ -70,9 +58,9 @@ fn a_new_heap_is_free(rt: HostRuntime) {
 #[test]
 fn a_bad_size_asks_for_no_memory(rt: HostRuntime) {
     for words in [1u32, 2, 6, 65_537, 65_540, u32::MAX] {
-        let asked = ask(rt.alloc(), words, u64::MAX);
+        let asked = ask(rt.alloc(), words, 0);
         assert!(rt; matches!(asked.answer, Err(HeapError::BadSize)));
-        assert!(rt; asked.requests == 0);
+        assert!(rt; (asked.requests, asked.returned) == (0, 0));
     }
 }
 

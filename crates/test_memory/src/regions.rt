@@ -2,10 +2,10 @@
 ghost use Rattle.std.specs.Prelude.{◌≡◌, ◌+◌, ◌<◌, ◌≤◌, [], ◌∷◌, length, replicate, slice_set, slice_index_or, pos};
 ghost use Rattle.space_raw.specs.Slots.{run_of, with_run, IsRun};
 
-use counting_alloc::{Counted, Refusing};
 use space_raw::{Piece, Region, Rest};
 use std::alloc::Global;
 use std::test::Fail;
+use test_doubles::Metered;
 
 const ONE_TO_TWELVE: [i16; 12] = [1, 2, 3, 4, 5, 6, 7, 8, 9, 10, 11, 12];
 
@@ -115,15 +115,14 @@ struct Asked {
     is_made: bool,
     // how often memory was asked for
     requests: u64,
-    // how many of the requests were granted, and how many blocks went back
-    calls: u64,
+    // how many blocks came back
+    returned: u64,
 }
 
 // The request of that number is refused.
 fn ask(alloc: Global, words: u32, refused: u64) -> Asked {
-    let counted = Counted::new(alloc);
-    let refusing = Refusing::new(&counted, refused);
-    let is_made = match Region::make(&refusing, words) {
+    let metered = Metered::refusing(alloc, refused);
+    let is_made = match Region::make(&metered, words) {
         Ok((region, all)) => {
             region.close(all);
             true
@@ -132,8 +131,8 @@ fn ask(alloc: Global, words: u32, refused: u64) -> Asked {
     };
     Asked {
         is_made,
-        requests: refusing.requests(),
-        calls: counted.calls(),
+        requests: metered.requests(),
+        returned: metered.returned(),
     }
 }
 
@@ -141,8 +140,8 @@ fn ask(alloc: Global, words: u32, refused: u64) -> Asked {
 fn memory_is_asked_for_once_and_given_back_once(rt: HostRuntime) {
     for words in [0u32, 4, 12, 65_536, 100_000] {
         let granted = ask(rt.alloc(), words, 1);
-        assert!(rt; (granted.is_made, granted.requests, granted.calls) == (true, 1, 2));
+        assert!(rt; (granted.is_made, granted.requests, granted.returned) == (true, 1, 1));
         let refused = ask(rt.alloc(), words, 0);
-        assert!(rt; (refused.is_made, refused.requests, refused.calls) == (false, 1, 0));
+        assert!(rt; (refused.is_made, refused.requests, refused.returned) == (false, 1, 0));
     }
 }

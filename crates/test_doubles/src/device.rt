@@ -1,7 +1,5 @@
-// SPDX-License-Identifier: Apache-2.0
 //! A device for tests, which fails at a call of a given number. No clause of a reader or a writer says when it fails: that is
 //! shown by the tests that use it.
-#![tactic(auto)]
 
 ghost use Rattle.std.specs.Prelude.{◌≡◌, ◌==◌, []};
 ghost use Rattle.std.specs.Result.{is_err};
@@ -11,7 +9,7 @@ use std::io;
 use std::io::{ErrorKind, Read, Write};
 
 /// How many of the octets that were written a device holds: the first ones.
-pub const HELD_OCTETS: usize = 64;
+pub const HELD_OCTETS: usize = 2_048;
 
 /// A reader and a writer of so many octets a call. The call of the number `fuse`, from 0, is interrupted, and the next would go on.
 #[derive(Drop)]
