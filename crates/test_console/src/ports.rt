@@ -12,7 +12,7 @@ const NEVER: u64 = u64::MAX;
 /// As many octets as a device takes or gives at a time.
 const WIDE: usize = 512;
 
-/// As few as a device takes or gives at a time, more than one.
+/// As few octets as a device takes or gives at a time.
 pub const FEW: usize = 3;
 
 /// More octets than wait in any run between two flushes.
