@@ -79,7 +79,10 @@ def name() -> str:
 
 def seconds() -> int:
     """The time that everything in a release has."""
-    return int(os.environ.get("SOURCE_DATE_EPOCH") or git("log", "-1", "--format=%ct"))
+    given = os.environ.get("SOURCE_DATE_EPOCH")
+    if given and not given.isdecimal():
+        raise NoRelease(f"SOURCE_DATE_EPOCH is no number of seconds: {given}")
+    return int(given or git("log", "-1", "--format=%ct"))
 
 
 def tracked() -> dict[str, bool]:

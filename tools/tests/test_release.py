@@ -102,6 +102,9 @@ class Release(unittest.TestCase):
         ran = subprocess.run(("tools/release.py", "--to", self.out), cwd=self.top, capture_output=True, text=True, check=True)
         with tarfile.open(ran.stdout.strip()) as tar:
             self.assertEqual({it.mtime for it in tar.getmembers()}, {86400})
+        os.environ["SOURCE_DATE_EPOCH"] = "today"
+        ran = subprocess.run(("tools/release.py", "--to", self.out), cwd=self.top, capture_output=True, text=True, check=False)
+        self.assertEqual((ran.returncode, ran.stderr), (1, "release: SOURCE_DATE_EPOCH is no number of seconds: today\n"))
 
     def test_no_program(self) -> None:
         shutil.rmtree(self.top / "crates/dsp_console_main/out")
@@ -165,7 +168,6 @@ class Pages(unittest.TestCase):
         self.assertEqual(self.options(page), self.wanted)
         self.assertIn(f'"Rokdaum {(TOP / "VERSION").read_text().strip()}"', page)
 
-    @unittest.skipUnless(shutil.which("groff"), "groff isn't there")
     def test_the_man_page_has_no_fault(self) -> None:
         ran = subprocess.run(("groff", "-man", "-Tutf8", "-ww", "-z", TOP / "docs/man/dsp_console.1"), capture_output=True, text=True, check=True)
         self.assertEqual(ran.stderr, "")
