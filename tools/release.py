@@ -35,7 +35,7 @@ TOP = program.TOP
 PLATFORM = "x86_64-linux"
 # What was built: where it stands in a release, and where here. The C library joins here.
 BUILT = {"dsp_console": program.path_of}
-# The files at the top that a release has. Its README is a page of its own.
+# The files at the top that a release has. Its README is made of a page of docs.
 FILES = ("CHANGELOG.md", "LICENSE", "Makefile", "NOTICE", "SECURITY.md", "VERSION")
 README = "docs/RELEASE.md"
 # The folders whose files a release has. Headers and the Python package join here.
@@ -146,7 +146,7 @@ def contents(with_changes: bool) -> dict[str, Entry]:
             continue
         if path == README:
             found["README.md"] = (readme((TOP / path).read_text(encoding="utf-8")), False)
-        elif path in FILES or path.split("/")[0] in FOLDERS:
+        if path in FILES or path.split("/")[0] in FOLDERS:
             found[path] = ((TOP / path).read_bytes(), executable)
     missing = [it for it in (*FILES, "README.md") if it not in found]
     if missing:

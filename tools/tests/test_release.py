@@ -84,7 +84,7 @@ class Release(unittest.TestCase):
         with tarfile.open(path) as tar:
             found = {it.name: it for it in tar.getmembers()}
             texts = {name.partition("/")[2]: tar.extractfile(it).read().decode() for name, it in found.items() if it.isfile()}
-        wanted = {"CHANGELOG.md", "LICENSE", "Makefile", "NOTICE", "ORIGIN", "README.md", "SECURITY.md", "SHA256SUMS", "VERSION", "docs/A.md"}
+        wanted = {"CHANGELOG.md", "LICENSE", "Makefile", "NOTICE", "ORIGIN", "README.md", "SECURITY.md", "SHA256SUMS", "VERSION", "docs/A.md", "docs/RELEASE.md"}
         wanted |= {"docs/completion/dsp_console", "docs/man/dsp_console.1", "dsp_console", "examples/x"}
         self.assertEqual(set(texts), wanted)
         self.assertEqual(texts["dsp_console"], SCRIPT)
