@@ -175,32 +175,37 @@ def mark(block: Block) -> str:
     return letters[block.number % len(letters)]
 
 
-def bar(shown: Map, width: int = WIDTH) -> str:
-    """A map as a line of `width` letters. A block has at least one, so that none is lost."""
-    letters = [FREE] * width
+def bar(shown: Map, width: int = WIDTH, span: int | None = None) -> str:
+    """The first `span` words of a map, all where nothing is said, as a line of `width` letters. A block has at least one, though a later one may cover it."""
+    letters, span = [FREE] * width, max(shown.words if span is None else span, 1)
     for block in shown.blocks:
-        first = min(block.place * width // max(shown.words, 1), width - 1)
-        last = max(first + 1, -(-block.end * width // max(shown.words, 1)))
+        first = min(block.place * width // span, width - 1)
+        last = max(first + 1, -(-block.end * width // span))
         letters[first:last] = [mark(block)] * (min(last, width) - first)
     return "".join(letters)
 
 
-def describe(shown: Map, width: int = WIDTH) -> str:
+def describe(shown: Map, width: int = WIDTH, span: int | None = None) -> str:
     """A bar, what is used, and the largest hole."""
-    return f"|{bar(shown, width)}| used {shown.used} of {shown.words}, largest hole {shown.largest_hole}"
+    return f"|{bar(shown, width, span)}| used {shown.used} of {shown.words}, largest hole {shown.largest_hole}"
 
 
 def text_of(history: History, space: str, width: int = WIDTH) -> str:
-    """A line for each moment at which the map of a space or an active member changed, and what the letters mean."""
+    """A line for each moment at which the map of a space or an active member changed, and what the letters mean.
+
+    The bars end behind the last word that a block ever has, rounded up to a power of two.
+    """
     rows, marks, before = [], {}, None
+    top = max((block.end for moment in history.moments if space in moment.maps for block in moment.maps[space].blocks), default=0)
+    span = min(history.sizes[space], 1 << max(top - 1, 1).bit_length())
     for moment in history.moments:
         shown = moment.maps.get(space)
         if shown is None:
             continue
         active = " ".join(f"g{group}:{'-' if member is None else f'i{member}'}" for group, member in sorted(moment.active.items()))
         if (shown, active) != before:
-            rows.append(f"{moment.line:6} {describe(shown, width)}  {moment.text[:40]}{'  active ' + active if active else ''}")
+            rows.append(f"{moment.line:6} {describe(shown, width, span)}  {moment.text[:40]}{'  active ' + active if active else ''}")
             before = (shown, active)
         marks.update({mark(block): block.owner.split(".")[0] for block in shown.blocks})
     rows.append("letters: " + " ".join(f"{letter}={owner}" for letter, owner in sorted(marks.items())) if marks else "no block")
-    return "\n".join([f"{space}, {history.sizes[space]} words", *rows]) + "\n"
+    return "\n".join([f"{space}, {history.sizes[space]} words, bars to word {span}", *rows]) + "\n"

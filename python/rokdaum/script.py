@@ -227,6 +227,7 @@ class Run:
         self.fed = self.total = 0
         self.circuit = Circuit()
         self.noted: dict[str, None] = {}
+        self.groups: set[int] = set()
 
     def serve(self, lines: Sequence[Line], strict: bool) -> Iterator[Answer]:
         """The answer to each line, as it comes. In a strict run no line is sent before the answer to the one before it was taken."""
@@ -334,7 +335,8 @@ class Run:
     def look(self, line: Line) -> None:
         """Asks where all blocks stand and who is active. Neither command changes anything."""
         maps = self.session.ask([f"map {space}" for space in SPACES])
-        groups = sorted({it.group for it in self.circuit.instances.values()})
+        self.groups |= {it.group for it in self.circuit.instances.values()}
+        groups = sorted(self.groups)
         stats = self.session.ask([f"stat {group}" for group in groups]) if groups else []
         self.history.add(line.number, line.text, dict(zip(SPACES, maps)), dict(zip(groups, map(parse_stat, stats))))
 
