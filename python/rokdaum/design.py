@@ -34,6 +34,8 @@ SCALES = ("tones", "any", "words")
 GRID = np.linspace(0, np.pi, 2049)
 # An impulse response is summed up until its poles have let it fall this far.
 LONGEST_RESPONSE = 1 << 20
+# The largest word of a numerator is at least this, so that rounding moves a section's gain by a thirtieth at most.
+LEAST_WORD = 16
 
 
 def scipy_signal():
@@ -113,9 +115,19 @@ class Biquads:
             worst = max(worst, max(sums_of_any(before, one) if any_input else sums_of_tones(before, one)))
         return worst
 
+    def deviation(self) -> float:
+        """How many dB the shape of the words' response is off at most, where the designed gain is within 20 dB of its peak."""
+        signal = scipy_signal()
+        exact, words = decibels(signal.sosfreqz(self.designed, GRID)[1]), decibels(signal.sosfreqz(self.sections, GRID)[1])
+        off = (words - exact)[exact > exact.max() - 20]
+        return float(np.ptp(off)) / 2
+
     def warnings(self) -> list[str]:
-        """What saturates, and for which inputs."""
-        return told_overflow(self.overflow(), self.overflow(any_input=True))
+        """What saturates, for which inputs, and where rounding changed the response."""
+        found = told_overflow(self.overflow(), self.overflow(any_input=True))
+        if self.deviation() > 0.5:
+            found.append(f"rounded to Q14 the response is up to {self.deviation():.1f} dB off: take a lower order, a higher edge, or a lower rate by a decimator before it")
+        return found
 
     def lines(self, first: int = 0, group: int = 0, channel: int = 0, share: bool = False) -> list[str]:
         """The lines of a script: a creation for each section, in groups of their own or all in one (`share`), and the chain."""
@@ -294,6 +306,10 @@ def round_section(section: np.ndarray, gain: float) -> tuple[int, int, int, int,
     words = [round(it * gain * Q14) for it in section[:3]] + [round(it * Q14) for it in section[4:]]
     if not all(-32768 <= it <= 32767 for it in words):
         raise DesignError(f"the words {words} don't fit Q14, -32768 to 32767: take a lower order or another edge")
+    if max(map(abs, words[:3])) < LEAST_WORD:
+        raise DesignError(
+            f"the words {words[:3]} of a numerator are too small to be rounded: the edge is too low for this rate: take a lower order, or a decimator first"
+        )
     if float(np.abs(np.roots([Q14, *words[3:]])).max()) >= 1:
         raise NotStable(f"a section isn't stable once it is rounded to Q14 (a1 = {words[3]}, a2 = {words[4]}): take a lower order, a wider band or a lower rate")
     return tuple(words)
@@ -448,7 +464,8 @@ def tones(frequencies: Sequence[float], frame: int = 205, shift: int | None = No
 
     Where no `shift` is named each has the least for which no tone of full scale at its frequency saturates.
     """
-    look_at_edges(sorted(frequencies), rate)
+    for frequency in frequencies:
+        look_at_edges([frequency], rate)
     if not frequencies:
         raise DesignError("no frequency is named")
     if not 1 <= frame <= 1024 or shift is not None and not 0 <= shift <= 15:

@@ -89,15 +89,16 @@ def memory(history: History, space: str, axes: Axes | None = None) -> Axes:
     axes = axes or new_axes()
     top = max([block.end for moment in shown for block in moment.maps[space].blocks], default=4)
     ends = [moment.line for moment in shown[1:]] + [history.last + 1]
-    named: set[tuple[str, int]] = set()
+    named: dict[int, str] = {}
     for moment, end in zip(shown, ends):
         for block in moment.maps[space].blocks:
             hatch = "///" if block.is_scratch else None
             axes.bar(moment.line, block.size, width=end - moment.line, bottom=block.place, align="edge", color=colour(block), edgecolor="white", linewidth=0.3, hatch=hatch, alpha=0.8)
             member = moment.active.get(block.number) if block.is_scratch else None
             label = f"{block.owner}: i{member}" if member is not None else block.owner
-            if (label, block.place) not in named and block.size > top / 60:
-                named.add((label, block.place))
+            # Named anew where another block, or another member's turn, begins.
+            if named.get(block.place) != label and block.size > top / 60:
+                named[block.place] = label
                 axes.text(moment.line + 0.05, block.place + block.size / 2, label, fontsize=7, va="center", clip_on=True)
     axes.set(xlabel="line of the script", ylabel="word", title=f"{space}, {history.sizes[space]} words", xlim=(shown[0].line, history.last + 1), ylim=(0, top * 1.05))
     return axes

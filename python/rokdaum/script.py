@@ -35,6 +35,7 @@ if TYPE_CHECKING:
 
 LONGEST_SCRIPT = 1_000_000_000
 DEFAULT_RATE = 8000.0
+NOT_SERVED = 70
 # Lines that are sent before their replies are read: a pipe holds them whatever the program does meanwhile, so neither side waits for the other.
 LINES_AHEAD = 64
 BYTES_AHEAD = 4096
@@ -196,7 +197,9 @@ class Session:
         for _ in lines:
             reply = self.process.stdout.readline()
             if not reply.endswith(b"\n"):
-                raise ProgramFailed(self.process.wait() or 70, f"dsp_console ended with status {self.process.wait()} at: {lines[len(replies)]}")
+                status = self.process.wait()
+                # 0 and 1 are the statuses of a script that was served to its end.
+                raise ProgramFailed(NOT_SERVED if status in (0, 1) else status, f"dsp_console ended with status {status} at: {lines[len(replies)][:80]}; no output was changed")
             replies.append(reply[:-1].decode("utf-8", "surrogateescape"))
         return replies
 
