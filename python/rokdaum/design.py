@@ -20,6 +20,7 @@ import math
 from collections.abc import Sequence
 from dataclasses import dataclass
 from functools import cached_property
+from types import ModuleType
 
 import numpy as np
 
@@ -38,7 +39,7 @@ LONGEST_RESPONSE = 1 << 20
 LEAST_WORD = 16
 
 
-def scipy_signal():
+def scipy_signal() -> ModuleType:
     """`scipy.signal`. Raises MissingPackage where it isn't installed."""
     try:
         from scipy import signal

@@ -26,10 +26,14 @@ FRAMES_AT_ONCE = 65536
 
 @dataclass(frozen=True)
 class Pair:
-    """What a channel reads and what it writes."""
+    """What a channel reads and what it writes. Names of files are taken too."""
 
     source: Path
     target: Path
+
+    def __post_init__(self) -> None:
+        object.__setattr__(self, "source", Path(self.source))
+        object.__setattr__(self, "target", Path(self.target))
 
 
 @dataclass(frozen=True)
@@ -168,6 +172,10 @@ class Staged:
             self.__exit__()
             raise
         return self
+
+    def names(self) -> list[str]:
+        """The files as the command line of `dsp_console` names them, in pairs."""
+        return [str(path) for both in zip(self.sources, self.targets) for path in both]
 
     def _take_source(self, channel: int, source: Path) -> None:
         rate, count, stands_for = None, None, source

@@ -374,23 +374,27 @@ def run(
     words = [*find_program(program), *settings.arguments(), "/dev/stdin"]
     result = Result(history=History({space: settings.size_of(space) for space in SPACES}) if history else None)
     with Staged(pairs, settings) as staged:
-        session = Session([*words, *(str(path) for both in zip(staged.sources, staged.targets) for path in both)])
-        try:
-            going = Run(session, staged, watch, result.history)
-            for answer in going.serve(lines, strict):
-                result.answers.append(answer)
-                if tell:
-                    tell(answer)
-                if strict and answer.refused:
-                    result.stopped = True
-                    break
-            result.status = session.end()
-        finally:
-            session.stop()
+        going = Run(Session([*words, *staged.names()]), staged, watch, result.history)
+        serve(going, lines, strict, tell, result)
         finish(result, going, rate)
         if not result.stopped:
             staged.commit(result.rates)
     return result
+
+
+def serve(going: Run, lines: Sequence[Line], strict: bool, tell: Callable[[Answer], None] | None, result: Result) -> None:
+    """Takes each answer of a run into its result, and ends the program, however the run ends."""
+    try:
+        for answer in going.serve(lines, strict):
+            result.answers.append(answer)
+            if tell:
+                tell(answer)
+            if strict and answer.refused:
+                result.stopped = True
+                break
+        result.status = going.session.end()
+    finally:
+        going.session.stop()
 
 
 def finish(result: Result, going: Run, rate: float) -> None:

@@ -147,7 +147,7 @@ class Design(Case):
         for words in (
             "band 300 3400", "band 300 3400 --share", "low 1000 --order 6 --ripple 1", "high 300 --scale any", "notch 50 --scale words",
             "fir low 1000", "fir band 300 3400 --taps 64 --group 7", "decim 4 --taps 48", "tone 697 770 852 --frame 102",
-        ):  # fmt: skip
+        ):
             done = self.command("dsp_design", *words.split())
             self.assertEqual(done.returncode, 0, done.stderr)
             pairs = [name for c in range(done.stdout.count("chain")) for name in ("in.raw", f"out{c}")]

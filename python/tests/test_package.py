@@ -32,7 +32,7 @@ class Package(Case):
                     with self.subTest(function=f"{path.name}: {node.name}"):
                         self.assertLessEqual(node.end_lineno - node.lineno + 1, LONGEST_FUNCTION)
                         self.assertTrue(node.name.startswith("_") or ast.get_docstring(node), "no docstring")
-                        self.assertTrue(node.returns is not None or node.name in ("scipy_signal", "made_of"), "no type")
+                        self.assertTrue(node.returns is not None, "no type")
         self.assertGreater(seen, 100)
 
     def test_files_need_python_alone(self) -> None:

@@ -7,10 +7,16 @@ import argparse
 import sys
 from collections.abc import Sequence
 from pathlib import Path
+from typing import TYPE_CHECKING, Union
 
 from ..errors import RokdaumError
 from .common import ended, need
 from .run import version
+
+if TYPE_CHECKING:
+    from ..design import Biquads, Fir, Tones
+
+    Made = Union[Biquads, Fir, Tones]
 
 NAME = "dsp_design"
 EXAMPLE = """\
@@ -66,7 +72,7 @@ def parser() -> argparse.ArgumentParser:
     return made
 
 
-def made_of(given: argparse.Namespace):
+def made_of(given: argparse.Namespace) -> Made:
     """What the command line asks for."""
     from .. import design
 
@@ -90,7 +96,7 @@ def points(given: argparse.Namespace) -> list[float]:
     return sorted({round(it, 3) for it in (*own, *usual) if 0 <= it < given.rate / 2})
 
 
-def tell(given: argparse.Namespace, made) -> None:
+def tell(given: argparse.Namespace, made: Made) -> None:
     """Writes the response, and what saturates, to the standard error."""
     from ..design import Tones, decibels
 
