@@ -5,10 +5,12 @@ from __future__ import annotations
 
 import json
 import re
+import subprocess
 
-from case import REPOSITORY, Case, noise, np
+from case import PYTHON, REPOSITORY, Case, noise, np
 
 from rokdaum import design, maps, plot
+from rokdaum.commands.common import DEBIAN_PYTHON
 from rokdaum.errors import NotAMap, OutOfRange
 from rokdaum.ports import Settings
 
@@ -178,6 +180,9 @@ class Design(Case):
             plot.memory(maps.History(), "daram")
 
     def test_another_python(self) -> None:
-        """A Python without the packages hands on to Debian's, or says which package is missing."""
-        done = self.command("dsp_design", "low", "1000", python="/usr/bin/python3")
+        """The python3 on PATH has the packages or hands on to Debian's. One that can't says which package is missing."""
+        done = self.command("dsp_design", "low", "1000", python="python3")
         self.assertTrue(re.match(r"create 0 biquad 0 ", done.stdout), done.stderr)
+        bare = subprocess.run([DEBIAN_PYTHON, "-S", str(PYTHON / "bin" / "dsp_design"), "low", "1000"], capture_output=True, text=True, check=False)
+        self.assertEqual((bare.returncode, bare.stdout), (2, ""))
+        self.assertIn("apt-get install python3-numpy", bare.stderr)

@@ -5,13 +5,16 @@ from __future__ import annotations
 
 import io
 import json
+import os
 import shlex
+import signal
 import subprocess
 import sys
+import time
 import unittest
 import wave
 
-from case import PROGRAM, REPOSITORY, Case, noise, np, tone
+from case import PROGRAM, PYTHON, REPOSITORY, Case, noise, np, tone
 
 from rokdaum import samples
 from rokdaum.commands.run import Progress
@@ -222,6 +225,9 @@ class Files(Case):
             (["script", "in", "gone/out"], 4, "there is no folder gone"),
             (["script", "in", "old", "in"], 2, "ports come in pairs"),
             (["--daram", "5", "script", "in", "old"], 2, "a space is 0 to 65536"),
+            (["--history", "in", "script", "in", "old"], 2, "name another one for the history"),
+            (["--history", "old", "script", "in", "old"], 2, "name another one for the history"),
+            (["--history", "gone/h", "script", "in", "old"], 4, "there is no folder gone"),
             (["--program", "/no/such", "script", "in", "old"], 69, "no such program"),
             (["--program", "false", "script", "in", "old"], 70, "ended with status 1"),
             (["--program", "true", "script", "in", "old"], 70, "ended with status 0"),
@@ -393,6 +399,23 @@ class Running(Case):
         self.write("s", "stat 0\n")
         done = self.command("dsp_run", "--program", f"nice -n 1 {shlex.split(PROGRAM)[0]}", "s", "in", "out")
         self.assertEqual((done.stdout, done.returncode), ("ok - 0\n", 0))
+
+    def test_ended_from_outside(self) -> None:
+        """A run that waits for its input is ended by a signal: OUT is as it was, and nothing is left over."""
+        os.mkfifo(self.room / "in")
+        self.write("out", b"as it was")
+        self.write("s", HALF + "feed 0 1\n")
+        for sent, status in ((signal.SIGTERM, 143), (signal.SIGINT, 130)):
+            words = [sys.executable, str(PYTHON / "bin" / "dsp_run"), "s", "in", "out"]
+            running = subprocess.Popen(words, cwd=self.room, stdin=subprocess.DEVNULL, stdout=subprocess.DEVNULL, preexec_fn=lambda: signal.signal(signal.SIGINT, signal.default_int_handler))
+            began = time.monotonic()
+            # The program opens the pipe, and then waits for samples.
+            held = os.open(self.room / "in", os.O_WRONLY)
+            self.assertLess(time.monotonic() - began, 60)
+            running.send_signal(sent)
+            self.assertEqual(running.wait(60), status)
+            os.close(held)
+            self.assertEqual(((self.room / "out").read_bytes(), self.left_over()), (b"as it was", []))
 
     def test_history_is_json(self) -> None:
         self.write("in", noise(10))

@@ -5,17 +5,20 @@ from __future__ import annotations
 
 import argparse
 import os
+import signal
 import sys
 import time
 from collections.abc import Callable, Sequence
 from pathlib import Path
 from typing import TextIO
 
+from ..errors import CantWrite, SameFile
 from ..ports import Settings, pairs_of
 from ..script import DEFAULT_RATE, Answer, Result, parse, run
 from .common import ended
 
 NAME = "dsp_run"
+TERMINATED = 128 + signal.SIGTERM
 USAGE = "dsp_run [OPTIONS] SCRIPT IN OUT [IN OUT ..]"
 EPILOG = """\
 A script may have what dsp_console takes, and beside it:
@@ -122,9 +125,22 @@ def main(words: Sequence[str] | None = None) -> int:
     return ended(NAME, lambda: serve(given))
 
 
+def look_at_history(given: argparse.Namespace) -> None:
+    """Refuses a file for the history that the run itself reads or writes, or that can't be made."""
+    if given.history is None:
+        return
+    if given.history.is_dir() or not given.history.parent.is_dir():
+        raise CantWrite(f"{given.history}: {'a folder' if given.history.is_dir() else f'there is no folder {given.history.parent}'}")
+    if os.path.realpath(given.history) in {os.path.realpath(path) for path in [given.script, *given.ports]}:
+        raise SameFile(f"{given.history} is a file of the run: name another one for the history")
+
+
 def serve(given: argparse.Namespace) -> int:
     """Runs what the command line asks for."""
+    # A run that is ended from outside removes what it has begun, too.
+    signal.signal(signal.SIGTERM, lambda *_: sys.exit(TERMINATED))
     pairs = pairs_of(given.ports)
+    look_at_history(given)
     settings = Settings(given.daram, given.saram, given.external, given.poison, given.in8, given.out8)
     script = parse(sys.stdin.buffer.read().decode("utf-8", "surrogateescape"), "-") if given.script == "-" else given.script
     progress = Progress(sys.stderr) if sys.stderr.isatty() and not given.quiet else None
