@@ -39,7 +39,7 @@ OUTSIDE_NAMES = "tools/outside_names.txt"
 README_LINES, README_LETTERS = 250, 120
 
 # Where a path of the repository begins, and what stands in a folder that isn't kept.
-TOP_FOLDERS = ("crates", "docs", "examples", "tests", "tools", ".ci", "bindings", "include")
+TOP_FOLDERS = ("crates", "docs", "examples", "python", "tests", "tools", ".ci", "bindings", "include")
 MADE = ("*/out/*", "*/out", "*/target/*")
 
 WORD = re.compile(r"[A-Za-z_][A-Za-z0-9_']*")
@@ -140,7 +140,7 @@ class Repository:
     def other_words(self) -> set[str]:
         """The words of what isn't a crate: the scripts, the examples, and the names of all files."""
         found: set[str] = set()
-        for folder in (".ci", "docs", "examples", "tests", "tools"):
+        for folder in (".ci", "docs", "examples", "python", "tests", "tools"):
             for path in sorted((self.root / folder).rglob("*")):
                 found |= set(WORD.findall(path.name))
                 if path.is_file() and path.suffix in ("", ".py", ".c", ".h", ".sh", ".toml") and path.name != "closure.py":
