@@ -1,5 +1,5 @@
 //! What reaches devices that fail, and in which order.
-use crate::ports::{FEW, numbered};
+use crate::ports::numbered;
 use octet_ports::{PortOut, write_octets};
 use port_journal::{
     BUFFER_OCTETS, Journal, JournalOutput, JournalReplies, MARKS, Passing, pass_on_all,
@@ -9,7 +9,7 @@ use std::io;
 use std::io::{ErrorKind, Write};
 use std::process::Abort;
 use std::test::Fail;
-use test_doubles::{HELD_OCTETS, Shaky};
+use test_doubles::Shaky;
 
 /// More than a test writes.
 const WIDE: usize = 1_000_000;
@@ -178,29 +178,6 @@ fn full_marks_lose_nothing(rt: HostRuntime) -> Result<(), Fail> {
     compare(&rt, &page, wanted.as_slice());
     assert!(rt; pass_on_all(&journal).is_ok());
     compare(&rt, &page, b"ax");
-    Ok(())
-}
-
-// Each device takes few octets a call.
-#[test]
-fn devices_that_take_few_octets_get_all(rt: HostRuntime) -> Result<(), Fail> {
-    let octets = numbered(rt.alloc(), HELD_OCTETS)?;
-    let mut samples = Shaky::new(b"", FEW, u64::MAX);
-    let mut told = Shaky::new(b"", FEW, u64::MAX);
-    let mut journal = Journal::new(rt.alloc(), &mut told, Passing::WhereFull);
-    journal.push_output(&mut samples)?;
-    let journal = RefCell::new(journal);
-    let mut first = JournalOutput::new(&journal, 0);
-    let mut replies = JournalReplies::new(&journal);
-    put(&rt, &mut first, octets.as_slice());
-    put(&rt, &mut replies, b"ok 1024\n");
-    assert!(rt; pass_on_all(&journal).is_ok());
-    assert!(rt; !first.failed() && !replies.failed());
-    drop(journal);
-    assert!(rt; samples.held.as_slice() == octets.as_slice());
-    assert!(rt; told.held.as_slice() == b"ok 1024\n".as_slice());
-    assert!(rt; (samples.written, told.written) == (2_048, 8));
-    assert!(rt; (samples.flushed, told.flushed) == (2_048, 8));
     Ok(())
 }
 
