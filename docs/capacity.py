@@ -1,4 +1,5 @@
 #!/usr/bin/env python3
+# SPDX-License-Identifier: Apache-2.0
 """Measures what a channel costs: instructions a sample or a call, by callgrind, and seconds.
 
 usage: docs/capacity.py PROGRAM
@@ -102,9 +103,9 @@ def by_block():
 def by_width():
     for kind, port, masks in (
         ("mu-law decoder", "from words", ()),
-        ("mu-law decoder", "from octets", ("--in8", "1")),
+        ("mu-law decoder", "from bytes", ("--in8", "1")),
         ("mu-law encoder", "to words", ()),
-        ("mu-law encoder", "to octets", ("--out8", "1")),
+        ("mu-law encoder", "to bytes", ("--out8", "1")),
     ):
         found = []
         for block in BLOCKS:
@@ -115,8 +116,8 @@ def by_width():
 
 
 def by_width_in_time():
-    """How long ports of octets take, where ports of words take 1."""
-    for kind, port, mask in (("mu-law decoder", "from octets", "--in8"), ("mu-law encoder", "to octets", "--out8")):
+    """How long byte ports take, where word ports take 1."""
+    for kind, port, mask in (("mu-law decoder", "from bytes", "--in8"), ("mu-law encoder", "to bytes", "--out8")):
         found = []
         for block in BLOCKS:
             feeds = 300 * RATE // (block + 7)

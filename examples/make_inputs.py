@@ -1,4 +1,5 @@
 #!/usr/bin/env python3
+# SPDX-License-Identifier: Apache-2.0
 """Makes the inputs of the examples, and prints the coefficients that their scripts name.
 
 Samples are words of 16 bits, the low octet first, at 8000 per second; codes of a companding law are octets.

@@ -328,5 +328,5 @@ fn get(mem: &Lent<'_>) -> Words
 /// The law that the decimator keeps IALG's laws for all parameters, refused ones too, in a host of any poison word and
 /// in one of none. The call does nothing: its contract is the law.
 pub fn decim_is_lawful()
-    ensures { (kind : Decim) (p : List ℤ) (w : Option ℤ) → IsTrue (decim_meaning.lawful kind p w) }
+    ensures { (kind : Decim) (p : List ℤ) (w : Option ℤ) → IsTrue (⟦<Decim as Ialg>⟧.meaning.lawful kind p w) }
 {}

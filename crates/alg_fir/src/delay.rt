@@ -1,8 +1,8 @@
 //! The delay line of a filter: a ring of past samples in scratch words, and in the last of them the place of the next
 //! sample.
 ghost use Rattle.std.specs.Prelude.{◌≡◌, ◌↔◌, ◌≤◌, ◌+◌, ◌-◌, ◌*◌, ◌<◌, ℕ, ℤ, [], List, length, IsTrue};
-ghost use Rattle.ialg.specs.History.{History, words_in_force};
-ghost use Rattle.fir_kernel.specs.Rings.{IsRing};
+ghost use Rattle.ialg.specs.History.{History, word_at, words_in_force};
+ghost use Rattle.fir_kernel.specs.Rings.{IsNoPlace, IsRing};
 ghost use Rattle.alg_fir.specs.Keeps.{AreOutputs, KeepsPast, KeepsRing, Ran};
 
 use fir_kernel::{FEW_SAMPLES, MOST_COEFFICIENTS, SHORT_BLOCK, enter, filter, unroll};
@@ -43,7 +43,8 @@ pub(crate) fn refill(past: &[i16], ring: &mut [i16])
 }
 
 /// Runs a filter over a block, which enters the ring, in which `next` is the place of the next sample. Where past samples and block don't
-/// stand there in a row, they are laid out in a line before.
+/// stand there in a row, they are laid out in a line before. Beside the block's places in the ring, and the last word, no word changes: no
+/// past sample is shifted.
 ///
 /// It is inlined, and the lines aren't, so that a block of a sample needs neither a call nor room for a line.
 #[inline(always)]
@@ -69,6 +70,8 @@ pub(crate) fn run_block(
         → length coefficients.now ≡ length p → length ring.old ≡ length p - 1 + BLOCK_SAMPLES
         → IsRing (length p - 1) (length ring.old - 1) ring.old next h
         → Ran p h input.now ring.new × AreOutputs p h input.now taken.first taken.step out.new.items }
+    ensures stays { (j : ℕ) → j + 1 < length ring.old → IsNoPlace (length ring.old - 1) next (length input.now) j
+        → word_at ring.new j ≡ word_at ring.old j }
 {
     if is_straight(coefficients.len(), ring.len(), next, input.len()) {
         run_straight(coefficients, ring, next, input, taken, out);
@@ -136,6 +139,8 @@ fn run_straight(
         → length coefficients.now ≡ length p → length ring.old ≡ length p - 1 + BLOCK_SAMPLES
         → IsRing (length p - 1) (length ring.old - 1) ring.old next h
         → Ran p h input.now ring.new × AreOutputs p h input.now taken.first taken.step out.new.items }
+    ensures stays { (j : ℕ) → j + 1 < length ring.old → IsNoPlace (length ring.old - 1) next (length input.now) j
+        → word_at ring.new j ≡ word_at ring.old j }
 {
     let past = coefficients.len() - 1;
     let size = ring.len() - 1;
@@ -177,6 +182,8 @@ fn run_line<const N: usize>(
         → length coefficients.now ≡ length p → length ring.old ≡ length p - 1 + BLOCK_SAMPLES
         → IsRing (length p - 1) (length ring.old - 1) ring.old next h
         → Ran p h input.now ring.new × AreOutputs p h input.now taken.first taken.step out.new.items }
+    ensures stays { (j : ℕ) → j + 1 < length ring.old → IsNoPlace (length ring.old - 1) next (length input.now) j
+        → word_at ring.new j ≡ word_at ring.old j }
 {
     let past = coefficients.len() - 1;
     let size = ring.len() - 1;

@@ -1,16 +1,13 @@
+// SPDX-License-Identifier: Apache-2.0
 //! Finite impulse response filters on 16-bit samples, as algorithms: one that gives an output for each sample, and one
 //! that gives each M-th of them.
 #![tactic(auto)]
 
-#[cfg(test)]
-mod decim_tests;
 mod decimation;
 mod decimator;
 mod delay;
 mod filter;
 mod rows;
-#[cfg(test)]
-mod tests;
 
 pub use decimator::{Decim, decim_is_lawful};
 pub use filter::Fir;

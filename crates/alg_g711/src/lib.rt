@@ -1,3 +1,4 @@
+// SPDX-License-Identifier: Apache-2.0
 //! Companding of 16-bit samples to codes of eight bits and back (ITU-T G.711), as an algorithm.
 #![tactic(auto)]
 
@@ -7,8 +8,6 @@ mod companding;
 mod kind;
 mod laws;
 mod rows;
-#[cfg(test)]
-mod tests;
 
 pub use companding::{Law, decode, encode};
 pub use kind::G711;

@@ -5,8 +5,8 @@ ghost use Rattle.alg_host.specs.Hosts.{Serves, stat_told};
 
 use crate::Host;
 use ialg::{Ialg, Refusal};
-use instance_table::GROUPS;
 use kept_machine::put_to_rest;
+use mem_rec::GROUPS;
 use placed_instances::places_stay;
 use scratch_group::Stat;
 

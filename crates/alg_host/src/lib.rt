@@ -1,3 +1,4 @@
+// SPDX-License-Identifier: Apache-2.0
 //! A host of algorithms: instances in three spaces of memory, in groups that work in the same scratch words by turns.
 //!
 //! For each call there is one sentence: whatever state of the machine the host kept, the call is answered as the machine answers it

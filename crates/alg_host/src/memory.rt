@@ -2,8 +2,7 @@
 ghost use Rattle.std.specs.Prelude.{◌≡◌, ℕ, None, length, IfOk, IfErr, IsErrOf};
 ghost use Rattle.mem_rec.specs.declared.Space.{Space};
 ghost use Rattle.scratch_group.specs.Blocks.{block_in};
-ghost use Rattle.record_shelves.specs.declared.TheConstants.{INSTANCES};
-ghost use Rattle.instance_table.specs.declared.TheConstants.{GROUPS};
+ghost use Rattle.mem_rec.specs.declared.TheConstants.{INSTANCES, GROUPS};
 ghost use Rattle.record_shelves.specs.Shelves.{no_shelf, shelf_at, once_at, no_pieces};
 ghost use Rattle.instance_table.specs.Table.{slot_at, group_at, activity_at, untouched};
 ghost use Rattle.host_spaces.specs.Picture.{AreSizes};

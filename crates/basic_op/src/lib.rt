@@ -1,3 +1,4 @@
+// SPDX-License-Identifier: Apache-2.0
 //! The basic operators of ITU-T G.191 (the ITU-T Software Tool Library's module BASOP) on words of 16 and 32 bits.
 //!
 //! A Word16 is an `i16` and a Word32 an `i32`; as fractions they are in Q15 and Q31. Each operator is one function,
@@ -18,6 +19,3 @@ pub use long::{
 pub use norm::{div_s, norm_l, norm_s};
 pub use shift::{l_shl, l_shr, shl, shr};
 pub use short::{abs_s, add, mult, mult_r, negate, sub};
-
-#[cfg(test)]
-mod tests;

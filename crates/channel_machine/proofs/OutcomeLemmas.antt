@@ -7,7 +7,7 @@ use Rattle.space_heap.proofs.RangeTests.{either}
 use Rattle.ialg.specs.declared.refusal.Refusal.TheVariants.{Range, Taken, Missing, Busy}
 use Rattle.ialg.specs.Refusals.{first_refusal}
 use Rattle.ialg.specs.Meaning.{Meaning}
-use Rattle.space_blocks.specs.declared.TheConstants.{INSTANCES}
+use Rattle.mem_rec.specs.declared.TheConstants.{INSTANCES}
 use Rattle.sound_machine.specs.State.{Living, is_instance_number}
 use Rattle.sound_machine.specs.Steps as steps
 use Rattle.channel_machine.specs.Channels.{Channels, members_at, is_chained, is_in_channel, has_repeat, all_live}

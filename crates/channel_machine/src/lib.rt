@@ -1,3 +1,4 @@
+// SPDX-License-Identifier: Apache-2.0
 //! What channels over a host have to do, as a machine over plain values: for each call what it may answer, and which state comes after
 //! it.
 //!

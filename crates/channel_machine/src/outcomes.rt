@@ -3,7 +3,7 @@ ghost use Rattle.std.specs.Prelude.{◌≡◌, ◌≤◌, ◌<◌, ◌⊎◌, []
 ghost use Rattle.std.specs.List.{list_all, list_any};
 ghost use Rattle.ialg.specs.declared.refusal.Refusal.TheVariants.{Range, Taken, Missing, Busy};
 ghost use Rattle.ialg.specs.Meaning.{Meaning};
-ghost use Rattle.space_blocks.specs.declared.TheConstants.{INSTANCES};
+ghost use Rattle.mem_rec.specs.declared.TheConstants.{INSTANCES};
 ghost use Rattle.sound_machine.specs.State.{Living, is_instance_number};
 ghost use Rattle.sound_machine.specs.Steps as steps;
 ghost use Rattle.channel_machine.specs.Channels.{Channels, members_at, is_chained, is_in_channel, has_repeat, all_live};

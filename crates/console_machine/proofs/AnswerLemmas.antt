@@ -24,23 +24,23 @@ use Rattle.line_machine.specs.declared.width.Width.TheVariants.{Word}
 use Rattle.line_machine.specs.Widths.{Widths}
 use Rattle.line_machine.proofs.ComputedLemmas.{lines_are}
 use Rattle.console_machine.specs.Samples.{octets_at, samples_at}
-use Rattle.console_machine.specs.Console.{done, status_told, flag_told, activity_told, feed_asked, Calls, CommandAsks, LineAsks, console_machine, start}
+use Rattle.console_machine.specs.Console.{feed_asked, Calls, CommandAsks, LineAsks, console_machine, start, status_reply, told_by}
 use Rattle.console_machine.specs.Answers.{command_asks, line_asks, computed_console, lines_served}
 
 module _ {M : Type 0} where
   -- what a line asks by the call's answer. A feed asks for so many samples, by the width of its input
   abbrev asks_by : Width → ℕ → Call M → Asked
-  asks_by width n (calls.Chain c is answer) = tells (done answer)
-  asks_by width n (calls.Unchain c answer) = tells (done answer)
-  asks_by width n (calls.Remove i answer) = tells (done answer)
+  asks_by width n (calls.Chain c is answer) = tells (told_by (λ _. replies.Done) answer)
+  asks_by width n (calls.Unchain c answer) = tells (told_by (λ _. replies.Done) answer)
+  asks_by width n (calls.Remove i answer) = tells (told_by (λ _. replies.Done) answer)
   asks_by width n (calls.Ready c answer) = feed_asked width c n answer
-  asks_by width n (OfHost (host_calls.Create i kind g p answer)) = tells (done answer)
-  asks_by width n (OfHost (host_calls.Control i c answer)) = tells (status_told answer)
+  asks_by width n (OfHost (host_calls.Create i kind g p answer)) = tells (told_by (λ _. replies.Done) answer)
+  asks_by width n (OfHost (host_calls.Control i c answer)) = tells (told_by status_reply answer)
   asks_by width n (OfHost (host_calls.Compact space answer)) = tells (replies.Count answer)
   asks_by width n (OfHost (host_calls.Step space answer)) = tells (replies.Flag answer)
-  asks_by width n (OfHost (host_calls.Release g answer)) = tells (flag_told answer)
+  asks_by width n (OfHost (host_calls.Release g answer)) = tells (told_by replies.Flag answer)
   asks_by width n (OfHost (host_calls.Map space answer)) = tells (replies.Map answer)
-  asks_by width n (OfHost (host_calls.Stat g answer)) = tells (activity_told answer)
+  asks_by width n (OfHost (host_calls.Stat g answer)) = tells (told_by (λ a. replies.Stat a.active a.count) answer)
   asks_by width n _ = asks.Nothing
 
   -- what a channel gives in the call

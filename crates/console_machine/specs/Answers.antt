@@ -19,7 +19,7 @@ use Rattle.line_machine.specs.Served.{Asked, Nothing, Machine, Answer, tells}
 use Rattle.line_machine.specs.Computed.{Computed, lines_answer, machine_of}
 use Rattle.line_machine.specs.Widths.{Widths}
 use Rattle.console_machine.specs.Samples.{octets_at, samples_at}
-use Rattle.console_machine.specs.Console.{done, status_told, flag_told, activity_told, feed_asked, start}
+use Rattle.console_machine.specs.Console.{feed_asked, start, status_reply, told_by}
 
 module _ {M : Type 0} where
   -- the answer is told, of a call of the channels or of their host
@@ -33,23 +33,23 @@ module _ {M : Type 0} (kinds : Meaning M) where
   abbrev pub control_asks : Channels M → ℕ → history.Ctl → Asked × Channels M
   control_asks before i c =
       let x = before.host.living i in
-      tell_of_host before status_told (host.control before.host i c (accepted kinds x c) (status_at kinds x c))
+      tell_of_host before (told_by status_reply) (host.control before.host i c (accepted kinds x c) (status_at kinds x c))
 
   -- what the command asks, and the channels after it
   abbrev pub command_asks : Widths → Channels M → Command M → Asked × Channels M
-  command_asks widths before (Create i kind g words) = tell_of_host before done (host.create kinds before.host i kind g words (kinds.table kind words))
+  command_asks widths before (Create i kind g words) = tell_of_host before (told_by (λ _. replies.Done)) (host.create kinds before.host i kind g words (kinds.table kind words))
   command_asks widths before (Set i words) = control_asks before i (history.Set words)
   command_asks widths before (Reset i) = control_asks before i history.Reset
   command_asks widths before (Get i) = control_asks before i history.Get
-  command_asks widths before (Delete i) = tell done (channels.delete kinds before i)
-  command_asks widths before (Chain c is) = tell done (channels.chain before c is)
-  command_asks widths before (Unchain c) = tell done (channels.unchain before c)
+  command_asks widths before (Delete i) = tell (told_by (λ _. replies.Done)) (channels.delete kinds before i)
+  command_asks widths before (Chain c is) = tell (told_by (λ _. replies.Done)) (channels.chain before c is)
+  command_asks widths before (Unchain c) = tell (told_by (λ _. replies.Done)) (channels.unchain before c)
   command_asks widths before (Feed c n) = let o = channels.ready before c in (feed_asked (widths.input c) c n o.0, o.1)
   command_asks widths before (Compact space) = tell_of_host before replies.Count (host.compact before.host space)
   command_asks widths before (Step space) = tell_of_host before replies.Flag (host.step before.host space)
-  command_asks widths before (Release g) = tell_of_host before flag_told (host.release before.host g)
+  command_asks widths before (Release g) = tell_of_host before (told_by replies.Flag) (host.release before.host g)
   command_asks widths before (Map space) = (tells (replies.Map (blocks_in before.host.picture space)), before)
-  command_asks widths before (Stat g) = tell_of_host before activity_told (host.stat before.host g)
+  command_asks widths before (Stat g) = tell_of_host before (told_by (λ a. replies.Stat a.active a.count)) (host.stat before.host g)
 
   abbrev pub line_asks : Widths → Channels M → Result (Option (Command M)) Refusal → Asked × Channels M
   line_asks widths before (Ok (Some command)) = command_asks widths before command

@@ -4,6 +4,7 @@ use Rattle.ialg.specs.declared.refusal.Refusal.{Refusal}
 use Rattle.ialg.specs.History as history
 use Rattle.ialg.specs.Meaning as meaning
 use Rattle.ialg.specs.Meaning.{Meaning, Status}
+use Rattle.space_blocks.specs.declared.placed.Placed.{Placed}
 use Rattle.host_spaces.specs.declared.spaces.Sizes.{Sizes}
 use Rattle.instance_table.specs.Table.{Activity}
 use Rattle.sound_machine.specs.State.{new_state}
@@ -21,24 +22,15 @@ use Rattle.line_machine.specs.declared.width.Width.{Width}
 use Rattle.line_machine.specs.Widths.{Widths, octet_count}
 use Rattle.console_machine.specs.Samples.{octets_at, samples_at}
 
--- ---- what is told of answers
+-- ---- what is told of answers: why a call was refused, or what it answered
 
-abbrev pub done : Result (Unit {0}) Refusal → Reply
-done (Ok _) = replies.Done
-done (Err refusal) = No refusal
+abbrev pub told_by : {A : Type 0} → (A → Reply) → Result A Refusal → Reply
+told_by reply (Ok answer) = reply answer
+told_by reply (Err refusal) = No refusal
 
-abbrev pub status_told : Result Status Refusal → Reply
-status_told (Ok meaning.Done) = replies.Done
-status_told (Ok (meaning.Words words)) = replies.Words words
-status_told (Err refusal) = No refusal
-
-abbrev pub flag_told : Result Bool Refusal → Reply
-flag_told (Ok flag) = replies.Flag flag
-flag_told (Err refusal) = No refusal
-
-abbrev pub activity_told : Result Activity Refusal → Reply
-activity_told (Ok activity) = replies.Stat activity.active activity.count
-activity_told (Err refusal) = No refusal
+abbrev pub status_reply : Status → Reply
+status_reply meaning.Done = replies.Done
+status_reply (meaning.Words words) = replies.Words words
 
 -- a channel that is ready asks for its samples' octets, by the width of its input
 abbrev pub feed_asked : Width → ℕ → ℕ → Result (Unit {0}) Refusal → Asked
@@ -47,6 +39,28 @@ feed_asked width c n (Err refusal) = tells (No refusal)
 
 -- ---- what a line asks
 
+-- the call that a command makes, by its answer, and how that answer is told
+pub record CommandCall (M : Type 0) : Type 1 where
+  pub Answer : Type 0
+  pub call : Answer → Call M
+  pub told : Answer → Reply
+
+-- a feed asks first whether its channel is ready
+abbrev pub call_of : {M : Type 0} → Command M → CommandCall M
+call_of (script.Create i kind g words) = record { Answer = Result (Unit {0}) Refusal; call = λ a. OfHost (host_calls.Create i kind g words a); told = told_by (λ _. replies.Done) }
+call_of (script.Set i words) = record { Answer = Result Status Refusal; call = λ a. OfHost (host_calls.Control i (history.Set words) a); told = told_by status_reply }
+call_of (script.Reset i) = record { Answer = Result Status Refusal; call = λ a. OfHost (host_calls.Control i history.Reset a); told = told_by status_reply }
+call_of (script.Get i) = record { Answer = Result Status Refusal; call = λ a. OfHost (host_calls.Control i history.Get a); told = told_by status_reply }
+call_of (script.Delete i) = record { Answer = Result (Unit {0}) Refusal; call = λ a. calls.Remove i a; told = told_by (λ _. replies.Done) }
+call_of (script.Chain c is) = record { Answer = Result (Unit {0}) Refusal; call = λ a. calls.Chain c is a; told = told_by (λ _. replies.Done) }
+call_of (script.Unchain c) = record { Answer = Result (Unit {0}) Refusal; call = λ a. calls.Unchain c a; told = told_by (λ _. replies.Done) }
+call_of (script.Feed c n) = record { Answer = Result (Unit {0}) Refusal; call = λ a. calls.Ready c a; told = told_by (λ _. replies.Done) }
+call_of (script.Compact space) = record { Answer = ℕ; call = λ a. OfHost (host_calls.Compact space a); told = replies.Count }
+call_of (script.Step space) = record { Answer = Bool; call = λ a. OfHost (host_calls.Step space a); told = replies.Flag }
+call_of (script.Release g) = record { Answer = Result Bool Refusal; call = λ a. OfHost (host_calls.Release g a); told = told_by replies.Flag }
+call_of (script.Map space) = record { Answer = List Placed; call = λ a. OfHost (host_calls.Map space a); told = replies.Map }
+call_of (script.Stat g) = record { Answer = Result Activity Refusal; call = λ a. OfHost (host_calls.Stat g a); told = told_by (λ a. replies.Stat a.active a.count) }
+
 module _ {M : Type 0} (kinds : Meaning M) where
   -- the channels are called, and the line asks what follows from their answer
   pub record Calls {A : Type 0} (call : A → Call M) (asked_by : A → Asked) (before : Channels M) (asked : Asked) (after : Channels M) : Type 0 where
@@ -54,23 +68,10 @@ module _ {M : Type 0} (kinds : Meaning M) where
     pub does : Does kinds before (call answer) after
     pub asks : asked ≡ asked_by answer
 
-  abbrev pub ControlAsks : ℕ → history.Ctl → Channels M → Asked → Channels M → Type 0
-  ControlAsks i c = Calls (λ a. OfHost (host_calls.Control i c a)) (λ a. tells (status_told a))
-
+  -- a feed asks for its samples where the channel is ready. Of every other command the answer is told
   abbrev pub CommandAsks : Widths → Command M → Channels M → Asked → Channels M → Type 0
-  CommandAsks widths (script.Create i kind g words) = Calls (λ a. OfHost (host_calls.Create i kind g words a)) (λ a. tells (done a))
-  CommandAsks widths (script.Set i words) = ControlAsks i (history.Set words)
-  CommandAsks widths (script.Reset i) = ControlAsks i history.Reset
-  CommandAsks widths (script.Get i) = ControlAsks i history.Get
-  CommandAsks widths (script.Delete i) = Calls (λ a. calls.Remove i a) (λ a. tells (done a))
-  CommandAsks widths (script.Chain c is) = Calls (λ a. calls.Chain c is a) (λ a. tells (done a))
-  CommandAsks widths (script.Unchain c) = Calls (λ a. calls.Unchain c a) (λ a. tells (done a))
   CommandAsks widths (script.Feed c n) = Calls (λ a. calls.Ready c a) (feed_asked (widths.input c) c n)
-  CommandAsks widths (script.Compact space) = Calls (λ a. OfHost (host_calls.Compact space a)) (λ a. tells (replies.Count a))
-  CommandAsks widths (script.Step space) = Calls (λ a. OfHost (host_calls.Step space a)) (λ a. tells (replies.Flag a))
-  CommandAsks widths (script.Release g) = Calls (λ a. OfHost (host_calls.Release g a)) (λ a. tells (flag_told a))
-  CommandAsks widths (script.Map space) = Calls (λ a. OfHost (host_calls.Map space a)) (λ a. tells (replies.Map a))
-  CommandAsks widths (script.Stat g) = Calls (λ a. OfHost (host_calls.Stat g a)) (λ a. tells (activity_told a))
+  CommandAsks widths command = Calls (call_of command).call (λ a. tells ((call_of command).told a))
 
   -- a blank line asks nothing, and one that isn't in the grammar is refused
   abbrev pub LineAsks : Widths → Result (Option (Command M)) Refusal → Channels M → Asked → Channels M → Type 0

@@ -5,31 +5,21 @@ use Rattle.std.specs.List.{flat_map}
 use Rattle.line_machine.specs.declared.width.Width.{Width}
 use Rattle.line_machine.specs.declared.width.Width.TheVariants.{Word, Octet}
 
--- the low octet and the high one of a number of 16 bits
-abbrev pub two_octets : ℕ → List ℕ
-two_octets bits = bits % 256 ∷ bits / 256 % 256 ∷ []
-
+-- of each sample's 16 bits the low octet and the high one
 abbrev pub octets_of : List ℤ → List ℕ
-octets_of xs = flat_map (λ x. two_octets (cast_unsigned w16 x)) xs
+octets_of xs = flat_map (λ x. cast_unsigned w16 x % 256 ∷ cast_unsigned w16 x / 256 % 256 ∷ []) xs
 
 -- an odd last octet is no sample
 abbrev pub samples_of : List ℕ → List ℤ
 samples_of (low ∷ high ∷ octets) = cast_signed w16 (low + 256 * high) ∷ samples_of octets
 samples_of _ = []
 
--- the low eight bits of each sample
-abbrev pub low_octets_of : List ℤ → List ℕ
-low_octets_of xs = map (λ x. cast_unsigned w16 x % 256) xs
-
--- each octet is a sample, 0 to 255
-abbrev pub octet_samples_of : List ℕ → List ℤ
-octet_samples_of octets = map pos octets
-
--- by the width of the port that they go to, or come from
+-- by the width of the port that they go to: of octets the low eight bits of each sample
 abbrev pub octets_at : Width → List ℤ → List ℕ
 octets_at Word xs = octets_of xs
-octets_at Octet xs = low_octets_of xs
+octets_at Octet xs = map (λ x. cast_unsigned w16 x % 256) xs
 
+-- by the width of the port that they come from: each octet is a sample, 0 to 255
 abbrev pub samples_at : Width → List ℕ → List ℤ
 samples_at Word octets = samples_of octets
-samples_at Octet octets = octet_samples_of octets
+samples_at Octet octets = map pos octets

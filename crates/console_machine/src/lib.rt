@@ -1,3 +1,4 @@
+// SPDX-License-Identifier: Apache-2.0
 //! What a console does with the lines of a script, as a machine over plain values.
 #![tactic(auto)]
 

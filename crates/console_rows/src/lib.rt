@@ -1,3 +1,4 @@
+// SPDX-License-Identifier: Apache-2.0
 //! Worked rows of what a console of the hosted kinds serves, for tests.
 #![tactic(auto)]
 

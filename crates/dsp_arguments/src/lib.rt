@@ -1,10 +1,9 @@
+// SPDX-License-Identifier: Apache-2.0
 //! The command line of the program: which files and options it names.
 #![tactic(auto)]
 
 mod asked;
 mod command_line;
-#[cfg(test)]
-mod tests;
 
 pub use asked::{ArgFault, Arguments};
 pub use command_line::arguments;

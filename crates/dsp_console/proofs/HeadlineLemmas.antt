@@ -4,7 +4,6 @@ use Rattle.dsp_console.specs.declared.serving.Summary.{Summary}
 use Rattle.dsp_console.specs.declared.serving.Fault.{Fault}
 use Rattle.ialg.specs.Meaning.{Meaning}
 use Rattle.host_spaces.specs.declared.spaces.Sizes.{Sizes}
-use Rattle.voice_script.specs.Script.{lines_of}
 use Rattle.script_server.specs.Runs.{Devices, EndsWell, IsHonest, octets_to_come}
 use Rattle.line_machine.specs.Widths.{Widths}
 use Rattle.console_machine.specs.Console.{console_machine, start}
@@ -12,9 +11,9 @@ use Rattle.dsp_console.specs.Headline.{RunHeadline}
 
 pub says_headline : {M : Type 0} (kinds : Meaning M) (named : List ℕ → Option M) (widths : Widths) (sizes : Sizes) (poison : Option ℤ) (result : Result Summary Fault) (old new : Devices)
     → ((refused : ℕ) (old new : Devices) → IsHonest old.script → All IsHonest old.inputs
-    → EndsWell (console_machine kinds named widths) (start sizes poison (octets_to_come old.inputs)) refused old new → RunHeadline kinds named widths (lines_of old.script.coming) sizes poison old new)
+    → EndsWell (console_machine kinds named widths) (start sizes poison (octets_to_come old.inputs)) refused old new → RunHeadline kinds named widths sizes poison refused old new)
     → IsHonest old.script → All IsHonest old.inputs
     → IfOk result (λ summary. EndsWell (console_machine kinds named widths) (start sizes poison (octets_to_come old.inputs)) summary.refused old new)
-    → IfOk result (λ summary. RunHeadline kinds named widths (lines_of old.script.coming) sizes poison old new)
+    → IfOk result (λ summary. RunHeadline kinds named widths sizes poison summary.refused old new)
 says_headline kinds named widths sizes poison (Ok summary) old new law script inputs ends = law summary.refused old new script inputs ends
 says_headline kinds named widths sizes poison (Err fault) old new law script inputs ends = tt

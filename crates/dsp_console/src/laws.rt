@@ -1,13 +1,16 @@
 //! The headline of a run.
-ghost use Rattle.std.specs.Prelude.{◌≡◌, ℕ, ℤ, [], All, IsTrue, List, Option};
+ghost use Rattle.std.specs.Prelude.{◌≡◌, ◌++◌, ℕ, ℤ, [], All, IsTrue, List, Option};
 ghost use Rattle.host_spaces.specs.declared.spaces.Sizes.{Sizes};
 ghost use Rattle.sound_machine.specs.Calls.{Call};
 ghost use Rattle.sound_machine.specs.Runs.{history_of_run, outputs_in, statuses_in};
+ghost use Rattle.channel_machine.specs.Channels.{Channels};
 ghost use Rattle.voice_script.specs.Script.{lines_of};
+ghost use Rattle.line_machine.specs.Served.{Answer};
 ghost use Rattle.line_machine.specs.Widths.{Widths};
 ghost use Rattle.console_machine.specs.Console.{console_machine, start};
 ghost use Rattle.script_server.specs.Runs.{Devices, EndsByRead, EndsWell, IsHonest, octets_to_come};
 ghost use Rattle.machine_runs.specs.Births.{Born};
+ghost use Rattle.machine_runs.specs.Headline.{GoesOn, Headline};
 ghost use Rattle.dsp_console.specs.Headline.{RunHeadline};
 
 use ialg::{Ialg, Named};
@@ -15,22 +18,26 @@ use ialg::{Ialg, Named};
 /// The headline of `run`. Over any list of commands, each living instance's output is its difference equation applied to its own granted
 /// controls and samples since its creation, whatever its scratch memory held, wherever its records were moved and whatever other
 /// instances did, even ones that break IALG's laws; only creation is refused for space, exactly where no place is free, and a refused
-/// command changes nothing. What an honest output holds in addition are the octets of what its channel's feeds gave.
+/// command changes no instance, channel or place. A feed that is refused as short uses up what is left of its input.
 ///
-/// So it is where a run ends well, and, of the lines that were served, where a script or an input fails. The call does nothing: its
-/// contract is the law.
+/// So it is where a run ends well (`ok`), and, of the lines that were served, where a script or an input fails (`read`). It holds up to
+/// each line of the script, by the first lines alone (`first`). And in two runs instances of one kind and the same parameters that were
+/// given the same since their creation gave and answered the same (`two`). The call does nothing: its contract is the law.
 pub fn headline<M: Ialg + Named>()
     ensures ok { (widths : Widths) (sizes : Sizes) (poison : Option ℤ) (refused : ℕ) (old new : Devices) → IsHonest old.script → All IsHonest old.inputs
         → EndsWell (console_machine M.meaning M.named widths) (start sizes poison (octets_to_come old.inputs)) refused old new
-        → RunHeadline M.meaning M.named widths (lines_of old.script.coming) sizes poison old new }
+        → RunHeadline M.meaning M.named widths sizes poison refused old new }
     ensures read { (widths : Widths) (sizes : Sizes) (poison : Option ℤ) (old new : Devices) (inputs : All IsHonest old.inputs)
         (ends : EndsByRead (console_machine M.meaning M.named widths) (start sizes poison (octets_to_come old.inputs)) old new)
-        → RunHeadline M.meaning M.named widths (ends.served inputs).lines sizes poison old new }
-    ensures two { (widths other_widths : Widths) (sizes other_sizes : Sizes) (poison other_poison : Option ℤ) (lines other_lines : List (List ℕ)) (old new other_old other_new : Devices)
-        (one : RunHeadline M.meaning M.named widths lines sizes poison old new) (two : RunHeadline M.meaning M.named other_widths other_lines other_sizes other_poison other_old other_new)
+        → Headline M.meaning M.named widths sizes poison (ends.served inputs).lines (octets_to_come old.inputs) (ends.served inputs).answer }
+    ensures first { (widths : Widths) (sizes : Sizes) (poison : Option ℤ) (refused : ℕ) (old new : Devices) (run : RunHeadline M.meaning M.named widths sizes poison refused old new)
+        (first more : List (List ℕ)) → lines_of old.script.coming ≡ first ++ more
+        → GoesOn M.meaning M.named widths sizes poison first more (octets_to_come old.inputs) run.serves.answer }
+    ensures two { (widths other_widths : Widths) (sizes other_sizes : Sizes) (poison other_poison : Option ℤ) (lines inputs other_lines other_inputs : List (List ℕ)) (answer other : Answer (Channels M))
+        (one : Headline M.meaning M.named widths sizes poison lines inputs answer) (two : Headline M.meaning M.named other_widths other_sizes other_poison other_lines other_inputs other)
         (i j g h : ℕ) (kind : M) (p : List ℤ) (later since : List (Call M))
-        → IsTrue (M.meaning.lawful kind p poison) → Born i kind g p one.says.asked later
-        → IsTrue (M.meaning.lawful kind p other_poison) → Born j kind h p two.says.asked since
+        → IsTrue (M.meaning.lawful kind p poison) → Born i kind g p one.asked later
+        → IsTrue (M.meaning.lawful kind p other_poison) → Born j kind h p two.asked since
         → history_of_run i [] later ≡ history_of_run j [] since
         → (outputs_in i later ≡ outputs_in j since) × (statuses_in i later ≡ statuses_in j since) }
 {

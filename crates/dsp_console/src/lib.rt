@@ -1,11 +1,10 @@
+// SPDX-License-Identifier: Apache-2.0
 //! Serves a script of commands over ports: instances of algorithms in three spaces of memory, and channels of samples through them.
 #![tactic(auto)]
 
 mod ending;
 mod laws;
 mod serving;
-#[cfg(test)]
-mod tests;
 
 pub use ending::outcome;
 pub use laws::headline;

@@ -7,7 +7,6 @@ ghost use Rattle.line_machine.specs.Widths.{widths_of};
 ghost use Rattle.console_machine.specs.Console.{console_machine, start};
 ghost use Rattle.script_server.specs.Runs.{AreReady, EndsWell, EndsByRead, EndsByWrite, IsHonest, IsUnused, known_of, octets_to_come, run_of};
 ghost use Rattle.voice_console.specs.Consoles.{Keeps, channels_of, port_widths_of};
-ghost use Rattle.voice_script.specs.Script.{lines_of};
 ghost use Rattle.dsp_console.specs.Fresh.{fresh};
 ghost use Rattle.dsp_console.specs.Headline.{RunHeadline};
 ghost use Rattle.dsp_console.specs.Lawful.{EndsLawfullyByRead, EndsLawfullyByWrite, ServesLawfully};
@@ -104,6 +103,10 @@ fn serve_console<M: Ialg + Named, S: PortIn, I: PortIn, O: PortOut, P: PortOut>(
 /// input, an output or the replies failed, some of the script behind the last line that was served may be gone.
 ///
 /// After `Read` or `Write` what was served before stands in the outputs and the replies, and the port that failed says so.
+///
+/// What is served is said of honest ports. Whether a port is honest is a word of the contract, which the code can't see: so between ports
+/// that behave as honest ones do, of which nothing is proved, as those over files, a run does what it is proved to do between honest ones.
+/// A device that does what no honest port can, as one that gives octets after it ended, is outside of that.
 pub fn run<M: Ialg + Named, S: PortIn, I: PortIn, O: PortOut, P: PortOut>(
     alloc: Global,
     config: Config,
@@ -120,7 +123,7 @@ pub fn run<M: Ialg + Named, S: PortIn, I: PortIn, O: PortOut, P: PortOut>(
 
     // Over any list of commands: the headline.
     ensures headline { IsHonest (S.source script.old) → All IsHonest (map I.source inputs.old.items)
-        → IfOk result (λ summary. RunHeadline M.meaning M.named (widths_of config.in8 config.out8) (lines_of (S.source script.old).coming) config.sizes config.poison
+        → IfOk result (λ summary. RunHeadline M.meaning M.named (widths_of config.in8 config.out8) config.sizes config.poison summary.refused
         (known_of S.source I.source O.sink P.sink script.old inputs.old.items outputs.old.items replies.old)
         (known_of S.source I.source O.sink P.sink script.new inputs.new.items outputs.new.items replies.new)) }
 

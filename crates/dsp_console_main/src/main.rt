@@ -1,3 +1,4 @@
+// SPDX-License-Identifier: Apache-2.0
 //! The program: opens the files of the command line, serves the script over them, and ends with the run's status.
 #![tactic(auto)]
 

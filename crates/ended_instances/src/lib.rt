@@ -1,3 +1,4 @@
+// SPDX-License-Identifier: Apache-2.0
 //! The end of an instance in the three spaces of a host.
 //!
 //! Its records are given back, and with the last member of a group the group's blocks.

@@ -1,6 +1,6 @@
 //! The members of groups.
 ghost use Rattle.std.specs.Prelude.{◌≡◌, ◌<◌, ℕ, length, Some, IsSome};
-ghost use Rattle.record_shelves.specs.declared.TheConstants.{INSTANCES};
+ghost use Rattle.mem_rec.specs.declared.TheConstants.{INSTANCES};
 ghost use Rattle.instance_table.specs.declared.member.Member.{Member};
 ghost use Rattle.instance_table.specs.Table.{slot_at, group_of, instance_of, is_member_of};
 ghost use Rattle.ended_instances.specs.Ends.{has_members};
@@ -8,8 +8,7 @@ ghost use Rattle.ended_instances.specs.Ends.{has_members};
 use ialg::Ialg;
 use instance_table::Member;
 use lifecycle::Inst;
-use mem_rec::MemTab;
-use record_shelves::INSTANCES;
+use mem_rec::{INSTANCES, MemTab};
 
 /// The group of an instance.
 pub(crate) fn group_number<M: Ialg>(slots: &Vec<Option<Member<M>>>, i: u8) -> u8

@@ -1,10 +1,10 @@
 -- Places around a ring.
 use Rattle.std.proofs.Common.{◌≡◌, ◌≢◌, ◌⊎◌, ℕ, ℤ, zero, suc, pos, ◌+◌, ◌-◌, ◌%◌, ◌<◌, ◌≤◌, List, [], ◌∷◌, length, inl, inr, refl, sym, ap, subst, ◌∙◌, arith, get_or-set_other, get_or-set_same}
-use Rattle.std.proofs.Math.Nat.{mod-eq_of_lt, add-mod_right}
+use Rattle.std.proofs.Math.Nat.{mod-eq_of_lt, add-mod_right, mod-add-mod}
 use Rattle.std.proofs.Math.ListN.{set, length-set}
 use Rattle.std.proofs.lemmas.Bool.{cases_lt}
 use Rattle.ialg.specs.History.{History, Sample, past, with_samples, word_at}
-use Rattle.fir_kernel.specs.Rings.{IsRing}
+use Rattle.fir_kernel.specs.Rings.{IsNoPlace, IsRing}
 
 -- once around at most
 pub by_mod : (m r v : ℕ) → m < r + r → m % r ≡ v → (m ≡ v) ⊎ (m ≡ v + r)
@@ -30,6 +30,13 @@ mod_around m r v b e = ap (λ n. n % r) e ∙ add-mod_right v r ∙ mod-eq_of_lt
 -- where the next place is one further, or the first one again
 abbrev pub Turns : ℕ → ℕ → ℕ → Type 0
 Turns size at next = (at + 1 ≡ next) ⊎ ((at + 1 ≡ size) × (next ≡ 0))
+
+pub turned : (m size at next : ℕ) → next < size → Turns size at next → m % size ≡ at → (m + 1) % size ≡ next
+turned m size at next within turns e =
+    sym (mod-add-mod m size 1) ∙ ap (λ n. (n + 1) % size) e ∙ elim turns [
+      | inl t ↦ mod_near (at + 1) size next within t
+      | inr t ↦ mod_around (at + 1) size next within (omega (arith, t.0, t.1))
+    ]
 
 -- one more sample
 module _ (count size at next : ℕ) (words : List ℤ) (h : History) (x : ℤ)
@@ -129,6 +136,21 @@ entered_in_row count size words next after h (x ∷ y ∷ ys) few room fits with
     let further : Follows size (suc next) (length (y ∷ ys)) after = elim follows [ inl e ↦ inl (omega arith) | inr e ↦ inr (omega arith, e.1) ] in
     entered_in_row count size (set words next x) (suc next) after (Sample x ∷ h) (y ∷ ys) few (omega arith) (omega arith) within further
     (entered count size next (suc next) words h x few room (omega arith) (inl (omega arith)) ring)
+
+-- where samples stand in a row, no other word is a place of theirs
+pub row_stays : (size : ℕ) (words new : List ℤ) (next count : ℕ) → next + count ≤ size
+    → ((k : ℕ) → k < next → word_at new k ≡ word_at words k)
+    → ((k : ℕ) → next + count ≤ k → word_at new k ≡ word_at words k)
+    → (j : ℕ) → IsNoPlace size next count j → word_at new j ≡ word_at words j
+row_stays size words new next count fits before behind j out = elim (cases_lt j next) [
+  | inl b ↦ before j b
+  | inr b ↦ elim (cases_lt j (next + count)) [
+    | inl i ↦
+        let at : next + (j - next) ≡ j = omega arith in
+        absurd (out (j - next) (omega arith) (mod_near (next + (j - next)) size j (omega arith) at))
+    | inr o ↦ behind j o
+  ]
+]
 
 -- the samples stand in a row, and the words before and behind it are as they were
 pub row_entered : (count size : ℕ) (words new : List ℤ) (next after : ℕ) (h : History) (xs : List ℤ) → count ≤ size → size ≤ length words

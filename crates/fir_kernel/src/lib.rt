@@ -1,3 +1,4 @@
+// SPDX-License-Identifier: Apache-2.0
 //! The kernels of finite impulse response filters over plain words, and the ring of past samples that they read.
 //!
 //! They know nothing of records or instances. Coefficients are in Q15, that of the newest sample first.

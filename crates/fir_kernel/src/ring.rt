@@ -3,7 +3,7 @@ ghost use Rattle.std.specs.Prelude.{◌≡◌, ◌<◌, ◌≤◌, ◌+◌, ◌-
 ghost use Rattle.std.specs.List.{All};
 ghost use Rattle.std.specs.Int.{w16};
 ghost use Rattle.ialg.specs.History.{History, past, with_samples, word_at};
-ghost use Rattle.fir_kernel.specs.Rings.{IsRing};
+ghost use Rattle.fir_kernel.specs.Rings.{IsNoPlace, IsRing};
 
 use crate::FEW_SAMPLES;
 use ialg::place;
@@ -40,14 +40,15 @@ pub fn unroll(words: &[i16], size: usize, next: usize, count: usize, line: &mut 
     }
 }
 
-/// Enters the samples one after the other, each at the place of the oldest: the place of the next one. The words behind the ring stay.
+/// Enters the samples one after the other, each at the place of the oldest, and gives the place of the next one. No other word changes: none is
+/// shifted.
 pub fn enter(words: &mut [i16], size: usize, next: usize, samples: &[i16]) -> usize
     requires size { size ≤ length words.old }
     requires next { next < size }
     ensures within { result < size }
     ensures ring { (count : ℕ) (h : History) → count ≤ size → IsRing count size words.old next h
         → IsRing count size words.new result (with_samples h samples.now) }
-    ensures behind { (k : ℕ) → size ≤ k → word_at words.new k ≡ word_at words.old k }
+    ensures stays { (j : ℕ) → IsNoPlace size next (length samples.now) j → word_at words.new j ≡ word_at words.old j }
 
     // Where the samples have room before the ring's end, they stand in a row, and the words before them stay.
     ensures row { next + length samples.now ≤ size
@@ -71,7 +72,7 @@ fn enter_row(words: &mut [i16], size: usize, next: usize, samples: &[i16]) -> us
     ensures within { result < size }
     ensures ring { (count : ℕ) (h : History) → count ≤ size → IsRing count size words.old next h
         → IsRing count size words.new result (with_samples h samples.now) }
-    ensures behind { (k : ℕ) → size ≤ k → word_at words.new k ≡ word_at words.old k }
+    ensures stays { (j : ℕ) → IsNoPlace size next (length samples.now) j → word_at words.new j ≡ word_at words.old j }
     ensures row { (k : ℕ) → k < length samples.now → word_at words.new (next + k) ≡ word_at samples.now k }
     ensures before { (k : ℕ) → k < next → word_at words.new k ≡ word_at words.old k }
     ensures read { All (FitsSigned w16) samples.now }
@@ -88,7 +89,7 @@ fn enter_each(words: &mut [i16], size: usize, next: usize, samples: &[i16]) -> u
     ensures within { result < size }
     ensures ring { (count : ℕ) (h : History) → count ≤ size → IsRing count size words.old next h
         → IsRing count size words.new result (with_samples h samples.now) }
-    ensures behind { (k : ℕ) → size ≤ k → word_at words.new k ≡ word_at words.old k }
+    ensures stays { (j : ℕ) → IsNoPlace size next (length samples.now) j → word_at words.new j ≡ word_at words.old j }
 
     // Where the samples have room before the ring's end, they stand in a row, and the words before them stay.
     ensures row { next + length samples.now ≤ size

@@ -31,7 +31,7 @@ use Rattle.host_spaces.specs.declared.spaces.Spaces.{Spaces}
 use Rattle.host_spaces.specs.Picture.{AreSameSpaces, Picture, blocks_in, each_space, picture_of}
 use Rattle.host_spaces.specs.Pieces.{IsNeeded, new_block, old_piece, with_new, without_pieces}
 use Rattle.host_spaces.specs.Wants.{block_need}
-use Rattle.instance_table.specs.declared.TheConstants.{GROUPS}
+use Rattle.mem_rec.specs.declared.TheConstants.{GROUPS}
 use Rattle.instance_table.specs.declared.member.Member.{Member}
 use Rattle.record_shelves.specs.declared.shelves.Shelf.{Shelf}
 use Rattle.record_shelves.specs.Shelves.{home_of, once_at}

@@ -6,7 +6,7 @@ ghost use Rattle.ialg.specs.History.{History};
 ghost use Rattle.ialg.specs.Records.{ArePoison};
 ghost use Rattle.record_loans.specs.Blocks.{block_words};
 ghost use Rattle.lifecycle.specs.Rooms.{NoNeed};
-ghost use Rattle.instance_table.specs.declared.TheConstants.{GROUPS};
+ghost use Rattle.mem_rec.specs.declared.TheConstants.{GROUPS};
 ghost use Rattle.instance_table.specs.Table.{group_at, activity_at, TablesOk, TablesTold, ArePoisoned};
 ghost use Rattle.instance_table.specs.Keeps.{Keeps};
 ghost use Rattle.instance_table.specs.Frames.{SameMembers};

@@ -1,3 +1,4 @@
+// SPDX-License-Identifier: Apache-2.0
 //! Groups whose blocks grow for a new member, while their other members live on.
 //!
 //! The records of the new instance and the blocks that its group needs for it were placed while the old blocks stood. From then on the

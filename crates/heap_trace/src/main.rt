@@ -1,3 +1,4 @@
+// SPDX-License-Identifier: Apache-2.0
 //! A test program: a trace over heaps of several sizes. Each line that is read is a step, and for each it prints the block's place, the
 //! free words and the words that were moved. At most 64 blocks are held at one time. The line ends in `differs` where the heap's
 //! earlier body shows other numbers. The stored answers are those of a model that was written apart from this code, in another language.

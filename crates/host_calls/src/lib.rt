@@ -1,3 +1,4 @@
+// SPDX-License-Identifier: Apache-2.0
 //! Lists of calls of a host.
 //!
 //! Over any list of calls each lawful instance gives the outputs of its own history, whatever kinds its neighbours are, what they are

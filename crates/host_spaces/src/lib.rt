@@ -1,3 +1,4 @@
+// SPDX-License-Identifier: Apache-2.0
 //! The three spaces of a host: which block stands where, and whose it is.
 //!
 //! A creation is refused whole: all its blocks are placed, or none. Places and sizes are counted in words of 16 bits.
@@ -12,8 +13,6 @@ mod placing;
 mod sharing;
 mod spaces;
 mod start;
-#[cfg(test)]
-mod tests;
 mod wants;
 
 pub use laws::creations;

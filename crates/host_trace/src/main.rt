@@ -1,3 +1,4 @@
+// SPDX-License-Identifier: Apache-2.0
 //! A test program: a trace of calls of hosts of several sizes, with a poison word or without. Each line that is read is a call, and for
 //! each it prints what the host answers. The stored answers are those of a model that was written apart from this code, in another
 //! language.

@@ -9,8 +9,7 @@ use Rattle.record_loans.specs.declared.pieces.Pieces.{Pieces}
 use Rattle.scratch_group.specs.declared.group.Group.{Group}
 use Rattle.record_loans.specs.Pieces.{SamePieces}
 use Rattle.lifecycle.specs.States.{Relation, SameOnce, IsLawful}
-use Rattle.record_shelves.specs.declared.TheConstants.{INSTANCES}
-use Rattle.instance_table.specs.declared.TheConstants.{GROUPS}
+use Rattle.mem_rec.specs.declared.TheConstants.{INSTANCES, GROUPS}
 use Rattle.instance_table.specs.declared.member.Member.{Member}
 use Rattle.record_shelves.specs.declared.shelves.Shelf.{Shelf}
 use Rattle.record_shelves.specs.Homes.{with_seen, SameShelves}

@@ -20,7 +20,7 @@ use Rattle.lifecycle.specs.declared.instance.Instance.{Instance}
 use Rattle.instance_table.specs.Table.{unbased, AreAlike}
 use Rattle.instance_life.specs.Twins.{Asked, is_once, is_same_once, is_twin, twin_of, asked}
 use Rattle.record_shelves.specs.Joining.{twin_at}
-use Rattle.record_shelves.specs.declared.TheConstants.{INSTANCES}
+use Rattle.mem_rec.specs.declared.TheConstants.{INSTANCES}
 use Rattle.record_shelves.specs.declared.joining.Twins.{Twins}
 use Rattle.instance_life.proofs.Finds.{find_nothing}
 use Rattle.instance_table.proofs.Held.{record_unplaced}

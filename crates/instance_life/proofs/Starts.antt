@@ -16,7 +16,7 @@ use Rattle.scratch_group.specs.Words.{idle_words, lasting_words_by}
 use Rattle.lifecycle.specs.declared.instance.Instance.{Instance}
 use Rattle.lifecycle.specs.States.{Relation, SameInstance, SameOnce, IsLawful}
 use Rattle.lifecycle.specs.Moves.{settled, HasRoom}
-use Rattle.record_shelves.specs.declared.TheConstants.{INSTANCES}
+use Rattle.mem_rec.specs.declared.TheConstants.{INSTANCES}
 use Rattle.instance_table.specs.declared.member.Member.{Member}
 use Rattle.record_shelves.specs.declared.shelves.Shelf.{Shelf}
 use Rattle.record_shelves.specs.declared.shelves.Stand.{Stand}

@@ -17,7 +17,7 @@ use Rattle.lifecycle.specs.Moves.{settled}
 use Rattle.lifecycle.specs.States.{SameInstance}
 use Rattle.record_loans.proofs.PieceLemmas.{same_pieces}
 use Rattle.lifecycle.proofs.Frames.{same_group}
-use Rattle.record_shelves.specs.declared.TheConstants.{INSTANCES}
+use Rattle.mem_rec.specs.declared.TheConstants.{INSTANCES}
 use Rattle.instance_table.specs.declared.member.Member.{Member}
 use Rattle.record_shelves.specs.declared.shelves.Shelf.{Shelf}
 use Rattle.record_shelves.specs.Homes.{with_seen, HasHomes, AllHaveHomes, SameShelves}

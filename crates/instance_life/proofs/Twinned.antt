@@ -22,7 +22,7 @@ use Rattle.scratch_group.specs.Blocks.{block_in}
 use Rattle.scratch_group.specs.Words.{words_by, record_words, active_words, scratch_offset}
 use Rattle.lifecycle.specs.declared.instance.Instance.{Instance}
 use Rattle.lifecycle.proofs.Places.{some_words}
-use Rattle.record_shelves.specs.declared.TheConstants.{INSTANCES}
+use Rattle.mem_rec.specs.declared.TheConstants.{INSTANCES}
 use Rattle.instance_table.specs.declared.member.Member.{Member}
 use Rattle.record_shelves.specs.declared.shelves.Stand.{Stand}
 use Rattle.record_shelves.specs.declared.shelves.Stand.TheVariants.{Here, With}

@@ -1,8 +1,7 @@
 //! What becomes of instances when a block of their group lies elsewhere.
 ghost use Rattle.std.specs.Prelude.{◌≡◌, ◌<◌, ◌+◌, ℕ, ℤ, Option, Some, None, length, true};
 ghost use Rattle.ialg.specs.History.{History};
-ghost use Rattle.record_shelves.specs.declared.TheConstants.{INSTANCES};
-ghost use Rattle.instance_table.specs.declared.TheConstants.{GROUPS};
+ghost use Rattle.mem_rec.specs.declared.TheConstants.{INSTANCES, GROUPS};
 ghost use Rattle.instance_table.specs.Table.{slot_at, is_member_of, activity_at, TablesOk, TablesTold, ArePoisoned};
 ghost use Rattle.instance_table.specs.Keeps.{Keeps};
 ghost use Rattle.instance_table.specs.Frames.{SameMembers};
@@ -10,7 +9,8 @@ ghost use Rattle.instance_table.specs.Frames.{SameMembers};
 use ialg::Ialg;
 use instance_table::Member;
 use lifecycle::Inst;
-use record_shelves::{INSTANCES, Shelf, put_seen, take_seen};
+use mem_rec::INSTANCES;
+use record_shelves::{Shelf, put_seen, take_seen};
 use scratch_group::Group;
 
 /// Whether the slot has a member of the group.

@@ -3,15 +3,15 @@ ghost use Rattle.std.specs.Prelude.{◌≡◌, ℕ, ℤ, Option, None, length, I
 ghost use Rattle.ialg.specs.History.{History};
 ghost use Rattle.mem_rec.specs.declared.Space.{Space};
 ghost use Rattle.scratch_group.specs.Blocks.{block_in};
-ghost use Rattle.record_shelves.specs.declared.TheConstants.{INSTANCES};
-ghost use Rattle.instance_table.specs.declared.TheConstants.{GROUPS};
+ghost use Rattle.mem_rec.specs.declared.TheConstants.{INSTANCES, GROUPS};
 ghost use Rattle.record_shelves.specs.Shelves.{no_shelf, shelf_at};
 ghost use Rattle.instance_table.specs.Table.{slot_at, group_at, activity_at, untouched, TablesOk, ArePoisoned};
 ghost use Rattle.instance_table.specs.Keeps.{Keeps};
 
 use ialg::Ialg;
-use instance_table::{GROUPS, Member};
-use record_shelves::{INSTANCES, Shelf};
+use instance_table::Member;
+use mem_rec::{GROUPS, INSTANCES};
+use record_shelves::Shelf;
 use scratch_group::Group;
 use std::alloc::{AllocError, Allocator};
 

@@ -1,15 +1,15 @@
 //! Which instances share the write-once records of one that is to be created.
 ghost use Rattle.std.specs.Prelude.{◌≡◌, ◌<◌, length, Some};
 ghost use Rattle.ialg.specs.Records.{record_at, unplaced};
-ghost use Rattle.record_shelves.specs.declared.TheConstants.{INSTANCES};
+ghost use Rattle.mem_rec.specs.declared.TheConstants.{INSTANCES};
 ghost use Rattle.instance_table.specs.Table.{slot_at};
 ghost use Rattle.instance_life.specs.Twins.{asked, asked_by, is_once, is_same_once, is_twin, twin_of, AreTwins};
 
 use ialg::{Ialg, Params};
 use instance_table::Member;
 use lifecycle::{Inst, Instance};
-use mem_rec::{Attr, MemRec, MemTab, Space};
-use record_shelves::{INSTANCES, Twins};
+use mem_rec::{Attr, INSTANCES, MemRec, MemTab, Space};
+use record_shelves::Twins;
 
 /// Record `k` of a table, blank past its end.
 fn record_of(table: &MemTab, k: usize) -> MemRec

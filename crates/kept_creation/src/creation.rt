@@ -11,9 +11,8 @@ ghost use Rattle.kept_moves.specs.Hosts.{HostKeeps};
 
 use host_spaces::Spaces;
 use ialg::{Ialg, Params, Refusal, copied};
-use instance_table::{GROUPS, Tables};
-use mem_rec::MemTab;
-use record_shelves::INSTANCES;
+use instance_table::Tables;
+use mem_rec::{GROUPS, INSTANCES, MemTab};
 use sound_machine::creations_answer_in_order;
 use started_instances::start_in_spaces;
 

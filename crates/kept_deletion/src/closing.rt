@@ -11,7 +11,7 @@ use crate::deletions::delete;
 use host_spaces::Spaces;
 use ialg::Ialg;
 use instance_table::Tables;
-use record_shelves::INSTANCES;
+use mem_rec::INSTANCES;
 
 /// Deletes all instances, in ascending number, as the machine does. No block is left in the spaces.
 pub fn delete_all<M: Ialg>(tables: &mut Tables<M>, spaces: &mut Spaces, poison: Option<i16>)

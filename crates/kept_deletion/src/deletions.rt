@@ -11,7 +11,7 @@ use ended_instances::end_instance;
 use host_spaces::Spaces;
 use ialg::{Ialg, Refusal};
 use instance_table::Tables;
-use record_shelves::INSTANCES;
+use mem_rec::INSTANCES;
 
 /// Deletes an instance, as the machine does: its records go, and its group's blocks where no other member is left. It is active no more,
 /// where it was. A number out of range and an instance that isn't there are refused, and a refused call changes nothing.

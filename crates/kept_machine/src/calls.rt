@@ -10,8 +10,8 @@ ghost use Rattle.sound_machine.specs.Steps.{processed};
 ghost use Rattle.kept_machine.specs.Kept.{KeepsState, told};
 
 use ialg::{BLOCK_SAMPLES, Block, Ctl, Ialg, Refusal, Status};
-use instance_table::{GROUPS, Tables};
-use record_shelves::INSTANCES;
+use instance_table::Tables;
+use mem_rec::{GROUPS, INSTANCES};
 
 /// Gives the instance a block of samples, as the machine does.
 pub fn give_block<M: Ialg>(

@@ -1,3 +1,4 @@
+// SPDX-License-Identifier: Apache-2.0
 //! Tables of instances and groups that keep a state of the machine.
 //!
 //! The tables keep a state where they have its instances, its active members and its counts, and where each lawful instance keeps its

@@ -1,6 +1,6 @@
 //! A move, as the machine's.
 ghost use Rattle.std.specs.Prelude.{◌≡◌, ◌<◌, ℕ, ℤ, Option};
-ghost use Rattle.instance_table.specs.declared.TheConstants.{GROUPS};
+ghost use Rattle.mem_rec.specs.declared.TheConstants.{GROUPS};
 ghost use Rattle.instance_table.specs.Table.{TablesOk, TablesTold, ArePoisoned};
 ghost use Rattle.instance_table.specs.Frames.{SameMembers};
 ghost use Rattle.instance_table.specs.Steps.{laws};

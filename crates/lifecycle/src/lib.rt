@@ -1,3 +1,4 @@
+// SPDX-License-Identifier: Apache-2.0
 //! The life of an instance: idle and active, started, run, moved and ended.
 //!
 //! An instance owns the pieces of its persistent records. Those of its write-once records and the scratch memory of its group are lent

@@ -1,3 +1,4 @@
+// SPDX-License-Identifier: Apache-2.0
 //! What answers the lines of a script: what a line asks of the ports, and what is then given and told.
 #![tactic(auto)]
 

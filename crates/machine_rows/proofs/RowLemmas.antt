@@ -3,6 +3,7 @@ use Rattle.std.proofs.Common.{refl}
 use Rattle.machine_rows.specs.VoiceRows.{VoiceRows}
 use Rattle.machine_rows.specs.CreationRows.{CreationRows}
 use Rattle.machine_rows.specs.SharingRows.{SharingRows}
+use Rattle.machine_rows.specs.RunRows.{RunRows}
 
 pub voices : VoiceRows
 voices = record {
@@ -51,3 +52,6 @@ sharings = record {
   one_of_two = λ poison. refl;
   persistent = λ poison. refl;
 }
+
+pub runs : RunRows
+runs = record { given = refl; outputs = refl; statuses = refl; other_given = refl; other_outputs = refl; other_statuses = refl; later = refl }

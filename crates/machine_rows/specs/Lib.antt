@@ -2,3 +2,4 @@ pub mod Calls
 pub mod VoiceRows
 pub mod CreationRows
 pub mod SharingRows
+pub mod RunRows

@@ -2,6 +2,7 @@
 ghost use Rattle.machine_rows.specs.VoiceRows.{VoiceRows};
 ghost use Rattle.machine_rows.specs.CreationRows.{CreationRows};
 ghost use Rattle.machine_rows.specs.SharingRows.{SharingRows};
+ghost use Rattle.machine_rows.specs.RunRows.{RunRows};
 
 /// The law that the machine of the hosted kinds answers what the worked rows say, under each poison word and under none. The call does
 /// nothing: its contract is the law.
@@ -17,4 +18,9 @@ pub fn creation_rows()
 /// The law that write-once blocks are shared as the worked rows say. The call does nothing.
 pub fn sharing_rows()
     ensures { SharingRows }
+{}
+
+/// The law that of a run of calls an instance was given, gave and answered what the worked rows say. The call does nothing.
+pub fn run_rows()
+    ensures { RunRows }
 {}

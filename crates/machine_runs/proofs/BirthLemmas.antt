@@ -112,9 +112,9 @@ module _ {M : Type 0} (kinds : Meaning M) where
 
   module _ (before after : State M) (calls : List (Call M)) (i g : ℕ) (kind : M) (p : List ℤ) (later : List (Call M))
       (leads : Leads kinds before calls after) (lawful : IsTrue (kinds.lawful kind p before.poison)) (born : Born i kind g p calls later) where
-    pub goes : GoesByItsHistory kinds i kind g p later after
+    pub goes : GoesByItsHistory kinds i kind g p later born.rest after
     goes =
-        let split = parts born.earlier (Create i kind g p (Ok tt) ∷ later) before after (subst (λ cs. Leads kinds before cs after) born.created leads) in
+        let split = parts born.earlier (Create i kind g p (Ok tt) ∷ (later ++ born.rest)) before after (subst (λ cs. Leads kinds before cs after) born.created leads) in
         let start = split.between in
         let first = split.leads_on.0 in
         let does = split.leads_on.1 in
@@ -125,16 +125,17 @@ module _ {M : Type 0} (kinds : Meaning M) where
         let still : IsTrue (kinds.lawful kind p first.poison) = subst (λ w. IsTrue (kinds.lawful kind p w)) (sym poison) lawful in
         let told = does.asked.told (or_left (kinds.lawful kind p start.poison) (kinds.declares kind p) (subst (λ w. IsTrue (kinds.lawful kind p w)) (sym split.poison) lawful)) in
         let number = granted_number (is_instance_number i) (is_group_number g) (is_some (start.living i)) start first tt _ does.outcome in
-        let life : Life kinds i x later = record { before = first; after = after; born = there; lawful = still; spared = born.spared; leads = split.leads_on.2 } in
+        let middle = parts later born.rest first after split.leads_on.2 in
+        let life : Life kinds i x later = record { before = first; after = middle.between; born = there; lawful = still; spared = born.spared; leads = middle.leads } in
         let grows = grows_by kinds i x later life in
         record {
           table = born_with.records;
           asked = sym told ∙ born_with.asked;
-          lives = lives_on kinds i x later life;
+          lives = λ none. subst (λ (s : State M). s.living i ≡ Some (record x { history = history_of_run i [] later })) (sym (subst (λ cs. Leads kinds middle.between cs after) none middle.leads_on)) (lives_on kinds i x later life);
           outputs = sym grows.outputs_more;
           statuses = sym grows.statuses_more;
           controls = λ sooner rest c answer e.
-              let two = parts sooner (Control i c answer ∷ rest) first after (subst (λ cs. Leads kinds first cs after) e split.leads_on.2) in
+              let two = parts sooner (Control i c answer ∷ rest) first middle.between (subst (λ cs. Leads kinds first cs middle.between) e middle.leads) in
               let sooner_life : Life kinds i x sooner = record {
                 before = first;
                 after = two.between;

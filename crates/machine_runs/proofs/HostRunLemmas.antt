@@ -1,5 +1,5 @@
 -- A run of calls of channels is a run of calls of their host.
-use Rattle.std.proofs.Common.{◌≡◌, ℕ, ℤ, Bool, true, false, List, [], ◌∷◌, ◌++◌, Option, Some, None, Result, Ok, Err, refl, ap, sym, ◌∙◌, subst}
+use Rattle.std.proofs.Common.{◌≡◌, ℕ, ℤ, Bool, true, false, List, [], ◌∷◌, ◌++◌, Option, Some, None, Result, Ok, Err, refl, ap, sym, ◌∙◌, subst, append_assoc}
 use Rattle.std.specs.Prelude.{not, is_none}
 use Rattle.ialg.specs.declared.refusal.Refusal.{Refusal}
 use Rattle.ialg.specs.declared.refusal.Refusal.TheVariants.{Range, Missing, Busy}
@@ -68,7 +68,7 @@ module _ {M : Type 0} (kinds : Meaning M) where
   asks before after (OfHost call) does = (call ∷ [], refl, (after.host, does.does, refl))
 
   -- one run after the other
-  leads_on : (calls more : List (host_calls.Call M)) (before mid after : State M)
+  pub leads_on : (calls more : List (host_calls.Call M)) (before mid after : State M)
       → host_calls.Leads kinds before calls mid → host_calls.Leads kinds mid more after → host_calls.Leads kinds before (calls ++ more) after
   leads_on [] more before mid after first then = subst (λ s. host_calls.Leads kinds s more after) first then
   leads_on (call ∷ calls) more before mid after first then = (first.0, first.1, leads_on calls more first.0 mid after first.2 then)
@@ -81,3 +81,18 @@ module _ {M : Type 0} (kinds : Meaning M) where
       let first = asks before between call leads.1 in
       let rest = runs calls between after leads.2 in
       (first.0 ++ rest.0, (between, first.0, rest.0, leads.1, first.1, rest.1, refl), leads_on first.0 rest.0 before.host between.host after.host first.2 rest.2)
+
+  -- runs of both, one after the other
+  pub runs_on : (calls more : List (Call M)) (asked later : List (host_calls.Call M)) (before mid after : Channels M)
+      → RunsOnHost kinds before calls asked mid → RunsOnHost kinds mid more later after → RunsOnHost kinds before (calls ++ more) (asked ++ later) after
+  runs_on [] more asked later before mid after first then =
+      subst (λ (s : Channels M). RunsOnHost kinds s more (asked ++ later) after) first.1 (subst (λ xs. RunsOnHost kinds mid more (xs ++ later) after) (sym first.0) then)
+  runs_on (call ∷ calls) more asked later before mid after first then = (
+    first.0,
+    first.1,
+    first.2 ++ later,
+    first.3,
+    first.4,
+    runs_on calls more first.2 later first.0 mid after first.5 then,
+    ap (λ xs. xs ++ later) first.6 ∙ append_assoc first.1 first.2 later,
+  )

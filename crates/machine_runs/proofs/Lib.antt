@@ -2,3 +2,4 @@ pub mod HostRunLemmas
 pub mod BirthLemmas
 pub mod LineLemmas
 pub mod RoomLemmas
+pub mod HeadlineLemmas

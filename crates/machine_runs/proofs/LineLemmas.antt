@@ -1,16 +1,15 @@
 -- Lines of a console are calls of its channels.
-use Rattle.std.proofs.Common.{◌≡◌, ◌≤◌, ◌<◌, ◌⊎◌, ◌+◌, ◌*◌, ◌%◌, ℕ, ℤ, zero, suc, Bool, true, false, List, [], ◌∷◌, ◌++◌, pos, map, filter, length, take, drop, Option, Some, None, Result, Ok, Err, inl, inr, refl, ap, sym, ◌∙◌, subst, append-nil, append_assoc, take-append-drop, arith, get_or, set}
+use Rattle.std.proofs.Common.{◌≡◌, ◌≤◌, ◌<◌, ◌⊎◌, ◌+◌, ◌*◌, ◌/◌, ◌%◌, ℕ, ℤ, zero, suc, Bool, true, false, List, [], ◌∷◌, ◌++◌, pos, map, filter, length, take, drop, Option, Some, None, Result, Ok, Err, inl, inr, refl, ap, sym, ◌∙◌, subst, append-nil, append_assoc, take-append-drop, length-append, arith, get_or, set}
 use Rattle.std.specs.Prelude.{◌==◌, if◌then◌else◌}
 use Rattle.std.specs.Int.{w16, cast_signed, cast_unsigned}
 use Rattle.std.proofs.lemmas.List.{map-append, get_or-set_other, length-map, length-take-le}
 use Rattle.std.proofs.lemmas.List.Elements.{filter-append}
 use Rattle.std.proofs.lemmas.Grind.{flat_map-append}
 use Rattle.std.proofs.lemmas.Bool.Decides.{eqb_tells}
-use Rattle.std.proofs.Math.Seq.{drop-nil}
+use Rattle.std.proofs.Math.Seq.{drop-append_seam, drop-nil, take-append_seam}
 use Rattle.space_heap.proofs.RangeTests.{either, true_or_false}
 use Rattle.ialg.specs.Meaning.{Meaning, Status}
 use Rattle.ialg.specs.declared.refusal.Refusal.{Refusal}
-use Rattle.instance_table.specs.Table.{Activity}
 use Rattle.channel_machine.specs.Channels.{Channels}
 use Rattle.channel_machine.specs.Steps.{unless, channel_refusal}
 use Rattle.channel_machine.specs.Calls as calls
@@ -26,10 +25,10 @@ use Rattle.line_machine.specs.declared.width.Width.TheVariants as carried
 use Rattle.line_machine.specs.Widths.{Widths, octet_count}
 use Rattle.line_machine.specs.Served as served
 use Rattle.line_machine.specs.Served.{Answer, Asked, AskedAnswer, FeedAnswer, FedAnswer, LineAnswer, LinesAnswer, Octet, Output, Replied, Run, ServedAnswer, Written, at_state, after_reading, held_by, octets_left, order_of, refusals, replies, same_port, tells, then_answer}
-use Rattle.console_machine.specs.Samples.{octets_at, octets_of, samples_at, samples_of, two_octets}
-use Rattle.console_machine.specs.Console.{Calls, CommandAsks, LineAsks, activity_told, console_machine, done, feed_asked, flag_told, status_told}
+use Rattle.console_machine.specs.Samples.{octets_at, octets_of, samples_at, samples_of}
+use Rattle.console_machine.specs.Console.{Calls, CommandAsks, LineAsks, console_machine, feed_asked, status_reply, told_by}
 use Rattle.machine_runs.specs.HostRuns.{Leads}
-use Rattle.machine_runs.specs.Lines.{ALineMakes, AreCalls, CommandMakes, IsTaken, LineMakes, LinesMake, Makes, fed_in, fed_out, given_in, output_in}
+use Rattle.machine_runs.specs.Lines.{ALineMakes, AreCalls, CommandMakes, IsSame, IsSameBut, Left, LineMakes, LinesMake, Makes, fed_out, output_in, samples_left as left}
 
 -- ---- octets
 
@@ -73,7 +72,7 @@ unfolding order_of
 held_of_output c d octets = ap (held_by (Some c)) (append-nil (map (λ b. (Some d, b)) octets)) ∙ held_of_octets c d octets
 
 octets_more : (xs ys : List ℤ) → octets_of (xs ++ ys) ≡ octets_of xs ++ octets_of ys
-octets_more xs ys = flat_map-append (λ x. two_octets (cast_unsigned w16 x)) xs ys
+octets_more xs ys = flat_map-append (λ x. cast_unsigned w16 x % 256 ∷ cast_unsigned w16 x / 256 % 256 ∷ []) xs ys
 
 -- and so by each width
 octets_more_at : (width : Width) (xs ys : List ℤ) → octets_at width (xs ++ ys) ≡ octets_at width xs ++ octets_at width ys
@@ -143,6 +142,33 @@ count_at : (width : Width) (n : ℕ) (octets : List ℕ) → length octets ≡ o
 count_at carried.Word n octets e = samples_count n octets (e ∙ sym (twice_is n))
 count_at carried.Octet n octets e = length-map octets pos ∙ e
 
+samples_fewer : (n : ℕ) (octets : List ℕ) → length octets < twice n → length (samples_of octets) < n
+unfolding twice
+samples_fewer zero octets lt = absurd (omega (arith, lt))
+samples_fewer (suc n) [] lt = omega arith
+samples_fewer (suc n) (low ∷ []) lt = omega arith
+samples_fewer (suc n) (low ∷ high ∷ octets) lt = omega (arith, samples_fewer n octets (omega (arith, lt)))
+
+-- fewer octets are fewer samples
+fewer_at : (width : Width) (n : ℕ) (octets : List ℕ) → length octets < octet_count width n → length (samples_at width octets) < n
+fewer_at carried.Word n octets lt = samples_fewer n octets (subst (λ k. length octets < k) (sym (twice_is n)) lt)
+fewer_at carried.Octet n octets lt = subst (λ k. k < n) (sym (length-map octets pos)) lt
+
+-- the samples of the first octets are the first samples, and those of the others are the others
+parts_at : (width : Width) (n : ℕ) (octets : List ℕ) → octet_count width n ≤ length octets
+    → (n ≤ length (samples_at width octets)) × (take n (samples_at width octets) ≡ samples_at width (take (octet_count width n) octets))
+    × (drop n (samples_at width octets) ≡ samples_at width (drop (octet_count width n) octets))
+parts_at width n octets enough =
+    let first = samples_at width (take (octet_count width n) octets) in
+    let rest = samples_at width (drop (octet_count width n) octets) in
+    let counted : length first ≡ n = count_at width n (take (octet_count width n) octets) (length-take-le (octet_count width n) octets enough) in
+    let whole : samples_at width octets ≡ first ++ rest = split_at width n octets in
+    let long : length (samples_at width octets) ≡ length first + length rest = ap (λ xs. length xs) whole ∙ length-append first rest in (
+      omega (arith, counted, long),
+      ap (take n) whole ∙ ap (λ k. take k (first ++ rest)) (sym counted) ∙ take-append_seam first rest,
+      ap (drop n) whole ∙ ap (λ k. drop k (first ++ rest)) (sym counted) ∙ drop-append_seam first rest,
+    )
+
 drop_all : (n : ℕ) (xs : List ℕ) → length xs ≤ n → drop n xs ≡ []
 drop_all n [] le = drop-nil n
 drop_all zero (x ∷ xs) le = absurd (omega arith)
@@ -154,58 +180,12 @@ set_there [] i n = sym (drop-nil n)
 set_there (xs ∷ all) zero n = refl
 set_there (xs ∷ all) (suc i) n = set_there all i n
 
-taken_then : (s t u first second : List ℤ) → IsTaken s first t → IsTaken t second u → IsTaken s (first ++ second) u
-taken_then s t u first second (inl e) (inl f) = inl (e ∙ ap (λ r. first ++ r) f ∙ sym (append_assoc first second u))
-taken_then s t u first second (inl e) (inr f) = inr (f.0, e ∙ ap (λ r. first ++ r) f.1 ∙ sym (append_assoc first second f.0), f.2)
-taken_then s t u first second (inr e) f =
-    let none = nothing_taken t second u e.2 f in
-    inr (e.0, e.1 ∙ ap (λ r. r ++ e.0) (sym (append-nil first) ∙ ap (λ r. first ++ r) (sym none.0)), none.1)
-  where
-    both_empty : (xs ys : List ℤ) → [] ≡ xs ++ ys → (xs ≡ []) × (ys ≡ [])
-    both_empty [] ys e = (refl, sym e)
-    both_empty (x ∷ xs) ys e = cc
-
-    nothing_taken : (t second u : List ℤ) → t ≡ [] → IsTaken t second u → (second ≡ []) × (u ≡ [])
-    nothing_taken t second u e (inl f) = both_empty second u (sym e ∙ f)
-    nothing_taken t second u e (inr f) = ((both_empty second f.0 (sym e ∙ f.1)).0, f.2)
-
-module _ {S : Type 0} (widths : Widths) where
-  -- the samples that are left on an input
-  abbrev pub left : Run S → ℕ → List ℤ
-  left run c = samples_at (widths.input c) (octets_left run c)
-
-  reading : (run : Run S) (channel count c : ℕ) → octets_left (after_reading run channel count) c ≡ (if c == channel then drop count (octets_left run channel) else octets_left run c)
-  reading run channel count c =
-      either (eqb_tells c channel)
-      (λ same. ap (λ k. octets_left (after_reading run channel count) k) same.1 ∙ set_there run.inputs channel count ∙ sym (ap (λ b. if b then drop count (octets_left run channel) else octets_left run c) same.0))
-      (λ apart. get_or-set_other run.inputs channel c _ [] apart.1 ∙ sym (ap (λ b. if b then drop count (octets_left run channel) else octets_left run c) apart.0))
-
-  -- a short feed uses up what is left
-  short_takes : (run : Run S) (channel count c : ℕ) → length (octets_left run channel) < count → IsTaken (left run c) [] (left (after_reading run channel count) c)
-  short_takes run channel count c short =
-      either (eqb_tells c channel)
-      (λ same. inr (left run c, refl, ap (samples_at (widths.input c)) (reading run channel count c ∙ ap (λ b. if b then drop count (octets_left run channel) else octets_left run c) same.0 ∙ drop_all count (octets_left run channel) (omega arith)) ∙ no_samples (widths.input c)))
-      (λ apart. inl (sym (ap (samples_at (widths.input c)) (reading run channel count c ∙ ap (λ b. if b then drop count (octets_left run channel) else octets_left run c) apart.0))))
-
-  -- another one takes its samples
-  whole_takes : (run : Run S) (channel n c : ℕ)
-      → IsTaken (left run c) (if c == channel then samples_at (widths.input channel) (take (octet_count (widths.input channel) n) (octets_left run channel)) else [])
-      (left (after_reading run channel (octet_count (widths.input channel) n)) c)
-  whole_takes run channel n c =
-      let width = widths.input channel in
-      let count = octet_count width n in
-      let block = samples_at width (take count (octets_left run channel)) in
-      either (eqb_tells c channel)
-      (λ same. inl (
-      ap (λ k. left run k) same.1 ∙ split_at width n (octets_left run channel)
-      ∙ ap (λ b. (if b then block else []) ++ samples_at width (drop count (octets_left run channel))) (sym same.0)
-      ∙ ap (λ k. (if c == channel then block else []) ++ samples_at (widths.input k) (drop count (octets_left run channel))) (sym same.1)
-      ∙ ap (λ octets. (if c == channel then block else []) ++ samples_at (widths.input c) octets)
-      (sym (reading run channel count c ∙ ap (λ b. if b then drop count (octets_left run channel) else octets_left run c) same.0))))
-      (λ apart. inl (
-      ap (λ b. (if b then block else []) ++ left run c) (sym apart.0)
-      ∙ ap (λ octets. (if c == channel then block else []) ++ samples_at (widths.input c) octets)
-      (sym (reading run channel count c ∙ ap (λ b. if b then drop count (octets_left run channel) else octets_left run c) apart.0))))
+-- the samples on one input are these, and all others are the same
+same_but : (c : ℕ) (rest : List ℤ) (before after : Left) → after c ≡ rest → ((d : ℕ) → (d ≡ c → ⊥) → after d ≡ before d) → IsSameBut c rest before after
+same_but c rest before after its others d =
+    either (eqb_tells d c)
+    (λ same. ap after same.1 ∙ its ∙ sym (ap (λ b. if b then rest else before d) same.0))
+    (λ apart. others d apart.1 ∙ sym (ap (λ b. if b then rest else before d) apart.0))
 
 -- ---- replies
 
@@ -216,22 +196,14 @@ Tells {A} call reply = (a : A) → is_refusal (reply a) ≡ true → (refusal : 
 no_refusal : {X : Type 0} → false ≡ true → X
 no_refusal e = cc
 
-tells_done : {M : Type 0} (call : Result (Unit {0}) Refusal → Call M) → ((refusal : Refusal) → refusal_of (call (Err refusal)) ≡ Some refusal) → Tells call done
-tells_done call same (Ok answer) e = no_refusal e
-tells_done call same (Err refusal) e = (refusal, same refusal)
+tells_by : {A M : Type 0} (call : Result A Refusal → Call M) (reply : A → Reply) → ((a : A) → is_refusal (reply a) ≡ true → ⊥)
+    → ((refusal : Refusal) → refusal_of (call (Err refusal)) ≡ Some refusal) → Tells call (told_by reply)
+tells_by call reply never same (Ok answer) e = absurd (never answer e)
+tells_by call reply never same (Err refusal) e = (refusal, same refusal)
 
-tells_status : {M : Type 0} (call : Result Status Refusal → Call M) → ((refusal : Refusal) → refusal_of (call (Err refusal)) ≡ Some refusal) → Tells call status_told
-tells_status call same (Ok Status.Done) e = no_refusal e
-tells_status call same (Ok (Status.Words words)) e = no_refusal e
-tells_status call same (Err refusal) e = (refusal, same refusal)
-
-tells_flag : {M : Type 0} (call : Result Bool Refusal → Call M) → ((refusal : Refusal) → refusal_of (call (Err refusal)) ≡ Some refusal) → Tells call flag_told
-tells_flag call same (Ok flag) e = no_refusal e
-tells_flag call same (Err refusal) e = (refusal, same refusal)
-
-tells_activity : {M : Type 0} (call : Result Activity Refusal → Call M) → ((refusal : Refusal) → refusal_of (call (Err refusal)) ≡ Some refusal) → Tells call activity_told
-tells_activity call same (Ok activity) e = no_refusal e
-tells_activity call same (Err refusal) e = (refusal, same refusal)
+never_status : (status : Status) → is_refusal (status_reply status) ≡ true → ⊥
+never_status Status.Done e = no_refusal e
+never_status (Status.Words words) e = no_refusal e
 
 none_refused : {X : Type 0} → 1 ≤ 0 → X
 none_refused le = absurd (omega arith)
@@ -255,37 +227,33 @@ module _ {M : Type 0} (kinds : Meaning M) (widths : Widths) where
   -- the calls were made, and this was written
   pub record Serves (before after : Run (Channels M)) (written : List Written) (made : List (Call M)) : Type 0 where
     pub lead : Leads kinds before.state made after.state
-    pub inputs : (c : ℕ) → IsTaken (left widths before c) (fed_in c made) (left widths after c)
     pub outputs : (c : ℕ) → held c written ≡ octets_at (widths.output c) (fed_out c made)
 
-  and_then : (a b c : Run (Channels M)) (first later : List Written) (made more : List (Call M)) → Serves a b first made → Serves b c later more → Serves a c (first ++ later) (made ++ more)
+  pub and_then : (a b c : Run (Channels M)) (first later : List Written) (made more : List (Call M)) → Serves a b first made → Serves b c later more → Serves a c (first ++ later) (made ++ more)
   and_then a b c first later made more one two = record {
     lead = leads_on made more a.state b.state c.state one.lead two.lead;
-    inputs = λ k. subst (λ taken. IsTaken (left widths a k) taken (left widths c k)) (sym (flat_map-append (given_in k) made more))
-        (taken_then (left widths a k) (left widths b k) (left widths c k) (fed_in k made) (fed_in k more) (one.inputs k) (two.inputs k));
     outputs = λ k. held_more k first later ∙ ap (λ r. r ++ held k later) (one.outputs k) ∙ ap (λ r. octets_at (widths.output k) (fed_out k made) ++ r) (two.outputs k)
         ∙ sym (ap (octets_at (widths.output k)) (flat_map-append (output_in k) made more) ∙ octets_more_at (widths.output k) (fed_out k made) (fed_out k more));
   }
 
   nothing : (run : Run (Channels M)) → Serves run run [] []
-  nothing run = record { lead = refl; inputs = λ c. inl refl; outputs = λ c. held_nothing c ∙ no_octets (widths.output c) }
+  nothing run = record { lead = refl; outputs = λ c. held_nothing c ∙ no_octets (widths.output c) }
 
   replied : (run : Run (Channels M)) (text : List ℕ) (refused : Bool) → Serves run run (Replied text refused ∷ []) []
-  replied run text refused = record { lead = refl; inputs = λ c. inl refl; outputs = λ c. held_of_reply c text refused ∙ no_octets (widths.output c) }
+  replied run text refused = record { lead = refl; outputs = λ c. held_of_reply c text refused ∙ no_octets (widths.output c) }
 
   -- a call that feeds nobody
   abbrev IsQuiet : Call M → Type 0
-  IsQuiet call = (c : ℕ) → (given_in c call ≡ []) × (output_in c call ≡ [])
+  IsQuiet call = (c : ℕ) → output_in c call ≡ []
 
   called : (run : Run (Channels M)) (state : Channels M) (call : Call M) → Does kinds run.state call state → IsQuiet call → Serves run (at_state run state) [] (call ∷ [])
   called run state call does quiet = record {
     lead = (state, does, refl);
-    inputs = λ c. inl (ap (λ taken. taken ++ left widths run c) (sym (append-nil (given_in c call) ∙ (quiet c).0)));
-    outputs = λ c. held_nothing c ∙ no_octets (widths.output c) ∙ ap (octets_at (widths.output c)) (sym (append-nil (output_in c call) ∙ (quiet c).1));
+    outputs = λ c. held_nothing c ∙ no_octets (widths.output c) ∙ ap (octets_at (widths.output c)) (sym (append-nil (output_in c call) ∙ quiet c));
   }
 
-  short : (run : Run (Channels M)) (channel count : ℕ) → length (octets_left run channel) < count → Serves run (after_reading run channel count) [] []
-  short run channel count less = record { lead = refl; inputs = λ c. short_takes widths run channel count c less; outputs = λ c. held_nothing c ∙ no_octets (widths.output c) }
+  short : (run : Run (Channels M)) (channel count : ℕ) → Serves run (after_reading run channel count) [] []
+  short run channel count = record { lead = refl; outputs = λ c. held_nothing c ∙ no_octets (widths.output c) }
 
   module _ (named : List ℕ → Option M) where
     abbrev machine : served.Machine (Channels M)
@@ -307,8 +275,6 @@ module _ {M : Type 0} (kinds : Meaning M) (widths : Widths) where
         let call : Call M = calls.Feed channel block f.taken.out in
         record {
           lead = (f.state, f.taken.does, ap (λ a. a.run.state) f.answered);
-          inputs = λ c. subst (λ (taken : List ℤ). IsTaken (left widths run c) taken (left widths answer.run c)) (sym (append-nil (given_in c call)))
-              (subst (λ (a : Answer (Channels M)). IsTaken (left widths run c) (given_in c call) (left widths a.run c)) (sym f.answered) (whole_takes widths run channel n c));
           outputs = λ c. ap (λ a. held c a.written) f.answered
               ∙ held_more c (Output channel f.output ∷ []) (Replied f.told false ∷ [])
               ∙ ap (λ r. held c (Output channel f.output ∷ []) ++ r) (held_of_reply c f.told false)
@@ -323,17 +289,17 @@ module _ {M : Type 0} (kinds : Meaning M) (widths : Widths) where
     -- ---- one line
 
     -- what was made for it, and what it leaves where it is refused
-    pub record Did (Made : List (Call M) → Type 0) (run : Run (Channels M)) (answer : Answer (Channels M)) : Type 0 where
+    pub record Did (Made : Left → List (Call M) → Left → Type 0) (run : Run (Channels M)) (answer : Answer (Channels M)) : Type 0 where
       pub made : List (Call M)
-      pub asked : Made made
+      pub asked : Made (left widths run) made (left widths answer.run)
       pub serves : Serves run answer.run answer.written made
       pub refused : 1 ≤ refusals answer.written → answer.run.state ≡ run.state
 
-    abbrev Leaves : Type 0
+    abbrev pub Leaves : Type 0
     Leaves = (before after : Channels M) (call : Call M) (refusal : Refusal) → Does kinds before call after → refusal_of call ≡ Some refusal → after ≡ before
 
     -- nothing is called, and a reply is told or none
-    silent : (Made : List (Call M) → Type 0) → Made [] → (run : Run (Channels M)) (state : Channels M) (asked : Asked) (answer : Answer (Channels M))
+    silent : (Made : Left → List (Call M) → Left → Type 0) → ((before after : Left) → IsSame before after → Made before [] after) → (run : Run (Channels M)) (state : Channels M) (asked : Asked) (answer : Answer (Channels M))
         → state ≡ run.state → AskedAnswer machine (at_state run state) asked answer
         → (asked ≡ served.Nothing) ⊎ ((reply : Reply) × (asked ≡ tells reply)) → Did Made run answer
     silent Made none run state asked answer same answered (inl e) =
@@ -341,7 +307,7 @@ module _ {M : Type 0} (kinds : Meaning M) (widths : Widths) where
         let here : at_state run state ≡ run = ap (λ s. at_state run s) same in
         record {
           made = [];
-          asked = none;
+          asked = none (left widths run) (left widths answer.run) (λ c. ap (λ (a : Answer (Channels M)). left widths a.run c) is);
           serves = subst (λ (a : Answer (Channels M)). Serves run a.run a.written []) (sym (is ∙ ap (λ r. record { run = r; written = [] }) here)) (nothing run);
           refused = λ le. ap (λ a. a.run.state) is ∙ same;
         }
@@ -351,20 +317,20 @@ module _ {M : Type 0} (kinds : Meaning M) (widths : Widths) where
         let here : at_state run state ≡ run = ap (λ s. at_state run s) same in
         record {
           made = [];
-          asked = none;
+          asked = none (left widths run) (left widths answer.run) (λ c. ap (λ (a : Answer (Channels M)). left widths a.run c) is);
           serves = subst (λ (a : Answer (Channels M)). Serves run a.run a.written []) (sym (is ∙ ap (λ r. replies r (reply_text reply) (is_refusal reply)) here)) (replied run (reply_text reply) (is_refusal reply));
           refused = λ le. ap (λ a. a.run.state) is ∙ same;
         }
 
     module _ (leaves : Leaves) (run : Run (Channels M)) (state : Channels M) (asked : Asked) (answer : Answer (Channels M)) where
       -- one call, and its answer is told
-      told_by : {A : Type 0} (call : A → Call M) (reply : A → Reply) → ((a : A) → IsQuiet (call a)) → Tells call reply
+      made_by : {A : Type 0} (call : A → Call M) (reply : A → Reply) → ((a : A) → IsQuiet (call a)) → Tells call reply
           → (a : A) → Does kinds run.state (call a) state → asked ≡ tells (reply a) → AskedAnswer machine (at_state run state) asked answer → Did (Makes call) run answer
-      told_by call reply quiet tells_so a does e answered =
+      made_by call reply quiet tells_so a does e answered =
           let is : answer ≡ replies (at_state run state) (reply_text (reply a)) (is_refusal (reply a)) = subst (λ b. AskedAnswer machine (at_state run state) b answer) e answered in
           record {
             made = call a ∷ [];
-            asked = (a, refl);
+            asked = (a, refl, λ c. ap (λ (b : Answer (Channels M)). left widths b.run c) is);
             serves = subst (λ (b : Answer (Channels M)). Serves run b.run b.written (call a ∷ [])) (sym is)
                 (and_then run (at_state run state) (at_state run state) [] (Replied (reply_text (reply a)) (is_refusal (reply a)) ∷ []) (call a ∷ []) []
                 (called run state (call a) does (quiet a)) (replied (at_state run state) (reply_text (reply a)) (is_refusal (reply a))));
@@ -375,42 +341,39 @@ module _ {M : Type 0} (kinds : Meaning M) (widths : Widths) where
 
       by_call : {A : Type 0} (call : A → Call M) (reply : A → Reply) → ((a : A) → IsQuiet (call a)) → Tells call reply
           → Calls kinds call (λ a. tells (reply a)) run.state asked state → AskedAnswer machine (at_state run state) asked answer → Did (Makes call) run answer
-      by_call call reply quiet tells_so c answered = told_by call reply quiet tells_so c.answer c.does c.asks answered
+      by_call call reply quiet tells_so c answered = made_by call reply quiet tells_so c.answer c.does c.asks answered
+
+      by_told : {A : Type 0} (call : Result A Refusal → Call M) (reply : A → Reply) → ((a : A) → is_refusal (reply a) ≡ true → ⊥)
+          → ((a : Result A Refusal) → IsQuiet (call a)) → ((refusal : Refusal) → refusal_of (call (Err refusal)) ≡ Some refusal)
+          → Calls kinds call (λ a. tells (told_by reply a)) run.state asked state → AskedAnswer machine (at_state run state) asked answer → Did (Makes call) run answer
+      by_told call reply never quiet same does a = by_call call (told_by reply) quiet (tells_by call reply never same) does a
 
       by_done : (call : Result (Unit {0}) Refusal → Call M) → ((a : Result (Unit {0}) Refusal) → IsQuiet (call a)) → ((refusal : Refusal) → refusal_of (call (Err refusal)) ≡ Some refusal)
-          → Calls kinds call (λ a. tells (done a)) run.state asked state → AskedAnswer machine (at_state run state) asked answer → Did (Makes call) run answer
-      by_done call quiet same does a = by_call call done quiet (tells_done call same) does a
+          → Calls kinds call (λ a. tells (told_by (λ _. replies_told.Done) a)) run.state asked state → AskedAnswer machine (at_state run state) asked answer → Did (Makes call) run answer
+      by_done call quiet same does a = by_told call (λ _. replies_told.Done) (λ b e. no_refusal e) quiet same does a
 
       by_status : (call : Result Status Refusal → Call M) → ((a : Result Status Refusal) → IsQuiet (call a)) → ((refusal : Refusal) → refusal_of (call (Err refusal)) ≡ Some refusal)
-          → Calls kinds call (λ a. tells (status_told a)) run.state asked state → AskedAnswer machine (at_state run state) asked answer → Did (Makes call) run answer
-      by_status call quiet same does a = by_call call status_told quiet (tells_status call same) does a
+          → Calls kinds call (λ a. tells (told_by status_reply a)) run.state asked state → AskedAnswer machine (at_state run state) asked answer → Did (Makes call) run answer
+      by_status call quiet same does a = by_told call status_reply never_status quiet same does a
 
-      by_flag : (call : Result Bool Refusal → Call M) → ((a : Result Bool Refusal) → IsQuiet (call a)) → ((refusal : Refusal) → refusal_of (call (Err refusal)) ≡ Some refusal)
-          → Calls kinds call (λ a. tells (flag_told a)) run.state asked state → AskedAnswer machine (at_state run state) asked answer → Did (Makes call) run answer
-      by_flag call quiet same does a = by_call call flag_told quiet (tells_flag call same) does a
-
-      by_activity : (call : Result Activity Refusal → Call M) → ((a : Result Activity Refusal) → IsQuiet (call a)) → ((refusal : Refusal) → refusal_of (call (Err refusal)) ≡ Some refusal)
-          → Calls kinds call (λ a. tells (activity_told a)) run.state asked state → AskedAnswer machine (at_state run state) asked answer → Did (Makes call) run answer
-      by_activity call quiet same does a = by_call call activity_told quiet (tells_activity call same) does a
-
-      ready_told : (c : ℕ) (a : Result (Unit {0}) Refusal) → Does kinds run.state (calls.Ready c a) state → asked ≡ tells (done a)
-          → AskedAnswer machine (at_state run state) asked answer → Did (Makes (λ b. calls.Ready c b)) run answer
-      ready_told c a does e answered = told_by (λ b. calls.Ready c b) done (λ b k. (refl, refl)) (tells_done {M = M} (λ b. calls.Ready c b) (λ r. refl)) a does e answered
+      ready_told : (c : ℕ) (r : Refusal) → Does kinds run.state (calls.Ready c (Err r)) state → asked ≡ tells (replies_told.No r)
+          → AskedAnswer machine (at_state run state) asked answer → Did (Makes (λ (b : Refusal). calls.Ready c (Err b))) run answer
+      ready_told c r does e answered = made_by (λ (b : Refusal). calls.Ready c (Err b)) (λ b. replies_told.No b) (λ b k. refl) (λ b e'. (b, refl)) r does e answered
 
       -- a feed
       by_feed : (c n : ℕ) → Calls kinds (λ a. calls.Ready c a) (feed_asked (widths.input c) c n) run.state asked state → AskedAnswer machine (at_state run state) asked answer
           → Did (CommandMakes (script.Feed c n)) run answer
       by_feed c n does answered = by_answer does.answer does.does does.asks
         where
-          or_more : Did (Makes (λ a. calls.Ready c a)) run answer → Did (CommandMakes (script.Feed c n)) run answer
+          or_more : Did (Makes (λ (a : Refusal). calls.Ready c (Err a))) run answer → Did (CommandMakes (script.Feed c n)) run answer
           or_more did = record { made = did.made; asked = inl did.asked; serves = did.serves; refused = did.refused }
 
           by_answer : (a : Result (Unit {0}) Refusal) → Does kinds run.state (calls.Ready c a) state → asked ≡ feed_asked (widths.input c) c n a → Did (CommandMakes (script.Feed c n)) run answer
-          by_answer (Err refusal) does e = or_more (ready_told c (Err refusal) does e answered)
+          by_answer (Err refusal) does e = or_more (ready_told c refusal does e answered)
           by_answer (Ok answer_done) does e =
               let ready = at_state run state in
               let call : Call M = calls.Ready c (Ok answer_done) in
-              let first = called run state call does (λ k. (refl, refl)) in
+              let first = called run state call does (λ k. refl) in
               let stays : state ≡ run.state = ready_stays (channel_refusal run.state c) does in
               let feed : FeedAnswer machine ready c (octets_for c n) answer =
               subst (λ b. AskedAnswer machine ready b answer) e answered in
@@ -419,19 +382,34 @@ module _ {M : Type 0} (kinds : Meaning M) (widths : Widths) where
               let is = feed.short less in
               record {
                 made = call ∷ [];
-                asked = inl (Ok answer_done, refl);
+                asked = inr (inl (record {
+                  few = fewer_at (widths.input c) n (octets_left ready c) less;
+                  none = same_but c [] (left widths run) (left widths answer.run)
+                      (ap (λ (b : Answer (Channels M)). left widths b.run c) is
+                      ∙ ap (samples_at (widths.input c)) (set_there ready.inputs c (octets_for c n) ∙ drop_all (octets_for c n) (octets_left ready c) (omega (arith, less))) ∙ no_samples (widths.input c))
+                      (λ d ne. ap (λ (b : Answer (Channels M)). left widths b.run d) is ∙ ap (samples_at (widths.input d)) (get_or-set_other ready.inputs c d _ [] ne));
+                  calls = refl;
+                }));
                 serves = subst (λ (b : Answer (Channels M)). Serves run b.run b.written (call ∷ [])) (sym is)
                     (and_then run ready (after_reading ready c (octets_for c n)) [] (Replied served.short_text true ∷ []) (call ∷ []) [] first
                     (and_then ready (after_reading ready c (octets_for c n)) (after_reading ready c (octets_for c n)) [] (Replied served.short_text true ∷ []) [] []
-                    (short ready c (octets_for c n) less) (replied (after_reading ready c (octets_for c n)) served.short_text true)));
+                    (short ready c (octets_for c n)) (replied (after_reading ready c (octets_for c n)) served.short_text true)));
                 refused = λ le. ap (λ b. b.run.state) is ∙ stays;
               })
               (λ enough.
               let f = feed.whole enough in
               let block = samples_for c (take (octets_for c n) (octets_left ready c)) in
+              let parts = parts_at (widths.input c) n (octets_left ready c) enough in
               record {
                 made = call ∷ calls.Feed c block f.taken.out ∷ [];
-                asked = inr (block, f.taken.out, count_at (widths.input c) n (take (octets_for c n) (octets_left ready c)) (length-take-le (octets_for c n) (octets_left ready c) enough), refl);
+                asked = inr (inr (record {
+                  enough = parts.0;
+                  others = same_but c (drop n (left widths run c)) (left widths run) (left widths answer.run)
+                      (ap (λ (b : Answer (Channels M)). left widths b.run c) f.answered ∙ ap (samples_at (widths.input c)) (set_there ready.inputs c (octets_for c n)) ∙ sym parts.2)
+                      (λ d ne. ap (λ (b : Answer (Channels M)). left widths b.run d) f.answered ∙ ap (samples_at (widths.input d)) (get_or-set_other ready.inputs c d _ [] ne));
+                  out = f.taken.out;
+                  calls = ap (λ xs. call ∷ calls.Feed c xs f.taken.out ∷ []) (sym parts.1);
+                }));
                 serves = and_then run ready answer.run [] answer.written (call ∷ []) (calls.Feed c block f.taken.out ∷ []) first (fed ready c n answer f);
                 refused = λ le. refusals_of_feed c f.output f.told (subst (λ (b : Answer (Channels M)). 1 ≤ refusals b.written) f.answered le);
               })
@@ -445,25 +423,25 @@ module _ {M : Type 0} (kinds : Meaning M) (widths : Widths) where
 
       by_command : (command : Command M) → CommandAsks kinds widths command run.state asked state → AskedAnswer machine (at_state run state) asked answer
           → Did (CommandMakes command) run answer
-      by_command (script.Create i kind g words) does a = by_done _ (λ b c. (refl, refl)) (λ r. refl) does a
-      by_command (script.Set i words) does a = by_status _ (λ b c. (refl, refl)) (λ r. refl) does a
-      by_command (script.Reset i) does a = by_status _ (λ b c. (refl, refl)) (λ r. refl) does a
-      by_command (script.Get i) does a = by_status _ (λ b c. (refl, refl)) (λ r. refl) does a
-      by_command (script.Delete i) does a = by_done _ (λ b c. (refl, refl)) (λ r. refl) does a
-      by_command (script.Chain c is) does a = by_done _ (λ b d. (refl, refl)) (λ r. refl) does a
-      by_command (script.Unchain c) does a = by_done _ (λ b d. (refl, refl)) (λ r. refl) does a
+      by_command (script.Create i kind g words) does a = by_done _ (λ b c. refl) (λ r. refl) does a
+      by_command (script.Set i words) does a = by_status _ (λ b c. refl) (λ r. refl) does a
+      by_command (script.Reset i) does a = by_status _ (λ b c. refl) (λ r. refl) does a
+      by_command (script.Get i) does a = by_status _ (λ b c. refl) (λ r. refl) does a
+      by_command (script.Delete i) does a = by_done _ (λ b c. refl) (λ r. refl) does a
+      by_command (script.Chain c is) does a = by_done _ (λ b d. refl) (λ r. refl) does a
+      by_command (script.Unchain c) does a = by_done _ (λ b d. refl) (λ r. refl) does a
       by_command (script.Feed c n) does a = by_feed c n does a
-      by_command (script.Compact space) does a = by_call _ replies_told.Count (λ b c. (refl, refl)) (λ b e. no_refusal e) does a
-      by_command (script.Step space) does a = by_call _ replies_told.Flag (λ b c. (refl, refl)) (λ b e. no_refusal e) does a
-      by_command (script.Release g) does a = by_flag _ (λ b c. (refl, refl)) (λ r. refl) does a
-      by_command (script.Map space) does a = by_call _ replies_told.Map (λ b c. (refl, refl)) (λ b e. no_refusal e) does a
-      by_command (script.Stat g) does a = by_activity _ (λ b c. (refl, refl)) (λ r. refl) does a
+      by_command (script.Compact space) does a = by_call _ replies_told.Count (λ b c. refl) (λ b e. no_refusal e) does a
+      by_command (script.Step space) does a = by_call _ replies_told.Flag (λ b c. refl) (λ b e. no_refusal e) does a
+      by_command (script.Release g) does a = by_told _ replies_told.Flag (λ b e. no_refusal e) (λ b c. refl) (λ r. refl) does a
+      by_command (script.Map space) does a = by_call _ replies_told.Map (λ b c. refl) (λ b e. no_refusal e) does a
+      by_command (script.Stat g) does a = by_told _ (λ b. replies_told.Stat b.active b.count) (λ b e. no_refusal e) (λ b c. refl) (λ r. refl) does a
 
       by_line : (line : Result (Option (Command M)) Refusal) → LineAsks kinds widths line run.state asked state → AskedAnswer machine (at_state run state) asked answer
           → Did (LineMakes line) run answer
       by_line (Ok (Some command)) does a = by_command command does a
-      by_line (Ok None) does a = silent (LineMakes (Ok None)) refl run state asked answer does.1 a (inl does.0)
-      by_line (Err refusal) does a = silent (LineMakes (Err refusal)) refl run state asked answer does.1 a (inr (replies_told.No refusal, does.0))
+      by_line (Ok None) does a = silent (LineMakes (Ok None)) (λ before after same. (refl, same)) run state asked answer does.1 a (inl does.0)
+      by_line (Err refusal) does a = silent (LineMakes (Err refusal)) (λ before after same. (refl, same)) run state asked answer does.1 a (inr (replies_told.No refusal, does.0))
 
     pub one_did : Leaves → (run : Run (Channels M)) (line : List ℕ) (answer : Answer (Channels M)) → LineAnswer machine run line answer → Did (ALineMakes named line) run answer
     one_did leaves run line answer a =
@@ -472,7 +450,7 @@ module _ {M : Type 0} (kinds : Meaning M) (widths : Widths) where
         let is = a.long long in
         record {
           made = [];
-          asked = record { long = λ more. refl; fits = λ le. absurd (omega arith) };
+          asked = record { long = λ more. (refl, λ c. ap (λ (b : Answer (Channels M)). left widths b.run c) is); fits = λ le. absurd (omega arith) };
           serves = subst (λ (b : Answer (Channels M)). Serves run b.run b.written []) (sym is) (replied run served.long_text true);
           refused = λ le. ap (λ b. b.run.state) is;
         })
@@ -487,13 +465,13 @@ module _ {M : Type 0} (kinds : Meaning M) (widths : Widths) where
     -- ---- all lines
 
     pub all_did : Leaves → (lines : List (List ℕ)) (run : Run (Channels M)) (answer : Answer (Channels M)) → LinesAnswer machine run lines answer
-        → (made : List (Call M)) × LinesMake named lines made × Serves run answer.run answer.written made
-    all_did leaves [] run answer e = ([], refl, subst (λ (b : Answer (Channels M)). Serves run b.run b.written []) (sym e) (nothing run))
+        → (made : List (Call M)) × LinesMake named lines (left widths run) made (left widths answer.run) × Serves run answer.run answer.written made
+    all_did leaves [] run answer e = ([], (refl, λ c. ap (λ (b : Answer (Channels M)). left widths b.run c) e), subst (λ (b : Answer (Channels M)). Serves run b.run b.written []) (sym e) (nothing run))
     all_did leaves (line ∷ lines) run answer a =
         let first = one_did leaves run line a.0 a.1 in
         let rest = all_did leaves lines a.0.run a.2 a.3 in (
           first.made ++ rest.0,
-          (first.made, rest.0, first.asked, rest.1, refl),
+          (left widths a.0.run, first.made, rest.0, first.asked, subst (λ (b : Answer (Channels M)). LinesMake named lines (left widths a.0.run) rest.0 (left widths b.run)) (sym a.4) rest.1, refl),
           subst (λ (b : Answer (Channels M)). Serves run b.run b.written (first.made ++ rest.0)) (sym a.4)
               (and_then run a.0.run a.2.run a.0.written a.2.written first.made rest.0 first.serves rest.2),
         )
@@ -502,4 +480,57 @@ module _ {M : Type 0} (kinds : Meaning M) (widths : Widths) where
         → (made : List (Call M)) × AreCalls kinds named widths run lines answer made
     are_calls leaves lines run answer a =
         let did = all_did leaves lines run answer a in
-        (did.0, record { lead = did.2.lead; commands = did.1; inputs = did.2.inputs; outputs = did.2.outputs })
+        (did.0, record { lead = did.2.lead; commands = did.1; outputs = did.2.outputs })
+
+    -- ---- the first lines, and those after them
+
+    pub record DidFirst (first more : List (List ℕ)) (run : Run (Channels M)) (answer : Answer (Channels M)) : Type 0 where
+      pub so_far : Answer (Channels M)
+      pub served : LinesAnswer machine run first so_far
+      pub later : List Written
+      pub written : answer.written ≡ so_far.written ++ later
+      pub made : List (Call M)
+      pub commands : LinesMake named first (left widths run) made (left widths so_far.run)
+      pub serves : Serves run so_far.run so_far.written made
+      pub made_later : List (Call M)
+      pub serves_later : Serves so_far.run answer.run later made_later
+      pub all_commands : LinesMake named (first ++ more) (left widths run) (made ++ made_later) (left widths answer.run)
+
+    pub did_first : Leaves → (first more : List (List ℕ)) (run : Run (Channels M)) (answer : Answer (Channels M)) → LinesAnswer machine run (first ++ more) answer
+        → DidFirst first more run answer
+    did_first leaves [] more run answer a =
+        let did = all_did leaves more run answer a in
+        record {
+          so_far = record { run = run; written = [] };
+          served = refl;
+          later = answer.written;
+          written = refl;
+          made = [];
+          commands = (refl, λ c. refl);
+          serves = nothing run;
+          made_later = did.0;
+          serves_later = did.2;
+          all_commands = did.1;
+        }
+    did_first leaves (line ∷ first) more run answer a =
+        let one = one_did leaves run line a.0 a.1 in
+        let rest = did_first leaves first more a.0.run a.2 a.3 in
+        record {
+          so_far = then_answer a.0.written rest.so_far;
+          served = (a.0, a.1, rest.so_far, rest.served, refl);
+          later = rest.later;
+          written = ap (λ (b : Answer (Channels M)). b.written) a.4 ∙ ap (λ w. a.0.written ++ w) rest.written ∙ sym (append_assoc a.0.written rest.so_far.written rest.later);
+          made = one.made ++ rest.made;
+          commands = (left widths a.0.run, one.made, rest.made, one.asked, rest.commands, refl);
+          serves = and_then run a.0.run rest.so_far.run a.0.written rest.so_far.written one.made rest.made one.serves rest.serves;
+          made_later = rest.made_later;
+          serves_later = subst (λ (b : Answer (Channels M)). Serves rest.so_far.run b.run rest.later rest.made_later) (sym a.4) rest.serves_later;
+          all_commands = (
+            left widths a.0.run,
+            one.made,
+            rest.made ++ rest.made_later,
+            one.asked,
+            subst (λ (b : Answer (Channels M)). LinesMake named (first ++ more) (left widths a.0.run) (rest.made ++ rest.made_later) (left widths b.run)) (sym a.4) rest.all_commands,
+            append_assoc one.made rest.made rest.made_later,
+          );
+        }

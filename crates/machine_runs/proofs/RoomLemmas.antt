@@ -13,7 +13,7 @@ use Rattle.ialg.specs.Refusals.{first_refusal}
 use Rattle.ialg.specs.Meaning.{Meaning}
 use Rattle.space_heap.specs.Places.{Range as Stretch, is_free, least_place, meets}
 use Rattle.space_heap.proofs.RangeTests.{either, both_true}
-use Rattle.space_blocks.specs.declared.TheConstants.{INSTANCES, GROUPS}
+use Rattle.mem_rec.specs.declared.TheConstants.{INSTANCES, GROUPS}
 use Rattle.space_blocks.specs.Blocks.{ranges}
 use Rattle.host_spaces.specs.declared.spaces.Sizes.{Sizes}
 use Rattle.host_spaces.specs.declared.wants.Wanted.{Wanted}
@@ -228,6 +228,20 @@ module _ {M : Type 0} (before after : Channels M) (space : Space) where
   by_delete false false true e = cc
   by_delete false false false e = cc
 
+  -- a creation of the host is one of channels
+  its_creation : (call : host_calls.Call M) → host_laws.IsCreation call → IsCreation (OfHost call)
+  its_creation (host_calls.Create i kind g p answer) is = tt
+  its_creation (host_calls.Control i c answer) is = is
+  its_creation (host_calls.Process i block out) is = is
+  its_creation (host_calls.Delete i answer) is = is
+  its_creation (host_calls.Release g answer) is = is
+  its_creation (host_calls.Step space answer) is = is
+  its_creation (host_calls.Compact space answer) is = is
+  its_creation (host_calls.Stat g answer) is = is
+  its_creation (host_calls.Map space answer) is = is
+  its_creation (host_calls.Lives i answer) is = is
+  its_creation (host_calls.Copied answer) is = is
+
   pub only : (kinds : Meaning M)
       → ((b a : State M) (call : host_calls.Call M) → host_calls.Does kinds b call a → host_calls.refusal_of call ≡ Some (Room space) → host_laws.IsCreation call)
       → (call : Call M) → Does kinds before call after → refusal_of call ≡ Some (Room space) → IsCreation call
@@ -236,4 +250,4 @@ module _ {M : Type 0} (before after : Channels M) (space : Space) where
   only kinds law (Remove i answer) does e = by_delete _ _ _ (told_is answer (on_host before (steps.delete kinds before.host i).1) (delete_refusal before i) does e)
   only kinds law (Ready c answer) does e = by_channel _ _ (told_is answer before (channel_refusal before c) does e)
   only kinds law (Feed c block out) does e = absurd (none-some (Room space) e)
-  only kinds law (OfHost call) does e = law before.host after.host call does.does e
+  only kinds law (OfHost call) does e = its_creation call (law before.host after.host call does.does e)

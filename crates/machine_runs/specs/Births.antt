@@ -11,10 +11,11 @@ use Rattle.sound_machine.specs.Calls.{Call}
 use Rattle.sound_machine.specs.Calls.Call.{Create, Control}
 use Rattle.sound_machine.specs.Runs.{AllSpare, history_of_run, outputs_in, statuses_in, statuses_of}
 
--- instance i was created in these calls, and not deleted since: the later ones came after its creation
+-- instance i was created in these calls, and not deleted in the later ones, which came next; then came the rest
 pub record Born {M : Type 0} (i : ℕ) (kind : M) (g : ℕ) (p : List ℤ) (calls later : List (Call M)) : Type 0 where
   pub earlier : List (Call M)
-  pub created : calls ≡ earlier ++ Create i kind g p (Ok tt) ∷ later
+  pub rest : List (Call M)
+  pub created : calls ≡ earlier ++ Create i kind g p (Ok tt) ∷ (later ++ rest)
   pub spared : AllSpare i later
 
 -- what an instance answers to a control. Whether it is granted depends on the kind, the parameters and the control alone
@@ -22,10 +23,10 @@ abbrev pub answer_of : {M : Type 0} → Meaning M → M → List ℤ → History
 answer_of kinds kind p h c = if kinds.accepts kind p c then Ok (status_of kinds kind p h c) else Err Command
 
 -- from its creation on an instance gives and answers what its kind means for what it was given since then
-pub record GoesByItsHistory {M : Type 0} (kinds : Meaning M) (i : ℕ) (kind : M) (g : ℕ) (p : List ℤ) (later : List (Call M)) (after : State M) : Type 0 where
+pub record GoesByItsHistory {M : Type 0} (kinds : Meaning M) (i : ℕ) (kind : M) (g : ℕ) (p : List ℤ) (later rest : List (Call M)) (after : State M) : Type 0 where
   pub table : List MemRec
   pub asked : kinds.table kind p ≡ Some table
-  pub lives : after.living i ≡ Some (record { kind = kind; params = p; table = unplaced table; group = g; history = history_of_run i [] later })
+  pub lives : rest ≡ [] → after.living i ≡ Some (record { kind = kind; params = p; table = unplaced table; group = g; history = history_of_run i [] later })
   pub outputs : outputs_in i later ≡ outputs_of kinds kind p (history_of_run i [] later)
   pub statuses : statuses_in i later ≡ statuses_of kinds kind p (history_of_run i [] later)
   pub controls : (first rest : List (Call M)) (c : Ctl) (answer : Result Status Refusal) → later ≡ first ++ Control i c answer ∷ rest

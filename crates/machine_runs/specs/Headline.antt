@@ -1,5 +1,5 @@
 -- The headline, of a run of a console over a list of lines.
-use Rattle.std.specs.Prelude.{ℕ, ℤ, ◌≡◌, ◌≤◌, ◌↔◌, IsTrue, List, Option, Some, Result, Err}
+use Rattle.std.specs.Prelude.{ℕ, ℤ, ◌≡◌, ◌≤◌, ◌↔◌, IsTrue, List, ◌++◌, Option, Some, Result, Err}
 use Rattle.mem_rec.specs.declared.Space.{Space}
 use Rattle.ialg.specs.declared.refusal.Refusal.{Refusal}
 use Rattle.ialg.specs.declared.refusal.Refusal.TheVariants.{Room}
@@ -11,13 +11,13 @@ use Rattle.sound_machine.specs.Calls as host_calls
 use Rattle.sound_machine.specs.Calls.Call.{Create}
 use Rattle.channel_machine.specs.Channels.{Channels}
 use Rattle.channel_machine.specs.Calls.{Call, Does, refusal_of}
-use Rattle.line_machine.specs.Served.{Answer, LineAnswer, Run, held_by, octets_left, order_of, refusals}
+use Rattle.line_machine.specs.Served.{Answer, LineAnswer, LinesAnswer, Run, Written, held_by, order_of, refusals}
 use Rattle.line_machine.specs.Widths.{Widths}
-use Rattle.console_machine.specs.Samples.{octets_at, samples_at}
+use Rattle.console_machine.specs.Samples.{octets_at}
 use Rattle.console_machine.specs.Console.{console_machine, start}
 use Rattle.machine_runs.specs.HostRuns.{RunsOnHost}
 use Rattle.machine_runs.specs.Births.{Born, GoesByItsHistory}
-use Rattle.machine_runs.specs.Lines.{IsTaken, LinesMake, fed_in, fed_out}
+use Rattle.machine_runs.specs.Lines.{LinesMake, fed_out, samples_left}
 use Rattle.machine_runs.specs.Room.{IsCreation, LacksRoom}
 
 -- why commands are refused, and what a refused one does
@@ -28,7 +28,7 @@ pub record Refuses {M : Type 0} (kinds : Meaning M) (named : List ℕ → Option
   pub exactly : (before after : State M) (i g : ℕ) (kind : M) (p : List ℤ) (answer : Result (Unit {0}) Refusal) (space : Space)
       → host_calls.Does kinds before (Create i kind g p answer) after → IsTrue (tells_memory kinds before.poison kind p)
       → (answer ≡ Err (Room space)) ↔ LacksRoom kinds before i kind g p space
-  -- and a refused command changes nothing: no call that is refused,
+  -- and a refused command changes no instance, channel or place: no call that is refused,
   pub nothing : (before after : Channels M) (call : Call M) (refusal : Refusal) → Does kinds before call after → refusal_of call ≡ Some refusal → after ≡ before
   -- and no line
   pub no_line : (run : Run (Channels M)) (line : List ℕ) (answer : Answer (Channels M)) → LineAnswer (console_machine kinds named widths) run line answer
@@ -36,17 +36,30 @@ pub record Refuses {M : Type 0} (kinds : Meaning M) (named : List ℕ → Option
 
 -- by the answer to the lines of a script, over ports of these widths, from a host of these sizes and this poison word
 pub record Headline {M : Type 0} (kinds : Meaning M) (named : List ℕ → Option M) (widths : Widths) (sizes : Sizes) (poison : Option ℤ) (lines octets : List (List ℕ)) (answer : Answer (Channels M)) : Type 0 where
-  -- over any list of commands: the calls of channels that they make, and what those ask of the host
+  -- over any list of commands: the calls of channels that they make, which take samples from the inputs, and what those ask of the host
   pub calls : List (Call M)
-  pub commands : LinesMake named lines calls
+  pub commands : LinesMake named lines (samples_left widths (start {M = M} sizes poison octets)) calls (samples_left widths answer.run)
   pub asked : List (host_calls.Call M)
   pub runs : RunsOnHost kinds (start sizes poison octets).state calls asked answer.run.state
   -- each living instance's output is its difference equation applied to its own granted controls and samples since its creation, whatever
   -- its scratch memory held, wherever its records were moved and whatever other instances did, even ones that break IALG's laws;
-  pub each : (i : ℕ) (kind : M) (g : ℕ) (p : List ℤ) (later : List (host_calls.Call M)) → IsTrue (kinds.lawful kind p poison) → Born i kind g p asked later
-      → GoesByItsHistory kinds i kind g p later answer.run.state.host
-  -- what a channel's feeds are given is taken from its input, and what they give is written on it;
-  pub inputs : (c : ℕ) → IsTaken (samples_at (widths.input c) (octets_left (start {M = M} sizes poison octets) c)) (fed_in c calls) (samples_at (widths.input c) (octets_left answer.run c))
+  pub each : (i : ℕ) (kind : M) (g : ℕ) (p : List ℤ) (later : List (host_calls.Call M)) → IsTrue (kinds.lawful kind p poison) → (born : Born i kind g p asked later)
+      → GoesByItsHistory kinds i kind g p later born.rest answer.run.state.host
+  -- what a channel's feeds give is written on it;
   pub outputs : (c : ℕ) → held_by (Some c) (order_of answer.written) ≡ octets_at (widths.output c) (fed_out c calls)
-  -- only creation is refused for space, exactly where no place is free, and a refused command changes nothing
+  -- only creation is refused for space, exactly where no place is free, and a refused command changes no instance, channel or place
   pub refuses : Refuses kinds named widths
+
+-- up to a line: the headline holds of the first lines by themselves. Their calls are the first ones of all calls, and what was written for
+-- them is the first of all that was written
+pub record GoesOn {M : Type 0} (kinds : Meaning M) (named : List ℕ → Option M) (widths : Widths) (sizes : Sizes) (poison : Option ℤ) (first more octets : List (List ℕ)) (answer : Answer (Channels M)) : Type 0 where
+  pub so_far : Answer (Channels M)
+  pub served : LinesAnswer (console_machine kinds named widths) (start sizes poison octets) first so_far
+  pub says : Headline kinds named widths sizes poison first octets so_far
+  pub all : Headline kinds named widths sizes poison (first ++ more) octets answer
+  pub later_calls : List (Call M)
+  pub calls : all.calls ≡ says.calls ++ later_calls
+  pub later_asked : List (host_calls.Call M)
+  pub asked : all.asked ≡ says.asked ++ later_asked
+  pub later : List Written
+  pub written : answer.written ≡ so_far.written ++ later

@@ -4,7 +4,7 @@ use Rattle.mem_rec.specs.declared.MemRec.{MemRec}
 use Rattle.mem_rec.specs.declared.Space.{Space}
 use Rattle.ialg.specs.Meaning.{Meaning}
 use Rattle.space_heap.specs.Places.{is_free}
-use Rattle.space_blocks.specs.declared.TheConstants.{INSTANCES, GROUPS}
+use Rattle.mem_rec.specs.declared.TheConstants.{INSTANCES, GROUPS}
 use Rattle.space_blocks.specs.Blocks.{ranges}
 use Rattle.host_spaces.specs.declared.spaces.Sizes.{Sizes}
 use Rattle.host_spaces.specs.declared.wants.Wanted.{Wanted}
@@ -12,7 +12,7 @@ use Rattle.host_spaces.specs.Picture.{Picture, blocks_in, place_in, put_block, w
 use Rattle.host_spaces.specs.Creation.{wanted_by}
 use Rattle.sound_machine.specs.State.{State, twins_of}
 use Rattle.sound_machine.specs.Steps.{newborn}
-use Rattle.sound_machine.specs.Laws as host_laws
+use Rattle.sound_machine.specs.Calls.Call.{Create}
 use Rattle.channel_machine.specs.Calls.{Call}
 use Rattle.channel_machine.specs.Calls.Call.{OfHost}
 
@@ -40,5 +40,5 @@ pub record LacksRoom {M : Type 0} (kinds : Meaning M) (before : State M) (i : �
   pub short : FallsShort before.sizes before.picture (wanted_by (twins_of kinds before.living (newborn kind g p table)) before.picture i g table) space
 
 abbrev pub IsCreation : {M : Type 0} → Call M → Type 0
-IsCreation (OfHost call) = host_laws.IsCreation call
+IsCreation (OfHost (Create i kind g p answer)) = Unit {0}
 IsCreation _ = ⊥

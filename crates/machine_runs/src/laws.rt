@@ -28,13 +28,13 @@ pub fn calls_run_on_the_host<M>()
         → (asked : List (host_calls.Call M)) × RunsOnHost kinds before calls asked after × host_calls.Leads kinds before.host asked after.host }
 {}
 
-/// The law that a lawful instance goes by what it was given since its creation, whatever was called before, and whatever else is called;
-/// that a control of it is granted by kind, parameters and control alone; and that no block of samples is refused. The call does
-/// nothing.
+/// The law that a lawful instance goes by what it was given since its creation, as long as it isn't deleted, whatever was called before, and
+/// whatever else is called; that a control of it is granted by kind, parameters and control alone; and that a block of samples has no
+/// answer that refuses it. The call does nothing.
 pub fn births_go_by_their_histories<M>()
     ensures born { (kinds : Meaning M) (before after : State M) (calls : List (host_calls.Call M)) (i g : ℕ) (kind : M) (p : List ℤ) (later : List (host_calls.Call M))
-        → host_calls.Leads kinds before calls after → IsTrue (kinds.lawful kind p before.poison) → Born i kind g p calls later
-        → GoesByItsHistory kinds i kind g p later after }
+        → host_calls.Leads kinds before calls after → IsTrue (kinds.lawful kind p before.poison) → (born : Born i kind g p calls later)
+        → GoesByItsHistory kinds i kind g p later born.rest after }
     ensures process { (i : ℕ) (block out : List ℤ) → host_calls.refusal_of {M = M} (Process i block out) ≡ None }
 {}
 
@@ -50,8 +50,8 @@ pub fn births_agree<M>()
         → (outputs_in i later ≡ outputs_in j since) × (statuses_in i later ≡ statuses_in j since) }
 {}
 
-/// The law that what a console does with lines is a run of calls of its channels, which the lines' commands make: what a channel's feeds
-/// are given is taken from its input, and what they give is its output. The call does nothing.
+/// The law that what a console does with lines is a run of calls of its channels, which the lines' commands make: a feed is refused, or
+/// short, or given the first samples that are left of its channel's input; and what feeds give is the channel's output. The call does nothing.
 pub fn lines_are_calls<M>()
     ensures { (kinds : Meaning M) (named : List ℕ → Option M) (widths : Widths) (run : Run (Channels M)) (lines : List (List ℕ)) (answer : Answer (Channels M))
         → LinesAnswer (console_machine kinds named widths) run lines answer → (made : List (Call M)) × AreCalls kinds named widths run lines answer made }
@@ -59,7 +59,8 @@ pub fn lines_are_calls<M>()
     channel_machine::refused_calls_change_nothing::<M>();
 }
 
-/// The law that a refused line leaves all instances and channels as they were. The call does nothing.
+/// The law that a refused line leaves all instances, channels and places as they were. A feed that is refused as short uses up what is left
+/// of its input. The call does nothing.
 pub fn refused_lines_change_nothing<M>()
     ensures { (kinds : Meaning M) (named : List ℕ → Option M) (widths : Widths) (run : Run (Channels M)) (line : List ℕ) (answer : Answer (Channels M))
         → LineAnswer (console_machine kinds named widths) run line answer → 1 ≤ refusals answer.written → answer.run.state ≡ run.state }
@@ -68,7 +69,8 @@ pub fn refused_lines_change_nothing<M>()
 }
 
 /// The law that only a creation is refused for want of room; and that the creation of a kind that is lawful, or that declares its
-/// memory, is refused so exactly where, of the blocks that it needs, one has no free place. The call does nothing.
+/// memory, is refused so exactly where nothing else is wanting (its numbers are in range, no instance has its number, and the kind takes
+/// its parameters) and, of the blocks that it needs beyond those that it shares, one has no free place. The call does nothing.
 pub fn creations_alone_lack_room<M>()
     ensures only { (kinds : Meaning M) (before after : Channels M) (call : Call M) (space : Space)
         → Does kinds before call after → refusal_of call ≡ Some (Room space) → IsCreation call }

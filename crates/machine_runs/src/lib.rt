@@ -1,3 +1,4 @@
+// SPDX-License-Identifier: Apache-2.0
 //! Whole runs of the machines: calls of channels as calls of their host, and each instance from its creation on.
 #![tactic(auto)]
 

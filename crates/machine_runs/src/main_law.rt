@@ -1,5 +1,5 @@
 //! The headline.
-ghost use Rattle.std.specs.Prelude.{◌≡◌, ℕ, ℤ, [], IsTrue, List, Option};
+ghost use Rattle.std.specs.Prelude.{◌≡◌, ◌++◌, ℕ, ℤ, [], IsTrue, List, Option};
 ghost use Rattle.ialg.specs.Meaning.{Meaning};
 ghost use Rattle.host_spaces.specs.declared.spaces.Sizes.{Sizes};
 ghost use Rattle.sound_machine.specs.Calls.{Call};
@@ -9,23 +9,25 @@ ghost use Rattle.line_machine.specs.Served.{Answer, LinesAnswer};
 ghost use Rattle.line_machine.specs.Widths.{Widths};
 ghost use Rattle.console_machine.specs.Console.{console_machine, start};
 ghost use Rattle.machine_runs.specs.Births.{Born};
-ghost use Rattle.machine_runs.specs.Headline.{Headline};
+ghost use Rattle.machine_runs.specs.Headline.{GoesOn, Headline};
 
-use crate::laws::{
-    births_go_by_their_histories, calls_run_on_the_host, creations_alone_lack_room,
-    lines_are_calls, refused_lines_change_nothing,
-};
+use crate::laws::{creations_alone_lack_room, refused_lines_change_nothing};
 
 /// The headline. Over any list of commands, each living instance's output is its difference equation applied to its own granted
 /// controls and samples since its creation, whatever its scratch memory held, wherever its records were moved and whatever other
 /// instances did, even ones that break IALG's laws; only creation is refused for space, exactly where no place is free, and a refused
-/// command changes nothing.
+/// command changes no instance, channel or place. A feed that is refused as short uses up what is left of its input.
+///
+/// So it is of each instance that was ever created, as long as it lived, and up to each line: the first lines have the headline by
+/// themselves (`first`).
 ///
 /// And of two runs: instances of one kind and the same parameters that were given the same since their creation give and answer the
 /// same, whatever else differs. The call does nothing: its contract is the law.
 pub fn headline<M>()
     ensures run { (kinds : Meaning M) (named : List ℕ → Option M) (widths : Widths) (sizes : Sizes) (poison : Option ℤ) (lines inputs : List (List ℕ)) (answer : Answer (Channels M))
         → LinesAnswer (console_machine kinds named widths) (start sizes poison inputs) lines answer → Headline kinds named widths sizes poison lines inputs answer }
+    ensures first { (kinds : Meaning M) (named : List ℕ → Option M) (widths : Widths) (sizes : Sizes) (poison : Option ℤ) (first more inputs : List (List ℕ)) (answer : Answer (Channels M))
+        → LinesAnswer (console_machine kinds named widths) (start sizes poison inputs) (first ++ more) answer → GoesOn kinds named widths sizes poison first more inputs answer }
     ensures two { (kinds : Meaning M) (named : List ℕ → Option M) (widths other_widths : Widths) (sizes other_sizes : Sizes) (poison other_poison : Option ℤ)
         (lines inputs other_lines other_inputs : List (List ℕ)) (answer other : Answer (Channels M))
         (one : Headline kinds named widths sizes poison lines inputs answer) (two : Headline kinds named other_widths other_sizes other_poison other_lines other_inputs other)
@@ -35,9 +37,6 @@ pub fn headline<M>()
         → history_of_run i [] later ≡ history_of_run j [] since
         → (outputs_in i later ≡ outputs_in j since) × (statuses_in i later ≡ statuses_in j since) }
 {
-    calls_run_on_the_host::<M>();
-    births_go_by_their_histories::<M>();
-    lines_are_calls::<M>();
     creations_alone_lack_room::<M>();
     refused_lines_change_nothing::<M>();
     channel_machine::refused_calls_change_nothing::<M>();

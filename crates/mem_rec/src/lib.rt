@@ -1,3 +1,4 @@
+// SPDX-License-Identifier: Apache-2.0
 //! Records of memory, tables of them, and the layout of a table's scratch records.
 //!
 //! An algorithm describes the memory that it wants by records (SPRU360, `IALG_MemRec`): size, alignment, space and
@@ -14,6 +15,12 @@ mod layout;
 use arrayvec::ArrayVec;
 pub use layout::{Layout, scratch_layout};
 use std::marker::Model;
+
+/// Instances of a host have the numbers below this.
+pub const INSTANCES: usize = 64;
+
+/// Scratch groups of a host have the numbers below this.
+pub const GROUPS: u8 = 8;
 
 /// The most records of a table.
 pub const TABLE_RECORDS: usize = 4;
@@ -189,6 +196,3 @@ impl MemTab {
         MemTab { records }
     }
 }
-
-#[cfg(test)]
-mod tests;

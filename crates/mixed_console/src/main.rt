@@ -1,3 +1,4 @@
+// SPDX-License-Identifier: Apache-2.0
 //! A test program: the program of the console with the rogues among its kinds. The command line, the replies, the outputs and the exit
 //! status are the console's.
 #![tactic(auto)]

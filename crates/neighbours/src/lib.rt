@@ -1,3 +1,4 @@
+// SPDX-License-Identifier: Apache-2.0
 //! Two instances of one group, for tests: what one gives doesn't depend on the other. The tests also move an instance, idle and
 //! active.
 #![tactic(auto)]

@@ -1,3 +1,4 @@
+// SPDX-License-Identifier: Apache-2.0
 //! Ports: what octets come from and go to, and whole buffers through them.
 #![tactic(auto)]
 
@@ -5,8 +6,6 @@ mod device;
 mod octets;
 mod port;
 mod tape;
-#[cfg(test)]
-mod tests;
 
 pub use device::{Reading, Writing};
 pub use octets::{read_octets, write_octets};

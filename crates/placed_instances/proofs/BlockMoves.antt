@@ -25,7 +25,7 @@ use Rattle.space_blocks.specs.Blocks.{Owns, block_of, block_of_piece, block_rang
 use Rattle.space_blocks.specs.Moves.{next_block}
 use Rattle.host_spaces.specs.declared.spaces.Spaces.{Spaces}
 use Rattle.host_spaces.specs.Picture.{blocks_in, picture_of, space_in}
-use Rattle.instance_table.specs.declared.TheConstants.{GROUPS}
+use Rattle.mem_rec.specs.declared.TheConstants.{GROUPS}
 use Rattle.instance_table.specs.declared.member.Member.{Member}
 use Rattle.record_shelves.specs.declared.shelves.Shelf.{Shelf}
 use Rattle.instance_table.specs.Table.{slot_at, group_at, no_group, instance_of, own_of, activity_at, Activity, TablesOk, TablesTold, ArePoisoned}

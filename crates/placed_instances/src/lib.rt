@@ -1,3 +1,4 @@
+// SPDX-License-Identifier: Apache-2.0
 //! Instances in the three spaces of a host.
 //!
 //! The records of each instance, and the blocks of each group, stand where the memory picture shows them.

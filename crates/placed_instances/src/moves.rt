@@ -1,8 +1,7 @@
 //! Moves: the next block of a space is slid down to its packed place, and whoever has records in it is told.
 ghost use Rattle.std.specs.Prelude.{◌≡◌, ◌<◌, length, true, false, Some, None, IsSome, is_some};
 ghost use Rattle.record_loans.specs.Pieces.{piece_at};
-ghost use Rattle.record_shelves.specs.declared.TheConstants.{INSTANCES};
-ghost use Rattle.instance_table.specs.declared.TheConstants.{GROUPS};
+ghost use Rattle.mem_rec.specs.declared.TheConstants.{INSTANCES, GROUPS};
 ghost use Rattle.instance_table.specs.Table.{slot_at, own_of, TablesOk};
 ghost use Rattle.record_shelves.specs.Shelves.{once_at};
 ghost use Rattle.space_blocks.specs.declared.placed.Owner.{Owner};

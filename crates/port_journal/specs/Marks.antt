@@ -1,8 +1,9 @@
 -- Which samples a reply tells of.
-use Rattle.std.specs.Prelude.{◌≡◌, ◌<◌, ◌≤◌, ℕ, List, Option, length, take, All, Any, IsSomeAnd, slice_get}
+use Rattle.std.specs.Prelude.{◌≡◌, ◌≢◌, ◌⊎◌, ◌<◌, ◌≤◌, ◌++◌, ℕ, List, [], ◌∷◌, Option, length, take, All, Any, IsSomeAnd, slice_get, slice_index_or}
 use Rattle.std.specs.Io.KnownBytes.{Appends}
 use Rattle.port_journal.specs.declared.waiting.Waiting.{Waiting}
 use Rattle.port_journal.specs.declared.marks.Mark.{Mark}
+use Rattle.port_journal.specs.Passing.{HasNothing}
 
 -- the mark's output took the mark's samples when it was last passed on
 abbrev pub IsTaken : {W : Type 0} → List (Waiting W) → Mark → Type 0
@@ -20,3 +21,12 @@ pub record TellsTruth {W R : Type 0} (contents : R → Option (List ℕ)) (marks
 abbrev pub IsMarked : {W R : Type 0} → ℕ → List (Waiting W) → Waiting R → List Mark → Type 0
 IsMarked number outputs replies marks =
     Any (λ mark. (mark.output ≡ number) × (mark.before ≡ length replies.octets.items) × IsSomeAnd (slice_get outputs number) (λ output. mark.least ≡ length output.octets.items)) marks
+
+-- the marks stand, or no sample waits that one could be of
+abbrev pub KeepsMarks : {W : Type 0} → List Mark → List Mark → List (Waiting W) → Type 0
+KeepsMarks old new outputs = (new ≡ old) ⊎ ((new ≡ []) × All HasNothing outputs)
+
+-- the marks stand and one more behind them, or there is that one alone, and no sample waits but for its output
+abbrev pub MarksOneMore : {W : Type 0} → ℕ → List Mark → List Mark → List (Waiting W) → Type 0
+MarksOneMore {W} number old new outputs = (mark : Mark) × ((new ≡ old ++ mark ∷ [])
+    ⊎ ((new ≡ mark ∷ []) × ((k : ℕ) (d : Waiting W) → k < length outputs → k ≢ number → HasNothing (slice_index_or outputs k d))))

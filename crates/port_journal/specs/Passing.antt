@@ -1,5 +1,6 @@
 -- What is passed on to devices.
-use Rattle.std.specs.Prelude.{◌≡◌, ◌≢◌, ◌<◌, ◌≤◌, ℕ, List, [], ◌++◌, length, take, Option, slice_index_or}
+use Rattle.std.specs.Prelude.{◌≡◌, ◌≢◌, ◌<◌, ◌≤◌, ℕ, List, [], ◌∷◌, ◌++◌, length, take, Option, slice_index_or}
+use Rattle.octet_ports.specs.declared.TheConstants.{LINE_FEED}
 use Rattle.std.specs.Io.KnownBytes.{Appends, append_known}
 use Rattle.port_journal.specs.declared.waiting.TheConstants.{BUFFER_OCTETS}
 use Rattle.port_journal.specs.declared.waiting.Waiting.{Waiting}
@@ -8,6 +9,10 @@ use Rattle.port_journal.specs.declared.waiting.Waiting.{Waiting}
 pub record EachDoes {X : Type 0} (Does : X → X → Type 0) (olds news : List X) : Type 0 where
   pub count : length news ≡ length olds
   pub each : (k : ℕ) (d : X) → k < length olds → Does (slice_index_or olds k d) (slice_index_or news k d)
+
+-- the last octet ends a line
+abbrev pub EndsLine : List ℕ → Type 0
+EndsLine octets = (front : List ℕ) × (octets ≡ front ++ LINE_FEED ∷ [])
 
 module _ {W : Type 0} where
   -- the device was given the first octets of what waited, so many at most, and surely has the first of these

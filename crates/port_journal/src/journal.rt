@@ -1,8 +1,9 @@
 //! Outputs and replies that are passed on together.
-ghost use Rattle.std.specs.Prelude.{◌≡◌, ◌<◌, ◌≤◌, ◌+◌, [], true, false, length, take, All, IfOk, IsOk};
+ghost use Rattle.std.specs.Prelude.{◌≡◌, ◌<◌, ◌≤◌, ◌++◌, ◌∷◌, ◌⊎◌, [], true, false, length, take, All, IfOk, IsOk};
 ghost use Rattle.std.specs.Result.{is_err};
-ghost use Rattle.port_journal.specs.Passing.{EachDoes, Gets, GetsAt, HasNothing, HasRoom, HasRoomAt, LosesNothing, PassesOn, TakesAll, WaitsLast, WaitsLastAt};
-ghost use Rattle.port_journal.specs.Marks.{IsMarked, TellsTruth};
+ghost use Rattle.port_journal.specs.Passing.{EachDoes, EndsLine, Gets, GetsAt, HasNothing, HasRoom, HasRoomAt, LosesNothing, PassesOn, TakesAll, WaitsLast, WaitsLastAt};
+ghost use Rattle.port_journal.specs.Marks.{IsMarked, KeepsMarks, MarksOneMore, TellsTruth};
+ghost use Rattle.port_journal.specs.declared.waiting.Waiting.{Waiting};
 
 use crate::marks::{MARKS, Mark, true_octets};
 use crate::waiting::{Waiting, forget_outputs, pass_outputs};
@@ -49,13 +50,16 @@ impl<W: Write, R: Write> Journal<W, R> {
         }
     }
 
-    /// Has an output more, of the next number. Where memory is refused it lets go of the writer, and stays as it was.
+    /// Adds an output behind the others: its number is the count before. Where memory is refused it lets go of the writer, and stays as it
+    /// was.
     pub fn push_output(&mut self, writer: W) -> Result<(), AllocError>
     where
         W: Drop,
-        ensures one { IsOk result → length self.new.outputs.items ≡ length self.old.outputs.items + 1 }
+        ensures last { IsOk result → (added : Waiting W) × (self.new.outputs.items ≡ self.old.outputs.items ++ added ∷ [])
+            × (added.writer ≡ writer) × HasNothing added }
         ensures err { is_err result ≡ true → self.new.outputs.items ≡ self.old.outputs.items }
-        ensures stays { (self.new.replies ≡ self.old.replies) × (self.new.failed ≡ self.old.failed) }
+        ensures stays { (self.new.replies ≡ self.old.replies) × (self.new.marks ≡ self.old.marks)
+            × (self.new.passing ≡ self.old.passing) × (self.new.failed ≡ self.old.failed) }
     {
         self.outputs.push(Waiting::new(writer))?;
         Ok(())
@@ -108,6 +112,8 @@ impl<W: Write, R: Write> Journal<W, R> {
         requires ready { self.old.failed ≡ false }
         ensures room { IsOk result → HasRoomAt number self.new.outputs.items }
         ensures marks { IsOk result → length self.new.marks.items < MARKS }
+        ensures remembers { IsOk result → KeepsMarks self.old.marks.items self.new.marks.items self.new.outputs.items }
+        ensures passing { self.new.passing ≡ self.old.passing }
         ensures count { length self.new.outputs.items ≡ length self.old.outputs.items }
         ensures kept { IsOk result → EachDoes (LosesNothing W.contents) self.old.outputs.items self.new.outputs.items × LosesNothing R.contents self.old.replies self.new.replies }
         ensures failed { self.new.failed ≡ is_err result }
@@ -122,6 +128,7 @@ impl<W: Write, R: Write> Journal<W, R> {
     fn make_room_for_reply(&mut self) -> Result<(), PortFault>
         requires { self.old.failed ≡ false }
         ensures room { IsOk result → HasRoom self.new.replies }
+        ensures remembers { IsOk result → KeepsMarks self.old.marks.items self.new.marks.items self.new.outputs.items }
         ensures kept { IsOk result → EachDoes (LosesNothing W.contents) self.old.outputs.items self.new.outputs.items × LosesNothing R.contents self.old.replies self.new.replies }
         ensures passing { self.new.passing ≡ self.old.passing }
         ensures failed { self.new.failed ≡ is_err result }
@@ -142,6 +149,8 @@ impl<W: Write, R: Write> Journal<W, R> {
         ensures gets { IfOk result (λ n. GetsAt W.contents number (take n octets.now) self.old.outputs.items self.new.outputs.items) }
         ensures replies { IsOk result → LosesNothing R.contents self.old.replies self.new.replies }
         ensures marked { IsOk result → IsMarked number self.new.outputs.items self.new.replies self.new.marks.items }
+        ensures remembers { IsOk result → MarksOneMore number self.old.marks.items self.new.marks.items self.new.outputs.items }
+        ensures passing { self.new.passing ≡ self.old.passing }
         ensures failed { self.new.failed ≡ is_err result }
         ensures lasts { self.old.failed ≡ true → self.new.failed ≡ true }
     {
@@ -166,6 +175,9 @@ impl<W: Write, R: Write> Journal<W, R> {
         ensures gets { IfOk result (λ n. Gets R.contents (take n octets.now) self.old.replies self.new.replies) }
         ensures outputs { IsOk result → EachDoes (LosesNothing W.contents) self.old.outputs.items self.new.outputs.items }
         ensures waits { self.old.passing ≡ Passing.WhereFull → IfOk result (λ n. WaitsLast (take n octets.now) self.new.replies) }
+        ensures passed { self.old.passing ≡ Passing.EachLine → IfOk result (λ n. EndsLine (take n octets.now) → HasNothing self.new.replies) }
+        ensures remembers { IsOk result → KeepsMarks self.old.marks.items self.new.marks.items self.new.outputs.items }
+        ensures passing { self.new.passing ≡ self.old.passing }
         ensures failed { self.new.failed ≡ is_err result }
         ensures lasts { self.old.failed ≡ true → self.new.failed ≡ true }
     {

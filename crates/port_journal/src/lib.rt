@@ -1,11 +1,10 @@
+// SPDX-License-Identifier: Apache-2.0
 //! What waits for outputs and replies, and is passed on together: no reply before the samples that it tells of.
 #![tactic(auto)]
 
 mod handles;
 mod journal;
 mod marks;
-#[cfg(test)]
-mod tests;
 mod waiting;
 
 pub use handles::{JournalOutput, JournalReplies, pass_on_all};

@@ -1,3 +1,4 @@
+// SPDX-License-Identifier: Apache-2.0
 //! The ports of a command line, in pairs: pair n, from 0 on, is what channel n reads and what it writes.
 //!
 //! It stands below the command line, so that none of its edits loads `clap`.

@@ -1,3 +1,4 @@
+// SPDX-License-Identifier: Apache-2.0
 //! Cuts of records: the words of an instance's records, cut out of plain slices by a plan.
 //!
 //! A [`Plan`] says of each record of a table where its words lie. The slices are the words of the instance's pieces and of its group's

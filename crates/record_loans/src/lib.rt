@@ -1,3 +1,4 @@
+// SPDX-License-Identifier: Apache-2.0
 //! Loans of records: the words of an instance's records, cut out of pieces and blocks for one step.
 //!
 //! A [`Plan`](record_cuts::Plan) says of each record where its words lie. They are lent out of the pieces that the instance owns, out of pieces

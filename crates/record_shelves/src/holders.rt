@@ -1,13 +1,12 @@
 //! What becomes of the pieces that stand with an instance when it goes: they are handed on to the next holder.
 ghost use Rattle.std.specs.Prelude.{◌≡◌, ◌≢◌, ◌<◌, ℕ, length, Option, Some, None, if◌then◌else◌};
-ghost use Rattle.mem_rec.specs.declared.TheConstants.{TABLE_RECORDS};
-ghost use Rattle.record_shelves.specs.declared.TheConstants.{INSTANCES};
+ghost use Rattle.mem_rec.specs.declared.TheConstants.{TABLE_RECORDS, INSTANCES};
 ghost use Rattle.record_shelves.specs.Shelves.{stand_at, piece_here, no_shelf, shelf_at, once_at};
 ghost use Rattle.record_shelves.specs.Homes.{set_stand, AllHaveHomes, HoldsForOthers};
 ghost use Rattle.record_shelves.specs.Holders.{next_holder, pointed, piece_left, left_with, stand_without};
 
-use crate::INSTANCES;
 use crate::shelves::{Shelf, Stand, end_none, replace_stand};
+use mem_rec::INSTANCES;
 use record_loans::Pieces;
 use space_raw::Piece;
 

@@ -1,8 +1,7 @@
 //! How a new instance comes to share records: its pieces stand with its twins, or theirs with it.
 ghost use Rattle.std.specs.Prelude.{◌≡◌, ◌≢◌, ◌<◌, ℕ, length, Option, Some, None};
-ghost use Rattle.mem_rec.specs.declared.TheConstants.{TABLE_RECORDS};
+ghost use Rattle.mem_rec.specs.declared.TheConstants.{TABLE_RECORDS, INSTANCES};
 ghost use Rattle.record_loans.specs.Pieces.{piece_at};
-ghost use Rattle.record_shelves.specs.declared.TheConstants.{INSTANCES};
 ghost use Rattle.record_shelves.specs.declared.shelves.Stand.TheVariants.{Here};
 ghost use Rattle.record_shelves.specs.Shelves.{stand_at, no_shelf, shelf_at, once_at};
 ghost use Rattle.record_shelves.specs.Homes.{IsPieceHere, AllHaveHomes};

@@ -1,3 +1,4 @@
+// SPDX-License-Identifier: Apache-2.0
 //! Where the pieces of write-once records stand: instances whose records are equal share one piece.
 //!
 //! Each instance number has a shelf, with a stand for each record of its table. A piece stands with the least of the instances that hold it,
@@ -13,6 +14,3 @@ pub use holders::{hand_on, next_holder};
 pub use joining::{Twins, join};
 pub use shelves::{Shelf, Stand, end_absent, home, put_seen, sees, take_seen};
 pub use tables::{empty_once, end_once};
-
-/// Instances have the numbers below this.
-pub const INSTANCES: usize = 64;

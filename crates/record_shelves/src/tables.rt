@@ -1,10 +1,10 @@
 //! Shelves without pieces: how they are made and ended.
 ghost use Rattle.std.specs.Prelude.{◌≡◌, ℕ, length, IfOk};
-ghost use Rattle.record_shelves.specs.declared.TheConstants.{INSTANCES};
+ghost use Rattle.mem_rec.specs.declared.TheConstants.{INSTANCES};
 ghost use Rattle.record_shelves.specs.Shelves.{no_shelf, shelf_at, once_at, no_pieces, IsUnshared};
 
-use crate::INSTANCES;
 use crate::shelves::{Shelf, end_absent};
+use mem_rec::INSTANCES;
 use record_loans::Pieces;
 use std::alloc::{AllocError, Allocator};
 

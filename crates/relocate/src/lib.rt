@@ -1,3 +1,4 @@
+// SPDX-License-Identifier: Apache-2.0
 //! Where the blocks of a space go when they are moved together.
 //!
 //! A block's packed place is the least multiple of its alignment not below the end of the block before it, once that one
@@ -8,8 +9,6 @@
 mod laws;
 mod packing;
 mod rows;
-#[cfg(test)]
-mod tests;
 
 pub use laws::{compactions, lowering_moves, moves_go_down};
 pub use packing::{Move, Spot, Standing, next_move};

@@ -1,3 +1,4 @@
+// SPDX-License-Identifier: Apache-2.0
 //! For tests: the hosted kinds, and four that keep no law, as one type whose values have names.
 //!
 //! The four are the rogues: one writes over all that it may, one reads what others left in its scratch words, one goes by forged

@@ -2,5 +2,4 @@ pub mod Ends
 pub mod Cutting
 pub mod Tables
 pub mod Fills
-pub mod TrialLemmas
 pub mod Filters

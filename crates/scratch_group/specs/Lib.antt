@@ -1,4 +1,3 @@
 pub mod Blocks
 pub mod Words
 pub mod Plans
-pub mod Trials

@@ -1,3 +1,4 @@
+// SPDX-License-Identifier: Apache-2.0
 //! The shared scratch memory of a group of instances: a block in each space, the active member, and how often a member was
 //! activated.
 //!
@@ -9,8 +10,6 @@ mod bases;
 mod group;
 mod lasting;
 mod plan;
-#[cfg(test)]
-mod tests;
 
 pub use bases::{lends_at_the_layout, placed};
 pub use group::{Group, Need, Stat};

@@ -1,3 +1,4 @@
+// SPDX-License-Identifier: Apache-2.0
 //! A kind for tests of hosts: one of the hosted kinds, or one that keeps no law and writes over all that it may.
 #![tactic(auto)]
 

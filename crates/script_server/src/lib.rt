@@ -1,3 +1,4 @@
+// SPDX-License-Identifier: Apache-2.0
 //! Serves the lines of a script over ports, for any machine that answers lines.
 #![tactic(auto)]
 

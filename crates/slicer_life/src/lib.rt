@@ -1,3 +1,4 @@
+// SPDX-License-Identifier: Apache-2.0
 //! The life of an instance with a write-once record and with scratch records of two alignments in two spaces, for tests: what it
 //! gives and answers follows from the contracts of a life alone.
 #![tactic(auto)]

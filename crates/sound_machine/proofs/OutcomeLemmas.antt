@@ -9,7 +9,7 @@ use Rattle.ialg.specs.declared.refusal.Refusal.TheVariants.{Range, Taken, Missin
 use Rattle.ialg.specs.Refusals.{first_refusal}
 use Rattle.ialg.specs.History.{Ctl, Control, with_samples}
 use Rattle.ialg.specs.Meaning.{Meaning, Status}
-use Rattle.space_blocks.specs.declared.TheConstants.{INSTANCES, GROUPS}
+use Rattle.mem_rec.specs.declared.TheConstants.{INSTANCES, GROUPS}
 use Rattle.host_spaces.specs.Picture.{Picture}
 use Rattle.host_spaces.specs.Creation.{created_picture}
 use Rattle.instance_table.specs.Table.{rested, with_activity}

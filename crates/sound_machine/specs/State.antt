@@ -2,7 +2,7 @@
 use Rattle.std.specs.Prelude.{ℕ, ℤ, Bool, false, List, Option, Some, None, option_map, nat_lt, nat_eq, if◌then◌else◌}
 use Rattle.std.specs.List.{list_any}
 use Rattle.space_heap.specs.Places.{numbers_below}
-use Rattle.space_blocks.specs.declared.TheConstants.{INSTANCES, GROUPS}
+use Rattle.mem_rec.specs.declared.TheConstants.{INSTANCES, GROUPS}
 use Rattle.mem_rec.specs.declared.MemRec.{MemRec}
 use Rattle.ialg.specs.History.{History}
 use Rattle.ialg.specs.Meaning.{Meaning}

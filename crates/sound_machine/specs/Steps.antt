@@ -10,7 +10,7 @@ use Rattle.ialg.specs.Meaning.{Meaning, Status}
 use Rattle.ialg.specs.Records.{unplaced}
 use Rattle.space_heap.specs.Places.{numbers_below}
 use Rattle.relocate.specs.Packing.{unpacked_count, unpacked_words}
-use Rattle.space_blocks.specs.declared.TheConstants.{INSTANCES}
+use Rattle.mem_rec.specs.declared.TheConstants.{INSTANCES}
 use Rattle.space_blocks.specs.declared.placed.Placed.{Placed}
 use Rattle.space_blocks.specs.Moves.{next_block, spots_of}
 use Rattle.host_spaces.specs.Picture.{Picture, blocks_in, moved_in, packed_in}

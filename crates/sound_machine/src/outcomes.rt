@@ -5,7 +5,7 @@ ghost use Rattle.mem_rec.specs.declared.Space.{Space};
 ghost use Rattle.ialg.specs.declared.refusal.Refusal.TheVariants.{Range, Taken, Missing, Params, Room, Command};
 ghost use Rattle.ialg.specs.History.{Ctl, Control, with_samples};
 ghost use Rattle.ialg.specs.Meaning.{Meaning, Status};
-ghost use Rattle.space_blocks.specs.declared.TheConstants.{INSTANCES, GROUPS};
+ghost use Rattle.mem_rec.specs.declared.TheConstants.{INSTANCES, GROUPS};
 ghost use Rattle.host_spaces.specs.Picture.{Picture};
 ghost use Rattle.host_spaces.specs.Creation.{created_picture};
 ghost use Rattle.instance_table.specs.Table.{rested, with_activity};

@@ -4,12 +4,12 @@ use Rattle.std.specs.List.{AllByRecursion, IsDistinct, list_any}
 use Rattle.std.proofs.lemmas.Bool.{cases_lt, eqb-true}
 use Rattle.std.proofs.lemmas.List.{length-map}
 use Rattle.std.proofs.lemmas.Map.Steps.{length-le_from_distinct_below}
-use Rattle.mem_rec.specs.declared.TheConstants.{TABLE_RECORDS}
+use Rattle.mem_rec.specs.declared.TheConstants.{TABLE_RECORDS, INSTANCES}
 use Rattle.space_raw.specs.Span.{Apart, Span}
 use Rattle.space_heap.specs.Places.{Range, end_of, meets}
 use Rattle.space_heap.specs.Pictures.{AreBlocks, range_of}
 use Rattle.space_heap.proofs.RangeTests.{both_false, clash, meet_if, meet_sym, true_or_false}
-use Rattle.space_blocks.specs.declared.TheConstants.{INSTANCES, MAP_BLOCKS}
+use Rattle.space_blocks.specs.declared.TheConstants.{MAP_BLOCKS}
 use Rattle.space_blocks.specs.declared.placed.Owner.{Owner}
 use Rattle.space_blocks.specs.declared.placed.Owner.TheVariants.{Record, Scratch}
 use Rattle.space_blocks.specs.declared.placed.Placed.{Placed}

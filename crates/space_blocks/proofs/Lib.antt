@@ -1,3 +1,4 @@
+pub mod Placing
 pub mod Orders
 pub mod Owners
 pub mod Inserts

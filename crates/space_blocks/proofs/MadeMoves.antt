@@ -9,7 +9,8 @@ use Rattle.relocate.specs.declared.packing.Move.{Move}
 use Rattle.space_blocks.specs.declared.placed.Owner.{Owner}
 use Rattle.space_blocks.specs.declared.placed.Owner.TheVariants.{Record}
 use Rattle.space_blocks.specs.declared.placed.Placed.{Placed}
-use Rattle.space_blocks.specs.Blocks.{Owns, block_of, block_range, owned, ranges, with_place}
+use Rattle.space_blocks.specs.Blocks.{Owns, block_of, block_range, owned, ranges}
+use Rattle.space_blocks.proofs.Placing.{with_place}
 use Rattle.space_blocks.specs.Moves.{moved, moved_by, moved_to, next_in}
 use Rattle.space_blocks.specs.Spaces.{AreKept}
 use Rattle.space_blocks.proofs.Keeping.{its_block, kept_sorted, split_held}

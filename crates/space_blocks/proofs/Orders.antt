@@ -4,7 +4,8 @@ use Rattle.std.proofs.lemmas.Bool.{cases_lt, eq-eqb, eqb-true}
 use Rattle.std.proofs.lemmas.Bool.Decides.{nat_tests}
 use Rattle.space_heap.proofs.RangeTests.{true_or_false, when_not}
 use Rattle.space_blocks.specs.declared.placed.Placed.{Placed}
-use Rattle.space_blocks.specs.Blocks.{block_from, with_block, with_place, without_at}
+use Rattle.space_blocks.specs.Blocks.{with_block, without_at}
+use Rattle.space_blocks.proofs.Placing.{block_from, with_place}
 use Rattle.space_blocks.specs.Moves.{moved_to}
 
 low : (m n : ℕ) → m < n → nat_lt m n ≡ true

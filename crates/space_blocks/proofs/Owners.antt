@@ -6,7 +6,8 @@ use Rattle.space_raw.specs.Span.{Span}
 use Rattle.space_blocks.specs.declared.placed.Owner.{Owner}
 use Rattle.space_blocks.specs.declared.placed.Owner.TheVariants.{Record, Scratch}
 use Rattle.space_blocks.specs.declared.placed.Placed.{Placed}
-use Rattle.space_blocks.specs.Blocks.{Owns, block_from, block_of, disowned, owned, same_owner, with_block, with_place}
+use Rattle.space_blocks.specs.Blocks.{Owns, block_of, disowned, owned, same_owner, with_block}
+use Rattle.space_blocks.proofs.Placing.{block_from, with_place}
 use Rattle.space_blocks.specs.Moves.{moved_to}
 use Rattle.space_blocks.proofs.Orders.{AreSortedFrom, dropped, filter_in, filter_out, filter_removed, kept, same_index}
 

@@ -1,10 +1,9 @@
 -- The blocks of one space, with their owners.
 use Rattle.std.specs.Prelude.{ℕ, ◌≤◌, ◌<◌, ◌&&◌, ◌==◌, Bool, false, not, List, [], ◌∷◌, map, filter, length, Option, Some, None, nat_lt, if◌then◌else◌}
 use Rattle.std.specs.List.{Contains}
-use Rattle.mem_rec.specs.declared.TheConstants.{TABLE_RECORDS}
+use Rattle.mem_rec.specs.declared.TheConstants.{TABLE_RECORDS, GROUPS, INSTANCES}
 use Rattle.space_raw.specs.Span.{Span}
 use Rattle.space_heap.specs.Places.{Range}
-use Rattle.space_blocks.specs.declared.TheConstants.{GROUPS, INSTANCES}
 use Rattle.space_blocks.specs.declared.placed.Owner.{Owner}
 use Rattle.space_blocks.specs.declared.placed.Owner.TheVariants.{Record, Scratch}
 use Rattle.space_blocks.specs.declared.placed.Placed.{Placed}
@@ -52,13 +51,6 @@ without_at place blocks = filter (λ b. not (b.place == place)) blocks
 abbrev pub without_piece : Option Span → List Placed → List Placed
 without_piece None blocks = blocks
 without_piece (Some p) blocks = without_at p.place blocks
-
--- a block that begins at one place begins at another from now on
-abbrev pub block_from : ℕ → ℕ → Placed → Placed
-block_from from to b = if b.place == from then record b { place = to } else b
-
-abbrev pub with_place : ℕ → ℕ → List Placed → List Placed
-with_place from to blocks = map (block_from from to) blocks
 
 -- the owner `to` for the owner `from`
 abbrev pub renaming : Owner → Owner → Owner → Owner

@@ -1,9 +1,9 @@
 //! What follows for the blocks of a space.
 ghost use Rattle.std.specs.Prelude.{◌≡◌, ◌≢◌, ◌+◌, ◌≤◌, ◌<◌, ℕ, [], List, length};
-ghost use Rattle.mem_rec.specs.declared.TheConstants.{TABLE_RECORDS};
+ghost use Rattle.mem_rec.specs.declared.TheConstants.{TABLE_RECORDS, INSTANCES};
 ghost use Rattle.space_raw.specs.Span.{Apart, Span};
 ghost use Rattle.space_heap.specs.Pictures.{AreBlocks};
-ghost use Rattle.space_blocks.specs.declared.TheConstants.{INSTANCES, MAP_BLOCKS};
+ghost use Rattle.space_blocks.specs.declared.TheConstants.{MAP_BLOCKS};
 ghost use Rattle.space_blocks.specs.declared.placed.Owner.{Owner};
 ghost use Rattle.space_blocks.specs.declared.placed.Owner.TheVariants.{Record};
 ghost use Rattle.space_blocks.specs.declared.placed.Placed.{Placed};

@@ -1,3 +1,4 @@
+// SPDX-License-Identifier: Apache-2.0
 //! The blocks of one space of 16-bit words: a heap, and which block of it is whose.
 //!
 //! The blocks stand in place order, each with its owner: a record of an instance, or a group's scratch. A block is placed at its least
@@ -7,19 +8,11 @@
 mod blocks;
 mod laws;
 mod placed;
-#[cfg(test)]
-mod tests;
 
 pub use blocks::{Map, SpaceBlocks};
 pub use laws::{blocks_are_apart, blocks_are_few, moves_pack};
-use mem_rec::TABLE_RECORDS;
+use mem_rec::{GROUPS, INSTANCES, TABLE_RECORDS};
 pub use placed::{Owner, Placed};
-
-/// Instances have the numbers below this.
-pub const INSTANCES: usize = 64;
-
-/// Groups have the numbers below this.
-pub const GROUPS: u8 = 8;
 
 /// The most blocks of a space where no owner has two: a record is one block at most, and a group has one in each space.
 pub const MAP_BLOCKS: usize = INSTANCES * TABLE_RECORDS + GROUPS as usize;

@@ -1,3 +1,4 @@
+// SPDX-License-Identifier: Apache-2.0
 //! One space's raw words, as pieces that are owned. `docs/RAW_MEMORY.md` says how pointers, owners and safe types fit together.
 #![tactic(auto)]
 
@@ -7,8 +8,6 @@ mod piece;
 mod places;
 mod region;
 mod rest;
-#[cfg(test)]
-mod tests;
 mod words;
 
 pub use piece::Piece;

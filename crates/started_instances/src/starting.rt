@@ -1,12 +1,10 @@
 //! A new instance starts.
 ghost use Rattle.std.specs.Prelude.{◌≡◌, ◌≢◌, ◌+◌, ◌<◌, ℕ, ℤ, [], length, Option, Some, None, IsTrue, IfOk, OnOk, OnErr};
 ghost use Rattle.mem_rec.specs.declared.Space.{Space};
-ghost use Rattle.mem_rec.specs.declared.TheConstants.{TABLE_RECORDS};
+ghost use Rattle.mem_rec.specs.declared.TheConstants.{TABLE_RECORDS, INSTANCES, GROUPS};
 ghost use Rattle.ialg.specs.History.{History};
 ghost use Rattle.ialg.specs.Records.{unplaced, AreNew};
 ghost use Rattle.scratch_group.specs.Words.{idle_words};
-ghost use Rattle.record_shelves.specs.declared.TheConstants.{INSTANCES};
-ghost use Rattle.instance_table.specs.declared.TheConstants.{GROUPS};
 ghost use Rattle.instance_table.specs.Table.{slot_at, group_at, activity_at, TablesOk, ArePoisoned};
 ghost use Rattle.instance_life.specs.Twins.{asked, asked_by, twin_of, AreTwins};
 ghost use Rattle.record_shelves.specs.Joining.{twin_at};

@@ -16,7 +16,7 @@ use Rattle.lifecycle.specs.declared.instance.Inst.TheVariants.{Idling, Running}
 use Rattle.lifecycle.specs.Moves.{restored, HasRoom}
 use Rattle.record_loans.proofs.PieceLemmas.{same_pieces}
 use Rattle.lifecycle.proofs.Frames.{same_group}
-use Rattle.instance_table.specs.declared.TheConstants.{GROUPS}
+use Rattle.mem_rec.specs.declared.TheConstants.{GROUPS}
 use Rattle.instance_table.specs.declared.member.Member.{Member}
 use Rattle.record_shelves.specs.declared.shelves.Stand.{Stand}
 use Rattle.record_shelves.specs.declared.shelves.Shelf.{Shelf}

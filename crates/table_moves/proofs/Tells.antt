@@ -15,8 +15,7 @@ use Rattle.lifecycle.specs.declared.instance.Inst.{Inst}
 use Rattle.lifecycle.specs.Moves.{restored}
 use Rattle.lifecycle.specs.States.{Relation, SameOnce}
 use Rattle.lifecycle.proofs.Frames.{same_group}
-use Rattle.record_shelves.specs.declared.TheConstants.{INSTANCES}
-use Rattle.instance_table.specs.declared.TheConstants.{GROUPS}
+use Rattle.mem_rec.specs.declared.TheConstants.{INSTANCES, GROUPS}
 use Rattle.instance_table.specs.declared.member.Member.{Member}
 use Rattle.record_shelves.specs.declared.shelves.Shelf.{Shelf}
 use Rattle.record_shelves.specs.Homes.{with_seen}

@@ -1,7 +1,7 @@
 //! What moves leave as it is. The calls do nothing: their contracts are the laws.
 ghost use Rattle.std.specs.Prelude.{◌≡◌, ◌≢◌, ◌⊎◌, ◌<◌, ℕ, ℤ, true, List, length, Option, Some, nat_eq, if◌then◌else◌};
 ghost use Rattle.space_raw.specs.Span.{Span};
-ghost use Rattle.mem_rec.specs.declared.TheConstants.{TABLE_RECORDS};
+ghost use Rattle.mem_rec.specs.declared.TheConstants.{TABLE_RECORDS, GROUPS};
 ghost use Rattle.mem_rec.specs.declared.Space.{Space};
 ghost use Rattle.ialg.specs.History.{History};
 ghost use Rattle.ialg.specs.Records.{ArePoison};
@@ -11,7 +11,6 @@ ghost use Rattle.record_loans.specs.Blocks.{block_words};
 ghost use Rattle.scratch_group.specs.declared.group.Group.{Group};
 ghost use Rattle.scratch_group.specs.Blocks.{block_in};
 ghost use Rattle.lifecycle.specs.Moves.{HasRoom};
-ghost use Rattle.instance_table.specs.declared.TheConstants.{GROUPS};
 ghost use Rattle.instance_table.specs.declared.member.Member.{Member};
 ghost use Rattle.record_shelves.specs.declared.shelves.Shelf.{Shelf};
 ghost use Rattle.record_shelves.specs.declared.shelves.Stand.TheVariants.{Here};

@@ -1,3 +1,4 @@
+// SPDX-License-Identifier: Apache-2.0
 //! Records and blocks of a host's instances that lie elsewhere from now on.
 //!
 //! A move takes a piece out, moves it, and puts it back; then every instance that has records in it is told, an active one too, which

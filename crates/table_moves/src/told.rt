@@ -1,9 +1,8 @@
 //! Instances are told where their records lie.
 ghost use Rattle.std.specs.Prelude.{◌≡◌, ◌+◌, ◌<◌, ℕ, ℤ, Bool, Option, Some, IsSome};
-ghost use Rattle.mem_rec.specs.declared.TheConstants.{TABLE_RECORDS};
+ghost use Rattle.mem_rec.specs.declared.TheConstants.{TABLE_RECORDS, INSTANCES};
 ghost use Rattle.ialg.specs.History.{History};
 ghost use Rattle.lifecycle.specs.Moves.{restored, CanRestore, with_back, HasRoom};
-ghost use Rattle.record_shelves.specs.declared.TheConstants.{INSTANCES};
 ghost use Rattle.instance_table.specs.declared.member.Member.{Member};
 ghost use Rattle.instance_table.specs.Table.{slot_at, group_at, own_of, instance_of, activity_at, TablesOk, ArePoisoned};
 ghost use Rattle.record_shelves.specs.Shelves.{once_at};
@@ -14,7 +13,8 @@ ghost use Rattle.table_moves.specs.Moves.{own_set, all_but, all_from, holds_with
 use ialg::Ialg;
 use instance_table::Tables;
 use lifecycle::Inst;
-use record_shelves::{INSTANCES, home, put_seen, take_seen};
+use mem_rec::INSTANCES;
+use record_shelves::{home, put_seen, take_seen};
 use space_raw::Piece;
 
 /// Tells an instance where its records lie now, with the own piece that was taken out, if one was. It stays in its state.

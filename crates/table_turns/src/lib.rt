@@ -1,3 +1,4 @@
+// SPDX-License-Identifier: Apache-2.0
 //! Members of groups by turns, for tests: what an instance gives doesn't depend on another, in the same group or in another one.
 #![tactic(auto)]
 

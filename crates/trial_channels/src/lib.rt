@@ -1,3 +1,4 @@
+// SPDX-License-Identifier: Apache-2.0
 //! For tests: channels over hosts in which a kind that keeps no law stands beside the hosted kinds; and callers of the laws of cuts and
 //! of two runs.
 #![tactic(auto)]

@@ -1,3 +1,4 @@
+// SPDX-License-Identifier: Apache-2.0
 //! For tests: hosts in which a kind that keeps no law stands beside the hosted kinds.
 #![tactic(auto)]
 

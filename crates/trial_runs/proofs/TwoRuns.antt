@@ -9,11 +9,11 @@ use Rattle.sound_machine.specs.Calls.{refusal_in}
 use Rattle.machine_runs.specs.Births.{answer_of}
 
 -- of runs that both end well
-pub both : {A B E F H K C : Type 0} (r : Result A E) (s : Result B F) → IfOk r (λ _. H) → IfOk s (λ _. K) → (H → K → C)
-    → IfOk r (λ _. IfOk s (λ _. C))
-both (Ok a) (Ok b) one two joint = joint one two
-both (Ok a) (Err e) one two joint = tt
-both (Err e) s one two joint = tt
+pub both : {A B E F : Type 0} (H : A → Type 0) (K : B → Type 0) (C : A → B → Type 0) (r : Result A E) (s : Result B F) → IfOk r H → IfOk s K
+    → ((a : A) (b : B) → H a → K b → C a b) → IfOk r (λ a. IfOk s (λ b. C a b))
+both H K C (Ok a) (Ok b) one two joint = joint a b one two
+both H K C (Ok a) (Err e) one two joint = tt
+both H K C (Err e) s one two joint = tt
 
 -- what is taken is refused to nobody, and what isn't to everyone
 refused_by : (is_taken : Bool) (one other : Status) → refusal_in (if is_taken then Ok one else Err Command) ≡ refusal_in (if is_taken then Ok other else Err Command)

@@ -9,7 +9,6 @@ use Rattle.host_spaces.specs.Picture.{AreSizes}
 use Rattle.sound_machine.specs.Calls.{Call, refusal_in}
 use Rattle.sound_machine.specs.Calls.Call.{Control}
 use Rattle.sound_machine.specs.Runs.{history_of_run, outputs_in, statuses_in}
-use Rattle.voice_script.specs.Script.{lines_of}
 use Rattle.script_server.specs.declared.limits.TheConstants.{SCRIPT_OCTETS}
 use Rattle.script_server.specs.Runs.{AreReady, Devices, EndsByRead, EndsByWrite, EndsWell, IsHonest, IsReadyIn, octets_to_come}
 use Rattle.voice_channel.specs.declared.TheConstants.{CHANNELS}
@@ -45,9 +44,10 @@ pub record RunEnds {M : Type 0} (kinds : Meaning M) (named : List ℕ → Option
 
 -- of each run the headline holds; and of a lawful instance of the one and one of the other, of one kind and with the same parameters:
 pub record RunsAgree {M : Type 0} (kinds : Meaning M) (named : List ℕ → Option M)
-    (widths : Widths) (sizes : Sizes) (poison : Option ℤ) (old new : Devices) (other_widths : Widths) (other_sizes : Sizes) (other_poison : Option ℤ) (other_old other_new : Devices) : Type 0 where
-  pub one : RunHeadline kinds named widths (lines_of old.script.coming) sizes poison old new
-  pub two : RunHeadline kinds named other_widths (lines_of other_old.script.coming) other_sizes other_poison other_old other_new
+    (widths : Widths) (sizes : Sizes) (poison : Option ℤ) (refused : ℕ) (old new : Devices)
+    (other_widths : Widths) (other_sizes : Sizes) (other_poison : Option ℤ) (other_refused : ℕ) (other_old other_new : Devices) : Type 0 where
+  pub one : RunHeadline kinds named widths sizes poison refused old new
+  pub two : RunHeadline kinds named other_widths other_sizes other_poison other_refused other_old other_new
   -- they gave and answered the same, if they were given the same since their creation;
   pub agree : (i j g h : ℕ) (kind : M) (p : List ℤ) (later since : List (Call M))
       → IsTrue (kinds.lawful kind p poison) → Born i kind g p one.says.asked later

@@ -1,3 +1,4 @@
+// SPDX-License-Identifier: Apache-2.0
 //! For tests: whole runs in which each call of each device fails in turn, lines at the edges of the grammar, and a caller of the headline
 //! of two runs.
 #![tactic(auto)]

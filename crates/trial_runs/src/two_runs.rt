@@ -40,11 +40,11 @@ pub fn run_both<M: Ialg + Named, S: PortIn, I: PortIn, O: PortOut, P: PortOut>(
         (known_of S.source I.source O.sink P.sink other_ports.new.script other_ports.new.inputs.items other_ports.new.outputs.items other_ports.new.replies) result.1 }
     ensures agree { IsReadHonestly (known_of S.source I.source O.sink P.sink ports.old.script ports.old.inputs.items ports.old.outputs.items ports.old.replies)
         → IsReadHonestly (known_of S.source I.source O.sink P.sink other_ports.old.script other_ports.old.inputs.items other_ports.old.outputs.items other_ports.old.replies)
-        → IfOk result.0 (λ _. IfOk result.1 (λ _. RunsAgree M.meaning M.named
-        (widths_of config.in8 config.out8) config.sizes config.poison
+        → IfOk result.0 (λ summary. IfOk result.1 (λ other_summary. RunsAgree M.meaning M.named
+        (widths_of config.in8 config.out8) config.sizes config.poison summary.refused
         (known_of S.source I.source O.sink P.sink ports.old.script ports.old.inputs.items ports.old.outputs.items ports.old.replies)
         (known_of S.source I.source O.sink P.sink ports.new.script ports.new.inputs.items ports.new.outputs.items ports.new.replies)
-        (widths_of other_config.in8 other_config.out8) other_config.sizes other_config.poison
+        (widths_of other_config.in8 other_config.out8) other_config.sizes other_config.poison other_summary.refused
         (known_of S.source I.source O.sink P.sink other_ports.old.script other_ports.old.inputs.items other_ports.old.outputs.items other_ports.old.replies)
         (known_of S.source I.source O.sink P.sink other_ports.new.script other_ports.new.inputs.items other_ports.new.outputs.items other_ports.new.replies))) }
 {

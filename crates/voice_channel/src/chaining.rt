@@ -11,7 +11,7 @@ use crate::lists::{are_numbers, is_in_one, kept, names_twice};
 use crate::{Channels, MEMBERS, Members};
 use channel_machine::members_live_in_one_channel;
 use ialg::{Ialg, Refusal};
-use record_shelves::INSTANCES;
+use mem_rec::INSTANCES;
 
 impl<M: Ialg> Channels<M> {
     // Whether an instance is a member of a channel.

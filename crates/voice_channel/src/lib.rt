@@ -1,3 +1,4 @@
+// SPDX-License-Identifier: Apache-2.0
 //! Channels over a host: lists of instances, through which blocks of samples pass in order.
 //!
 //! For each call there is one sentence: whatever state of the machine the channels kept, the call is answered as the machine answers it

@@ -5,7 +5,7 @@ ghost use Rattle.sound_machine.specs.State.{is_instance_number};
 ghost use Rattle.channel_machine.specs.Channels.{has_number, has_repeat as repeats};
 
 use crate::{MEMBERS, Members};
-use record_shelves::INSTANCES;
+use mem_rec::INSTANCES;
 
 /// Whether the list names the instance.
 pub(crate) fn is_named(members: &[u8], i: u8) -> bool

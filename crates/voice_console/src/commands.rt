@@ -2,10 +2,12 @@
 ghost use Rattle.std.specs.Prelude.{◌≡◌};
 ghost use Rattle.voice_script.specs.ReplyViews.{reply_of};
 ghost use Rattle.voice_script.specs.Script as script;
+ghost use Rattle.sound_machine.specs.Calls.Call.{Control};
+ghost use Rattle.channel_machine.specs.Calls.Call.{OfHost};
 ghost use Rattle.line_machine.specs.Asks.{asked_of, AskIsReady};
 ghost use Rattle.line_machine.specs.Served.{tells};
 ghost use Rattle.ialg.specs.Views.{control_of};
-ghost use Rattle.console_machine.specs.Console.{ControlAsks, CommandAsks};
+ghost use Rattle.console_machine.specs.Console.{Calls, CommandAsks, status_reply, told_by};
 ghost use Rattle.voice_console.specs.Consoles.{channels_of, port_widths_of, TakesFeeds, Serves};
 
 use crate::Console;
@@ -29,7 +31,7 @@ impl<M: Ialg> Console<M> {
     pub(crate) fn control<'a>(&mut self, i: u8, control: &Ctl, room: &'a mut Words) -> Reply<'a>
         ensures channels { channels_of self.new ≡ channels_of self.old }
         ensures widths { self.new.widths ≡ self.old.widths }
-        ensures asks { Serves M.meaning M.idle_keeps M.active_keeps (ControlAsks M.meaning i (control_of control.now)) (tells (reply_of result)) self.old self.new }
+        ensures asks { Serves M.meaning M.idle_keeps M.active_keeps (Calls M.meaning (λ a. OfHost (Control i (control_of control.now) a)) (λ a. tells (told_by status_reply a))) (tells (reply_of result)) self.old self.new }
     {
         tell_status(self.channels.control(i, control), room)
     }

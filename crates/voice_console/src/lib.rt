@@ -1,3 +1,4 @@
+// SPDX-License-Identifier: Apache-2.0
 //! A console over channels of instances: it does what the lines of a script ask, and takes the samples of feeds.
 #![tactic(auto)]
 

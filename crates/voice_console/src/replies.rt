@@ -1,16 +1,17 @@
 //! What is told of answers.
 ghost use Rattle.std.specs.Prelude.{◌≡◌};
+ghost use Rattle.voice_script.specs.Replies as replies;
 ghost use Rattle.voice_script.specs.ReplyViews.{reply_of};
 ghost use Rattle.kept_machine.specs.Kept.{told};
 ghost use Rattle.voice_channel.specs.Hosts.{stat_told};
-ghost use Rattle.console_machine.specs.Console.{done, status_told, flag_told, activity_told};
+ghost use Rattle.console_machine.specs.Console.{status_reply, told_by};
 
 use ialg::{Refusal, Status, Words};
 use voice_channel::Stat;
 use voice_script::Reply;
 
 pub(crate) fn tell_done<'a>(answer: Result<(), Refusal>) -> Reply<'a>
-    ensures { reply_of result ≡ done answer }
+    ensures { reply_of result ≡ told_by (λ _. replies.Done) answer }
 {
     match answer {
         Ok(()) => Reply::Done,
@@ -19,7 +20,7 @@ pub(crate) fn tell_done<'a>(answer: Result<(), Refusal>) -> Reply<'a>
 }
 
 pub(crate) fn tell_status<'a>(answer: Result<Status, Refusal>, room: &'a mut Words) -> Reply<'a>
-    ensures { reply_of result ≡ status_told (told answer) }
+    ensures { reply_of result ≡ told_by status_reply (told answer) }
 {
     match answer {
         Ok(Status::Done) => Reply::Done,
@@ -32,7 +33,7 @@ pub(crate) fn tell_status<'a>(answer: Result<Status, Refusal>, room: &'a mut Wor
 }
 
 pub(crate) fn tell_flag<'a>(answer: Result<bool, Refusal>) -> Reply<'a>
-    ensures { reply_of result ≡ flag_told answer }
+    ensures { reply_of result ≡ told_by replies.Flag answer }
 {
     match answer {
         Ok(flag) => Reply::Flag(flag),
@@ -41,7 +42,7 @@ pub(crate) fn tell_flag<'a>(answer: Result<bool, Refusal>) -> Reply<'a>
 }
 
 pub(crate) fn tell_stat<'a>(answer: Result<Stat, Refusal>) -> Reply<'a>
-    ensures { reply_of result ≡ activity_told (stat_told answer) }
+    ensures { reply_of result ≡ told_by (λ s. replies.Stat s.active s.count) (stat_told answer) }
 {
     match answer {
         Ok(stat) => Reply::Stat(stat),

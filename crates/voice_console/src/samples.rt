@@ -1,8 +1,9 @@
 //! Samples as octets.
 ghost use Rattle.std.specs.Prelude.{◌≡◌, ◌*◌, length};
 ghost use Rattle.line_machine.specs.declared.limits.TheConstants.{WORD_OCTETS};
+ghost use Rattle.line_machine.specs.declared.width.Width.TheVariants.{Octet};
 ghost use Rattle.line_machine.specs.Widths.{octet_count};
-ghost use Rattle.console_machine.specs.Samples.{samples_of, octets_of, low_octets_of, octet_samples_of, samples_at, octets_at};
+ghost use Rattle.console_machine.specs.Samples.{samples_of, octets_of, samples_at, octets_at};
 
 use byteorder::{ByteOrder, LittleEndian};
 use line_machine::{WORD_OCTETS, Width};
@@ -46,7 +47,7 @@ fn write_words(samples: &[i16], octets: &mut [u8])
 /// Each octet is a sample, 0 to 255.
 fn read_octets(octets: &[u8], samples: &mut [i16])
     requires { length octets.now ≡ length samples.old }
-    ensures { samples.new ≡ octet_samples_of octets.now }
+    ensures { samples.new ≡ samples_at Octet octets.now }
 {
     for k in 0..octets.len() {
         samples[k] = i16::from(octets[k]);
@@ -56,7 +57,7 @@ fn read_octets(octets: &[u8], samples: &mut [i16])
 /// The low eight bits of each sample.
 fn write_low_octets(samples: &[i16], octets: &mut [u8])
     requires { length octets.old ≡ length samples.now }
-    ensures { octets.new ≡ low_octets_of samples.now }
+    ensures { octets.new ≡ octets_at Octet samples.now }
 {
     for k in 0..samples.len() {
         octets[k] = (samples[k].cast_unsigned() % 256) as u8;

@@ -1,3 +1,4 @@
+// SPDX-License-Identifier: Apache-2.0
 //! The grammar of scripts: a line's command or refusal, and the text of a reply.
 #![tactic(auto)]
 
@@ -9,8 +10,6 @@ mod numbers;
 mod replies;
 mod rows;
 mod samples;
-#[cfg(test)]
-mod tests;
 mod words;
 
 pub use commands::{Command, parse};

@@ -1,4 +1,4 @@
-use Rattle.std.proofs.Common.{◌≡◌, ◌+◌, ◌-◌, ℕ, ℤ, pos, List, length, to_z, w16, rules, arith, sym, ◌∙◌, ap, subst}
+use Rattle.std.proofs.Common.{◌≡◌, ◌≢◌, ◌+◌, ◌-◌, ℕ, ℤ, pos, List, length, to_z, w16, rules, arith, sym, ◌∙◌, ap, subst, get_or-set_other}
 use Rattle.std.proofs.Math.ListN.{set}
 use Rattle.std.proofs.lemmas.Int.{to_z_pos}
 use Rattle.ialg.specs.History.{word_at, past, with_samples}
@@ -44,3 +44,9 @@ returns-clause-law g c p h in_force taps size ring =
           (outputs_are p h xs cs line d coefficients count in_force before c.place.ensures.copied ys c.args.taken.first c.args.taken.step
           (λ i b. c.requires.reach i (omega arith)) (λ i b. c.filter.ensures i (omega arith))),
     )
+
+pub returns-clause-stays : goal.returns-clause-stays
+returns-clause-stays g c j inside out =
+    let all : length c.enter-after.new.words ≡ length c.args.ring.now = c.enter-after.auto.words in
+    let ne : j ≢ length c.args.ring.now - 1 = omega arith in
+    rw get_or-set_other (c.enter-after.ensures.stays j out)

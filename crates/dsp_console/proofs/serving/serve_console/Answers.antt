@@ -18,3 +18,6 @@ serve-requires g c κs within = (
     ),
   ),
 )
+
+pub returns-in-Ok-clause-ok : goal.returns-in-Ok-clause-ok
+returns-in-Ok-clause-ok g c = c.in-Ok.ensures.ok

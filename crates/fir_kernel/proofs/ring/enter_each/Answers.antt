@@ -1,9 +1,9 @@
-use Rattle.std.proofs.Common.{◌≡◌, ◌≢◌, ◌<◌, ◌≤◌, ◌+◌, suc, pos, ◌∷◌, length, take, FitsSigned, rules, w16, inl, inr, arith, ap, ◌∙◌, below_more, get_or-set_other, get_or-set_same}
+use Rattle.std.proofs.Common.{◌≡◌, ◌≢◌, ◌<◌, ◌≤◌, ◌+◌, suc, pos, ◌∷◌, length, take, FitsSigned, rules, w16, inl, inr, ◌%◌, arith, ap, sym, ◌∙◌, below_more, get_or-set_other, get_or-set_same}
 use Rattle.std.proofs.lemmas.Int.{to_z-of_z}
 use Rattle.std.proofs.lemmas.Grind.{common_steps}
 use Rattle.ialg.specs.History.{Sample, with_samples, word_at}
 use Rattle.ialg.proofs.Histories.{with_samples-take, with_samples-whole}
-use Rattle.fir_kernel.proofs.RingLemmas.{Turns, entered}
+use Rattle.fir_kernel.proofs.RingLemmas.{Turns, entered, turned}
 use Rattle.fir_kernel.proofs.ring.enter_each.Goals as goal
 use Rattle.fir_kernel.proofs.ring.enter_each.Goals.{then-at-size, else-at-size}
 
@@ -23,7 +23,10 @@ loop-sample-preserved c =
     ] in
     record {
       within = both.0;
-      behind = λ k out. search (rules, c.loop-sample.invariant.behind k out);
+      turned = ap (λ n. n % c.args.size) (omega arith) ∙ turned (next + i) c.args.size c.loop-sample.at c.if-at-size.at both.0 both.1 c.loop-sample.invariant.turned;
+      stays = λ j out.
+          let ne : j ≢ c.loop-sample.at = λ e. out i (omega arith) (c.loop-sample.invariant.turned ∙ sym e) in
+          rw get_or-set_other (c.loop-sample.invariant.stays j (λ k b. out k (omega arith)));
       ring = λ count h few old.
           let step : i + 1 ≡ suc i = omega arith in
           let e : with_samples h (take (i + 1) xs) ≡ Sample (word_at xs i) ∷ with_samples h (take i xs) =

@@ -2,7 +2,7 @@ use Rattle.std.proofs.Common.{◌≡◌, ◌<◌, None, length, set, sym, ◌∙
 use Rattle.std.proofs.lemmas.Option.{none-some}
 use Rattle.record_loans.specs.Pieces.{SamePieces}
 use Rattle.lifecycle.specs.States.{SameOnce}
-use Rattle.record_shelves.specs.declared.TheConstants.{INSTANCES}
+use Rattle.mem_rec.specs.declared.TheConstants.{INSTANCES}
 use Rattle.record_shelves.specs.Homes.{with_seen, AllHaveHomes, SameShelves}
 use Rattle.record_shelves.specs.Holders.{left_with}
 use Rattle.instance_table.specs.Table.{slot_at, own_of, instance_of, slot_active_in, AreHeld, AreBare}

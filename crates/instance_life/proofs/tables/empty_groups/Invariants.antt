@@ -1,7 +1,7 @@
 use Rattle.std.proofs.Common.{◌≡◌, ◌≤◌, ℕ, length, None, vec_capacity}
 use Rattle.mem_rec.specs.declared.Space.{Space}
 use Rattle.scratch_group.specs.Blocks.{block_in}
-use Rattle.instance_table.specs.declared.TheConstants.{GROUPS}
+use Rattle.mem_rec.specs.declared.TheConstants.{GROUPS}
 use Rattle.instance_table.specs.Table.{group_at, activity_at, untouched}
 use Rattle.instance_life.proofs.tables.empty_groups.Given as goal
 

@@ -1,5 +1,5 @@
 use Rattle.std.proofs.Common.{sym, ◌∙◌, arith}
-use Rattle.record_shelves.specs.declared.TheConstants.{INSTANCES}
+use Rattle.mem_rec.specs.declared.TheConstants.{INSTANCES}
 use Rattle.instance_table.specs.Table.{slot_at}
 use Rattle.instance_life.specs.Twins.{asked, asked_by, is_twin}
 use Rattle.instance_life.proofs.Likes.{none_of_other}

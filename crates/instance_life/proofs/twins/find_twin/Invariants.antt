@@ -1,7 +1,7 @@
 use Rattle.std.proofs.Common.{◌≡◌, ◌-◌}
 use Rattle.std.specs.Prelude.{find}
 use Rattle.std.specs.List.{range_with_len}
-use Rattle.record_shelves.specs.declared.TheConstants.{INSTANCES}
+use Rattle.mem_rec.specs.declared.TheConstants.{INSTANCES}
 use Rattle.instance_table.specs.Table.{slot_at}
 use Rattle.instance_life.specs.Twins.{asked, asked_by, is_twin, twin_of}
 use Rattle.instance_life.proofs.twins.find_twin.Given as goal

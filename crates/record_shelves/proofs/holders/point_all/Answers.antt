@@ -4,7 +4,7 @@ use Rattle.std.proofs.lemmas.List.{length-set}
 use Rattle.record_shelves.specs.Shelves.{stand_at, shelf_at}
 use Rattle.record_shelves.specs.Holders.{pointed}
 use Rattle.record_shelves.proofs.Homes.{set_stand_here, set_stand_there, set_stand_beside}
-use Rattle.record_shelves.specs.declared.TheConstants.{INSTANCES}
+use Rattle.mem_rec.specs.declared.TheConstants.{INSTANCES}
 use Rattle.record_shelves.proofs.Handing.{all_pointed}
 use Rattle.record_shelves.proofs.holders.point_all.Goals as goal
 

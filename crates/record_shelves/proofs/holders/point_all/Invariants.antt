@@ -1,5 +1,5 @@
 use Rattle.std.proofs.Common.{◌≡◌, ◌≢◌, ◌<◌, ◌≤◌, ℕ, length}
-use Rattle.record_shelves.specs.declared.TheConstants.{INSTANCES}
+use Rattle.mem_rec.specs.declared.TheConstants.{INSTANCES}
 use Rattle.record_shelves.specs.Shelves.{stand_at, shelf_at}
 use Rattle.record_shelves.specs.Holders.{pointed}
 use Rattle.record_shelves.proofs.holders.point_all.Given as goal

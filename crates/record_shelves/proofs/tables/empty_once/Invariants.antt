@@ -1,5 +1,5 @@
 use Rattle.std.proofs.Common.{◌≡◌, ◌≤◌, ℕ, length, vec_capacity}
-use Rattle.record_shelves.specs.declared.TheConstants.{INSTANCES}
+use Rattle.mem_rec.specs.declared.TheConstants.{INSTANCES}
 use Rattle.record_shelves.specs.Shelves.{shelf_at, no_shelf}
 use Rattle.record_shelves.proofs.tables.empty_once.Given as goal
 

@@ -7,7 +7,7 @@ use Rattle.scratch_group.specs.Blocks.{block_in}
 use Rattle.lifecycle.specs.declared.instance.Inst.TheVariants.{Idling, Running}
 use Rattle.lifecycle.specs.Moves.{with_back}
 use Rattle.lifecycle.specs.States.{SameOnce}
-use Rattle.instance_table.specs.declared.TheConstants.{GROUPS}
+use Rattle.mem_rec.specs.declared.TheConstants.{GROUPS}
 use Rattle.record_shelves.specs.Homes.{HasHomes}
 use Rattle.instance_table.specs.Table.{slot_at, group_at, no_group, instance_of, slot_active_in, activity_at, IsHoused}
 use Rattle.record_shelves.specs.Shelves.{once_at}

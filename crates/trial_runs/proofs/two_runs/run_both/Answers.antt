@@ -25,11 +25,11 @@ returns-clause-other g c = record {
 
 pub returns-clause-agree : goal.returns-clause-agree
 returns-clause-agree g c = λ one two.
-    both c.run-ended.result c.run-other_ended.result (c.run-ended.ensures.headline one.script one.inputs) (c.run-other_ended.ensures.headline two.script two.inputs)
-    (λ first second. record {
+    both _ _ _ c.run-ended.result c.run-other_ended.result (c.run-ended.ensures.headline one.script one.inputs) (c.run-other_ended.ensures.headline two.script two.inputs)
+    (λ summary other_summary first second. record {
       one = first;
       two = second;
-      agree = c.headline.ensures.two (widths_of c.args.config.in8 c.args.config.out8) (widths_of c.args.other_config.in8 c.args.other_config.out8) _ _ _ _ _ _ _ _ _ _ first second;
+      agree = c.headline.ensures.two (widths_of c.args.config.in8 c.args.config.out8) (widths_of c.args.other_config.in8 c.args.other_config.out8) _ _ _ _ _ _ _ _ _ _ first.says second.says;
       granted = λ i j g' h kind p later since lawful born lawful' born' control before rest answer at other_before other_rest other_answer other_at.
           refused_alike g.M.Ialg.meaning kind p _ _ control answer other_answer
           ((first.says.each i kind g' p later lawful born).controls before rest control answer at)

@@ -3,11 +3,11 @@ use Rattle.ialg.specs.Views.{control_of}
 use Rattle.kept_machine.specs.Kept.{told}
 use Rattle.channel_machine.specs.Calls.Call.{OfHost}
 use Rattle.sound_machine.specs.Calls.Call.{Control}
-use Rattle.console_machine.specs.Console.{status_told}
+use Rattle.console_machine.specs.Console.{status_reply, told_by}
 use Rattle.line_machine.specs.Served.{tells}
 use Rattle.voice_console.proofs.Served.{called}
 use Rattle.voice_console.proofs.console.Console.control.Goals as goal
 
 pub returns-clause-asks : goal.returns-clause-asks
 returns-clause-asks g c =
-    called g.M.Ialg.meaning g.M.Ialg.idle_keeps g.M.Ialg.active_keeps (λ a. OfHost (Control c.args.i (control_of c.args.control.now) a)) (λ a. tells (status_told a)) (told c.control.result) _ _ _ c.control.ensures.machine (ap tells c.tell_status.ensures)
+    called g.M.Ialg.meaning g.M.Ialg.idle_keeps g.M.Ialg.active_keeps (λ a. OfHost (Control c.args.i (control_of c.args.control.now) a)) (λ a. tells (told_by status_reply a)) (told c.control.result) _ _ _ c.control.ensures.machine (ap tells c.tell_status.ensures)

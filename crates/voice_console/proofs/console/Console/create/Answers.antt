@@ -1,11 +1,12 @@
 use Rattle.std.proofs.Common.{ap}
 use Rattle.channel_machine.specs.Calls.Call.{OfHost}
 use Rattle.sound_machine.specs.Calls.Call.{Create}
-use Rattle.console_machine.specs.Console.{done}
+use Rattle.console_machine.specs.Console.{told_by}
+use Rattle.voice_script.specs.Replies.{Done}
 use Rattle.line_machine.specs.Served.{tells}
 use Rattle.voice_console.proofs.Served.{called}
 use Rattle.voice_console.proofs.console.Console.create.Goals as goal
 
 pub returns-clause-asks : goal.returns-clause-asks
 returns-clause-asks g c =
-    called g.M.Ialg.meaning g.M.Ialg.idle_keeps g.M.Ialg.active_keeps (λ a. OfHost (Create c.args.i c.args.kind c.args.group c.args.parameters.now.items a)) (λ a. tells (done a)) c.create.result _ _ _ c.create.ensures.machine (ap tells c.tell_done.ensures)
+    called g.M.Ialg.meaning g.M.Ialg.idle_keeps g.M.Ialg.active_keeps (λ a. OfHost (Create c.args.i c.args.kind c.args.group c.args.parameters.now.items a)) (λ a. tells (told_by (λ _. Done) a)) c.create.result _ _ _ c.create.ensures.machine (ap tells c.tell_done.ensures)

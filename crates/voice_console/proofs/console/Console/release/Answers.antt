@@ -1,11 +1,12 @@
 use Rattle.std.proofs.Common.{ap}
 use Rattle.channel_machine.specs.Calls.Call.{OfHost}
 use Rattle.sound_machine.specs.Calls.Call.{Release}
-use Rattle.console_machine.specs.Console.{flag_told}
+use Rattle.console_machine.specs.Console.{told_by}
+use Rattle.voice_script.specs.Replies.{Flag}
 use Rattle.line_machine.specs.Served.{tells}
 use Rattle.voice_console.proofs.Served.{called}
 use Rattle.voice_console.proofs.console.Console.release.Goals as goal
 
 pub returns-clause-asks : goal.returns-clause-asks
 returns-clause-asks g c =
-    called g.M.Ialg.meaning g.M.Ialg.idle_keeps g.M.Ialg.active_keeps (λ a. OfHost (Release c.args.group a)) (λ a. tells (flag_told a)) c.release.result _ _ _ c.release.ensures.machine (ap tells c.tell_flag.ensures)
+    called g.M.Ialg.meaning g.M.Ialg.idle_keeps g.M.Ialg.active_keeps (λ a. OfHost (Release c.args.group a)) (λ a. tells (told_by Flag a)) c.release.result _ _ _ c.release.ensures.machine (ap tells c.tell_flag.ensures)

@@ -1,13 +1,14 @@
+use Rattle.voice_script.specs.Replies as replies
 use Rattle.std.proofs.Common.{ap}
 use Rattle.voice_channel.specs.Hosts.{stat_told}
 use Rattle.channel_machine.specs.Calls.Call.{OfHost}
 use Rattle.sound_machine.specs.Calls.Call.{Stat}
-use Rattle.console_machine.specs.Console.{activity_told}
+use Rattle.console_machine.specs.Console.{told_by}
 use Rattle.line_machine.specs.Served.{tells}
 use Rattle.voice_console.proofs.Served.{called}
 use Rattle.voice_console.proofs.console.Console.stat.Goals as goal
 
 pub returns : goal.returns
 returns g c = record {
-  asks = called g.M.Ialg.meaning g.M.Ialg.idle_keeps g.M.Ialg.active_keeps (λ a. OfHost (Stat c.args.group a)) (λ a. tells (activity_told a)) (stat_told c.stat.result) _ _ _ c.stat.ensures.machine (ap tells c.tell_stat.ensures);
+  asks = called g.M.Ialg.meaning g.M.Ialg.idle_keeps g.M.Ialg.active_keeps (λ a. OfHost (Stat c.args.group a)) (λ a. tells (told_by (λ s. replies.Stat s.active s.count) a)) (stat_told c.stat.result) _ _ _ c.stat.ensures.machine (ap tells c.tell_stat.ensures);
 }

@@ -1,5 +1,0 @@
-use Rattle.host_spaces.proofs.Renaming.{no_twins}
-use Rattle.host_spaces.proofs.tests.refuse.Goals as goal
-
-pub place_instance-refused-requires-clause-twins : goal.place_instance-refused-requires-clause-twins
-place_instance-refused-requires-clause-twins g c = no_twins c.table-table.result

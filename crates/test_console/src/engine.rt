@@ -1,0 +1,772 @@
+//! Runs over tapes and over devices that fail, and a caller that is proved from the contracts alone.
+ghost use Rattle.std.specs.Prelude.{◌≡◌, ◌<◌, ◌∷◌, [], None, Some, IfOk};
+ghost use Rattle.line_machine.specs.Served.{held_by, order_of, refusals};
+ghost use Rattle.line_machine.specs.Widths.{widths_of};
+ghost use Rattle.console_machine.specs.Answers.{served};
+ghost use Rattle.voice_set.specs.Voices.{voice_meaning, voice_named};
+ghost use Rattle.test_console.specs.declared.engine.TheConstants.{FULL};
+
+use arrayvec::ArrayVec;
+use dsp_console::{Config, Fault, Sizes, Summary, outcome, run};
+use octet_ports::{PortIn, PortOut, Reading, TapeIn, TapeOut, Writing};
+use std::alloc::{AllocError, Global};
+use std::process::Abort;
+use std::test::Fail;
+use test_doubles::{HELD_OCTETS, Shaky};
+use voice_set::{Voice, voices_are_lawful};
+
+const NEVER: u64 = u64::MAX;
+
+/// More than a tape is asked for at a time.
+const WIDE: u32 = 4096;
+
+const FULL: Sizes = Sizes {
+    daram: 65_536,
+    saram: 65_536,
+    external: 65_536,
+};
+
+/// The calls of the four tapes that fail, each counted from 0.
+#[derive(Clone, Copy)]
+struct Fuses {
+    script: u64,
+    input: u64,
+    output: u64,
+    replies: u64,
+}
+
+const UNBROKEN: Fuses = Fuses {
+    script: NEVER,
+    input: NEVER,
+    output: NEVER,
+    replies: NEVER,
+};
+
+/// How a run is made: over tapes that take and give so many octets at a time.
+#[derive(Clone, Copy)]
+struct Setting {
+    sizes: Sizes,
+    poison: Option<i16>,
+    in8: u16,
+    out8: u16,
+    step: u32,
+    fuses: Fuses,
+}
+
+const PLAIN: Setting = Setting {
+    sizes: FULL,
+    poison: None,
+    in8: 0,
+    out8: 0,
+    step: WIDE,
+    fuses: UNBROKEN,
+};
+
+/// What a run answers, and what it wrote.
+#[derive(Drop)]
+struct Wanted<'a> {
+    answer: Result<Summary, Fault>,
+    output: &'a [u8],
+    replies: &'a [u8],
+}
+
+/// Runs a script and compares. After Ok all is passed on, and the replies pass nothing on after a fault.
+fn compare<R: Abort + AllocGlobal>(
+    rt: &R,
+    setting: Setting,
+    script: &[u8],
+    input: &[u8],
+    wanted: &Wanted<'_>,
+) -> Result<(), Fail>
+    requires { 0 < setting.step }
+{
+    let Setting {
+        sizes,
+        poison,
+        in8,
+        out8,
+        step,
+        fuses,
+    } = setting;
+    let mut script = TapeIn::new(script, step, fuses.script);
+    let mut inputs = vec![in rt.alloc(); TapeIn::new(input, step, fuses.input)]?;
+    let mut outputs = vec![in rt.alloc(); TapeOut::new(step, fuses.output)]?;
+    let mut replies = TapeOut::new(step, fuses.replies);
+    let answer = run::<Voice, _, _, _, _>(
+        rt.alloc(),
+        Config {
+            sizes,
+            poison,
+            in8,
+            out8,
+        },
+        &mut script,
+        &mut inputs,
+        &mut outputs,
+        &mut replies,
+    );
+    assert!(rt; answer == wanted.answer);
+    assert!(rt; outputs.len() == 1);
+    assert!(rt; outputs[0].held() == wanted.output);
+    assert!(rt; replies.held() == wanted.replies);
+    let told = if answer.is_ok() {
+        wanted.replies.len()
+    } else {
+        0
+    };
+    assert!(rt; replies.passed() == told);
+    assert!(rt; answer.is_err() || outputs[0].passed() == wanted.output.len());
+    Ok(())
+}
+
+/// A script with what it is to write, and how many of its lines are refused.
+#[derive(Drop)]
+struct Row {
+    script: &'static [u8],
+    input: &'static [u8],
+    output: &'static [u8],
+    replies: &'static [u8],
+    refused: u64,
+}
+
+fn rows() -> [Row; 9] {
+    [
+        Row {
+            script: b"create 0 fir 0 16384\nchain 0 0\nfeed 0 2\n",
+            input: b"\x01\x00\xff\xff",
+            output: b"\x01\x00\x00\x00",
+            replies: b"ok\nok\nok 2\n",
+            refused: 0,
+        },
+        Row {
+            script: b"create 0 fir 0 16384 16384\nchain 0 0\nfeed 0 3\n",
+            input: b"\x02\x00\x04\x00\x06\x00",
+            output: b"\x01\x00\x03\x00\x05\x00",
+            replies: b"ok\nok\nok 3\n",
+            refused: 0,
+        },
+        Row {
+            script: b"create 0 fir 0 16384 16384\nchain 0 0\nfeed 0 1\nfeed 0 2",
+            input: b"\x02\x00\x04\x00\x06\x00",
+            output: b"\x01\x00\x03\x00\x05\x00",
+            replies: b"ok\nok\nok 1\nok 2\n",
+            refused: 0,
+        },
+        Row {
+            script: b"create 0 fir 0 -32768\nchain 0 0\nfeed 0 1\n",
+            input: b"\x00\x80",
+            output: b"\xff\x7f",
+            replies: b"ok\nok\nok 1\n",
+            refused: 0,
+        },
+        Row {
+            script: b"create 0 fir 0 32767 32767 -32768\nchain 0 0\nfeed 0 3\n",
+            input: b"\xff\x7f\xff\x7f\xff\x7f",
+            output: b"\xfe\x7f\xff\x7f\x01\x00",
+            replies: b"ok\nok\nok 3\n",
+            refused: 0,
+        },
+        // An odd last octet is no sample, and what a short feed read is gone.
+        Row {
+            script: b"create 0 fir 0 16384\nchain 0 0\nfeed 0 4\nfeed 0 1\n",
+            input: b"\x01\x02\x03\x04\x05\x06\x07",
+            output: b"",
+            replies: b"ok\nok\nno 10 short\nno 10 short\n",
+            refused: 2,
+        },
+        // Blank lines are passed over, tabs are blanks, and one carriage return is dropped.
+        Row {
+            script: b"\n \t \r\n\tcreate  00 fir 7 032767 \r\nfeed 0 1\r\r",
+            input: b"",
+            output: b"",
+            replies: b"ok\nno 2 syntax\n",
+            refused: 1,
+        },
+        // The refusals, in their order.
+        Row {
+            script: b"create 64 fir 0 1\ncreate 999 fir 0 1\ncreate 0 fir 8 1\ncreate 0 fir 0 1\ncreate 0 fir 0\ncreate 1 fir 0\ncreate 1 flute 0 1\ncreate 1 fir 0 40000\ncreate 999 fir 0 x\nfeed 0 0\nfeed 0 1025\nfeed 0 +1\nfeed 999\nfeed -0 1\nfeed 1 1\nchain 0 1\nchain 0 64\nchain 1 0\nchain 0 0\nchain 0 5\nunchain 0\nchain 0 0 0\nfeed 0 99999999999999999999999999\n",
+            input: b"",
+            output: b"",
+            replies: b"no 3 range\nno 3 range\nno 3 range\nok\nno 4 taken\nno 6 params\nno 2 syntax\nno 3 range\nno 2 syntax\nno 3 range\nno 3 range\nno 2 syntax\nno 2 syntax\nno 5 missing\nno 3 range\nno 5 missing\nno 3 range\nno 3 range\nok\nno 4 taken\nok\nno 8 busy\nno 3 range\n",
+            refused: 20,
+        },
+        Row {
+            script: b"",
+            input: b"\x01\x00",
+            output: b"",
+            replies: b"",
+            refused: 0,
+        },
+    ]
+}
+
+#[test]
+fn serves_rows(rt: HostRuntime) -> Result<(), Fail> {
+    for row in &rows() {
+        for (step, poison) in [
+            (1, None),
+            (3, Some(0)),
+            (WIDE, Some(-1)),
+            (WIDE, Some(21_845)),
+        ] {
+            let wanted = Wanted {
+                answer: Ok(Summary {
+                    refused: row.refused,
+                }),
+                output: row.output,
+                replies: row.replies,
+            };
+            let setting = Setting {
+                step,
+                poison,
+                ..PLAIN
+            };
+            compare(&rt, setting, row.script, row.input, &wanted)?;
+        }
+    }
+    Ok(())
+}
+
+/// Runs a row over ports of these masks.
+fn serve_row<R: Abort + AllocGlobal>(rt: &R, in8: u16, out8: u16, row: &Row) -> Result<(), Fail> {
+    let wanted = Wanted {
+        answer: Ok(Summary {
+            refused: row.refused,
+        }),
+        output: row.output,
+        replies: row.replies,
+    };
+    for step in [1, 3, WIDE] {
+        let setting = Setting {
+            in8,
+            out8,
+            step,
+            ..PLAIN
+        };
+        compare(rt, setting, row.script, row.input, &wanted)?;
+    }
+    Ok(())
+}
+
+#[test]
+fn an_octet_of_an_octet_port_is_a_sample(rt: HostRuntime) -> Result<(), Fail> {
+    let row = Row {
+        script: b"create 0 g711 0 1 1\nchain 0 0\nfeed 0 3\n",
+        input: b"\x80\x00\xff",
+        output: b"\x7c\x7d\x84\x82\x00\x00",
+        replies: b"ok\nok\nok 3\n",
+        refused: 0,
+    };
+    // Bits of channels that aren't there have no effect.
+    for (in8, out8) in [(1, 0), (65_535, 65_534)] {
+        serve_row(&rt, in8, out8, &row)?;
+    }
+    Ok(())
+}
+
+#[test]
+fn the_low_eight_bits_of_a_sample_are_its_octet(rt: HostRuntime) -> Result<(), Fail> {
+    let row = Row {
+        script: b"create 0 g711 0 1 0\nchain 0 0\nfeed 0 3\n",
+        input: b"\x00\x00\xff\xff\xff\x7f",
+        output: b"\xff\x7f\x80",
+        replies: b"ok\nok\nok 3\n",
+        refused: 0,
+    };
+    for (in8, out8) in [(0, 1), (65_534, 65_535)] {
+        serve_row(&rt, in8, out8, &row)?;
+    }
+    Ok(())
+}
+
+#[test]
+fn a_negative_sample_is_cut_to_its_low_octet(rt: HostRuntime) -> Result<(), Fail> {
+    let row = Row {
+        script: b"create 0 fir 0 32767\nchain 0 0\nfeed 0 2\n",
+        input: b"\x00\x80\x34\x12",
+        output: b"\x01\x34",
+        replies: b"ok\nok\nok 2\n",
+        refused: 0,
+    };
+    serve_row(&rt, 0, 1, &row)
+}
+
+#[test]
+fn a_feed_of_an_octet_port_takes_an_octet_a_sample(rt: HostRuntime) -> Result<(), Fail> {
+    let row = Row {
+        script: b"create 0 fir 0 16384\nchain 0 0\nfeed 0 4\nfeed 0 3\nfeed 0 1\n",
+        input: b"\x02\x04\x06\x08\x0a\x0c\xff",
+        output: b"\x01\x02\x03\x04\x05\x06\x80",
+        replies: b"ok\nok\nok 4\nok 3\nno 10 short\n",
+        refused: 1,
+    };
+    serve_row(&rt, 1, 1, &row)
+}
+
+/// Two filters that give back what they are given, each fed by its own channel.
+const EACH_BY_ITSELF: &[u8] =
+    b"create 0 biquad 0 16384 0 0 0 0\ncreate 1 biquad 1 16384 0 0 0 0\nchain 0 0\nchain 1 1\nfeed 0 1\nfeed 1 1\n";
+
+#[test]
+fn the_low_bit_of_a_mask_is_of_channel_0(rt: HostRuntime) -> Result<(), Fail> {
+    let mut script = TapeIn::new(EACH_BY_ITSELF, WIDE, NEVER);
+    let mut inputs = vec![in rt.alloc();
+        TapeIn::new(b"\x05\x07", WIDE, NEVER),
+        TapeIn::new(b"\x06\x01", WIDE, NEVER),
+    ]?;
+    let mut outputs = vec![in rt.alloc(); TapeOut::new(WIDE, NEVER), TapeOut::new(WIDE, NEVER)]?;
+    let mut replies = TapeOut::new(WIDE, NEVER);
+    let config = Config {
+        sizes: FULL,
+        poison: None,
+        in8: 1,
+        out8: 2,
+    };
+    let answer = run::<Voice, _, _, _, _>(
+        rt.alloc(),
+        config,
+        &mut script,
+        &mut inputs,
+        &mut outputs,
+        &mut replies,
+    );
+    assert!(rt; answer == Ok(Summary { refused: 0 }));
+    assert!(rt; outputs.len() == 2);
+    assert!(rt; outputs[0].held() == b"\x05\x00".as_slice());
+    assert!(rt; outputs[1].held() == b"\x06".as_slice());
+    Ok(())
+}
+
+/// Two filters of one group by turns, each fed by its own channel, in a space that has room for one scratch block.
+const BY_TURNS: &[u8] =
+    b"create 0 fir 0 16384 16384\ncreate 1 fir 0 16384 16384\nchain 0 0\nchain 1 1\nfeed 0 1\nfeed 1 1\nfeed 0 1\nfeed 1 1\nstat 0\nmap daram\nrelease 0\nrelease 0\nstat 0\n";
+
+const BY_TURNS_REPLIES: &[u8] =
+    b"ok\nok\nok\nok\nok 1\nok 1\nok 1\nok 1\nok 1 4\nok g0@0+1028\nok 1\nok 0\nok - 4\n";
+
+#[test]
+fn channels_have_their_own_ports(rt: HostRuntime) -> Result<(), Fail> {
+    let sizes = Sizes {
+        daram: 1_028,
+        ..FULL
+    };
+    for poison in [None, Some(21_845), Some(-1)] {
+        let mut script = TapeIn::new(BY_TURNS, WIDE, NEVER);
+        let mut inputs = vec![in rt.alloc();
+            TapeIn::new(b"\x02\x00\x04\x00", 1, NEVER),
+            TapeIn::new(b"\x0a\x00\x14\x00", WIDE, NEVER),
+        ]?;
+        let mut outputs = vec![in rt.alloc(); TapeOut::new(WIDE, NEVER), TapeOut::new(1, NEVER)]?;
+        let mut replies = TapeOut::new(WIDE, NEVER);
+        let answer = run::<Voice, _, _, _, _>(
+            rt.alloc(),
+            Config {
+                sizes,
+                poison,
+                in8: 0,
+                out8: 0,
+            },
+            &mut script,
+            &mut inputs,
+            &mut outputs,
+            &mut replies,
+        );
+        assert!(rt; answer == Ok(Summary { refused: 0 }));
+        assert!(rt; outputs.len() == 2);
+        assert!(rt; outputs[0].held() == b"\x01\x00\x03\x00".as_slice());
+        assert!(rt; outputs[1].held() == b"\x05\x00\x0f\x00".as_slice());
+        assert!(rt; replies.held() == BY_TURNS_REPLIES);
+    }
+    Ok(())
+}
+
+#[test]
+fn passes_over_a_long_line(rt: HostRuntime) -> Result<(), Fail> {
+    let mut script = [b'a'; 1030];
+    script[1025..].copy_from_slice(b"\n   \n");
+    let wanted = Wanted {
+        answer: Ok(Summary { refused: 1 }),
+        output: b"",
+        replies: b"no 1 long\n",
+    };
+    compare(&rt, PLAIN, &script, b"", &wanted)?;
+    let mut fitting = [b' '; 1024];
+    fitting[..8].copy_from_slice(b"feed 0 1");
+    let wanted = Wanted {
+        answer: Ok(Summary { refused: 1 }),
+        output: b"",
+        replies: b"no 5 missing\n",
+    };
+    compare(&rt, PLAIN, &fitting, b"", &wanted)
+}
+
+#[test]
+fn refuses_sizes(rt: HostRuntime) -> Result<(), Fail> {
+    let wanted = Wanted {
+        answer: Err(Fault::Size),
+        output: b"",
+        replies: b"",
+    };
+    for daram in [6, 65_540, u32::MAX] {
+        let sizes = Sizes {
+            daram,
+            saram: 0,
+            external: 4,
+        };
+        let setting = Setting { sizes, ..PLAIN };
+        compare(&rt, setting, rows()[0].script, b"", &wanted)?;
+    }
+    Ok(())
+}
+
+/// A run with refused lines before and behind its feed.
+const REFUSING: Row = Row {
+    script: b"create 0 fir 0 16384\nflute\nchain 0 0\nfeed 0 2\nfeed 0 9\n",
+    input: b"\x01\x00\xff\xff",
+    output: b"\x01\x00\x00\x00",
+    replies: b"ok\nno 2 syntax\nok\nok 2\nno 10 short\n",
+    refused: 2,
+};
+
+/// What a run of that script is to answer and to write: so many octets of the output and of the replies.
+fn wanted_first<R: Abort>(
+    rt: &R,
+    answer: Result<Summary, Fault>,
+    outputs: usize,
+    replies: usize,
+) -> Wanted<'static> {
+    assert!(rt; outputs <= REFUSING.output.len() && replies <= REFUSING.replies.len());
+    Wanted {
+        answer,
+        output: &REFUSING.output[..outputs],
+        replies: &REFUSING.replies[..replies],
+    }
+}
+
+/// Runs that script with a fault, before which so many octets of the output and of the replies are written.
+fn compare_fault<R: Abort + AllocGlobal>(
+    rt: &R,
+    step: u32,
+    fuses: Fuses,
+    fault: Fault,
+    outputs: usize,
+    replies: usize,
+) -> Result<(), Fail>
+    requires { 0 < step }
+{
+    let wanted = wanted_first(rt, Err(fault), outputs, replies);
+    let setting = Setting {
+        step,
+        fuses,
+        ..PLAIN
+    };
+    compare(rt, setting, REFUSING.script, REFUSING.input, &wanted)
+}
+
+/// The script's lines end behind so many octets of it, of the output and of the replies.
+const LINES: [(u64, usize, usize); 6] = [
+    (0, 0, 0),
+    (21, 0, 3),
+    (27, 0, 15),
+    (37, 0, 18),
+    (46, 4, 23),
+    (55, 4, 35),
+];
+
+#[test]
+fn stops_where_the_script_fails(rt: HostRuntime) -> Result<(), Fail> {
+    for script in 0..56 {
+        let (mut outputs, mut replies) = (0, 0);
+        for (end, written, told) in LINES {
+            if script >= end {
+                (outputs, replies) = (written, told);
+            }
+        }
+        let fuses = Fuses { script, ..UNBROKEN };
+        compare_fault(&rt, 1, fuses, Fault::Read, outputs, replies)?;
+    }
+    // The second call is made once all lines that the first gave are served.
+    for (script, outputs, replies) in [(0, 0, 0), (1, 4, 35)] {
+        let fuses = Fuses { script, ..UNBROKEN };
+        compare_fault(&rt, WIDE, fuses, Fault::Read, outputs, replies)?;
+    }
+    Ok(())
+}
+
+// One call gives all of it, and a second one tells that it has ended.
+#[test]
+fn a_short_script_takes_two_calls(rt: HostRuntime) -> Result<(), Fail> {
+    let row = &rows()[0];
+    let wanted = Wanted {
+        answer: Ok(Summary { refused: 0 }),
+        output: row.output,
+        replies: row.replies,
+    };
+    let fuses = Fuses {
+        script: 2,
+        ..UNBROKEN
+    };
+    let setting = Setting { fuses, ..PLAIN };
+    compare(&rt, setting, row.script, row.input, &wanted)
+}
+
+#[test]
+fn the_pieces_of_a_script_change_no_reply(rt: HostRuntime) -> Result<(), Fail> {
+    let row = &rows()[7];
+    let wanted = Wanted {
+        answer: Ok(Summary {
+            refused: row.refused,
+        }),
+        output: row.output,
+        replies: row.replies,
+    };
+    for step in 1..=40 {
+        let setting = Setting { step, ..PLAIN };
+        compare(&rt, setting, row.script, row.input, &wanted)?;
+    }
+    Ok(())
+}
+
+#[test]
+fn stops_where_the_input_fails(rt: HostRuntime) -> Result<(), Fail> {
+    // In the first feed, and then in the one that the input's end would have cut short.
+    for (step, first, all) in [(1, 4, 5), (3, 2, 3), (WIDE, 1, 2)] {
+        for input in 0..all {
+            let (outputs, replies) = if input < first { (0, 18) } else { (4, 23) };
+            let fuses = Fuses { input, ..UNBROKEN };
+            compare_fault(&rt, step, fuses, Fault::Read, outputs, replies)?;
+        }
+    }
+    Ok(())
+}
+
+#[test]
+fn stops_where_the_output_fails(rt: HostRuntime) -> Result<(), Fail> {
+    // A put of each octet, and the flush behind the last reply.
+    for (output, outputs, replies) in [(0, 0, 18), (1, 1, 18), (2, 2, 18), (3, 3, 18), (4, 4, 35)] {
+        let fuses = Fuses { output, ..UNBROKEN };
+        compare_fault(&rt, 1, fuses, Fault::Write, outputs, replies)?;
+    }
+    for (output, outputs, replies) in [(0, 0, 18), (1, 4, 35)] {
+        let fuses = Fuses { output, ..UNBROKEN };
+        compare_fault(&rt, WIDE, fuses, Fault::Write, outputs, replies)?;
+    }
+    Ok(())
+}
+
+#[test]
+fn stops_where_the_replies_fail(rt: HostRuntime) -> Result<(), Fail> {
+    // A put of each octet, and the flush.
+    for replies in 0..36 {
+        let outputs = if replies < 18 { 0 } else { 4 };
+        let fuses = Fuses {
+            replies,
+            ..UNBROKEN
+        };
+        let held = (replies as usize).min(35);
+        compare_fault(&rt, 1, fuses, Fault::Write, outputs, held)?;
+    }
+    for (replies, outputs, held) in [
+        (0, 0, 0),
+        (1, 0, 3),
+        (2, 0, 15),
+        (3, 4, 18),
+        (4, 4, 23),
+        (5, 4, 35),
+    ] {
+        let fuses = Fuses {
+            replies,
+            ..UNBROKEN
+        };
+        compare_fault(&rt, WIDE, fuses, Fault::Write, outputs, held)?;
+    }
+    Ok(())
+}
+
+#[test]
+fn ends_runs(rt: HostRuntime) {
+    let cases = [
+        (Ok(Summary { refused: 0 }), 0, ""),
+        (Ok(Summary { refused: 1 }), 1, ""),
+        (Ok(Summary { refused: u64::MAX }), 1, ""),
+        (
+            Err(Fault::Size),
+            2,
+            "dsp_console: a space is 0 to 65536 words, a multiple of 4",
+        ),
+        (Err(Fault::Read), 3, "dsp_console: read failed"),
+        (Err(Fault::Write), 4, "dsp_console: write failed"),
+        (Err(Fault::Memory), 5, "dsp_console: out of memory"),
+    ];
+    for (answer, status, line) in cases {
+        let (given_status, given_line) = outcome(&answer);
+        assert!(rt; given_status == status);
+        assert!(rt; given_line == line);
+    }
+}
+
+/// What is seen of a run over shaky devices: the script's, the input's, the output's and the replies'.
+#[derive(Drop)]
+struct Seen {
+    answer: Result<Summary, Fault>,
+    failed: (bool, bool, bool, bool),
+    written: ArrayVec<u8, HELD_OCTETS>,
+    told: ArrayVec<u8, HELD_OCTETS>,
+    /// How often the output and the replies were flushed, and how much they held at the last time.
+    flushes: (u32, u32),
+    flushed: (u64, u64),
+}
+
+/// Runs that script over shaky devices, each with its fuse.
+fn run_shaky(alloc: Global, fuses: Fuses) -> Result<Option<Seen>, AllocError> {
+    let mut script = Reading::new(Shaky::new(REFUSING.script, 1, fuses.script));
+    let mut inputs = vec![in alloc; Reading::new(Shaky::new(REFUSING.input, 1, fuses.input))]?;
+    let mut outputs = vec![in alloc; Writing::new(Shaky::new(b"", 1, fuses.output))]?;
+    let mut replies = Writing::new(Shaky::new(b"", 1, fuses.replies));
+    let config = Config {
+        sizes: FULL,
+        poison: None,
+        in8: 0,
+        out8: 0,
+    };
+    let answer = run::<Voice, _, _, _, _>(
+        alloc,
+        config,
+        &mut script,
+        &mut inputs,
+        &mut outputs,
+        &mut replies,
+    );
+    let (Some(input), Some(output)) = (inputs.pop(), outputs.pop()) else {
+        return Ok(None);
+    };
+    let failed = (
+        script.failed(),
+        input.failed(),
+        output.failed(),
+        replies.failed(),
+    );
+    let (output, replies) = (output.into_inner(), replies.into_inner());
+    Ok(Some(Seen {
+        answer,
+        failed,
+        written: output.held,
+        told: replies.held,
+        flushes: (output.flushes, replies.flushes),
+        flushed: (output.flushed, replies.flushed),
+    }))
+}
+
+/// Compares such a run. The device whose fuse broke stays failed, and no other.
+fn compare_shaky<R: Abort + AllocGlobal>(
+    rt: &R,
+    fuses: Fuses,
+    wanted: &Wanted<'_>,
+) -> Result<(), Fail> {
+    let Some(seen) = run_shaky(rt.alloc(), fuses)? else {
+        return Ok(());
+    };
+    let broken = (
+        fuses.script < NEVER,
+        fuses.input < NEVER,
+        fuses.output < NEVER,
+        fuses.replies < NEVER,
+    );
+    assert!(rt; seen.answer == wanted.answer);
+    assert!(rt; seen.failed == broken);
+    assert!(rt; seen.written.as_slice() == wanted.output);
+    assert!(rt; seen.told.as_slice() == wanted.replies);
+    if seen.answer.is_ok() {
+        assert!(rt; seen.flushes == (1, 1));
+        let all = (wanted.output.len() as u64, wanted.replies.len() as u64);
+        assert!(rt; seen.flushed == all);
+    } else {
+        assert!(rt; seen.flushes.1 == 0);
+    }
+    Ok(())
+}
+
+#[test]
+fn a_device_that_fails_stays_failed(rt: HostRuntime) -> Result<(), Fail> {
+    let all = Ok(Summary { refused: 2 });
+    compare_shaky(&rt, UNBROKEN, &wanted_first(&rt, all, 4, 35))?;
+    let (read, write) = (Err(Fault::Read), Err(Fault::Write));
+    for (script, outputs, replies) in [(0, 0, 0), (30, 0, 15), (54, 4, 23)] {
+        let fuses = Fuses { script, ..UNBROKEN };
+        compare_shaky(&rt, fuses, &wanted_first(&rt, read, outputs, replies))?;
+    }
+    for (input, outputs, replies) in [(0, 0, 18), (3, 0, 18), (4, 4, 23)] {
+        let fuses = Fuses { input, ..UNBROKEN };
+        compare_shaky(&rt, fuses, &wanted_first(&rt, read, outputs, replies))?;
+    }
+    for (output, outputs, replies) in [(0, 0, 18), (3, 3, 18), (4, 4, 35)] {
+        let fuses = Fuses { output, ..UNBROKEN };
+        compare_shaky(&rt, fuses, &wanted_first(&rt, write, outputs, replies))?;
+    }
+    for (replies, outputs) in [(0, 0), (17, 0), (20, 4), (35, 4)] {
+        let fuses = Fuses {
+            replies,
+            ..UNBROKEN
+        };
+        let wanted = wanted_first(&rt, write, outputs, replies as usize);
+        compare_shaky(&rt, fuses, &wanted)?;
+    }
+    Ok(())
+}
+
+/// What a run over octets in memory wrote, and how many lines it refused.
+#[derive(Drop)]
+struct Served {
+    output: Vec<u8>,
+    replies: Vec<u8>,
+    refused: u64,
+}
+
+// Devices over memory: from the contracts alone the vectors hold what is served for the octets.
+fn serve_octets(alloc: Global, script: &[u8], input: &[u8]) -> Result<Served, Fault>
+    ensures output { IfOk result (λ run. run.output.items ≡ held_by (Some 0) (order_of (served voice_meaning voice_named (widths_of 0 0) FULL script.now (input.now ∷ [])).written)) }
+    ensures replies { IfOk result (λ run. run.replies.items ≡ held_by None (order_of (served voice_meaning voice_named (widths_of 0 0) FULL script.now (input.now ∷ [])).written)) }
+    ensures refused { IfOk result (λ run. refusals (served voice_meaning voice_named (widths_of 0 0) FULL script.now (input.now ∷ [])).written ≡ run.refused) }
+{
+    voices_are_lawful();
+    let mut lines = Reading::new(script);
+    let Ok(mut inputs) = vec![in alloc; Reading::new(input)] else {
+        return Err(Fault::Memory);
+    };
+    let Ok(mut outputs) = vec![in alloc; Writing::new(Vec::new(alloc))] else {
+        return Err(Fault::Memory);
+    };
+    let mut replies = Writing::new(Vec::new(alloc));
+    let config = Config {
+        sizes: FULL,
+        poison: None,
+        in8: 0,
+        out8: 0,
+    };
+    let summary = run::<Voice, _, _, _, _>(
+        alloc,
+        config,
+        &mut lines,
+        &mut inputs,
+        &mut outputs,
+        &mut replies,
+    )?;
+    let output = outputs.pop().unwrap();
+    Ok(Served {
+        output: output.into_inner(),
+        replies: replies.into_inner(),
+        refused: summary.refused,
+    })
+}
+
+#[test]
+fn serves_octets(rt: HostRuntime) {
+    let row = &rows()[2];
+    let answer = serve_octets(rt.alloc(), row.script, row.input);
+    assert!(rt; answer.is_ok());
+    if let Ok(run) = answer {
+        assert!(rt; run.output.as_slice() == row.output);
+        assert!(rt; run.replies.as_slice() == row.replies);
+        assert!(rt; run.refused == 0);
+    }
+}

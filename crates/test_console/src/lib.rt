@@ -1,0 +1,16 @@
+// SPDX-License-Identifier: Apache-2.0
+//! For tests: the grammar, the command line, ports and their devices, lines, the journal, and whole runs of the engine.
+#![tactic(auto)]
+
+#[cfg(test)]
+mod arguments;
+#[cfg(test)]
+mod engine;
+#[cfg(test)]
+mod grammar;
+#[cfg(test)]
+mod journal;
+#[cfg(test)]
+mod lines;
+#[cfg(test)]
+mod ports;

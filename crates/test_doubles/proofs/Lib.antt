@@ -1,0 +1,4 @@
+pub mod AllocateContract
+pub mod DeallocateContract
+pub mod MeterCalls
+pub mod Parameters

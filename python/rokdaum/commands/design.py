@@ -1,0 +1,137 @@
+# SPDX-License-Identifier: Apache-2.0
+"""dsp_design: filters and tone detectors as lines of a dsp_console script, with the response that the rounded words have."""
+
+from __future__ import annotations
+
+import argparse
+import sys
+from collections.abc import Sequence
+from pathlib import Path
+from typing import TYPE_CHECKING, Union
+
+from ..errors import RokdaumError
+from .common import ended, need
+from .run import version
+
+if TYPE_CHECKING:
+    from ..design import Biquads, Fir, Tones
+
+    Made = Union[Biquads, Fir, Tones]
+
+NAME = "dsp_design"
+EXAMPLE = """\
+The lines go to the standard output, the response and what saturates to the standard error:
+  dsp_design band 300 3400 > phone.txt && echo 'feed 0 all' >> phone.txt && dsp_run phone.txt in.wav out.wav
+"""
+
+
+def common_options() -> argparse.ArgumentParser:
+    """The options of each filter."""
+    made = argparse.ArgumentParser(add_help=False, allow_abbrev=False)
+    made.add_argument("--rate", type=float, default=8000.0, metavar="HZ", help="samples a second (8000)")
+    made.add_argument("--first", type=int, default=0, metavar="I", help="the first instance (0)")
+    made.add_argument("--group", type=int, default=0, metavar="G", help="the scratch group of the first section; others take those behind it (0)")
+    made.add_argument("--share", action="store_true", help="all sections in one group: less memory, and an activation for each feed")
+    made.add_argument("--channel", type=int, default=0, metavar="C", help="the channel, or the first of several tones (0)")
+    return made
+
+
+def filter_options() -> argparse.ArgumentParser:
+    """The options of what has a response."""
+    made = argparse.ArgumentParser(add_help=False, parents=[common_options()], allow_abbrev=False)
+    made.add_argument("--scale", choices=("tones", "any", "words"), default="tones", help="for which inputs nothing saturates: full-scale tones, any, or none named")
+    made.add_argument("--plot", type=Path, metavar="FILE", help="draw the response (.png, .svg, .pdf); takes matplotlib")
+    return made
+
+
+def parser() -> argparse.ArgumentParser:
+    """The command line."""
+    made = argparse.ArgumentParser(prog=NAME, description=__doc__.split(": ", 1)[1], epilog=EXAMPLE, formatter_class=argparse.RawDescriptionHelpFormatter, allow_abbrev=False)
+    made.add_argument("--version", action="version", version=f"{NAME} {version()}")
+    which, filters = made.add_subparsers(dest="what", required=True, metavar="WHAT"), filter_options()
+    for name, what, count in (("low", "a low pass of second-order sections", 1), ("high", "a high pass", 1), ("band", "a band pass: LOW HIGH", 2)):
+        one = which.add_parser(name, help=what, parents=[filters], allow_abbrev=False)
+        one.add_argument("edges", type=float, nargs=count, metavar="HZ", help="where the gain is 3 dB less, or where the ripple ends")
+        one.add_argument("--order", type=int, default=3 if name == "band" else 4, help="the order; a band pass has that many sections")
+        one.add_argument("--ripple", type=float, metavar="DB", help="Chebyshev of type I with so much ripple; Butterworth where nothing is said")
+    one = which.add_parser("notch", help="one section that takes out a frequency", parents=[filters], allow_abbrev=False)
+    one.add_argument("frequency", type=float, metavar="HZ")
+    one.add_argument("--width", type=float, default=10.0, metavar="HZ", help="how wide it is where the gain is 3 dB less (10)")
+    one = which.add_parser("fir", help="a FIR of linear phase: low HZ, high HZ or band HZ HZ", parents=[filters], allow_abbrev=False)
+    one.add_argument("kind", choices=("low", "high", "band"))
+    one.add_argument("edges", type=float, nargs="+", metavar="HZ", help="where the gain is 6 dB less")
+    one.add_argument("--taps", type=int, default=63, metavar="T", help="coefficients, 1 to 64 (63)")
+    one = which.add_parser("decim", help="a decimator with its low pass", parents=[filters], allow_abbrev=False)
+    one.add_argument("factor", type=int, metavar="M", help="1 to 16")
+    one.add_argument("--taps", type=int, default=64, metavar="T", help="coefficients, 1 to 64 (64)")
+    one.add_argument("--edge", type=float, metavar="HZ", help="where the gain is 6 dB less (0.4 of the new rate)")
+    one = which.add_parser("tone", help="detectors, a channel each", parents=[common_options()], allow_abbrev=False)
+    one.add_argument("frequencies", type=float, nargs="+", metavar="HZ")
+    one.add_argument("--frame", type=int, default=205, metavar="N", help="samples of a frame, 1 to 1024 (205)")
+    one.add_argument("--shift", type=int, metavar="S", help="samples are divided by 2 to the S; else the least for which no full-scale tone saturates")
+    return made
+
+
+def made_of(given: argparse.Namespace) -> Made:
+    """What the command line asks for."""
+    from .. import design
+
+    if given.what == "tone":
+        return design.tones(given.frequencies, given.frame, given.shift, given.rate)
+    if given.what == "notch":
+        return design.notch(given.frequency, given.width, given.rate, given.scale)
+    if given.what == "fir":
+        return design.fir(given.kind, given.edges, given.taps, given.rate, given.scale)
+    if given.what == "decim":
+        return design.decim(given.factor, given.taps, given.edge, given.rate, given.scale)
+    return design.band_of({"low": "lowpass", "high": "highpass", "band": "bandpass"}[given.what], given.edges, given.order, given.rate, given.ripple, given.scale)
+
+
+def points(given: argparse.Namespace) -> list[float]:
+    """The frequencies at which the response is told: the edges, and some that most look at."""
+    own = [*(getattr(given, "edges", None) or []), *([given.frequency] if given.what == "notch" else [])]
+    if given.what == "decim":
+        own += [given.rate / given.factor / 2]
+    usual = [given.rate * it for it in (0, 1 / 160, 1 / 80, 1 / 40, 1 / 16, 1 / 8, 1 / 4, 3 / 8, 0.425, 0.4875)]
+    return sorted({round(it, 3) for it in (*own, *usual) if 0 <= it < given.rate / 2})
+
+
+def tell(given: argparse.Namespace, made: Made) -> None:
+    """Writes the response, and what saturates, to the standard error."""
+    from ..design import Tones, decibels
+
+    if isinstance(made, Tones):
+        print("      Hz   k is of   width  shift  level at 1000, at full scale", file=sys.stderr)
+        for one in made.detectors:
+            print(f"{one.asked:8.1f}  {one.frequency:8.1f}  {one.width:6.1f}  {one.shift:5}  {one.level(1000):13.1f}  {min(32767.0, one.level(32767)):12.1f}", file=sys.stderr)
+    else:
+        where = points(given)
+        print("      Hz  words dB  designed dB", file=sys.stderr)
+        for frequency, words, designed in zip(where, decibels(made.response(where)), decibels(made.designed_response(where))):
+            print(f"{frequency:8.1f}  {words:8.2f}  {designed:11.2f}", file=sys.stderr)
+    for text in made.warnings():
+        print(f"{NAME}: {text}", file=sys.stderr)
+
+
+def main(words: Sequence[str] | None = None) -> int:
+    """The command: its exit status."""
+    given = parser().parse_args(words)
+    return ended(NAME, lambda: serve(given))
+
+
+def serve(given: argparse.Namespace) -> int:
+    """Designs what the command line asks for. Nothing is printed on the standard output where that fails."""
+    need("numpy", "scipy", *(["matplotlib"] if getattr(given, "plot", None) else []))
+    made = made_of(given)
+    share = {"share": True} if given.share else {}
+    lines = made.lines(given.first, given.group, given.channel, **share)
+    if longest := [line for line in lines if len(line) > 1024]:
+        raise RokdaumError(f"a line has more than 1,024 bytes: {longest[0][:60]}..")
+    if getattr(given, "plot", None):
+        from .. import plot
+
+        plot.save(plot.response(made), given.plot)
+    print("\n".join(lines))
+    sys.stdout.flush()
+    tell(given, made)
+    return 0

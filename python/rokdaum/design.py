@@ -1,0 +1,479 @@
+# SPDX-License-Identifier: Apache-2.0
+"""Filters and tone detectors in words of Q14 and Q15, with the response that the rounded words have.
+
+Frequencies are in Hz, `rate` is the samples a second. A word of Q14 is 16384 times its value, and goes from -2 to just below 2; one of Q15 is
+32768 times its value, from -1 to just below 1. scipy designs, and this module scales, rounds and says what saturates.
+
+What saturates: the sums within an algorithm, and its outputs, are limited without a word. The sum of a biquad saturates at twice full scale and
+its output at full scale; the sum of a FIR or a decimator saturates at full scale behind each coefficient. `scale` says for which inputs that
+must not happen:
+
+- `"tones"`, which is meant where nothing is said: no tone up to full scale saturates any sum, at any frequency;
+- `"any"`: no input at all does;
+- `"words"`: the words fit, and nothing more. The gain stays as near to the designed one as words can have it.
+"""
+
+from __future__ import annotations
+
+import itertools
+import math
+from collections.abc import Sequence
+from dataclasses import dataclass
+from functools import cached_property
+from types import ModuleType
+
+import numpy as np
+
+from .errors import DesignError, MissingPackage, NotStable
+
+Q14, Q15 = 16384, 32768
+DEFAULT_RATE = 8000.0
+MOST_TAPS = 64
+MOST_MEMBERS, GROUPS, INSTANCES, CHANNELS = 8, 8, 64, 16
+SCALES = ("tones", "any", "words")
+# Frequencies at which gains are looked at, from 0 to half of the rate.
+GRID = np.linspace(0, np.pi, 2049)
+# An impulse response is summed up until its poles have let it fall this far.
+LONGEST_RESPONSE = 1 << 20
+# The largest word of a numerator is at least this, so that rounding moves a section's gain by a thirtieth at most.
+LEAST_WORD = 16
+
+
+def scipy_signal() -> ModuleType:
+    """`scipy.signal`. Raises MissingPackage where it isn't installed."""
+    try:
+        from scipy import signal
+    except ImportError:
+        raise MissingPackage("scipy") from None
+    return signal
+
+
+def decibels(gain: np.ndarray | float) -> np.ndarray:
+    """Gains in dB, -200 where there is none."""
+    return 20 * np.log10(np.maximum(np.abs(gain), 1e-10))
+
+
+def turn(frequencies: Sequence[float] | np.ndarray, rate: float) -> np.ndarray:
+    """Frequencies in Hz as radians a sample."""
+    return 2 * np.pi * np.asarray(frequencies, dtype=float) / rate
+
+
+def look_at_edges(edges: Sequence[float], rate: float) -> None:
+    """Refuses frequencies that aren't between 0 and half of the rate, in rising order."""
+    if not (rate > 0 and all(0 < edge < rate / 2 for edge in edges)):
+        raise DesignError(f"an edge lies between 0 and {rate / 2:g} Hz, half of {rate:g} samples a second, and here are {', '.join(f'{it:g}' for it in edges)}: name the rate by rate=, --rate")
+    if any(low >= high for low, high in zip(edges, edges[1:])):
+        raise DesignError(f"the lower edge comes first: {', '.join(f'{it:g}' for it in edges)}")
+
+
+def look_at_scale(scale: str) -> None:
+    """Refuses an unknown scale."""
+    if scale not in SCALES:
+        raise DesignError(f"scale is one of {', '.join(SCALES)}, and not {scale}")
+
+
+def look_at_places(first: int, group: int, channel: int, members: int) -> None:
+    """Refuses numbers of instances, groups and channels that there aren't."""
+    if not 0 <= first <= INSTANCES - members:
+        raise DesignError(f"instances are 0 to {INSTANCES - 1}, and {members} from {first} on are asked for")
+    if not 0 <= group < GROUPS:
+        raise DesignError(f"a group is 0 to {GROUPS - 1}, and {group} is asked for")
+    if not 0 <= channel < CHANNELS:
+        raise DesignError(f"a channel is 0 to {CHANNELS - 1}, and {channel} is asked for")
+
+
+@dataclass(frozen=True)
+class Biquads:
+    """A cascade of second-order sections. `words` has b0 b1 b2 a1 a2 of each in Q14; `designed` is scipy's, of shape (sections, 6)."""
+
+    words: tuple[tuple[int, int, int, int, int], ...]
+    designed: np.ndarray
+    rate: float = DEFAULT_RATE
+
+    @cached_property
+    def sections(self) -> np.ndarray:
+        """The values of the words as scipy has them, shape (sections, 6)."""
+        return np.array([[it / Q14 for it in (*one[:3], Q14, *one[3:])] for one in self.words])
+
+    def response(self, frequencies: Sequence[float] | np.ndarray) -> np.ndarray:
+        """The complex gain of the words at frequencies in Hz."""
+        return scipy_signal().sosfreqz(self.sections, turn(frequencies, self.rate))[1]
+
+    def designed_response(self, frequencies: Sequence[float] | np.ndarray) -> np.ndarray:
+        """The complex gain that was designed."""
+        return scipy_signal().sosfreqz(self.designed, turn(frequencies, self.rate))[1]
+
+    @property
+    def radius(self) -> float:
+        """The greatest distance of a pole from 0: below 1 the filter is stable."""
+        return max(float(np.abs(np.roots(one[3:])).max()) for one in self.sections)
+
+    def overflow(self, any_input: bool = False) -> float:
+        """How far past its limit a sum goes: for a full-scale tone of the worst frequency, or for the worst of all inputs. Up to 1 none saturates."""
+        worst = 0.0
+        for at, one in enumerate(self.sections):
+            before = self.sections[:at]
+            worst = max(worst, max(sums_of_any(before, one) if any_input else sums_of_tones(before, one)))
+        return worst
+
+    def deviation(self) -> float:
+        """How many dB the shape of the words' response is off at most, where the designed gain is within 20 dB of its peak."""
+        signal = scipy_signal()
+        exact, words = decibels(signal.sosfreqz(self.designed, GRID)[1]), decibels(signal.sosfreqz(self.sections, GRID)[1])
+        off = (words - exact)[exact > exact.max() - 20]
+        return float(np.ptp(off)) / 2
+
+    def warnings(self) -> list[str]:
+        """What saturates, for which inputs, and where rounding changed the response."""
+        found = told_overflow(self.overflow(), self.overflow(any_input=True))
+        if self.deviation() > 0.5:
+            found.append(f"rounded to Q14 the response is up to {self.deviation():.1f} dB off: take a lower order, a higher edge, or a lower rate by a decimator before it")
+        return found
+
+    def lines(self, first: int = 0, group: int = 0, channel: int = 0, share: bool = False) -> list[str]:
+        """The lines of a script: a creation for each section, in groups of their own or all in one (`share`), and the chain."""
+        count = len(self.words)
+        if count > MOST_MEMBERS:
+            raise DesignError(f"a channel has at most {MOST_MEMBERS} members, and these are {count} sections: take a lower order")
+        look_at_places(first, group, channel, count)
+        if not share and group + count > GROUPS:
+            raise DesignError(f"there are groups 0 to {GROUPS - 1}, and {count} sections from group {group} on don't fit: share=True, --share, puts them into one")
+        made = [f"create {first + at} biquad {group if share else group + at} {' '.join(map(str, one))}" for at, one in enumerate(self.words)]
+        return [*made, chain(channel, range(first, first + count))]
+
+
+@dataclass(frozen=True)
+class Fir:
+    """A FIR filter, or a decimator where `factor` isn't None. `words` are its coefficients in Q15, `designed` the values that scipy gave."""
+
+    words: tuple[int, ...]
+    designed: np.ndarray
+    rate: float = DEFAULT_RATE
+    factor: int | None = None
+
+    def response(self, frequencies: Sequence[float] | np.ndarray) -> np.ndarray:
+        """The complex gain of the words at frequencies in Hz, before the rate is divided."""
+        return polynomial(np.array(self.words) / Q15, turn(frequencies, self.rate))
+
+    def designed_response(self, frequencies: Sequence[float] | np.ndarray) -> np.ndarray:
+        """The complex gain that was designed."""
+        return polynomial(self.designed, turn(frequencies, self.rate))
+
+    def overflow(self, any_input: bool = False) -> float:
+        """How far past full scale a sum goes: for a full-scale tone of the worst frequency, or for the worst of all inputs. Up to 1 none saturates."""
+        values = np.array(self.words) / Q15
+        return float(np.abs(values).sum()) if any_input else partial_peak(values)
+
+    def warnings(self) -> list[str]:
+        """What saturates and for which inputs, and what a decimator lets through that is heard at another frequency."""
+        found = told_overflow(self.overflow(), self.overflow(any_input=True))
+        if self.factor and self.factor > 1:
+            half = self.rate / self.factor / 2
+            through = decibels(self.response(np.linspace(half, self.rate / 2, 512))).max() - float(decibels(self.response([0]))[0])
+            if through > -40:
+                found.append(f"from {half:g} Hz on, half of the new rate, tones are heard at other frequencies at up to {through:.0f} dB: take more coefficients (at most {MOST_TAPS}), a lower edge, or two decimators")
+        return found
+
+    def lines(self, first: int = 0, group: int = 0, channel: int = 0, share: bool = False) -> list[str]:
+        """The lines of a script: the creation and the chain."""
+        look_at_places(first, group, channel, 1)
+        head = f"create {first} fir {group}" if self.factor is None else f"create {first} decim {group} {self.factor}"
+        return [f"{head} {' '.join(map(str, self.words))}", chain(channel, [first])]
+
+
+@dataclass(frozen=True)
+class Tone:
+    """A detector of one tone: k in Q15, frames of `frame` samples, samples divided by 2 to the `shift`."""
+
+    asked: float
+    k: int
+    frame: int
+    shift: int
+    rate: float = DEFAULT_RATE
+
+    @property
+    def frequency(self) -> float:
+        """The frequency in Hz that k stands for."""
+        return math.acos(self.k / Q15) * self.rate / (2 * math.pi)
+
+    @property
+    def width(self) -> float:
+        """About how many Hz from the frequency a tone is heard no more: the rate divided by the frame."""
+        return self.rate / self.frame
+
+    def level(self, peak: float, frequency: float | None = None) -> float:
+        """The level of a tone of so high a peak (a sample), about, at its own or another frequency in Hz, where nothing saturates."""
+        off = 2 * math.pi * ((self.frequency if frequency is None else frequency) - self.frequency) / self.rate
+        lobe = 1.0 if abs(off) < 1e-12 else abs(math.sin(self.frame * off / 2) / (self.frame * math.sin(off / 2)))
+        return (peak * self.frame * lobe / 2 ** (self.shift + 1)) ** 2 / Q15
+
+    def overflow(self) -> float:
+        """How far past 16 bits a value goes for a full-scale tone of the frequency: up to 1 none saturates."""
+        w = math.acos(self.k / Q15)
+        steps = np.arange(self.frame)
+        response = np.sin((steps + 1) * w) / math.sin(w) if 0 < w < math.pi else (steps + 1.0)
+        driven = [np.convolve(np.cos(w * steps + phase), response)[: self.frame] for phase in np.linspace(0, np.pi, 8, endpoint=False)]
+        inner = max(max(float(np.abs(v).max()), float(np.abs(2 * math.cos(w) * v).max()), float(np.abs(v[2:] + v[:-2]).max(initial=0))) for v in driven)
+        return max(inner, self.frame / 2) / 2**self.shift
+
+    def warnings(self) -> list[str]:
+        """What saturates, and how far k is from the tone."""
+        found, over = [], self.overflow()
+        if over > 1:
+            found.append(f"{self.asked:g} Hz: a tone of a peak past {int(32767 / over)} saturates: a shift of {self.shift + math.ceil(math.log2(over))} is for all")
+        if abs(self.frequency - self.asked) > self.width / 10:
+            found.append(f"{self.asked:g} Hz: the nearest k is that of {self.frequency:.1f} Hz: take a lower rate, by a decimator before it")
+        heard = next((peak for peak in range(1, 32768) if self.level(peak) >= 1), 32768)
+        if heard > 1000:
+            found.append(f"{self.asked:g} Hz: a tone of a peak below {heard} has level 0: a longer frame or a lesser shift hears it")
+        return found
+
+
+@dataclass(frozen=True)
+class Tones:
+    """Detectors of several tones, a channel each: the n-th pair of files has the same input for all."""
+
+    detectors: tuple[Tone, ...]
+
+    def warnings(self) -> list[str]:
+        """What the detectors warn of."""
+        return [text for one in self.detectors for text in one.warnings()]
+
+    def lines(self, first: int = 0, group: int = 0, channel: int = 0, share: bool = True) -> list[str]:
+        """The lines of a script: a creation and a chain for each tone. All are in one group, since they hear their frames by turns."""
+        count = len(self.detectors)
+        look_at_places(first, group, channel, count)
+        if channel + count > CHANNELS:
+            raise DesignError(f"a tone takes a channel, there are {CHANNELS}, and {count} from channel {channel} on are asked for")
+        made = [f"create {first + at} tone {group} {one.k} {one.frame} {one.shift}" for at, one in enumerate(self.detectors)]
+        return made + [chain(channel + at, [first + at]) for at in range(count)]
+
+
+def chain(channel: int, members: Sequence[int]) -> str:
+    """The line that makes a channel of instances."""
+    return f"chain {channel} {' '.join(map(str, members))}"
+
+
+def told_overflow(tones: float, any_input: float) -> list[str]:
+    """Sentences on what saturates."""
+    found = []
+    if tones > 1.0005:
+        found.append(f"a tone of full scale saturates at its worst frequency: keep peaks below {int(32767 / tones)} ({-decibels(tones):.1f} dB), or scale for tones")
+    if any_input > 1.0005:
+        found.append(f"no input saturates whose peaks stay below {int(32767 / any_input)} ({-decibels(any_input):.1f} dB); louder ones of the worst shape do")
+    return found
+
+
+def polynomial(values: np.ndarray, w: np.ndarray) -> np.ndarray:
+    """The sum of values[k] e^(-i w k)."""
+    return np.polynomial.polynomial.polyval(np.exp(-1j * w), values)
+
+
+def partial_peak(values: np.ndarray) -> float:
+    """The greatest gain of a full-scale tone in a sum of the first coefficients, over all frequencies and all ends of the sum."""
+    terms = values[:, None] * np.exp(-1j * np.outer(np.arange(len(values)), GRID))
+    return float(np.abs(np.cumsum(terms, axis=0)).max())
+
+
+def sums_of_tones(before: np.ndarray, section: np.ndarray) -> list[float]:
+    """For each sum its gain for a full-scale tone of the worst frequency, over its limit. `before` are the sections that come first."""
+    signal = scipy_signal()
+    ahead = np.abs(signal.sosfreqz(before, GRID)[1]) if len(before) else np.ones(len(GRID))
+    return [float((ahead * np.abs(signal.freqz(top, bottom, GRID)[1])).max()) / limit for top, bottom, limit in partial_sums(section)]
+
+
+def sums_of_any(before: np.ndarray, section: np.ndarray) -> list[float]:
+    """For each sum the sum of the magnitudes of its impulse response, over its limit: what the worst of all inputs makes of it."""
+    signal = scipy_signal()
+    poles = [abs(it) for one in (*before, section) for it in np.roots(one[3:])]
+    slowest = min(max(poles, default=0.0), 1 - 1e-9)
+    length = min(LONGEST_RESPONSE, 64 + int(-40 / math.log(slowest)) if slowest > 0 else 64)
+    pulse = np.zeros(length)
+    pulse[0] = 1.0
+    come = signal.sosfilt(before, pulse) if len(before) else pulse
+    return [float(np.abs(signal.lfilter(top, bottom, come)).sum()) / limit for top, bottom, limit in partial_sums(section)]
+
+
+def partial_sums(section: np.ndarray) -> list[tuple[np.ndarray, np.ndarray, float]]:
+    """The sums within a section as numerator, denominator and limit: behind b0, b1, b2 and a1, and the output."""
+    b, a = section[:3], section[3:]
+    # Behind a1 the sum is (b(z) a(z) - a1 z^-1 b(z)) / a(z): all but the last term, a2 y2.
+    behind_a1 = np.convolve(b, a) - np.convolve(np.array([0.0, a[1], 0.0]), b)
+    return [(b[:1], np.array([1.0]), 2.0), (b[:2], np.array([1.0]), 2.0), (b, np.array([1.0]), 2.0), (behind_a1, a, 2.0), (b, a, 1.0)]
+
+
+def round_section(section: np.ndarray, gain: float) -> tuple[int, int, int, int, int]:
+    """A section's five words with its numerator times a gain. Raises DesignError where one doesn't fit, NotStable where its poles leave the circle."""
+    words = [round(it * gain * Q14) for it in section[:3]] + [round(it * Q14) for it in section[4:]]
+    if not all(-32768 <= it <= 32767 for it in words):
+        raise DesignError(f"the words {words} don't fit Q14, -32768 to 32767: take a lower order or another edge")
+    if max(map(abs, words[:3])) < LEAST_WORD:
+        raise DesignError(
+            f"the words {words[:3]} of a numerator are too small to be rounded: the edge is too low for this rate: take a lower order, or a decimator first"
+        )
+    if float(np.abs(np.roots([Q14, *words[3:]])).max()) >= 1:
+        raise NotStable(f"a section isn't stable once it is rounded to Q14 (a1 = {words[3]}, a2 = {words[4]}): take a lower order, a wider band or a lower rate")
+    return tuple(words)
+
+
+def value_of(words: Sequence[int]) -> np.ndarray:
+    """A section's values, of shape (6,), from its five words."""
+    return np.array([it / Q14 for it in (*words[:3], Q14, *words[3:])])
+
+
+def scaled(section: np.ndarray, before: np.ndarray, scale: str, wanted: float = 1.0) -> tuple[int, int, int, int, int]:
+    """A section's words with the greatest gain, at most `wanted`, for which they fit and nothing saturates that `scale` names."""
+    gain = wanted * min(1.0, 32767 / Q14 / max(np.abs(section[:3]).max() * wanted, 1e-12))
+    for _ in range(100):
+        words = round_section(section, gain)
+        if scale == "words":
+            return words
+        over = max((sums_of_any if scale == "any" else sums_of_tones)(before, value_of(words)))
+        if over <= 1:
+            return words
+        gain *= min(1 / over, 0.9999)
+    raise DesignError("no scale of a section was found for which nothing saturates: take a lower order")
+
+
+def in_order(sections: np.ndarray, order: Sequence[int], scale: str) -> list[tuple[int, int, int, int, int]]:
+    """The words of sections in an order, each scaled behind those before it. The gain that one gives up, a later one may make good."""
+    words: list[tuple[int, int, int, int, int]] = []
+    owed = 1.0
+    for at in order:
+        section = sections[at]
+        before = np.array([value_of(it) for it in words]).reshape(-1, 6)
+        peak = np.abs(scipy_signal().sosfreqz(section[None], GRID)[1]).max()
+        wanted = owed * (1.0 if scale == "words" else max(1.0, 1 / peak))
+        words.append(scaled(section, before, scale, wanted))
+        largest = int(np.argmax(np.abs(section[:3])))
+        owed *= section[largest] / (words[-1][largest] / Q14)
+    return words
+
+
+def biquads(sos: np.ndarray, rate: float = DEFAULT_RATE, scale: str = "tones") -> Biquads:
+    """Sections of scipy, shape (sections, 6), as words of Q14. Up to four sections are put into the order that keeps the most gain.
+
+    Raises DesignError where no words fit, and NotStable where a rounded section isn't stable.
+    """
+    look_at_scale(scale)
+    sections = np.atleast_2d(np.asarray(sos, dtype=float))
+    if sections.ndim != 2 or sections.shape[1] != 6 or not np.isfinite(sections).all() or (sections[:, 3] == 0).any():
+        raise DesignError(f"sections have shape (sections, 6), as scipy's output='sos' gives them, and these have {sections.shape}")
+    sections = sections / sections[:, 3:4]
+    orders = list(itertools.permutations(range(len(sections)))) if 1 < len(sections) <= 4 else [tuple(range(len(sections)))]
+    made = [Biquads(tuple(in_order(sections, order, scale)), sections, rate) for order in orders]
+    # Of equal gains the first order is kept, scipy's own.
+    return max(made, key=lambda it: round(float(np.abs(scipy_signal().sosfreqz(it.sections, GRID)[1]).max()), 3))
+
+
+def band_of(kind: str, edges: Sequence[float], order: int, rate: float, ripple: float | None, scale: str) -> Biquads:
+    """A Butterworth filter, or a Chebyshev one with so many dB of ripple."""
+    look_at_edges(edges, rate)
+    if order < 1:
+        raise DesignError(f"an order is 1 or more, and {order} is asked for")
+    if ripple is not None and not 0 < ripple <= 20:
+        raise DesignError(f"a ripple is between 0 and 20 dB, and {ripple:g} is asked for")
+    signal, where = scipy_signal(), list(edges) if len(edges) > 1 else edges[0]
+    if ripple is None:
+        return biquads(signal.butter(order, where, kind, fs=rate, output="sos"), rate, scale)
+    return biquads(signal.cheby1(order, ripple, where, kind, fs=rate, output="sos"), rate, scale)
+
+
+def low(edge: float, order: int = 4, rate: float = DEFAULT_RATE, ripple: float | None = None, scale: str = "tones") -> Biquads:
+    """A low pass up to `edge` Hz: Butterworth, or Chebyshev of type I with `ripple` dB."""
+    return band_of("lowpass", [edge], order, rate, ripple, scale)
+
+
+def high(edge: float, order: int = 4, rate: float = DEFAULT_RATE, ripple: float | None = None, scale: str = "tones") -> Biquads:
+    """A high pass from `edge` Hz on."""
+    return band_of("highpass", [edge], order, rate, ripple, scale)
+
+
+def band(lowest: float, highest: float, order: int = 3, rate: float = DEFAULT_RATE, ripple: float | None = None, scale: str = "tones") -> Biquads:
+    """A band pass from `lowest` to `highest` Hz, of `order` sections."""
+    return band_of("bandpass", [lowest, highest], order, rate, ripple, scale)
+
+
+def notch(frequency: float, width: float = 10.0, rate: float = DEFAULT_RATE, scale: str = "tones") -> Biquads:
+    """One section that takes out a frequency: at half of `width` Hz beside it the gain is 3 dB less.
+
+    A rounded b1 moves the zeros, so of the numerators within 1 dB the one is taken whose zeros lie nearest to the frequency.
+    """
+    look_at_edges([frequency], rate)
+    look_at_scale(scale)
+    if not 0 < width < rate / 2:
+        raise DesignError(f"a width lies between 0 and {rate / 2:g} Hz, and {width:g} is asked for")
+    b, a = scipy_signal().iirnotch(frequency, frequency / width, fs=rate)
+    section = np.concatenate([b, a])
+    most = abs(scaled(section, np.empty((0, 6)), scale)[0])
+    cosine = 2 * math.cos(2 * math.pi * frequency / rate)
+    found = []
+    for first in range(max(1, int(most * 0.891)), most + 1):
+        middle = round(cosine * first)
+        if abs(middle) <= 32767:
+            found.append((abs(middle / first - cosine), -first, (first, -middle, first, *(round(it * Q14) for it in a[1:]))))
+    if not found:
+        raise DesignError(f"no words of Q14 have their zeros at {frequency:g} Hz")
+    for _, _, words in sorted(found):
+        over = 0.0 if scale == "words" else max((sums_of_any if scale == "any" else sums_of_tones)(np.empty((0, 6)), value_of(words)))
+        if over <= 1:
+            return Biquads((words,), section[None], rate)
+    raise DesignError(f"no notch at {frequency:g} Hz was found for which nothing saturates")
+
+
+def rounded_taps(values: np.ndarray, scale: str) -> tuple[int, ...]:
+    """Coefficients as words of Q15, scaled so that they fit and nothing saturates that `scale` names."""
+    look_at_scale(scale)
+    if not 1 <= len(values) <= MOST_TAPS:
+        raise DesignError(f"there are 1 to {MOST_TAPS} coefficients, and {len(values)} are asked for")
+    gain = min(1.0, 32767 / Q15 / max(float(np.abs(values).max()), 1e-12))
+    for _ in range(100):
+        words = np.round(values * gain * Q15)
+        exact = words / Q15
+        over = 0.0 if scale == "words" else float(np.abs(exact).sum()) if scale == "any" else partial_peak(exact)
+        if over <= 1 and np.abs(words).max() <= 32767:
+            return tuple(int(it) for it in words)
+        gain *= min(1 / max(over, 1.0), 0.9999)
+    raise DesignError("no scale of the coefficients was found for which nothing saturates")
+
+
+def fir(kind: str, edges: Sequence[float], taps: int = 63, rate: float = DEFAULT_RATE, scale: str = "tones") -> Fir:
+    """A FIR of linear phase by a Hamming window: `kind` is `low`, `high` or `band`, `edges` are one or two frequencies in Hz where the gain is 6 dB less."""
+    kinds = {"low": ("lowpass", 1), "high": ("highpass", 1), "band": ("bandpass", 2)}
+    if kind not in kinds or len(edges) != kinds[kind][1]:
+        raise DesignError("a FIR is low EDGE, high EDGE or band LOW HIGH")
+    look_at_edges(edges, rate)
+    if not 1 <= taps <= MOST_TAPS:
+        raise DesignError(f"there are 1 to {MOST_TAPS} coefficients, and {taps} are asked for")
+    if kind == "high" and taps % 2 == 0:
+        raise DesignError(f"a high pass has an odd number of coefficients: take {taps - 1}")
+    values = scipy_signal().firwin(taps, list(edges), pass_zero=kinds[kind][0], fs=rate)
+    return Fir(rounded_taps(values, scale), values, rate)
+
+
+def decim(factor: int, taps: int = 64, edge: float | None = None, rate: float = DEFAULT_RATE, scale: str = "tones") -> Fir:
+    """A decimator by `factor` with its low pass. `edge`, in Hz, is 0.4 of the new rate where nothing is said."""
+    if not 1 <= factor <= 16:
+        raise DesignError(f"a decimator is by 1 to 16, and {factor} is asked for")
+    where = 0.4 * rate / factor if edge is None else edge
+    made = fir("low", [where], taps, rate, scale)
+    return Fir(made.words, made.designed, rate, factor)
+
+
+def tones(frequencies: Sequence[float], frame: int = 205, shift: int | None = None, rate: float = DEFAULT_RATE) -> Tones:
+    """Detectors of tones at frequencies in Hz, by frames of `frame` samples, 1 to 1,024.
+
+    Where no `shift` is named each has the least for which no tone of full scale at its frequency saturates.
+    """
+    for frequency in frequencies:
+        look_at_edges([frequency], rate)
+    if not frequencies:
+        raise DesignError("no frequency is named")
+    if not 1 <= frame <= 1024 or shift is not None and not 0 <= shift <= 15:
+        raise DesignError(f"a frame has 1 to 1024 samples and a shift is 0 to 15, and {frame} and {shift} are asked for")
+    made = []
+    for frequency in frequencies:
+        k = min(32767, round(Q15 * math.cos(2 * math.pi * frequency / rate)))
+        tried = (Tone(frequency, k, frame, it, rate) for it in ([shift] if shift is not None else range(16)))
+        made.append(next((one for one in tried if shift is not None or one.overflow() <= 1), Tone(frequency, k, frame, 15, rate)))
+    return Tones(tuple(made))

@@ -1,0 +1,193 @@
+# SPDX-License-Identifier: Apache-2.0
+"""Filters beside scipy's in floats, and beside the program."""
+
+from __future__ import annotations
+
+import unittest
+from functools import cache
+
+from case import Case, noise, np, tone
+
+from scipy import signal
+
+from rokdaum import design
+from rokdaum.errors import DesignError, NotStable
+from rokdaum.script import process
+
+FILTERS = {
+    "band": (cache(lambda scale: design.band(300, 3400, scale=scale)), [200, 300, 1000, 2500, 3400]),
+    "low": (cache(lambda scale: design.low(1000, scale=scale)), [50, 500, 1000, 1500]),
+    "low Chebyshev": (cache(lambda scale: design.low(1000, 5, ripple=1, scale=scale)), [50, 500, 1000, 1200]),
+    "high": (cache(lambda scale: design.high(300, scale=scale)), [200, 300, 1000, 3900]),
+    "high Chebyshev": (cache(lambda scale: design.high(1000, 3, ripple=0.5, scale=scale)), [500, 1000, 3900]),
+    "band Chebyshev": (cache(lambda scale: design.band(500, 2000, 2, ripple=1, scale=scale)), [300, 600, 1900, 2500]),
+    "another rate": (cache(lambda scale: design.low(3000, 4, rate=16000, scale=scale)), [100, 1000, 3000, 4000]),
+}
+
+
+class Responses(unittest.TestCase):
+    """The rounded words have the designed shape, up to one gain."""
+
+    def test_shape_of_sections(self) -> None:
+        for name, (make, frequencies) in FILTERS.items():
+            for scale in design.SCALES:
+                with self.subTest(filter=name, scale=scale):
+                    made = make(scale)
+                    beside = design.decibels(made.response(frequencies)) - design.decibels(made.designed_response(frequencies))
+                    self.assertLess(np.ptp(beside), 0.25, beside)
+                    self.assertLess(made.radius, 1)
+                    self.assertTrue(all(-32768 <= word <= 32767 for one in made.words for word in one))
+
+    def test_designed_is_scipys(self) -> None:
+        made = design.low(1000, 4)
+        wanted = signal.sosfreqz(signal.butter(4, 1000, fs=8000, output="sos"), [300, 1000, 2000], fs=8000)[1]
+        np.testing.assert_allclose(made.designed_response([300, 1000, 2000]), wanted)
+        made = design.band(300, 3400)
+        np.testing.assert_allclose(np.abs(made.response([300, 1000, 3400])), [0.707, 1, 0.707], atol=0.005)
+
+    def test_what_rounding_changed_is_told(self) -> None:
+        self.assertIn("dB off", " ".join(design.high(20, 6).warnings()))
+        self.assertLess(design.band(300, 3400).deviation(), 0.3)
+
+    def test_fir(self) -> None:
+        for made in (design.fir("low", [1000]), design.fir("band", [300, 3400]), design.fir("high", [1000], 51), design.decim(4, edge=750)):
+            frequencies = np.linspace(10, 3990, 400)
+            scale = np.sum(np.array(made.words) / 32768 * made.designed) / np.sum(made.designed**2)
+            error = np.abs(made.response(frequencies) - scale * made.designed_response(frequencies)).max()
+            # Each coefficient is within half a word.
+            self.assertLessEqual(error, len(made.words) * 0.5 / 32768 * 1.1)
+
+    def test_notch_is_deep(self) -> None:
+        for frequency in (50, 60, 400, 1000, 3000):
+            for scale in design.SCALES:
+                with self.subTest(frequency=frequency, scale=scale):
+                    made = design.notch(frequency, 20, scale=scale)
+                    depth = design.decibels(made.response([frequency]))[0] - design.decibels(made.response([frequency + 500]))[0]
+                    self.assertLess(depth, -60)
+
+
+class Overflow(Case):
+    """What is said to saturate nothing doesn't, in the program; and what is said to saturate does."""
+
+    def error(self, made, given: np.ndarray) -> float:
+        """The largest difference between the program's output and the words' filter in floats."""
+        (gave,), _ = process("\n".join([*made.lines(), "feed 0 all"]), given)
+        exact = signal.sosfilt(made.sections, given.astype(float)) if isinstance(made, design.Biquads) else signal.lfilter(np.array(made.words) / 32768, 1, given.astype(float))
+        return float(np.abs(gave - exact).max())
+
+    def test_tones_of_full_scale(self) -> None:
+        for name, (make, _) in FILTERS.items():
+            made = make("tones")
+            self.assertLessEqual(made.overflow(), 1)
+            for part in (0.003, 0.1, 0.25, 0.6, 0.85, 0.97):
+                # It begins at 0 and swells, so that it is a tone and no step.
+                count = 4000
+                swell = np.minimum(np.arange(count) / 2000, 1)
+                given = np.round(32700 * swell * np.sin(np.pi * part * np.arange(count))).astype(np.int16)
+                with self.subTest(filter=name, part=part):
+                    self.assertLess(self.error(made, given), 60)
+
+    def test_any_input(self) -> None:
+        """The worst input of a filter is the sign of its impulse response, turned round."""
+        for name, (make, _) in FILTERS.items():
+            made = make("any")
+            self.assertLessEqual(made.overflow(any_input=True), 1)
+            pulse = np.zeros(2000)
+            pulse[0] = 1
+            worst = np.where(signal.sosfilt(made.sections, pulse)[::-1] >= 0, 32767, -32768).astype(np.int16)
+            with self.subTest(filter=name):
+                self.assertLess(self.error(made, worst), 60)
+                self.assertLess(self.error(made, noise(4000, peak=32767)), 60)
+
+    def test_fir_of_full_scale(self) -> None:
+        for made in (design.fir("low", [1000]), design.fir("band", [300, 3400], scale="any")):
+            for frequency in (0, 300, 1000, 3900):
+                self.assertLess(self.error(made, np.round(np.minimum(np.arange(2000) / 1000, 1) * tone(frequency, 32700, 2000)).astype(np.int16)), 60)
+        made = design.fir("low", [1000], scale="any")
+        worst = np.where(np.array(made.words)[::-1] >= 0, 32767, -32768).astype(np.int16)
+        self.assertLess(self.error(made, worst), 2)
+
+    def test_what_saturates_is_told(self) -> None:
+        made = design.notch(50, scale="words")
+        self.assertGreater(made.overflow(), 1.5)
+        self.assertIn("a tone of full scale saturates", made.warnings()[0])
+        high = tone(3950, 32700, 2000)
+        self.assertGreater(self.error(made, high), 1000)
+        self.assertLess(self.error(made, np.round(high / (made.overflow() * 1.05)).astype(np.int16)[400:]), 6000)
+        flat = design.Fir((20000, 20000), np.array([20000, 20000]) / 32768)
+        self.assertGreater(self.error(flat, np.full(10, 32767, np.int16)), 5000)
+        self.assertTrue(flat.warnings())
+
+
+class Tones(Case):
+    def test_levels(self) -> None:
+        """A detector's level is the program's."""
+        for frequency, peak, shift in ((697, 7000, None), (1633, 7000, 9), (1209, 30000, None), (440, 20000, None)):
+            made = design.tones([frequency], 205, shift)
+            (gave,), _ = process("\n".join([*made.lines(), "feed 0 all"]), tone(frequency, peak, 205 * 4))
+            one = made.detectors[0]
+            with self.subTest(frequency=frequency):
+                self.assertEqual(len(gave), 4)
+                self.assertLess(abs(gave[0] - one.level(peak)), 3 + 0.12 * one.level(peak))
+
+    def test_no_full_scale_tone_saturates(self) -> None:
+        made = design.tones([697, 1633, 2500], 102)
+        for one in made.detectors:
+            self.assertLessEqual(one.overflow(), 1)
+            (gave,), _ = process("\n".join([*design.Tones((one,)).lines(), "feed 0 all"]), tone(one.asked, 32700, 1020))
+            self.assertLess(abs(gave[0] - one.level(32700)), 3 + 0.1 * one.level(32700))
+        self.assertEqual(made.lines()[-1], "chain 2 2")
+
+    def test_warnings(self) -> None:
+        self.assertIn("saturates", design.tones([1633], 102, 6, rate=4000).warnings()[0])
+        self.assertIn("the nearest k is that of", " ".join(design.tones([7], 1024).warnings()))
+        self.assertIn("has level 0", " ".join(design.tones([1000], 50, 12).warnings()))
+
+
+class Decimators(Case):
+    def test_aliases_are_told(self) -> None:
+        self.assertIn("half of the new rate", " ".join(design.decim(16).warnings()))
+        self.assertNotIn("half of the new rate", " ".join(design.decim(4, edge=600).warnings()))
+
+    def test_lines(self) -> None:
+        made = design.decim(4, 8)
+        (gave,), result = process("\n".join([*made.lines(3, 2, 0), "feed 0 all"]), noise(401))
+        self.assertEqual(len(gave), 100)
+        self.assertEqual(result.replies, ["ok", "ok", "ok 100"])
+        self.assertTrue(made.lines(3, 2, 1)[0].startswith("create 3 decim 2 4 "))
+
+
+class Refused(unittest.TestCase):
+    def test_what_can_not_be(self) -> None:
+        for call, said in (
+            (lambda: design.low(4000), "between 0 and 4000"),
+            (lambda: design.band(3400, 300), "the lower edge comes first"),
+            (lambda: design.low(1000, 0), "order"),
+            (lambda: design.low(1000, ripple=-1), "ripple"),
+            (lambda: design.low(1000, scale="loud"), "scale"),
+            (lambda: design.fir("low", [1000], 65), "1 to 64"),
+            (lambda: design.fir("high", [1000], 50), "odd"),
+            (lambda: design.fir("flat", [1000]), "FIR is"),
+            (lambda: design.decim(17), "1 to 16"),
+            (lambda: design.tones([1000], 1025), "1 to 1024"),
+            (lambda: design.tones([]), "no frequency"),
+            (lambda: design.band(300, 3400, 9).lines(), "at most 8 members"),
+            (lambda: design.band(300, 3400).lines(group=6), "share"),
+            (lambda: design.band(300, 3400).lines(first=62), "instances are 0 to 63"),
+            (lambda: design.tones([500] * 2).lines(channel=15), "a tone takes a channel"),
+            (lambda: design.biquads(np.ones((2, 5))), "shape"),
+            (lambda: design.notch(50, 9000), "width"),
+        ):
+            with self.subTest(said=said), self.assertRaisesRegex(DesignError, said):
+                call()
+
+    def test_not_stable(self) -> None:
+        """Poles this near to the circle are rounded onto it."""
+        with self.assertRaisesRegex(DesignError, "edge is too low"):
+            design.low(2, 4)
+        with self.assertRaises(NotStable):
+            design.biquads(np.array([[0.1, 0, 0, 1, -1.99999, 0.99999]]))
+
+    def test_not_stable_at_the_top(self) -> None:
+        with self.assertRaises(DesignError):
+            design.biquads(np.array([[1.0, 0, 0, 1, 2.1, 1.2]]))

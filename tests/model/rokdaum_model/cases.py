@@ -1,0 +1,81 @@
+# SPDX-License-Identifier: Apache-2.0
+"""A case: one run of the program with what is expected of it, in memory or as a folder.
+
+A folder holds `arguments` (the words of the command line, one a line), `script`, `in0`, `in1` .., and what is expected:
+`replies`, `out0`, `out1` .., `status`, `stderr`. `about.json` says the rest: a note, whether the kinds that break the laws
+are needed, whether the OUTs hold something before the run (`stale`), whether SCRIPT comes by a pipe (`piped`), and what isn't
+determined: numbers of replies in which `*` stands for any word, and ranges of bytes of outputs.
+"""
+
+from __future__ import annotations
+
+import json
+from dataclasses import dataclass, field
+from pathlib import Path
+from typing import Optional
+
+from .command_line import option_words, port_words
+from .console import FAULT_STATUS, STATUS_LINE, Config, Served, Undetermined, serve_with_undetermined
+
+ABOUT = ("note", "mixed", "stale", "piped", "any_replies", "any_outputs")
+
+
+@dataclass
+class Case:
+    """A run and its expected result."""
+
+    words: list[str]
+    script: bytes
+    inputs: list[bytes]
+    replies: bytes
+    outputs: list[bytes]
+    status: int
+    stderr: bytes = b""
+    note: str = ""
+    mixed: bool = False
+    stale: bool = False
+    piped: bool = False
+    any_replies: list[int] = field(default_factory=list)
+    any_outputs: dict[str, list[tuple[int, Optional[int]]]] = field(default_factory=dict)
+
+
+def case_of(config: Config, script: bytes, inputs: list[bytes], served: Served, undetermined: Undetermined,
+            note: str = "") -> Case:
+    """The case of a run whose result is known."""
+    stderr = b""
+    if served.status > 1:
+        cause = next(cause for cause, status in FAULT_STATUS.items() if status == served.status)
+        stderr = STATUS_LINE[cause].encode() + b"\n"
+    return Case(option_words(config) + port_words(len(inputs)), script, inputs, served.replies, served.outputs, served.status,
+                stderr, note, config.mixed, any_replies=undetermined.replies,
+                any_outputs={str(c): ranges for c, ranges in undetermined.outputs.items()})
+
+
+def expected_case(config: Config, script: bytes, inputs: list[bytes], note: str = "") -> Case:
+    """The case of a run, with the model's result."""
+    return case_of(config, script, inputs, *serve_with_undetermined(config, script, inputs), note)
+
+
+def write_case(folder: Path, case: Case) -> None:
+    """Writes a case as a folder."""
+    folder.mkdir(parents=True, exist_ok=True)
+    (folder / "arguments").write_text("".join(word + "\n" for word in case.words))
+    (folder / "script").write_bytes(case.script)
+    for c, data in enumerate(case.inputs):
+        (folder / f"in{c}").write_bytes(data)
+    for c, data in enumerate(case.outputs):
+        (folder / f"out{c}").write_bytes(data)
+    (folder / "replies").write_bytes(case.replies)
+    (folder / "status").write_text(f"{case.status}\n")
+    (folder / "stderr").write_bytes(case.stderr)
+    (folder / "about.json").write_text(json.dumps({name: getattr(case, name) for name in ABOUT}) + "\n")
+
+
+def read_case(folder: Path) -> Case:
+    """Reads a case from its folder."""
+    about = json.loads((folder / "about.json").read_text())
+    words = (folder / "arguments").read_text().splitlines()
+    pairs = sum(1 for word in words if word.startswith("out"))
+    return Case(words, (folder / "script").read_bytes(), [(folder / f"in{c}").read_bytes() for c in range(pairs)],
+                (folder / "replies").read_bytes(), [(folder / f"out{c}").read_bytes() for c in range(pairs)],
+                int((folder / "status").read_text()), (folder / "stderr").read_bytes(), **about)

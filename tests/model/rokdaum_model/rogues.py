@@ -1,0 +1,68 @@
+# SPDX-License-Identifier: Apache-2.0
+"""The kinds of `mixed_console` that break the laws of algorithms. Of what they give only a part is determined."""
+
+from __future__ import annotations
+
+from typing import TYPE_CHECKING, Optional
+
+from .kinds import LAWFUL, Kind
+from .memory import OBJECT, Attr, Record, Space
+from .voices import UNKNOWN, Block, Voice
+
+if TYPE_CHECKING:
+    from .machine import Group
+
+
+class Rogue(Kind):
+    """An unlawful kind: three records, no parameters, and it accepts every control."""
+
+    def __init__(self, name: str):
+        self.name = name
+
+    def table(self, p):
+        """The same records for each of them."""
+        if p:
+            return None
+        return (OBJECT, Record(8, 4, Space.SARAM, Attr.PERSIST), Record(260, 16, Space.DARAM, Attr.SCRATCH))
+
+    def accepts(self, p, control):
+        """Everything."""
+        return True
+
+    def start(self, p, form):
+        """A new instance."""
+        return RogueVoice(self.name)
+
+
+class RogueVoice(Voice):
+    """What is determined of a rogue: `scribble` gives its input; `clinger` gives the first scratch word and keeps the last
+    sample there; the others give what they like."""
+
+    def __init__(self, name: str):
+        self.name = name
+        self.group: Optional[Group] = None   # set by the host
+
+    def process(self, block: Block) -> Block:
+        """The output, where it is determined."""
+        if self.name == "scribble":
+            return block
+        if self.name != "clinger":
+            return UNKNOWN
+        if block is UNKNOWN:
+            self.group.first_word = None
+            return UNKNOWN
+        given = [self.group.first_word] + block[:-1]
+        self.group.first_word = block[-1]
+        return given
+
+    def control(self, control):
+        """Done."""
+        return ()
+
+
+ROGUES = {name: Rogue(name) for name in ("scribble", "clinger", "forger", "babbler")}
+
+
+def kinds_by_name(mixed: bool) -> dict[str, Kind]:
+    """The kinds that a script may name."""
+    return {**LAWFUL, **ROGUES} if mixed else dict(LAWFUL)

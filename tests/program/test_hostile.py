@@ -1,0 +1,151 @@
+# SPDX-License-Identifier: Apache-2.0
+"""Odd scripts, odd files and closed descriptors."""
+
+from __future__ import annotations
+
+import os
+import random
+import subprocess
+import unittest
+from typing import Optional
+
+from console_case import HALF, PATIENCE, PROGRAM, READ_FAILED, WRITE_FAILED, ConsoleCase, words
+
+DONE = b"ok\nok\nok 2\nok 1\n"
+BILLION = 1_000_000_000
+
+
+class Closed(ConsoleCase):
+    """Runs whose standard descriptors are closed. No reply and no message ever lands in an OUT."""
+
+    def closed(self, which: tuple[int, ...], *given: str) -> tuple[int, bytes, bytes]:
+        """Runs the program with some of the descriptors 0, 1 and 2 closed; the status and what came to the others."""
+        def close() -> None:
+            for descriptor in which:
+                os.close(descriptor)
+        done = subprocess.run([PROGRAM, *given], cwd=self.folder, stdin=subprocess.DEVNULL, capture_output=True,
+                              timeout=PATIENCE, preexec_fn=close)
+        return done.returncode, done.stdout, done.stderr
+
+    def test_no_standard_input(self) -> None:
+        self.assertEqual(self.closed((0,), "script", "in", "out"), (0, DONE, b""))
+        self.assertEqual(self.read("out"), words(1, 2, 3))
+
+    def test_no_standard_output(self) -> None:
+        self.assertEqual(self.closed((1,), "script", "in", "out"), (4, b"", WRITE_FAILED[1]))
+        self.assertEqual(self.read("out"), words(1, 2, 3))
+
+    def test_no_standard_error(self) -> None:
+        self.assertEqual(self.closed((2,), "absent", "in", "out"), (3, b"", b""))
+        self.assertEqual(self.closed((2,), "script", "in", "out"), (0, DONE, b""))
+
+    def test_several_at_once(self) -> None:
+        for which in ((0, 1), (0, 2), (1, 2), (0, 1, 2)):
+            with self.subTest(closed=which):
+                self.assertEqual(self.closed(which, "script", "in", "out")[0], 4 if 1 in which else 0)
+                self.assertEqual(self.read("out"), words(1, 2, 3))
+        self.assertEqual(self.closed((0, 1, 2), "absent", "in", "out")[0], 3)
+        self.assertEqual(self.read("out"), words(1, 2, 3))
+
+
+class Files(ConsoleCase):
+    """Names and files."""
+
+    def test_names_of_every_sort(self) -> None:
+        for name in ("a name", "a\nname", "\u00e4\u65e5", "'", "*", "name.", "n" * 255, "=", "--", "\\"):
+            with self.subTest(name=name):
+                self.write(name, self.read("in"))
+                self.assertEqual(self.run_program("--", "script", name, "out").status, 0)
+                self.assertEqual(self.read("out"), words(1, 2, 3))
+        self.assertEqual(self.run_program("script", "n" * 256, "out").end, READ_FAILED)
+        self.assertEqual(self.run_program("script", "in", "n" * 256).end, WRITE_FAILED)
+
+    def test_a_file_may_be_read_twice(self) -> None:
+        script = b"create 0 fir 0 16384\ncreate 1 fir 0 16384\nchain 0 0\nchain 1 1\nfeed 0 3\nfeed 1 3\n"
+        self.assertEqual(self.run_script(script, "in", "out", "in", "out1").status, 0)
+        self.assertEqual((self.read("out"), self.read("out1")), (words(1, 2, 3), words(1, 2, 3)))
+
+    def test_a_script_may_be_an_input(self) -> None:
+        self.assertEqual(self.run_program("script", "script", "out").status, 0)
+
+    @unittest.skipIf(os.geteuid() == 0, "nothing is forbidden to root")
+    def test_files_without_leave(self) -> None:
+        self.write("locked", b"")
+        os.chmod(self.folder / "locked", 0)
+        self.assertEqual(self.run_program("locked", "in", "out").end, READ_FAILED)
+        self.assertEqual(self.run_program("script", "in", "locked").end, WRITE_FAILED)
+
+
+class Scripts(ConsoleCase):
+    """Scripts that no one would write."""
+
+    def test_random_bytes(self) -> None:
+        """Each line is answered: nothing but refusals, and none for a blank line."""
+        data = random.Random(11).randbytes(3_000_000)
+        ended = self.run_script(data, "in", "out")
+        lines = data.split(b"\n")
+        answered = [line for line in lines if len(line) > 1024
+                    or line.removesuffix(b"\r").replace(b"\t", b" ").strip(b" ")]
+        wanted = [b"no 1 long" if len(line) > 1024 else b"no 2 syntax" for line in answered]
+        self.assertEqual(ended.end, (1, b""))
+        self.assertEqual(ended.replies.split(b"\n")[:-1], wanted)
+
+    def test_lines_at_the_limit(self) -> None:
+        for line, reply in ((b"stat 0" + b" " * 1018, b"ok - 0\n"), (b"stat 0" + b" " * 1019, b"no 1 long\n"),
+                            (b"stat 0" + b" " * 1017 + b"\r", b"ok - 0\n"), (b" " * 1025, b"no 1 long\n"), (b" " * 1024, b""),
+                            (b"x" * 5000, b"no 1 long\n"), (b"\xef\xbb\xbfstat 0", b"no 2 syntax\n"),
+                            (b"feed 0\0 1", b"no 2 syntax\n"), (b"\tstat\t\t0 ", b"ok - 0\n"), (b"stat -0", b"ok - 0\n")):
+            for end in (b"\n", b""):
+                with self.subTest(line=line[:20], end=end):
+                    self.assertEqual(self.run_script(line + end, "in", "out").replies, reply)
+
+    def zeros(self, count: int, head: bytes = b"", tail: bytes = b"") -> tuple[int, bytes, bytes]:
+        """A script by a pipe of `count` bytes: a head, NULs, a tail."""
+        process = subprocess.Popen([PROGRAM, "/dev/stdin", "in", "out"], cwd=self.folder, stdin=subprocess.PIPE,
+                                   stdout=subprocess.PIPE, stderr=subprocess.PIPE)
+        try:
+            process.stdin.write(head)
+            left = count - len(head) - len(tail)
+            while left:
+                left -= process.stdin.write(bytes(min(left, 1 << 20)))
+            process.stdin.write(tail)
+            process.stdin.close()
+        except BrokenPipeError:
+            pass
+        status = process.wait(2 * PATIENCE)
+        found = status, process.stdout.read(), process.stderr.read()
+        for pipe in (process.stdout, process.stderr):
+            pipe.close()
+        return found
+
+    def test_a_script_of_the_greatest_length(self) -> None:
+        self.assertEqual(self.zeros(BILLION), (1, b"no 1 long\n", b""))
+
+    def test_a_script_that_is_a_byte_too_long(self) -> None:
+        self.assertEqual(self.zeros(BILLION + 1), (3, b"", READ_FAILED[1]))
+
+    def test_lines_before_the_limit_are_served(self) -> None:
+        head, feed = HALF + b"#", b"\nfeed 0 1"
+        self.assertEqual(self.zeros(BILLION, head, feed), (1, b"ok\nok\nno 1 long\nok 1\n", b""))
+        self.assertEqual(self.zeros(BILLION + 1, head, feed + b"\n"), (3, b"ok\nok\nno 1 long\n", READ_FAILED[1]))
+
+
+class Memory(ConsoleCase):
+    """What a run takes and gives back."""
+
+    def most_memory(self, script: Optional[bytes]) -> int:
+        """The most memory that a run has, in KiB."""
+        self.write("given", script or b"")
+        done = subprocess.run(["/usr/bin/env", "python3", "-c", "import resource, subprocess, sys\n"
+                               "subprocess.run(sys.argv[1:], stdout=subprocess.DEVNULL)\n"
+                               "print(resource.getrusage(resource.RUSAGE_CHILDREN).ru_maxrss)", PROGRAM, "given", "in", "out"],
+                              cwd=self.folder, capture_output=True, timeout=PATIENCE, check=True)
+        return int(done.stdout)
+
+    def test_a_long_script_takes_no_more(self) -> None:
+        lines = b"create 0 fir 0 1\nmap daram\nstat 0\ndelete 0\n"
+        self.assertLess(self.most_memory(lines * 50000), self.most_memory(lines) + 512)
+
+
+if __name__ == "__main__":
+    unittest.main()

@@ -1,0 +1,273 @@
+# SPDX-License-Identifier: Apache-2.0
+"""The proved program: whether it is built from the sources as they stand, and how it is built anew.
+
+`dsp_console` and `check` use this. A build is a run of `rt ci` over a copy of the program's crate and of the crates that it
+stands on, without their must-fail edits: every crate is proved, as many at a time as the graph, the processors and the memory
+allow, and the program is what that run makes.
+"""
+
+from __future__ import annotations
+
+import hashlib
+import os
+import re
+import shutil
+import subprocess
+import sys
+import tempfile
+import time
+from pathlib import Path
+
+TOP = Path(__file__).resolve().parent.parent
+CRATES = TOP / "crates"
+# The crate of the program, and that of its like with kinds that break the laws, which only tests run.
+NAME = "dsp_console_main"
+MIXED = "mixed_console"
+# What a crate is proved from.
+SOURCES = ("src", "specs", "proofs")
+# What else a program's folder has, for its stored run.
+STORED_RUN = ("stdin", "stdout", "args", "status", "data")
+
+# The exit statuses of a program that can't be run, as sysexits.h has them.
+CANT_BUILD_HERE = 69
+NOT_BUILT = 70
+
+# What a build needs free, in a folder for temporary files: copies, proofs and the program.
+DISK_OCTETS = 6_000_000_000
+# Seconds of one processor: for each crate, and for each line of it. They only make the first estimate of the minutes.
+CRATE_SECONDS = 11.0
+LINE_SECONDS = 0.034
+
+
+class CantBuild(Exception):
+    """Why there is no program, in one sentence, and the exit status that tells it."""
+
+    def __init__(self, why: str, status: int) -> None:
+        super().__init__(why)
+        self.status = status
+
+
+def path_of(name: str = NAME) -> Path:
+    """Where a program stands once it is built."""
+    return CRATES / name / "out" / name
+
+
+def built_from(name: str = NAME) -> Path:
+    """The file with the checksum of the sources that a program was built from."""
+    return CRATES / name / "out" / "built_from"
+
+
+def uses() -> dict[str, list[str]]:
+    """The crates of the repository, each with the libraries that crates.txt lists for it."""
+    listed = {}
+    for line in (TOP / "crates.txt").read_text(encoding="utf-8").splitlines():
+        head, colon, tail = line.partition("#")[0].partition(":")
+        if colon:
+            listed[head.split()[0]] = tail.split()
+    return listed
+
+
+def closure(name: str = NAME) -> list[str]:
+    """A crate and the crates of the repository that it stands on, lowest first."""
+    listed, found = uses(), []
+
+    def visit(crate: str) -> None:
+        if crate in listed and crate not in found:
+            for below in listed[crate]:
+                visit(below)
+            found.append(crate)
+
+    visit(name)
+    return found
+
+
+def source_files(crate: str) -> list[str]:
+    """The files that a crate is proved from, in the order of their names."""
+    found = []
+    for part in SOURCES:
+        for folder, _, names in os.walk(f"{CRATES}/{crate}/{part}"):
+            found += [f"{folder}/{name}" for name in names if name.endswith((".rt", ".antt"))]
+    return sorted(found)
+
+
+def octets_of(path: str) -> bytes:
+    with open(path, "rb") as file:
+        return file.read()
+
+
+def checksum(name: str = NAME) -> str:
+    """A checksum of all that a program is built from: the lines of crates.txt and each file of each crate of its closure."""
+    listed, total = uses(), hashlib.sha256()
+    for crate in closure(name):
+        total.update(f"{crate}: {' '.join(listed[crate])}\n".encode())
+        for path in source_files(crate):
+            text = octets_of(path)
+            total.update(f"{path[len(str(CRATES)):]} {len(text)}\n".encode() + text)
+    return total.hexdigest()
+
+
+def is_built(name: str = NAME) -> bool:
+    """Whether a program is there and was built from the sources as they stand."""
+    sources = built_from(name)
+    return os.access(path_of(name), os.X_OK) and sources.is_file() and sources.read_text() == checksum(name)
+
+
+def keep(name: str, sources: str) -> None:
+    """Says of the program that `rt ci` has just made in its place that it was made from these sources, if they still stand."""
+    if os.access(path_of(name), os.X_OK) and sources == checksum(name):
+        built_from(name).write_text(sources)
+
+
+def take(made: Path, name: str, sources: str) -> None:
+    """Puts a program that was made from these sources in its place, whole or not at all."""
+    program = path_of(name)
+    program.parent.mkdir(parents=True, exist_ok=True)
+    for path, put in ((program, lambda to: shutil.copy2(made, to)), (built_from(name), lambda to: to.write_text(sources))):
+        part = path.with_suffix(f".{os.getpid()}")
+        put(part)
+        os.replace(part, path)
+
+
+def kit_lines(text: str) -> list[str]:
+    """The lines that name a kit: its name and the checksum of its logic."""
+    return re.findall(r"rattle-kit-\w+ logic [0-9a-f]+", text)
+
+
+def look_at_kit(say) -> None:
+    """Refuses a machine without the kit or with one of another logic, and tells of a kit that the sources weren't proved with."""
+    if not shutil.which("rt"):
+        raise CantBuild(
+            "the program isn't built yet, and rt, the command of the Rattle kit that proves and builds it, isn't on PATH: "
+            "install the kit that README.md names (x86-64 Linux), or take a release, which needs none",
+            CANT_BUILD_HERE,
+        )
+    here = kit_lines(subprocess.run(["rt", "version"], capture_output=True, text=True).stdout)
+    known = kit_lines((TOP / "README.md").read_text(encoding="utf-8"))
+    if not here or here[0].split()[-1] not in {line.split()[-1] for line in known}:
+        raise CantBuild(
+            f"the kit here is {here[0] if here else 'of no known version'}, and the sources are proved with {' or '.join(known)}: install one of these",
+            CANT_BUILD_HERE,
+        )
+    if here[0] not in known:
+        say(f"note: the kit here is {here[0]}; the sources were proved with {' or '.join(known)}, whose logic is the same")
+
+
+def look_at_disk(room: Path) -> None:
+    """Refuses a folder for temporary files that is too small for a build."""
+    free = shutil.disk_usage(room).free
+    if free < DISK_OCTETS:
+        raise CantBuild(
+            f"a build takes {DISK_OCTETS / 1e9:.0f} GB in {room}, where {free / 1e9:.1f} GB are free: make room, or name another folder by TMPDIR",
+            CANT_BUILD_HERE,
+        )
+
+
+class Progress:
+    """How far a build is: of each crate its weight in seconds of one processor, and what stands above it."""
+
+    def __init__(self, crates: list[str], say) -> None:
+        listed = uses()
+        self.say, self.began, self.lanes = say, time.monotonic(), len(os.sched_getaffinity(0))
+        self.weight = {it: CRATE_SECONDS + LINE_SECONDS * sum(octets_of(path).count(b"\n") for path in source_files(it)) for it in crates}
+        self.below = {it: [dep for dep in listed[it] if dep in self.weight] for it in crates}
+        self.left = list(crates)
+        self.all = len(crates)
+
+    def seconds_left(self) -> float:
+        """The most of what the processors have left to do and of the longest chain of crates left, at the pace so far."""
+
+        chains: dict[str, float] = {}
+        for crate in self.left:
+            chains[crate] = self.weight[crate] + max((chains.get(it, 0.0) for it in self.below[crate]), default=0.0)
+        model = max(sum(self.weight[it] for it in self.left) / self.lanes, max(chains.values(), default=0.0))
+        return model
+
+    def begin(self) -> None:
+        """Tells what is coming."""
+        minutes = self.seconds_left() / 60
+        self.say(
+            f"the program has to be built: {self.all} crates are proved, up to {self.lanes} at a time, in about {minutes:.0f} minutes on idle processors; "
+            "all sources are read first, which takes a minute or two"
+        )
+        self.whole = max(self.seconds_left(), 1.0)
+
+    def proved(self, crate: str) -> None:
+        """Tells that a crate is proved."""
+        if crate not in self.left:
+            return
+        self.left.remove(crate)
+        spent, model = time.monotonic() - self.began, self.seconds_left()
+        done = self.whole - model
+        pace = min(max(spent / done, 0.5), 6.0) if done > 0.1 * self.whole else 1.0
+        rest = f"about {max(1, round(model * pace / 60))} minutes left" if self.left else "the program is next"
+        self.say(f"proved {crate}, {self.all - len(self.left)} of {self.all}, {rest}")
+
+
+def copy_closure(room: Path, crates: list[str]) -> None:
+    """Copies the crates, without their must-fail edits and kept work, into a repository of their own."""
+    listed = uses()
+    (room / "crates.txt").write_text("".join(f"{it}: {' '.join(listed[it])}\n" for it in crates))
+    shutil.copy(TOP / "HANDLES", room)
+    for crate in crates:
+        for part in (*SOURCES, *STORED_RUN):
+            path = CRATES / crate / part
+            if path.is_dir():
+                shutil.copytree(path, room / "crates" / crate / part)
+            elif path.is_file():
+                shutil.copy(path, room / "crates" / crate)
+
+
+def build(say, name: str = NAME) -> None:
+    """Proves what a program stands on, and builds it, or raises why it can't be. What `say` is given is for a person to read."""
+    look_at_kit(say)
+    folder = Path(tempfile.gettempdir())
+    look_at_disk(folder)
+    crates, sources = closure(name), checksum(name)
+    progress = Progress(crates, say)
+    progress.begin()
+    log = folder / f"dsp_console-build-{os.getpid()}.log"
+    with tempfile.TemporaryDirectory(prefix="dsp_console-build-", dir=folder) as copy:
+        room = Path(copy)
+        copy_closure(room, crates)
+        with open(log, "w", encoding="utf-8") as kept:
+            ran = subprocess.Popen(["rt", "ci"], cwd=room, stdin=subprocess.DEVNULL, stdout=subprocess.PIPE, stderr=subprocess.STDOUT, text=True, errors="replace")
+            for line in ran.stdout:
+                kept.write(line)
+                told = re.fullmatch(r"rt: (\w+) proved\n", line)
+                if told:
+                    progress.proved(told[1])
+                refused = re.fullmatch(r"rt: (\w+)(?:: its tests are)? NOT PROVED.*\n", line)
+                if refused:
+                    say(f"{refused[1]} is refused")
+            status = ran.wait()
+        made = room / "crates" / name / "out" / name
+        if status or not os.access(made, os.X_OK):
+            raise CantBuild(f"not built: rt ci ended with status {status}, and all that it said is in {log}", NOT_BUILT)
+        take(made, name, sources)
+    log.unlink()
+    say("built")
+
+
+def run_unproved(arguments: list[str]) -> int:
+    """Runs what `rt try` makes of the sources, of which nothing is proved, and returns its exit status."""
+    if not shutil.which("rt"):
+        raise CantBuild("rt, the command of the Rattle kit, isn't on PATH: install the kit that README.md names (x86-64 Linux)", CANT_BUILD_HERE)
+    print("dsp_console: NOTHING OF THIS PROGRAM IS PROVED: it is made for this one run, in a minute or two", file=sys.stderr, flush=True)
+    return subprocess.run(["rt", "try", "--", *absolute(arguments)], cwd=CRATES / NAME).returncode
+
+
+# Options whose value is the next argument.
+VALUED = ("--daram", "--saram", "--external", "--poison", "--in8", "--out8")
+
+
+def absolute(arguments: list[str]) -> list[str]:
+    """The arguments with each file's path made absolute, since `rt try` runs the program in another folder."""
+    made, is_value, are_files = [], False, False
+    for word in arguments:
+        if is_value or (word.startswith("-") and word != "-" and not are_files):
+            is_value = not is_value and word in VALUED
+            are_files = are_files or word == "--"
+            made.append(word)
+        else:
+            made.append(os.path.abspath(word) if word else word)
+    return made

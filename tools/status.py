@@ -1,0 +1,110 @@
+#!/usr/bin/env python3
+# SPDX-License-Identifier: Apache-2.0
+"""Makes docs/STATUS.md out of what the last whole `./check` kept in out/check: what passed, of which commit, and what it took.
+
+    tools/status.py            writes docs/STATUS.md
+    tools/status.py --print    prints it
+
+It refuses a run in which a part failed, was left out, or of which the proofs' log is missing.
+"""
+
+from __future__ import annotations
+
+import json
+import re
+import sys
+from dataclasses import dataclass, field
+from pathlib import Path
+
+TOP = Path(__file__).resolve().parent.parent
+LOGS = TOP / "out" / "check"
+
+
+@dataclass
+class Row:
+    """What the log of `rt ci` says of a crate."""
+
+    functions: int = 0
+    tests: int = 0
+    refused: list[str] = field(default_factory=list)
+
+
+def rows_of(log: str) -> dict[str, Row]:
+    """The crates of a log of `rt ci`, in the order in which they were proved."""
+    rows: dict[str, Row] = {}
+    section = ""
+    for line in log.splitlines():
+        head = re.fullmatch(r"== (\w+)(: its tests)?", line)
+        if head:
+            section = head[1]
+            rows.setdefault(section, Row())
+        verdict = re.match(r"logic=proved (?:tests=(\d+) )?functions=(\d+)", line)
+        if verdict and verdict[1]:
+            rows[section].tests = int(verdict[1])
+        elif verdict:
+            rows[section].functions = int(verdict[2])
+        edit = re.match(r"(?:rt: )?must-fail (\w+)/([\w.-]+)\.edit: refused", line)
+        if edit:
+            rows.setdefault(edit[1], Row()).refused.append(edit[2])
+    return rows
+
+
+def page(summary: dict, log: str) -> str:
+    """The text of docs/STATUS.md."""
+    rows, parts = rows_of(log), summary["parts"]
+    passed = sum(part["passed"] for part in parts.values())
+    edits = sum(len(row.refused) for row in rows.values())
+    lines = [
+        "# Status",
+        "",
+        "Made by `tools/status.py` from the log of one whole `./check`, the test command.",
+        "",
+        "| | |",
+        "|---|---|",
+        f"| commit | `{summary['commit']}`{', with changes that were not committed' if summary['changed'] else ''} |",
+        f"| ended | {summary['ended']} |",
+        f"| kit | {summary['kit']} |",
+        f"| processors | {summary['processors']} |",
+        f"| minutes | {sum(part['minutes'] for part in parts.values()):.1f} |",
+        f"| last line | {passed} passed, 0 failed |",
+        f"| crates proved | {len(rows)} |",
+        f"| functions proved | {sum(row.functions for row in rows.values()):,} |",
+        f"| must-fail edits refused | {edits} |",
+        f"| tests of crates that passed | {sum(row.tests for row in rows.values())} |",
+        "",
+        "## Parts",
+        "",
+        "| part | passed | failed | minutes |",
+        "|---|---|---|---|",
+        *(f"| {name} | {part['passed']} | {part['failed']} | {part['minutes']} |" for name, part in parts.items()),
+        "",
+        "## Crates",
+        "",
+        "| crate | functions proved | tests | must-fail edits refused |",
+        "|---|---|---|---|",
+        *(f"| {name} | {row.functions} | {row.tests or ''} | {len(row.refused) or ''} |" for name, row in sorted(rows.items())),
+    ]
+    return "\n".join(lines) + "\n"
+
+
+def main() -> int:
+    try:
+        summary = json.loads((LOGS / "summary.json").read_text())
+        log = (LOGS / "proofs.log").read_text(encoding="utf-8", errors="replace")
+    except OSError as missing:
+        print(f"status: no whole run is kept here: {missing}", file=sys.stderr)
+        return 1
+    bad = [name for name, part in summary["parts"].items() if part["failed"] or not part["passed"]]
+    if bad or "proofs" not in summary["parts"]:
+        print(f"status: not a whole run in which all passed: {', '.join(bad) or 'the proofs were left out'}", file=sys.stderr)
+        return 1
+    text = page(summary, log)
+    if "--print" in sys.argv[1:]:
+        print(text, end="")
+    else:
+        (TOP / "docs" / "STATUS.md").write_text(text)
+    return 0
+
+
+if __name__ == "__main__":
+    sys.exit(main())

@@ -1,0 +1,298 @@
+# SPDX-License-Identifier: Apache-2.0
+"""Tests of the tools that keep the documents: python3 -m unittest discover -t tools -s tools/tests."""
+from __future__ import annotations
+
+import contextlib
+import io
+import sys
+import tempfile
+import unittest
+from pathlib import Path
+
+sys.path.insert(0, str(Path(__file__).resolve().parents[1]))
+import architecture  # noqa: E402
+import closure  # noqa: E402
+import documents  # noqa: E402
+
+CRATES = """# from the bottom up
+low:
+high: low arrayvec
+"""
+LOW = """//! A crate.
+/// Doubles.
+pub fn double(x: u32) -> u32
+    requires small { IsSmall x }
+    ensures value { result ≡ doubled x }
+{
+    x + x
+}
+"""
+LOW_SPECS = """use Rattle.std.specs.Prelude.{ℕ, ◌+◌}
+use Rattle.low.specs.declared.TheConstants.{GREATEST}
+
+-- twice a number
+abbrev pub doubled : ℕ → ℕ
+doubled x = x + x
+
+-- small enough
+pub record IsSmall (x : ℕ) : Type 0 where
+  pub least : x ≤ GREATEST
+  pub inner : Deep x
+
+abbrev pub Deep : ℕ → Type 0
+Deep x = unused x ≡ x
+
+abbrev pub unused : ℕ → ℕ
+unused x = x
+
+abbrev pub alone : ℕ → ℕ
+alone x = x
+"""
+README = """# Title
+
+## `low`
+
+`double` is `value` of `double`, by `doubled`; see [above](#title) and [more](docs/MORE.md#a-part).
+
+    crates/low/src/lib.rt
+"""
+MORE = "# A part\n\nThere are <!-- count: crates -->2<!-- --> crates.\n"
+
+
+class Checkout(unittest.TestCase):
+    """A small repository in a folder of its own."""
+
+    def setUp(self) -> None:
+        folder = tempfile.TemporaryDirectory()
+        self.addCleanup(folder.cleanup)
+        self.root = Path(folder.name)
+        self.put("crates.txt", CRATES)
+        self.put("crates/low/src/lib.rt", LOW)
+        self.put("crates/low/specs/Numbers.antt", LOW_SPECS)
+        self.put("crates/low/must-fail/doubles_twice.edit", "file: src/lib.rt\n")
+        self.put("crates/high/src/lib.rt", "pub const GREATEST: u32 = 7;\n")
+        self.put("README.md", README)
+        self.put("docs/MORE.md", MORE)
+
+    def put(self, name: str, text: str) -> None:
+        path = self.root / name
+        path.parent.mkdir(parents=True, exist_ok=True)
+        path.write_text(text, encoding="utf-8")
+
+    def problems(self) -> list[str]:
+        return [str(problem) for problem in documents.Checker(documents.Repository(self.root)).check()]
+
+    def assert_one(self, *parts: str) -> None:
+        found = self.problems()
+        self.assertEqual(len(found), 1, found)
+        for part in parts:
+            self.assertIn(part, found[0])
+
+
+class Names(Checkout):
+    def test_true_documents_have_no_problem(self) -> None:
+        self.assertEqual(self.problems(), [])
+
+    def test_a_name_that_no_source_has(self) -> None:
+        self.put("README.md", README + "\n`triple` is new.\n")
+        self.assert_one("README.md:9", "`triple`")
+
+    def test_a_clause_that_its_function_lacks(self) -> None:
+        self.put("README.md", README + "\n`doubled`, `least` of `double`.\n")
+        self.assertEqual(self.problems(), [])  # `least` is a field of the record that the contract cites
+        self.put("README.md", README + "\n`alone` of `double`.\n")
+        self.assert_one("`alone` isn't of `double`")
+
+    def test_a_word_of_a_comment_is_no_name(self) -> None:
+        self.put("README.md", README + "\n`Doubles`\n")
+        self.assert_one("`Doubles`")
+
+    def test_an_edit_is_a_name(self) -> None:
+        self.put("README.md", README + "\n`doubles_twice`\n")
+        self.assertEqual(self.problems(), [])
+
+    def test_a_name_of_another_crate_under_a_heading(self) -> None:
+        self.put("docs/PROVED.md", "# Proved\n\n## `low`\n\n`GREATEST` and `doubled`, `alone`.\n\n## `high`\n\n`doubled`\n")
+        self.assertEqual(self.problems(), [])
+        self.put("crates/high/src/lib.rt", "pub const GREATEST: u32 = 7;\npub fn halve() {}\n")
+        self.put("docs/PROVED.md", "# Proved\n\n## `low`\n\n`halve`\n")
+        self.assert_one("docs/PROVED.md:5", "`halve`", "these crates")
+
+    def test_a_crate_without_a_row(self) -> None:
+        self.put("docs/ARCHITECTURE.md", "| crate | does |\n|---|---|\n| `low` | little |\n")
+        self.assert_one("`high` has no row")
+
+    def test_outside_names(self) -> None:
+        self.put("README.md", README + "\n`sox`\n")
+        self.put("tools/outside_names.txt", "Debian: sox\n")
+        self.assertEqual(self.problems(), [])
+        self.put("README.md", README)
+        self.assert_one("`sox` stands in no document")
+
+    def test_paths(self) -> None:
+        self.put("README.md", README + "\n`crates/low/src/none.rt`, `crates/NAME/out/x` and `crates/*/src/lib.rt`.\n\n    docs/none.md\n")
+        found = self.problems()
+        self.assertEqual([problem.split(": ")[1] for problem in found], ["`crates/low/src/none.rt` isn't there", "`docs/none.md` isn't there"])
+
+
+    def test_what_git_ignores_may_be_named(self) -> None:
+        self.put("README.md", README + "\n    examples/one/out.raw\n")
+        self.assert_one("`examples/one/out.raw`")
+        self.put(".gitignore", "out/\nexamples/*/out.raw\n")
+        self.assertEqual(self.problems(), [])
+
+
+class Links(Checkout):
+    def test_a_link_to_nowhere(self) -> None:
+        self.put("README.md", README + "\n[a](docs/NONE.md)\n")
+        self.assert_one("leads nowhere")
+
+    def test_an_anchor_that_is_not_there(self) -> None:
+        self.put("README.md", README + "\n[a](docs/MORE.md#b)\n")
+        self.assert_one("anchor")
+
+    def test_slugs(self) -> None:
+        self.assertEqual(documents.slug("`alg_fir`, G.711: what *is* kept?"), "alg_fir-g711-what-is-kept")
+
+
+class Numbers(Checkout):
+    def test_a_stale_number_is_found_and_written(self) -> None:
+        self.put("docs/MORE.md", MORE.replace(">2<", ">3<"))
+        self.assert_one("crates is 2, and not 3")
+        self.assertEqual(documents.write(documents.Repository(self.root)), ["docs/MORE.md"])
+        self.assertEqual(self.problems(), [])
+
+    def test_an_unknown_number(self) -> None:
+        self.put("docs/MORE.md", MORE.replace("crates -->", "stars -->"))
+        self.assert_one("nothing counts stars")
+
+    def test_a_number_without_an_end(self) -> None:
+        self.put("docs/MORE.md", MORE + "<!-- count: edits -->1\n")
+        self.assert_one("has no end")
+
+    def test_a_long_readme(self) -> None:
+        self.put("README.md", README + "\n" * 250)
+        self.assert_one("257 lines")
+        self.put("README.md", README + "\n" + "x" * 121 + "\n")
+        self.assert_one("121 letters")
+
+
+class Definitions(Checkout):
+    """The list of definitions, in a repository whose main theorem is `run` of `dsp_console`."""
+
+    TABLE = "# Definitions\n\n## `low`: `Numbers`\n\n| definition | what it is | headline |\n|---|---|---|\n| `doubled`, `alone` | twice | `doubled` |\n"
+
+    def setUp(self) -> None:
+        super().setUp()
+        self.put("crates.txt", "low:\nvoice_set:\ndsp_console: low\n")
+        self.put("docs/MORE.md", MORE.replace(">2<", ">3<"))
+        self.put("crates/dsp_console/src/lib.rt", "ghost use Rattle.low.specs.Numbers.{doubled};\npub fn run()\n    ensures headline { doubled 1 ≡ 2 }\n{\n}\n")
+        self.put("crates/voice_set/specs/Voices.antt", "abbrev pub voice_meaning : ℕ\nvoice_meaning = 1\n\nabbrev pub voice_named : ℕ\nvoice_named = 1\n")
+        self.rest = "| `voice_meaning`, `voice_named` | both | all |\n"
+        self.table = self.TABLE + "\n## `voice_set`: `Voices`\n\n| definition | what it is | headline |\n|---|---|---|\n" + self.rest
+        self.put("docs/DEFINITIONS.md", self.table)
+
+    def test_a_true_list(self) -> None:
+        self.assertEqual(self.problems(), [])
+
+    def test_a_stale_column_is_found_and_written(self) -> None:
+        self.put("docs/DEFINITIONS.md", self.table.replace("| twice | `doubled` |", "| twice | |"))
+        self.assert_one("docs/DEFINITIONS.md:7", "stale")
+        self.assertEqual(documents.write(documents.Repository(self.root)), ["docs/DEFINITIONS.md"])
+        self.assertEqual((self.root / "docs/DEFINITIONS.md").read_text(), self.table)
+
+    def test_a_list_without_a_column_gets_one(self) -> None:
+        bare = self.table.replace(" headline |", "").replace("|---|---|---|", "|---|---|").replace("twice | `doubled` |", "twice |").replace("both | all |", "both |")
+        self.put("docs/DEFINITIONS.md", bare)
+        documents.write(documents.Repository(self.root))
+        self.assertEqual((self.root / "docs/DEFINITIONS.md").read_text(), self.table)
+
+    def test_a_definition_that_is_not_listed(self) -> None:
+        self.put("docs/DEFINITIONS.md", self.table.replace(self.rest, "| `voice_meaning` | one | all |\n"))
+        self.assert_one("`voice_named` of voice_set", "isn't listed")
+
+    def test_a_stale_reading_list(self) -> None:
+        self.put("docs/MORE.md", "# A part\n\n<!-- list: headline -->\n<!-- end of the list -->\n")
+        self.assert_one("the reading list is stale")
+        documents.write(documents.Repository(self.root))
+        self.assertEqual(self.problems(), [])
+        self.assertIn("| `low` | `Numbers` | 1 | 2 |", (self.root / "docs/MORE.md").read_text())
+
+
+class Closures(Checkout):
+    def setUp(self) -> None:
+        super().setUp()
+        source = LOW.replace("//! A crate.\n", "//! A crate.\nghost use Rattle.low.specs.Numbers.{doubled, IsSmall};\n")
+        self.put("crates/low/src/lib.rt", source)
+        self.sources = closure.Sources(self.root)
+
+    def names(self, *clauses: str) -> set[str]:
+        return {key[2] for key in closure.closure_of(self.sources, ["low:double"], clauses, (), set()).found}
+
+    def test_all_that_a_contract_names(self) -> None:
+        self.assertEqual(self.names(), {"doubled", "IsSmall", "Deep", "unused"})
+
+    def test_one_clause(self) -> None:
+        self.assertEqual(self.names("value"), {"doubled"})
+
+    def test_a_stop_leaves_out_what_only_it_needs(self) -> None:
+        found = closure.closure_of(self.sources, ["low:double"], (), (), {("low", "Numbers", "Deep")})
+        self.assertEqual({key[2] for key in found.found}, {"doubled", "IsSmall"})
+        self.assertEqual(found.declared, {("low", "GREATEST")})
+
+    def test_lines(self) -> None:
+        found = closure.closure_of(self.sources, ["low:double"], ("value",), (), set())
+        self.assertEqual(found.lines(), (2, 3))
+
+    def test_refusals(self) -> None:
+        for words, wanted in ((["low:none"], "no such function"), (["low:double", "--clause", "none"], "has no clause"), (["low:double", "--also", "low.Numbers.none"], "no such definition")):
+            said = io.StringIO()
+            with contextlib.redirect_stderr(said):
+                self.assertEqual(closure.main([*words, "--root", str(self.root)]), 2)
+            self.assertIn(wanted, said.getvalue())
+
+
+class Pictures(unittest.TestCase):
+    def test_arrows_leave_out_what_others_reach(self) -> None:
+        house = architecture.House.read("ialg:\nalg_fir: ialg\nvoice_set: alg_fir ialg arrayvec\n")
+        self.assertEqual(house.arrows(), [("alg_fir", "ialg"), ("voice_set", "alg_fir")])
+        self.assertEqual(house.titles, ["algorithms", "base"])
+
+    def test_headings_are_layers(self) -> None:
+        house = architecture.House.read("## base\nlow:\n## top\nhigh: low\n")
+        self.assertEqual((house.titles, house.layer), (["top", "base"], {"low": "base", "high": "top"}))
+
+    def test_a_crate_of_no_layer(self) -> None:
+        house = architecture.House.read("ialg:\nnobody_knows: ialg\n")
+        self.assertEqual(house.of_layer(architecture.OTHERS), ["nobody_knows"])
+
+    def test_sections(self) -> None:
+        text = "# each crate\nialg:\n# for tests alone\ntrial_runs: voice_set\n# the kernel of filters\nalg_fir: ialg\nvoice_set: alg_fir\n"
+        wanted = "# each crate and the libraries that it uses, from the bottom up\n\n## base\nialg:\n\n## algorithms\n# the kernel of filters\nalg_fir: ialg\nvoice_set: alg_fir\n\n## tests\ntrial_runs: voice_set\n"
+        house = architecture.House.read(text)
+        self.assertEqual(architecture.sections(text, house), wanted)
+        again = architecture.House.read(wanted)
+        self.assertEqual((again.layer, again.titles), (house.layer, house.titles))
+        self.assertEqual(architecture.sections(wanted, again), wanted)
+
+    def test_a_crate_that_stands_on_a_layer_above(self) -> None:
+        house = architecture.House.read("ialg: alg_fir\nalg_fir:\n")
+        self.assertEqual(architecture.upward(house), [("ialg", "alg_fir")])
+
+    def test_a_stale_picture(self) -> None:
+        with tempfile.TemporaryDirectory() as folder:
+            root = Path(folder)
+            (root / "docs").mkdir()
+            (root / "crates.txt").write_text("ialg:\n")
+            said = io.StringIO()
+            with contextlib.redirect_stderr(said):
+                self.assertEqual(architecture.main(["--check", "--root", folder]), 1)
+                self.assertEqual(architecture.main(["--write", "--root", folder]), 0)
+                self.assertEqual(architecture.main(["--check", "--root", folder]), 0)
+                (root / "crates.txt").write_text("ialg:\nalg_fir: ialg\n")
+                self.assertEqual(architecture.main(["--check", "--root", folder]), 1)
+            self.assertIn("stale", said.getvalue())
+
+
+if __name__ == "__main__":
+    unittest.main()

@@ -1,0 +1,165 @@
+# SPDX-License-Identifier: Apache-2.0
+"""What `dsp_console` does around the program, over a small repository and a stand-in for `rt` that writes down its calls."""
+
+from __future__ import annotations
+
+import os
+import shutil
+import subprocess
+import sys
+import tempfile
+import unittest
+from pathlib import Path
+from unittest import mock
+
+TOP = Path(__file__).resolve().parents[2]
+sys.path.insert(0, str(TOP / "tools"))
+
+import program  # noqa: E402  (it stands in tools/)
+
+KIT = "rattle-kit-1 logic 00ff"
+# Says its version, or proves both crates and makes a program that prints its text, or fails where a source says so.
+RT = """#!/usr/bin/env bash
+echo "$*" >> "$CALLS"
+case $1 in
+    version) echo "$KIT_HERE" ;;
+    try) shift 2; printf '%s\\n' "$@" ;;
+    ci)
+        [ -d crates/low/must-fail ] && echo "an edit was copied"
+        if grep -q wrong crates/low/src/lib.rt; then echo "rt: low NOT PROVED"; echo "0 passed, 2 failed"; exit 1; fi
+        echo "rt: low proved"
+        echo "rt: dsp_console_main proved"
+        mkdir crates/dsp_console_main/out
+        made=crates/dsp_console_main/out/dsp_console_main
+        printf '#!/bin/sh\\necho "%s" "$@"\\nexit 3\\n' "$(cat crates/low/src/lib.rt)" > $made
+        chmod +x $made
+        echo "2 passed, 0 failed" ;;
+esac
+"""
+
+
+class Wrapper(unittest.TestCase):
+    def setUp(self) -> None:
+        self.room = Path(self.enterContext(tempfile.TemporaryDirectory()))
+        self.top = self.room / "repository"
+        for crate, name in (("low", "lib"), ("dsp_console_main", "main"), ("beside", "lib")):
+            (self.top / "crates" / crate / "src").mkdir(parents=True)
+            (self.top / "crates" / crate / "src" / f"{name}.rt").write_text("first")
+        (self.top / "crates" / "low" / "must-fail").mkdir()
+        (self.top / "crates.txt").write_text("low: arrayvec\ndsp_console_main: low\nbeside: low\n")
+        (self.top / "HANDLES").write_text("Handles allowed: none.\n")
+        (self.top / "VERSION").write_text("1.2.3\n")
+        (self.top / "README.md").write_text(f"    {KIT}\n")
+        (self.top / "docs").mkdir()
+        (self.top / "docs" / "dsp_console.txt").write_text("the help\n")
+        shutil.copytree(TOP / "tools", self.top / "tools", ignore=shutil.ignore_patterns("__pycache__"))
+        shutil.copy(TOP / "dsp_console", self.top)
+        self.bin = self.room / "bin"
+        self.bin.mkdir()
+        (self.bin / "rt").write_text(RT)
+        (self.bin / "rt").chmod(0o755)
+        self.calls = self.room / "calls"
+        self.calls.write_text("")
+
+    def run_it(self, *words: str, kit: str = KIT, has_rt: bool = True) -> subprocess.CompletedProcess:
+        path = f"{self.bin}:/usr/bin:/bin" if has_rt else "/usr/bin:/bin"
+        more = {"PATH": path, "CALLS": str(self.calls), "KIT_HERE": kit}
+        return subprocess.run([sys.executable, self.top / "dsp_console", *words], cwd=self.room, env={**os.environ, **more}, capture_output=True, text=True)
+
+    def builds(self) -> int:
+        return self.calls.read_text().splitlines().count("ci")
+
+    def test_the_first_call_builds_and_runs(self) -> None:
+        ran = self.run_it("a", "b")
+        self.assertEqual((ran.stdout, ran.returncode), ("first a b\n", 3))
+        self.assertIn("2 crates are proved", ran.stderr)
+        self.assertIn("proved low, 1 of 2", ran.stderr)
+        self.assertIn("proved dsp_console_main, 2 of 2, the program is next", ran.stderr)
+        self.assertNotIn("left", ran.stderr.splitlines()[-1])
+
+    def test_the_second_call_runs_alone(self) -> None:
+        self.run_it("a")
+        ran = self.run_it("a")
+        self.assertEqual((ran.stdout, ran.stderr, self.builds()), ("first a\n", "", 1))
+
+    def test_a_change_of_any_source_is_built(self) -> None:
+        self.run_it()
+        (self.top / "crates" / "low" / "src" / "lib.rt").write_text("second")
+        self.assertEqual((self.run_it().stdout, self.builds()), ("second\n", 2))
+        (self.top / "crates" / "low" / "specs").mkdir()
+        (self.top / "crates" / "low" / "specs" / "New.antt").write_text("x")
+        self.run_it()
+        self.assertEqual(self.builds(), 3)
+        (self.top / "crates.txt").write_text("low:\ndsp_console_main: low\nbeside: low\n")
+        self.run_it()
+        self.assertEqual(self.builds(), 4)
+
+    def test_an_older_time_stamp_hides_no_change(self) -> None:
+        self.run_it()
+        changed = self.top / "crates" / "low" / "src" / "lib.rt"
+        changed.write_text("second")
+        os.utime(changed, (0, 0))
+        self.assertEqual(self.run_it().stdout, "second\n")
+
+    def test_what_the_program_does_not_stand_on_is_not_looked_at(self) -> None:
+        self.run_it()
+        (self.top / "crates" / "beside" / "src" / "lib.rt").write_text("second")
+        self.run_it()
+        self.assertEqual(self.builds(), 1)
+
+    def test_help_and_version_build_nothing(self) -> None:
+        self.assertEqual(self.run_it("--help").stdout, "the help\n")
+        self.assertEqual(self.run_it("--version").stdout, "dsp_console 1.2.3\n")
+        self.assertEqual(self.calls.read_text(), "")
+
+    def test_a_refused_source_leaves_the_old_program_unused(self) -> None:
+        self.run_it()
+        (self.top / "crates" / "low" / "src" / "lib.rt").write_text("wrong")
+        ran = self.run_it("a")
+        self.assertEqual((ran.stdout, ran.returncode), ("", program.NOT_BUILT))
+        self.assertIn("low is refused", ran.stderr)
+
+    def test_a_machine_without_rt_is_told_what_is_missing(self) -> None:
+        ran = self.run_it("a", has_rt=False)
+        self.assertEqual((ran.stdout, ran.returncode), ("", program.CANT_BUILD_HERE))
+        self.assertEqual(len(ran.stderr.splitlines()), 1)
+
+    def test_a_kit_of_another_logic_is_refused(self) -> None:
+        ran = self.run_it("a", kit="rattle-kit-2 logic ee")
+        self.assertEqual((ran.returncode, self.builds()), (program.CANT_BUILD_HERE, 0))
+
+    def test_another_kit_of_the_same_logic_is_named(self) -> None:
+        ran = self.run_it("a", kit="rattle-kit-2 logic 00ff")
+        self.assertEqual(ran.returncode, 3)
+        self.assertIn("rattle-kit-2", ran.stderr)
+
+    def test_unproved_says_so_and_passes_absolute_paths(self) -> None:
+        ran = self.run_it("--unproved", "--daram", "64", "script", "in", "out")
+        self.assertEqual(ran.stdout.splitlines(), ["--daram", "64", f"{self.room}/script", f"{self.room}/in", f"{self.room}/out"])
+        self.assertIn("NOTHING OF THIS PROGRAM IS PROVED", ran.stderr)
+        self.assertEqual(self.builds(), 0)
+
+
+class Parts(unittest.TestCase):
+    def test_a_folder_that_is_too_small_is_refused(self) -> None:
+        with mock.patch.object(program.shutil, "disk_usage", return_value=mock.Mock(free=5_000_000_000)):
+            with self.assertRaises(program.CantBuild) as refusal:
+                program.look_at_disk(Path("/tmp"))
+        self.assertEqual(refusal.exception.status, program.CANT_BUILD_HERE)
+        self.assertIn("5.0 GB are free", str(refusal.exception))
+
+    def test_values_of_options_are_no_paths(self) -> None:
+        here = os.getcwd()
+        self.assertEqual(program.absolute(["--poison=3", "--in8", "1", "--", "-s", "/i"]), ["--poison=3", "--in8", "1", "--", f"{here}/-s", "/i"])
+
+    def test_a_crate_stands_behind_what_it_uses(self) -> None:
+        crates = program.closure()
+        listed = program.uses()
+        self.assertEqual(crates[-1], program.NAME)
+        for at, crate in enumerate(crates):
+            for below in listed[crate]:
+                self.assertTrue(below not in listed or below in crates[:at], (crate, below))
+
+
+if __name__ == "__main__":
+    unittest.main()

@@ -1,0 +1,190 @@
+# SPDX-License-Identifier: Apache-2.0
+"""What a release is made of and when it is refused, over a small repository; and what the man page and the completion name."""
+
+from __future__ import annotations
+
+import hashlib
+import os
+import re
+import shutil
+import subprocess
+import sys
+import tarfile
+import tempfile
+import unittest
+from pathlib import Path
+
+TOP = Path(__file__).resolve().parents[2]
+LOGIC = "5a" * 32
+SCRIPT = f"#!/bin/sh\n# rattle logic={LOGIC}\n# GLIBC_2.9 GLIBC_2.31\necho proved\n"
+
+
+class Release(unittest.TestCase):
+    def setUp(self) -> None:
+        self.room = Path(self.enterContext(tempfile.TemporaryDirectory()))
+        self.top = self.room / "repository"
+        self.out = self.room / "made"
+        texts = {
+            "README.md": f"    rattle-kit-1 logic {LOGIC[:16]}\n",
+            "docs/RELEASE.md": "[a](A.md) [x](../examples/x) [c](../CHANGELOG.md) [n](https://example.org/A.md)\n",
+            "docs/A.md": "a\n",
+            "docs/man/dsp_console.1": ".TH X 1\n",
+            "docs/completion/dsp_console": "# none\n",
+            "examples/x": "#!/bin/sh\n../dsp_console\n",
+            "crates.txt": "dsp_console_main: arrayvec\n",
+            "crates/dsp_console_main/src/main.rt": "first\n",
+            "VERSION": "1.2.3\n",
+            ".gitignore": "out/\n",
+            "secret/key": "no part of a release\n",
+        }
+        for path in ("CHANGELOG.md", "LICENSE", "NOTICE", "SECURITY.md"):
+            texts[path] = path
+        for path, text in texts.items():
+            (self.top / path).parent.mkdir(parents=True, exist_ok=True)
+            (self.top / path).write_text(text)
+        shutil.copy(TOP / "Makefile", self.top)
+        (self.top / "tools").mkdir()
+        for tool in ("program.py", "release.py"):
+            shutil.copy(TOP / "tools" / tool, self.top / "tools")
+        (self.top / "examples/x").chmod(0o755)
+        self.git("init", "-q")
+        self.commit()
+        self.build()
+
+    def git(self, *words: str) -> None:
+        settings = ("-c", "user.name=n", "-c", "user.email=e", "-c", "commit.gpgsign=false")
+        subprocess.run(("git", *settings, *words), cwd=self.top, check=True, capture_output=True)
+
+    def commit(self) -> None:
+        self.git("add", "-A")
+        self.git("commit", "-q", "-m", "all")
+
+    def build(self, text: str = SCRIPT) -> None:
+        """A program that is said to be built from the sources as they stand."""
+        made = self.top / "crates/dsp_console_main/out/dsp_console_main"
+        made.parent.mkdir(exist_ok=True)
+        made.write_text(text)
+        made.chmod(0o755)
+        words = "import program; program.built_from().write_text(program.checksum())"
+        subprocess.run((sys.executable, "-B", "-c", words), cwd=self.top / "tools", check=True)
+
+    def call(self, *words: str, status: int = 0) -> str:
+        environment = {name: value for name, value in os.environ.items() if name not in ("SOURCE_DATE_EPOCH", "MAKEFLAGS", "MAKELEVEL")}
+        ran = subprocess.run(words, cwd=self.top, env=environment, capture_output=True, text=True, check=False)
+        self.assertEqual(ran.returncode, status, ran.stdout + ran.stderr)
+        return ran.stdout + ran.stderr
+
+    def release(self, *words: str, status: int = 0) -> str:
+        return self.call("tools/release.py", "--to", str(self.out), *words, status=status)
+
+    def test_what_it_holds(self) -> None:
+        path = Path(self.release().strip())
+        self.assertEqual(path.name, "rokdaum-1.2.3-x86_64-linux.tar.gz")
+        self.assertEqual(Path(f"{path}.sha256").read_text(), f"{hashlib.sha256(path.read_bytes()).hexdigest()}  {path.name}\n")
+        with tarfile.open(path) as tar:
+            found = {it.name: it for it in tar.getmembers()}
+            texts = {name.partition("/")[2]: tar.extractfile(it).read().decode() for name, it in found.items() if it.isfile()}
+        wanted = {"CHANGELOG.md", "LICENSE", "Makefile", "NOTICE", "ORIGIN", "README.md", "SECURITY.md", "SHA256SUMS", "VERSION", "docs/A.md", "docs/RELEASE.md"}
+        wanted |= {"docs/completion/dsp_console", "docs/man/dsp_console.1", "dsp_console", "examples/x"}
+        self.assertEqual(set(texts), wanted)
+        self.assertEqual(texts["dsp_console"], SCRIPT)
+        self.assertEqual(texts["README.md"], "[a](docs/A.md) [x](examples/x) [c](CHANGELOG.md) [n](https://example.org/A.md)\n")
+        self.assertIn(f"logic    {LOGIC}\n", texts["ORIGIN"])
+        self.assertIn("glibc    2.31 or newer\n", texts["ORIGIN"])
+        self.assertNotIn("with changes", texts["ORIGIN"])
+        modes = {name.partition("/")[2]: it.mode for name, it in found.items() if it.isfile()}
+        self.assertEqual({name for name, mode in modes.items() if mode == 0o755}, {"dsp_console", "examples/x"})
+        self.assertEqual(len({(it.uid, it.gid, it.mtime) for it in found.values()}), 1)
+
+    def test_the_time_may_be_given(self) -> None:
+        os.environ["SOURCE_DATE_EPOCH"] = "86400"
+        self.addCleanup(os.environ.pop, "SOURCE_DATE_EPOCH")
+        ran = subprocess.run(("tools/release.py", "--to", self.out), cwd=self.top, capture_output=True, text=True, check=True)
+        with tarfile.open(ran.stdout.strip()) as tar:
+            self.assertEqual({it.mtime for it in tar.getmembers()}, {86400})
+        os.environ["SOURCE_DATE_EPOCH"] = "today"
+        ran = subprocess.run(("tools/release.py", "--to", self.out), cwd=self.top, capture_output=True, text=True, check=False)
+        self.assertEqual((ran.returncode, ran.stderr), (1, "release: SOURCE_DATE_EPOCH is no number of seconds: today\n"))
+
+    def test_no_program(self) -> None:
+        shutil.rmtree(self.top / "crates/dsp_console_main/out")
+        self.assertIn("isn't built", self.release(status=69))
+        self.assertFalse(self.out.exists())
+        self.call("make", "dist", status=2)
+
+    def test_a_program_of_other_sources(self) -> None:
+        (self.top / "crates/dsp_console_main/src/main.rt").write_text("second\n")
+        self.assertIn("isn't built", self.release("--changed", status=69))
+        self.commit()
+        self.assertIn("isn't built", self.release(status=69))
+
+    def test_a_program_of_another_logic(self) -> None:
+        self.build(SCRIPT.replace("5a5a", "5b5b"))
+        self.assertIn("logic 5b5b", self.release(status=1))
+        self.build("#!/bin/sh\n")
+        self.assertIn("no logic", self.release(status=1))
+
+    def test_changes_that_are_not_committed(self) -> None:
+        (self.top / "docs/A.md").write_text("b\n")
+        self.assertIn("not committed", self.release(status=1))
+        path = self.release("--changed").strip()
+        with tarfile.open(path) as tar:
+            self.assertIn(b"with changes", tar.extractfile("rokdaum-1.2.3-x86_64-linux/ORIGIN").read())
+            self.assertEqual(tar.extractfile("rokdaum-1.2.3-x86_64-linux/docs/A.md").read(), b"b\n")
+
+    def test_a_file_that_git_does_not_know(self) -> None:
+        (self.top / "examples/mine").write_text("mine\n")
+        with tarfile.open(self.release().strip()) as tar:
+            self.assertNotIn("rokdaum-1.2.3-x86_64-linux/examples/mine", tar.getnames())
+
+    def test_a_stage_takes_no_other_folder(self) -> None:
+        (self.room / "precious").mkdir()
+        (self.room / "precious/file").write_text("mine\n")
+        said = self.call("tools/release.py", "--stage", str(self.room / "precious"), status=1)
+        self.assertIn("is no folder of a release", said)
+        self.assertEqual((self.room / "precious/file").read_text(), "mine\n")
+
+    def test_install_from_the_repository(self) -> None:
+        target = self.room / "target"
+        for _ in range(2):
+            self.call("make", "install", "PREFIX=/usr", f"DESTDIR={target}")
+        self.assertEqual(self.call(str(target / "usr/bin/dsp_console")), "proved\n")
+        self.assertTrue((target / "usr/share/doc/rokdaum/dsp_console").samefile(target / "usr/bin/dsp_console"))
+        self.assertFalse((target / "usr/share/doc/rokdaum/Makefile").exists())
+        self.call("make", "uninstall", "PREFIX=/usr", f"DESTDIR={target}")
+        self.assertEqual([it for it in target.rglob("*") if not it.is_dir()], [])
+        self.assertIn("nothing is installed", self.call("make", "uninstall", "PREFIX=/usr", f"DESTDIR={target}", status=2))
+
+
+class Pages(unittest.TestCase):
+    def options(self, text: str) -> set[str]:
+        return set(re.findall(r"--\w+", text))
+
+    def setUp(self) -> None:
+        self.wanted = self.options((TOP / "docs/dsp_console.txt").read_text(encoding="utf-8"))
+
+    def test_the_man_page_has_the_options_of_help(self) -> None:
+        page = (TOP / "docs/man/dsp_console.1").read_text(encoding="utf-8").replace("\\-", "-")
+        self.assertEqual(self.options(page), self.wanted)
+        self.assertIn(f'"Rokdaum {(TOP / "VERSION").read_text().strip()}"', page)
+
+    def test_the_man_page_has_no_fault(self) -> None:
+        ran = subprocess.run(("groff", "-man", "-Tutf8", "-ww", "-z", TOP / "docs/man/dsp_console.1"), capture_output=True, text=True, check=True)
+        self.assertEqual(ran.stderr, "")
+
+    def complete(self, *words: str) -> list[str]:
+        """What bash offers for the last of the words."""
+        script = 'source "$0"; COMP_WORDS=("$@"); COMP_CWORD=$(($# - 1)); _dsp_console; printf "%s\\n" "${COMPREPLY[@]}"'
+        ran = subprocess.run(("bash", "-c", script, TOP / "docs/completion/dsp_console", "dsp_console", *words), cwd=TOP, capture_output=True, text=True, check=True)
+        return ran.stdout.split()
+
+    def test_the_completion_has_the_options_of_help(self) -> None:
+        self.assertEqual(set(self.complete("--")), self.wanted)
+        self.assertEqual(self.complete("--da"), ["--daram"])
+        self.assertEqual(self.complete("--daram", "65"), ["65536"])
+        self.assertEqual(self.complete("--poison", ""), [])
+        self.assertEqual(self.complete("LICEN"), ["LICENSE"])
+
+
+if __name__ == "__main__":
+    unittest.main()
