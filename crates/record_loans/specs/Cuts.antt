@@ -2,11 +2,11 @@
 use Rattle.std.specs.Prelude.{ℕ, ℤ, Bool, true, false, ◌+◌, ◌≤◌, ◌-◌, List, [], ◌∷◌, take, drop}
 use Rattle.mem_rec.specs.declared.Space.{Space}
 use Rattle.mem_rec.specs.declared.Space.TheVariants.{Daram, Saram, External}
-use Rattle.record_cuts.specs.declared.plan.Source.{Source}
-use Rattle.record_cuts.specs.declared.plan.Source.TheVariants.{Absent, Own, Shared, InDaram, InSaram, InExternal}
-use Rattle.record_cuts.specs.declared.plan.Cut.{Cut}
-use Rattle.record_cuts.specs.declared.plan.Plan.{Plan}
-use Rattle.record_cuts.specs.declared.plan.FilterSizes.{FilterSizes}
+use Rattle.record_loans.specs.declared.plan.Source.{Source}
+use Rattle.record_loans.specs.declared.plan.Source.TheVariants.{Absent, Own, Shared, InDaram, InSaram, InExternal}
+use Rattle.record_loans.specs.declared.plan.Cut.{Cut}
+use Rattle.record_loans.specs.declared.plan.Plan.{Plan}
+use Rattle.record_loans.specs.declared.plan.FilterSizes.{FilterSizes}
 
 abbrev pub is_shared : Source → Bool
 is_shared Shared = true

@@ -1,6 +1,6 @@
 //! Where the words of an instance's records lie.
 ghost use Rattle.std.specs.Prelude.{◌≡◌};
-ghost use Rattle.record_cuts.specs.Cuts.{is_shared};
+ghost use Rattle.record_loans.specs.Cuts.{is_shared};
 
 /// Where the words of a record lie.
 #[derive(Clone, Copy, PartialEq, Eq, Debug)]
