@@ -1,14 +1,14 @@
 //! What an instance is given: controls and blocks of samples.
 ghost use Rattle.std.specs.Prelude.{◌≡◌, ◌≤◌, true, [], length, OnErr};
 ghost use Rattle.ialg.specs.Views.{control_of};
-ghost use Rattle.sound_machine.specs.Calls.Call.{Control, Process, Lives};
-ghost use Rattle.kept_machine.specs.Kept.{told};
+ghost use Rattle.host_spec.specs.Calls.Call.{Control, Process, Lives};
+ghost use Rattle.host_refines.specs.Kept.{told};
 ghost use Rattle.alg_host.specs.Hosts.{lives, Serves};
 
 use crate::Host;
+use host_moves::places_stay;
+use host_refines::{give_block, give_control};
 use ialg::{BLOCK_SAMPLES, Block, Ctl, Ialg, Refusal, Status};
-use kept_machine::{give_block, give_control};
-use placed_instances::places_stay;
 
 impl<M: Ialg> Host<M> {
     /// Whether an instance lives under the number.

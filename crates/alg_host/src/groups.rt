@@ -1,13 +1,13 @@
 //! Groups: their active member, and how often one was activated.
 ghost use Rattle.std.specs.Prelude.{◌≡◌, OnErr};
-ghost use Rattle.sound_machine.specs.Calls.Call.{Release, Stat as StatCall};
+ghost use Rattle.host_spec.specs.Calls.Call.{Release, Stat as StatCall};
 ghost use Rattle.alg_host.specs.Hosts.{Serves, stat_told};
 
 use crate::Host;
+use host_moves::places_stay;
+use host_refines::put_to_rest;
 use ialg::{Ialg, Refusal};
-use kept_machine::put_to_rest;
 use mem_rec::GROUPS;
-use placed_instances::places_stay;
 use scratch_group::Stat;
 
 impl<M: Ialg> Host<M> {

@@ -1,20 +1,20 @@
 //! The host: how it is made.
 ghost use Rattle.std.specs.Prelude.{◌≡◌, ℕ, false, IfOk, IfErr, IsErrOf};
 ghost use Rattle.host_spaces.specs.Picture.{AreSizes};
-ghost use Rattle.sound_machine.specs.State.{new_state};
+ghost use Rattle.host_spec.specs.State.{new_state};
 ghost use Rattle.alg_host.specs.Hosts.{Keeps, lives};
 
 use crate::memory::{HostMemory, Tables};
+use host_life::in_order;
+use host_moves::nobody_stands;
 use host_spaces::{Sizes, Spaces, StartError};
 use ialg::Ialg;
-use instance_life::in_order;
-use placed_instances::nobody_stands;
 use std::alloc::Global;
 use std::marker::Model;
 
 /// A host of instances of the kinds `M`. It can't be copied, and must be given back by [`close`](Host::close).
 pub struct Host<M> {
-    pub(crate) tables: instance_table::Tables<M>,
+    pub(crate) tables: host_table::Tables<M>,
     pub(crate) spaces: Spaces,
     pub(crate) poison: Option<i16>,
 }
@@ -52,7 +52,7 @@ impl<M: Ialg> Host<M> {
         let spaces = Spaces::of(spaces);
         in_order(&slots, &once, &groups);
         nobody_stands::<M>();
-        let tables = instance_table::Tables {
+        let tables = host_table::Tables {
             slots,
             once,
             groups,

@@ -2,8 +2,8 @@
 use Rattle.std.proofs.Common.{refl}
 use Rattle.std.specs.Fmt.{digits}
 use Rattle.alg_g711.specs.Companding.{interval_of}
-use Rattle.line_machine.specs.Served.{held_by, order_of, refusals}
-use Rattle.line_machine.specs.Computed.{line_answer, lines_answer}
+use Rattle.line_spec.specs.Served.{held_by, order_of, refusals}
+use Rattle.line_spec.specs.Computed.{line_answer, lines_answer}
 use Rattle.console_rows.specs.Rows.{WorkedRows, OctetRows, OutputOrder}
 use Rattle.console_rows.specs.RefusalRows.{RefusalRows}
 

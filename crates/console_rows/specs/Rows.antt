@@ -6,11 +6,11 @@ use Rattle.host_spaces.specs.declared.spaces.Sizes.{Sizes}
 use Rattle.space_heap.specs.Places.{numbers_below}
 use Rattle.voice_set.specs.declared.voice.Voice.{Voice}
 use Rattle.voice_set.specs.Voices.{voice_meaning, voice_named}
-use Rattle.channel_machine.specs.Channels.{Channels}
-use Rattle.line_machine.specs.Served.{Answer, held_by, order_of, refusals}
-use Rattle.line_machine.specs.Widths.{Widths, widths_of}
-use Rattle.console_machine.specs.Samples.{octets_of}
-use Rattle.console_machine.specs.Answers.{served}
+use Rattle.channel_spec.specs.Channels.{Channels}
+use Rattle.line_spec.specs.Served.{Answer, held_by, order_of, refusals}
+use Rattle.line_spec.specs.Widths.{Widths, widths_of}
+use Rattle.console_spec.specs.Samples.{octets_of}
+use Rattle.console_spec.specs.Answers.{served}
 
 -- lines are parted by `;`
 abbrev pub script_of : String → List ℕ

@@ -2,9 +2,9 @@
 ghost use Rattle.std.specs.Prelude.{◌≡◌, ◌+◌, ◌≤◌, ◌⊎◌, ◌↔◌, false, map, length, All, IfOk, IfErr, IsErrOf};
 ghost use Rattle.octet_ports.specs.Ports.{GivesWithin};
 ghost use Rattle.host_spaces.specs.Picture.{AreSizes};
-ghost use Rattle.sound_machine.specs.Answers.{AreLawful};
-ghost use Rattle.line_machine.specs.Widths.{widths_of};
-ghost use Rattle.console_machine.specs.Console.{console_machine, start};
+ghost use Rattle.host_spec.specs.Answers.{AreLawful};
+ghost use Rattle.line_spec.specs.Widths.{widths_of};
+ghost use Rattle.console_spec.specs.Console.{console_machine, start};
 ghost use Rattle.script_server.specs.Runs.{AreReady, EndsWell, EndsByRead, EndsByWrite, IsHonest, IsUnused, known_of, octets_to_come, run_of};
 ghost use Rattle.voice_console.specs.Consoles.{Keeps, channels_of, port_widths_of};
 ghost use Rattle.dsp_console.specs.Fresh.{fresh};
@@ -12,10 +12,10 @@ ghost use Rattle.dsp_console.specs.Headline.{RunHeadline};
 ghost use Rattle.dsp_console.specs.Lawful.{EndsLawfullyByRead, EndsLawfullyByWrite, ServesLawfully};
 
 use crate::laws::headline;
-use console_machine::lawful_consoles_serve_one_answer;
+use console_spec::lawful_consoles_serve_one_answer;
 use ialg::{Ialg, Named};
 use octet_ports::{PortIn, PortOut};
-use script_server::{PortsFault, SCRIPT_OCTETS, serve};
+use script_server::{SCRIPT_OCTETS, PortsFault, serve};
 use std::alloc::Global;
 use thiserror::Error;
 use voice_console::{CHANNELS, Console, Host, PortWidths, Sizes, StartError};

@@ -9,7 +9,7 @@ use Rattle.mem_rec.specs.declared.Space.TheVariants.{Daram, External}
 use Rattle.space_blocks.specs.declared.placed.Owner.TheVariants.{Record}
 use Rattle.host_spaces.specs.Picture.{Picture, empty_picture, place_in, put_block}
 use Rattle.host_spaces.specs.declared.wants.Wanted.{Wanted}
-use Rattle.machine_runs.specs.Room.{FallsShort, HasNoPlace}
+use Rattle.run_theorem.specs.Room.{FallsShort, HasNoPlace}
 use Rattle.headline_rows.specs.Rooms.{RoomRows, small, wanted_in}
 
 true_is_false : {X : Type 0} → true ≡ false → X

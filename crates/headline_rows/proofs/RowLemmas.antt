@@ -5,15 +5,15 @@ use Rattle.alg_fir.specs.Equation.{fir_output}
 use Rattle.ialg.specs.History.{History, Sample, outputs_by}
 use Rattle.ialg.specs.Meaning.{outputs_of}
 use Rattle.octet_ports.specs.Ports.{Holds as HoldsMore}
-use Rattle.sound_machine.specs.Steps.{processed}
-use Rattle.sound_machine.specs.Runs.{outputs_in}
-use Rattle.channel_machine.specs.Steps.{on_host}
-use Rattle.line_machine.specs.Served.{Answer}
-use Rattle.console_machine.specs.Samples.{octets_of}
+use Rattle.host_spec.specs.Steps.{processed}
+use Rattle.host_spec.specs.Runs.{outputs_in}
+use Rattle.channel_spec.specs.Steps.{on_host}
+use Rattle.line_spec.specs.Served.{Answer}
+use Rattle.console_spec.specs.Samples.{octets_of}
 use Rattle.script_server.specs.Runs.{Devices, no_sink}
-use Rattle.machine_runs.specs.HostRuns.{RunsOnHost}
-use Rattle.machine_runs.specs.Births.{Born}
-use Rattle.machine_runs.specs.Headline.{Headline}
+use Rattle.run_theorem.specs.HostRuns.{RunsOnHost}
+use Rattle.run_theorem.specs.Births.{Born}
+use Rattle.run_theorem.specs.Headline.{Headline}
 use Rattle.dsp_console.specs.declared.serving.Summary.{Summary}
 use Rattle.dsp_console.specs.declared.serving.Fault.{Fault}
 use Rattle.dsp_console.specs.Headline.{RunHeadline}
@@ -21,21 +21,21 @@ use Rattle.mem_rec.specs.declared.Space.TheVariants.{Daram}
 use Rattle.mem_rec.specs.declared.MemRec.{MemRec}
 use Rattle.space_blocks.specs.declared.placed.Owner.TheVariants.{Record, Scratch}
 use Rattle.space_blocks.specs.declared.placed.Placed.{Placed}
-use Rattle.sound_machine.specs.Calls as host_calls
-use Rattle.sound_machine.specs.Steps.{newborn}
-use Rattle.sound_machine.specs.State.{with_living}
-use Rattle.sound_machine.specs.Answers.{AreLawful}
-use Rattle.channel_machine.specs.Channels.{Channels}
-use Rattle.channel_machine.specs.Calls as calls
-use Rattle.channel_machine.specs.Calls.{Call, OfHost}
-use Rattle.channel_machine.specs.Answers.{answered}
+use Rattle.host_spec.specs.Calls as host_calls
+use Rattle.host_spec.specs.Steps.{newborn}
+use Rattle.host_spec.specs.State.{with_living}
+use Rattle.host_spec.specs.Answers.{AreLawful}
+use Rattle.channel_spec.specs.Channels.{Channels}
+use Rattle.channel_spec.specs.Calls as calls
+use Rattle.channel_spec.specs.Calls.{Call, OfHost}
+use Rattle.channel_spec.specs.Answers.{answered}
 use Rattle.voice_set.specs.declared.voice.Voice.{Voice}
 use Rattle.voice_set.specs.declared.voice.Voice.TheVariants.{Fir}
 use Rattle.voice_set.specs.Voices.{voice_meaning, voice_named}
 use Rattle.voice_script.specs.Script.{lines_of}
-use Rattle.console_machine.specs.Console.{start}
+use Rattle.console_spec.specs.Console.{start}
 use Rattle.console_rows.specs.Rows.{words}
-use Rattle.machine_runs.specs.Lines.{LinesMake, fed_out, samples_left}
+use Rattle.run_theorem.specs.Lines.{LinesMake, fed_out, samples_left}
 use Rattle.headline_rows.specs.Row.{CanRunRow, FirstGave, RowGave, life, mean, row_inputs, row_script, row_sizes}
 use Rattle.headline_rows.proofs.Steps.{Holds, ended, fed, told}
 

@@ -5,22 +5,22 @@ use Rattle.std.specs.Prelude.{◌==◌, nat_le, if◌then◌else◌}
 use Rattle.std.proofs.lemmas.Bool.{leb-true}
 use Rattle.ialg.specs.declared.refusal.Refusal.{Refusal}
 use Rattle.ialg.specs.Meaning.{Meaning}
-use Rattle.sound_machine.specs.State.{State}
-use Rattle.sound_machine.specs.Steps.{processed}
-use Rattle.sound_machine.specs.Calls as host_calls
-use Rattle.sound_machine.specs.Calls.Call.{Process}
-use Rattle.sound_machine.specs.Answers.{AreLawful}
-use Rattle.channel_machine.specs.Channels.{Channels, members_at}
-use Rattle.channel_machine.specs.Steps.{channel_refusal, on_host, unless}
-use Rattle.channel_machine.specs.Calls.{Call, Feeds, Passes}
-use Rattle.channel_machine.specs.Calls.Call.{Ready, Feed}
-use Rattle.channel_machine.specs.Answers.{answered}
-use Rattle.channel_machine.proofs.AnswerLemmas.{computed}
+use Rattle.host_spec.specs.State.{State}
+use Rattle.host_spec.specs.Steps.{processed}
+use Rattle.host_spec.specs.Calls as host_calls
+use Rattle.host_spec.specs.Calls.Call.{Process}
+use Rattle.host_spec.specs.Answers.{AreLawful}
+use Rattle.channel_spec.specs.Channels.{Channels, members_at}
+use Rattle.channel_spec.specs.Steps.{channel_refusal, on_host, unless}
+use Rattle.channel_spec.specs.Calls.{Call, Feeds, Passes}
+use Rattle.channel_spec.specs.Calls.Call.{Ready, Feed}
+use Rattle.channel_spec.specs.Answers.{answered}
+use Rattle.channel_spec.proofs.AnswerLemmas.{computed}
 use Rattle.voice_script.specs.Script as script
 use Rattle.voice_script.specs.Script.{parsed}
 use Rattle.voice_script.specs.declared.limits.TheConstants.{LINE_OCTETS}
-use Rattle.machine_runs.specs.HostRuns.{AsHostCalls, IsPassing, RunsOnHost}
-use Rattle.machine_runs.specs.Lines.{CommandMakes, IsFed, IsSameBut, Left, LineMakes, LinesMake, Makes}
+use Rattle.run_theorem.specs.HostRuns.{AsHostCalls, IsPassing, RunsOnHost}
+use Rattle.run_theorem.specs.Lines.{CommandMakes, IsFed, IsSameBut, Left, LineMakes, LinesMake, Makes}
 
 module _ {M : Type 0} (kinds : Meaning M) (named : List ℕ → Option M) where
   -- whatever these lines made from here, where the inputs have these samples left, this holds of it

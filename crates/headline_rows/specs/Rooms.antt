@@ -6,7 +6,7 @@ use Rattle.space_blocks.specs.declared.placed.Owner.TheVariants.{Record}
 use Rattle.host_spaces.specs.declared.spaces.Sizes.{Sizes}
 use Rattle.host_spaces.specs.declared.wants.Wanted.{Wanted}
 use Rattle.host_spaces.specs.Picture.{empty_picture}
-use Rattle.machine_runs.specs.Room.{FallsShort}
+use Rattle.run_theorem.specs.Room.{FallsShort}
 
 -- eight words of one space and four of another
 abbrev pub small : Sizes

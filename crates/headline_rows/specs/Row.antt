@@ -4,19 +4,19 @@ use Rattle.mem_rec.specs.declared.Space.TheVariants.{Daram}
 use Rattle.ialg.specs.History.{Sample}
 use Rattle.octet_ports.specs.Ports.{Holds}
 use Rattle.host_spaces.specs.declared.spaces.Sizes.{Sizes}
-use Rattle.sound_machine.specs.Calls.{Call}
-use Rattle.sound_machine.specs.Calls.Call.{Create, Process, Delete, Compact}
-use Rattle.sound_machine.specs.Runs.{history_of_run, outputs_in}
-use Rattle.channel_machine.specs.Channels.{Channels}
+use Rattle.host_spec.specs.Calls.{Call}
+use Rattle.host_spec.specs.Calls.Call.{Create, Process, Delete, Compact}
+use Rattle.host_spec.specs.Runs.{history_of_run, outputs_in}
+use Rattle.channel_spec.specs.Channels.{Channels}
 use Rattle.voice_set.specs.declared.voice.Voice.{Voice}
 use Rattle.voice_set.specs.declared.voice.Voice.TheVariants.{Fir}
 use Rattle.voice_set.specs.Voices.{voice_meaning, voice_named}
-use Rattle.line_machine.specs.Served.{Answer, held_by, order_of}
-use Rattle.console_machine.specs.Samples.{octets_of}
+use Rattle.line_spec.specs.Served.{Answer, held_by, order_of}
+use Rattle.console_spec.specs.Samples.{octets_of}
 use Rattle.script_server.specs.Runs.{AreReady, Devices, IsHonest, IsReadyIn, no_sink, octets_to_come}
-use Rattle.machine_runs.specs.Births.{Born}
-use Rattle.machine_runs.specs.Lines.{fed_out}
-use Rattle.machine_runs.specs.Headline.{Headline}
+use Rattle.run_theorem.specs.Births.{Born}
+use Rattle.run_theorem.specs.Lines.{fed_out}
+use Rattle.run_theorem.specs.Headline.{Headline}
 use Rattle.dsp_console.specs.Headline.{RunHeadline}
 use Rattle.console_rows.specs.Rows.{script_of, words}
 

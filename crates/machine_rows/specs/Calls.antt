@@ -5,10 +5,10 @@ use Rattle.ialg.specs.Meaning.{Meaning}
 use Rattle.space_blocks.specs.declared.placed.Owner.TheVariants.{Record, Scratch}
 use Rattle.space_blocks.specs.declared.placed.Placed.{Placed}
 use Rattle.host_spaces.specs.declared.spaces.Sizes.{Sizes}
-use Rattle.instance_table.specs.Table.{Activity}
-use Rattle.sound_machine.specs.State.{new_state}
-use Rattle.sound_machine.specs.Calls.{Call}
-use Rattle.sound_machine.specs.Answers.{all_answered}
+use Rattle.host_table.specs.Table.{Activity}
+use Rattle.host_spec.specs.State.{new_state}
+use Rattle.host_spec.specs.Calls.{Call}
+use Rattle.host_spec.specs.Answers.{all_answered}
 
 abbrev pub full : Sizes
 full = record { daram = 65536; saram = 65536; external = 65536 }

@@ -10,8 +10,8 @@ use Rattle.ialg.specs.declared.refusal.Refusal.TheVariants.{Room}
 use Rattle.ialg.specs.History.{word_at, samples_since_reset}
 use Rattle.ialg.specs.Meaning.{Meaning}
 use Rattle.ialg.specs.Objects.{object_memory}
-use Rattle.sound_machine.specs.Calls.{Call}
-use Rattle.sound_machine.specs.Calls.Call.{Create, Process, Delete, Step, Compact, Stat, Map, Copied}
+use Rattle.host_spec.specs.Calls.{Call}
+use Rattle.host_spec.specs.Calls.Call.{Create, Process, Delete, Step, Compact, Stat, Map, Copied}
 use Rattle.machine_rows.specs.Calls.{full, done, refused, active, resting, record_block, group_block, Answers}
 
 -- such a kind is the memory that it asks for, and gives its samples

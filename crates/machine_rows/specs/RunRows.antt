@@ -6,9 +6,9 @@ use Rattle.ialg.specs.History as history
 use Rattle.ialg.specs.History.{Sample, Set, Reset, Get}
 use Rattle.ialg.specs.Meaning.{Done, Words}
 use Rattle.voice_set.specs.declared.voice.Voice.{Voice}
-use Rattle.sound_machine.specs.Calls.{Call}
-use Rattle.sound_machine.specs.Calls.Call.{Control, Process, Compact}
-use Rattle.sound_machine.specs.Runs.{history_of_run, outputs_in, statuses_in}
+use Rattle.host_spec.specs.Calls.{Call}
+use Rattle.host_spec.specs.Calls.Call.{Control, Process, Compact}
+use Rattle.host_spec.specs.Runs.{history_of_run, outputs_in, statuses_in}
 
 -- two instances are called by turns. One control is refused, one block is empty, and a block of memory moves
 abbrev pub by_turns : List (Call Voice)

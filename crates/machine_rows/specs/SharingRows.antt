@@ -7,8 +7,8 @@ use Rattle.ialg.specs.Meaning.{Meaning}
 use Rattle.voice_set.specs.declared.voice.Voice.{Voice}
 use Rattle.voice_set.specs.declared.voice.Voice.TheVariants.{G711}
 use Rattle.voice_set.specs.Voices.{voice_meaning}
-use Rattle.sound_machine.specs.Calls.{Call}
-use Rattle.sound_machine.specs.Calls.Call.{Create, Delete, Compact, Map}
+use Rattle.host_spec.specs.Calls.{Call}
+use Rattle.host_spec.specs.Calls.Call.{Create, Delete, Compact, Map}
 use Rattle.machine_rows.specs.Calls.{full, done, refused, record_block, Answers}
 use Rattle.machine_rows.specs.CreationRows.{Shape, constant, kept, needing}
 use Rattle.machine_rows.specs.VoiceRows.{sample}

@@ -7,8 +7,8 @@ use Rattle.ialg.specs.Meaning.{Done, Words}
 use Rattle.voice_set.specs.declared.voice.Voice.{Voice}
 use Rattle.voice_set.specs.declared.voice.Voice.TheVariants.{Fir, Decim, Biquad, G711}
 use Rattle.voice_set.specs.Voices.{voice_meaning}
-use Rattle.sound_machine.specs.Calls.{Call}
-use Rattle.sound_machine.specs.Calls.Call.{Create, Control, Process, Delete, Release, Step, Compact, Stat, Map, Lives, Copied}
+use Rattle.host_spec.specs.Calls.{Call}
+use Rattle.host_spec.specs.Calls.Call.{Create, Control, Process, Delete, Release, Step, Compact, Stat, Map, Lives, Copied}
 use Rattle.machine_rows.specs.Calls.{full, with_daram, done, refused, active, resting, record_block, group_block, Answers}
 
 -- the mean of two samples, and a filter with a longer need

@@ -6,15 +6,15 @@ ghost use Rattle.std.specs.Prelude.{◌≡◌, ◌≢◌, ◌≤◌, ◌++◌, �
 ghost use Rattle.ialg.specs.declared.TheConstants.{BLOCK_SAMPLES};
 ghost use Rattle.ialg.specs.History.{History, with_samples};
 ghost use Rattle.lifecycle.specs.States.{IsLawful, all_outputs};
-ghost use Rattle.instance_table.specs.declared.member.Member.{Member};
-ghost use Rattle.instance_table.specs.Table.{slot_at, instance_of};
-ghost use Rattle.instance_table.specs.Steps.{laws, Ready, Stays, AreKept};
+ghost use Rattle.host_table.specs.declared.member.Member.{Member};
+ghost use Rattle.host_table.specs.Table.{slot_at, instance_of};
+ghost use Rattle.host_table.specs.Steps.{laws, Ready, Stays, AreKept};
 
 #[cfg(test)]
 mod tests;
 
+use host_table::Tables;
 use ialg::{BLOCK_SAMPLES, Block, Ialg};
-use instance_table::Tables;
 
 /// The first instance is given two blocks, and between them the second is given one. What the first gives are the outputs of its own
 /// two blocks, under each poison word and under none.

@@ -1,8 +1,8 @@
 //! Tables without instances.
 use alg_g711::G711;
-use instance_life::{empty_groups, empty_slots, end_groups, end_slots, in_order};
-use instance_table::Tables;
-use record_shelves::{empty_once, end_once};
+use host_life::{empty_groups, empty_slots, end_groups, end_slots, in_order};
+use host_shared::{empty_once, end_once};
+use host_table::Tables;
 
 #[test]
 fn tables_are_made_and_ended(rt: HostRuntime) {

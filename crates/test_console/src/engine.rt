@@ -1,8 +1,8 @@
 //! Runs over tapes and over devices that fail, and a caller that is proved from the contracts alone.
 ghost use Rattle.std.specs.Prelude.{◌≡◌, ◌<◌, ◌∷◌, [], None, Some, IfOk};
-ghost use Rattle.line_machine.specs.Served.{held_by, order_of, refusals};
-ghost use Rattle.line_machine.specs.Widths.{widths_of};
-ghost use Rattle.console_machine.specs.Answers.{served};
+ghost use Rattle.line_spec.specs.Served.{held_by, order_of, refusals};
+ghost use Rattle.line_spec.specs.Widths.{widths_of};
+ghost use Rattle.console_spec.specs.Answers.{served};
 ghost use Rattle.voice_set.specs.Voices.{voice_meaning, voice_named};
 ghost use Rattle.test_console.specs.declared.engine.TheConstants.{FULL};
 

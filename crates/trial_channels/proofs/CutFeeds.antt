@@ -2,10 +2,10 @@
 use Rattle.std.proofs.Common.{◌≡◌, ℕ, ℤ, false, List, ◌++◌, sym}
 use Rattle.ialg.specs.Meaning.{Meaning}
 use Rattle.lifecycle.specs.States.{Relation}
-use Rattle.channel_machine.specs.Channels.{Channels, members_at, has_repeat}
-use Rattle.channel_machine.specs.Calls.{Feeds}
-use Rattle.channel_machine.specs.Calls.Call.{Feed}
-use Rattle.channel_machine.specs.Cuts.{AreAlike, MembersAreLawful}
+use Rattle.channel_spec.specs.Channels.{Channels, members_at, has_repeat}
+use Rattle.channel_spec.specs.Calls.{Feeds}
+use Rattle.channel_spec.specs.Calls.Call.{Feed}
+use Rattle.channel_spec.specs.Cuts.{AreAlike, MembersAreLawful}
 use Rattle.voice_channel.specs.Channels.{ChannelsState, Keeps, Serves}
 
 module _ {M : Type 0} (meaning : Meaning M) (idle_keeps active_keeps : Relation M) where

@@ -2,7 +2,7 @@
 use Rattle.std.proofs.Common.{ℕ, ℤ, List}
 use Rattle.ialg.specs.Meaning.{Meaning}
 use Rattle.lifecycle.specs.States.{Relation}
-use Rattle.channel_machine.specs.Calls.Call.{Feed}
+use Rattle.channel_spec.specs.Calls.Call.{Feed}
 use Rattle.voice_channel.specs.Channels.{ChannelsState, Serves}
 use Rattle.trial_channels.specs.TwoFeeds.{ServesBoth}
 

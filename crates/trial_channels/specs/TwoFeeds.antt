@@ -2,8 +2,8 @@
 use Rattle.std.specs.Prelude.{ℕ, ℤ, List}
 use Rattle.ialg.specs.Meaning.{Meaning}
 use Rattle.lifecycle.specs.States.{Relation}
-use Rattle.channel_machine.specs.Channels.{Channels}
-use Rattle.channel_machine.specs.Calls.{Feeds}
+use Rattle.channel_spec.specs.Channels.{Channels}
+use Rattle.channel_spec.specs.Calls.{Feeds}
 use Rattle.voice_channel.specs.Channels.{ChannelsState, Keeps}
 
 -- whatever state the channels kept, channel c was fed the first block and then the second, and gave these; and they keep a state that comes after it

@@ -1,12 +1,12 @@
 //! Samples given to a channel in two blocks.
 ghost use Rattle.std.specs.Prelude.{◌≡◌, ◌≤◌, ◌++◌, ℤ, true, [], List, length};
-ghost use Rattle.channel_machine.specs.Channels.{Channels as State, members_at, is_chained};
-ghost use Rattle.channel_machine.specs.Calls.{Feeds};
-ghost use Rattle.channel_machine.specs.Cuts.{MembersAreLawful};
+ghost use Rattle.channel_spec.specs.Channels.{Channels as State, members_at, is_chained};
+ghost use Rattle.channel_spec.specs.Calls.{Feeds};
+ghost use Rattle.channel_spec.specs.Cuts.{MembersAreLawful};
 ghost use Rattle.voice_channel.specs.Channels.{Keeps};
 ghost use Rattle.trial_channels.specs.TwoFeeds.{ServesBoth};
 
-use channel_machine::cuts_do_not_show;
+use channel_spec::cuts_do_not_show;
 use ialg::{BLOCK_SAMPLES, Block, Ialg};
 use voice_channel::Channels;
 

@@ -1,13 +1,13 @@
 //! The same samples given to channels of two runs.
 ghost use Rattle.std.specs.Prelude.{◌≡◌, ◌≤◌, ◌++◌, true, [], length};
-ghost use Rattle.channel_machine.specs.Channels.{Channels as State, members_at, is_chained};
-ghost use Rattle.channel_machine.specs.Cuts.{MembersAreLawful};
-ghost use Rattle.channel_machine.specs.Agreement.{MembersAgree};
-ghost use Rattle.channel_machine.specs.Calls.Call.{Feed};
+ghost use Rattle.channel_spec.specs.Channels.{Channels as State, members_at, is_chained};
+ghost use Rattle.channel_spec.specs.Cuts.{MembersAreLawful};
+ghost use Rattle.channel_spec.specs.Agreement.{MembersAgree};
+ghost use Rattle.channel_spec.specs.Calls.Call.{Feed};
 ghost use Rattle.voice_channel.specs.Channels.{Keeps, Serves};
 ghost use Rattle.trial_channels.specs.TwoFeeds.{ServesBoth};
 
-use channel_machine::channels_agree;
+use channel_spec::channels_agree;
 use ialg::{BLOCK_SAMPLES, Block, Ialg};
 use voice_channel::Channels;
 

@@ -1,10 +1,9 @@
 //! Two hosts in which a filter is given the same: of other sizes and poison words, under another number, in another group, beside a kind
 //! that keeps no law, with moves, and with its samples cut otherwise.
 
-use alg_host::Host;
-use host_calls::{Request, make_both};
+use alg_host::{Host, Request, make_both};
 use host_spaces::Sizes;
-use ialg::{BLOCK_SAMPLES, Block, Ctl, PARAMETER_WORDS, Refusal, Status, copied};
+use ialg::{BLOCK_SAMPLES, PARAMETER_WORDS, Block, Ctl, Refusal, Status, copied};
 use mem_rec::Space;
 use scribbler::Trial;
 use std::process::Abort;

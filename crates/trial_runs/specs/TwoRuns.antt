@@ -6,15 +6,15 @@ use Rattle.ialg.specs.Meaning.{Meaning, Status}
 use Rattle.octet_ports.specs.Ports.{GivesWithin}
 use Rattle.host_spaces.specs.declared.spaces.Sizes.{Sizes}
 use Rattle.host_spaces.specs.Picture.{AreSizes}
-use Rattle.sound_machine.specs.Calls.{Call, refusal_in}
-use Rattle.sound_machine.specs.Calls.Call.{Control}
-use Rattle.sound_machine.specs.Runs.{history_of_run, outputs_in, statuses_in}
+use Rattle.host_spec.specs.Calls.{Call, refusal_in}
+use Rattle.host_spec.specs.Calls.Call.{Control}
+use Rattle.host_spec.specs.Runs.{history_of_run, outputs_in, statuses_in}
 use Rattle.script_server.specs.declared.limits.TheConstants.{SCRIPT_OCTETS}
 use Rattle.script_server.specs.Runs.{AreReady, Devices, EndsByRead, EndsByWrite, EndsWell, IsHonest, IsReadyIn, octets_to_come}
 use Rattle.voice_channel.specs.declared.TheConstants.{CHANNELS}
-use Rattle.line_machine.specs.Widths.{Widths}
-use Rattle.console_machine.specs.Console.{console_machine, start}
-use Rattle.machine_runs.specs.Births.{Born}
+use Rattle.line_spec.specs.Widths.{Widths}
+use Rattle.console_spec.specs.Console.{console_machine, start}
+use Rattle.run_theorem.specs.Births.{Born}
 use Rattle.dsp_console.specs.declared.serving.Summary.{Summary}
 use Rattle.dsp_console.specs.declared.serving.Fault.{Fault}
 use Rattle.dsp_console.specs.declared.serving.Fault.TheVariants.{Size, Memory, Read, Write}

@@ -1,12 +1,12 @@
 //! How blocks of samples pass through channels.
 ghost use Rattle.std.specs.Prelude.{◌≡◌, ◌≤◌, ◌<◌, true, ◌∷◌, [], length, map};
-ghost use Rattle.channel_machine.specs.Channels.{members_at, is_chained};
-ghost use Rattle.channel_machine.specs.Calls.Call.{Feed};
+ghost use Rattle.channel_spec.specs.Channels.{members_at, is_chained};
+ghost use Rattle.channel_spec.specs.Calls.Call.{Feed};
 ghost use Rattle.voice_channel.specs.Channels.{PassesThrough, Serves};
 
 use crate::{Channels, Members};
 use alg_host::Host;
-use channel_machine::members_live_in_one_channel;
+use channel_spec::members_live_in_one_channel;
 use ialg::{BLOCK_SAMPLES, Block, Ialg};
 
 /// What members give one another stands in two blocks by turns. They are made once, since a new block is cleared.

@@ -1,9 +1,9 @@
 use Rattle.std.proofs.Common.{◌≡◌, ◌++◌, ◌∙◌, ℤ, List, ap}
 use Rattle.ialg.specs.History.{with_samples}
-use Rattle.instance_table.specs.Keeps.{with_history}
-use Rattle.instance_table.proofs.Changes.{tables_then, later_member}
-use Rattle.instance_table.proofs.Housing.{lawful_after}
-use Rattle.instance_table.proofs.Histories.{history_here, history_there}
+use Rattle.host_table.specs.Keeps.{with_history}
+use Rattle.host_table.proofs.Changes.{tables_then, later_member}
+use Rattle.host_table.proofs.Housing.{lawful_after}
+use Rattle.host_table.proofs.Histories.{history_here, history_there}
 use Rattle.table_turns.proofs.take_turns.Goals as goal
 
 pub returns-clause-stays : goal.returns-clause-stays

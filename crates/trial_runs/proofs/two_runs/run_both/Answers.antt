@@ -1,5 +1,5 @@
 use Rattle.std.proofs.Common.{refl}
-use Rattle.line_machine.specs.Widths.{widths_of}
+use Rattle.line_spec.specs.Widths.{widths_of}
 use Rattle.trial_runs.proofs.TwoRuns.{both, refused_alike}
 use Rattle.trial_runs.proofs.two_runs.run_both.Goals as goal
 

@@ -1,6 +1,6 @@
 use Rattle.std.proofs.Common.{◌∙◌, sym, subst}
 use Rattle.ialg.specs.Views.{control_of}
-use Rattle.kept_machine.specs.Kept.{told}
+use Rattle.host_refines.specs.Kept.{told}
 use Rattle.alg_host.specs.Hosts.{Keeps}
 use Rattle.alg_host.proofs.Served.{controls_stay, still_kept}
 use Rattle.alg_host.proofs.host.Host.control.Goals as goal

@@ -1,5 +1,5 @@
 use Rattle.std.proofs.Common.{[], ap, is_some, refl, None, subst, sym, ◌∙◌}
-use Rattle.kept_machine.specs.Kept.{IsLiving}
+use Rattle.host_refines.specs.Kept.{IsLiving}
 use Rattle.alg_host.proofs.host.Host.new.Goals as goal
 
 pub invariant_of-result : goal.invariant_of-result

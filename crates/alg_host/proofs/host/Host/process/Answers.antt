@@ -1,5 +1,5 @@
 use Rattle.std.proofs.Common.{◌∙◌, sym, subst}
-use Rattle.sound_machine.specs.Steps.{processed}
+use Rattle.host_spec.specs.Steps.{processed}
 use Rattle.alg_host.specs.Hosts.{Keeps}
 use Rattle.alg_host.proofs.Served.{processed_stays, still_kept}
 use Rattle.alg_host.proofs.host.Host.process.Goals as goal

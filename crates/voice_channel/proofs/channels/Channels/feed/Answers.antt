@@ -1,5 +1,5 @@
 use Rattle.std.proofs.Common.{◌≡◌, ◌∙◌, ap, map, subst}
-use Rattle.channel_machine.specs.Channels.{members_at}
+use Rattle.channel_spec.specs.Channels.{members_at}
 use Rattle.voice_channel.specs.Channels.{PassesThrough}
 use Rattle.voice_channel.proofs.Fed.{fed}
 use Rattle.voice_channel.proofs.channels.Channels.feed.Goals as goal

@@ -1,0 +1,33 @@
+//! The end of all instances.
+ghost use Rattle.std.specs.Prelude.{◌≡◌, ℕ, None};
+ghost use Rattle.host_table.specs.Table.{slot_at, TablesOk, ArePoisoned};
+ghost use Rattle.host_spaces.specs.Picture.{empty_picture, picture_of};
+ghost use Rattle.host_spec.specs.State.{State};
+ghost use Rattle.host_spec.specs.Steps.{closed};
+ghost use Rattle.host_moves.specs.Standing.{AreStanding};
+ghost use Rattle.host_refines.specs.Hosts.{HostKeeps};
+
+use crate::deletions::delete;
+use host_spaces::Spaces;
+use host_table::Tables;
+use ialg::Ialg;
+use mem_rec::INSTANCES;
+
+/// Deletes all instances, in ascending number, as the machine does. No block is left in the spaces.
+pub fn delete_all<M: Ialg>(tables: &mut Tables<M>, spaces: &mut Spaces, poison: Option<i16>)
+    requires ok { TablesOk tables.old.slots tables.old.once tables.old.groups }
+    requires standing { AreStanding tables.old.slots tables.old.once tables.old.groups spaces.old }
+    requires poisoned { ArePoisoned poison tables.old.groups }
+    ensures ok { TablesOk tables.new.slots tables.new.once tables.new.groups }
+    ensures standing { AreStanding tables.new.slots tables.new.once tables.new.groups spaces.new }
+    ensures poisoned { ArePoisoned poison tables.new.groups }
+    ensures none { (i : ℕ) → slot_at tables.new.slots i ≡ None }
+    ensures empty { picture_of spaces.new ≡ empty_picture }
+    ensures machine { (before : State M) → before.poison ≡ poison
+        → HostKeeps M.meaning M.idle_keeps M.active_keeps tables.old.slots tables.old.once tables.old.groups spaces.old before
+        → HostKeeps M.meaning M.idle_keeps M.active_keeps tables.new.slots tables.new.once tables.new.groups spaces.new (closed M.meaning before) }
+{
+    for i in 0..INSTANCES as u8 {
+        let _answer = delete(tables, spaces, poison, i);
+    }
+}
