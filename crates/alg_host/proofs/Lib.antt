@@ -1,2 +1,2 @@
 pub mod Served
-pub mod Lists
+pub mod ListLemmas

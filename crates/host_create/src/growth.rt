@@ -9,7 +9,7 @@ ghost use Rattle.lifecycle.specs.Rooms.{NoNeed};
 ghost use Rattle.mem_rec.specs.declared.TheConstants.{GROUPS};
 ghost use Rattle.host_table.specs.Table.{group_at, activity_at, TablesOk, TablesTold, ArePoisoned};
 ghost use Rattle.host_table.specs.Keeps.{Keeps};
-ghost use Rattle.host_table.specs.Frames.{SameMembers};
+ghost use Rattle.host_table.specs.Frames.{InactiveGroupsStay, SameMembers};
 ghost use Rattle.space_blocks.specs.declared.placed.Owner.{Owner};
 ghost use Rattle.space_blocks.specs.declared.placed.Owner.TheVariants.{Scratch};
 ghost use Rattle.space_blocks.specs.Blocks.{owned};
@@ -60,7 +60,7 @@ fn tell_where<M: Ialg>(tables: &mut Tables<M>, g: u8, replaced: bool)
     requires told { replaced ≡ true → TablesTold g 0 tables.old.slots tables.old.once tables.old.groups }
     requires ok { replaced ≡ false → TablesOk tables.old.slots tables.old.once tables.old.groups }
     ensures ok { TablesOk tables.new.slots tables.new.once tables.new.groups }
-    ensures poisoned { (w : Option ℤ) → ArePoisoned w tables.old.groups → ArePoisoned w tables.new.groups }
+    ensures inactive { InactiveGroupsStay tables.old.groups tables.new.groups }
     ensures same { SameMembers tables.old.slots tables.old.once tables.old.groups tables.new.slots tables.new.once tables.new.groups }
     ensures activity { (k : ℕ) → activity_at tables.new.groups k ≡ activity_at tables.old.groups k }
     ensures keeps { (w : Option ℤ) (histories : ℕ → History) → Keeps M.meaning M.idle_keeps M.active_keeps w tables.old.slots tables.old.once tables.old.groups histories

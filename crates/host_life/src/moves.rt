@@ -2,9 +2,9 @@
 ghost use Rattle.std.specs.Prelude.{◌≡◌, ◌<◌, ◌+◌, ℕ, ℤ, Option, Some, None, length, true};
 ghost use Rattle.ialg.specs.History.{History};
 ghost use Rattle.mem_rec.specs.declared.TheConstants.{INSTANCES, GROUPS};
-ghost use Rattle.host_table.specs.Table.{slot_at, is_member_of, activity_at, TablesOk, TablesTold, ArePoisoned};
+ghost use Rattle.host_table.specs.Table.{slot_at, is_member_of, activity_at, TablesOk, TablesTold};
 ghost use Rattle.host_table.specs.Keeps.{Keeps};
-ghost use Rattle.host_table.specs.Frames.{SameMembers};
+ghost use Rattle.host_table.specs.Frames.{InactiveGroupsStay, SameMembers};
 
 use host_shared::{Shelf, put_seen, take_seen};
 use host_table::Member;
@@ -37,7 +37,7 @@ fn tell_member<M: Ialg>(
     requires member { is_member_of g (slot_at slots.old.items i) ≡ true }
     requires told { TablesTold g i slots.old.items once.old.items groups.old.items }
     ensures told { TablesTold g (i + 1) slots.new.items once.new.items groups.new.items }
-    ensures poisoned { (w : Option ℤ) → ArePoisoned w groups.old.items → ArePoisoned w groups.new.items }
+    ensures inactive { InactiveGroupsStay groups.old.items groups.new.items }
     ensures same { SameMembers slots.old.items once.old.items groups.old.items slots.new.items once.new.items groups.new.items }
     ensures activity { (k : ℕ) → activity_at groups.new.items k ≡ activity_at groups.old.items k }
     ensures keeps { (w : Option ℤ) (histories : ℕ → History) → Keeps M.meaning M.idle_keeps M.active_keeps w slots.old.items once.old.items groups.old.items histories
@@ -72,7 +72,7 @@ fn tell_slot<M: Ialg>(
     requires number { i < INSTANCES }
     requires told { TablesTold g i slots.old.items once.old.items groups.old.items }
     ensures told { TablesTold g (i + 1) slots.new.items once.new.items groups.new.items }
-    ensures poisoned { (w : Option ℤ) → ArePoisoned w groups.old.items → ArePoisoned w groups.new.items }
+    ensures inactive { InactiveGroupsStay groups.old.items groups.new.items }
     ensures same { SameMembers slots.old.items once.old.items groups.old.items slots.new.items once.new.items groups.new.items }
     ensures activity { (k : ℕ) → activity_at groups.new.items k ≡ activity_at groups.old.items k }
     ensures keeps { (w : Option ℤ) (histories : ℕ → History) → Keeps M.meaning M.idle_keeps M.active_keeps w slots.old.items once.old.items groups.old.items histories
@@ -93,7 +93,7 @@ pub fn tell_members<M: Ialg>(
     requires range { g < GROUPS }
     requires told { TablesTold g 0 slots.old.items once.old.items groups.old.items }
     ensures ok { TablesOk slots.new.items once.new.items groups.new.items }
-    ensures poisoned { (w : Option ℤ) → ArePoisoned w groups.old.items → ArePoisoned w groups.new.items }
+    ensures inactive { InactiveGroupsStay groups.old.items groups.new.items }
     ensures same { SameMembers slots.old.items once.old.items groups.old.items slots.new.items once.new.items groups.new.items }
     ensures activity { (k : ℕ) → activity_at groups.new.items k ≡ activity_at groups.old.items k }
     ensures keeps { (w : Option ℤ) (histories : ℕ → History) → Keeps M.meaning M.idle_keeps M.active_keeps w slots.old.items once.old.items groups.old.items histories

@@ -14,7 +14,7 @@ use Rattle.ialg.specs.Records.{ArePoison, record_at}
 use Rattle.record_loans.specs.declared.pieces.Pieces.{Pieces}
 use Rattle.record_loans.specs.declared.block.ScratchBlock.{ScratchBlock}
 use Rattle.record_loans.specs.Pieces.{piece_at}
-use Rattle.record_loans.specs.Blocks.{block_piece, block_align}
+use Rattle.record_loans.specs.Blocks.{block_piece, block_align, block_words}
 use Rattle.scratch_group.specs.declared.group.Group.{Group}
 use Rattle.scratch_group.specs.Blocks.{block_in}
 use Rattle.lifecycle.specs.Rooms.{lasting_piece}
@@ -28,13 +28,14 @@ use Rattle.host_spaces.specs.Picture.{blocks_in, picture_of, space_in}
 use Rattle.mem_rec.specs.declared.TheConstants.{GROUPS}
 use Rattle.host_table.specs.declared.member.Member.{Member}
 use Rattle.host_shared.specs.declared.shelves.Shelf.{Shelf}
-use Rattle.host_table.specs.Table.{slot_at, group_at, no_group, instance_of, own_of, activity_at, Activity, TablesOk, TablesTold, ArePoisoned}
+use Rattle.host_table.specs.Table.{slot_at, group_at, no_group, instance_of, own_of, activity_at, Activity, TablesOk, TablesTold}
+use Rattle.host_table.specs.Frames.{InactiveGroupsStay}
 use Rattle.host_shared.specs.Shelves.{once_at}
 use Rattle.host_moves.specs.Waiting.{WordsStay}
 use Rattle.host_moves.proofs.Owns.{told_later}
 use Rattle.lifecycle.specs.Moves.{HasRoom}
 use Rattle.host_moves.specs.Standing.{IsOf, AreOrdered, AreStanding, table_of}
-use Rattle.host_moves.specs.Moves.{IsNextOf}
+use Rattle.host_moves.specs.Moves.{InactiveWordsStay, IsNextOf}
 use Rattle.host_moves.proofs.Moved.{OneMoves}
 use Rattle.host_moves.proofs.Rooms.{compare}
 use Rattle.host_moves.proofs.MovedBlocks.{room_of_standing, standing_block, words_of_block, same_words_of_blocks}
@@ -104,10 +105,11 @@ module _ {M : Type 0} (slots : List (Option (Member M))) (once : List Shelf) (gr
       pub words_now : WordsStay slots once groups slots once groups2
       words_now = words_of_block space g al p q slots once groups groups2 spaces spaces' moves same was is
 
-      pub poisoned_now : ((k : ℕ) → activity_at groups2 k ≡ activity_at groups k) → (w : Option ℤ) → ArePoisoned w groups → ArePoisoned w groups2
-      poisoned_now activity w before k below none s =
-          subst (ArePoison w) (sym (same_words_of_blocks space g al p q slots once groups groups2 spaces spaces' moves same was is k s))
-          (before k below (sym (ap (λ (a : Activity). a.active) (activity k)) ∙ none) s)
+      -- the words of a group without an active member stay, whoever is told afterwards
+      pub inactive_words : (groups3 : List Group) → ((k : ℕ) → activity_at groups2 k ≡ activity_at groups k) → InactiveGroupsStay groups2 groups3 → InactiveWordsStay groups groups3
+      inactive_words groups3 activity stay k s none =
+          ap (λ (y : Group). block_words (block_in y s)) (stay k (ap (λ (a : Activity). a.active) (activity k) ∙ none))
+          ∙ same_words_of_blocks space g al p q slots once groups groups2 spaces spaces' moves same was is k s
 
       pub told_now : AreOrdered spaces' → length groups2 ≡ GROUPS → ((k : ℕ) → activity_at groups2 k ≡ activity_at groups k) → TablesTold g 0 slots once groups2
       told_now ordered count activity =

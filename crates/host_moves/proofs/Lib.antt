@@ -13,4 +13,4 @@ pub mod OwnMoves
 pub mod OnceMoves
 pub mod BlockMoves
 pub mod Maps
-pub mod Apart
+pub mod ApartLemmas

@@ -23,7 +23,9 @@ use Rattle.host_shared.specs.declared.shelves.Shelf.{Shelf}
 use Rattle.host_table.specs.Table.{slot_at, group_at, instance_of, active_in, slot_active_in, IsHoused, TablesOk}
 use Rattle.host_shared.specs.Shelves.{once_at}
 use Rattle.host_table.specs.Keeps.{InstKeeps, SlotKeeps, Keeps}
+use Rattle.host_table.specs.Frames.{InactiveGroupsStay}
 use Rattle.host_moves.specs.Waiting.{SameWords, SlotStays, BlockStays, WordsStay}
+use Rattle.host_moves.specs.Moves.{InactiveWordsStay}
 
 idle_words_seen : (rs : List MemRec) (own own' shared shared' : Pieces) → SameWords own own' → SameWords shared shared' → idle_words rs own' shared' ≡ idle_words rs own shared
 idle_words_seen rs own own' shared shared' o s =
@@ -102,3 +104,6 @@ pub words_seen : {M : Type 0} (meaning : Meaning M) (idle_keeps active_keeps : R
 words_seen meaning idle_keeps active_keeps w histories slots slots' once once' groups groups' ok stays keeps i =
     slot_seen meaning idle_keeps active_keeps w (histories i) (slot_at slots i) (slot_at slots' i) (once_at once i) (once_at once' i) groups groups' (stays.slot i) (stays.pieces i)
     (λ g space active. stays.blocks g i space active) (λ m at. ok.housed i m at) (keeps i)
+
+pub words_at_rest : (groups groups' : List Group) → InactiveGroupsStay groups groups' → InactiveWordsStay groups groups'
+words_at_rest groups groups' stay g space none = ap (λ (y : Group). block_words (block_in y space)) (stay g none)

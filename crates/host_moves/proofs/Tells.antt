@@ -25,7 +25,7 @@ use Rattle.host_table.specs.Keeps.{InstKeeps, SlotKeeps, Keeps}
 use Rattle.host_table.specs.Frames.{SameMember, SameMembers}
 use Rattle.host_table.proofs.Housing.{same_blocks}
 use Rattle.host_table.proofs.Held.{homes_of_held}
-use Rattle.host_table.proofs.Changes.{tables_by_change, poisoned_after_change, keeps_after_change, blocks_stay, pieces_stay}
+use Rattle.host_table.proofs.Changes.{tables_by_change, keeps_after_change, blocks_stay, pieces_stay}
 use Rattle.host_life.proofs.Idles.{tables_by_quiet, keeps_after_end}
 use Rattle.host_life.proofs.Told.{members_after, members_after_quiet}
 use Rattle.host_moves.specs.Waiting.{own_set, slot_with, IsThere, IsWaiting, all_but, TablesThere, TablesBut, TablesWaiting, TablesWaitingBut}
@@ -153,10 +153,6 @@ module _ {M : Type 0} (slots : List (Option (Member M))) (once : List Shelf) (gr
       waiting_of_active waits before =
           tables_map (ToldBeside (IsWaiting waits) i) (IsWaiting (all_but waits i)) told (with_seen once i o) (set groups m.group y) (one_told waits i)
           (tables_of_active (IsWaiting waits) (λ j q a a' b b' so sb h. waiting_beside waits j q a a' b b' so sb h) before)
-
-    pub poisoned_of_active : (w : Option ℤ) → ArePoisoned w groups → (y.active ≡ None → BlocksArePoison w y) → ArePoisoned w (set groups m.group y)
-    poisoned_of_active w before here =
-        poisoned_after_change (Beside IsThere i) with_piece_back once groups i m.group (member_back back m) inst o y there_back at_back refl alone now w before here
 
     pub same_of_active : SameMembers with_piece_back once groups told (with_seen once i o) (set groups m.group y)
     same_of_active =

@@ -4,10 +4,10 @@ ghost use Rattle.mem_rec.specs.declared.TheConstants.{TABLE_RECORDS, INSTANCES};
 ghost use Rattle.ialg.specs.History.{History};
 ghost use Rattle.lifecycle.specs.Moves.{restored, CanRestore, with_back, HasRoom};
 ghost use Rattle.host_table.specs.declared.member.Member.{Member};
-ghost use Rattle.host_table.specs.Table.{slot_at, group_at, own_of, instance_of, activity_at, TablesOk, ArePoisoned};
+ghost use Rattle.host_table.specs.Table.{slot_at, group_at, own_of, instance_of, activity_at, TablesOk};
 ghost use Rattle.host_shared.specs.Shelves.{once_at};
 ghost use Rattle.host_table.specs.Steps.{laws, AreKept};
-ghost use Rattle.host_table.specs.Frames.{SameMembers};
+ghost use Rattle.host_table.specs.Frames.{InactiveGroupsStay, SameMembers};
 ghost use Rattle.host_moves.specs.Waiting.{own_set, all_but, all_from, holds_with, TablesThere, TablesBut, TablesWaiting, TablesWaitingBut};
 
 use host_shared::{home, put_seen, take_seen};
@@ -28,7 +28,7 @@ pub fn tell<M: Ialg>(tables: &mut Tables<M>, i: u8, back: Option<(usize, Piece)>
     ensures ok { TablesBut i tables.old.slots tables.old.once tables.old.groups → TablesOk tables.new.slots tables.new.once tables.new.groups }
     ensures waiting { (waits : ℕ → Bool) → TablesWaitingBut waits i tables.old.slots tables.old.once tables.old.groups
         → TablesWaiting (all_but waits i) tables.new.slots tables.new.once tables.new.groups }
-    ensures poisoned { (w : Option ℤ) → ArePoisoned w tables.old.groups → ArePoisoned w tables.new.groups }
+    ensures inactive { InactiveGroupsStay tables.old.groups tables.new.groups }
     ensures same { SameMembers (own_set tables.old.slots i (restored back (own_of (slot_at tables.old.slots i)))) tables.old.once tables.old.groups
         tables.new.slots tables.new.once tables.new.groups }
     ensures activity { (k : ℕ) → activity_at tables.new.groups k ≡ activity_at tables.old.groups k }
@@ -62,7 +62,7 @@ fn tell_holder<M: Ialg>(tables: &mut Tables<M>, i: u8, k: usize, j: u8)
     requires record { k < TABLE_RECORDS }
     requires waiting { TablesWaiting (all_from (holds_with tables.old.once i k) j) tables.old.slots tables.old.once tables.old.groups }
     ensures waiting { TablesWaiting (all_from (holds_with tables.new.once i k) (j + 1)) tables.new.slots tables.new.once tables.new.groups }
-    ensures poisoned { (w : Option ℤ) → ArePoisoned w tables.old.groups → ArePoisoned w tables.new.groups }
+    ensures inactive { InactiveGroupsStay tables.old.groups tables.new.groups }
     ensures same { SameMembers tables.old.slots tables.old.once tables.old.groups tables.new.slots tables.new.once tables.new.groups }
     ensures activity { (g : ℕ) → activity_at tables.new.groups g ≡ activity_at tables.old.groups g }
     ensures keeps { (w : Option ℤ) (histories : ℕ → History) → AreKept (laws M.meaning M.idle_keeps M.active_keeps) w tables.old histories
@@ -78,7 +78,7 @@ pub fn tell_holders<M: Ialg>(tables: &mut Tables<M>, i: u8, k: usize)
     requires record { k < TABLE_RECORDS }
     requires waiting { TablesWaiting (holds_with tables.old.once i k) tables.old.slots tables.old.once tables.old.groups }
     ensures ok { TablesOk tables.new.slots tables.new.once tables.new.groups }
-    ensures poisoned { (w : Option ℤ) → ArePoisoned w tables.old.groups → ArePoisoned w tables.new.groups }
+    ensures inactive { InactiveGroupsStay tables.old.groups tables.new.groups }
     ensures same { SameMembers tables.old.slots tables.old.once tables.old.groups tables.new.slots tables.new.once tables.new.groups }
     ensures activity { (g : ℕ) → activity_at tables.new.groups g ≡ activity_at tables.old.groups g }
     ensures keeps { (w : Option ℤ) (histories : ℕ → History) → AreKept (laws M.meaning M.idle_keeps M.active_keeps) w tables.old histories

@@ -1,12 +1,13 @@
 -- What a move leaves is kept.
-use Rattle.std.proofs.Common.{◌≡◌, Bool, true, false, List, Option, Some, None, is_some, refl, ap, sym, ◌∙◌, subst}
+use Rattle.std.proofs.Common.{◌≡◌, ℕ, ℤ, Bool, true, false, List, Option, Some, None, is_some, refl, ap, sym, ◌∙◌, subst}
 use Rattle.mem_rec.specs.declared.Space.{Space}
 use Rattle.ialg.specs.Meaning.{Meaning}
+use Rattle.ialg.specs.Records.{ArePoison}
 use Rattle.scratch_group.specs.declared.group.Group.{Group}
 use Rattle.lifecycle.specs.States.{Relation}
 use Rattle.host_table.specs.declared.member.Member.{Member}
 use Rattle.host_shared.specs.declared.shelves.Shelf.{Shelf}
-use Rattle.host_table.specs.Table.{slot_at}
+use Rattle.host_table.specs.Table.{Activity, ArePoisoned, group_at, slot_at}
 use Rattle.space_blocks.specs.declared.placed.Placed.{Placed}
 use Rattle.space_blocks.specs.Moves.{next_block}
 use Rattle.host_spaces.specs.declared.spaces.Spaces.{Spaces}
@@ -28,6 +29,18 @@ still_living (Some m) (Some n) (Some x) same is = record {
   table = same.table ∙ is.table;
   group = same.group ∙ is.group;
 }
+
+-- the blocks of groups without an active member hold the poison word still
+pub poison_stays : {M : Type 0} (meaning : Meaning M) (idle_keeps active_keeps : Relation M) (space : Space)
+    (slots slots' : List (Option (Member M))) (once once' : List Shelf) (groups groups' : List Group) (spaces spaces' : Spaces) (moved : Bool)
+    → (moved ≡ true → HasMoved meaning idle_keeps active_keeps space slots once groups spaces slots' once' groups' spaces') → (moved ≡ false → groups' ≡ groups)
+    → (w : Option ℤ) → ArePoisoned w groups → ArePoisoned w groups'
+poison_stays meaning idle_keeps active_keeps space slots slots' once once' groups groups' spaces spaces' false moves packed w before = rw (packed refl) before
+poison_stays meaning idle_keeps active_keeps space slots slots' once once' groups groups' spaces spaces' true moves packed w before =
+    let it = moves refl in
+    λ g below none s.
+    let was : (group_at groups g).active ≡ None = sym (ap (λ (a : Activity). a.active) (it.activity g)) ∙ none in
+    subst (ArePoison w) (sym (it.words g s was)) (before g below was s)
 
 module _ {M : Type 0} (meaning : Meaning M) (idle_keeps active_keeps : Relation M) (space : Space)
     (slots slots' : List (Option (Member M))) (once once' : List Shelf) (groups groups' : List Group) (spaces spaces' : Spaces) (before : State M)

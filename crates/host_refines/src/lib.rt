@@ -7,8 +7,6 @@
 
 mod calls;
 mod moves;
-mod told;
 
 pub use calls::{give_block, give_control, put_to_rest};
 pub use moves::{compact, step};
-pub use told::tell;

@@ -1,11 +1,12 @@
 -- Which member of a group is active after a step.
-use Rattle.std.proofs.Common.{◌≡◌, ◌<◌, ℕ, List, length, set, get_or-set_same, get_or-set_other, inl, inr, Option, Some, None, false, refl, ◌∙◌, ap}
+use Rattle.std.proofs.Common.{◌≡◌, ◌<◌, ℕ, List, length, set, get_or-set_same, get_or-set_other, inl, inr, Option, Some, None, false, refl, sym, subst, ◌∙◌, ap}
 use Rattle.std.proofs.lemmas.Bool.Decides.{eqb_tells}
+use Rattle.std.proofs.lemmas.Option.{none-some}
 use Rattle.scratch_group.specs.declared.group.Group.{Group}
-use Rattle.scratch_group.specs.Blocks.{count_after}
+use Rattle.scratch_group.specs.Blocks.{count_after, BlocksArePoison}
 use Rattle.host_table.specs.declared.member.Member.{Member}
-use Rattle.host_table.specs.Table.{no_group, group_of, Activity, activity_at, rested, is_active, touched, with_activity}
-use Rattle.host_table.specs.Frames.{SameSlot}
+use Rattle.host_table.specs.Table.{no_group, group_at, group_of, Activity, activity_at, ArePoisoned, rested, is_active, touched, with_activity}
+use Rattle.host_table.specs.Frames.{SameSlot, InactiveGroupsStay}
 
 pub same_group_of : {M : Type 0} (a b : Option (Member M)) → SameSlot a b → group_of b ≡ group_of a
 same_group_of None b e = ap group_of e
@@ -74,3 +75,19 @@ group_change groups g y inside k =
           rw (e.0, e.1) equal
       | inr e ↦ rw e.0 (ap (λ (q : Group). let r : Activity = record { active = q.active; count = q.activations } in r) (get_or-set_other groups g k y no_group e.1))
     ]
+
+-- another group in the place of one with an active member
+pub inactive_beside : (groups : List Group) (g i : ℕ) (y : Group) → (group_at groups g).active ≡ Some i → InactiveGroupsStay groups (set groups g y)
+inactive_beside groups g i y active k none =
+    get_or-set_other groups g k y no_group (λ e. none-some _ (sym none ∙ ap (λ j. (group_at groups j).active) e ∙ active))
+
+-- of two changes in turn
+pub inactive_then : (groups mid groups' : List Group) → InactiveGroupsStay groups mid → InactiveGroupsStay mid groups' → InactiveGroupsStay groups groups'
+inactive_then groups mid groups' first second g none = second g (ap (λ (y : Group). y.active) (first g none) ∙ none) ∙ first g none
+
+-- their blocks hold the poison word still
+pub poisoned_stays : (w : Option ℤ) (groups groups' : List Group) → InactiveGroupsStay groups groups' → ((k : ℕ) → activity_at groups' k ≡ activity_at groups k)
+    → ArePoisoned w groups → ArePoisoned w groups'
+poisoned_stays w groups groups' stay activity before g below none =
+    let was : (group_at groups g).active ≡ None = sym (ap (λ (a : Activity). a.active) (activity g)) ∙ none in
+    subst (BlocksArePoison w) (sym (stay g was)) (before g below was)

@@ -54,6 +54,10 @@ pub record OthersSame {M : Type 0} (i : ℕ) (slots : List (Option (Member M))) 
   pub pieces : (j : ℕ) → j ≢ i → SamePieces (once_at once j) (once_at once' j)
   pub blocks : (g : ℕ) (space : Space) → IsSameBlock (block_in (group_at groups g) space) (block_in (group_at groups' g) space)
 
+-- a group without an active member is as it was
+abbrev pub InactiveGroupsStay : List Group → List Group → Type 0
+InactiveGroupsStay groups groups' = (g : ℕ) → (group_at groups g).active ≡ None → group_at groups' g ≡ group_at groups g
+
 -- the same instance in the same state, that may go by other bases
 pub record SameMember {M : Type 0} (m n : Member M) : Type 0 where
   pub group : n.group ≡ m.group

@@ -1,6 +1,6 @@
 use Rattle.std.proofs.Common.{◌<◌, ◌≤◌, length, refl, sym, ◌∙◌, subst, arith}
 use Rattle.alg_host.specs.Requests.{all_made, AreServed}
-use Rattle.alg_host.proofs.Lists.{as_many, asked_still, made_next, served_more, served_none, take_all}
+use Rattle.alg_host.proofs.ListLemmas.{as_many, asked_still, made_next, served_more, served_none, take_all}
 use Rattle.alg_host.proofs.lists.make_all.Goals as goal
 
 pub loop-k-init : goal.loop-k-init

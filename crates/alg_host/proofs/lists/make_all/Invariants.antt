@@ -1,4 +1,4 @@
-use Rattle.alg_host.proofs.Lists.{MadeUpTo}
+use Rattle.alg_host.proofs.ListLemmas.{MadeUpTo}
 use Rattle.alg_host.proofs.lists.make_all.Given as goal
 
 abbrev pub invariant-loop-k : goal.invariant-loop-k

@@ -8,6 +8,7 @@ use Rattle.host_moves.proofs.Homes.{alike_same, need_alike}
 use Rattle.host_moves.proofs.Rooms.{either}
 use Rattle.host_create.specs.Blocks.{replaced_in}
 use Rattle.host_create.proofs.Grown.{grown_stays, placed_stays}
+use Rattle.host_table.proofs.Activities.{poisoned_stays}
 use Rattle.host_create.proofs.Told.{Renewed, need_new, ok_now, owner_of, poisoned_now, region_of, replaced_at, stands, told_now, without_replaced_pieces, words_now}
 use Rattle.host_create.proofs.growth.grow.Goals as goal
 
@@ -76,7 +77,7 @@ returns-clause-poisoned g c =
       others = c.take_out_blocks.ensures.others;
       regions = c.take_out_blocks.ensures.stays;
     } in
-    c.tell_where.ensures.poisoned c.args.poison (poisoned_now c.args.g c.args.blocks _ _ _ _ c.args.spaces.now c.take_out_blocks.new.self renewed (rw (← c.tables-2.view_is) at c.rest_where.ensures.ok) c.args.poison c.requires.words (rw (← c.tables-2.view_is) at c.rest_where.ensures.poisoned))
+    poisoned_stays c.args.poison _ _ c.tell_where.ensures.inactive c.tell_where.ensures.activity (poisoned_now c.args.g c.args.blocks _ _ _ _ c.args.spaces.now c.take_out_blocks.new.self renewed (rw (← c.tables-2.view_is) at c.rest_where.ensures.ok) c.args.poison c.requires.words (rw (← c.tables-2.view_is) at c.rest_where.ensures.poisoned))
 
 pub returns-clause-grown : goal.returns-clause-grown
 returns-clause-grown g c =

@@ -13,8 +13,8 @@ use Rattle.host_shared.specs.Shelves.{once_at}
 use Rattle.host_table.proofs.Housing.{same_blocks, settled_stays, settled_at}
 use Rattle.host_shared.proofs.Lent.{put_back}
 use Rattle.host_table.proofs.Held.{in_group, homes_of_held, once_unplaced}
-use Rattle.host_table.proofs.Changes.{homes_in, read_ok_slot, read_ok_group, kept_in_slot, tables_by_change, poisoned_after_change, keeps_after_change, blocks_stay, pieces_stay}
-use Rattle.host_table.proofs.Activities.{activity_stays, group_change}
+use Rattle.host_table.proofs.Changes.{homes_in, read_ok_slot, read_ok_group, kept_in_slot, tables_by_change, keeps_after_change, blocks_stay, pieces_stay}
+use Rattle.host_table.proofs.Activities.{activity_stays, group_change, inactive_beside}
 use Rattle.host_life.proofs.Idles.{tables_by_quiet, keeps_after_end}
 use Rattle.host_life.proofs.Told.{member_is, is_told, told_here, told_beside, told_member, members_after, members_after_quiet}
 use Rattle.host_life.proofs.moves.tell_member.Goals as goal
@@ -123,16 +123,12 @@ returns-in-Running-clause-told g c =
     (pieces_stay _ c.args.i _ (omega (arith, c.requires.number, c.requires.told.once_count)) (homes_of_held _ _ c.requires.told.held) pieces j)
     (blocks_stay _ c.args.g _ (omega (arith, c.requires.range, c.requires.told.group_count)) blocks n.group) before))
 
-pub returns-in-Running-clause-poisoned : goal.returns-in-Running-clause-poisoned
-returns-in-Running-clause-poisoned g c w before =
+pub returns-in-Running-clause-inactive : goal.returns-in-Running-clause-inactive
+returns-in-Running-clause-inactive g c =
     let at = read_ok_slot _ _ _ c.requires.told c.args.i c.requires.number _ c.index_mut.ensures.value ∙ c.in-Some.is in
     let of_group = member_is _ c.args.g _ at c.requires.member in
-    let group_is = read_ok_group _ _ _ c.requires.told c.args.g c.requires.range _ c.index_mut-in-Running.ensures.value in
     let there : slot_active_in (slot_at c.args.slots.now.items c.args.i) ≡ Some c.args.g = rw (at, c.in-Running.is, of_group) refl in
-    let known = c.requires.told.active_known c.args.g c.args.i there in
-    let now : c.moved-in-Running.new.group.active ≡ Some c.args.i = c.moved-in-Running.ensures.group.active ∙ rw group_is at known in
-    poisoned_after_change (IsTold c.args.g c.args.i) c.args.slots.now.items c.args.once.now.items _ c.args.i c.args.g c.in-Some.member (Running c.moved-in-Running.new.self) c.moved-in-Running.new.shared _ c.requires.told at of_group
-    (λ j other. same_Some j c.args.i (sym other ∙ known)) now w before (λ e. absurd (none-some _ (sym e ∙ now)))
+    inactive_beside c.args.groups.now.items c.args.g c.args.i c.moved-in-Running.new.group (c.requires.told.active_known c.args.g c.args.i there)
 
 pub returns-in-Running-clause-same : goal.returns-in-Running-clause-same
 returns-in-Running-clause-same g c =

@@ -1,11 +1,12 @@
 use Rattle.std.proofs.Common.{◌∙◌, refl, arith}
+use Rattle.host_table.proofs.Activities.{inactive_then}
 use Rattle.host_life.proofs.Told.{all_told, members_then, same_members}
 use Rattle.host_life.proofs.moves.tell_members.Goals as goal
 
 pub loop-i-init : goal.loop-i-init
 loop-i-init g c = record {
   told = c.requires.told;
-  poisoned = λ w h. h;
+  inactive = λ k none. refl;
   same = same_members _ _ _;
   activity = λ k. refl;
   keeps = λ w histories h. h;
@@ -14,7 +15,7 @@ loop-i-init g c = record {
 pub loop-i-preserved : goal.loop-i-preserved
 loop-i-preserved g c = record {
   told = c.tell_slot.ensures.told;
-  poisoned = λ w h. c.tell_slot.ensures.poisoned w (c.loop-i.invariant.poisoned w h);
+  inactive = inactive_then _ _ _ c.loop-i.invariant.inactive c.tell_slot.ensures.inactive;
   same = members_then _ _ _ _ _ _ _ _ _ c.loop-i.invariant.same c.tell_slot.ensures.same;
   activity = λ k. c.tell_slot.ensures.activity k ∙ c.loop-i.invariant.activity k;
   keeps = λ w histories h. c.tell_slot.ensures.keeps w histories (c.loop-i.invariant.keeps w histories h);

@@ -1,4 +1,4 @@
-use Rattle.host_moves.proofs.Apart.{records_apart, scratch_apart, groups_apart}
+use Rattle.host_moves.proofs.ApartLemmas.{records_apart, scratch_apart, groups_apart}
 use Rattle.host_moves.proofs.laws.loans_are_apart.Goals as goal
 
 pub returns-clause-records : goal.returns-clause-records

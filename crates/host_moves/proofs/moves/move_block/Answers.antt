@@ -3,7 +3,7 @@ use Rattle.host_spaces.specs.Picture.{blocks_in, picture_of}
 use Rattle.host_moves.proofs.Seen.{words_seen}
 use Rattle.host_moves.proofs.Homes.{standing_stays}
 use Rattle.host_moves.proofs.OwnMoves.{kind_itself, then_same, same_sizes, words_copied}
-use Rattle.host_moves.proofs.BlockMoves.{block_there, next_is, range_is, region_is, stands, words_now, poisoned_now, told_now}
+use Rattle.host_moves.proofs.BlockMoves.{block_there, next_is, range_is, region_is, stands, words_now, inactive_words, told_now}
 use Rattle.host_moves.proofs.moves.move_block.Goals as goal
 
 pub take_block-requires : goal.take_block-requires
@@ -37,14 +37,14 @@ returns g c =
     let words = words_now _ _ _ _ _ c.args.g c.args.align (rw (← c.tables.view_is) at c.requires.ok) (rw (← c.tables.view_is) at c.requires.standing) c.requires.next c.requires.align _ (sym c.take_block.ensures.old ∙ c.in-Some.is)
     c.make_move-moved.result _ _ _ c.make_move-moved.ensures.owned c.make_move-moved.ensures.others c.make_move-moved.ensures.elsewhere c.make_move-moved.ensures.regions
     c.make_move-moved.ensures.words.0 c.make_move-moved.ensures.words.1 c.take_block.ensures.others c.put_block-old.ensures.others c.put_block-old.ensures.new in
-    let poisoned = poisoned_now _ _ _ _ _ c.args.g c.args.align (rw (← c.tables.view_is) at c.requires.ok) (rw (← c.tables.view_is) at c.requires.standing) c.requires.next c.requires.align _ (sym c.take_block.ensures.old ∙ c.in-Some.is)
+    let resting = inactive_words _ _ _ _ _ c.args.g c.args.align (rw (← c.tables.view_is) at c.requires.ok) (rw (← c.tables.view_is) at c.requires.standing) c.requires.next c.requires.align _ (sym c.take_block.ensures.old ∙ c.in-Some.is)
     c.make_move-moved.result _ _ _ c.make_move-moved.ensures.owned c.make_move-moved.ensures.others c.make_move-moved.ensures.elsewhere c.make_move-moved.ensures.regions
     c.make_move-moved.ensures.words.0 c.make_move-moved.ensures.words.1 c.take_block.ensures.others c.put_block-old.ensures.others c.put_block-old.ensures.new
-    (λ k. c.put_block-old.ensures.activity k ∙ c.take_block.ensures.activity k) in
+    _ (λ k. c.put_block-old.ensures.activity k ∙ c.take_block.ensures.activity k) c.tell_members.ensures.inactive in
     record {
       ok = c.tell_members.ensures.ok;
       standing = standing_stays _ _ _ _ _ _ _ c.tell_members.ensures.same stand;
-      poisoned = λ w before. c.tell_members.ensures.poisoned w (poisoned w before);
+      words = resting;
       same = then_same _ _ _ _ _ _ _ (λ j. kind_itself _) c.tell_members.ensures.same;
       activity = λ k. c.tell_members.ensures.activity k ∙ c.put_block-old.ensures.activity k ∙ c.take_block.ensures.activity k;
       picture = c.make_move-moved.ensures.picture;

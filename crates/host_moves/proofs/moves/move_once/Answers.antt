@@ -1,7 +1,7 @@
 use Rattle.host_spaces.specs.Picture.{blocks_in, picture_of}
 use Rattle.host_shared.proofs.Lent.{homes_of_all}
 use Rattle.host_table.proofs.Held.{homes_of_held}
-use Rattle.host_moves.proofs.Seen.{words_seen}
+use Rattle.host_moves.proofs.Seen.{words_seen, words_at_rest}
 use Rattle.host_moves.proofs.Homes.{standing_stays}
 use Rattle.host_moves.proofs.OwnMoves.{kind_itself, then_same, same_sizes, words_copied}
 use Rattle.host_moves.proofs.OnceMoves.{next_is, region_is, range_is, below, inside_away, empty_there, back_is, waiting_now, stands, words_now}
@@ -54,7 +54,7 @@ returns g c =
     record {
       ok = c.tell_holders.ensures.ok;
       standing = standing_stays _ _ _ _ _ _ _ same stand;
-      poisoned = c.tell_holders.ensures.poisoned;
+      words = words_at_rest _ _ c.tell_holders.ensures.inactive;
       same = then_same _ _ _ _ _ _ _ (λ j. kind_itself _) same;
       activity = c.tell_holders.ensures.activity;
       picture = c.make_move-moved.ensures.picture;

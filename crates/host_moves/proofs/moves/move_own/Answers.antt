@@ -1,5 +1,5 @@
 use Rattle.host_spaces.specs.Picture.{blocks_in, picture_of}
-use Rattle.host_moves.proofs.Seen.{words_seen}
+use Rattle.host_moves.proofs.Seen.{words_seen, words_at_rest}
 use Rattle.host_moves.proofs.Homes.{standing_stays}
 use Rattle.host_moves.proofs.OwnMoves.{next_is, region_is, range_is, living_away, can_come_back, told_others, tables_away, room_back, stands_back, kinds_back, words_back, then_same, same_sizes, words_copied}
 use Rattle.host_moves.proofs.moves.move_own.Goals as goal
@@ -48,7 +48,7 @@ returns g c =
     record {
       ok = c.tell.ensures.ok (rw c.take_own-piece.ensures.left (told_others _ _ _ _ _ c.args.i c.args.k _ (rw (← c.tables.view_is) at c.requires.ok) (rw (← c.tables.view_is) at c.requires.standing) c.requires.next c.take_own-piece.ensures.piece));
       standing = standing_stays _ _ _ _ _ _ _ same stands;
-      poisoned = c.tell.ensures.poisoned;
+      words = words_at_rest _ _ c.tell.ensures.inactive;
       same = then_same _ _ _ _ _ _ _ kinds same;
       activity = c.tell.ensures.activity;
       picture = c.make_move-moved.ensures.picture;

@@ -1,4 +1,4 @@
-use Rattle.std.proofs.Common.{◌≡◌, ℕ, ◌<◌, Some, None, get_or-set_same, refl, sym, ◌∙◌, arith}
+use Rattle.std.proofs.Common.{◌≡◌, ℕ, ◌<◌, Some, None, get_or-set_same, refl, sym, ap, ◌∙◌, arith}
 use Rattle.std.proofs.lemmas.Option.{same_Some, none-some}
 use Rattle.mem_rec.specs.declared.Space.{Space}
 use Rattle.record_loans.specs.Pieces.{SamePieces}
@@ -17,10 +17,10 @@ use Rattle.host_shared.proofs.Homes.{lent_here}
 use Rattle.host_shared.proofs.Lent.{put_back}
 use Rattle.host_table.proofs.Held.{once_unplaced}
 use Rattle.host_table.proofs.Changes.{homes_in, read_ok_slot, read_ok_group}
-use Rattle.host_table.proofs.Activities.{activity_stays, group_change}
+use Rattle.host_table.proofs.Activities.{activity_stays, group_change, inactive_beside}
 use Rattle.host_life.proofs.Told.{told_member}
 use Rattle.host_moves.proofs.Owns.{member_back}
-use Rattle.host_moves.proofs.Tells.{ok_of_idle, waiting_of_idle, same_of_idle, keeps_of_idle, ok_of_active, waiting_of_active, poisoned_of_active, same_of_active, keeps_of_active}
+use Rattle.host_moves.proofs.Tells.{ok_of_idle, waiting_of_idle, same_of_idle, keeps_of_idle, ok_of_active, waiting_of_active, same_of_active, keeps_of_active}
 use Rattle.host_moves.proofs.told.tell.Goals as goal
 use Rattle.host_moves.proofs.told.tell.Goals.{After-put_seen, After-put_seen-in-Running}
 use Rattle.host_moves.proofs.told.tell.Given.{Over}
@@ -182,12 +182,11 @@ returns-in-Running-clause-waiting g c =
       get_or-set_same c.tables.inside.groups.items c.in-Some.member.group c.moved-in-Running.new.group no_group (omega (arith, (active_range g c), (rw (← c.tables.view_is) at c.requires.there).group_count)),
     ) (active_housed g c)) waits before))
 
-pub returns-in-Running-clause-poisoned : goal.returns-in-Running-clause-poisoned
-returns-in-Running-clause-poisoned g c =
+pub returns-in-Running-clause-inactive : goal.returns-in-Running-clause-inactive
+returns-in-Running-clause-inactive g c =
     rw (← c.tables.view_is)
-    (λ w before.
-    poisoned_of_active _ _ _ c.args.i c.in-Some.member c.args.back (rw (← c.tables.view_is) at c.requires.there) (active_in_slot g c) c.requires.number (Running c.moved-in-Running.new.self) _ _ (active_alone g c) (active_now g c) (active_same g c) (active_pieces g c) (active_written g c) (active_blocks g c) w before
-    (λ e. absurd (none-some _ (sym e ∙ (active_now g c)))))
+    (inactive_beside c.tables.inside.groups.items c.in-Some.member.group c.args.i c.moved-in-Running.new.group
+    ((rw (← c.tables.view_is) at c.requires.there).active_known c.in-Some.member.group c.args.i (ap slot_active_in (active_in_slot g c) ∙ rw c.in-Running.is refl)))
 
 pub returns-in-Running-clause-same : goal.returns-in-Running-clause-same
 returns-in-Running-clause-same g c =

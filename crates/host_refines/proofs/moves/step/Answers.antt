@@ -1,5 +1,5 @@
-use Rattle.std.proofs.Common.{sym, ◌∙◌}
-use Rattle.host_refines.proofs.MovesKept.{step_kept}
+use Rattle.std.proofs.Common.{ap, sym, ◌∙◌}
+use Rattle.host_refines.proofs.MovesKept.{poison_stays, step_kept}
 use Rattle.host_refines.proofs.Compactions.{moved_one}
 use Rattle.host_refines.proofs.moves.step.Goals as goal
 
@@ -11,3 +11,8 @@ pub returns-clause-machine : goal.returns-clause-machine
 returns-clause-machine g c before kept =
     step_kept g.M.Ialg.meaning g.M.Ialg.idle_keeps g.M.Ialg.active_keeps c.args.space _ _ _ _ _ _ _ _ before kept _ c.make_next_move.ensures.answer c.make_next_move.ensures.moved
     (λ packed. let still = c.make_next_move.ensures.packed packed in rw (still.0, still.1) kept)
+
+pub returns-clause-poisoned : goal.returns-clause-poisoned
+returns-clause-poisoned g c =
+    poison_stays g.M.Ialg.meaning g.M.Ialg.idle_keeps g.M.Ialg.active_keeps c.args.space _ _ _ _ _ _ _ _ _ c.make_next_move.ensures.moved
+    (λ packed. ap (λ t. t.groups) (c.make_next_move.ensures.packed packed).0)
