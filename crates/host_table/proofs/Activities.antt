@@ -1,5 +1,5 @@
 -- Which member of a group is active after a step.
-use Rattle.std.proofs.Common.{◌≡◌, ◌<◌, ℕ, List, length, set, get_or-set_same, get_or-set_other, inl, inr, Option, Some, None, false, refl, sym, subst, ◌∙◌, ap}
+use Rattle.std.proofs.Common.{◌≡◌, ◌<◌, ℕ, ℤ, List, length, set, get_or-set_same, get_or-set_other, inl, inr, Option, Some, None, false, refl, sym, subst, ◌∙◌, ap}
 use Rattle.std.proofs.lemmas.Bool.Decides.{eqb_tells}
 use Rattle.std.proofs.lemmas.Option.{none-some}
 use Rattle.scratch_group.specs.declared.group.Group.{Group}
