@@ -6,13 +6,14 @@ use Rattle.scratch_group.specs.declared.group.Group.{Group}
 use Rattle.lifecycle.specs.States.{Relation}
 use Rattle.host_table.specs.declared.member.Member.{Member}
 use Rattle.host_shared.specs.declared.shelves.Shelf.{Shelf}
-use Rattle.host_table.specs.Table.{Activity, slot_at, TablesOk, ArePoisoned}
+use Rattle.host_map.specs.Activity.{Activity}
+use Rattle.host_table.specs.Table.{slot_at, TablesOk, ArePoisoned}
 use Rattle.host_spaces.specs.declared.spaces.Spaces.{Spaces}
 use Rattle.host_moves.specs.Standing.{AreStanding}
 use Rattle.host_spec.specs.State.{State}
 use Rattle.host_spec.specs.Calls.{Call, Does}
 use Rattle.host_refines.specs.Hosts.{HostKeeps}
-use Rattle.scratch_group.specs.declared.group.Stat.{Stat}
+use Rattle.host_map.specs.declared.parts.Stat.{Stat}
 
 -- the tables of instances, of write-once pieces and of groups, the three spaces, and the poison word, if there is one
 pub record HostState (M : Type 0) : Type 0 where

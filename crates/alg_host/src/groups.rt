@@ -8,7 +8,7 @@ use host_moves::places_stay;
 use host_refines::put_to_rest;
 use ialg::{Ialg, Refusal};
 use mem_rec::GROUPS;
-use scratch_group::Stat;
+use host_map::Stat;
 
 impl<M: Ialg> Host<M> {
     /// Deactivates the active member of the group, and says whether there was one. The count of activations stays.

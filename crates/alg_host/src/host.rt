@@ -1,13 +1,14 @@
 //! The host: how it is made.
 ghost use Rattle.std.specs.Prelude.{◌≡◌, ℕ, false, IfOk, IfErr, IsErrOf};
-ghost use Rattle.host_spaces.specs.Picture.{AreSizes};
+ghost use Rattle.host_map.specs.Picture.{AreSizes};
 ghost use Rattle.host_spec.specs.State.{new_state};
 ghost use Rattle.alg_host.specs.Hosts.{Keeps, lives};
 
 use crate::memory::{HostMemory, Tables};
 use host_life::in_order;
 use host_moves::nobody_stands;
-use host_spaces::{Sizes, Spaces, StartError};
+use host_map::Sizes;
+use host_spaces::{Spaces, StartError};
 use ialg::Ialg;
 use std::alloc::Global;
 use std::marker::Model;

@@ -17,9 +17,10 @@ mod moves;
 mod request;
 
 pub use host::Host;
-pub use host_spaces::{Sizes, StartError};
+pub use host_map::Sizes;
+pub use host_spaces::StartError;
 pub use lists::{make, make_all, make_both};
 pub use memory::HostMemory;
 pub use request::Request;
-pub use scratch_group::Stat;
-pub use space_blocks::{Map, Owner, Placed};
+pub use host_map::Stat;
+pub use host_map::{Map, Owner, Placed};

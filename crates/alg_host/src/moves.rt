@@ -7,7 +7,7 @@ use crate::Host;
 use host_moves::maps_have_room;
 use ialg::Ialg;
 use mem_rec::Space;
-use space_blocks::Map;
+use host_map::Map;
 
 impl<M: Ialg> Host<M> {
     /// Moves the first block of the space that doesn't stand at the least place behind the block before it to that place, with its

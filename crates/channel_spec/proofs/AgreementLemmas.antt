@@ -1,6 +1,6 @@
 -- What the members of two channels give that were given the same.
 use Rattle.std.proofs.Common.{◌≡◌, ℕ, ℤ, false, List, [], ◌∷◌, Option, Some, None, refl, ap, sym, ◌∙◌, subst, nat_eq}
-use Rattle.space_heap.proofs.RangeTests.{both_false}
+use Rattle.relocate.proofs.RangeTests.{both_false}
 use Rattle.ialg.specs.History.{with_samples, block_output}
 use Rattle.ialg.specs.Meaning.{Meaning}
 use Rattle.host_spec.specs.State.{Living, with_living}

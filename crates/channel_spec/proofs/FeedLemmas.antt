@@ -2,7 +2,7 @@
 use Rattle.std.proofs.Common.{◌≡◌, ℕ, ℤ, true, false, List, [], ◌∷◌, ◌++◌, Option, Some, None, refl, ap, sym, ◌∙◌, subst, nat_eq}
 use Rattle.std.proofs.lemmas.Bool.{eq-eqb}
 use Rattle.std.specs.Prelude.{IfSome}
-use Rattle.space_heap.proofs.RangeTests.{left_true, right_true}
+use Rattle.relocate.proofs.RangeTests.{left_true, right_true}
 use Rattle.ialg.specs.Meaning.{Meaning}
 use Rattle.host_spec.specs.State.{Living, State, with_living}
 use Rattle.host_spec.specs.Choices.{IsLawful}

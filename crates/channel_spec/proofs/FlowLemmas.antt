@@ -4,7 +4,7 @@ use Rattle.std.proofs.Math.Seq.{drop-append_seam}
 use Rattle.std.proofs.lemmas.Bool.{eq-eqb}
 use Rattle.std.proofs.lemmas.Bool.Decides.{eqb_tells}
 use Rattle.std.specs.Prelude.{IfSome}
-use Rattle.space_heap.proofs.RangeTests.{either, both_false, true_or_false, clash}
+use Rattle.relocate.proofs.RangeTests.{either, both_false, true_or_false, clash}
 use Rattle.ialg.specs.History.{with_samples}
 use Rattle.ialg.specs.Meaning.{Meaning, outputs_of}
 use Rattle.ialg.proofs.CutLemmas.{cuts_dont_show}

@@ -6,7 +6,7 @@ use Rattle.ialg.specs.declared.refusal.Refusal.{Refusal}
 use Rattle.ialg.specs.declared.refusal.Refusal.TheVariants.{Range, Taken, Missing, Busy}
 use Rattle.ialg.specs.Refusals.{first_refusal}
 use Rattle.ialg.specs.Meaning.{Meaning}
-use Rattle.space_heap.proofs.RangeTests.{either, true_or_false, clash, both_true, both_false, right_true, left_true}
+use Rattle.relocate.proofs.RangeTests.{either, true_or_false, clash, both_true, both_false, right_true, left_true}
 use Rattle.std.proofs.lemmas.Bool.{false≢true}
 use Rattle.std.proofs.lemmas.Option.{same_Some}
 use Rattle.host_spec.specs.State.{State}

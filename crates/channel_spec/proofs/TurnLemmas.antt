@@ -2,9 +2,9 @@
 use Rattle.std.proofs.Common.{◌≡◌, ◌≢◌, ℕ, ℤ, Bool, true, false, cond, List, [], ◌∷◌, ◌++◌, Option, Some, None, refl, ap, sym, ◌∙◌, nat_eq}
 use Rattle.std.proofs.lemmas.Bool.{eq-eqb}
 use Rattle.std.proofs.lemmas.Bool.Decides.{eqb_tells}
-use Rattle.space_heap.proofs.RangeTests.{either, both_false, true_or_false, clash, left_true, right_true}
+use Rattle.relocate.proofs.RangeTests.{either, both_false, true_or_false, clash, left_true, right_true}
 use Rattle.ialg.specs.Meaning.{Meaning}
-use Rattle.host_table.specs.Table.{Activity, is_active, touched, with_activity}
+use Rattle.host_map.specs.Activity.{Activity, is_active, touched, with_activity}
 use Rattle.host_spec.specs.State.{Living, with_living, is_of_group}
 use Rattle.host_spec.specs.Answers.{output_at}
 use Rattle.channel_spec.specs.Channels.{has_number, has_repeat}

@@ -2,7 +2,7 @@
 use Rattle.std.proofs.Common.{◌≡◌, ℕ, ℤ, List, [], length, Option, Some, None, Result, Ok, Err, refl, ap, ◌∙◌}
 use Rattle.ialg.specs.declared.refusal.Refusal.{Refusal}
 use Rattle.ialg.specs.Meaning.{Meaning}
-use Rattle.host_spaces.specs.declared.spaces.Sizes.{Sizes}
+use Rattle.host_map.specs.declared.parts.Sizes.{Sizes}
 use Rattle.host_spec.specs.Calls as host_calls
 use Rattle.host_spec.specs.Answers.{AreLawful}
 use Rattle.channel_spec.specs.Channels.{Channels}

@@ -3,8 +3,8 @@ use Rattle.std.specs.Prelude.{ℕ, ℤ, List, length, Option, Some, None, Result
 use Rattle.ialg.specs.declared.refusal.Refusal.{Refusal}
 use Rattle.ialg.specs.History as history
 use Rattle.ialg.specs.Meaning.{Meaning}
-use Rattle.host_spaces.specs.declared.spaces.Sizes.{Sizes}
-use Rattle.host_spaces.specs.Picture.{blocks_in}
+use Rattle.host_map.specs.declared.parts.Sizes.{Sizes}
+use Rattle.host_map.specs.Picture.{blocks_in}
 use Rattle.host_spec.specs.State.{State}
 use Rattle.host_spec.specs.Steps as host
 use Rattle.host_spec.specs.Answers.{accepted, status_at}

@@ -4,9 +4,9 @@ use Rattle.ialg.specs.declared.refusal.Refusal.{Refusal}
 use Rattle.ialg.specs.History as history
 use Rattle.ialg.specs.Meaning as meaning
 use Rattle.ialg.specs.Meaning.{Meaning, Status}
-use Rattle.space_blocks.specs.declared.placed.Placed.{Placed}
-use Rattle.host_spaces.specs.declared.spaces.Sizes.{Sizes}
-use Rattle.host_table.specs.Table.{Activity}
+use Rattle.host_map.specs.declared.placed.Placed.{Placed}
+use Rattle.host_map.specs.declared.parts.Sizes.{Sizes}
+use Rattle.host_map.specs.Activity.{Activity}
 use Rattle.host_spec.specs.State.{new_state}
 use Rattle.host_spec.specs.Calls as host_calls
 use Rattle.channel_spec.specs.Channels.{Channels}

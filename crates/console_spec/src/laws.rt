@@ -1,7 +1,7 @@
 //! The laws of the console.
 ghost use Rattle.std.specs.Prelude.{◌≡◌, ℕ, ℤ, List, Option};
 ghost use Rattle.ialg.specs.Meaning.{Meaning};
-ghost use Rattle.host_spaces.specs.declared.spaces.Sizes.{Sizes};
+ghost use Rattle.host_map.specs.declared.parts.Sizes.{Sizes};
 ghost use Rattle.host_spec.specs.Answers.{AreLawful};
 ghost use Rattle.channel_spec.specs.Channels.{Channels};
 ghost use Rattle.voice_script.specs.Script.{lines_of};

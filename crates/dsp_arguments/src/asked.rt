@@ -1,7 +1,7 @@
 //! What a command line asks of the program.
 use arrayvec::ArrayVec;
 use clap::Error;
-use host_spaces::Sizes;
+use host_map::Sizes;
 use port_pairs::PORT_PAIRS;
 
 /// What a command line asks: the paths of the script and of the ports, and the options.

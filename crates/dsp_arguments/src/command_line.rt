@@ -3,9 +3,9 @@ ghost use Rattle.std.specs.Prelude.{◌≤◌, length, IfOk};
 
 use crate::asked::{ArgFault, Arguments};
 use clap::{Arg, ArgAction, ArgMatches, Command, Error};
-use host_spaces::Sizes;
+use host_map::Sizes;
 use port_pairs::pairs;
-use space_heap::SPACE_WORDS;
+use relocate::SPACE_WORDS;
 use std::alloc::Global;
 
 /// An option for the size of a space.

@@ -5,7 +5,7 @@ use Rattle.dsp_console.specs.declared.serving.Fault.{Fault}
 use Rattle.std.proofs.lemmas.List.{length-map}
 use Rattle.ialg.specs.Meaning.{Meaning}
 use Rattle.lifecycle.specs.States.{Relation}
-use Rattle.host_spaces.specs.declared.spaces.Sizes.{Sizes}
+use Rattle.host_map.specs.declared.parts.Sizes.{Sizes}
 use Rattle.host_spaces.specs.Picture.{sizes_of}
 use Rattle.host_spec.specs.State.{State, new_state}
 use Rattle.voice_console.specs.Hosts.{HostState}

@@ -1,7 +1,7 @@
 -- The headline, of a run of the engine between honest ports.
 use Rattle.std.specs.Prelude.{ℕ, ℤ, List, Option}
 use Rattle.ialg.specs.Meaning.{Meaning}
-use Rattle.host_spaces.specs.declared.spaces.Sizes.{Sizes}
+use Rattle.host_map.specs.declared.parts.Sizes.{Sizes}
 use Rattle.voice_script.specs.Script.{lines_of}
 use Rattle.line_spec.specs.Widths.{Widths}
 use Rattle.script_server.specs.Runs.{Devices, ServedAll, octets_to_come}

@@ -1,7 +1,7 @@
 -- A run where every kind is lawful: what is served is a function of widths, sizes, script and inputs, in which the poison word doesn't occur.
 use Rattle.std.specs.Prelude.{◌≡◌, ℕ, List, Option, None}
 use Rattle.ialg.specs.Meaning.{Meaning}
-use Rattle.host_spaces.specs.declared.spaces.Sizes.{Sizes}
+use Rattle.host_map.specs.declared.parts.Sizes.{Sizes}
 use Rattle.line_spec.specs.Served.{order_of, refusals}
 use Rattle.line_spec.specs.Widths.{Widths}
 use Rattle.script_server.specs.Runs.{Devices, EndsByRead, EndsByWrite, Writes, octets_to_come}

@@ -1,6 +1,6 @@
 //! The headline of a run.
 ghost use Rattle.std.specs.Prelude.{◌≡◌, ◌++◌, ℕ, ℤ, [], All, IsTrue, List, Option};
-ghost use Rattle.host_spaces.specs.declared.spaces.Sizes.{Sizes};
+ghost use Rattle.host_map.specs.declared.parts.Sizes.{Sizes};
 ghost use Rattle.host_spec.specs.Calls.{Call};
 ghost use Rattle.host_spec.specs.Runs.{history_of_run, outputs_in, statuses_in};
 ghost use Rattle.channel_spec.specs.Channels.{Channels};

@@ -1,7 +1,7 @@
 //! Runs of the engine.
 ghost use Rattle.std.specs.Prelude.{◌≡◌, ◌+◌, ◌≤◌, ◌⊎◌, ◌↔◌, false, map, length, All, IfOk, IfErr, IsErrOf};
 ghost use Rattle.octet_ports.specs.Ports.{GivesWithin};
-ghost use Rattle.host_spaces.specs.Picture.{AreSizes};
+ghost use Rattle.host_map.specs.Picture.{AreSizes};
 ghost use Rattle.host_spec.specs.Answers.{AreLawful};
 ghost use Rattle.line_spec.specs.Widths.{widths_of};
 ghost use Rattle.console_spec.specs.Console.{console_machine, start};

@@ -25,17 +25,19 @@ use Rattle.host_shared.specs.declared.joining.Twins.{Twins}
 use Rattle.host_shared.specs.Shelves.{stand_at, shelf_at, home_of, once_at, no_pieces}
 use Rattle.host_shared.specs.Homes.{IsSameStand}
 use Rattle.host_table.specs.Table.{slot_at, group_at, instance_of, active_in, is_member_of, AreHeld, TablesOk}
-use Rattle.host_life.specs.Twins.{Asked, asked, asked_by, twin_of, AreTwins, AreTogether}
+use Rattle.host_map.specs.Twins.{Asked, asked, twin_of}
+use Rattle.host_life.specs.Twins.{asked_by, AreTwins, AreTogether}
 use Rattle.host_shared.specs.Joining.{twin_at, pieces_joined, stand_joined}
 use Rattle.host_shared.specs.Holders.{AreLeast}
 use Rattle.host_table.specs.Frames.{IsIdle, IsStarted, OthersStay}
 use Rattle.host_life.proofs.Sharing.{IsTwin}
 use Rattle.host_life.proofs.Twinned.{tells_twin, twin_at_home}
-use Rattle.space_blocks.specs.declared.placed.Owner.{Owner}
-use Rattle.space_blocks.specs.declared.placed.Owner.TheVariants.{Record}
-use Rattle.space_blocks.specs.Blocks.{owned, renamed_blocks}
+use Rattle.host_map.specs.declared.placed.Owner.{Owner}
+use Rattle.host_map.specs.declared.placed.Owner.TheVariants.{Record}
+use Rattle.host_map.specs.Blocks.{owned, renamed_blocks}
 use Rattle.host_spaces.specs.declared.spaces.Spaces.{Spaces}
-use Rattle.host_spaces.specs.Picture.{AreSameSpaces, blocks_in, picture_of, space_in}
+use Rattle.host_spaces.specs.Picture.{AreSameSpaces, picture_of, space_in}
+use Rattle.host_map.specs.Picture.{blocks_in}
 use Rattle.host_spaces.specs.Pieces.{AreSharable, HasBlocks, is_write_once}
 use Rattle.host_moves.specs.Standing.{AreOrdered, AreStanding, IsHome, IsOf, SameInstances, SlotIsSame, table_of}
 use Rattle.host_moves.proofs.Homes.{home_by_same, home_stays, pieces_none}

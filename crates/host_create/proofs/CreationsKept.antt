@@ -13,15 +13,18 @@ use Rattle.scratch_group.specs.declared.group.Group.{Group}
 use Rattle.lifecycle.specs.States.{Relation}
 use Rattle.host_table.specs.declared.member.Member.{Member}
 use Rattle.host_shared.specs.declared.shelves.Shelf.{Shelf}
-use Rattle.host_table.specs.Table.{slot_at, Activity, activity_at, rested, with_activity}
+use Rattle.host_table.specs.Table.{slot_at, activity_at}
+use Rattle.host_map.specs.Activity.{Activity, rested, with_activity}
 use Rattle.host_shared.specs.Shelves.{once_at}
 use Rattle.host_table.specs.Keeps.{Keeps, SlotKeeps, with_history}
-use Rattle.host_spaces.specs.declared.spaces.Sizes.{Sizes}
+use Rattle.host_map.specs.declared.parts.Sizes.{Sizes}
 use Rattle.host_spaces.specs.declared.spaces.Spaces.{Spaces}
-use Rattle.host_spaces.specs.Creation.{created_picture, replaces}
-use Rattle.host_spaces.specs.Picture.{AreSameSpaces, Picture, copied_in, picture_of, sizes_of, space_in}
+use Rattle.host_map.specs.Creation.{created_picture, replaces}
+use Rattle.host_spaces.specs.Picture.{AreSameSpaces, copied_in, picture_of, sizes_of, space_in}
+use Rattle.host_map.specs.Picture.{Picture}
 use Rattle.host_moves.proofs.OwnMoves.{same_sizes}
-use Rattle.host_life.specs.Twins.{asked, asked_by, twin_of}
+use Rattle.host_map.specs.Twins.{asked, twin_of}
+use Rattle.host_life.specs.Twins.{asked_by}
 use Rattle.host_spec.specs.State.{Living, State, twins_of, with_living}
 use Rattle.host_refines.proofs.TwinsKept.{twins_same}
 use Rattle.host_spec.specs.Choices.{MayAsk}

@@ -17,14 +17,16 @@ use Rattle.lifecycle.specs.Moves.{HasRoom}
 use Rattle.lifecycle.specs.Rooms.{NoNeed}
 use Rattle.lifecycle.specs.States.{Fits}
 use Rattle.lifecycle.proofs.Frames.{placed-unplaced}
-use Rattle.space_blocks.specs.declared.placed.Owner.{Owner}
-use Rattle.space_blocks.specs.declared.placed.Owner.TheVariants.{Record, Scratch}
-use Rattle.space_blocks.specs.Blocks.{block_of_piece, owned, without_piece}
+use Rattle.host_map.specs.declared.placed.Owner.{Owner}
+use Rattle.host_map.specs.declared.placed.Owner.TheVariants.{Record, Scratch}
+use Rattle.space_blocks.specs.Blocks.{block_of_piece, without_piece}
+use Rattle.host_map.specs.Blocks.{owned}
 use Rattle.space_blocks.proofs.Inserts.{sorted}
 use Rattle.host_spaces.specs.declared.pieces.NewBlocks.{NewBlocks}
 use Rattle.host_spaces.specs.declared.pieces.OldBlocks.{OldBlocks}
 use Rattle.host_spaces.specs.declared.spaces.Spaces.{Spaces}
-use Rattle.host_spaces.specs.Picture.{Picture, blocks_in, picture_of, space_in}
+use Rattle.host_map.specs.Picture.{Picture, blocks_in}
+use Rattle.host_spaces.specs.Picture.{picture_of, space_in}
 use Rattle.host_spaces.specs.Pieces.{HasBlocks, new_block, old_piece, with_new, without_pieces}
 use Rattle.host_table.specs.declared.member.Member.{Member}
 use Rattle.host_shared.specs.declared.shelves.Shelf.{Shelf}

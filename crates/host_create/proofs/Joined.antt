@@ -8,7 +8,7 @@ use Rattle.mem_rec.specs.declared.MemRec.{MemRec}
 use Rattle.mem_rec.specs.declared.Space.{Space}
 use Rattle.mem_rec.specs.declared.Attr.{Attr}
 use Rattle.mem_rec.specs.declared.Attr.TheVariants.{WriteOnce}
-use Rattle.space_heap.specs.Places.{placed_size}
+use Rattle.relocate.specs.Places.{placed_size}
 use Rattle.ialg.specs.Records.{record_at}
 use Rattle.ialg.proofs.Tables.{record_at-unplaced}
 use Rattle.record_loans.specs.declared.pieces.Pieces.{Pieces}
@@ -16,12 +16,12 @@ use Rattle.record_loans.specs.Pieces.{piece_at}
 use Rattle.scratch_group.specs.declared.group.Group.{Group}
 use Rattle.lifecycle.specs.declared.instance.Instance.{Instance}
 use Rattle.lifecycle.specs.Rooms.{lasting_piece, piece_of_record}
-use Rattle.space_blocks.specs.declared.placed.Owner.{Owner}
-use Rattle.space_blocks.specs.declared.placed.Owner.TheVariants.{Record}
-use Rattle.space_blocks.specs.declared.placed.Owner.TheVariants.{Scratch as GroupScratch}
-use Rattle.space_blocks.specs.Blocks.{owned, renamed_blocks}
+use Rattle.host_map.specs.declared.placed.Owner.{Owner}
+use Rattle.host_map.specs.declared.placed.Owner.TheVariants.{Record, Scratch as GroupScratch}
+use Rattle.host_map.specs.Blocks.{owned, renamed_blocks}
 use Rattle.host_spaces.specs.declared.spaces.Spaces.{Spaces}
-use Rattle.host_spaces.specs.Picture.{AreSameSpaces, blocks_in, picture_of, space_in}
+use Rattle.host_spaces.specs.Picture.{AreSameSpaces, picture_of, space_in}
+use Rattle.host_map.specs.Picture.{blocks_in}
 use Rattle.host_spaces.specs.Pieces.{IsPieceOf, is_placed_once, is_write_once, record_block}
 use Rattle.host_table.specs.declared.member.Member.{Member}
 use Rattle.host_shared.specs.declared.joining.Twins.{Twins}

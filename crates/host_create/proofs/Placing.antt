@@ -17,12 +17,13 @@ use Rattle.lifecycle.specs.Rooms.{NoNeed}
 use Rattle.host_table.specs.declared.member.Member.{Member}
 use Rattle.host_shared.specs.declared.shelves.Shelf.{Shelf}
 use Rattle.host_table.specs.Table.{slot_at, group_at}
-use Rattle.space_blocks.specs.declared.placed.Owner.{Owner}
-use Rattle.space_blocks.specs.declared.placed.Owner.TheVariants.{Record, Scratch}
-use Rattle.space_blocks.specs.Blocks.{owned}
+use Rattle.host_map.specs.declared.placed.Owner.{Owner}
+use Rattle.host_map.specs.declared.placed.Owner.TheVariants.{Record, Scratch}
+use Rattle.host_map.specs.Blocks.{owned}
 use Rattle.host_spaces.specs.declared.pieces.NewBlocks.{NewBlocks}
 use Rattle.host_spaces.specs.declared.spaces.Spaces.{Spaces}
-use Rattle.host_spaces.specs.Picture.{AreSameSpaces, blocks_in, picture_of, space_in}
+use Rattle.host_spaces.specs.Picture.{AreSameSpaces, picture_of, space_in}
+use Rattle.host_map.specs.Picture.{blocks_in}
 use Rattle.host_spaces.specs.Pieces.{ArePlacedPieces, HasRecords, IsNeeded, new_block, with_new}
 use Rattle.host_spaces.specs.Wants.{block_need}
 use Rattle.host_moves.specs.Standing.{AreStanding, IsOf, SlotIsSame}

@@ -10,13 +10,13 @@ use Rattle.record_loans.specs.Blocks.{block_align, block_piece}
 use Rattle.scratch_group.specs.declared.group.Group.{Group}
 use Rattle.scratch_group.specs.declared.group.Need.{Need}
 use Rattle.scratch_group.specs.Blocks.{block_in}
-use Rattle.space_blocks.specs.declared.placed.Owner.TheVariants.{Scratch}
-use Rattle.space_blocks.specs.declared.placed.Placed.{Placed}
+use Rattle.host_map.specs.declared.placed.Owner.TheVariants.{Scratch}
+use Rattle.host_map.specs.declared.placed.Placed.{Placed}
 use Rattle.space_blocks.specs.Blocks.{block_of_piece}
 use Rattle.host_spaces.specs.declared.pieces.NewBlocks.{NewBlocks}
-use Rattle.host_spaces.specs.declared.wants.Wanted.{Wanted}
-use Rattle.host_spaces.specs.Creation.{replaced_block, replaces}
-use Rattle.host_spaces.specs.Picture.{Picture, first_block, group_block}
+use Rattle.host_map.specs.declared.parts.Wanted.{Wanted}
+use Rattle.host_map.specs.Creation.{replaced_block, replaces}
+use Rattle.host_map.specs.Picture.{Picture, first_block, group_block}
 use Rattle.host_spaces.specs.Pieces.{HasBlocks, IsNeeded, new_block, old_piece}
 use Rattle.host_spaces.specs.Wants.{block_need, need_wanted}
 use Rattle.host_spaces.proofs.Steps.{scratch_is}

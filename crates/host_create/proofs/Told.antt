@@ -20,22 +20,25 @@ use Rattle.lifecycle.specs.Rooms.{NoNeed}
 use Rattle.lifecycle.specs.States.{Fits}
 use Rattle.lifecycle.proofs.Frames.{placed-unplaced}
 use Rattle.record_loans.proofs.PieceLemmas.{same_pieces}
-use Rattle.space_blocks.specs.declared.placed.Owner.{Owner}
-use Rattle.space_blocks.specs.declared.placed.Owner.TheVariants.{Scratch}
-use Rattle.space_blocks.specs.declared.placed.Placed.{Placed}
-use Rattle.space_blocks.specs.Blocks.{Owns, block_of, block_of_piece, owned, with_block, without_piece}
+use Rattle.host_map.specs.declared.placed.Owner.{Owner}
+use Rattle.host_map.specs.declared.placed.Owner.TheVariants.{Scratch}
+use Rattle.host_map.specs.declared.placed.Placed.{Placed}
+use Rattle.space_blocks.specs.Blocks.{Owns, block_of, block_of_piece, without_piece}
+use Rattle.host_map.specs.Blocks.{owned, with_block}
 use Rattle.space_blocks.proofs.Orders.{before, behind}
 use Rattle.host_spaces.specs.declared.pieces.NewBlocks.{NewBlocks}
 use Rattle.host_spaces.specs.declared.pieces.OldBlocks.{OldBlocks}
 use Rattle.host_spaces.specs.declared.spaces.Spaces.{Spaces}
-use Rattle.host_spaces.specs.Picture.{AreSameSpaces, Picture, blocks_in, each_space, picture_of}
+use Rattle.host_spaces.specs.Picture.{AreSameSpaces, picture_of}
+use Rattle.host_map.specs.Picture.{Picture, blocks_in, each_space}
 use Rattle.host_spaces.specs.Pieces.{IsNeeded, new_block, old_piece, with_new, without_pieces}
 use Rattle.host_spaces.specs.Wants.{block_need}
 use Rattle.mem_rec.specs.declared.TheConstants.{GROUPS}
 use Rattle.host_table.specs.declared.member.Member.{Member}
 use Rattle.host_shared.specs.declared.shelves.Shelf.{Shelf}
 use Rattle.host_shared.specs.Shelves.{home_of, once_at}
-use Rattle.host_table.specs.Table.{slot_at, group_at, instance_of, Activity, activity_at, IsHoused, TablesOk, TablesTold, ArePoisoned}
+use Rattle.host_table.specs.Table.{slot_at, group_at, instance_of, activity_at, IsHoused, TablesOk, TablesTold, ArePoisoned}
+use Rattle.host_map.specs.Activity.{Activity}
 use Rattle.host_table.specs.Frames.{IsSameMember}
 use Rattle.host_moves.specs.Waiting.{BlockStays, WordsStay}
 use Rattle.host_moves.proofs.Owns.{told_later}

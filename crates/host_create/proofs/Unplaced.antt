@@ -5,7 +5,7 @@ use Rattle.mem_rec.specs.declared.MemRec.{MemRec}
 use Rattle.mem_rec.specs.declared.Space.{Space}
 use Rattle.mem_rec.specs.Records.{is_scratch, is_persistent, same_space}
 use Rattle.mem_rec.specs.Layout.{align_from, end_from, scratch_align, scratch_need, scratch_records}
-use Rattle.space_heap.specs.Places.{placed_size}
+use Rattle.relocate.specs.Places.{placed_size}
 use Rattle.ialg.specs.Records.{unplaced}
 use Rattle.ialg.proofs.Tables.{record_at-unplaced}
 use Rattle.ialg.proofs.Hosting.{is_table-unplaced}
@@ -14,10 +14,11 @@ use Rattle.record_loans.specs.Pieces.{piece_at}
 use Rattle.scratch_group.specs.declared.group.Group.{Group}
 use Rattle.scratch_group.specs.Blocks.{block_in, block_needed}
 use Rattle.lifecycle.specs.Rooms.{NoNeed, lasting_piece}
-use Rattle.space_blocks.specs.declared.placed.Owner.TheVariants.{Record}
-use Rattle.space_blocks.specs.Blocks.{owned}
+use Rattle.host_map.specs.declared.placed.Owner.TheVariants.{Record}
+use Rattle.host_map.specs.Blocks.{owned}
 use Rattle.host_spaces.specs.declared.spaces.Spaces.{Spaces}
-use Rattle.host_spaces.specs.Picture.{blocks_in, picture_of, space_in}
+use Rattle.host_map.specs.Picture.{blocks_in}
+use Rattle.host_spaces.specs.Picture.{picture_of, space_in}
 use Rattle.host_spaces.specs.Pieces.{IsPieceOf, is_write_once, record_block}
 use Rattle.host_moves.specs.Standing.{IsHome}
 

@@ -8,14 +8,16 @@ use Rattle.scratch_group.specs.Blocks.{block_in}
 use Rattle.host_table.specs.declared.member.Member.{Member}
 use Rattle.host_shared.specs.declared.shelves.Shelf.{Shelf}
 use Rattle.host_shared.specs.Shelves.{home_of, once_at, no_pieces}
-use Rattle.host_table.specs.Table.{slot_at, group_at, instance_of, is_member_of, Activity, activity_at, rested, with_activity}
+use Rattle.host_table.specs.Table.{slot_at, group_at, instance_of, is_member_of, activity_at}
+use Rattle.host_map.specs.Activity.{Activity, rested, with_activity}
 use Rattle.host_shared.specs.Holders.{AreLeast}
 use Rattle.host_life.specs.Twins.{AreTogether}
-use Rattle.space_blocks.specs.declared.placed.Owner.TheVariants.{Record, Scratch}
-use Rattle.space_blocks.specs.Blocks.{owned}
+use Rattle.host_map.specs.declared.placed.Owner.TheVariants.{Record, Scratch}
+use Rattle.host_map.specs.Blocks.{owned}
 use Rattle.host_spaces.specs.declared.pieces.NewBlocks.{NewBlocks}
 use Rattle.host_spaces.specs.declared.spaces.Spaces.{Spaces}
-use Rattle.host_spaces.specs.Picture.{blocks_in, picture_of, space_in}
+use Rattle.host_map.specs.Picture.{blocks_in}
+use Rattle.host_spaces.specs.Picture.{picture_of, space_in}
 use Rattle.host_spaces.specs.Pieces.{HasBlocks, new_block, with_new}
 use Rattle.host_moves.specs.Standing.{AreStanding, IsHome, IsOf, table_of}
 

@@ -14,20 +14,22 @@ use Rattle.scratch_group.specs.declared.group.Group.{Group}
 use Rattle.scratch_group.specs.Blocks.{block_in}
 use Rattle.lifecycle.specs.States.{Relation}
 use Rattle.record_loans.proofs.PieceLemmas.{same_pieces}
-use Rattle.space_blocks.specs.declared.placed.Owner.{Owner}
-use Rattle.space_blocks.specs.declared.placed.Owner.TheVariants.{Record}
-use Rattle.space_blocks.specs.declared.placed.Owner.TheVariants.{Scratch as GroupScratch}
-use Rattle.space_blocks.specs.declared.placed.Placed.{Placed}
-use Rattle.space_blocks.specs.Blocks.{Owns, block_of_piece, owned}
+use Rattle.host_map.specs.declared.placed.Owner.{Owner}
+use Rattle.host_map.specs.declared.placed.Owner.TheVariants.{Record, Scratch as GroupScratch}
+use Rattle.host_map.specs.declared.placed.Placed.{Placed}
+use Rattle.space_blocks.specs.Blocks.{Owns, block_of_piece}
+use Rattle.host_map.specs.Blocks.{owned}
 use Rattle.space_blocks.proofs.Owners.{owns_one}
 use Rattle.host_spaces.specs.declared.spaces.Spaces.{Spaces}
 use Rattle.host_spaces.specs.declared.pieces.OldBlocks.{OldBlocks}
-use Rattle.host_spaces.specs.Picture.{AreSameSpaces, blocks_in, is_group's, picture_of, without_owners}
+use Rattle.host_spaces.specs.Picture.{AreSameSpaces, picture_of}
+use Rattle.host_map.specs.Picture.{blocks_in, is_group's, without_owners}
 use Rattle.host_spaces.specs.Pieces.{old_piece}
 use Rattle.host_table.specs.declared.member.Member.{Member}
 use Rattle.host_shared.specs.declared.shelves.Shelf.{Shelf}
 use Rattle.host_shared.specs.Shelves.{home_of, once_at}
-use Rattle.host_table.specs.Table.{Activity, slot_at, group_at, instance_of, is_member_of, activity_at, TablesOk, ArePoisoned}
+use Rattle.host_map.specs.Activity.{Activity}
+use Rattle.host_table.specs.Table.{slot_at, group_at, instance_of, is_member_of, activity_at, TablesOk, ArePoisoned}
 use Rattle.host_table.specs.Keeps.{Keeps}
 use Rattle.host_moves.specs.Waiting.{BlockStays, WordsStay}
 use Rattle.host_moves.proofs.Owns.{told_later}

@@ -15,15 +15,17 @@ use Rattle.lifecycle.specs.States.{Relation}
 use Rattle.host_table.specs.declared.member.Member.{Member}
 use Rattle.host_shared.specs.declared.shelves.Shelf.{Shelf}
 use Rattle.host_table.specs.Table.{slot_at, is_member_of}
-use Rattle.space_heap.specs.Places.{numbers_below}
+use Rattle.relocate.specs.Places.{numbers_below}
 use Rattle.mem_rec.specs.declared.TheConstants.{INSTANCES}
-use Rattle.space_blocks.specs.declared.placed.Owner.{Owner}
-use Rattle.space_blocks.specs.declared.placed.Owner.TheVariants.{Record, Scratch}
-use Rattle.space_blocks.specs.declared.placed.Placed.{Placed}
-use Rattle.space_blocks.specs.Blocks.{block_of_piece, owned}
+use Rattle.host_map.specs.declared.placed.Owner.{Owner}
+use Rattle.host_map.specs.declared.placed.Owner.TheVariants.{Record, Scratch}
+use Rattle.host_map.specs.declared.placed.Placed.{Placed}
+use Rattle.space_blocks.specs.Blocks.{block_of_piece}
+use Rattle.host_map.specs.Blocks.{owned}
 use Rattle.space_blocks.proofs.Owners.{itself}
 use Rattle.host_spaces.specs.declared.spaces.Spaces.{Spaces}
-use Rattle.host_spaces.specs.Picture.{blocks_in, empty_picture, picture_of}
+use Rattle.host_map.specs.Picture.{blocks_in, empty_picture}
+use Rattle.host_spaces.specs.Picture.{picture_of}
 use Rattle.host_spaces.proofs.Pictures.{pictures_equal}
 use Rattle.host_spec.specs.State.{State}
 use Rattle.host_spec.specs.Steps.{Outcome, closed, delete}

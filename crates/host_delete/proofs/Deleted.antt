@@ -9,12 +9,14 @@ use Rattle.scratch_group.specs.declared.group.Group.{Group}
 use Rattle.lifecycle.specs.States.{Relation}
 use Rattle.host_table.specs.declared.member.Member.{Member}
 use Rattle.host_shared.specs.declared.shelves.Shelf.{Shelf}
-use Rattle.host_table.specs.Table.{Activity, slot_at, group_of, is_member_of, activity_at, quieted, with_activity}
+use Rattle.host_map.specs.Activity.{Activity, quieted, with_activity}
+use Rattle.host_table.specs.Table.{slot_at, group_of, is_member_of, activity_at}
 use Rattle.host_shared.specs.Shelves.{once_at}
 use Rattle.host_table.specs.Keeps.{Keeps, SlotKeeps}
 use Rattle.host_spaces.specs.declared.spaces.Spaces.{Spaces}
-use Rattle.host_spaces.specs.Picture.{Picture, picture_of}
-use Rattle.host_spaces.specs.Creation.{deleted_picture}
+use Rattle.host_map.specs.Picture.{Picture}
+use Rattle.host_spaces.specs.Picture.{picture_of}
+use Rattle.host_map.specs.Creation.{deleted_picture}
 use Rattle.host_spec.specs.State.{Living, State, asked_of, has_member, is_of_group, twins_of, with_living}
 use Rattle.host_spec.specs.Steps.{Outcome, delete, without_instance}
 use Rattle.host_spec.proofs.OutcomeLemmas.{delete_granted}
@@ -22,7 +24,8 @@ use Rattle.host_refines.specs.Kept.{IsLiving, history_of}
 use Rattle.host_refines.proofs.KeptLemmas.{Found, found}
 use Rattle.host_refines.specs.Hosts.{HostKeeps}
 use Rattle.host_refines.proofs.MovesKept.{still_living}
-use Rattle.host_life.specs.Twins.{Asked, asked_by}
+use Rattle.host_map.specs.Twins.{Asked}
+use Rattle.host_life.specs.Twins.{asked_by}
 use Rattle.std.specs.Option.{option_map}
 use Rattle.host_refines.proofs.TwinsKept.{asked_same, twins_same}
 use Rattle.host_delete.specs.Ends.{HasEnded, has_members, twins_among}

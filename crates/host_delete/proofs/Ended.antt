@@ -5,15 +5,15 @@ use Rattle.std.proofs.lemmas.Bool.Decides.{eqb_tells}
 use Rattle.mem_rec.specs.declared.Space.{Space}
 use Rattle.mem_rec.specs.declared.Space.TheVariants.{Daram, Saram, External}
 use Rattle.scratch_group.specs.declared.group.Group.{Group}
-use Rattle.space_blocks.specs.declared.placed.Owner.{Owner}
-use Rattle.space_blocks.specs.declared.placed.Owner.TheVariants.{Record}
-use Rattle.space_blocks.specs.declared.placed.Owner.TheVariants.{Scratch as GroupScratch}
-use Rattle.space_blocks.specs.declared.placed.Placed.{Placed}
-use Rattle.space_blocks.specs.Blocks.{owned, renamed_blocks, same_owner}
+use Rattle.host_map.specs.declared.placed.Owner.{Owner}
+use Rattle.host_map.specs.declared.placed.Owner.TheVariants.{Record, Scratch as GroupScratch}
+use Rattle.host_map.specs.declared.placed.Placed.{Placed}
+use Rattle.host_map.specs.Blocks.{owned, renamed_blocks, same_owner}
 use Rattle.space_blocks.proofs.Owners.{itself}
 use Rattle.host_spaces.specs.declared.spaces.Spaces.{Spaces}
-use Rattle.host_spaces.specs.Picture.{Picture, AreSameSpaces, blocks_in, copied_in, is_group's, is_instance's, picture_of, renamed, sizes_of, without_owners}
-use Rattle.host_spaces.specs.Creation.{deleted_picture, handed_on}
+use Rattle.host_map.specs.Picture.{Picture, blocks_in, is_group's, is_instance's, renamed, without_owners}
+use Rattle.host_spaces.specs.Picture.{AreSameSpaces, copied_in, picture_of, sizes_of}
+use Rattle.host_map.specs.Creation.{deleted_picture, handed_on}
 use Rattle.host_spaces.proofs.Pictures.{pictures_equal}
 use Rattle.host_table.specs.declared.member.Member.{Member}
 use Rattle.host_shared.specs.declared.shelves.Shelf.{Shelf}

@@ -14,12 +14,12 @@ use Rattle.record_loans.specs.Pieces.{piece_at, IsSamePiece, SamePieces}
 use Rattle.scratch_group.specs.declared.group.Group.{Group}
 use Rattle.lifecycle.specs.Rooms.{lasting_piece, piece_of_record}
 use Rattle.record_loans.proofs.PieceLemmas.{piece_same}
-use Rattle.space_blocks.specs.declared.placed.Owner.{Owner}
-use Rattle.space_blocks.specs.declared.placed.Owner.TheVariants.{Record}
-use Rattle.space_blocks.specs.declared.placed.Owner.TheVariants.{Scratch as GroupScratch}
-use Rattle.space_blocks.specs.Blocks.{owned, renamed_blocks}
+use Rattle.host_map.specs.declared.placed.Owner.{Owner}
+use Rattle.host_map.specs.declared.placed.Owner.TheVariants.{Record, Scratch as GroupScratch}
+use Rattle.host_map.specs.Blocks.{owned, renamed_blocks}
 use Rattle.host_spaces.specs.declared.spaces.Spaces.{Spaces}
-use Rattle.host_spaces.specs.Picture.{blocks_in, picture_of, space_in}
+use Rattle.host_map.specs.Picture.{blocks_in}
+use Rattle.host_spaces.specs.Picture.{picture_of, space_in}
 use Rattle.host_spaces.specs.Pieces.{ArePlacedPieces, IsPieceOf, is_placed_once, is_write_once, record_block}
 use Rattle.host_table.specs.declared.member.Member.{Member}
 use Rattle.host_shared.specs.declared.shelves.Stand.{Stand}

@@ -7,8 +7,8 @@ use Rattle.mem_rec.specs.declared.MemRec.{MemRec}
 use Rattle.mem_rec.specs.declared.Space.{Space}
 use Rattle.mem_rec.specs.declared.Space.TheVariants.{Daram, Saram, External}
 use Rattle.mem_rec.specs.Records.{is_persistent}
-use Rattle.space_heap.specs.Places.{placed_size}
-use Rattle.space_heap.proofs.RangeTests.{true_or_false}
+use Rattle.relocate.specs.Places.{placed_size}
+use Rattle.relocate.proofs.RangeTests.{true_or_false}
 use Rattle.ialg.specs.Records.{unplaced}
 use Rattle.ialg.proofs.Tables.{record_at-unplaced}
 use Rattle.record_loans.specs.declared.pieces.Pieces.{Pieces}
@@ -16,14 +16,14 @@ use Rattle.record_loans.specs.Pieces.{piece_at, SamePieces}
 use Rattle.scratch_group.specs.declared.group.Group.{Group}
 use Rattle.scratch_group.specs.Blocks.{block_in}
 use Rattle.lifecycle.specs.Rooms.{lasting_piece}
-use Rattle.space_blocks.specs.declared.placed.Owner.{Owner}
-use Rattle.space_blocks.specs.declared.placed.Owner.TheVariants.{Record}
-use Rattle.space_blocks.specs.declared.placed.Owner.TheVariants.{Scratch as GroupScratch}
-use Rattle.space_blocks.specs.declared.placed.Placed.{Placed}
-use Rattle.space_blocks.specs.Blocks.{owned, renamed_blocks}
+use Rattle.host_map.specs.declared.placed.Owner.{Owner}
+use Rattle.host_map.specs.declared.placed.Owner.TheVariants.{Record, Scratch as GroupScratch}
+use Rattle.host_map.specs.declared.placed.Placed.{Placed}
+use Rattle.host_map.specs.Blocks.{owned, renamed_blocks}
 use Rattle.space_blocks.proofs.Owners.{not_same}
 use Rattle.host_spaces.specs.declared.spaces.Spaces.{Spaces}
-use Rattle.host_spaces.specs.Picture.{Picture, AreSameSpaces, blocks_in, blocks_without, is_instance's, picture_of, space_in, without_owners}
+use Rattle.host_map.specs.Picture.{Picture, blocks_in, blocks_without, is_instance's, without_owners}
+use Rattle.host_spaces.specs.Picture.{AreSameSpaces, picture_of, space_in}
 use Rattle.host_spaces.specs.Pieces.{HasRecords, ArePlacedPieces, IsPieceOf, is_placed_once, record_block}
 use Rattle.host_table.specs.declared.member.Member.{Member}
 use Rattle.host_shared.specs.declared.shelves.Shelf.{Shelf}

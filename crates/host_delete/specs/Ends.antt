@@ -8,11 +8,12 @@ use Rattle.lifecycle.specs.States.{Relation}
 use Rattle.host_table.specs.declared.member.Member.{Member}
 use Rattle.host_shared.specs.declared.shelves.Shelf.{Shelf}
 use Rattle.host_table.specs.Table.{slot_at, group_of, is_member_of, activity_at, quieted_by, TablesOk, ArePoisoned}
-use Rattle.host_life.specs.Twins.{Asked, asked_by, twin_of}
+use Rattle.host_map.specs.Twins.{Asked, twin_of}
+use Rattle.host_life.specs.Twins.{asked_by}
 use Rattle.host_table.specs.Keeps.{Keeps}
 use Rattle.host_spaces.specs.declared.spaces.Spaces.{Spaces}
 use Rattle.host_spaces.specs.Picture.{copied_in, picture_of, sizes_of}
-use Rattle.host_spaces.specs.Creation.{deleted_picture}
+use Rattle.host_map.specs.Creation.{deleted_picture}
 use Rattle.host_moves.specs.Standing.{AreStanding, SlotIsSame}
 
 -- whether a slot has a member of the group

@@ -1,7 +1,8 @@
 //! The end of all instances.
 ghost use Rattle.std.specs.Prelude.{◌≡◌, ℕ, None};
 ghost use Rattle.host_table.specs.Table.{slot_at, TablesOk, ArePoisoned};
-ghost use Rattle.host_spaces.specs.Picture.{empty_picture, picture_of};
+ghost use Rattle.host_map.specs.Picture.{empty_picture};
+ghost use Rattle.host_spaces.specs.Picture.{picture_of};
 ghost use Rattle.host_spec.specs.State.{State};
 ghost use Rattle.host_spec.specs.Steps.{closed};
 ghost use Rattle.host_moves.specs.Standing.{AreStanding};

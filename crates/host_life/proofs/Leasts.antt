@@ -14,7 +14,8 @@ use Rattle.host_shared.specs.Homes.{AllHaveHomes, IsSameStand, SameShelves}
 use Rattle.host_shared.specs.Holders.{stands_with, holder_from, next_holder, stand_without, AreLeast}
 use Rattle.host_table.specs.Table.{slot_at, instance_of}
 use Rattle.host_table.specs.Frames.{SameSlot, IsSameMember}
-use Rattle.host_life.specs.Twins.{asked, asked_by, AreTogether}
+use Rattle.host_map.specs.Twins.{asked}
+use Rattle.host_life.specs.Twins.{asked_by, AreTogether}
 use Rattle.host_table.proofs.Held.{SameHolder, IsSameHolder, holder_of_member, alike_stays, with_before}
 use Rattle.host_shared.proofs.Handing.{with_told, told_or_not, next_of, without_gone, stays_here, stays_with, goes, next_here, next_there}
 

@@ -18,7 +18,7 @@ use Rattle.ialg.proofs.Tables.{length-unplaced}
 use Rattle.ialg.specs.Records.{record_at, unplaced}
 use Rattle.lifecycle.specs.declared.instance.Instance.{Instance}
 use Rattle.host_table.specs.Table.{unbased, AreAlike}
-use Rattle.host_life.specs.Twins.{Asked, is_once, is_same_once, is_twin, twin_of, asked}
+use Rattle.host_map.specs.Twins.{Asked, is_once, is_same_once, is_twin, twin_of, asked}
 use Rattle.host_shared.specs.Joining.{twin_at}
 use Rattle.mem_rec.specs.declared.TheConstants.{INSTANCES}
 use Rattle.host_shared.specs.declared.joining.Twins.{Twins}

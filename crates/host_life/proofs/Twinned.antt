@@ -31,7 +31,8 @@ use Rattle.host_shared.specs.Shelves.{stand_at, shelf_at, home_by, home_of, once
 use Rattle.host_shared.specs.Homes.{IsPieceHere}
 use Rattle.host_shared.specs.Holders.{stands_with, holder_from, next_holder, AreLeast}
 use Rattle.host_table.specs.Table.{slot_at, group_at, instance_of, AreAlike, IsHolder, AreHeld, AreBare, TablesOk}
-use Rattle.host_life.specs.Twins.{Asked, asked, asked_by, is_twin, twin_of, AreTogether}
+use Rattle.host_map.specs.Twins.{Asked, asked, is_twin, twin_of}
+use Rattle.host_life.specs.Twins.{asked_by, AreTogether}
 use Rattle.host_shared.specs.Joining.{CanJoin}
 use Rattle.host_life.proofs.Finds.{find_tells, find_first, find_none, find_same}
 use Rattle.host_shared.proofs.Stands.{seen_here}

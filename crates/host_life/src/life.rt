@@ -12,7 +12,8 @@ ghost use Rattle.host_shared.specs.Shelves.{stand_at, shelf_at, home_of, once_at
 ghost use Rattle.host_shared.specs.Homes.{IsSameStand};
 ghost use Rattle.host_shared.specs.Holders.{left_with, next_holder, stand_without, AreLeast};
 ghost use Rattle.host_table.specs.Table.{slot_at, group_at, own_of, instance_of, active_in, activity_at, quieted_by, TablesOk};
-ghost use Rattle.host_life.specs.Twins.{asked, asked_by, twin_of, AreTwins, AreTogether};
+ghost use Rattle.host_map.specs.Twins.{asked, twin_of};
+ghost use Rattle.host_life.specs.Twins.{asked_by, AreTwins, AreTogether};
 ghost use Rattle.host_shared.specs.Joining.{twin_at, stand_joined, pieces_joined};
 ghost use Rattle.host_table.specs.Keeps.{with_history};
 ghost use Rattle.host_table.specs.Steps.{laws, Ready, AreKept};

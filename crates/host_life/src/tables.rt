@@ -5,7 +5,8 @@ ghost use Rattle.mem_rec.specs.declared.Space.{Space};
 ghost use Rattle.scratch_group.specs.Blocks.{block_in};
 ghost use Rattle.mem_rec.specs.declared.TheConstants.{INSTANCES, GROUPS};
 ghost use Rattle.host_shared.specs.Shelves.{no_shelf, shelf_at};
-ghost use Rattle.host_table.specs.Table.{slot_at, group_at, activity_at, untouched, TablesOk, ArePoisoned};
+ghost use Rattle.host_table.specs.Table.{slot_at, group_at, activity_at, TablesOk, ArePoisoned};
+ghost use Rattle.host_map.specs.Activity.{untouched};
 ghost use Rattle.host_table.specs.Keeps.{Keeps};
 
 use host_shared::Shelf;

@@ -3,7 +3,8 @@ ghost use Rattle.std.specs.Prelude.{◌≡◌, ◌<◌, length, Some};
 ghost use Rattle.ialg.specs.Records.{record_at, unplaced};
 ghost use Rattle.mem_rec.specs.declared.TheConstants.{INSTANCES};
 ghost use Rattle.host_table.specs.Table.{slot_at};
-ghost use Rattle.host_life.specs.Twins.{asked, asked_by, is_once, is_same_once, is_twin, twin_of, AreTwins};
+ghost use Rattle.host_map.specs.Twins.{asked, is_once, is_same_once, is_twin, twin_of};
+ghost use Rattle.host_life.specs.Twins.{asked_by, AreTwins};
 
 use host_shared::Twins;
 use host_table::Member;

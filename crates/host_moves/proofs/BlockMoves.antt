@@ -18,17 +18,20 @@ use Rattle.record_loans.specs.Blocks.{block_piece, block_align, block_words}
 use Rattle.scratch_group.specs.declared.group.Group.{Group}
 use Rattle.scratch_group.specs.Blocks.{block_in}
 use Rattle.lifecycle.specs.Rooms.{lasting_piece}
-use Rattle.space_blocks.specs.declared.placed.Owner.{Owner}
-use Rattle.space_blocks.specs.declared.placed.Owner.TheVariants.{Scratch as GroupScratch}
-use Rattle.space_blocks.specs.declared.placed.Placed.{Placed}
-use Rattle.space_blocks.specs.Blocks.{Owns, block_of, block_of_piece, block_range, owned}
-use Rattle.space_blocks.specs.Moves.{next_block}
+use Rattle.host_map.specs.declared.placed.Owner.{Owner}
+use Rattle.host_map.specs.declared.placed.Owner.TheVariants.{Scratch as GroupScratch}
+use Rattle.host_map.specs.declared.placed.Placed.{Placed}
+use Rattle.space_blocks.specs.Blocks.{Owns, block_of, block_of_piece}
+use Rattle.host_map.specs.Blocks.{block_range, owned}
+use Rattle.host_map.specs.Moves.{next_block}
 use Rattle.host_spaces.specs.declared.spaces.Spaces.{Spaces}
-use Rattle.host_spaces.specs.Picture.{blocks_in, picture_of, space_in}
+use Rattle.host_map.specs.Picture.{blocks_in}
+use Rattle.host_spaces.specs.Picture.{picture_of, space_in}
 use Rattle.mem_rec.specs.declared.TheConstants.{GROUPS}
 use Rattle.host_table.specs.declared.member.Member.{Member}
 use Rattle.host_shared.specs.declared.shelves.Shelf.{Shelf}
-use Rattle.host_table.specs.Table.{slot_at, group_at, no_group, instance_of, own_of, activity_at, Activity, TablesOk, TablesTold}
+use Rattle.host_table.specs.Table.{slot_at, group_at, no_group, instance_of, own_of, activity_at, TablesOk, TablesTold}
+use Rattle.host_map.specs.Activity.{Activity}
 use Rattle.host_table.specs.Frames.{InactiveGroupsStay}
 use Rattle.host_shared.specs.Shelves.{once_at}
 use Rattle.host_moves.specs.Waiting.{WordsStay}

@@ -18,13 +18,14 @@ use Rattle.scratch_group.specs.declared.group.Group.{Group}
 use Rattle.scratch_group.specs.Blocks.{block_in, block_needed}
 use Rattle.lifecycle.specs.Rooms.{NoNeed, lasting_piece, piece_of_record}
 use Rattle.record_loans.proofs.PieceLemmas.{piece_same}
-use Rattle.space_blocks.specs.declared.placed.Owner.{Owner}
-use Rattle.space_blocks.specs.declared.placed.Owner.TheVariants.{Record}
-use Rattle.space_blocks.specs.declared.placed.Owner.TheVariants.{Scratch as GroupScratch}
-use Rattle.space_blocks.specs.declared.placed.Placed.{Placed}
-use Rattle.space_blocks.specs.Blocks.{block_of, block_of_piece, owned, renamed_blocks}
+use Rattle.host_map.specs.declared.placed.Owner.{Owner}
+use Rattle.host_map.specs.declared.placed.Owner.TheVariants.{Record, Scratch as GroupScratch}
+use Rattle.host_map.specs.declared.placed.Placed.{Placed}
+use Rattle.space_blocks.specs.Blocks.{block_of, block_of_piece}
+use Rattle.host_map.specs.Blocks.{owned, renamed_blocks}
 use Rattle.host_spaces.specs.declared.spaces.Spaces.{Spaces}
-use Rattle.host_spaces.specs.Picture.{blocks_in, picture_of, space_in}
+use Rattle.host_map.specs.Picture.{blocks_in}
+use Rattle.host_spaces.specs.Picture.{picture_of, space_in}
 use Rattle.host_spaces.specs.Pieces.{IsPieceOf, record_block}
 use Rattle.host_table.specs.declared.member.Member.{Member}
 use Rattle.host_shared.specs.declared.shelves.Shelf.{Shelf}

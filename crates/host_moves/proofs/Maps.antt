@@ -16,14 +16,15 @@ use Rattle.record_loans.specs.Blocks.{block_align, block_piece}
 use Rattle.scratch_group.specs.declared.group.Group.{Group}
 use Rattle.scratch_group.specs.Blocks.{block_in}
 use Rattle.lifecycle.specs.Rooms.{lasting_piece, piece_of_record}
-use Rattle.space_blocks.specs.declared.placed.Owner.{Owner}
-use Rattle.space_blocks.specs.declared.placed.Owner.TheVariants.{Record}
-use Rattle.space_blocks.specs.declared.placed.Owner.TheVariants.{Scratch as GroupScratch}
-use Rattle.space_blocks.specs.declared.placed.Placed.{Placed}
-use Rattle.space_blocks.specs.Blocks.{AreSingle, IsOwner, block_of_piece, owned, same_owner}
+use Rattle.host_map.specs.declared.placed.Owner.{Owner}
+use Rattle.host_map.specs.declared.placed.Owner.TheVariants.{Record, Scratch as GroupScratch}
+use Rattle.host_map.specs.declared.placed.Placed.{Placed}
+use Rattle.host_map.specs.Blocks.{AreSingle, IsOwner, owned, same_owner}
+use Rattle.space_blocks.specs.Blocks.{block_of_piece}
 use Rattle.space_blocks.proofs.Owners.{itself}
 use Rattle.host_spaces.specs.declared.spaces.Spaces.{Spaces}
-use Rattle.host_spaces.specs.Picture.{Picture, blocks_in, empty_picture, picture_of}
+use Rattle.host_map.specs.Picture.{Picture, blocks_in, empty_picture}
+use Rattle.host_spaces.specs.Picture.{picture_of}
 use Rattle.host_spaces.specs.Pieces.{record_block}
 use Rattle.host_table.specs.declared.member.Member.{Member}
 use Rattle.host_shared.specs.declared.shelves.Shelf.{Shelf}

@@ -14,11 +14,12 @@ use Rattle.lifecycle.specs.Moves.{HasRoom}
 use Rattle.lifecycle.specs.States.{Fits}
 use Rattle.record_loans.proofs.PieceLemmas.{same_pieces}
 use Rattle.lifecycle.proofs.Frames.{placed-unplaced}
-use Rattle.space_blocks.specs.declared.placed.Owner.TheVariants.{Record}
-use Rattle.space_blocks.specs.declared.placed.Owner.TheVariants.{Scratch as GroupScratch}
-use Rattle.space_blocks.specs.Blocks.{block_of_piece, owned}
+use Rattle.host_map.specs.declared.placed.Owner.TheVariants.{Record, Scratch as GroupScratch}
+use Rattle.space_blocks.specs.Blocks.{block_of_piece}
+use Rattle.host_map.specs.Blocks.{owned}
 use Rattle.host_spaces.specs.declared.spaces.Spaces.{Spaces}
-use Rattle.host_spaces.specs.Picture.{blocks_in, picture_of, space_in}
+use Rattle.host_map.specs.Picture.{blocks_in}
+use Rattle.host_spaces.specs.Picture.{picture_of, space_in}
 use Rattle.host_spaces.specs.Pieces.{HasBlocks}
 use Rattle.host_table.specs.declared.member.Member.{Member}
 use Rattle.host_shared.specs.declared.shelves.Shelf.{Shelf}

@@ -10,14 +10,16 @@ use Rattle.ialg.specs.Records.{record_at}
 use Rattle.scratch_group.specs.declared.group.Group.{Group}
 use Rattle.lifecycle.specs.Rooms.{piece_of_record}
 use Rattle.relocate.specs.declared.packing.Move.{Move}
-use Rattle.space_blocks.specs.declared.placed.Owner.{Owner}
-use Rattle.space_blocks.specs.declared.placed.Owner.TheVariants.{Record}
-use Rattle.space_blocks.specs.declared.placed.Placed.{Placed}
-use Rattle.space_blocks.specs.Blocks.{block_of, block_of_piece, owned, same_owner}
-use Rattle.space_blocks.specs.Moves.{block_at, block_to_move, next_block, next_in}
+use Rattle.host_map.specs.declared.placed.Owner.{Owner}
+use Rattle.host_map.specs.declared.placed.Owner.TheVariants.{Record}
+use Rattle.host_map.specs.declared.placed.Placed.{Placed}
+use Rattle.space_blocks.specs.Blocks.{block_of, block_of_piece}
+use Rattle.host_map.specs.Blocks.{owned, same_owner}
+use Rattle.host_map.specs.Moves.{block_at, block_to_move, next_block, next_in}
 use Rattle.space_blocks.proofs.Owners.{itself}
 use Rattle.host_spaces.specs.declared.spaces.Spaces.{Spaces}
-use Rattle.host_spaces.specs.Picture.{blocks_in, picture_of}
+use Rattle.host_map.specs.Picture.{blocks_in}
+use Rattle.host_spaces.specs.Picture.{picture_of}
 use Rattle.host_spaces.specs.Pieces.{record_block}
 use Rattle.host_table.specs.declared.member.Member.{Member}
 use Rattle.host_shared.specs.declared.shelves.Shelf.{Shelf}

@@ -21,7 +21,8 @@ use Rattle.host_table.specs.declared.member.Member.{Member}
 use Rattle.host_shared.specs.declared.shelves.Stand.{Stand}
 use Rattle.host_shared.specs.declared.shelves.Shelf.{Shelf}
 use Rattle.host_shared.specs.Shelves.{stand_at, shelf_at, once_at}
-use Rattle.host_table.specs.Table.{slot_at, group_at, instance_of, active_in, slot_active_in, activity_at, Activity, IsHoused, EachIsHoused, AreAlike, IsHolder, AreHeld, AreBare, Tables, TablesOk, TablesTold}
+use Rattle.host_table.specs.Table.{slot_at, group_at, instance_of, active_in, slot_active_in, activity_at, IsHoused, EachIsHoused, AreAlike, IsHolder, AreHeld, AreBare, Tables, TablesOk, TablesTold}
+use Rattle.host_map.specs.Activity.{Activity}
 use Rattle.host_table.proofs.Housing.{same_blocks, housed_stays, room_stays}
 use Rattle.host_moves.specs.Waiting.{inst_with, slot_with, own_set, IsHousedBut, TablesBut, IsWaiting}
 

@@ -1,7 +1,7 @@
 -- Where an instance's blocks stand in the picture, its records fit.
 use Rattle.std.proofs.Common.{◌≡◌, ℕ, zero, suc, ◌+◌, ◌<◌, ◌≤◌, ◌⊎◌, ◌||◌, ◌==◌, inl, inr, Bool, true, false, List, [], ◌∷◌, length, Option, Some, None, refl, sym, ◌∙◌, subst, arith, length-take}
 use Rattle.std.specs.List.{list_any}
-use Rattle.std.proofs.lemmas.Bool.{true≢false}
+use Rattle.std.proofs.lemmas.Bool.{true≢false, eqb-true}
 use Rattle.space_raw.specs.Span.{Extent, Span}
 use Rattle.mem_rec.specs.declared.MemRec.{MemRec}
 use Rattle.mem_rec.specs.declared.Space.{Space}
@@ -11,10 +11,9 @@ use Rattle.mem_rec.specs.declared.Attr.TheVariants.{Scratch, Persist, WriteOnce}
 use Rattle.mem_rec.specs.Records.{is_persistent, same_space}
 use Rattle.mem_rec.proofs.Valid.{within_limits}
 use Rattle.ialg.specs.Records.{record_at, idle_size}
-use Rattle.space_heap.specs.Places.{meets, placed_size}
+use Rattle.relocate.specs.Places.{meets, placed_size}
 use Rattle.space_heap.specs.Pictures.{AreBlocks}
-use Rattle.space_heap.proofs.RangeTests.{meet_if, both_true}
-use Rattle.std.proofs.lemmas.Bool.{eqb-true}
+use Rattle.relocate.proofs.RangeTests.{meet_if, both_true}
 use Rattle.record_loans.specs.declared.pieces.Pieces.{Pieces}
 use Rattle.record_loans.specs.Pieces.{piece_at, piece_words, IsInSpace}
 use Rattle.record_loans.specs.Blocks.{block_piece, block_align}
@@ -25,13 +24,14 @@ use Rattle.lifecycle.specs.Rooms.{Separate, AreSeparate, piece_of_record}
 use Rattle.lifecycle.specs.States.{Fits}
 use Rattle.lifecycle.proofs.Places.{there_is_room}
 use Rattle.scratch_group.proofs.Ends.{blank_at}
-use Rattle.space_blocks.specs.declared.placed.Owner.{Owner}
-use Rattle.space_blocks.specs.declared.placed.Owner.TheVariants.{Record}
-use Rattle.space_blocks.specs.declared.placed.Owner.TheVariants.{Scratch as GroupScratch}
-use Rattle.space_blocks.specs.declared.placed.Placed.{Placed}
-use Rattle.space_blocks.specs.Blocks.{block_of, block_of_piece, block_range, owned, ranges, same_owner}
+use Rattle.host_map.specs.declared.placed.Owner.{Owner}
+use Rattle.host_map.specs.declared.placed.Owner.TheVariants.{Record, Scratch as GroupScratch}
+use Rattle.host_map.specs.declared.placed.Placed.{Placed}
+use Rattle.space_blocks.specs.Blocks.{block_of, block_of_piece}
+use Rattle.host_map.specs.Blocks.{block_range, owned, ranges, same_owner}
 use Rattle.host_spaces.specs.declared.spaces.Spaces.{Spaces}
-use Rattle.host_spaces.specs.Picture.{blocks_in, picture_of, space_in}
+use Rattle.host_map.specs.Picture.{blocks_in}
+use Rattle.host_spaces.specs.Picture.{picture_of, space_in}
 use Rattle.host_spaces.specs.Pieces.{HasBlocks, IsPieceOf, is_write_once}
 use Rattle.host_moves.specs.Standing.{IsHome, IsOf, AreOrdered}
 

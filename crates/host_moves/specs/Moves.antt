@@ -11,11 +11,12 @@ use Rattle.host_table.specs.declared.member.Member.{Member}
 use Rattle.host_shared.specs.declared.shelves.Shelf.{Shelf}
 use Rattle.host_table.specs.Table.{TablesOk, group_at, activity_at}
 use Rattle.host_table.specs.Keeps.{Keeps}
-use Rattle.space_blocks.specs.declared.placed.Owner.{Owner}
-use Rattle.space_blocks.specs.declared.placed.Placed.{Placed}
-use Rattle.space_blocks.specs.Moves.{next_block}
+use Rattle.host_map.specs.declared.placed.Owner.{Owner}
+use Rattle.host_map.specs.declared.placed.Placed.{Placed}
+use Rattle.host_map.specs.Moves.{next_block}
 use Rattle.host_spaces.specs.declared.spaces.Spaces.{Spaces}
-use Rattle.host_spaces.specs.Picture.{blocks_in, copied_in, moved_in, picture_of, sizes_of}
+use Rattle.host_map.specs.Picture.{blocks_in, moved_in}
+use Rattle.host_spaces.specs.Picture.{copied_in, picture_of, sizes_of}
 use Rattle.host_moves.specs.Standing.{AreStanding, SameInstances}
 
 -- the next block that moves in the space is this owner's

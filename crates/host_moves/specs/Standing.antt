@@ -16,11 +16,12 @@ use Rattle.host_shared.specs.Shelves.{home_of, once_at, no_pieces}
 use Rattle.host_table.specs.Table.{slot_at, group_at, instance_of, is_member_of}
 use Rattle.host_shared.specs.Holders.{AreLeast}
 use Rattle.host_life.specs.Twins.{AreTogether}
-use Rattle.space_blocks.specs.declared.placed.Owner.TheVariants.{Record}
-use Rattle.space_blocks.specs.Blocks.{owned}
+use Rattle.host_map.specs.declared.placed.Owner.TheVariants.{Record}
+use Rattle.host_map.specs.Blocks.{owned}
 use Rattle.space_blocks.specs.Spaces.{AreInOrder}
 use Rattle.host_spaces.specs.declared.spaces.Spaces.{Spaces}
-use Rattle.host_spaces.specs.Picture.{blocks_in, picture_of, space_in}
+use Rattle.host_map.specs.Picture.{blocks_in}
+use Rattle.host_spaces.specs.Picture.{picture_of, space_in}
 use Rattle.host_spaces.specs.Pieces.{HasBlocks, ArePiecesOf, record_block}
 
 -- instance i, whose table without bases is rs, has a block of the picture for each record that lasts, which is the record's of the

@@ -10,10 +10,11 @@ ghost use Rattle.scratch_group.specs.Blocks.{block_in};
 ghost use Rattle.host_shared.specs.Shelves.{no_shelf, shelf_at, once_at, no_pieces};
 ghost use Rattle.host_table.specs.Table.{TablesOk, slot_at, group_at};
 ghost use Rattle.host_table.specs.Frames.{SameTables};
-ghost use Rattle.space_blocks.specs.declared.TheConstants.{MAP_BLOCKS};
-ghost use Rattle.space_blocks.specs.Blocks.{AreSingle};
+ghost use Rattle.host_map.specs.declared.TheConstants.{MAP_BLOCKS};
+ghost use Rattle.host_map.specs.Blocks.{AreSingle};
 ghost use Rattle.host_spaces.specs.declared.spaces.Spaces.{Spaces};
-ghost use Rattle.host_spaces.specs.Picture.{blocks_in, empty_picture, picture_of};
+ghost use Rattle.host_map.specs.Picture.{blocks_in, empty_picture};
+ghost use Rattle.host_spaces.specs.Picture.{picture_of};
 ghost use Rattle.host_moves.specs.Standing.{AreOrdered, AreStanding};
 ghost use Rattle.host_moves.specs.Lent.{AreHolders, lent_record};
 

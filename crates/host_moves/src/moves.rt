@@ -4,10 +4,11 @@ ghost use Rattle.record_loans.specs.Pieces.{piece_at};
 ghost use Rattle.mem_rec.specs.declared.TheConstants.{INSTANCES, GROUPS};
 ghost use Rattle.host_table.specs.Table.{slot_at, own_of, TablesOk};
 ghost use Rattle.host_shared.specs.Shelves.{once_at};
-ghost use Rattle.space_blocks.specs.declared.placed.Owner.{Owner};
-ghost use Rattle.space_blocks.specs.declared.placed.Placed.{Placed};
-ghost use Rattle.space_blocks.specs.Moves.{next_block};
-ghost use Rattle.host_spaces.specs.Picture.{blocks_in, picture_of};
+ghost use Rattle.host_map.specs.declared.placed.Owner.{Owner};
+ghost use Rattle.host_map.specs.declared.placed.Placed.{Placed};
+ghost use Rattle.host_map.specs.Moves.{next_block};
+ghost use Rattle.host_map.specs.Picture.{blocks_in};
+ghost use Rattle.host_spaces.specs.Picture.{picture_of};
 ghost use Rattle.host_moves.specs.Standing.{AreStanding};
 ghost use Rattle.host_moves.specs.Moves.{HasMoved, IsNextOf};
 
@@ -21,7 +22,7 @@ use host_spaces::Spaces;
 use host_table::Tables;
 use ialg::Ialg;
 use mem_rec::Space;
-use space_blocks::Owner;
+use host_map::Owner;
 use space_raw::Piece;
 
 /// Moves a record that an instance has for its own.

@@ -12,13 +12,14 @@ use Rattle.scratch_group.specs.declared.group.Group.{Group}
 use Rattle.lifecycle.specs.States.{Relation}
 use Rattle.host_table.specs.declared.member.Member.{Member}
 use Rattle.host_shared.specs.declared.shelves.Shelf.{Shelf}
-use Rattle.space_blocks.specs.declared.placed.Placed.{Placed}
-use Rattle.space_blocks.specs.Blocks.{ranges}
-use Rattle.space_blocks.specs.Moves.{next_block, spots_of}
+use Rattle.host_map.specs.declared.placed.Placed.{Placed}
+use Rattle.host_map.specs.Blocks.{ranges}
+use Rattle.host_map.specs.Moves.{next_block, spots_of}
 use Rattle.space_blocks.specs.Spaces.{AreInOrder}
 use Rattle.host_spaces.specs.declared.spaces.Spaces.{Spaces}
-use Rattle.host_spaces.specs.Picture.{blocks_in, moved_in, picture_of, sizes_of}
-use Rattle.host_table.specs.Table.{untouched}
+use Rattle.host_map.specs.Picture.{blocks_in, moved_in}
+use Rattle.host_spaces.specs.Picture.{picture_of, sizes_of}
+use Rattle.host_map.specs.Activity.{untouched}
 use Rattle.host_spec.specs.State.{State}
 use Rattle.host_spec.specs.Steps.{moving, step, compact}
 use Rattle.host_spec.specs.Laws.{IsSteps}

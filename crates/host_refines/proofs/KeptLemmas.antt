@@ -4,7 +4,7 @@ use Rattle.std.specs.Prelude.{nat_eq, is_some, IsSome, IsTrue, Ok, Err}
 use Rattle.mem_rec.specs.declared.TheConstants.{INSTANCES, GROUPS}
 use Rattle.ialg.specs.declared.refusal.Refusal.TheVariants.{Command}
 use Rattle.std.proofs.lemmas.Bool.Decides.{eqb_tells}
-use Rattle.space_heap.proofs.RangeTests.{either}
+use Rattle.relocate.proofs.RangeTests.{either}
 use Rattle.ialg.specs.History.{History, Ctl, Control, with_samples}
 use Rattle.ialg.specs.Meaning.{Meaning, Status, outputs_of, status_of}
 use Rattle.ialg.specs.Records.{unplaced}
@@ -12,7 +12,8 @@ use Rattle.scratch_group.specs.declared.group.Group.{Group}
 use Rattle.lifecycle.specs.States.{Relation, IsLawful, all_outputs, status_after}
 use Rattle.host_table.specs.declared.member.Member.{Member}
 use Rattle.host_shared.specs.declared.shelves.Shelf.{Shelf}
-use Rattle.host_table.specs.Table.{Activity, slot_at, group_at, group_of, instance_of, activity_at, touched, touched_by, rested, with_activity}
+use Rattle.host_map.specs.Activity.{Activity, touched, rested, with_activity}
+use Rattle.host_table.specs.Table.{slot_at, group_at, group_of, instance_of, activity_at, touched_by}
 use Rattle.host_shared.specs.Shelves.{once_at}
 use Rattle.host_table.specs.Keeps.{Keeps, SlotKeeps, with_history}
 use Rattle.host_table.specs.Frames.{SameSlot, SameTables, IsSameMember, SameMembers}

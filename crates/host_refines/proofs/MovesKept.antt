@@ -7,11 +7,13 @@ use Rattle.scratch_group.specs.declared.group.Group.{Group}
 use Rattle.lifecycle.specs.States.{Relation}
 use Rattle.host_table.specs.declared.member.Member.{Member}
 use Rattle.host_shared.specs.declared.shelves.Shelf.{Shelf}
-use Rattle.host_table.specs.Table.{Activity, ArePoisoned, group_at, slot_at}
-use Rattle.space_blocks.specs.declared.placed.Placed.{Placed}
-use Rattle.space_blocks.specs.Moves.{next_block}
+use Rattle.host_map.specs.Activity.{Activity}
+use Rattle.host_table.specs.Table.{ArePoisoned, group_at, slot_at}
+use Rattle.host_map.specs.declared.placed.Placed.{Placed}
+use Rattle.host_map.specs.Moves.{next_block}
 use Rattle.host_spaces.specs.declared.spaces.Spaces.{Spaces}
-use Rattle.host_spaces.specs.Picture.{blocks_in, moved_in, picture_of}
+use Rattle.host_map.specs.Picture.{blocks_in, moved_in}
+use Rattle.host_spaces.specs.Picture.{picture_of}
 use Rattle.host_moves.specs.Standing.{SlotIsSame}
 use Rattle.host_moves.specs.Moves.{HasMoved}
 use Rattle.host_spec.specs.State.{Living, State}

@@ -6,7 +6,8 @@ use Rattle.mem_rec.specs.declared.MemRec.{MemRec}
 use Rattle.std.specs.Prelude.{ℤ}
 use Rattle.host_table.specs.declared.member.Member.{Member}
 use Rattle.host_table.specs.Table.{slot_at, instance_of}
-use Rattle.host_life.specs.Twins.{Asked, asked_by, twin_of}
+use Rattle.host_map.specs.Twins.{Asked, twin_of}
+use Rattle.host_life.specs.Twins.{asked_by}
 use Rattle.host_spec.specs.State.{Living, asked_of}
 use Rattle.host_refines.specs.Kept.{IsLiving}
 

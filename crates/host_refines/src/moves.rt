@@ -2,8 +2,9 @@
 ghost use Rattle.std.specs.Prelude.{◌≡◌, ◌+◌, ℤ, Option, true};
 ghost use Rattle.host_table.specs.Table.{TablesOk, ArePoisoned};
 ghost use Rattle.relocate.specs.Packing.{unpacked_count};
-ghost use Rattle.space_blocks.specs.Moves.{spots_of};
-ghost use Rattle.host_spaces.specs.Picture.{blocks_in, picture_of};
+ghost use Rattle.host_map.specs.Moves.{spots_of};
+ghost use Rattle.host_map.specs.Picture.{blocks_in};
+ghost use Rattle.host_spaces.specs.Picture.{picture_of};
 ghost use Rattle.host_spec.specs.State.{State};
 ghost use Rattle.host_spec.specs.Steps as steps;
 ghost use Rattle.host_moves.specs.Standing.{AreStanding};

@@ -3,7 +3,7 @@ use Rattle.std.proofs.Common.{◌≡◌, ℕ, ℤ, Bool, true, false, List, [], 
 use Rattle.std.proofs.Math.Seq.{drop-append_seam}
 use Rattle.std.proofs.lemmas.Bool.{or_left}
 use Rattle.std.specs.Prelude.{not, is_some, is_none, IfSome}
-use Rattle.host_spaces.specs.Picture.{blocks_in}
+use Rattle.host_map.specs.Picture.{blocks_in}
 use Rattle.ialg.specs.declared.refusal.Refusal.TheVariants.{Range, Missing, Command}
 use Rattle.ialg.specs.Refusals.{first_refusal}
 use Rattle.ialg.specs.History.{Ctl, with_samples, block_output}

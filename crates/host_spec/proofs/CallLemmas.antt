@@ -5,10 +5,10 @@ use Rattle.mem_rec.specs.declared.Space.{Space}
 use Rattle.ialg.specs.declared.refusal.Refusal.{Refusal}
 use Rattle.ialg.specs.History.{Ctl}
 use Rattle.ialg.specs.Meaning.{Meaning, Status}
-use Rattle.space_blocks.specs.declared.placed.Placed.{Placed}
-use Rattle.space_blocks.specs.Moves.{next_block}
-use Rattle.host_spaces.specs.Picture.{Picture, blocks_in}
-use Rattle.host_spaces.specs.Creation.{created_picture}
+use Rattle.host_map.specs.declared.placed.Placed.{Placed}
+use Rattle.host_map.specs.Moves.{next_block}
+use Rattle.host_map.specs.Picture.{Picture, blocks_in}
+use Rattle.host_map.specs.Creation.{created_picture}
 use Rattle.host_spec.specs.State.{Living, State, twins_of, with_living}
 use Rattle.host_spec.specs.Steps.{Outcome, unless, newborn, with_room, with_memory, create, touching, controlled, control, given, without_instance, delete, release, stat, moving}
 use Rattle.host_spec.specs.Calls.{Call, Does, subject_of}

@@ -6,9 +6,9 @@ use Rattle.relocate.specs.declared.packing.Move.{Move}
 use Rattle.relocate.specs.Packing.{packed_places, places_of, with_place, packing_moves, first_of, unpacked_count, unpacked_words}
 use Rattle.relocate.proofs.PackingLemmas.{words_of, size_at, packed_from-with_place, moves-count, none_misplaced_at}
 use Rattle.relocate.proofs.CompactionLemmas.{moves_left, words_less, packed_where_none, next_is_first}
-use Rattle.space_blocks.specs.declared.placed.Placed.{Placed}
-use Rattle.space_blocks.specs.Moves.{spots_of, next_in, next_block, block_at, block_to_move, moved_to, moved_by, moved, at_places, packed}
-use Rattle.host_spaces.specs.Picture.{Picture, blocks_in, with_blocks, moved_in, packed_in}
+use Rattle.host_map.specs.declared.placed.Placed.{Placed}
+use Rattle.host_map.specs.Moves.{spots_of, next_in, next_block, block_at, block_to_move, moved_to, moved_by, moved, at_places, packed}
+use Rattle.host_map.specs.Picture.{Picture, blocks_in, with_blocks, moved_in, packed_in}
 use Rattle.host_spec.specs.State.{State}
 use Rattle.host_spec.specs.Steps.{more_copied, moving, step, compact}
 use Rattle.host_spec.specs.Laws.{IsSteps}

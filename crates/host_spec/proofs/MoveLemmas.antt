@@ -5,9 +5,9 @@ use Rattle.mem_rec.specs.declared.Space.{Space}
 use Rattle.mem_rec.specs.declared.Space.TheVariants.{Daram, Saram, External}
 use Rattle.relocate.specs.declared.packing.Move.{Move}
 use Rattle.relocate.specs.Packing.{packed_from}
-use Rattle.space_blocks.specs.declared.placed.Placed.{Placed}
-use Rattle.space_blocks.specs.Moves.{spots_of, next_in, next_block, moved_to, moved_by, moved, at_places, packed}
-use Rattle.host_spaces.specs.Picture.{Picture, blocks_in, with_blocks}
+use Rattle.host_map.specs.declared.placed.Placed.{Placed}
+use Rattle.host_map.specs.Moves.{spots_of, next_in, next_block, moved_to, moved_by, moved, at_places, packed}
+use Rattle.host_map.specs.Picture.{Picture, blocks_in, with_blocks}
 use Rattle.host_spec.specs.State.{State}
 use Rattle.host_spec.specs.Steps.{moving, step, compact}
 use Rattle.host_spec.specs.Laws.{unplaced_block, OnlyMoves}

@@ -2,7 +2,7 @@
 use Rattle.std.proofs.Common.{◌≡◌, ◌≤◌, ◌<◌, ◌⊎◌, ℕ, ℤ, Bool, true, false, List, [], ◌∷◌, length, Option, Some, None, Ok, Err, refl, ap, ◌∙◌, arith}
 use Rattle.std.specs.Prelude.{not, ◌&&◌, is_some, is_none}
 use Rattle.std.proofs.lemmas.Bool.{lt-ltb, le-ltb, and_from, and_left, and_right}
-use Rattle.space_heap.proofs.RangeTests.{either}
+use Rattle.relocate.proofs.RangeTests.{either}
 use Rattle.mem_rec.specs.declared.MemRec.{MemRec}
 use Rattle.mem_rec.specs.declared.Space.{Space}
 use Rattle.ialg.specs.declared.refusal.Refusal.TheVariants.{Range, Taken, Missing, Params, Room, Command}
@@ -10,9 +10,9 @@ use Rattle.ialg.specs.Refusals.{first_refusal}
 use Rattle.ialg.specs.History.{Ctl, Control, with_samples}
 use Rattle.ialg.specs.Meaning.{Meaning, Status}
 use Rattle.mem_rec.specs.declared.TheConstants.{INSTANCES, GROUPS}
-use Rattle.host_spaces.specs.Picture.{Picture}
-use Rattle.host_spaces.specs.Creation.{created_picture}
-use Rattle.host_table.specs.Table.{rested, with_activity}
+use Rattle.host_map.specs.Picture.{Picture}
+use Rattle.host_map.specs.Creation.{created_picture}
+use Rattle.host_map.specs.Activity.{rested, with_activity}
 use Rattle.host_spec.specs.State.{State, Living, twins_of, is_instance_number, is_group_number}
 use Rattle.host_spec.specs.Steps.{Outcome, unless, newborn, with_room, with_memory, create, created, control, controlled, given, touching, processed, delete, without_instance, release, stat}
 

@@ -4,11 +4,11 @@ use Rattle.std.specs.Prelude.{is_some, not, ◌&&◌}
 use Rattle.std.proofs.lemmas.Bool.{eq-eqb}
 use Rattle.std.proofs.lemmas.Bool.Decides.{eqb_tells}
 use Rattle.std.proofs.lemmas.Option.{none-some}
-use Rattle.space_heap.proofs.RangeTests.{either}
+use Rattle.relocate.proofs.RangeTests.{either}
 use Rattle.mem_rec.specs.declared.MemRec.{MemRec}
 use Rattle.mem_rec.specs.declared.Space.{Space}
-use Rattle.host_spaces.specs.Picture.{Picture}
-use Rattle.host_spaces.specs.Creation.{created_picture}
+use Rattle.host_map.specs.Picture.{Picture}
+use Rattle.host_map.specs.Creation.{created_picture}
 use Rattle.ialg.specs.declared.refusal.Refusal.{Refusal}
 use Rattle.ialg.specs.declared.refusal.Refusal.TheVariants.{Range, Taken}
 use Rattle.ialg.specs.Refusals.{first_refusal}

@@ -2,7 +2,7 @@
 use Rattle.std.specs.Prelude.{ℤ, Bool, false, IsTrue, List, [], ◌∷◌, Option, Some, None, IfSome, is_some}
 use Rattle.ialg.specs.History.{Ctl, block_output}
 use Rattle.ialg.specs.Meaning.{Meaning, Status, Done, status_of}
-use Rattle.host_spaces.specs.Picture.{blocks_in}
+use Rattle.host_map.specs.Picture.{blocks_in}
 use Rattle.host_spec.specs.State.{Living, State}
 use Rattle.host_spec.specs.Choices.{IsLawful}
 use Rattle.host_spec.specs.Steps as steps

@@ -5,9 +5,9 @@ use Rattle.mem_rec.specs.declared.Space.{Space}
 use Rattle.ialg.specs.declared.refusal.Refusal.{Refusal}
 use Rattle.ialg.specs.History.{Ctl}
 use Rattle.ialg.specs.Meaning.{Meaning, Status}
-use Rattle.space_blocks.specs.declared.placed.Placed.{Placed}
-use Rattle.host_spaces.specs.Picture.{blocks_in}
-use Rattle.host_table.specs.Table.{Activity}
+use Rattle.host_map.specs.declared.placed.Placed.{Placed}
+use Rattle.host_map.specs.Picture.{blocks_in}
+use Rattle.host_map.specs.Activity.{Activity}
 use Rattle.host_spec.specs.State.{Living, State}
 use Rattle.host_spec.specs.Choices.{MayAsk, MayAnswer, MayGive}
 use Rattle.host_spec.specs.Steps as steps

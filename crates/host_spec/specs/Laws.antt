@@ -1,8 +1,8 @@
 -- What a call leaves as it was.
 use Rattle.std.specs.Prelude.{◌≡◌, ◌≢◌, ℕ, ◌+◌, true, false, Option, Some, map}
 use Rattle.mem_rec.specs.declared.Space.{Space}
-use Rattle.space_blocks.specs.declared.placed.Placed.{Placed}
-use Rattle.host_spaces.specs.Picture.{blocks_in}
+use Rattle.host_map.specs.declared.placed.Placed.{Placed}
+use Rattle.host_map.specs.Picture.{blocks_in}
 use Rattle.host_spec.specs.State.{State}
 use Rattle.host_spec.specs.Steps.{step, compact}
 use Rattle.host_spec.specs.Calls.{Call}

@@ -1,15 +1,15 @@
 -- What a host keeps, as plain values: who lives, which blocks stand where, and which member of each group is active.
 use Rattle.std.specs.Prelude.{ℕ, ℤ, Bool, false, List, Option, Some, None, option_map, nat_lt, nat_eq, if◌then◌else◌}
 use Rattle.std.specs.List.{list_any}
-use Rattle.space_heap.specs.Places.{numbers_below}
+use Rattle.relocate.specs.Places.{numbers_below}
 use Rattle.mem_rec.specs.declared.TheConstants.{INSTANCES, GROUPS}
 use Rattle.mem_rec.specs.declared.MemRec.{MemRec}
 use Rattle.ialg.specs.History.{History}
 use Rattle.ialg.specs.Meaning.{Meaning}
-use Rattle.host_spaces.specs.declared.spaces.Sizes.{Sizes}
-use Rattle.host_spaces.specs.Picture.{Picture, empty_picture}
-use Rattle.host_table.specs.Table.{Activity, untouched}
-use Rattle.host_life.specs.Twins.{Asked, twin_of}
+use Rattle.host_map.specs.declared.parts.Sizes.{Sizes}
+use Rattle.host_map.specs.Picture.{Picture, empty_picture}
+use Rattle.host_map.specs.Activity.{Activity, untouched}
+use Rattle.host_map.specs.Twins.{Asked, twin_of}
 
 -- an instance, as its creation named it, the memory that its kind asked for, and what it was given since then
 pub record Living (M : Type 0) : Type 0 where

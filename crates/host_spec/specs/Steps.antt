@@ -8,14 +8,14 @@ use Rattle.ialg.specs.Refusals.{first_refusal}
 use Rattle.ialg.specs.History.{Ctl, Control, with_samples}
 use Rattle.ialg.specs.Meaning.{Meaning, Status}
 use Rattle.ialg.specs.Records.{unplaced}
-use Rattle.space_heap.specs.Places.{numbers_below}
+use Rattle.relocate.specs.Places.{numbers_below}
 use Rattle.relocate.specs.Packing.{unpacked_count, unpacked_words}
 use Rattle.mem_rec.specs.declared.TheConstants.{INSTANCES}
-use Rattle.space_blocks.specs.declared.placed.Placed.{Placed}
-use Rattle.space_blocks.specs.Moves.{next_block, spots_of}
-use Rattle.host_spaces.specs.Picture.{Picture, blocks_in, moved_in, packed_in}
-use Rattle.host_spaces.specs.Creation.{created_picture, replaces, deleted_picture}
-use Rattle.host_table.specs.Table.{Activity, touched, rested, quieted, with_activity}
+use Rattle.host_map.specs.declared.placed.Placed.{Placed}
+use Rattle.host_map.specs.Moves.{next_block, spots_of}
+use Rattle.host_map.specs.Picture.{Picture, blocks_in, moved_in, packed_in}
+use Rattle.host_map.specs.Creation.{created_picture, replaces, deleted_picture}
+use Rattle.host_map.specs.Activity.{Activity, touched, rested, quieted, with_activity}
 use Rattle.host_spec.specs.State.{Living, State, with_living, has_member, twins_of, is_instance_number, is_group_number}
 
 -- what a call that can be refused answers, and the state after it

@@ -6,9 +6,9 @@ ghost use Rattle.ialg.specs.declared.refusal.Refusal.TheVariants.{Range, Taken, 
 ghost use Rattle.ialg.specs.History.{Ctl, Control, with_samples};
 ghost use Rattle.ialg.specs.Meaning.{Meaning, Status};
 ghost use Rattle.mem_rec.specs.declared.TheConstants.{INSTANCES, GROUPS};
-ghost use Rattle.host_spaces.specs.Picture.{Picture};
-ghost use Rattle.host_spaces.specs.Creation.{created_picture};
-ghost use Rattle.host_table.specs.Table.{rested, with_activity};
+ghost use Rattle.host_map.specs.Picture.{Picture};
+ghost use Rattle.host_map.specs.Creation.{created_picture};
+ghost use Rattle.host_map.specs.Activity.{rested, with_activity};
 ghost use Rattle.host_spec.specs.State.{State, Living, twins_of};
 ghost use Rattle.host_spec.specs.Steps.{newborn, create, created, control, touching, processed, delete, without_instance, release, stat};
 

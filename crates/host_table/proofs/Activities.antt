@@ -3,9 +3,10 @@ use Rattle.std.proofs.Common.{◌≡◌, ◌<◌, ℕ, ℤ, List, length, set, g
 use Rattle.std.proofs.lemmas.Bool.Decides.{eqb_tells}
 use Rattle.std.proofs.lemmas.Option.{none-some}
 use Rattle.scratch_group.specs.declared.group.Group.{Group}
-use Rattle.scratch_group.specs.Blocks.{count_after, BlocksArePoison}
+use Rattle.host_map.specs.Activity.{count_after, Activity, rested, is_active, touched, with_activity}
+use Rattle.scratch_group.specs.Blocks.{BlocksArePoison}
 use Rattle.host_table.specs.declared.member.Member.{Member}
-use Rattle.host_table.specs.Table.{no_group, group_at, group_of, Activity, activity_at, ArePoisoned, rested, is_active, touched, with_activity}
+use Rattle.host_table.specs.Table.{no_group, group_at, group_of, activity_at, ArePoisoned}
 use Rattle.host_table.specs.Frames.{SameSlot, InactiveGroupsStay}
 
 pub same_group_of : {M : Type 0} (a b : Option (Member M)) → SameSlot a b → group_of b ≡ group_of a

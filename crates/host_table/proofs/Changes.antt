@@ -27,7 +27,8 @@ use Rattle.host_shared.specs.declared.shelves.Stand.{Stand}
 use Rattle.host_shared.specs.declared.shelves.Stand.TheVariants.{Here, With}
 use Rattle.host_shared.specs.Shelves.{stand_at, shelf_at, once_at, no_pieces}
 use Rattle.host_shared.specs.Homes.{with_seen, HasHomes, AllHaveHomes, IsSameStand, SameShelves}
-use Rattle.host_table.specs.Table.{slot_at, group_at, AreHeld, AreBare, no_group, instance_of, own_of, group_of, active_in, slot_active_in, IsHoused, EachIsHoused, Tables, TablesOk, ArePoisoned, activity_at, with_activity}
+use Rattle.host_table.specs.Table.{slot_at, group_at, AreHeld, AreBare, no_group, instance_of, own_of, group_of, active_in, slot_active_in, IsHoused, EachIsHoused, Tables, TablesOk, ArePoisoned, activity_at}
+use Rattle.host_map.specs.Activity.{with_activity}
 use Rattle.host_table.specs.Keeps.{InstKeeps, SlotKeeps, Keeps, with_history}
 use Rattle.host_table.specs.Frames.{SameSlot, SameTables, SameMember}
 use Rattle.host_table.proofs.Housing.{same_blocks, housed_stays}

@@ -16,7 +16,8 @@ use Rattle.host_shared.specs.declared.shelves.Shelf.{Shelf}
 use Rattle.host_shared.specs.Shelves.{once_at}
 use Rattle.host_shared.specs.Homes.{with_seen}
 use Rattle.host_table.specs.declared.member.Member.{Member}
-use Rattle.host_table.specs.Table.{slot_at, group_at, instance_of, group_of, active_in, slot_active_in, EachIsHoused, TablesOk, ArePoisoned, Activity, activity_at, is_active, touched, with_activity}
+use Rattle.host_table.specs.Table.{slot_at, group_at, instance_of, group_of, active_in, slot_active_in, EachIsHoused, TablesOk, ArePoisoned, activity_at}
+use Rattle.host_map.specs.Activity.{Activity, is_active, touched, with_activity}
 use Rattle.host_table.specs.Keeps.{InstKeeps, with_history}
 use Rattle.host_table.specs.View.{View}
 use Rattle.host_table.specs.Steps.{Laws, Stays, Steps, AreKept, unchanged}

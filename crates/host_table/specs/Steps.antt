@@ -4,7 +4,8 @@ use Rattle.ialg.specs.Meaning.{Meaning, Status}
 use Rattle.ialg.specs.History.{History, Ctl, Control, with_samples}
 use Rattle.lifecycle.specs.States.{Relation, IsLawful, all_outputs, status_after}
 use Rattle.host_table.specs.declared.member.Member.{Member}
-use Rattle.host_table.specs.Table.{slot_at, instance_of, Activity, activity_at, TablesOk, ArePoisoned}
+use Rattle.host_table.specs.Table.{slot_at, instance_of, activity_at, TablesOk, ArePoisoned}
+use Rattle.host_map.specs.Activity.{Activity}
 use Rattle.host_table.specs.Keeps.{Keeps, with_history}
 use Rattle.host_table.specs.Frames.{SameTables}
 use Rattle.host_table.specs.View.{View}

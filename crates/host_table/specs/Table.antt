@@ -5,7 +5,8 @@ use Rattle.mem_rec.specs.declared.Attr.TheVariants.{WriteOnce}
 use Rattle.ialg.specs.Records.{record_at}
 use Rattle.record_loans.specs.declared.pieces.Pieces.{Pieces}
 use Rattle.scratch_group.specs.declared.group.Group.{Group}
-use Rattle.scratch_group.specs.Blocks.{count_after, BlocksArePoison}
+use Rattle.host_map.specs.Activity.{count_after, Activity, quieted, touched, with_activity}
+use Rattle.scratch_group.specs.Blocks.{BlocksArePoison}
 use Rattle.scratch_group.specs.Words.{placed}
 use Rattle.lifecycle.specs.declared.instance.Instance.{Instance}
 use Rattle.lifecycle.specs.declared.instance.Inst.{Inst}
@@ -120,40 +121,8 @@ TablesTold g n slots once groups = Tables (IsTold g n) slots once groups
 abbrev pub ArePoisoned : Option ℤ → List Group → Type 0
 ArePoisoned w groups = (g : ℕ) → g < GROUPS → (group_at groups g).active ≡ None → BlocksArePoison w (group_at groups g)
 
--- the active member of a group, and how often one was activated
-pub record Activity : Type 0 where
-  pub active : Option ℕ
-  pub count : ℕ
-
-abbrev pub untouched : Activity
-untouched = record { active = None; count = 0 }
-
 abbrev pub activity_at : List Group → ℕ → Activity
 activity_at groups g = record { active = (group_at groups g).active; count = (group_at groups g).activations }
-
--- with no active member
-abbrev pub rested : Activity → Activity
-rested a = record { active = None; count = a.count }
-
-abbrev pub is_active : Option ℕ → ℕ → Bool
-is_active None i = false
-is_active (Some j) i = nat_eq j i
-
--- with i as the active member from now on, which counts
-abbrev pub woken : ℕ → Activity → Activity
-woken i a = record { active = Some i; count = count_after a.count (Some i) }
-
--- with i as the active member, which counts unless it is so already
-abbrev pub touched : ℕ → Activity → Activity
-touched i a = if is_active a.active i then a else woken i a
-
--- the activities, with the one of group g replaced
-abbrev pub with_activity : (ℕ → Activity) → ℕ → Activity → ℕ → Activity
-with_activity all g a k = if nat_eq k g then a else all k
-
--- with no active member where it was i
-abbrev pub quieted : ℕ → Activity → Activity
-quieted i a = if is_active a.active i then rested a else a
 
 -- the activities after instance i was touched
 abbrev pub touched_by : {M : Type 0} → List (Option (Member M)) → List Group → ℕ → ℕ → Activity

@@ -6,7 +6,8 @@ use Rattle.record_loans.specs.declared.pieces.Pieces.{Pieces}
 use Rattle.record_loans.specs.Pieces.{SamePieces}
 use Rattle.record_loans.specs.Blocks.{IsSameBlock}
 use Rattle.scratch_group.specs.declared.group.Group.{Group}
-use Rattle.scratch_group.specs.Blocks.{block_in, count_after, BlocksArePoison, SameGroup}
+use Rattle.scratch_group.specs.Blocks.{block_in, BlocksArePoison, SameGroup}
+use Rattle.host_map.specs.Activity.{count_after}
 use Rattle.lifecycle.specs.declared.instance.Instance.{Instance}
 use Rattle.lifecycle.specs.States.{Fits, SameInstance, SameOnce, IsLawful, IdleKeeps, ActiveKeeps, all_outputs}
 use Rattle.host_shared.specs.declared.shelves.Shelf.{Shelf}

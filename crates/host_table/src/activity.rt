@@ -2,7 +2,8 @@
 ghost use Rattle.std.specs.Prelude.{◌≡◌, ◌<◌, Option, Some, None, IsSome, is_some};
 ghost use Rattle.lifecycle.specs.States.{Fits};
 ghost use Rattle.mem_rec.specs.declared.TheConstants.{GROUPS};
-ghost use Rattle.host_table.specs.Table.{slot_at, group_at, group_of, slot_active_in, activity_at, rested, touched_by, quieted_by, with_activity};
+ghost use Rattle.host_table.specs.Table.{slot_at, group_at, group_of, slot_active_in, activity_at, touched_by, quieted_by};
+ghost use Rattle.host_map.specs.Activity.{rested, with_activity};
 ghost use Rattle.host_shared.specs.Shelves.{once_at};
 ghost use Rattle.host_shared.specs.Homes.{with_seen};
 ghost use Rattle.host_table.specs.Turns.{CanBeLent, Deactivated, Activated};

@@ -3,7 +3,8 @@ ghost use Rattle.std.specs.Prelude.{◌≡◌, ◌≤◌, ◌++◌, ◌∷◌, �
 ghost use Rattle.ialg.specs.History.{History};
 ghost use Rattle.ialg.specs.Views.{control_of, answer_of};
 ghost use Rattle.lifecycle.specs.States.{Fits, IsLawful, Accepts, status_after};
-ghost use Rattle.host_table.specs.Table.{slot_at, group_of, slot_active_in, instance_of, activity_at, with_activity, woken, touched_by, TablesOk, ArePoisoned};
+ghost use Rattle.host_table.specs.Table.{slot_at, group_of, slot_active_in, instance_of, activity_at, touched_by, TablesOk, ArePoisoned};
+ghost use Rattle.host_map.specs.Activity.{with_activity, woken};
 ghost use Rattle.host_table.specs.Steps.{laws, Ready, AreKept, Stays, Steps, given, controlled, GivesOut, AnswersTo};
 ghost use Rattle.host_table.specs.Turns.{CanBeLent, ActivatedAndRan, Ran};
 ghost use Rattle.host_shared.specs.Shelves.{once_at};

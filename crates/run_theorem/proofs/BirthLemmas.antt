@@ -9,8 +9,8 @@ use Rattle.ialg.specs.declared.refusal.Refusal.TheVariants.{Range, Taken, Missin
 use Rattle.ialg.specs.Refusals.{first_refusal}
 use Rattle.ialg.specs.History.{Ctl}
 use Rattle.ialg.specs.Meaning.{Meaning, Status, status_of}
-use Rattle.host_spaces.specs.Picture.{Picture}
-use Rattle.host_spaces.specs.Creation.{created_picture}
+use Rattle.host_map.specs.Picture.{Picture}
+use Rattle.host_map.specs.Creation.{created_picture}
 use Rattle.host_spec.specs.State.{Living, State, twins_of, with_living, is_instance_number, is_group_number}
 use Rattle.host_spec.specs.Steps.{Outcome, unless, newborn, with_room, with_memory, create_refusal, controlled}
 use Rattle.host_spec.specs.Calls.{Call, Leads, Creates, Controls}

@@ -1,7 +1,7 @@
 -- The headline of calls that were made for lines, and up to a line.
 use Rattle.std.proofs.Common.{◌≡◌, ℕ, ℤ, List, ◌++◌, Option, Some, refl, ap, ◌∙◌}
 use Rattle.ialg.specs.Meaning.{Meaning}
-use Rattle.host_spaces.specs.declared.spaces.Sizes.{Sizes}
+use Rattle.host_map.specs.declared.parts.Sizes.{Sizes}
 use Rattle.host_spec.specs.Calls as host_calls
 use Rattle.channel_spec.specs.Channels.{Channels}
 use Rattle.channel_spec.specs.Calls.{Call}

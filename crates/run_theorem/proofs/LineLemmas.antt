@@ -7,7 +7,7 @@ use Rattle.std.proofs.lemmas.List.Elements.{filter-append}
 use Rattle.std.proofs.lemmas.Grind.{flat_map-append}
 use Rattle.std.proofs.lemmas.Bool.Decides.{eqb_tells}
 use Rattle.std.proofs.Math.Seq.{drop-append_seam, drop-nil, take-append_seam}
-use Rattle.space_heap.proofs.RangeTests.{either, true_or_false}
+use Rattle.relocate.proofs.RangeTests.{either, true_or_false}
 use Rattle.ialg.specs.Meaning.{Meaning, Status}
 use Rattle.ialg.specs.declared.refusal.Refusal.{Refusal}
 use Rattle.channel_spec.specs.Channels.{Channels}

@@ -11,14 +11,14 @@ use Rattle.ialg.specs.declared.refusal.Refusal.{Refusal}
 use Rattle.ialg.specs.declared.refusal.Refusal.TheVariants.{Range, Taken, Missing, Params, Room, Busy}
 use Rattle.ialg.specs.Refusals.{first_refusal}
 use Rattle.ialg.specs.Meaning.{Meaning}
-use Rattle.space_heap.specs.Places.{Range as Stretch, is_free, least_place, meets}
-use Rattle.space_heap.proofs.RangeTests.{either, both_true}
+use Rattle.relocate.specs.Places.{Range as Stretch, is_free, least_place, meets}
+use Rattle.relocate.proofs.RangeTests.{either, both_true}
 use Rattle.mem_rec.specs.declared.TheConstants.{INSTANCES, GROUPS}
-use Rattle.space_blocks.specs.Blocks.{ranges}
-use Rattle.host_spaces.specs.declared.spaces.Sizes.{Sizes}
-use Rattle.host_spaces.specs.declared.wants.Wanted.{Wanted}
-use Rattle.host_spaces.specs.Picture.{Picture, blocks_in, place_in, put_block, renamed, words_in}
-use Rattle.host_spaces.specs.Creation.{all_placed, created_picture, goes_on, result_map, taken_over, wanted_by, without_replaced}
+use Rattle.host_map.specs.Blocks.{ranges}
+use Rattle.host_map.specs.declared.parts.Sizes.{Sizes}
+use Rattle.host_map.specs.declared.parts.Wanted.{Wanted}
+use Rattle.host_map.specs.Picture.{Picture, blocks_in, place_in, put_block, renamed, words_in}
+use Rattle.host_map.specs.Creation.{all_placed, created_picture, goes_on, result_map, taken_over, wanted_by, without_replaced}
 use Rattle.host_spec.specs.State.{Living, State, twins_of, is_group_number, is_instance_number}
 use Rattle.host_spec.specs.Choices.{tells_memory}
 use Rattle.host_spec.specs.Steps as steps

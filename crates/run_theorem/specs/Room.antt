@@ -3,13 +3,13 @@ use Rattle.std.specs.Prelude.{ℕ, ℤ, ◌≡◌, ◌⊎◌, ◌<◌, ◌*◌, 
 use Rattle.mem_rec.specs.declared.MemRec.{MemRec}
 use Rattle.mem_rec.specs.declared.Space.{Space}
 use Rattle.ialg.specs.Meaning.{Meaning}
-use Rattle.space_heap.specs.Places.{is_free}
+use Rattle.relocate.specs.Places.{is_free}
 use Rattle.mem_rec.specs.declared.TheConstants.{INSTANCES, GROUPS}
-use Rattle.space_blocks.specs.Blocks.{ranges}
-use Rattle.host_spaces.specs.declared.spaces.Sizes.{Sizes}
-use Rattle.host_spaces.specs.declared.wants.Wanted.{Wanted}
-use Rattle.host_spaces.specs.Picture.{Picture, blocks_in, place_in, put_block, words_in}
-use Rattle.host_spaces.specs.Creation.{wanted_by}
+use Rattle.host_map.specs.Blocks.{ranges}
+use Rattle.host_map.specs.declared.parts.Sizes.{Sizes}
+use Rattle.host_map.specs.declared.parts.Wanted.{Wanted}
+use Rattle.host_map.specs.Picture.{Picture, blocks_in, place_in, put_block, words_in}
+use Rattle.host_map.specs.Creation.{wanted_by}
 use Rattle.host_spec.specs.State.{State, twins_of}
 use Rattle.host_spec.specs.Steps.{newborn}
 use Rattle.host_spec.specs.Calls.Call.{Create}

@@ -1,7 +1,7 @@
 //! The headline.
 ghost use Rattle.std.specs.Prelude.{◌≡◌, ◌++◌, ℕ, ℤ, [], IsTrue, List, Option};
 ghost use Rattle.ialg.specs.Meaning.{Meaning};
-ghost use Rattle.host_spaces.specs.declared.spaces.Sizes.{Sizes};
+ghost use Rattle.host_map.specs.declared.parts.Sizes.{Sizes};
 ghost use Rattle.host_spec.specs.Calls.{Call};
 ghost use Rattle.host_spec.specs.Runs.{history_of_run, outputs_in, statuses_in};
 ghost use Rattle.channel_spec.specs.Channels.{Channels};

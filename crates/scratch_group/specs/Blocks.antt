@@ -29,11 +29,6 @@ abbrev pub block_needed : Option ScratchBlock → ℕ → ℕ → Option Need
 block_needed b need align = if nat_eq need 0 || serves b need align then None
     else Some (record { size = max (length (block_words b)) need; align = max (block_align b) align })
 
--- the count of activations, once the member was set. It stays at the greatest number
-abbrev pub count_after : ℕ → Option ℕ → ℕ
-count_after n None = n
-count_after n (Some m) = min (n + 1) (2 ^ 32 - 1)
-
 -- a block with each word this one
 abbrev pub filled : ℤ → Option ScratchBlock → Option ScratchBlock
 filled v None = None

@@ -15,7 +15,7 @@ use crate::serving::PortsFault;
 use ialg::{Params, Refusal, Words};
 use line_spec::{BLOCK_OCTETS, Ask, LineMachine};
 use octet_ports::{PortFault, PortIn, PortOut, read_octets, write_octets};
-use space_blocks::Map;
+use host_map::Map;
 use voice_script::{LINE_OCTETS, FeedSamples, Reply, ReplyText, write_reply};
 
 /// Room for the words of a line, for a map and for words that are told of, and the buffers of replies and feeds. To make them clears thousands of

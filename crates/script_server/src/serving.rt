@@ -9,7 +9,7 @@ use arrayvec::ArrayVec;
 use ialg::{Params, Words};
 use line_spec::{BLOCK_OCTETS, LineMachine};
 use octet_ports::{LineReader, PortIn, PortOut};
-use space_blocks::Map;
+use host_map::Map;
 use voice_script::LINE_OCTETS;
 
 /// Which ports ended a run.

@@ -2,7 +2,7 @@
 //! that keeps no law, with moves, and with its samples cut otherwise.
 
 use alg_host::{Host, Request, make_both};
-use host_spaces::Sizes;
+use host_map::Sizes;
 use ialg::{BLOCK_SAMPLES, PARAMETER_WORDS, Block, Ctl, Refusal, Status, copied};
 use mem_rec::Space;
 use std::process::Abort;

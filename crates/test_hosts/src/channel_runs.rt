@@ -2,7 +2,7 @@
 //! another channel, beside a kind that keeps no law in their group, and with their samples cut otherwise.
 
 use crate::feed_both;
-use host_spaces::Sizes;
+use host_map::Sizes;
 use ialg::{BLOCK_SAMPLES, PARAMETER_WORDS, Block, copied};
 use std::process::Abort;
 use test_kinds::Trial;

@@ -1,10 +1,10 @@
 //! Channels of trial kinds, by numbers.
 
 use crate::feed_in_two;
-use host_spaces::Sizes;
+use host_map::Sizes;
 use ialg::{BLOCK_SAMPLES, PARAMETER_WORDS, Block, Ctl, Params, Refusal, Status, copied};
 use mem_rec::Space;
-use space_blocks::{Owner, Placed};
+use host_map::{Owner, Placed};
 use std::process::Abort;
 use test_kinds::Trial;
 use voice_channel::{MEMBERS, Channels, Host, Stat};

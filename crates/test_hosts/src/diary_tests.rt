@@ -2,7 +2,7 @@
 
 use crate::{ACTIVATE, CONTROL, DEACTIVATE, Diary, INIT, MOVED, PROCESS};
 use alg_host::Host;
-use host_spaces::Sizes;
+use host_map::Sizes;
 use ialg::{Block, Ctl, Params, Refusal, Status, copied};
 use mem_rec::Space;
 use std::alloc::Global;

@@ -1,7 +1,8 @@
 //! The start of a host where memory is refused.
 
 use alg_host::HostMemory;
-use host_spaces::{Sizes, StartError};
+use host_map::Sizes;
+use host_spaces::StartError;
 use std::alloc::Global;
 use test_doubles::Metered;
 use test_kinds::Trial;

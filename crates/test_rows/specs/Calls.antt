@@ -2,10 +2,10 @@
 use Rattle.std.specs.Prelude.{◌≡◌, ℕ, ℤ, List, Option, Some, None, Result, Ok, Err}
 use Rattle.ialg.specs.declared.refusal.Refusal.{Refusal}
 use Rattle.ialg.specs.Meaning.{Meaning}
-use Rattle.space_blocks.specs.declared.placed.Owner.TheVariants.{Record, Scratch}
-use Rattle.space_blocks.specs.declared.placed.Placed.{Placed}
-use Rattle.host_spaces.specs.declared.spaces.Sizes.{Sizes}
-use Rattle.host_table.specs.Table.{Activity}
+use Rattle.host_map.specs.declared.placed.Owner.TheVariants.{Record, Scratch}
+use Rattle.host_map.specs.declared.placed.Placed.{Placed}
+use Rattle.host_map.specs.declared.parts.Sizes.{Sizes}
+use Rattle.host_map.specs.Activity.{Activity}
 use Rattle.host_spec.specs.State.{new_state}
 use Rattle.host_spec.specs.Calls.{Call}
 use Rattle.host_spec.specs.Answers.{all_answered}

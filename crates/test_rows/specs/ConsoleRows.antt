@@ -2,8 +2,8 @@
 use Rattle.std.specs.Prelude.{◌≡◌, ℕ, ℤ, pos, neg_ℤ, Some, None, List, [], ◌∷◌, ◌++◌, map, length, replicate, codes, ◌==◌, if◌then◌else◌}
 use Rattle.std.specs.List.{flat_map}
 use Prim.Native.String.{String}
-use Rattle.host_spaces.specs.declared.spaces.Sizes.{Sizes}
-use Rattle.space_heap.specs.Places.{numbers_below}
+use Rattle.host_map.specs.declared.parts.Sizes.{Sizes}
+use Rattle.relocate.specs.Places.{numbers_below}
 use Rattle.voice_set.specs.declared.voice.Voice.{Voice}
 use Rattle.voice_set.specs.Voices.{voice_meaning, voice_named}
 use Rattle.channel_spec.specs.Channels.{Channels}

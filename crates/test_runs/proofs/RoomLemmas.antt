@@ -3,12 +3,12 @@ use Rattle.std.proofs.Common.{◌≡◌, ◌+◌, ◌*◌, ℕ, suc, zero, true,
 use Rattle.std.specs.Prelude.{◌&&◌, not, unwrap_or}
 use Rattle.std.specs.List.{list_any}
 use Rattle.std.proofs.lemmas.Bool.{lt-leb}
-use Rattle.space_heap.specs.Places.{is_free, meets}
+use Rattle.relocate.specs.Places.{is_free, meets}
 use Rattle.mem_rec.specs.declared.Space.{Space}
 use Rattle.mem_rec.specs.declared.Space.TheVariants.{Daram, External}
-use Rattle.space_blocks.specs.declared.placed.Owner.TheVariants.{Record}
-use Rattle.host_spaces.specs.Picture.{Picture, empty_picture, place_in, put_block}
-use Rattle.host_spaces.specs.declared.wants.Wanted.{Wanted}
+use Rattle.host_map.specs.declared.placed.Owner.TheVariants.{Record}
+use Rattle.host_map.specs.Picture.{Picture, empty_picture, place_in, put_block}
+use Rattle.host_map.specs.declared.parts.Wanted.{Wanted}
 use Rattle.run_theorem.specs.Room.{FallsShort, HasNoPlace}
 use Rattle.test_runs.specs.Rooms.{RoomRows, small, wanted_in}
 

@@ -5,7 +5,7 @@ use Rattle.alg_fir.specs.Equation.{fir_output}
 use Rattle.ialg.specs.History.{History, Sample, outputs_by}
 use Rattle.ialg.specs.Meaning.{outputs_of}
 use Rattle.octet_ports.specs.Ports.{Holds as HoldsMore}
-use Rattle.host_spec.specs.Steps.{processed}
+use Rattle.host_spec.specs.Steps.{processed, newborn}
 use Rattle.host_spec.specs.Runs.{outputs_in}
 use Rattle.channel_spec.specs.Steps.{on_host}
 use Rattle.line_spec.specs.Served.{Answer}
@@ -19,10 +19,9 @@ use Rattle.dsp_console.specs.declared.serving.Fault.{Fault}
 use Rattle.dsp_console.specs.Headline.{RunHeadline}
 use Rattle.mem_rec.specs.declared.Space.TheVariants.{Daram}
 use Rattle.mem_rec.specs.declared.MemRec.{MemRec}
-use Rattle.space_blocks.specs.declared.placed.Owner.TheVariants.{Record, Scratch}
-use Rattle.space_blocks.specs.declared.placed.Placed.{Placed}
+use Rattle.host_map.specs.declared.placed.Owner.TheVariants.{Record, Scratch}
+use Rattle.host_map.specs.declared.placed.Placed.{Placed}
 use Rattle.host_spec.specs.Calls as host_calls
-use Rattle.host_spec.specs.Steps.{newborn}
 use Rattle.host_spec.specs.State.{with_living}
 use Rattle.host_spec.specs.Answers.{AreLawful}
 use Rattle.channel_spec.specs.Channels.{Channels}

@@ -3,7 +3,7 @@ use Rattle.std.specs.Prelude.{◌≡◌, ℕ, ℤ, pos, List, [], ◌∷◌, Opt
 use Rattle.mem_rec.specs.declared.Space.TheVariants.{Daram}
 use Rattle.ialg.specs.History.{Sample}
 use Rattle.octet_ports.specs.Ports.{Holds}
-use Rattle.host_spaces.specs.declared.spaces.Sizes.{Sizes}
+use Rattle.host_map.specs.declared.parts.Sizes.{Sizes}
 use Rattle.host_spec.specs.Calls.{Call}
 use Rattle.host_spec.specs.Calls.Call.{Create, Process, Delete, Compact}
 use Rattle.host_spec.specs.Runs.{history_of_run, outputs_in}

@@ -4,8 +4,8 @@ use Rattle.ialg.specs.declared.refusal.Refusal.{Refusal}
 use Rattle.ialg.specs.History.{Ctl}
 use Rattle.ialg.specs.Meaning.{Meaning, Status}
 use Rattle.octet_ports.specs.Ports.{GivesWithin}
-use Rattle.host_spaces.specs.declared.spaces.Sizes.{Sizes}
-use Rattle.host_spaces.specs.Picture.{AreSizes}
+use Rattle.host_map.specs.declared.parts.Sizes.{Sizes}
+use Rattle.host_map.specs.Picture.{AreSizes}
 use Rattle.host_spec.specs.Calls.{Call, refusal_in}
 use Rattle.host_spec.specs.Calls.Call.{Control}
 use Rattle.host_spec.specs.Runs.{history_of_run, outputs_in, statuses_in}

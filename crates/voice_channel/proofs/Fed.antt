@@ -4,7 +4,7 @@ use Rattle.std.specs.Prelude.{not}
 use Rattle.std.specs.List.{list_all}
 use Rattle.std.proofs.Math.Nat.{not-suc-le-zero}
 use Rattle.std.proofs.lemmas.Bool.{lt-ltb, false≢true, and_from}
-use Rattle.space_heap.proofs.RangeTests.{both_true, left_true, right_true}
+use Rattle.relocate.proofs.RangeTests.{both_true, left_true, right_true}
 use Rattle.ialg.specs.declared.refusal.Refusal.TheVariants.{Range, Missing}
 use Rattle.ialg.specs.Refusals.{first_refusal}
 use Rattle.ialg.specs.Meaning.{Meaning}

@@ -12,7 +12,7 @@ use alg_host::Stat;
 use channel_spec::members_live_in_one_channel;
 use ialg::{Ctl, Ialg, Params, Refusal, Status};
 use mem_rec::Space;
-use space_blocks::Map;
+use host_map::Map;
 
 impl<M: Ialg> Channels<M> {
     /// Creates instance `i` of this kind in the group, as [`Host::create`](alg_host::Host::create) does.

@@ -10,8 +10,8 @@ use crate::limits::{
 };
 use arrayvec::ArrayVec;
 use ialg::{Refusal, Words};
-use scratch_group::Stat;
-use space_blocks::{Map, Owner, Placed};
+use host_map::Stat;
+use host_map::{Map, Owner, Placed};
 
 /// The line of a reply.
 pub type ReplyText = ArrayVec<u8, REPLY_OCTETS>;

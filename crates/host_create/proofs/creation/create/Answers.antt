@@ -1,7 +1,8 @@
 use Rattle.std.proofs.Common.{◌≡◌, ◌<◌, ℤ, List, [], Option, Some, None, Ok, Err, true, is_some, rules, sym, ◌∙◌, subst, arith}
-use Rattle.host_spaces.specs.Creation.{created_picture}
+use Rattle.host_map.specs.Creation.{created_picture}
 use Rattle.host_spaces.specs.Picture.{picture_of, sizes_of}
-use Rattle.host_life.specs.Twins.{asked, asked_by, twin_of}
+use Rattle.host_map.specs.Twins.{asked, twin_of}
+use Rattle.host_life.specs.Twins.{asked_by}
 use Rattle.host_table.specs.Table.{slot_at}
 use Rattle.host_table.specs.Keeps.{Keeps, with_history}
 use Rattle.host_spec.specs.Steps.{created, newborn}

@@ -1,5 +1,6 @@
 use Rattle.std.proofs.Common.{◌≡◌, ◌⊎◌, inl, inr, false, None, sym, ap, ◌∙◌}
-use Rattle.host_spaces.specs.Picture.{blocks_in, picture_of, space_in}
+use Rattle.host_map.specs.Picture.{blocks_in}
+use Rattle.host_spaces.specs.Picture.{picture_of, space_in}
 use Rattle.host_spaces.specs.Pieces.{new_block, with_new}
 use Rattle.host_table.specs.Table.{group_at}
 use Rattle.scratch_group.specs.Blocks.{block_in}

@@ -1,8 +1,8 @@
 use Rattle.std.proofs.Common.{◌≡◌, ℕ, Option, sym, ◌∙◌, ap}
-use Rattle.host_spaces.specs.Creation.{taken_over}
-use Rattle.host_spaces.specs.Creation.{twin_at as listed_at}
+use Rattle.host_map.specs.Creation.{taken_over, twin_at as listed_at}
 use Rattle.host_shared.specs.Joining.{twin_at}
-use Rattle.host_spaces.specs.Picture.{picture_of, renamed}
+use Rattle.host_spaces.specs.Picture.{picture_of}
+use Rattle.host_map.specs.Picture.{renamed}
 use Rattle.host_create.proofs.Begun.{Joins, joining, none_placed, room_joined, joined_stands, newborn}
 use Rattle.host_create.proofs.starting.begin.Goals as goal
 

@@ -1,6 +1,5 @@
-use Rattle.std.proofs.Common.{◌≡◌, ℕ, zero, suc, refl}
-use Rattle.std.proofs.Common.{[], ◌∷◌}
-use Rattle.host_spaces.specs.Creation.{twin_at as listed_at}
+use Rattle.std.proofs.Common.{◌≡◌, ℕ, zero, suc, refl, [], ◌∷◌}
+use Rattle.host_map.specs.Creation.{twin_at as listed_at}
 use Rattle.host_shared.specs.declared.joining.Twins.{Twins}
 use Rattle.host_shared.specs.Joining.{twin_at}
 use Rattle.host_create.proofs.starting.listed.Goals as goal

@@ -1,14 +1,15 @@
 use Rattle.std.proofs.Common.{◌≡◌, ℕ, Bool, Option, Ok, inl, sym, ap, ◌∙◌, subst, arith}
 use Rattle.lifecycle.proofs.Words.{are_new}
-use Rattle.space_blocks.specs.declared.placed.Owner.TheVariants.{Record}
-use Rattle.host_spaces.specs.Picture.{blocks_in, picture_of, renamed, sizes_of, space_in}
-use Rattle.host_spaces.specs.Creation.{created_picture, taken_over}
-use Rattle.host_spaces.specs.Creation.{twin_at as listed_at}
+use Rattle.host_map.specs.declared.placed.Owner.TheVariants.{Record}
+use Rattle.host_map.specs.Picture.{blocks_in, renamed}
+use Rattle.host_spaces.specs.Picture.{picture_of, sizes_of, space_in}
+use Rattle.host_map.specs.Creation.{created_picture, taken_over, twin_at as listed_at}
 use Rattle.host_spaces.specs.Pieces.{ArePlacedPieces, without_pieces}
 use Rattle.host_table.specs.declared.member.Member.{Member}
 use Rattle.host_table.specs.Table.{slot_at, group_at}
 use Rattle.host_shared.specs.Shelves.{no_pieces}
-use Rattle.host_life.specs.Twins.{asked, asked_by, twin_of}
+use Rattle.host_map.specs.Twins.{asked, twin_of}
+use Rattle.host_life.specs.Twins.{asked_by}
 use Rattle.host_shared.specs.Joining.{twin_at}
 use Rattle.host_moves.specs.Standing.{SlotIsSame}
 use Rattle.host_moves.proofs.Slots.{not_a_group, other_instance}

@@ -1,9 +1,10 @@
 use Rattle.std.proofs.Common.{◌≡◌, ◌<◌, ℕ, length, ◌∙◌, ap, arith}
 use Rattle.host_table.proofs.Changes.{slot_in}
 use Rattle.host_table.proofs.Held.{homes_of_held}
-use Rattle.host_spaces.specs.Creation.{handed_on, twin_at}
+use Rattle.host_map.specs.Creation.{handed_on, twin_at}
 use Rattle.host_shared.specs.Holders.{next_holder}
-use Rattle.host_spaces.specs.Picture.{is_instance's, picture_of, renamed, without_owners}
+use Rattle.host_map.specs.Picture.{is_instance's, renamed, without_owners}
+use Rattle.host_spaces.specs.Picture.{picture_of}
 use Rattle.std.specs.Prelude.{Option}
 use Rattle.host_delete.proofs.Ended.{handed_same, stay_then}
 use Rattle.host_delete.proofs.Records.{Going, member_of, records_back, pieces_back, stand_beside, same_beside}

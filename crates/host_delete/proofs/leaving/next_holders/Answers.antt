@@ -1,5 +1,5 @@
 use Rattle.std.proofs.Common.{◌≡◌, ℕ, zero, suc, Option, sym, List, ◌∷◌, []}
-use Rattle.host_spaces.specs.Creation.{twin_at}
+use Rattle.host_map.specs.Creation.{twin_at}
 use Rattle.host_shared.specs.declared.shelves.Shelf.{Shelf}
 use Rattle.host_shared.specs.Holders.{next_holder}
 use Rattle.host_shared.proofs.Handing.{next_past}

@@ -2,7 +2,8 @@ use Rattle.std.proofs.Common.{◌≡◌, ◌≤◌, ℕ, length, None, vec_capac
 use Rattle.mem_rec.specs.declared.Space.{Space}
 use Rattle.scratch_group.specs.Blocks.{block_in}
 use Rattle.mem_rec.specs.declared.TheConstants.{GROUPS}
-use Rattle.host_table.specs.Table.{group_at, activity_at, untouched}
+use Rattle.host_table.specs.Table.{group_at, activity_at}
+use Rattle.host_map.specs.Activity.{untouched}
 use Rattle.host_life.proofs.tables.empty_groups.Given as goal
 
 abbrev pub invariant-loop : goal.invariant-loop

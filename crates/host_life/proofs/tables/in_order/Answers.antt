@@ -3,7 +3,8 @@ use Rattle.std.proofs.lemmas.Option.{none-some}
 use Rattle.host_shared.specs.declared.shelves.Stand.TheVariants.{Here, With}
 use Rattle.host_shared.specs.declared.shelves.Shelf.{Shelf}
 use Rattle.host_shared.specs.Shelves.{stand_at}
-use Rattle.host_table.specs.Table.{slot_active_in, group_at, Activity}
+use Rattle.host_table.specs.Table.{slot_active_in, group_at}
+use Rattle.host_map.specs.Activity.{Activity}
 use Rattle.host_table.proofs.Housing.{none_poisoned}
 use Rattle.host_shared.proofs.Lent.{no_stand}
 use Rattle.host_life.proofs.tables.in_order.Goals as goal

@@ -1,7 +1,8 @@
 use Rattle.std.proofs.Common.{sym, ◌∙◌, arith}
 use Rattle.mem_rec.specs.declared.TheConstants.{INSTANCES}
 use Rattle.host_table.specs.Table.{slot_at}
-use Rattle.host_life.specs.Twins.{asked, asked_by, is_twin}
+use Rattle.host_map.specs.Twins.{asked, is_twin}
+use Rattle.host_life.specs.Twins.{asked_by}
 use Rattle.host_life.proofs.Likes.{none_of_other}
 use Rattle.host_life.proofs.Finds.{find_step, find_hit, find_end}
 use Rattle.host_life.proofs.twins.find_twin.Goals as goal

@@ -3,7 +3,8 @@ use Rattle.std.specs.Prelude.{find}
 use Rattle.std.specs.List.{range_with_len}
 use Rattle.mem_rec.specs.declared.TheConstants.{INSTANCES}
 use Rattle.host_table.specs.Table.{slot_at}
-use Rattle.host_life.specs.Twins.{asked, asked_by, is_twin, twin_of}
+use Rattle.host_map.specs.Twins.{asked, is_twin, twin_of}
+use Rattle.host_life.specs.Twins.{asked_by}
 use Rattle.host_life.proofs.twins.find_twin.Given as goal
 
 abbrev pub invariant-loop-j : goal.invariant-loop-j

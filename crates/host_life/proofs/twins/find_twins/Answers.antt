@@ -1,5 +1,6 @@
 use Rattle.host_table.specs.Table.{slot_at}
-use Rattle.host_life.specs.Twins.{asked, asked_by, twin_of}
+use Rattle.host_map.specs.Twins.{asked, twin_of}
+use Rattle.host_life.specs.Twins.{asked_by}
 use Rattle.host_life.proofs.Likes.{no_twin_past, four_twins}
 use Rattle.host_life.proofs.twins.find_twins.Goals as goal
 

@@ -1,7 +1,7 @@
 use Rattle.std.proofs.Common.{sym, ◌∙◌, ap}
 use Rattle.mem_rec.specs.declared.MemRec.{MemRec}
 use Rattle.ialg.specs.Records.{record_at}
-use Rattle.host_life.specs.Twins.{is_same_once}
+use Rattle.host_map.specs.Twins.{is_same_once}
 use Rattle.host_life.proofs.Likes.{same_once_unplaced}
 use Rattle.host_life.proofs.twins.have_same.Goals as goal
 

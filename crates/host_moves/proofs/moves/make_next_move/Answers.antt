@@ -1,6 +1,6 @@
 use Rattle.std.proofs.Common.{sym, ap, ◌∙◌, arith}
 use Rattle.std.proofs.lemmas.Option.{same_Some}
-use Rattle.space_blocks.specs.declared.placed.Placed.{Placed}
+use Rattle.host_map.specs.declared.placed.Placed.{Placed}
 use Rattle.host_table.proofs.Changes.{slot_in, homes_of_slot}
 use Rattle.host_moves.proofs.Nexts.{next_record}
 use Rattle.host_moves.proofs.BlockMoves.{record_number, own_there, group_number}

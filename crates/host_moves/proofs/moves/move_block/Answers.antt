@@ -1,5 +1,6 @@
 use Rattle.std.proofs.Common.{sym, ◌∙◌, arith}
-use Rattle.host_spaces.specs.Picture.{blocks_in, picture_of}
+use Rattle.host_map.specs.Picture.{blocks_in}
+use Rattle.host_spaces.specs.Picture.{picture_of}
 use Rattle.host_moves.proofs.Seen.{words_seen}
 use Rattle.host_moves.proofs.Homes.{standing_stays}
 use Rattle.host_moves.proofs.OwnMoves.{kind_itself, then_same, same_sizes, words_copied}

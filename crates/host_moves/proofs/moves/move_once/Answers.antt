@@ -1,4 +1,5 @@
-use Rattle.host_spaces.specs.Picture.{blocks_in, picture_of}
+use Rattle.host_map.specs.Picture.{blocks_in}
+use Rattle.host_spaces.specs.Picture.{picture_of}
 use Rattle.host_shared.proofs.Lent.{homes_of_all}
 use Rattle.host_table.proofs.Held.{homes_of_held}
 use Rattle.host_moves.proofs.Seen.{words_seen, words_at_rest}

@@ -1,4 +1,5 @@
-use Rattle.host_spaces.specs.Picture.{blocks_in, picture_of}
+use Rattle.host_map.specs.Picture.{blocks_in}
+use Rattle.host_spaces.specs.Picture.{picture_of}
 use Rattle.host_moves.proofs.Seen.{words_seen, words_at_rest}
 use Rattle.host_moves.proofs.Homes.{standing_stays}
 use Rattle.host_moves.proofs.OwnMoves.{next_is, region_is, range_is, living_away, can_come_back, told_others, tables_away, room_back, stands_back, kinds_back, words_back, then_same, same_sizes, words_copied}

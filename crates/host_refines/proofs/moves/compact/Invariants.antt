@@ -1,7 +1,8 @@
 use Rattle.std.proofs.Common.{◌≡◌, ℤ, ◌+◌, Option}
 use Rattle.relocate.specs.Packing.{unpacked_count}
-use Rattle.space_blocks.specs.Moves.{spots_of}
-use Rattle.host_spaces.specs.Picture.{blocks_in, picture_of}
+use Rattle.host_map.specs.Moves.{spots_of}
+use Rattle.host_map.specs.Picture.{blocks_in}
+use Rattle.host_spaces.specs.Picture.{picture_of}
 use Rattle.host_table.specs.Table.{TablesOk, ArePoisoned}
 use Rattle.host_moves.specs.Standing.{AreStanding}
 use Rattle.host_spec.specs.State.{State}

@@ -1,5 +1,5 @@
 use Rattle.std.proofs.Common.{◌∙◌, ap, Some}
-use Rattle.scratch_group.specs.Blocks.{count_after}
+use Rattle.host_map.specs.Activity.{count_after}
 use Rattle.host_table.proofs.Housing.{same_blocks, active_words_at}
 use Rattle.host_table.proofs.activity.activate_lent.Goals as goal
 

@@ -3,7 +3,8 @@ use Rattle.std.proofs.lemmas.Option.{same_Some, none-some}
 use Rattle.lifecycle.specs.declared.instance.Inst.TheVariants.{Idling, Running}
 use Rattle.mem_rec.specs.declared.TheConstants.{GROUPS}
 use Rattle.host_shared.specs.Shelves.{once_at}
-use Rattle.host_table.specs.Table.{group_at, group_of, slot_at, slot_active_in, activity_at, woken, instance_of}
+use Rattle.host_table.specs.Table.{group_at, group_of, slot_at, slot_active_in, activity_at, instance_of}
+use Rattle.host_map.specs.Activity.{woken}
 use Rattle.host_table.proofs.Changes.{once_inside, homes_of_slot, read_ok_group, read_there, member_of, slot_in, turned, kept_in_slot, fits_in_slot}
 use Rattle.host_table.proofs.Activities.{same_activity}
 use Rattle.host_table.proofs.Stepping.{Change, ok_in, steps_to, steps_after_step}

@@ -2,7 +2,8 @@ use Rattle.std.proofs.Common.{rules, ◌≡◌, ◌<◌, ℕ, Some, None, length
 use Rattle.std.proofs.lemmas.List.{get_or-set_same}
 use Rattle.std.proofs.lemmas.Option.{same_Some, none-some}
 use Rattle.lifecycle.specs.declared.instance.Inst.TheVariants.{Idling, Running}
-use Rattle.host_table.specs.Table.{slot_at, group_at, slot_active_in, instance_of, activity_at, rested}
+use Rattle.host_table.specs.Table.{slot_at, group_at, slot_active_in, instance_of, activity_at}
+use Rattle.host_map.specs.Activity.{rested}
 use Rattle.host_shared.specs.Shelves.{once_at}
 use Rattle.host_table.proofs.Changes.{homes_of_slot, read_ok_group, read_active, read_alone, read_slot, once_inside, active_inside, turned, fits_in_slot}
 use Rattle.host_table.proofs.Activities.{same_activity}

@@ -1,7 +1,8 @@
 use Rattle.std.proofs.Common.{◌≡◌, ◌<◌, ℕ, Some, None, refl, sym, ◌∙◌, ap, subst}
 use Rattle.std.proofs.lemmas.Option.{none-some}
 use Rattle.mem_rec.specs.declared.TheConstants.{GROUPS}
-use Rattle.host_table.specs.Table.{slot_at, group_at, group_of, slot_active_in, activity_at, woken}
+use Rattle.host_table.specs.Table.{slot_at, group_at, group_of, slot_active_in, activity_at}
+use Rattle.host_map.specs.Activity.{woken}
 use Rattle.host_table.proofs.Changes.{later_member, member_of, never_active}
 use Rattle.host_table.proofs.Activities.{same_group_of, not_active, none_active_after, activity_after_activation}
 use Rattle.host_table.proofs.Housing.{lawful_after}

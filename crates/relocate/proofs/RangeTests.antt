@@ -1,7 +1,7 @@
 -- Tests of numbers, and of ranges.
 use Rattle.std.proofs.Common.{◌≡◌, ℕ, ◌<◌, ◌≤◌, ◌⊎◌, Bool, true, false, ◌&&◌, ◌||◌, not, List, [], ◌∷◌, ◌++◌, inl, inr, refl, sym, ◌∙◌}
 use Rattle.std.proofs.lemmas.Bool.{ltb-true, leb-true, lt-ltb, le-leb}
-use Rattle.space_heap.specs.Places.{Range, covers, end_of, is_covered, meets}
+use Rattle.relocate.specs.Places.{Range, covers, end_of, is_covered, meets}
 
 pub either : {A B X : Type 0} → A ⊎ B → (A → X) → (B → X) → X
 either (inl a) f g = f a

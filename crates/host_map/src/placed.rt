@@ -1,5 +1,5 @@
 //! Blocks as a map shows them.
-ghost use Rattle.space_blocks.specs.Moves.{spot_of};
+ghost use Rattle.host_map.specs.Moves.{spot_of};
 
 use relocate::{Spot, Standing};
 

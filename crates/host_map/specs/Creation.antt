@@ -5,14 +5,14 @@ use Rattle.mem_rec.specs.declared.MemRec.{MemRec}
 use Rattle.mem_rec.specs.declared.Space.{Space}
 use Rattle.mem_rec.specs.Records.{is_scratch}
 use Rattle.mem_rec.specs.Layout.{scratch_need, scratch_align}
-use Rattle.space_heap.specs.Places.{placed_size}
-use Rattle.space_blocks.specs.declared.placed.Owner.{Owner}
-use Rattle.space_blocks.specs.declared.placed.Owner.TheVariants.{Record, Scratch}
-use Rattle.space_blocks.specs.declared.placed.Placed.{Placed}
-use Rattle.space_blocks.specs.Blocks.{without_at}
-use Rattle.host_spaces.specs.declared.spaces.Sizes.{Sizes}
-use Rattle.host_spaces.specs.declared.wants.Wanted.{Wanted}
-use Rattle.host_spaces.specs.Picture.{Picture, all_spaces, blocks_in, each_space, group_block, is_group's, is_instance's, place_in, put_block, renamed, without_owners}
+use Rattle.relocate.specs.Places.{placed_size}
+use Rattle.host_map.specs.declared.placed.Owner.{Owner}
+use Rattle.host_map.specs.declared.placed.Owner.TheVariants.{Record, Scratch}
+use Rattle.host_map.specs.declared.placed.Placed.{Placed}
+use Rattle.host_map.specs.Blocks.{without_at}
+use Rattle.host_map.specs.declared.parts.Sizes.{Sizes}
+use Rattle.host_map.specs.declared.parts.Wanted.{Wanted}
+use Rattle.host_map.specs.Picture.{Picture, all_spaces, blocks_in, each_space, group_block, is_group's, is_instance's, place_in, put_block, renamed, without_owners}
 
 -- a list of twins by the numbers of records
 abbrev pub twin_at : List (Option ℕ) → ℕ → Option ℕ

@@ -1,6 +1,6 @@
 //! The limits of spaces and blocks, in words of 16 bits.
 ghost use Rattle.std.specs.Prelude.{IsTrue, ◌↔◌};
-ghost use Rattle.space_heap.specs.Pictures.{IsSpaceSize};
+ghost use Rattle.relocate.specs.Places.{IsSpaceSize};
 
 use mem_rec::{GREATEST_ALIGNMENT, LEAST_ALIGNMENT, RECORD_WORDS, SCRATCH_RECORDS};
 

@@ -1,8 +1,9 @@
 -- Ranges of a space, and where a block is placed among those that are taken.
-use Rattle.std.specs.Prelude.{ℕ, ◌+◌, ◌*◌, ◌/◌, Bool, ◌&&◌, not, List, map, Option, find, fold, max, min, nat_lt, nat_le, if◌then◌else◌}
+use Rattle.std.specs.Prelude.{ℕ, ◌+◌, ◌*◌, ◌/◌, Bool, ◌&&◌, not, List, map, Option, find, fold, max, min, nat_lt, nat_le, if◌then◌else◌, ◌≡◌, ◌%◌, ◌<◌, ◌≤◌}
 use Rattle.std.specs.List.{list_any, range_with_len}
 use Rattle.std.specs.Int.{next_multiple_of}
-use Rattle.mem_rec.specs.declared.TheConstants.{LEAST_ALIGNMENT}
+use Rattle.mem_rec.specs.declared.TheConstants.{LEAST_ALIGNMENT, GREATEST_ALIGNMENT}
+use Rattle.relocate.specs.declared.limits.TheConstants.{SPACE_WORDS}
 
 -- so many words of a space, from a place on
 pub record Range : Type 0 where
@@ -51,3 +52,11 @@ free_from taken place = fold (λ start r. if nat_le (end_of r) place then max st
 -- the least multiple of the alignment in that free range, or the place itself
 abbrev pub lower_place : List Range → ℕ → ℕ → ℕ
 lower_place taken place align = min place (next_multiple_of (free_from taken place) align)
+
+-- a space may have so many words
+abbrev pub IsSpaceSize : ℕ → Type 0
+IsSpaceSize words = (words ≤ SPACE_WORDS) × (words % LEAST_ALIGNMENT ≡ 0)
+
+-- every power of two from 4 to 1,024 is one
+abbrev pub IsAlignment : ℕ → Type 0
+IsAlignment align = (0 < align) × (align ≤ GREATEST_ALIGNMENT) × (align % LEAST_ALIGNMENT ≡ 0)
