@@ -1,13 +1,14 @@
 //! A creation, as the machine's.
 ghost use Rattle.std.specs.Prelude.{◌≡◌, ◌<◌, ℤ, length, Option, Some, IsTrue, IfSome, OnErr, is_some};
 ghost use Rattle.ialg.specs.Records.{unplaced};
-ghost use Rattle.host_table.specs.Table.{slot_at, TablesOk, ArePoisoned};
-ghost use Rattle.host_moves.specs.Standing.{AreStanding};
+ghost use Rattle.host_table.specs.Table.{slot_at, ArePoisoned};
 ghost use Rattle.host_spec.specs.State.{State};
 ghost use Rattle.host_spec.specs.Choices.{MayAsk};
 ghost use Rattle.host_spec.specs.Calls.{Does};
 ghost use Rattle.host_spec.specs.Calls.Call.{Create};
-ghost use Rattle.host_refines.specs.Hosts.{HostKeeps};
+ghost use Rattle.host_table.specs.Steps.{AreConsistent, laws};
+ghost use Rattle.host_moves.specs.Standing.{MapAgrees};
+ghost use Rattle.host_refines.specs.Hosts.{Refines};
 
 use crate::starting::start_in_spaces;
 use host_spaces::Spaces;
@@ -42,17 +43,17 @@ pub fn create<M: Ialg>(
     group: u8,
     p: &Params,
 ) -> Result<(), Refusal>
-    requires ok { TablesOk tables.old.slots tables.old.once tables.old.groups }
-    requires standing { AreStanding tables.old.slots tables.old.once tables.old.groups spaces.old }
+    requires ok { AreConsistent tables.old }
+    requires standing { MapAgrees tables.old spaces.old }
     requires poisoned { ArePoisoned poison tables.old.groups }
-    ensures ok { TablesOk tables.new.slots tables.new.once tables.new.groups }
-    ensures standing { AreStanding tables.new.slots tables.new.once tables.new.groups spaces.new }
+    ensures ok { AreConsistent tables.new }
+    ensures standing { MapAgrees tables.new spaces.new }
     ensures poisoned { ArePoisoned poison tables.new.groups }
     ensures refused { OnErr result ((tables.new ≡ tables.old) × (spaces.new ≡ spaces.old)) }
     ensures machine { (before : State M) → before.poison ≡ poison
-        → HostKeeps M.meaning M.idle_keeps M.active_keeps tables.old.slots tables.old.once tables.old.groups spaces.old before
+        → Refines (laws M.meaning M.idle_keeps M.active_keeps) tables.old spaces.old before
         → (after : State M) × Does M.meaning before (Create i kind group p.now.items result) after
-        × HostKeeps M.meaning M.idle_keeps M.active_keeps tables.new.slots tables.new.once tables.new.groups spaces.new after }
+        × Refines (laws M.meaning M.idle_keeps M.active_keeps) tables.new spaces.new after }
 {
     creations_answer_in_order::<M>();
     let asked = asked_for(kind, p);

@@ -7,9 +7,8 @@ ghost use Rattle.ialg.specs.Records.{ArePoison};
 ghost use Rattle.record_loans.specs.Blocks.{block_words};
 ghost use Rattle.lifecycle.specs.Rooms.{NoNeed};
 ghost use Rattle.mem_rec.specs.declared.TheConstants.{GROUPS};
-ghost use Rattle.host_table.specs.Table.{group_at, activity_at, TablesOk, TablesTold, ArePoisoned};
-ghost use Rattle.host_table.specs.Keeps.{Keeps};
-ghost use Rattle.host_table.specs.Frames.{InactiveGroupsStay, SameMembers};
+ghost use Rattle.host_table.specs.Table.{group_at, activity_at, TablesTold, ArePoisoned};
+ghost use Rattle.host_table.specs.Frames.{InactiveGroupsStay};
 ghost use Rattle.host_map.specs.declared.placed.Owner.{Owner};
 ghost use Rattle.host_map.specs.declared.placed.Owner.TheVariants.{Scratch};
 ghost use Rattle.host_map.specs.Blocks.{owned};
@@ -20,6 +19,7 @@ ghost use Rattle.host_spaces.specs.Wants.{block_need};
 ghost use Rattle.host_moves.specs.Standing.{SameInstances};
 ghost use Rattle.host_create.specs.Blocks.{replaced_in, replaced_pieces};
 ghost use Rattle.host_create.specs.Growth.{ArePlaced, AreGrown, activity_grown};
+ghost use Rattle.host_table.specs.Steps.{AreConsistent, MembersStay, AreKept, laws};
 
 use crate::blocks::{put_new_blocks, replaces_any};
 use host_life::tell_members;
@@ -40,15 +40,15 @@ fn replaces_in(groups: &Vec<Group>, g: u8, blocks: &NewBlocks) -> bool
 /// Deactivates the active member of the group, if there is one, where a block is replaced.
 fn rest_where<M: Ialg>(tables: &mut Tables<M>, poison: Option<i16>, g: u8, replaced: bool)
     requires range { g < GROUPS }
-    requires ok { TablesOk tables.old.slots tables.old.once tables.old.groups }
+    requires ok { AreConsistent tables.old }
     requires poisoned { ArePoisoned poison tables.old.groups }
-    ensures ok { TablesOk tables.new.slots tables.new.once tables.new.groups }
+    ensures ok { AreConsistent tables.new }
     ensures poisoned { ArePoisoned poison tables.new.groups }
     ensures idle { replaced ≡ true → (group_at tables.new.groups g).active ≡ None }
-    ensures same { SameMembers tables.old.slots tables.old.once tables.old.groups tables.new.slots tables.new.once tables.new.groups }
+    ensures same { MembersStay tables.old tables.new }
     ensures activity { (k : ℕ) → activity_at tables.new.groups k ≡ activity_grown replaced tables.old.groups g k }
-    ensures keeps { (histories : ℕ → History) → Keeps M.meaning M.idle_keeps M.active_keeps poison tables.old.slots tables.old.once tables.old.groups histories
-        → Keeps M.meaning M.idle_keeps M.active_keeps poison tables.new.slots tables.new.once tables.new.groups histories }
+    ensures keeps { (histories : ℕ → History) → AreKept (laws M.meaning M.idle_keeps M.active_keeps) poison tables.old histories
+        → AreKept (laws M.meaning M.idle_keeps M.active_keeps) poison tables.new histories }
 {
     if replaced {
         let _was_active = tables.deactivate_in(poison, g);
@@ -59,13 +59,13 @@ fn rest_where<M: Ialg>(tables: &mut Tables<M>, poison: Option<i16>, g: u8, repla
 fn tell_where<M: Ialg>(tables: &mut Tables<M>, g: u8, replaced: bool)
     requires range { g < GROUPS }
     requires told { replaced ≡ true → TablesTold g 0 tables.old.slots tables.old.once tables.old.groups }
-    requires ok { replaced ≡ false → TablesOk tables.old.slots tables.old.once tables.old.groups }
-    ensures ok { TablesOk tables.new.slots tables.new.once tables.new.groups }
+    requires ok { replaced ≡ false → AreConsistent tables.old }
+    ensures ok { AreConsistent tables.new }
     ensures inactive { InactiveGroupsStay tables.old.groups tables.new.groups }
-    ensures same { SameMembers tables.old.slots tables.old.once tables.old.groups tables.new.slots tables.new.once tables.new.groups }
+    ensures same { MembersStay tables.old tables.new }
     ensures activity { (k : ℕ) → activity_at tables.new.groups k ≡ activity_at tables.old.groups k }
-    ensures keeps { (w : Option ℤ) (histories : ℕ → History) → Keeps M.meaning M.idle_keeps M.active_keeps w tables.old.slots tables.old.once tables.old.groups histories
-        → Keeps M.meaning M.idle_keeps M.active_keeps w tables.new.slots tables.new.once tables.new.groups histories }
+    ensures keeps { (w : Option ℤ) (histories : ℕ → History) → AreKept (laws M.meaning M.idle_keeps M.active_keeps) w tables.old histories
+        → AreKept (laws M.meaning M.idle_keeps M.active_keeps) w tables.new histories }
 {
     if replaced {
         tell_members(&mut tables.slots, &mut tables.once, &mut tables.groups, g);
@@ -82,11 +82,11 @@ pub fn grow<M: Ialg>(
     blocks: NewBlocks,
 )
     requires range { g < GROUPS }
-    requires ok { TablesOk tables.old.slots tables.old.once tables.old.groups }
+    requires ok { AreConsistent tables.old }
     requires poisoned { ArePoisoned poison tables.old.groups }
     requires placed { ArePlaced g blocks tables.old.slots tables.old.once tables.old.groups spaces.old }
     requires words { (space : Space) → ArePoison poison (block_words (new_block blocks space)) }
-    ensures ok { TablesOk tables.new.slots tables.new.once tables.new.groups }
+    ensures ok { AreConsistent tables.new }
     ensures poisoned { ArePoisoned poison tables.new.groups }
     ensures grown { AreGrown g tables.new.slots tables.new.once tables.new.groups spaces.new }
     ensures need { (rs : List MemRec) → ((space : Space) → IsNeeded (space_in spaces.old space).region (block_need rs (group_at tables.old.groups g) space) (new_block blocks space))
@@ -96,8 +96,8 @@ pub fn grow<M: Ialg>(
     ensures picture { picture_of spaces.new ≡ without_pieces (picture_of spaces.old) (replaced_pieces blocks (group_at tables.old.groups g)) }
     ensures others { (o : Owner) (space : Space) → o ≢ Scratch g → owned o (blocks_in (picture_of spaces.new) space) ≡ owned o (blocks_in (picture_of spaces.old) space) }
     ensures stays { AreSameSpaces spaces.old spaces.new }
-    ensures keeps { (histories : ℕ → History) → Keeps M.meaning M.idle_keeps M.active_keeps poison tables.old.slots tables.old.once tables.old.groups histories
-        → Keeps M.meaning M.idle_keeps M.active_keeps poison tables.new.slots tables.new.once tables.new.groups histories }
+    ensures keeps { (histories : ℕ → History) → AreKept (laws M.meaning M.idle_keeps M.active_keeps) poison tables.old histories
+        → AreKept (laws M.meaning M.idle_keeps M.active_keeps) poison tables.new histories }
 {
     let replaced = replaces_in(&tables.groups, g, &blocks);
     rest_where(tables, poison, g, replaced);

@@ -5,11 +5,11 @@ ghost use Rattle.mem_rec.specs.declared.TheConstants.{TABLE_RECORDS, INSTANCES, 
 ghost use Rattle.ialg.specs.History.{History};
 ghost use Rattle.ialg.specs.Records.{unplaced, AreNew};
 ghost use Rattle.scratch_group.specs.Words.{idle_words};
-ghost use Rattle.host_table.specs.Table.{slot_at, group_at, activity_at, TablesOk, ArePoisoned};
+ghost use Rattle.host_table.specs.Table.{slot_at, group_at, activity_at, ArePoisoned};
 ghost use Rattle.host_map.specs.Twins.{asked, twin_of};
 ghost use Rattle.host_life.specs.Twins.{asked_by, AreTwins};
 ghost use Rattle.host_shared.specs.Joining.{twin_at};
-ghost use Rattle.host_table.specs.Keeps.{Keeps, with_history};
+ghost use Rattle.host_table.specs.Keeps.{with_history};
 ghost use Rattle.host_map.specs.declared.TheConstants.{SPACE_BLOCKS};
 ghost use Rattle.host_map.specs.declared.placed.Owner.{Owner};
 ghost use Rattle.host_map.specs.declared.placed.Owner.TheVariants.{Record, Scratch};
@@ -19,9 +19,10 @@ ghost use Rattle.host_spaces.specs.Picture.{AreSameSpaces, picture_of, sizes_of,
 ghost use Rattle.host_map.specs.Picture.{blocks_in, renamed};
 ghost use Rattle.host_spaces.specs.Pieces.{ArePlacedPieces, AreSharable, HasBlocks, HasRecords, IsNeeded, IsPoisoned, new_block, with_new};
 ghost use Rattle.host_spaces.specs.Wants.{block_need};
-ghost use Rattle.host_moves.specs.Standing.{AreStanding};
 ghost use Rattle.host_create.specs.Growth.{AreGrown, activity_grown};
 ghost use Rattle.host_create.specs.Started.{IsNewborn, IsPlaced, OthersAreSame};
+ghost use Rattle.host_table.specs.Steps.{AreConsistent, AreKept, laws};
+ghost use Rattle.host_moves.specs.Standing.{MapAgrees};
 
 use crate::growth::grow;
 use host_life::{find_twins, start};
@@ -89,14 +90,14 @@ fn begin<M: Ialg>(
     requires number { i < INSTANCES }
     requires group { g < GROUPS }
     requires empty { slot_at tables.old.slots i ≡ None }
-    requires ok { TablesOk tables.old.slots tables.old.once tables.old.groups }
+    requires ok { AreConsistent tables.old }
     requires grown { AreGrown g tables.old.slots tables.old.once tables.old.groups spaces.old }
     requires twins { AreTwins M.meaning.same tables.old.slots (asked kind params.items table) twins }
     requires placed { IsPlaced spaces.old i (twin_at twins) table own shared (group_at tables.old.groups g) }
     requires gone { (j k : ℕ) (space : Space) → slot_at tables.old.slots j ≡ None → j ≢ i → owned (Record j k) (blocks_in (picture_of spaces.old) space) ≡ [] }
     ensures groups { tables.new.groups ≡ tables.old.groups }
-    ensures ok { TablesOk tables.new.slots tables.new.once tables.new.groups }
-    ensures standing { AreStanding tables.new.slots tables.new.once tables.new.groups spaces.new }
+    ensures ok { AreConsistent tables.new }
+    ensures standing { MapAgrees tables.new spaces.new }
     ensures others { (j : ℕ) → j ≢ i → slot_at tables.new.slots j ≡ slot_at tables.old.slots j }
     ensures newborn { IsNewborn g kind params.items table (slot_at tables.new.slots i) }
     ensures picture { picture_of spaces.new ≡ renamed (taken_over (twin_at twins) i) (picture_of spaces.old) }
@@ -104,8 +105,8 @@ fn begin<M: Ialg>(
     ensures keeps { (w : Option ℤ) (histories : ℕ → History)
         → (IsTrue (M.meaning.lawful kind params.items w) → M.meaning.table kind params.items ≡ Some (unplaced table))
         → AreNew w (M.meaning.fill kind params.items) table (idle_words table own shared)
-        → Keeps M.meaning M.idle_keeps M.active_keeps w tables.old.slots tables.old.once tables.old.groups histories
-        → Keeps M.meaning M.idle_keeps M.active_keeps w tables.new.slots tables.new.once tables.new.groups (with_history histories i []) }
+        → AreKept (laws M.meaning M.idle_keeps M.active_keeps) w tables.old histories
+        → AreKept (laws M.meaning M.idle_keeps M.active_keeps) w tables.new (with_history histories i []) }
 {
     let list = listed(&twins);
     spaces.take_over(i, &list);
@@ -129,11 +130,11 @@ pub fn start_in_spaces<M: Ialg>(
     requires number { i < INSTANCES }
     requires group { g < GROUPS }
     requires empty { slot_at tables.old.slots i ≡ None }
-    requires ok { TablesOk tables.old.slots tables.old.once tables.old.groups }
-    requires standing { AreStanding tables.old.slots tables.old.once tables.old.groups spaces.old }
+    requires ok { AreConsistent tables.old }
+    requires standing { MapAgrees tables.old spaces.old }
     requires poisoned { ArePoisoned poison tables.old.groups }
-    ensures ok { TablesOk tables.new.slots tables.new.once tables.new.groups }
-    ensures standing { AreStanding tables.new.slots tables.new.once tables.new.groups spaces.new }
+    ensures ok { AreConsistent tables.new }
+    ensures standing { MapAgrees tables.new spaces.new }
     ensures poisoned { ArePoisoned poison tables.new.groups }
     ensures exact { created_picture (sizes_of spaces.old) (picture_of spaces.old) i g table (twin_of M.meaning.same (λ j. asked_by (slot_at tables.old.slots j)) (asked kind params.items table))
         ≡ result_map (λ _. picture_of spaces.new) result }
@@ -144,8 +145,8 @@ pub fn start_in_spaces<M: Ialg>(
     ensures activity { OnOk result ((k : ℕ) → activity_at tables.new.groups k ≡ activity_grown (replaces (picture_of spaces.old) g table) tables.old.groups g k) }
     ensures keeps { OnOk result ((histories : ℕ → History)
         → (IsTrue (M.meaning.lawful kind params.items poison) → M.meaning.table kind params.items ≡ Some (unplaced table))
-        → Keeps M.meaning M.idle_keeps M.active_keeps poison tables.old.slots tables.old.once tables.old.groups histories
-        → Keeps M.meaning M.idle_keeps M.active_keeps poison tables.new.slots tables.new.once tables.new.groups (with_history histories i [])) }
+        → AreKept (laws M.meaning M.idle_keeps M.active_keeps) poison tables.old histories
+        → AreKept (laws M.meaning M.idle_keeps M.active_keeps) poison tables.new (with_history histories i [])) }
 {
     maps_have_room::<M>();
     blocks_are_few();

@@ -1,11 +1,12 @@
 //! Deletions, as the machine's.
 ghost use Rattle.std.specs.Prelude.{◌≡◌, ◌≢◌, ◌<◌, ℕ, length, None, OnErr, is_some};
-ghost use Rattle.host_table.specs.Table.{slot_at, TablesOk, ArePoisoned};
+ghost use Rattle.host_table.specs.Table.{slot_at, ArePoisoned};
 ghost use Rattle.host_spec.specs.State.{State};
 ghost use Rattle.host_spec.specs.Calls.{Does};
 ghost use Rattle.host_spec.specs.Calls.Call.{Delete};
-ghost use Rattle.host_moves.specs.Standing.{AreStanding, SlotIsSame};
-ghost use Rattle.host_refines.specs.Hosts.{HostKeeps};
+ghost use Rattle.host_moves.specs.Standing.{SlotIsSame, MapAgrees};
+ghost use Rattle.host_table.specs.Steps.{AreConsistent, laws};
+ghost use Rattle.host_refines.specs.Hosts.{Refines};
 
 use crate::ends::end_instance;
 use host_spaces::Spaces;
@@ -21,19 +22,19 @@ pub fn delete<M: Ialg>(
     poison: Option<i16>,
     i: u8,
 ) -> Result<(), Refusal>
-    requires ok { TablesOk tables.old.slots tables.old.once tables.old.groups }
-    requires standing { AreStanding tables.old.slots tables.old.once tables.old.groups spaces.old }
+    requires ok { AreConsistent tables.old }
+    requires standing { MapAgrees tables.old spaces.old }
     requires poisoned { ArePoisoned poison tables.old.groups }
-    ensures ok { TablesOk tables.new.slots tables.new.once tables.new.groups }
-    ensures standing { AreStanding tables.new.slots tables.new.once tables.new.groups spaces.new }
+    ensures ok { AreConsistent tables.new }
+    ensures standing { MapAgrees tables.new spaces.new }
     ensures poisoned { ArePoisoned poison tables.new.groups }
     ensures gone { slot_at tables.new.slots i ≡ None }
     ensures others { (j : ℕ) → j ≢ i → SlotIsSame (slot_at tables.old.slots j) (slot_at tables.new.slots j) }
     ensures refused { OnErr result ((tables.new ≡ tables.old) × (spaces.new ≡ spaces.old)) }
     ensures machine { (before : State M) → before.poison ≡ poison
-        → HostKeeps M.meaning M.idle_keeps M.active_keeps tables.old.slots tables.old.once tables.old.groups spaces.old before
+        → Refines (laws M.meaning M.idle_keeps M.active_keeps) tables.old spaces.old before
         → (after : State M) × Does M.meaning before (Delete i result) after
-        × HostKeeps M.meaning M.idle_keeps M.active_keeps tables.new.slots tables.new.once tables.new.groups spaces.new after }
+        × Refines (laws M.meaning M.idle_keeps M.active_keeps) tables.new spaces.new after }
 {
     if usize::from(i) >= INSTANCES {
         return Err(Refusal::Range);

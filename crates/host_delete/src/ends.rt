@@ -1,8 +1,9 @@
 //! The end of an instance.
 ghost use Rattle.std.specs.Prelude.{IsSome};
-ghost use Rattle.host_table.specs.Table.{slot_at, TablesOk, ArePoisoned};
-ghost use Rattle.host_moves.specs.Standing.{AreStanding};
+ghost use Rattle.host_table.specs.Table.{slot_at, ArePoisoned};
 ghost use Rattle.host_delete.specs.Ends.{HasEnded};
+ghost use Rattle.host_table.specs.Steps.{AreConsistent};
+ghost use Rattle.host_moves.specs.Standing.{MapAgrees};
 
 use crate::leaving::{give_blocks, give_records};
 use crate::members::{group_number, members_left};
@@ -19,8 +20,8 @@ pub fn end_instance<M: Ialg>(
     i: u8,
 )
     requires living { IsSome (slot_at tables.old.slots i) }
-    requires ok { TablesOk tables.old.slots tables.old.once tables.old.groups }
-    requires standing { AreStanding tables.old.slots tables.old.once tables.old.groups spaces.old }
+    requires ok { AreConsistent tables.old }
+    requires standing { MapAgrees tables.old spaces.old }
     requires poisoned { ArePoisoned poison tables.old.groups }
     ensures { HasEnded M.meaning M.idle_keeps M.active_keeps poison i tables.old.slots tables.old.once tables.old.groups spaces.old
         tables.new.slots tables.new.once tables.new.groups spaces.new }

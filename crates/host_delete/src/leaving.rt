@@ -14,9 +14,10 @@ ghost use Rattle.host_map.specs.Creation.{handed_on, twin_at};
 ghost use Rattle.host_spaces.specs.Picture.{AreSameSpaces, picture_of};
 ghost use Rattle.host_map.specs.Picture.{is_group's, is_instance's, renamed, without_owners};
 ghost use Rattle.host_spaces.specs.Pieces.{old_piece};
-ghost use Rattle.host_moves.specs.Standing.{AreStanding, SlotIsSame};
+ghost use Rattle.host_moves.specs.Standing.{AreStanding, SlotIsSame, MapAgrees};
 ghost use Rattle.host_delete.specs.Ends.{twins_among};
 ghost use Rattle.host_delete.specs.Leaving.{AreStandingBut};
+ghost use Rattle.host_table.specs.Steps.{AreConsistent, AreKept, laws};
 
 use crate::members::table_copied;
 use host_life::end;
@@ -51,10 +52,10 @@ pub(crate) fn give_records<M: Ialg>(
     i: u8,
 )
     requires living { IsSome (slot_at tables.old.slots i) }
-    requires ok { TablesOk tables.old.slots tables.old.once tables.old.groups }
-    requires standing { AreStanding tables.old.slots tables.old.once tables.old.groups spaces.old }
+    requires ok { AreConsistent tables.old }
+    requires standing { MapAgrees tables.old spaces.old }
     requires poisoned { ArePoisoned poison tables.old.groups }
-    ensures ok { TablesOk tables.new.slots tables.new.once tables.new.groups }
+    ensures ok { AreConsistent tables.new }
     ensures standing { AreStandingBut (group_of (slot_at tables.old.slots i)) tables.new.slots tables.new.once tables.new.groups spaces.new }
     ensures poisoned { ArePoisoned poison tables.new.groups }
     ensures gone { slot_at tables.new.slots i ≡ None }
@@ -63,8 +64,8 @@ pub(crate) fn give_records<M: Ialg>(
     ensures picture { picture_of spaces.new ≡ without_owners (is_instance's i)
         (renamed (handed_on (twins_among M.meaning.same tables.new.slots (asked_by (slot_at tables.old.slots i))) i) (picture_of spaces.old)) }
     ensures spaces { AreSameSpaces spaces.old spaces.new }
-    ensures keeps { (histories : ℕ → History) → Keeps M.meaning M.idle_keeps M.active_keeps poison tables.old.slots tables.old.once tables.old.groups histories
-        → Keeps M.meaning M.idle_keeps M.active_keeps poison tables.new.slots tables.new.once tables.new.groups histories }
+    ensures keeps { (histories : ℕ → History) → AreKept (laws M.meaning M.idle_keeps M.active_keeps) poison tables.old histories
+        → AreKept (laws M.meaning M.idle_keeps M.active_keeps) poison tables.new histories }
 {
     let table = table_copied(&tables.slots, i);
     let next = next_holders(&tables.once, i);

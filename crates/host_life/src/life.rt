@@ -11,12 +11,12 @@ ghost use Rattle.host_table.specs.declared.member.Member.{Member};
 ghost use Rattle.host_shared.specs.Shelves.{stand_at, shelf_at, home_of, once_at, no_pieces};
 ghost use Rattle.host_shared.specs.Homes.{IsSameStand};
 ghost use Rattle.host_shared.specs.Holders.{left_with, next_holder, stand_without, AreLeast};
-ghost use Rattle.host_table.specs.Table.{slot_at, group_at, own_of, instance_of, active_in, activity_at, quieted_by, TablesOk};
+ghost use Rattle.host_table.specs.Table.{slot_at, group_at, own_of, instance_of, active_in, activity_at, quieted_by};
 ghost use Rattle.host_map.specs.Twins.{asked, twin_of};
 ghost use Rattle.host_life.specs.Twins.{asked_by, AreTwins, AreTogether};
 ghost use Rattle.host_shared.specs.Joining.{twin_at, stand_joined, pieces_joined};
 ghost use Rattle.host_table.specs.Keeps.{with_history};
-ghost use Rattle.host_table.specs.Steps.{laws, Ready, AreKept};
+ghost use Rattle.host_table.specs.Steps.{laws, Ready, AreKept, AreConsistent};
 ghost use Rattle.host_table.specs.Frames.{OthersStay, OthersSame, IsStarted};
 
 use host_shared::{Twins, hand_on, join, put_seen, take_seen};
@@ -44,13 +44,13 @@ pub fn start<M: Ialg>(
     requires group { g < GROUPS }
     requires empty { slot_at tables.old.slots i ≡ None }
     requires none { once_at tables.old.once i ≡ no_pieces }
-    requires ok { TablesOk tables.old.slots tables.old.once tables.old.groups }
+    requires ok { AreConsistent tables.old }
     requires least { AreLeast tables.old.once }
     requires together { AreTogether tables.old.slots tables.old.once }
     requires twins { AreTwins M.meaning.same tables.old.slots (asked kind params.items table) twins }
     requires placed { (k : ℕ) → IsSome (twin_at twins k) → piece_at shared k ≡ None }
     requires fits { HasRoom (record { kind = kind; params = params; table = table; own = own }) (pieces_joined tables.old.once twins shared) (group_at tables.old.groups g) }
-    ensures ok { TablesOk tables.new.slots tables.new.once tables.new.groups }
+    ensures ok { AreConsistent tables.new }
     ensures groups { tables.new.groups ≡ tables.old.groups }
     ensures others { OthersStay i tables.old.slots tables.old.once tables.new.slots tables.new.once }
     ensures stands { (j k : ℕ) → IsSameStand (stand_joined tables.old.once i k (twin_at twins k) (piece_at shared k) j) (stand_at (shelf_at tables.new.once j) k) }

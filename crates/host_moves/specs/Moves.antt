@@ -11,6 +11,8 @@ use Rattle.host_table.specs.declared.member.Member.{Member}
 use Rattle.host_shared.specs.declared.shelves.Shelf.{Shelf}
 use Rattle.host_table.specs.Table.{TablesOk, group_at, activity_at}
 use Rattle.host_table.specs.Keeps.{Keeps}
+use Rattle.host_table.specs.View.{View}
+use Rattle.host_table.specs.Steps.{Laws}
 use Rattle.host_map.specs.declared.placed.Owner.{Owner}
 use Rattle.host_map.specs.declared.placed.Placed.{Placed}
 use Rattle.host_map.specs.Moves.{next_block}
@@ -42,3 +44,8 @@ pub record HasMoved {M : Type 0} (meaning : Meaning M) (idle_keeps active_keeps 
   pub copied : (b : Placed) → next_block (blocks_in (picture_of spaces) space) ≡ Some b → copied_in spaces' ≡ min (copied_in spaces + b.size) (2 ^ 64 - 1)
   pub keeps : (w : Option ℤ) (histories : ℕ → History) → Keeps meaning idle_keeps active_keeps w slots once groups histories
       → Keeps meaning idle_keeps active_keeps w slots' once' groups' histories
+
+-- the same, of all that the tables hold
+abbrev pub Moved : {M : Type 0} → Laws M → Space → View M → Spaces → View M → Spaces → Type 0
+Moved laws space old spaces new spaces' =
+    HasMoved laws.meaning laws.idle_keeps laws.active_keeps space old.slots old.once old.groups spaces new.slots new.once new.groups spaces'

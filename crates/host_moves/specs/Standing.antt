@@ -14,6 +14,7 @@ use Rattle.host_table.specs.declared.member.Member.{Member}
 use Rattle.host_shared.specs.declared.shelves.Shelf.{Shelf}
 use Rattle.host_shared.specs.Shelves.{home_of, once_at, no_pieces}
 use Rattle.host_table.specs.Table.{slot_at, group_at, instance_of, is_member_of}
+use Rattle.host_table.specs.View.{View}
 use Rattle.host_shared.specs.Holders.{AreLeast}
 use Rattle.host_life.specs.Twins.{AreTogether}
 use Rattle.host_map.specs.declared.placed.Owner.TheVariants.{Record}
@@ -53,6 +54,10 @@ pub record AreStanding {M : Type 0} (slots : List (Option (Member M))) (once : L
   pub regions : (g : ℕ) (space : Space) → IsOf (space_in spaces space).region (block_piece (block_in (group_at groups g) space))
   -- a group without members has no blocks
   pub unused : (g : ℕ) (space : Space) → ((i : ℕ) → is_member_of g (slot_at slots i) ≡ false) → block_in (group_at groups g) space ≡ None
+
+-- the memory map agrees with the tables
+abbrev pub MapAgrees : {M : Type 0} → View M → Spaces → Type 0
+MapAgrees t spaces = AreStanding t.slots t.once t.groups spaces
 
 -- the blocks of each space are in place order, and no two of them meet
 abbrev pub AreOrdered : Spaces → Type 0

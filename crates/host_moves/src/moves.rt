@@ -2,15 +2,16 @@
 ghost use Rattle.std.specs.Prelude.{◌≡◌, ◌<◌, length, true, false, Some, None, IsSome, is_some};
 ghost use Rattle.record_loans.specs.Pieces.{piece_at};
 ghost use Rattle.mem_rec.specs.declared.TheConstants.{INSTANCES, GROUPS};
-ghost use Rattle.host_table.specs.Table.{slot_at, own_of, TablesOk};
+ghost use Rattle.host_table.specs.Table.{slot_at, own_of};
 ghost use Rattle.host_shared.specs.Shelves.{once_at};
 ghost use Rattle.host_map.specs.declared.placed.Owner.{Owner};
 ghost use Rattle.host_map.specs.declared.placed.Placed.{Placed};
 ghost use Rattle.host_map.specs.Moves.{next_block};
 ghost use Rattle.host_map.specs.Picture.{blocks_in};
 ghost use Rattle.host_spaces.specs.Picture.{picture_of};
-ghost use Rattle.host_moves.specs.Standing.{AreStanding};
-ghost use Rattle.host_moves.specs.Moves.{HasMoved, IsNextOf};
+ghost use Rattle.host_moves.specs.Moves.{IsNextOf, Moved};
+ghost use Rattle.host_table.specs.Steps.{AreConsistent, laws};
+ghost use Rattle.host_moves.specs.Standing.{MapAgrees};
 
 use crate::blocks::{put_block, take_block};
 use crate::order::in_order;
@@ -27,12 +28,11 @@ use space_raw::Piece;
 
 /// Moves a record that an instance has for its own.
 fn move_own<M: Ialg>(tables: &mut Tables<M>, spaces: &mut Spaces, space: Space, i: u8, k: u8)
-    requires ok { TablesOk tables.old.slots tables.old.once tables.old.groups }
-    requires standing { AreStanding tables.old.slots tables.old.once tables.old.groups spaces.old }
+    requires ok { AreConsistent tables.old }
+    requires standing { MapAgrees tables.old spaces.old }
     requires next { IsNextOf spaces.old space (Owner.Record i k) }
     requires own { IsSome (piece_at (own_of (slot_at tables.old.slots i)) k) }
-    ensures { HasMoved M.meaning M.idle_keeps M.active_keeps space tables.old.slots tables.old.once tables.old.groups spaces.old
-        tables.new.slots tables.new.once tables.new.groups spaces.new }
+    ensures { Moved (laws M.meaning M.idle_keeps M.active_keeps) space tables.old spaces.old tables.new spaces.new }
 {
     let piece = take_own(&mut tables.slots, i, k as usize);
     let moved = spaces.make_move(space, piece);
@@ -42,13 +42,12 @@ fn move_own<M: Ialg>(tables: &mut Tables<M>, spaces: &mut Spaces, space: Space, 
 
 /// Moves a write-once record that stands with an instance. All its holders are told.
 fn move_once<M: Ialg>(tables: &mut Tables<M>, spaces: &mut Spaces, space: Space, i: u8, k: u8)
-    requires ok { TablesOk tables.old.slots tables.old.once tables.old.groups }
-    requires standing { AreStanding tables.old.slots tables.old.once tables.old.groups spaces.old }
+    requires ok { AreConsistent tables.old }
+    requires standing { MapAgrees tables.old spaces.old }
     requires next { IsNextOf spaces.old space (Owner.Record i k) }
     requires number { i < length tables.old.once }
     requires shared { IsSome (piece_at (once_at tables.old.once i) k) }
-    ensures { HasMoved M.meaning M.idle_keeps M.active_keeps space tables.old.slots tables.old.once tables.old.groups spaces.old
-        tables.new.slots tables.new.once tables.new.groups spaces.new }
+    ensures { Moved (laws M.meaning M.idle_keeps M.active_keeps) space tables.old spaces.old tables.new spaces.new }
 {
     let piece = take_once(&mut tables.once, i, k as usize);
     let moved = spaces.make_move(space, piece);
@@ -59,13 +58,12 @@ fn move_once<M: Ialg>(tables: &mut Tables<M>, spaces: &mut Spaces, space: Space,
 
 /// Moves the block of a group.
 fn move_block<M: Ialg>(tables: &mut Tables<M>, spaces: &mut Spaces, space: Space, g: u8, align: u32)
-    requires ok { TablesOk tables.old.slots tables.old.once tables.old.groups }
-    requires standing { AreStanding tables.old.slots tables.old.once tables.old.groups spaces.old }
+    requires ok { AreConsistent tables.old }
+    requires standing { MapAgrees tables.old spaces.old }
     requires number { g < GROUPS }
     requires next { IsNextOf spaces.old space (Owner.Scratch g) }
     requires align { (b : Placed) → next_block (blocks_in (picture_of spaces.old) space) ≡ Some b → b.align ≡ align }
-    ensures { HasMoved M.meaning M.idle_keeps M.active_keeps space tables.old.slots tables.old.once tables.old.groups spaces.old
-        tables.new.slots tables.new.once tables.new.groups spaces.new }
+    ensures { Moved (laws M.meaning M.idle_keeps M.active_keeps) space tables.old spaces.old tables.new spaces.new }
 {
     match take_block(&mut tables.groups, g, space) {
         Some(piece) => {
@@ -93,11 +91,10 @@ fn end_none(piece: Option<Piece>)
 /// has words in it is told, in ascending number: its owner, and all that share the record with it, or each member of its group. Says whether
 /// a block moved.
 pub fn make_next_move<M: Ialg>(tables: &mut Tables<M>, spaces: &mut Spaces, space: Space) -> bool
-    requires ok { TablesOk tables.old.slots tables.old.once tables.old.groups }
-    requires standing { AreStanding tables.old.slots tables.old.once tables.old.groups spaces.old }
+    requires ok { AreConsistent tables.old }
+    requires standing { MapAgrees tables.old spaces.old }
     ensures answer { result ≡ is_some (next_block (blocks_in (picture_of spaces.old) space)) }
-    ensures moved { result ≡ true → HasMoved M.meaning M.idle_keeps M.active_keeps space tables.old.slots tables.old.once tables.old.groups spaces.old
-        tables.new.slots tables.new.once tables.new.groups spaces.new }
+    ensures moved { result ≡ true → Moved (laws M.meaning M.idle_keeps M.active_keeps) space tables.old spaces.old tables.new spaces.new }
     ensures packed { result ≡ false → (tables.new ≡ tables.old) × (spaces.new ≡ spaces.old) }
 {
     let Some(block) = spaces.next_move(space) else {

@@ -4,9 +4,9 @@ ghost use Rattle.mem_rec.specs.declared.TheConstants.{TABLE_RECORDS, INSTANCES};
 ghost use Rattle.ialg.specs.History.{History};
 ghost use Rattle.lifecycle.specs.Moves.{restored, CanRestore, with_back, HasRoom};
 ghost use Rattle.host_table.specs.declared.member.Member.{Member};
-ghost use Rattle.host_table.specs.Table.{slot_at, group_at, own_of, instance_of, activity_at, TablesOk};
+ghost use Rattle.host_table.specs.Table.{slot_at, group_at, own_of, instance_of, activity_at};
 ghost use Rattle.host_shared.specs.Shelves.{once_at};
-ghost use Rattle.host_table.specs.Steps.{laws, AreKept};
+ghost use Rattle.host_table.specs.Steps.{laws, AreKept, AreConsistent, MembersStay};
 ghost use Rattle.host_table.specs.Frames.{InactiveGroupsStay, SameMembers};
 ghost use Rattle.host_moves.specs.Waiting.{own_set, all_but, all_from, holds_with, TablesThere, TablesBut, TablesWaiting, TablesWaitingBut};
 
@@ -25,7 +25,7 @@ pub fn tell<M: Ialg>(tables: &mut Tables<M>, i: u8, back: Option<(usize, Piece)>
     requires there { TablesThere tables.old.slots tables.old.once tables.old.groups }
     requires room { (m : Member M) → slot_at tables.old.slots i ≡ Some m
         → HasRoom (with_back (instance_of m.inst) back) (once_at tables.old.once i) (group_at tables.old.groups m.group) }
-    ensures ok { TablesBut i tables.old.slots tables.old.once tables.old.groups → TablesOk tables.new.slots tables.new.once tables.new.groups }
+    ensures ok { TablesBut i tables.old.slots tables.old.once tables.old.groups → AreConsistent tables.new }
     ensures waiting { (waits : ℕ → Bool) → TablesWaitingBut waits i tables.old.slots tables.old.once tables.old.groups
         → TablesWaiting (all_but waits i) tables.new.slots tables.new.once tables.new.groups }
     ensures inactive { InactiveGroupsStay tables.old.groups tables.new.groups }
@@ -63,7 +63,7 @@ fn tell_holder<M: Ialg>(tables: &mut Tables<M>, i: u8, k: usize, j: u8)
     requires waiting { TablesWaiting (all_from (holds_with tables.old.once i k) j) tables.old.slots tables.old.once tables.old.groups }
     ensures waiting { TablesWaiting (all_from (holds_with tables.new.once i k) (j + 1)) tables.new.slots tables.new.once tables.new.groups }
     ensures inactive { InactiveGroupsStay tables.old.groups tables.new.groups }
-    ensures same { SameMembers tables.old.slots tables.old.once tables.old.groups tables.new.slots tables.new.once tables.new.groups }
+    ensures same { MembersStay tables.old tables.new }
     ensures activity { (g : ℕ) → activity_at tables.new.groups g ≡ activity_at tables.old.groups g }
     ensures keeps { (w : Option ℤ) (histories : ℕ → History) → AreKept (laws M.meaning M.idle_keeps M.active_keeps) w tables.old histories
         → AreKept (laws M.meaning M.idle_keeps M.active_keeps) w tables.new histories }
@@ -77,9 +77,9 @@ fn tell_holder<M: Ialg>(tables: &mut Tables<M>, i: u8, k: usize, j: u8)
 pub fn tell_holders<M: Ialg>(tables: &mut Tables<M>, i: u8, k: usize)
     requires record { k < TABLE_RECORDS }
     requires waiting { TablesWaiting (holds_with tables.old.once i k) tables.old.slots tables.old.once tables.old.groups }
-    ensures ok { TablesOk tables.new.slots tables.new.once tables.new.groups }
+    ensures ok { AreConsistent tables.new }
     ensures inactive { InactiveGroupsStay tables.old.groups tables.new.groups }
-    ensures same { SameMembers tables.old.slots tables.old.once tables.old.groups tables.new.slots tables.new.once tables.new.groups }
+    ensures same { MembersStay tables.old tables.new }
     ensures activity { (g : ℕ) → activity_at tables.new.groups g ≡ activity_at tables.old.groups g }
     ensures keeps { (w : Option ℤ) (histories : ℕ → History) → AreKept (laws M.meaning M.idle_keeps M.active_keeps) w tables.old histories
         → AreKept (laws M.meaning M.idle_keeps M.active_keeps) w tables.new histories }

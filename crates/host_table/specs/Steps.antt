@@ -7,7 +7,7 @@ use Rattle.host_table.specs.declared.member.Member.{Member}
 use Rattle.host_table.specs.Table.{slot_at, instance_of, activity_at, TablesOk, ArePoisoned}
 use Rattle.host_map.specs.Activity.{Activity}
 use Rattle.host_table.specs.Keeps.{Keeps, with_history}
-use Rattle.host_table.specs.Frames.{SameTables}
+use Rattle.host_table.specs.Frames.{SameMembers, SameTables}
 use Rattle.host_table.specs.View.{View}
 
 -- what the kinds mean, and what an idle and an active instance of one keeps
@@ -18,6 +18,10 @@ pub record Laws (M : Type 0) : Type 1 where
 
 abbrev pub laws : {M : Type 0} → Meaning M → Relation M → Relation M → Laws M
 laws meaning idle_keeps active_keeps = record { meaning = meaning; idle_keeps = idle_keeps; active_keeps = active_keeps }
+
+-- what holds of the tables between two calls
+abbrev pub AreConsistent : {M : Type 0} → View M → Type 0
+AreConsistent t = TablesOk t.slots t.once t.groups
 
 -- what holds of the tables between two calls, in a host of this poison word or of none
 pub record Ready {M : Type 0} (w : Option ℤ) (t : View M) : Type 0 where
@@ -33,6 +37,10 @@ pub record Stays {M : Type 0} (w : Option ℤ) (old new : View M) : Type 0 where
   pub ok : TablesOk new.slots new.once new.groups
   pub poisoned : ArePoisoned w new.groups
   pub same : SameTables old.slots old.once old.groups new.slots new.once new.groups
+
+-- the same instances and blocks, all at the same places, that may go by other bases
+abbrev pub MembersStay : {M : Type 0} → View M → View M → Type 0
+MembersStay old new = SameMembers old.slots old.once old.groups new.slots new.once new.groups
 
 -- and the groups have these activities, and each instance's history went on so
 pub record Steps {M : Type 0} (laws : Laws M) (w : Option ℤ) (old new : View M) (activities : ℕ → Activity) (goes : (ℕ → History) → ℕ → History) : Type 0 where

@@ -3,9 +3,9 @@ ghost use Rattle.std.specs.Prelude.{◌≡◌, ◌≤◌, ◌++◌, ◌∷◌, �
 ghost use Rattle.ialg.specs.History.{History};
 ghost use Rattle.ialg.specs.Views.{control_of, answer_of};
 ghost use Rattle.lifecycle.specs.States.{Fits, IsLawful, Accepts, status_after};
-ghost use Rattle.host_table.specs.Table.{slot_at, group_of, slot_active_in, instance_of, activity_at, touched_by, TablesOk, ArePoisoned};
+ghost use Rattle.host_table.specs.Table.{slot_at, group_of, slot_active_in, instance_of, activity_at, touched_by, ArePoisoned};
 ghost use Rattle.host_map.specs.Activity.{with_activity, woken};
-ghost use Rattle.host_table.specs.Steps.{laws, Ready, AreKept, Stays, Steps, given, controlled, GivesOut, AnswersTo};
+ghost use Rattle.host_table.specs.Steps.{laws, Ready, AreKept, Stays, Steps, given, controlled, GivesOut, AnswersTo, AreConsistent};
 ghost use Rattle.host_table.specs.Turns.{CanBeLent, ActivatedAndRan, Ran};
 ghost use Rattle.host_shared.specs.Shelves.{once_at};
 ghost use Rattle.host_shared.specs.Homes.{with_seen};
@@ -143,7 +143,7 @@ impl<M: Ialg> Tables<M> {
     /// Gives the active instance a block of samples.
     fn run(&mut self, i: u8, input: &[i16], out: &mut Block)
         requires active { slot_active_in (slot_at self.old.slots i) ≡ Some (group_of (slot_at self.old.slots i)) }
-        requires ok { TablesOk self.old.slots self.old.once self.old.groups }
+        requires ok { AreConsistent self.old }
         requires empty { out.old.items ≡ [] }
         requires some { 1 ≤ length input.now }
         requires within { length input.now ≤ BLOCK_SAMPLES }
@@ -171,7 +171,7 @@ impl<M: Ialg> Tables<M> {
         requires group { g ≡ group_of (slot_at self.old.slots i) }
         requires idle { slot_active_in (slot_at self.old.slots i) ≡ None }
         requires resting { (activity_at self.old.groups g).active ≡ None }
-        requires ok { TablesOk self.old.slots self.old.once self.old.groups }
+        requires ok { AreConsistent self.old }
         requires empty { out.old.items ≡ [] }
         requires some { 1 ≤ length input.now }
         requires within { length input.now ≤ BLOCK_SAMPLES }
@@ -202,7 +202,7 @@ impl<M: Ialg> Tables<M> {
     /// Gives the active instance a control that it accepts.
     fn control_active(&mut self, i: u8, c: &Ctl) -> Status
         requires active { slot_active_in (slot_at self.old.slots i) ≡ Some (group_of (slot_at self.old.slots i)) }
-        requires ok { TablesOk self.old.slots self.old.once self.old.groups }
+        requires ok { AreConsistent self.old }
         ensures step { (w : Option ℤ) (m : Member M) → slot_at self.old.slots i ≡ Some m → ArePoisoned w self.old.groups
             → (IsLawful M.meaning (instance_of m.inst) w → Accepts M.meaning (instance_of m.inst) (control_of c.now))
             → Steps (laws M.meaning M.idle_keeps M.active_keeps) w self.old self.new (activity_at self.old.groups) (controlled i (control_of c.now)) }
