@@ -44,7 +44,17 @@ impl<M: Ialg> Host<M> {
         ensures empty { IfOk result (λ h. (i : ℕ) → lives h i ≡ false) }
         ensures host { IfOk result (λ h. Keeps M.meaning M.idle_keeps M.active_keeps h (new_state sizes poison)) }
     {
-        let HostMemory { spaces, tables } = HostMemory::new(alloc, sizes)?;
+        let memory = HostMemory::new(alloc, sizes)?;
+        Ok(Host::in_memory(memory, poison))
+    }
+
+    /// A host without instances in this memory, which it asked for before. Where there is a poison word, each block holds it when it is placed,
+    /// and a group's blocks hold it wherever no member is active.
+    pub fn in_memory(memory: HostMemory<M>, poison: Option<i16>) -> Host<M>
+        ensures empty { (i : ℕ) → lives result i ≡ false }
+        ensures host { Keeps M.meaning M.idle_keeps M.active_keeps result (new_state memory.spaces.sizes poison) }
+    {
+        let HostMemory { spaces, tables } = memory;
         let Tables {
             slots,
             once,
@@ -58,10 +68,10 @@ impl<M: Ialg> Host<M> {
             once,
             groups,
         };
-        Ok(Host {
+        Host {
             tables,
             spaces,
             poison,
-        })
+        }
     }
 }

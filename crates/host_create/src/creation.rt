@@ -11,6 +11,7 @@ ghost use Rattle.host_moves.specs.Standing.{MapAgrees};
 ghost use Rattle.host_refines.specs.Hosts.{Refines};
 
 use crate::starting::start_in_spaces;
+use host_life::NewInstance;
 use host_spaces::Spaces;
 use host_spec::creations_answer_in_order;
 use host_table::Tables;
@@ -66,8 +67,14 @@ pub fn create<M: Ialg>(
     let Some(table) = asked else {
         return Err(Refusal::Params);
     };
-    let params = copied(p.as_slice());
-    match start_in_spaces(tables, spaces, poison, i, group, kind, params, table) {
+    let instance = NewInstance {
+        number: i,
+        group,
+        kind,
+        params: copied(p.as_slice()),
+        table,
+    };
+    match start_in_spaces(tables, spaces, poison, instance) {
         Ok(()) => Ok(()),
         Err(space) => Err(Refusal::Room(space)),
     }

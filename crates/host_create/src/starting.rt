@@ -25,7 +25,7 @@ ghost use Rattle.host_table.specs.Steps.{AreConsistent, AreKept, laws};
 ghost use Rattle.host_moves.specs.Standing.{MapAgrees};
 
 use crate::growth::grow;
-use host_life::{find_twins, start};
+use host_life::{NewInstance, find_twins, start};
 use host_moves::{in_order, maps_have_room};
 use host_shared::Twins;
 use host_spaces::{Placement, Spaces, creations};
@@ -78,84 +78,78 @@ fn place(
 fn begin<M: Ialg>(
     tables: &mut Tables<M>,
     spaces: &mut Spaces,
-    i: u8,
-    g: u8,
-    kind: M,
-    params: Params,
-    table: MemTab,
+    instance: NewInstance<M>,
     own: Pieces,
     shared: Pieces,
     twins: Twins,
 )
-    requires number { i < INSTANCES }
-    requires group { g < GROUPS }
-    requires empty { slot_at tables.old.slots i ≡ None }
+    requires number { instance.number < INSTANCES }
+    requires group { instance.group < GROUPS }
+    requires empty { slot_at tables.old.slots instance.number ≡ None }
     requires ok { AreConsistent tables.old }
-    requires grown { AreGrown g tables.old.slots tables.old.once tables.old.groups spaces.old }
-    requires twins { AreTwins M.meaning.same tables.old.slots (asked kind params.items table) twins }
-    requires placed { IsPlaced spaces.old i (twin_at twins) table own shared (group_at tables.old.groups g) }
-    requires gone { (j k : ℕ) (space : Space) → slot_at tables.old.slots j ≡ None → j ≢ i → owned (Record j k) (blocks_in (picture_of spaces.old) space) ≡ [] }
+    requires grown { AreGrown instance.group tables.old.slots tables.old.once tables.old.groups spaces.old }
+    requires twins { AreTwins M.meaning.same tables.old.slots (asked instance.kind instance.params.items instance.table) twins }
+    requires placed { IsPlaced spaces.old instance.number (twin_at twins) instance.table own shared (group_at tables.old.groups instance.group) }
+    requires gone { (j k : ℕ) (space : Space) → slot_at tables.old.slots j ≡ None → j ≢ instance.number → owned (Record j k) (blocks_in (picture_of spaces.old) space) ≡ [] }
     ensures groups { tables.new.groups ≡ tables.old.groups }
     ensures ok { AreConsistent tables.new }
     ensures standing { MapAgrees tables.new spaces.new }
-    ensures others { (j : ℕ) → j ≢ i → slot_at tables.new.slots j ≡ slot_at tables.old.slots j }
-    ensures newborn { IsNewborn g kind params.items table (slot_at tables.new.slots i) }
-    ensures picture { picture_of spaces.new ≡ renamed (taken_over (twin_at twins) i) (picture_of spaces.old) }
+    ensures others { (j : ℕ) → j ≢ instance.number → slot_at tables.new.slots j ≡ slot_at tables.old.slots j }
+    ensures newborn { IsNewborn instance.group instance.kind instance.params.items instance.table (slot_at tables.new.slots instance.number) }
+    ensures picture { picture_of spaces.new ≡ renamed (taken_over (twin_at twins) instance.number) (picture_of spaces.old) }
     ensures stays { AreSameSpaces spaces.old spaces.new }
     ensures keeps { (w : Option ℤ) (histories : ℕ → History)
-        → (IsTrue (M.meaning.lawful kind params.items w) → M.meaning.table kind params.items ≡ Some (unplaced table))
-        → AreNew w (M.meaning.fill kind params.items) table (idle_words table own shared)
+        → (IsTrue (M.meaning.lawful instance.kind instance.params.items w) → M.meaning.table instance.kind instance.params.items ≡ Some (unplaced instance.table))
+        → AreNew w (M.meaning.fill instance.kind instance.params.items) instance.table (idle_words instance.table own shared)
         → AreKept (laws M.meaning M.idle_keeps M.active_keeps) w tables.old histories
-        → AreKept (laws M.meaning M.idle_keeps M.active_keeps) w tables.new (with_history histories i []) }
+        → AreKept (laws M.meaning M.idle_keeps M.active_keeps) w tables.new (with_history histories instance.number []) }
 {
     let list = listed(&twins);
-    spaces.take_over(i, &list);
+    spaces.take_over(instance.number, &list);
     in_order(spaces);
-    start(tables, i, g, kind, params, table, own, shared, twins);
+    start(tables, instance, own, shared, twins);
 }
 
-/// Starts instance `i` of group `g` in an empty slot, with this table of its kind. A write-once record that a living instance shares gets no
+/// Starts an instance in an empty slot. A write-once record that a living instance shares gets no
 /// block: it stands with the least of those that share it. All other blocks that it needs are placed first, while the old ones of its group
 /// stand, and it is called last. Or says the space of the first block that has no place; then nothing has happened.
 pub fn start_in_spaces<M: Ialg>(
     tables: &mut Tables<M>,
     spaces: &mut Spaces,
     poison: Option<i16>,
-    i: u8,
-    g: u8,
-    kind: M,
-    params: Params,
-    table: MemTab,
+    instance: NewInstance<M>,
 ) -> Result<(), Space>
-    requires number { i < INSTANCES }
-    requires group { g < GROUPS }
-    requires empty { slot_at tables.old.slots i ≡ None }
+    requires number { instance.number < INSTANCES }
+    requires group { instance.group < GROUPS }
+    requires empty { slot_at tables.old.slots instance.number ≡ None }
     requires ok { AreConsistent tables.old }
     requires standing { MapAgrees tables.old spaces.old }
     requires poisoned { ArePoisoned poison tables.old.groups }
     ensures ok { AreConsistent tables.new }
     ensures standing { MapAgrees tables.new spaces.new }
     ensures poisoned { ArePoisoned poison tables.new.groups }
-    ensures exact { created_picture (sizes_of spaces.old) (picture_of spaces.old) i g table (twin_of M.meaning.same (λ j. asked_by (slot_at tables.old.slots j)) (asked kind params.items table))
+    ensures exact { created_picture (sizes_of spaces.old) (picture_of spaces.old) instance.number instance.group instance.table (twin_of M.meaning.same (λ j. asked_by (slot_at tables.old.slots j)) (asked instance.kind instance.params.items instance.table))
         ≡ result_map (λ _. picture_of spaces.new) result }
     ensures refused { OnErr result ((tables.new ≡ tables.old) × (spaces.new ≡ spaces.old)) }
     ensures stays { AreSameSpaces spaces.old spaces.new }
-    ensures others { OnOk result (OthersAreSame i tables.old.slots tables.new.slots) }
-    ensures newborn { OnOk result (IsNewborn g kind params.items table (slot_at tables.new.slots i)) }
-    ensures activity { OnOk result ((k : ℕ) → activity_at tables.new.groups k ≡ activity_grown (replaces (picture_of spaces.old) g table) tables.old.groups g k) }
+    ensures others { OnOk result (OthersAreSame instance.number tables.old.slots tables.new.slots) }
+    ensures newborn { OnOk result (IsNewborn instance.group instance.kind instance.params.items instance.table (slot_at tables.new.slots instance.number)) }
+    ensures activity { OnOk result ((k : ℕ) → activity_at tables.new.groups k ≡ activity_grown (replaces (picture_of spaces.old) instance.group instance.table) tables.old.groups instance.group k) }
     ensures keeps { OnOk result ((histories : ℕ → History)
-        → (IsTrue (M.meaning.lawful kind params.items poison) → M.meaning.table kind params.items ≡ Some (unplaced table))
+        → (IsTrue (M.meaning.lawful instance.kind instance.params.items poison) → M.meaning.table instance.kind instance.params.items ≡ Some (unplaced instance.table))
         → AreKept (laws M.meaning M.idle_keeps M.active_keeps) poison tables.old histories
-        → AreKept (laws M.meaning M.idle_keeps M.active_keeps) poison tables.new (with_history histories i [])) }
+        → AreKept (laws M.meaning M.idle_keeps M.active_keeps) poison tables.new (with_history histories instance.number [])) }
 {
     maps_have_room::<M>();
     blocks_are_few();
     creations();
     // a table is valid, as its records say
-    let _records = table.records();
-    let twins = find_twins(&tables.slots, kind, &params, &table);
+    let _records = instance.table.records();
+    let twins = find_twins(&tables.slots, instance.kind, &instance.params, &instance.table);
     let list = listed(&twins);
-    let placed = match place(spaces, i, g, &table, &list, &tables.groups, poison) {
+    let i = instance.number;
+    let g = instance.group;
+    let placed = match place(spaces, i, g, &instance.table, &list, &tables.groups, poison) {
         Ok(placed) => placed,
         Err(space) => return Err(space),
     };
@@ -165,8 +159,6 @@ pub fn start_in_spaces<M: Ialg>(
         blocks,
     } = placed;
     grow(tables, spaces, poison, g, blocks);
-    begin(
-        tables, spaces, i, g, kind, params, table, own, shared, twins,
-    );
+    begin(tables, spaces, instance, own, shared, twins);
     Ok(())
 }

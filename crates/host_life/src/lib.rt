@@ -8,7 +8,7 @@ mod moves;
 mod tables;
 mod twins;
 
-pub use life::{end, start};
+pub use life::{NewInstance, end, start};
 pub use moves::tell_members;
 pub use tables::{empty_groups, empty_slots, end_groups, end_slots, in_order};
 pub use twins::find_twins;

@@ -27,43 +27,58 @@ use mem_rec::MemTab;
 use record_loans::Pieces;
 use scratch_group::Group;
 
+/// An instance that is to be created.
+pub struct NewInstance<M> {
+    /// Its number, which is free.
+    pub number: u8,
+    /// Its scratch group.
+    pub group: u8,
+    pub kind: M,
+    pub params: Params,
+    /// The memory that its kind asks for.
+    pub table: MemTab,
+}
+
 /// Starts an instance in an empty slot, in the pieces that were placed for it and those of its twins, with which it shares the others. It is
 /// idle.
 pub fn start<M: Ialg>(
     tables: &mut Tables<M>,
-    i: u8,
-    g: u8,
-    kind: M,
-    params: Params,
-    table: MemTab,
+    instance: NewInstance<M>,
     own: Pieces,
     shared: Pieces,
     twins: Twins,
 )
-    requires number { i < INSTANCES }
-    requires group { g < GROUPS }
-    requires empty { slot_at tables.old.slots i ≡ None }
-    requires none { once_at tables.old.once i ≡ no_pieces }
+    requires number { instance.number < INSTANCES }
+    requires group { instance.group < GROUPS }
+    requires empty { slot_at tables.old.slots instance.number ≡ None }
+    requires none { once_at tables.old.once instance.number ≡ no_pieces }
     requires ok { AreConsistent tables.old }
     requires least { AreLeast tables.old.once }
     requires together { AreTogether tables.old.slots tables.old.once }
-    requires twins { AreTwins M.meaning.same tables.old.slots (asked kind params.items table) twins }
+    requires twins { AreTwins M.meaning.same tables.old.slots (asked instance.kind instance.params.items instance.table) twins }
     requires placed { (k : ℕ) → IsSome (twin_at twins k) → piece_at shared k ≡ None }
-    requires fits { HasRoom (record { kind = kind; params = params; table = table; own = own }) (pieces_joined tables.old.once twins shared) (group_at tables.old.groups g) }
+    requires fits { HasRoom (record { kind = instance.kind; params = instance.params; table = instance.table; own = own }) (pieces_joined tables.old.once twins shared) (group_at tables.old.groups instance.group) }
     ensures ok { AreConsistent tables.new }
     ensures groups { tables.new.groups ≡ tables.old.groups }
-    ensures others { OthersStay i tables.old.slots tables.old.once tables.new.slots tables.new.once }
-    ensures stands { (j k : ℕ) → IsSameStand (stand_joined tables.old.once i k (twin_at twins k) (piece_at shared k) j) (stand_at (shelf_at tables.new.once j) k) }
+    ensures others { OthersStay instance.number tables.old.slots tables.old.once tables.new.slots tables.new.once }
+    ensures stands { (j k : ℕ) → IsSameStand (stand_joined tables.old.once instance.number k (twin_at twins k) (piece_at shared k) j) (stand_at (shelf_at tables.new.once j) k) }
     ensures least { AreLeast tables.new.once }
     ensures together { AreTogether tables.new.slots tables.new.once }
-    ensures started { IsStarted g (settled (record { kind = kind; params = params; table = table; own = own }) (pieces_joined tables.old.once twins shared) (group_at tables.old.groups g)) (slot_at tables.new.slots i) }
-    ensures pieces { SamePieces (pieces_joined tables.old.once twins shared) (once_at tables.new.once i) }
+    ensures started { IsStarted instance.group (settled (record { kind = instance.kind; params = instance.params; table = instance.table; own = own }) (pieces_joined tables.old.once twins shared) (group_at tables.old.groups instance.group)) (slot_at tables.new.slots instance.number) }
+    ensures pieces { SamePieces (pieces_joined tables.old.once twins shared) (once_at tables.new.once instance.number) }
     ensures keeps { (w : Option ℤ) (histories : ℕ → History)
-        → (IsTrue (M.meaning.lawful kind params.items w) → M.meaning.table kind params.items ≡ Some (unplaced table))
-        → AreNew w (M.meaning.fill kind params.items) table (idle_words table own shared)
+        → (IsTrue (M.meaning.lawful instance.kind instance.params.items w) → M.meaning.table instance.kind instance.params.items ≡ Some (unplaced instance.table))
+        → AreNew w (M.meaning.fill instance.kind instance.params.items) instance.table (idle_words instance.table own shared)
         → AreKept (laws M.meaning M.idle_keeps M.active_keeps) w tables.old histories
-        → AreKept (laws M.meaning M.idle_keeps M.active_keeps) w tables.new (with_history histories i []) }
+        → AreKept (laws M.meaning M.idle_keeps M.active_keeps) w tables.new (with_history histories instance.number []) }
 {
+    let NewInstance {
+        number: i,
+        group: g,
+        kind,
+        params,
+        table,
+    } = instance;
     let _records = table.records();
     join(&mut tables.once, i, shared, twins);
     let mut seen = take_seen(&mut tables.once, i as usize);
