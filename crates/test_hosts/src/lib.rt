@@ -15,8 +15,6 @@ mod diary;
 mod diary_tests;
 #[cfg(test)]
 mod host_tests;
-#[cfg(test)]
-mod start_tests;
 mod two_channels;
 
 pub use cut_feeds::feed_in_two;
