@@ -28,6 +28,7 @@ use record_loans::Pieces;
 use scratch_group::Group;
 
 /// An instance that is to be created.
+#[derive(Drop)]
 pub struct NewInstance<M> {
     /// Its number, which is free.
     pub number: u8,
