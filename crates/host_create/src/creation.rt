@@ -67,11 +67,12 @@ pub fn create<M: Ialg>(
     let Some(table) = asked else {
         return Err(Refusal::Params);
     };
+    let params = copied(p.as_slice());
     let instance = NewInstance {
         number: i,
         group,
         kind,
-        params: copied(p.as_slice()),
+        params,
         table,
     };
     match start_in_spaces(tables, spaces, poison, instance) {
