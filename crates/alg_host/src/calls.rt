@@ -40,6 +40,7 @@ impl<M: Ialg> Host<M> {
         requires empty { out.old.items ≡ [] }
         requires some { 1 ≤ length input.now }
         requires within { length input.now ≤ BLOCK_SAMPLES }
+        ensures bounded { length out.new.items ≤ length input.now }
         ensures machine { Serves M.meaning M.idle_keeps M.active_keeps (Process i input.now out.new.items) self.old self.new }
     {
         places_stay::<M>();

@@ -27,6 +27,7 @@ pub fn give_block<M: Ialg>(
     requires some { 1 ≤ length input.now }
     requires within { length input.now ≤ BLOCK_SAMPLES }
     ensures stays { Stays poison tables.old tables.new }
+    ensures bounded { length out.new.items ≤ length input.now }
     ensures machine { (before : State M) → before.poison ≡ poison
         → KeepsState (laws M.meaning M.idle_keeps M.active_keeps) tables.old before
         → Processes M.meaning before i input.now out.new.items (processed before i input.now)

@@ -1,0 +1,4 @@
+pub mod Boxed
+pub mod RunsDone
+pub mod Served
+pub mod There

@@ -1,0 +1,4 @@
+pub mod Calls
+pub mod Codes
+pub mod Held
+pub mod Runs
