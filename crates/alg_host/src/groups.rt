@@ -4,11 +4,11 @@ ghost use Rattle.host_spec.specs.Calls.Call.{Release, Stat as StatCall};
 ghost use Rattle.alg_host.specs.Hosts.{Serves, stat_told};
 
 use crate::Host;
+use host_map::Stat;
 use host_moves::places_stay;
 use host_refines::put_to_rest;
 use ialg::{Ialg, Refusal};
 use mem_rec::GROUPS;
-use host_map::Stat;
 
 impl<M: Ialg> Host<M> {
     /// Deactivates the active member of the group, and says whether there was one. The count of activations stays.

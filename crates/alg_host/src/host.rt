@@ -6,8 +6,8 @@ ghost use Rattle.alg_host.specs.Hosts.{Keeps, lives};
 
 use crate::memory::{HostMemory, Tables};
 use host_life::in_order;
-use host_moves::nobody_stands;
 use host_map::Sizes;
+use host_moves::nobody_stands;
 use host_spaces::{Spaces, StartError};
 use ialg::Ialg;
 use std::alloc::Global;

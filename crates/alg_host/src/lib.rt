@@ -17,10 +17,8 @@ mod moves;
 mod request;
 
 pub use host::Host;
-pub use host_map::Sizes;
+pub use host_map::{Map, Owner, Placed, Sizes, Stat};
 pub use host_spaces::StartError;
 pub use lists::{make, make_all, make_both};
 pub use memory::HostMemory;
 pub use request::Request;
-pub use host_map::Stat;
-pub use host_map::{Map, Owner, Placed};

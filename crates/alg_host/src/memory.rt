@@ -9,9 +9,9 @@ ghost use Rattle.host_map.specs.Activity.{untouched};
 ghost use Rattle.host_map.specs.Picture.{AreSizes};
 
 use host_life::{empty_groups, empty_slots, end_groups, end_slots};
+use host_map::Sizes;
 use host_shared::{Shelf, empty_once, end_once};
 use host_spaces::{EmptySpaces, StartError};
-use host_map::Sizes;
 use host_table::Member;
 use ialg::Ialg;
 use scratch_group::Group;

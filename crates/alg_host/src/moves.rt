@@ -4,10 +4,10 @@ ghost use Rattle.host_spec.specs.Calls.Call.{Step, Compact, Map as MapCall, Copi
 ghost use Rattle.alg_host.specs.Hosts.{Serves};
 
 use crate::Host;
+use host_map::Map;
 use host_moves::maps_have_room;
 use ialg::Ialg;
 use mem_rec::Space;
-use host_map::Map;
 
 impl<M: Ialg> Host<M> {
     /// Moves the first block of the space that doesn't stand at the least place behind the block before it to that place, with its

@@ -18,7 +18,7 @@ use crate::laws::headline;
 use console_spec::lawful_consoles_serve_one_answer;
 use ialg::{Ialg, Named};
 use octet_ports::{PortIn, PortOut};
-use script_server::{SCRIPT_OCTETS, PortsFault, serve};
+use script_server::{PortsFault, SCRIPT_OCTETS, serve};
 use std::alloc::{Allocator, Global};
 use thiserror::Error;
 use voice_console::{CHANNELS, Console, Host, HostMemory, PortWidths, Sizes, StartError};
@@ -66,7 +66,10 @@ pub struct Summary {
 ///
 /// `Size` where a size isn't a multiple of 4 up to 65,536, before any memory is asked for, and otherwise `Memory` where a request was
 /// refused. Nothing is held then.
-pub fn run_memory<M: Ialg, A: Allocator + Copy>(alloc: A, sizes: Sizes) -> Result<HostMemory<M, A>, Fault>
+pub fn run_memory<M: Ialg, A: Allocator + Copy>(
+    alloc: A,
+    sizes: Sizes,
+) -> Result<HostMemory<M, A>, Fault>
     ensures size { ¬ AreSizes sizes → IsErrOf result Fault.Size }
     ensures memory { AreSizes sizes → IfErr result (λ fault. fault ≡ Fault.Memory) }
     ensures sizes { IfOk result (λ memory. memory.spaces.sizes ≡ sizes) }

@@ -145,7 +145,12 @@ pub fn start_in_spaces<M: Ialg>(
     creations();
     // a table is valid, as its records say
     let _records = instance.table.records();
-    let twins = find_twins(&tables.slots, instance.kind, &instance.params, &instance.table);
+    let twins = find_twins(
+        &tables.slots,
+        instance.kind,
+        &instance.params,
+        &instance.table,
+    );
     let list = listed(&twins);
     let i = instance.number;
     let g = instance.group;

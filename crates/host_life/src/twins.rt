@@ -10,7 +10,7 @@ use host_shared::Twins;
 use host_table::Member;
 use ialg::{Ialg, Params};
 use lifecycle::{Inst, Instance};
-use mem_rec::{INSTANCES, Attr, MemRec, MemTab, Space};
+use mem_rec::{Attr, INSTANCES, MemRec, MemTab, Space};
 
 /// Record `k` of a table, blank past its end.
 fn record_of(table: &MemTab, k: usize) -> MemRec

@@ -18,12 +18,12 @@ use crate::order::in_order;
 use crate::records::{put_once, take_once, take_own};
 use crate::told::{tell, tell_holders};
 use host_life::tell_members;
+use host_map::Owner;
 use host_shared::sees;
 use host_spaces::Spaces;
 use host_table::Tables;
 use ialg::Ialg;
 use mem_rec::Space;
-use host_map::Owner;
 use space_raw::Piece;
 
 /// Moves a record that an instance has for its own.

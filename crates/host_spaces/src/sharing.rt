@@ -10,8 +10,8 @@ ghost use Rattle.host_map.specs.Creation.{handed_on, only, taken_over, twin_at};
 
 use crate::spaces::Spaces;
 use crate::wants::Twins;
-use mem_rec::TABLE_RECORDS;
 use host_map::Owner;
+use mem_rec::TABLE_RECORDS;
 
 impl Spaces {
     // What is the block of one owner is another owner's from now on, in each space.

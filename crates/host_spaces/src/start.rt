@@ -3,9 +3,9 @@ ghost use Rattle.std.specs.Prelude.{◌≡◌, [], IfOk, IfErr, IsErrOf};
 ghost use Rattle.host_map.specs.Picture.{AreSizes};
 
 use host_map::Sizes;
+use relocate::is_space_size;
 use space_blocks::SpaceBlocks;
 use space_heap::HeapError;
-use relocate::is_space_size;
 use std::alloc::{Allocator, Global};
 use thiserror::Error;
 

@@ -7,8 +7,8 @@ use crate::member::Member;
 use host_shared::Shelf;
 use ialg::Ialg;
 use scratch_group::Group;
-use std::mem;
 use std::marker::Model;
+use std::mem;
 
 /// The tables of a host: a slot for each instance number, the shelves of the instances' write-once records, and the groups.
 pub struct Tables<M> {

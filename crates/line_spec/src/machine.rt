@@ -9,8 +9,8 @@ ghost use Rattle.line_spec.specs.Widths.{Widths, octet_count};
 
 use crate::limits::BLOCK_OCTETS;
 use crate::width::Width;
-use ialg::{Params, Words};
 use host_map::Map;
+use ialg::{Params, Words};
 use voice_script::{FeedSamples, Reply};
 
 /// What a line asks of the ports.

@@ -12,11 +12,11 @@ ghost use Rattle.script_server.specs.Runs.{StepsAt, no_source, no_sink, IsHonest
 ghost use Rattle.script_server.specs.LineRuns.{IsServed, IsCut, IsUnfed};
 
 use crate::serving::PortsFault;
-use ialg::{Params, Refusal, Words};
-use line_spec::{BLOCK_OCTETS, Ask, LineMachine};
-use octet_ports::{PortFault, PortIn, PortOut, read_octets, write_octets};
 use host_map::Map;
-use voice_script::{LINE_OCTETS, FeedSamples, Reply, ReplyText, write_reply};
+use ialg::{Params, Refusal, Words};
+use line_spec::{Ask, BLOCK_OCTETS, LineMachine};
+use octet_ports::{PortFault, PortIn, PortOut, read_octets, write_octets};
+use voice_script::{FeedSamples, LINE_OCTETS, Reply, ReplyText, write_reply};
 
 /// Room for the words of a line, for a map and for words that are told of, and the buffers of replies and feeds. To make them clears thousands of
 /// octets, so a run has one of each.

@@ -6,10 +6,10 @@ ghost use Rattle.script_server.specs.Runs.{AreReady, AllWait, ServesAll, EndsWel
 use crate::limits::SCRIPT_OCTETS;
 use crate::line::{Buffers, Desk, flush_outputs, serve_line};
 use arrayvec::ArrayVec;
+use host_map::Map;
 use ialg::{Params, Words};
 use line_spec::{BLOCK_OCTETS, LineMachine};
 use octet_ports::{LineReader, PortIn, PortOut};
-use host_map::Map;
 use voice_script::LINE_OCTETS;
 
 /// Which ports ended a run.

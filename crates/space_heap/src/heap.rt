@@ -10,8 +10,8 @@ mod tests;
 
 use crate::find::find;
 use crate::holes::{Front, carve, gap_before, leave_hole, put_back, put_behind};
-use relocate::{GREATEST_NEED, is_space_size};
 use mem_rec::LEAST_ALIGNMENT;
+use relocate::{GREATEST_NEED, is_space_size};
 use space_raw::{Piece, Region, Rest};
 use std::alloc::{Allocator, Global};
 use std::marker::Model;

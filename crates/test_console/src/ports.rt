@@ -1,5 +1,8 @@
 //! A tape that is full, and devices that fail or don't: std has no word for when a device fails.
-use octet_ports::{TAPE_OCTETS, PortFault, PortIn, PortOut, Reading, TapeIn, TapeOut, Writing, read_octets, write_octets};
+use octet_ports::{
+    PortFault, PortIn, PortOut, Reading, TAPE_OCTETS, TapeIn, TapeOut, Writing, read_octets,
+    write_octets,
+};
 use std::alloc::{AllocError, Global};
 use std::test::Fail;
 use test_doubles::{HELD_OCTETS, Shaky};

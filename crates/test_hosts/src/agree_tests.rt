@@ -3,7 +3,7 @@
 
 use alg_host::{Host, Request, make_both};
 use host_map::Sizes;
-use ialg::{BLOCK_SAMPLES, PARAMETER_WORDS, Block, Ctl, Refusal, Status, copied};
+use ialg::{BLOCK_SAMPLES, Block, Ctl, PARAMETER_WORDS, Refusal, Status, copied};
 use mem_rec::Space;
 use std::process::Abort;
 use test_kinds::Trial;

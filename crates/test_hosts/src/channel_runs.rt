@@ -3,7 +3,7 @@
 
 use crate::feed_both;
 use host_map::Sizes;
-use ialg::{BLOCK_SAMPLES, PARAMETER_WORDS, Block, copied};
+use ialg::{BLOCK_SAMPLES, Block, PARAMETER_WORDS, copied};
 use std::process::Abort;
 use test_kinds::Trial;
 use voice_channel::{Channels, Host};

@@ -1,13 +1,12 @@
 //! Channels of trial kinds, by numbers.
 
 use crate::feed_in_two;
-use host_map::Sizes;
-use ialg::{BLOCK_SAMPLES, PARAMETER_WORDS, Block, Ctl, Params, Refusal, Status, copied};
+use host_map::{Owner, Placed, Sizes};
+use ialg::{BLOCK_SAMPLES, Block, Ctl, PARAMETER_WORDS, Params, Refusal, Status, copied};
 use mem_rec::Space;
-use host_map::{Owner, Placed};
 use std::process::Abort;
 use test_kinds::Trial;
-use voice_channel::{MEMBERS, Channels, Host, Stat};
+use voice_channel::{Channels, Host, MEMBERS, Stat};
 use voice_set::Voice;
 
 const FIR: Trial = Trial::Lawful(Voice::Fir);

@@ -1,10 +1,9 @@
 //! Hosts of trial kinds, by numbers.
 
 use alg_host::{Host, Stat};
-use host_map::Sizes;
-use ialg::{BLOCK_SAMPLES, PARAMETER_WORDS, Block, Params, Refusal, copied};
+use host_map::{Owner, Placed, Sizes};
+use ialg::{BLOCK_SAMPLES, Block, PARAMETER_WORDS, Params, Refusal, copied};
 use mem_rec::Space;
-use host_map::{Owner, Placed};
 use std::process::Abort;
 use test_kinds::Trial;
 use voice_set::Voice;

@@ -5,7 +5,6 @@ ghost use Rattle.record_loans.specs.Pieces.{SamePieces};
 ghost use Rattle.scratch_group.specs.Blocks.{BlocksArePoison, SameGroup};
 ghost use Rattle.lifecycle.specs.States.{Fits, IsLawful, IdleKeeps, SameInstance, all_outputs};
 
-
 use ialg::{BLOCK_SAMPLES, Block, Ialg};
 use lifecycle::Idle;
 use record_loans::Pieces;

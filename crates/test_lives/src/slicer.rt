@@ -12,7 +12,6 @@ ghost use Rattle.lifecycle.specs.States.{Fits};
 ghost use Rattle.test_kinds.specs.declared.TheConstants.{LEVELS};
 ghost use Rattle.test_kinds.specs.Slicer.{sliced, slicer_records};
 
-
 use ialg::{BLOCK_SAMPLES, Block, Ctl, Ialg, Params, Status};
 use lifecycle::Idle;
 use mem_rec::MemTab;

@@ -5,7 +5,7 @@ ghost use Rattle.test_kinds.specs.declared.TheConstants.{LEVELS};
 ghost use Rattle.test_kinds.specs.Slicer.{slicer_records};
 
 use crate::live;
-use ialg::{PARAMETER_WORDS, Block, Ialg, Params, Status, Words, copied};
+use ialg::{Block, Ialg, PARAMETER_WORDS, Params, Status, Words, copied};
 use mem_rec::{LEAST_ALIGNMENT, MemTab, Space};
 use record_loans::Pieces;
 use scratch_group::Group;

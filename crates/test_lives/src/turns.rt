@@ -7,7 +7,6 @@ ghost use Rattle.host_table.specs.declared.member.Member.{Member};
 ghost use Rattle.host_table.specs.Table.{slot_at, instance_of};
 ghost use Rattle.host_table.specs.Steps.{laws, Ready, Stays, AreKept};
 
-
 use host_table::Tables;
 use ialg::{BLOCK_SAMPLES, Block, Ialg};
 

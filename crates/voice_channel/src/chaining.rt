@@ -7,8 +7,8 @@ ghost use Rattle.channel_spec.specs.Steps.{chain_refusal};
 ghost use Rattle.channel_spec.specs.Calls.Call.{Chain, Unchain, Remove};
 ghost use Rattle.voice_channel.specs.Channels.{Serves};
 
-use crate::{MEMBERS, Channels, Members};
 use crate::lists::{are_numbers, is_in_one, kept, names_twice};
+use crate::{Channels, MEMBERS, Members};
 use channel_spec::members_live_in_one_channel;
 use ialg::{Ialg, Refusal};
 use mem_rec::INSTANCES;

@@ -5,8 +5,8 @@ ghost use Rattle.alg_host.specs.Hosts.{lives};
 ghost use Rattle.alg_host.specs.Hosts as hosts;
 ghost use Rattle.voice_channel.specs.Channels.{Keeps};
 
-use crate::{CHANNELS, Members};
 use crate::feeding::Between;
+use crate::{CHANNELS, Members};
 use alg_host::Host;
 use arrayvec::ArrayVec;
 use channel_spec::members_live_in_one_channel;

@@ -10,9 +10,9 @@ ghost use Rattle.voice_channel.specs.Channels.{Serves};
 use crate::Channels;
 use alg_host::Stat;
 use channel_spec::members_live_in_one_channel;
+use host_map::Map;
 use ialg::{Ctl, Ialg, Params, Refusal, Status};
 use mem_rec::Space;
-use host_map::Map;
 
 impl<M: Ialg> Channels<M> {
     /// Creates instance `i` of this kind in the group, as [`Host::create`](alg_host::Host::create) does.

@@ -9,7 +9,7 @@ ghost use Rattle.console_spec.specs.Samples.{samples_at};
 use crate::Console;
 use crate::samples::{read_samples, write_samples};
 use ialg::{BLOCK_SAMPLES, Block, Ialg, Named, Params, Words};
-use line_spec::{BLOCK_OCTETS, Ask, LineMachine, Width};
+use line_spec::{Ask, BLOCK_OCTETS, LineMachine, Width};
 use voice_channel::{Channels, Map};
 use voice_script::{Command, FeedSamples, Reply, parse};
 
