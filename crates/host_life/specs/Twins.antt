@@ -1,14 +1,5 @@
 -- Which instances share the block of a write-once record.
-use Rattle.std.specs.Prelude.{ℕ, ℤ, ◌≡◌, Bool, true, false, ◌&&◌, ◌==◌, List, Option, Some, None, find}
-use Rattle.std.specs.List.{range_with_len}
-use Rattle.std.specs.Cmp.Lexicographic.{pointwise}
-use Rattle.std.specs.Ordering.{int_eq}
-use Rattle.mem_rec.specs.declared.MemRec.{MemRec}
-use Rattle.mem_rec.specs.declared.Attr.{Attr}
-use Rattle.mem_rec.specs.declared.Attr.TheVariants.{Scratch, Persist, WriteOnce}
-use Rattle.mem_rec.specs.Records.{same_space}
-use Rattle.ialg.specs.Records.{record_at, unplaced}
-use Rattle.mem_rec.specs.declared.TheConstants.{INSTANCES}
+use Rattle.std.specs.Prelude.{ℕ, ℤ, ◌≡◌, Bool, List, Option, Some, None}
 use Rattle.host_table.specs.declared.member.Member.{Member}
 use Rattle.host_shared.specs.declared.shelves.Shelf.{Shelf}
 use Rattle.host_shared.specs.declared.joining.Twins.{Twins}

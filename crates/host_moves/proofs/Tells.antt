@@ -10,7 +10,7 @@ use Rattle.record_loans.specs.declared.pieces.Pieces.{Pieces}
 use Rattle.record_loans.specs.Pieces.{SamePieces}
 use Rattle.record_loans.specs.Blocks.{IsSameBlock}
 use Rattle.scratch_group.specs.declared.group.Group.{Group}
-use Rattle.scratch_group.specs.Blocks.{block_in, BlocksArePoison}
+use Rattle.scratch_group.specs.Blocks.{block_in}
 use Rattle.lifecycle.specs.declared.instance.Inst.{Inst}
 use Rattle.lifecycle.specs.Moves.{restored}
 use Rattle.lifecycle.specs.States.{Relation, SameOnce}
@@ -19,7 +19,7 @@ use Rattle.mem_rec.specs.declared.TheConstants.{INSTANCES, GROUPS}
 use Rattle.host_table.specs.declared.member.Member.{Member}
 use Rattle.host_shared.specs.declared.shelves.Shelf.{Shelf}
 use Rattle.host_shared.specs.Homes.{with_seen}
-use Rattle.host_table.specs.Table.{slot_at, group_at, own_of, instance_of, active_in, slot_active_in, IsHoused, EachIsHoused, Tables, TablesOk, ArePoisoned}
+use Rattle.host_table.specs.Table.{slot_at, group_at, own_of, instance_of, active_in, slot_active_in, IsHoused, EachIsHoused, Tables, TablesOk}
 use Rattle.host_shared.specs.Shelves.{once_at}
 use Rattle.host_table.specs.Keeps.{InstKeeps, SlotKeeps, Keeps}
 use Rattle.host_table.specs.Frames.{SameMember, SameMembers}

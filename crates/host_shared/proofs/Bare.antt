@@ -1,7 +1,6 @@
 -- An instance that sees no piece: nothing is taken, and nothing put.
 use Rattle.std.proofs.Common.{◌≡◌, ◌<◌, ℕ, zero, suc, List, [], ◌∷◌, length, set, get_or, None, refl, sym, ◌∙◌, ap, subst, arith}
 use Rattle.std.proofs.lemmas.List.{set-get_or}
-use Rattle.record_loans.specs.declared.pieces.Pieces.{Pieces}
 use Rattle.host_shared.specs.declared.shelves.Stand.{Stand}
 use Rattle.host_shared.specs.declared.shelves.Stand.TheVariants.{Here}
 use Rattle.host_shared.specs.declared.shelves.Shelf.{Shelf}

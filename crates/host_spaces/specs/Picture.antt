@@ -1,13 +1,7 @@
 -- The memory picture: of each space the blocks that stand there, in place order.
-use Rattle.std.specs.Prelude.{◌≡◌, ℕ, ◌+◌, ◌-◌, ◌^◌, ◌==◌, Bool, false, not, List, [], ◌∷◌, filter, Option, Some, None, min}
+use Rattle.std.specs.Prelude.{◌≡◌, ℕ, ◌+◌, ◌-◌, ◌^◌, min}
 use Rattle.mem_rec.specs.declared.Space.{Space}
 use Rattle.mem_rec.specs.declared.Space.TheVariants.{Daram, Saram, External}
-use Rattle.relocate.specs.Places.{IsSpaceSize, least_place}
-use Rattle.host_map.specs.declared.placed.Owner.{Owner}
-use Rattle.host_map.specs.declared.placed.Owner.TheVariants.{Record, Scratch}
-use Rattle.host_map.specs.declared.placed.Placed.{Placed}
-use Rattle.host_map.specs.Blocks.{owned, ranges, renamed_blocks, with_block}
-use Rattle.host_map.specs.Moves.{moved, packed}
 use Rattle.space_blocks.specs.Spaces.{SpaceState}
 use Rattle.host_map.specs.declared.parts.Sizes.{Sizes}
 use Rattle.host_spaces.specs.declared.spaces.Spaces.{Spaces}

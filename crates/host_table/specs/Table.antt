@@ -1,11 +1,11 @@
 -- The tables of a host: a slot for each instance number, the pieces of its write-once records, and the groups.
-use Rattle.std.specs.Prelude.{ℕ, ℤ, ◌≡◌, ◌≢◌, ◌⊎◌, ◌<◌, Bool, false, List, length, Option, Some, None, nat_eq, slice_index_or, if◌then◌else◌}
+use Rattle.std.specs.Prelude.{ℕ, ℤ, ◌≡◌, ◌≢◌, ◌⊎◌, ◌<◌, Bool, false, List, length, Option, Some, None, nat_eq, slice_index_or}
 use Rattle.mem_rec.specs.declared.MemRec.{MemRec}
 use Rattle.mem_rec.specs.declared.Attr.TheVariants.{WriteOnce}
 use Rattle.ialg.specs.Records.{record_at}
 use Rattle.record_loans.specs.declared.pieces.Pieces.{Pieces}
 use Rattle.scratch_group.specs.declared.group.Group.{Group}
-use Rattle.host_map.specs.Activity.{count_after, Activity, quieted, touched, with_activity}
+use Rattle.host_map.specs.Activity.{Activity, quieted, touched, with_activity}
 use Rattle.scratch_group.specs.Blocks.{BlocksArePoison}
 use Rattle.scratch_group.specs.Words.{placed}
 use Rattle.lifecycle.specs.declared.instance.Instance.{Instance}

@@ -1,5 +1,5 @@
 -- The blocks of a group, one per space, and its active member.
-use Rattle.std.specs.Prelude.{ℕ, ℤ, ◌≡◌, ◌≢◌, Bool, false, ◌&&◌, ◌||◌, nat_le, nat_eq, min, max, ◌+◌, ◌-◌, ◌^◌, length, replicate, Option, Some, None, if◌then◌else◌}
+use Rattle.std.specs.Prelude.{ℕ, ℤ, ◌≡◌, ◌≢◌, Bool, false, ◌&&◌, ◌||◌, nat_le, nat_eq, max, length, replicate, Option, Some, None, if◌then◌else◌}
 use Rattle.mem_rec.specs.declared.Space.{Space}
 use Rattle.mem_rec.specs.declared.Space.TheVariants.{Daram, Saram, External}
 use Rattle.record_loans.specs.declared.block.ScratchBlock.{ScratchBlock}

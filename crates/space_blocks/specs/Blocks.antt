@@ -1,11 +1,8 @@
 -- The blocks of one space, with their owners.
-use Rattle.std.specs.Prelude.{ℕ, ◌≤◌, ◌<◌, ◌&&◌, ◌==◌, Bool, false, not, List, [], ◌∷◌, map, filter, length, Option, Some, None, nat_lt, if◌then◌else◌}
+use Rattle.std.specs.Prelude.{ℕ, List, [], ◌∷◌, length, Option, Some, None}
 use Rattle.std.specs.List.{Contains}
-use Rattle.mem_rec.specs.declared.TheConstants.{TABLE_RECORDS, GROUPS, INSTANCES}
 use Rattle.space_raw.specs.Span.{Span}
-use Rattle.relocate.specs.Places.{Range}
 use Rattle.host_map.specs.declared.placed.Owner.{Owner}
-use Rattle.host_map.specs.declared.placed.Owner.TheVariants.{Record, Scratch}
 use Rattle.host_map.specs.declared.placed.Placed.{Placed}
 use Rattle.host_map.specs.Blocks.{owned, without_at}
 

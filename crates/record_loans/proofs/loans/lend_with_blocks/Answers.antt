@@ -1,6 +1,5 @@
-use Rattle.std.proofs.Common.{rules, ◌≡◌}
-use Rattle.record_loans.specs.Pieces.{IsSamePiece, SamePieces}
-use Rattle.record_loans.specs.Loans.{held, lent_by}
+use Rattle.std.proofs.Common.{◌≡◌}
+use Rattle.record_loans.specs.Loans.{held}
 use Rattle.record_loans.proofs.PieceLemmas.{reflexive}
 use Rattle.record_loans.proofs.Swaps.{held_again, own_again, shared_again}
 use Rattle.record_loans.proofs.loans.lend_with_blocks.Goals as goal
