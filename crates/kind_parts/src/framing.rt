@@ -86,8 +86,10 @@ pub struct Framed<K> {
 }
 
 impl<K: Framing> Framed<K> {
-    /// The kind.
-    pub const KIND: Framed<K> = Framed { of: PhantomData };
+    /// The kind, which is a type of one value.
+    pub fn new() -> Framed<K> {
+        Framed { of: PhantomData }
+    }
 }
 
 impl<K: Framing> Filter for Framed<K> {
@@ -174,7 +176,7 @@ impl<K: Framing> Named for Framed<K> {
 
     fn of_name(name: &[u8]) -> Option<Framed<K>> {
         if name == K::name() {
-            Some(Framed { of: PhantomData })
+            Some(Framed::new())
         } else {
             None
         }

@@ -52,8 +52,10 @@ pub struct Mapped<K> {
 }
 
 impl<K: Mapping> Mapped<K> {
-    /// The kind.
-    pub const KIND: Mapped<K> = Mapped { of: PhantomData };
+    /// The kind, which is a type of one value.
+    pub fn new() -> Mapped<K> {
+        Mapped { of: PhantomData }
+    }
 }
 
 impl<K: Mapping> Filter for Mapped<K> {
@@ -125,7 +127,7 @@ impl<K: Mapping> Named for Mapped<K> {
 
     fn of_name(name: &[u8]) -> Option<Mapped<K>> {
         if name == K::name() {
-            Some(Mapped { of: PhantomData })
+            Some(Mapped::new())
         } else {
             None
         }

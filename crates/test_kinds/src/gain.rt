@@ -1,6 +1,7 @@
 //! What a gain gives over plain words. The running words are overwritten before each call: an instance relies on what it kept alone.
-use alg_gain::{Gain, PARAMETERS, RUNNING_WORDS};
+use alg_gain::{Gain, PARAMETERS};
 use ialg::{BLOCK_SAMPLES, Block, Ctl, Filter, Ialg, copied};
+use kind_parts::NO_WORDS;
 
 const POISON: i16 = 21845;
 
@@ -11,7 +12,7 @@ fn started(g: i16) -> [i16; PARAMETERS] {
 }
 
 fn feed(kept: &mut [i16], input: &[i16]) -> Block {
-    let mut running = [POISON; RUNNING_WORDS];
+    let mut running = [POISON; NO_WORDS];
     let mut out = Block::new();
     if input.len() <= BLOCK_SAMPLES {
         Gain::restore(kept, &mut running);
@@ -57,13 +58,13 @@ fn a_set_is_in_force_from_the_next_sample(rt: HostRuntime) {
     Gain::set(&mut kept, &[8192]);
     let out = feed(&mut kept, &[100]);
     assert!(rt; out.as_slice() == [200].as_slice());
-    let got = Gain::get(&kept, &[POISON; RUNNING_WORDS]);
+    let got = Gain::get(&kept, &[POISON; NO_WORDS]);
     assert!(rt; got.as_slice() == [8192].as_slice());
 }
 
 #[test]
 fn the_parameter_is_one_word(rt: HostRuntime) {
-    assert!(rt; Gain.alg_alloc(&copied(&[])).is_none());
-    assert!(rt; Gain.alg_alloc(&copied(&[4096])).is_some());
-    assert!(rt; Gain.alg_alloc(&copied(&[4096, 0])).is_none());
+    assert!(rt; Gain::new().alg_alloc(&copied(&[])).is_none());
+    assert!(rt; Gain::new().alg_alloc(&copied(&[4096])).is_some());
+    assert!(rt; Gain::new().alg_alloc(&copied(&[4096, 0])).is_none());
 }

@@ -1,6 +1,10 @@
 //! What a meter gives over plain words. The running words are overwritten before each call: an instance relies on what it kept alone.
-use alg_level::{Level, PARAMETERS, STATE_WORDS};
+use alg_level::{Level, PARAMETERS};
 use ialg::{BLOCK_SAMPLES, Block, Ctl, Filter, Ialg, Words, copied};
+use kind_parts::SUM_WORDS;
+
+/// The count of a frame's samples, and its energy.
+const STATE_WORDS: usize = 1 + SUM_WORDS;
 
 const KEPT_WORDS: usize = PARAMETERS + STATE_WORDS;
 
@@ -83,13 +87,13 @@ fn a_reset_begins_a_frame(rt: HostRuntime) {
 #[test]
 fn parameters_and_controls(rt: HostRuntime) {
     for refused in [[0, 0], [1025, 0], [-1, 0], [1, -1], [1, 16]] {
-        assert!(rt; Level.alg_alloc(&copied(&refused)).is_none());
+        assert!(rt; Level::new().alg_alloc(&copied(&refused)).is_none());
     }
     for granted in [[1, 0], [1024, 15]] {
-        assert!(rt; Level.alg_alloc(&copied(&granted)).is_some());
+        assert!(rt; Level::new().alg_alloc(&copied(&granted)).is_some());
     }
-    assert!(rt; Level.alg_alloc(&copied(&[1])).is_none());
-    assert!(rt; Level.alg_alloc(&copied(&[1, 0, 0])).is_none());
+    assert!(rt; Level::new().alg_alloc(&copied(&[1])).is_none());
+    assert!(rt; Level::new().alg_alloc(&copied(&[1, 0, 0])).is_none());
     assert!(rt; !Level::takes(&[4, 0], &Ctl::Set(copied(&[4, 0]))));
     assert!(rt; Level::takes(&[4, 0], &Ctl::Reset) && Level::takes(&[4, 0], &Ctl::Get));
 }
