@@ -279,6 +279,23 @@ rokdaum_code rokdaum_div_s(int16_t a, int16_t b, int16_t *quotient)
     return quotient ? (rokdaum_code)rokdaum_proved_div_s(a, b, quotient) : ROKDAUM_NULL;
 }
 
+rokdaum_code rokdaum_add_block(const int16_t *a, const int16_t *b, int16_t *out, size_t count)
+{
+    return (a && b && out) || !count ? (rokdaum_code)rokdaum_proved_add_block(a, count, b, count, out, count) : ROKDAUM_NULL;
+}
+
+rokdaum_code rokdaum_mult_block(int16_t gain, const int16_t *samples, int16_t *out, size_t count)
+{
+    return (samples && out) || !count ? (rokdaum_code)rokdaum_proved_mult_block(gain, samples, count, out, count) : ROKDAUM_NULL;
+}
+
+rokdaum_code rokdaum_fir(const int16_t *coefficients, size_t coefficient_count, const int16_t *line, size_t length, int16_t *out, size_t count)
+{
+    if ((!coefficients && coefficient_count) || (!line && length) || (!out && count))
+        return ROKDAUM_NULL;
+    return (rokdaum_code)rokdaum_proved_fir(coefficients, coefficient_count, line, length, out, count);
+}
+
 rokdaum_code rokdaum_g711_encode(rokdaum_law law, const int16_t *samples, uint8_t *codes, size_t count)
 {
     return (samples && codes) || !count ? (rokdaum_code)rokdaum_proved_g711_encode((uint32_t)law, samples, count, codes, count) : ROKDAUM_NULL;
