@@ -34,6 +34,7 @@ struct allocated rattle_realloc(void *memory, size_t kept, size_t size, size_t a
 void rattle_dealloc(void *memory);
 
 static char nowhere;
+/* Whose memory serves while a host is opened or closed. An allocator may open another host meanwhile. */
 static PER_THREAD const rokdaum_allocator *current;
 
 #ifdef ROKDAUM_NO_HEAP
@@ -123,10 +124,10 @@ rokdaum_code rokdaum_open_with(rokdaum *host, const rokdaum_options *options, co
 {
     if (!host || !options || (allocator && (!allocator->allocate || !allocator->release)))
         return ROKDAUM_NULL;
-    const rokdaum_allocator *serves = allocator ? allocator : &heap;
+    const rokdaum_allocator *serves = allocator ? allocator : &heap, *before = current;
     current = serves;
     int32_t code = rokdaum_proved_open(of(host), options->daram, options->saram, options->external, options->poisoned, options->poison, options->channels);
-    current = 0;
+    current = before;
     if (code == ROKDAUM_OK)
         host->allocator = serves;
     return (rokdaum_code)code;
@@ -141,9 +142,10 @@ rokdaum_code rokdaum_close(rokdaum *host)
 {
     if (!host)
         return ROKDAUM_NULL;
+    const rokdaum_allocator *before = current;
     current = host->allocator;
     int32_t code = rokdaum_proved_close(of(host));
-    current = 0;
+    current = before;
     if (code == ROKDAUM_OK)
         host->allocator = 0;
     return (rokdaum_code)code;
