@@ -34,6 +34,9 @@ int32_t rokdaum_proved_map(rokdaum_handle *handle, uint32_t space, rokdaum_block
 int16_t rokdaum_proved_add(int16_t a, int16_t b);
 int32_t rokdaum_proved_l_mac(int32_t v, int16_t a, int16_t b);
 int32_t rokdaum_proved_div_s(int16_t a, int16_t b, int16_t *quotient);
+int32_t rokdaum_proved_add_block(const int16_t *a, size_t a_len, const int16_t *b, size_t b_len, int16_t *out, size_t out_len);
+int32_t rokdaum_proved_mult_block(int16_t gain, const int16_t *samples, size_t samples_len, int16_t *out, size_t out_len);
+int32_t rokdaum_proved_fir(const int16_t *coefficients, size_t coefficients_len, const int16_t *line, size_t line_len, int16_t *out, size_t out_len);
 int32_t rokdaum_proved_g711_encode(uint32_t law, const int16_t *samples, size_t samples_len, uint8_t *codes, size_t codes_len);
 int32_t rokdaum_proved_g711_decode(uint32_t law, const uint8_t *codes, size_t codes_len, int16_t *samples, size_t samples_len);
 

@@ -34,6 +34,7 @@ struct allocated rattle_realloc(void *memory, size_t kept, size_t size, size_t a
 void rattle_dealloc(void *memory);
 
 static char nowhere;
+/* Whose memory serves while a host is opened or closed. An allocator may open another host meanwhile. */
 static PER_THREAD const rokdaum_allocator *current;
 
 #ifdef ROKDAUM_NO_HEAP
@@ -123,10 +124,10 @@ rokdaum_code rokdaum_open_with(rokdaum *host, const rokdaum_options *options, co
 {
     if (!host || !options || (allocator && (!allocator->allocate || !allocator->release)))
         return ROKDAUM_NULL;
-    const rokdaum_allocator *serves = allocator ? allocator : &heap;
+    const rokdaum_allocator *serves = allocator ? allocator : &heap, *before = current;
     current = serves;
     int32_t code = rokdaum_proved_open(of(host), options->daram, options->saram, options->external, options->poisoned, options->poison, options->channels);
-    current = 0;
+    current = before;
     if (code == ROKDAUM_OK)
         host->allocator = serves;
     return (rokdaum_code)code;
@@ -141,9 +142,10 @@ rokdaum_code rokdaum_close(rokdaum *host)
 {
     if (!host)
         return ROKDAUM_NULL;
+    const rokdaum_allocator *before = current;
     current = host->allocator;
     int32_t code = rokdaum_proved_close(of(host));
-    current = 0;
+    current = before;
     if (code == ROKDAUM_OK)
         host->allocator = 0;
     return (rokdaum_code)code;
@@ -277,6 +279,23 @@ int32_t rokdaum_l_mac(int32_t v, int16_t a, int16_t b)
 rokdaum_code rokdaum_div_s(int16_t a, int16_t b, int16_t *quotient)
 {
     return quotient ? (rokdaum_code)rokdaum_proved_div_s(a, b, quotient) : ROKDAUM_NULL;
+}
+
+rokdaum_code rokdaum_add_block(const int16_t *a, const int16_t *b, int16_t *out, size_t count)
+{
+    return (a && b && out) || !count ? (rokdaum_code)rokdaum_proved_add_block(a, count, b, count, out, count) : ROKDAUM_NULL;
+}
+
+rokdaum_code rokdaum_mult_block(int16_t gain, const int16_t *samples, int16_t *out, size_t count)
+{
+    return (samples && out) || !count ? (rokdaum_code)rokdaum_proved_mult_block(gain, samples, count, out, count) : ROKDAUM_NULL;
+}
+
+rokdaum_code rokdaum_fir(const int16_t *coefficients, size_t coefficient_count, const int16_t *line, size_t length, int16_t *out, size_t count)
+{
+    if ((!coefficients && coefficient_count) || (!line && length) || (!out && count))
+        return ROKDAUM_NULL;
+    return (rokdaum_code)rokdaum_proved_fir(coefficients, coefficient_count, line, length, out, count);
 }
 
 rokdaum_code rokdaum_g711_encode(rokdaum_law law, const int16_t *samples, uint8_t *codes, size_t count)

@@ -75,6 +75,7 @@ enum {
     ROKDAUM_MEMBERS = 8,          /* the most instances of a channel */
     ROKDAUM_BLOCK_SAMPLES = 1024, /* the most samples of one rokdaum_feed */
     ROKDAUM_PARAMETER_WORDS = 72, /* the most words of parameters */
+    ROKDAUM_COEFFICIENTS = 64,    /* the most coefficients of a FIR filter or a decimator */
     ROKDAUM_MAP_BLOCKS = 264      /* the most blocks of a memory space */
 };
 
@@ -200,6 +201,15 @@ int32_t rokdaum_l_mac(int32_t v, int16_t a, int16_t b);
 
 /* `*quotient` is a / b in Q15, for 0 <= a <= b and b above 0 (`div_s`). Refuses other operands with ROKDAUM_PARAMS. */
 rokdaum_code rokdaum_div_s(int16_t a, int16_t b, int16_t *quotient);
+
+/* Over blocks of `count` samples: the sum of each two (`add`), and the product of each and a gain in Q15 (`mult`). */
+rokdaum_code rokdaum_add_block(const int16_t *a, const int16_t *b, int16_t *out, size_t count);
+rokdaum_code rokdaum_mult_block(int16_t gain, const int16_t *samples, int16_t *out, size_t count);
+
+/* A FIR filter over a block of up to 1,024 samples, without a host: 1 to 64 coefficients in Q15, that of the newest sample first.
+ * `line` has the samples before the block, one fewer than there are coefficients, and then the block. Its length is at least 63 above
+ * `count`; what stands behind the block isn't heard. Refuses with ROKDAUM_BAD_LENGTH. */
+rokdaum_code rokdaum_fir(const int16_t *coefficients, size_t coefficient_count, const int16_t *line, size_t length, int16_t *out, size_t count);
 
 /* A code for each sample, and a sample for each code. There are `count` of both. */
 rokdaum_code rokdaum_g711_encode(rokdaum_law law, const int16_t *samples, uint8_t *codes, size_t count);

@@ -4,6 +4,7 @@
 //! Each tests what it is given, and answers `DONE` or why nothing was done. It asks for no memory and keeps none.
 #![tactic(auto)]
 
+mod blocks;
 mod companding;
 mod operators;
 
