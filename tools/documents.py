@@ -102,7 +102,7 @@ class Repository:
         self.words[crate].add(crate)
 
     def _read_code(self, crate: str, text: str) -> None:
-        for found in re.finditer(r"(?m)^( *)(?:pub(?:\([a-z]+\))? )?(?:unsafe )?(?:const )?fn (\w+)", text):
+        for found in re.finditer(r'(?m)^( *)(?:pub(?:\([a-z]+\))? )?(?:unsafe )?(?:const )?(?:extern "C" )?fn (\w+)', text):
             rest = text[found.start() :]
             end = re.search(rf"\n{found[1]}[{{}}]\n|\n *(?:pub(?:\([a-z]+\))? )?fn |\{{\n{found[1]}    (?! )|\Z", rest)
             contract = rest[: end.start()] if end else rest
