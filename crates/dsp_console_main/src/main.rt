@@ -5,10 +5,10 @@
 #[cfg(test)]
 mod tests;
 
-use dsp_program::program;
+use dsp_program::{CONSOLE, program};
 use std::process::ExitCode;
 use voice_set::Voice;
 
 fn main(rt: HostRuntime) -> ExitCode {
-    program::<Voice, _>(&rt)
+    program::<Voice, _>(&rt, &CONSOLE)
 }

@@ -1,9 +1,11 @@
 // SPDX-License-Identifier: Apache-2.0
-//! The program over a set of kinds: arguments, files, exit statuses, and the lines on the standard error.
+//! The program over a set of kinds: arguments, files, exit statuses, and what is said on the standard error.
 #![tactic(auto)]
 
-mod files;
+mod explaining;
+mod ports;
 mod program;
 mod serving;
 
+pub use dsp_arguments::{About, CONSOLE, VERSION};
 pub use program::{answer, program};

@@ -1,13 +1,13 @@
 //! The program from its words to its exit status.
 use crate::serving::serve;
 use clap::error::ErrorKind;
-use dsp_arguments::{ArgFault, arguments};
+use dsp_arguments::{About, ArgFault, arguments_of};
 use dsp_console::{Fault, outcome};
 use ialg::{Ialg, Named};
 use std::env::{self, Env};
+use std::fs::Files;
 use std::io;
 use std::process::ExitCode;
-use std::rt::Files;
 
 /// The status where the command line isn't taken.
 const USAGE: u8 = 2;
@@ -15,9 +15,10 @@ const USAGE: u8 = 2;
 /// Parses the words and serves the script: the exit status, and the line on the standard error.
 pub fn answer<M: Ialg + Named, R: Files + Print + Eprint + AllocGlobal>(
     rt: &R,
+    about: &About,
     words: &[&str],
 ) -> (u8, &'static str) {
-    match arguments(rt.alloc(), words) {
+    match arguments_of(rt.alloc(), about, words) {
         Ok(arguments) => outcome(&serve::<M, R>(rt, &arguments)),
         Err(ArgFault::Ports) => (USAGE, "dsp_console: ports come in pairs, 1 to 16"),
         Err(ArgFault::Clap(error)) => {
@@ -42,19 +43,23 @@ fn words_behind_name<R: Env + AllocGlobal>(rt: &R) -> io::Result<Vec<String>> {
 
 fn answer_words<M: Ialg + Named, R: Files + Print + Eprint + Env + AllocGlobal>(
     rt: &R,
+    about: &About,
 ) -> io::Result<(u8, &'static str)> {
     let owned = words_behind_name(rt)?;
     let mut words = Vec::with_capacity(rt.alloc(), owned.len())?;
     for word in &owned {
         words.push(word.as_str())?;
     }
-    Ok(answer::<M, R>(rt, words.as_slice()))
+    Ok(answer::<M, R>(rt, about, words.as_slice()))
 }
 
 /// The console over these kinds: takes the words of the command line, serves SCRIPT over the pairs of files, writes replies to the
 /// standard output and what went wrong to the standard error, and gives the exit status.
-pub fn program<M: Ialg + Named, R: Files + Print + Eprint + Env + AllocGlobal>(rt: &R) -> ExitCode {
-    let (status, line) = match answer_words::<M, R>(rt) {
+pub fn program<M: Ialg + Named, R: Files + Print + Eprint + Env + AllocGlobal>(
+    rt: &R,
+    about: &About,
+) -> ExitCode {
+    let (status, line) = match answer_words::<M, R>(rt, about) {
         Ok(ended) => ended,
         Err(error) if error.kind() == io::ErrorKind::OutOfMemory => outcome(&Err(Fault::Memory)),
         Err(_) => (USAGE, "dsp_console: an argument isn't UTF-8"),

@@ -1,27 +1,92 @@
 //! A run over files.
-ghost use Rattle.std.specs.Prelude.{◌≡◌, ◌≤◌, length, map, All, IfOk};
-ghost use Rattle.script_server.specs.Runs.{IsReadyOut};
+ghost use Rattle.std.specs.Prelude.{◌≡◌, ◌+◌, ◌≤◌, length, map, All, IfOk, IsOk};
+ghost use Rattle.script_server.specs.Runs.{IsReadyIn, IsReadyOut};
 
-use crate::files::{OutJournal, open_pairs, open_script};
+use crate::explaining::{Explainer, explain_fault};
+use crate::ports::{Listener, ReplyPort, ScriptPort};
 use dsp_arguments::Arguments;
-use dsp_console::{Config, Fault, PortOut, Summary, run};
+use dsp_console::{Config, Fault, PortIn, PortOut, Reading, Summary, run};
 use ialg::{Ialg, Named};
-use port_journal::{Journal, JournalOutput, JournalReplies, pass_on_all};
+use port_files::{InFile, OpenFault, OutFile, ReplyFile, Role, RunFiles, Troubles};
+use port_journal::{Journal, JournalOutput, JournalReplies, Passing, pass_on_all};
 use std::cell::RefCell;
-use std::io::{self, Printer};
-use std::rt::Files;
+use std::fs::Files;
+use std::io::{self, BufReader, Printer};
+
+/// An IN, which is read through a buffer.
+type Source<'t, R> = Reading<BufReader<InFile<'t, <R as Files>::File>>>;
+
+/// What waits for the OUTs and for the replies.
+type OutJournal<'t, R> = Journal<OutFile<'t, <R as Files>::File>, ReplyFile<'t, Printer<'t, R>>>;
 
 /// An OUT.
-type Sink<'j, 'a, R> = JournalOutput<'j, <R as Files>::File, Printer<'a, R>>;
+type Sink<'j, 't, R> =
+    JournalOutput<'j, OutFile<'t, <R as Files>::File>, ReplyFile<'t, Printer<'t, R>>>;
+
+fn fault_of(fault: OpenFault) -> Fault {
+    match fault {
+        OpenFault::Read => Fault::Read,
+        OpenFault::Write => Fault::Write,
+        OpenFault::Memory => Fault::Memory,
+    }
+}
+
+/// Opens an IN.
+fn open_input<'t, R: Files + AllocGlobal>(
+    files: &mut RunFiles<'t, '_, R>,
+    rt: &R,
+    path: &str,
+    channel: u8,
+) -> Result<Source<'t, R>, Fault>
+    ensures { IfOk result (λ port. IsReadyIn (⟦<Source<'t, R> as PortIn>⟧.source port)) }
+{
+    let (file, _) = files.open_in(path, Role::In(channel)).map_err(fault_of)?;
+    let buffer = BufReader::new(rt.alloc(), file).map_err(|_| Fault::Memory)?;
+    Ok(Reading::new(buffer))
+}
+
+/// Opens an OUT, which the journal has as its next output.
+fn open_output<'t, 'p, R: Files + Print + AllocGlobal>(
+    files: &mut RunFiles<'t, 'p, R>,
+    path: &'p str,
+    channel: u8,
+    journal: &mut OutJournal<'t, R>,
+) -> Result<(), Fault> {
+    let file = files
+        .open_out(path, Role::Out(channel))
+        .map_err(fault_of)?;
+    journal.push_output(file).map_err(|_| Fault::Memory)
+}
+
+/// Opens the pairs of files in order behind those that are open, of each pair the input first.
+fn open_pairs<'t, 'p, R: Files + Print + AllocGlobal>(
+    files: &mut RunFiles<'t, 'p, R>,
+    rt: &R,
+    pairs: &[(&'p str, &'p str)],
+    inputs: &mut Vec<Source<'t, R>>,
+    journal: &mut OutJournal<'t, R>,
+) -> Result<(), Fault>
+    ensures inputs { IsOk result → length inputs.new.items ≡ length inputs.old.items + length pairs.now }
+    ensures to_read { IsOk result → All IsReadyIn (map (⟦<Source<'t, R> as PortIn>⟧.source) inputs.old.items) → All IsReadyIn (map (⟦<Source<'t, R> as PortIn>⟧.source) inputs.new.items) }
+{
+    let Some(((input, output), further)) = pairs.split_first() else {
+        return Ok(());
+    };
+    let channel = inputs.len() as u8;
+    let port = open_input(files, rt, input, channel)?;
+    inputs.push(port).map_err(|_| Fault::Memory)?;
+    open_output(files, output, channel, journal)?;
+    open_pairs(files, rt, further, inputs, journal)
+}
 
 /// The ports of the journal's first outputs, so many.
-fn output_ports<'j, 'a, R: Files + Print + AllocGlobal>(
+fn output_ports<'j, 't, R: Files + Print + AllocGlobal>(
     rt: &R,
-    journal: &'j RefCell<OutJournal<'a, R>>,
+    journal: &'j RefCell<OutJournal<'t, R>>,
     count: usize,
-) -> Result<Vec<Sink<'j, 'a, R>>, Fault>
+) -> Result<Vec<Sink<'j, 't, R>>, Fault>
     ensures count { IfOk result (λ ports. length ports.items ≡ count) }
-    ensures to_write { IfOk result (λ ports. All IsReadyOut (map (⟦<Sink<'j, 'a, R> as PortOut>⟧.sink) ports.items)) }
+    ensures to_write { IfOk result (λ ports. All IsReadyOut (map (⟦<Sink<'j, 't, R> as PortOut>⟧.sink) ports.items)) }
 {
     let mut ports = Vec::new(rt.alloc());
     for number in 0..count {
@@ -32,20 +97,40 @@ fn output_ports<'j, 'a, R: Files + Print + AllocGlobal>(
     Ok(ports)
 }
 
-/// Serves the script over the files. The INs are read through buffers; the OUTs and the replies are written through a journal.
-pub(crate) fn serve<M: Ialg + Named, R: Files + Print + AllocGlobal>(
-    rt: &R,
-    arguments: &Arguments<'_>,
+/// Serves the script over files that are opened, and notes in `begun` that something of the script was read: before that no OUT is
+/// touched. The INs are read through buffers; the OUTs and the replies are written through a journal.
+fn serve_files<'t, 'p, M: Ialg + Named, R: Files + Print + Eprint + AllocGlobal>(
+    rt: &'t R,
+    arguments: &Arguments<'p>,
+    files: &mut RunFiles<'t, 'p, R>,
+    listener: Listener<'_, '_, R>,
+    begun: &mut bool,
 ) -> Result<Summary, Fault>
     requires { 1 ≤ length arguments.now.ports.items }
 {
-    let (mut script, passing) = open_script(rt, arguments.script)?;
+    let (file, is_regular) = files
+        .open_in(arguments.script, Role::Script)
+        .map_err(fault_of)?;
+    // Where the script isn't a regular file, someone may wait for each reply.
+    let passing = if is_regular {
+        Passing::WhereFull
+    } else {
+        Passing::EachLine
+    };
+    let mut script = ScriptPort::new(file, listener);
     let mut inputs = Vec::new(rt.alloc());
-    let mut journal = Journal::new(rt.alloc(), io::writer(rt), passing);
-    open_pairs(rt, arguments.ports.as_slice(), &mut inputs, &mut journal)?;
+    let replies = ReplyFile::new(io::writer(rt), files.troubles());
+    let mut journal = Journal::new(rt.alloc(), replies, passing);
+    open_pairs(
+        files,
+        rt,
+        arguments.ports.as_slice(),
+        &mut inputs,
+        &mut journal,
+    )?;
     let journal = RefCell::new(journal);
     let mut outputs = output_ports(rt, &journal, arguments.ports.len())?;
-    let mut replies = JournalReplies::new(&journal);
+    let mut replies = ReplyPort::new(JournalReplies::new(&journal), listener);
     let config = Config {
         sizes: arguments.sizes,
         poison: arguments.poison,
@@ -60,9 +145,40 @@ pub(crate) fn serve<M: Ialg + Named, R: Files + Print + AllocGlobal>(
         &mut outputs,
         &mut replies,
     );
+    *begun = script.has_begun();
     // What was served before a fault of the script or of an input is passed on all the same.
-    if ended == Err(Fault::Read) && pass_on_all(&journal).is_err() {
+    if *begun && ended == Err(Fault::Read) && pass_on_all(&journal).is_err() {
         return Err(Fault::Write);
+    }
+    ended
+}
+
+/// Opens the files and serves the script over them. A run that ends before something of the script was read leaves all files as they
+/// were.
+pub(crate) fn serve<M: Ialg + Named, R: Files + Print + Eprint + AllocGlobal>(
+    rt: &R,
+    arguments: &Arguments<'_>,
+) -> Result<Summary, Fault>
+    requires { 1 ≤ length arguments.now.ports.items }
+{
+    let troubles = RefCell::new(Troubles::default());
+    let explainer = RefCell::new(Explainer::new(rt, arguments));
+    let listener = if arguments.explain {
+        Some(&explainer)
+    } else {
+        None
+    };
+    let mut begun = false;
+    let mut files = RunFiles::new(rt, &troubles).map_err(fault_of)?;
+    let ended = serve_files::<M, R>(rt, arguments, &mut files, listener, &mut begun);
+    if !begun {
+        files.take_back();
+    }
+    if let Err(fault) = ended
+        && arguments.explain
+        && let Ok(troubles) = troubles.try_borrow()
+    {
+        explain_fault(rt, arguments, fault, &troubles);
     }
     ended
 }
