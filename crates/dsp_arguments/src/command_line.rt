@@ -10,7 +10,7 @@ use space_heap::SPACE_WORDS;
 use std::alloc::Global;
 
 /// The end of the help.
-const MORE: &str = "Options come first. A file whose name begins with a minus stands behind --.
+const MORE: &str = "A file whose name begins with a minus stands behind --.
 
 Exit status:
   0  every line of SCRIPT was accepted

@@ -4,8 +4,8 @@
 
 mod explaining;
 mod ports;
-mod program;
+mod starting;
 mod serving;
 
 pub use dsp_arguments::{About, CONSOLE, VERSION};
-pub use program::{answer, program};
+pub use starting::{answer, program};

@@ -2,6 +2,7 @@
 use crate::files::{InFile, OutFile};
 use crate::roll::{RegularFile, Role, Roll, RollFault};
 use crate::trouble::{Troubles, Watch, Why};
+use std::alloc::Global;
 use std::cell::RefCell;
 use std::fs::{self, File, Files, Metadata, OpenFile, OpenOptions};
 use std::io;
@@ -46,6 +47,11 @@ impl<'t, 'p, R: Files + AllocGlobal> RunFiles<'t, 'p, R> {
             files.enter(&metadata, Role::Replies)?;
         }
         Ok(files)
+    }
+
+    /// The allocator of the runtime.
+    pub fn alloc(&self) -> Global {
+        self.rt.alloc()
     }
 
     /// Where what goes wrong with the files is noted.
