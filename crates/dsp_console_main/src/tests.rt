@@ -1,8 +1,7 @@
 //! How the program ends over real files: its exit status and its line on the standard error, and which file is opened first.
 use dsp_program::{CONSOLE, answer};
 use std::fs::{self, File};
-use std::io::{self, Write};
-use std::os::fd::AsRawFd;
+use std::io::Write;
 use std::test::Fail;
 use voice_set::Voice;
 
@@ -81,28 +80,15 @@ fn what_was_served_before_a_fault_is_passed_on(rt: HostRuntime) -> Result<(), Fa
     Ok(())
 }
 
-// The output of the first channel is the input of the second. Where the script is a regular file the first feed's sample waits, and the
-// second feed finds none. Whoever writes into a pipe may wait for each line, so there it is passed on before the next line is served.
+// Which names and links are one file, and what isn't made anew, is shown over the whole program by tests/program.
 #[test]
-fn a_line_that_comes_by_a_pipe_is_passed_on_at_once(rt: HostRuntime) -> Result<(), Fail> {
-    let script =
-        b"create 0 fir 0 16384\ncreate 1 fir 0 16384\nchain 0 0\nchain 1 1\nfeed 0 1\nfeed 1 1\n";
-    make_file(&rt, "relayed", script)?;
-    make_file(&rt, "input", b"\x04\x00")?;
-    assert!(rt; answer::<Voice, _>(&rt, &CONSOLE, &["relayed", "input", "between", "between", "output"]) == (1, ""));
-    assert_eq!(rt; fs::read(&rt, "output")?.as_slice(), b"".as_slice());
-    let (reader, mut writer) = io::pipe(&rt)?;
-    writer.write_all(script)?;
-    drop(writer);
-    let path = format!(in rt.alloc(); "/proc/self/fd/{}", reader.as_raw_fd())?;
-    assert!(rt;
-        answer::<Voice, _>(
-            &rt,
-            &CONSOLE,
-            &[path.as_str(), "input", "between", "between", "output"]
-        ) == (0, "")
-    );
-    assert_eq!(rt; fs::read(&rt, "output")?.as_slice(), b"\x01\x00".as_slice());
+fn an_output_that_is_read_is_not_written_over(rt: HostRuntime) -> Result<(), Fail> {
+    make_file(&rt, "script", b"")?;
+    make_file(&rt, "input", b"\x02\x00")?;
+    assert!(rt; answer::<Voice, _>(&rt, &CONSOLE, &["script", "input", "input"]) == WRITE_FAILED);
+    assert!(rt; answer::<Voice, _>(&rt, &CONSOLE, &["script", "input", "made", "made", "output"]) == WRITE_FAILED);
+    assert_eq!(rt; fs::read(&rt, "input")?.as_slice(), b"\x02\x00".as_slice());
+    assert!(rt; !fs::exists(&rt, "made")?);
     Ok(())
 }
 

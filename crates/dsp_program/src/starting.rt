@@ -25,9 +25,15 @@ pub fn answer<M: Ialg + Named, R: Files + Print + Eprint + AllocGlobal>(
             if error.kind() == ErrorKind::OutOfMemory {
                 return outcome(&Err(Fault::Memory));
             }
-            let _ = error.print(rt);
-            let status = if error.use_stderr() { USAGE } else { 0 };
-            (status, "")
+            let printed = error.print(rt);
+            if error.use_stderr() {
+                return (USAGE, "");
+            }
+            // Help and version are all that is asked for: whoever doesn't get them is told so.
+            if printed.is_err() {
+                return outcome(&Err(Fault::Write));
+            }
+            (0, "")
         }
     }
 }

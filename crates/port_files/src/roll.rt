@@ -1,5 +1,5 @@
 //! Which regular files a run has open.
-ghost use Rattle.std.specs.Prelude.{◌≡◌, ◌⊎◌, ◌++◌, ◌∷◌, [], true, None, IfErr, IsOk, IsSomeAnd};
+ghost use Rattle.std.specs.Prelude.{◌≡◌, ◌++◌, ◌∷◌, [], true, Err, None, IfErr, IfSome, IsOk};
 ghost use Rattle.std.specs.List.{find};
 ghost use Rattle.std.specs.Option.{option_map};
 ghost use Rattle.std.specs.Result.{is_err};
@@ -101,8 +101,8 @@ impl Roll {
     /// Adds a file that was opened. Where it clashes with one that is open, or memory is refused, the roll stays as it was.
     pub fn add(&mut self, file: RegularFile) -> Result<(), RollFault>
         ensures added { IsOk result → self.new.files.items ≡ self.old.files.items ++ file ∷ [] }
-        ensures apart { IsOk result → find (λ other. clashes other file) self.old.files.items ≡ None }
-        ensures clash { IfErr result (λ fault. (fault ≡ RollFault.Memory) ⊎ IsSomeAnd (find (λ other. clashes other file) self.old.files.items) (λ other. fault ≡ RollFault.Clash other.role)) }
+        ensures clash { IfSome (find (λ other. clashes other file) self.old.files.items) (λ other. result ≡ Err (RollFault.Clash other.role)) }
+        ensures memory { find (λ other. clashes other file) self.old.files.items ≡ None → IfErr result (λ fault. fault ≡ RollFault.Memory) }
         ensures stays { is_err result ≡ true → self.new.files.items ≡ self.old.files.items }
     {
         if let Some(role) = self.clash(file) {
