@@ -25,7 +25,7 @@ PICTURE = Path("docs/architecture.svg")
 # The layers from the top down, where crates.txt has no headings: a crate belongs to the first whose pattern it matches as a whole.
 LAYERS: tuple[tuple[str, str], ...] = (
     ("tests", r"test_\w+|trial_\w+|\w+_rows|\w+_trace|\w+_turns|rogue_kit|mixed_console|scribbler|neighbours|slicer_life|host_calls"),
-    ("program", r"dsp_console_main|dsp_arguments|port_pairs"),
+    ("program", r"dsp_console_main|dsp_program|dsp_arguments|line_reasons|port_files|port_pairs"),
     ("engine", r"dsp_console|voice_console|script_server|port_journal|octet_ports|line_reader"),
     ("channels", r"voice_channel"),
     ("host", r"alg_host|kept_\w+|host_(?:moves|create|delete|refines)"),

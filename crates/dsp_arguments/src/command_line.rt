@@ -69,7 +69,9 @@ fn explain_option(alloc: Global) -> Arg<'static> {
 /// The path of the script.
 fn script_argument(alloc: Global) -> Arg<'static> {
     Arg::new(alloc, "SCRIPT")
-        .help("Commands, one a line: each line that isn't blank gets one reply on the standard output")
+        .help(
+            "Commands, one a line: each line that isn't blank gets one reply on the standard output",
+        )
         .required(true)
         .action(ArgAction::Set)
 }
@@ -88,7 +90,11 @@ fn ports_argument(alloc: Global) -> Arg<'static> {
 /// The options and arguments, in the order that the help has.
 fn accepted(alloc: Global) -> Result<Vec<Arg<'static>>, Error> {
     let accepted = vec![in alloc;
-        space_option(alloc, "daram", "Size of the space daram in 16-bit words, a multiple of 4 up to 65536"),
+        space_option(
+            alloc,
+            "daram",
+            "Size of the space daram in 16-bit words, a multiple of 4 up to 65536"
+        ),
         space_option(alloc, "saram", "Size of the space saram"),
         space_option(alloc, "external", "Size of the space external"),
         poison_option(alloc),

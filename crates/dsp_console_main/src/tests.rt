@@ -41,8 +41,17 @@ fn a_bad_size_is_found_once_the_files_are_open(rt: HostRuntime) -> Result<(), Fa
     make_file(&rt, "script", b"")?;
     make_file(&rt, "input", b"")?;
     let line = "dsp_console: a space is 0 to 65536 words, a multiple of 4";
-    assert!(rt; answer::<Voice, _>(&rt, &CONSOLE, &["--daram", "6", "script", "input", "output"]) == (2, line));
-    assert!(rt; answer::<Voice, _>(&rt, &CONSOLE, &["--daram", "6", "script", ABSENT, "output"]) == READ_FAILED);
+    assert!(rt;
+        answer::<Voice, _>(
+            &rt,
+            &CONSOLE,
+            &["--daram", "6", "script", "input", "output"]
+        ) == (2, line)
+    );
+    assert!(rt;
+        answer::<Voice, _>(&rt, &CONSOLE, &["--daram", "6", "script", ABSENT, "output"])
+            == READ_FAILED
+    );
     Ok(())
 }
 
@@ -58,7 +67,9 @@ fn a_refusal_and_a_full_device_show_in_the_status(rt: HostRuntime) -> Result<(),
     assert!(rt; answer::<Voice, _>(&rt, &CONSOLE, &["refused", "input", "output"]) == (1, ""));
     assert!(rt; answer::<Voice, _>(&rt, &CONSOLE, &["granted", "input", "output"]) == (0, ""));
     assert_eq!(rt; fs::read(&rt, "output")?.as_slice(), b"\x01\x00".as_slice());
-    assert!(rt; answer::<Voice, _>(&rt, &CONSOLE, &["granted", "input", "/dev/full"]) == WRITE_FAILED);
+    assert!(rt;
+        answer::<Voice, _>(&rt, &CONSOLE, &["granted", "input", "/dev/full"]) == WRITE_FAILED
+    );
     Ok(())
 }
 
@@ -76,7 +87,13 @@ fn what_was_served_before_a_fault_is_passed_on(rt: HostRuntime) -> Result<(), Fa
     assert_eq!(rt; fs::read(&rt, "output")?.as_slice(), b"\x01\x00".as_slice());
     // A folder opens as a file does, and fails where it is read.
     assert!(rt; answer::<Voice, _>(&rt, &CONSOLE, &["served", ".", "output"]) == READ_FAILED);
-    assert!(rt; answer::<Voice, _>(&rt, &CONSOLE, &["served", "input", "output", ".", "/dev/full"]) == (0, ""));
+    assert!(rt;
+        answer::<Voice, _>(
+            &rt,
+            &CONSOLE,
+            &["served", "input", "output", ".", "/dev/full"]
+        ) == (0, "")
+    );
     Ok(())
 }
 
@@ -86,7 +103,13 @@ fn an_output_that_is_read_is_not_written_over(rt: HostRuntime) -> Result<(), Fai
     make_file(&rt, "script", b"")?;
     make_file(&rt, "input", b"\x02\x00")?;
     assert!(rt; answer::<Voice, _>(&rt, &CONSOLE, &["script", "input", "input"]) == WRITE_FAILED);
-    assert!(rt; answer::<Voice, _>(&rt, &CONSOLE, &["script", "input", "made", "made", "output"]) == WRITE_FAILED);
+    assert!(rt;
+        answer::<Voice, _>(
+            &rt,
+            &CONSOLE,
+            &["script", "input", "made", "made", "output"]
+        ) == WRITE_FAILED
+    );
     assert_eq!(rt; fs::read(&rt, "input")?.as_slice(), b"\x02\x00".as_slice());
     assert!(rt; !fs::exists(&rt, "made")?);
     Ok(())
@@ -97,12 +120,20 @@ fn masks_make_octet_ports(rt: HostRuntime) -> Result<(), Fail> {
     make_file(&rt, "decode", b"create 0 g711 0 1 1\nchain 0 0\nfeed 0 3\n")?;
     make_file(&rt, "encode", b"create 0 g711 0 1 0\nchain 0 0\nfeed 0 3\n")?;
     make_file(&rt, "codes", b"\x80\x00\xff")?;
-    assert!(rt; answer::<Voice, _>(&rt, &CONSOLE, &["--in8", "1", "decode", "codes", "samples"]) == (0, ""));
+    assert!(rt;
+        answer::<Voice, _>(&rt, &CONSOLE, &["--in8", "1", "decode", "codes", "samples"]) == (0, "")
+    );
     assert_eq!(rt;
         fs::read(&rt, "samples")?.as_slice(),
         b"\x7c\x7d\x84\x82\x00\x00".as_slice()
     );
-    assert!(rt; answer::<Voice, _>(&rt, &CONSOLE, &["--out8", "1", "encode", "samples", "again"]) == (0, ""));
+    assert!(rt;
+        answer::<Voice, _>(
+            &rt,
+            &CONSOLE,
+            &["--out8", "1", "encode", "samples", "again"]
+        ) == (0, "")
+    );
     assert_eq!(rt;
         fs::read(&rt, "again")?.as_slice(),
         b"\x80\x00\xff".as_slice()

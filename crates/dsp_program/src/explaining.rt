@@ -29,7 +29,9 @@ fn refusal_of(reply: &[u8]) -> Option<u32> {
     }
     let mut number: u32 = 0;
     for digit in words.next()? {
-        number = number.saturating_mul(10).saturating_add(u32::from(digit.saturating_sub(b'0')));
+        number = number
+            .saturating_mul(10)
+            .saturating_add(u32::from(digit.saturating_sub(b'0')));
     }
     Some(number)
 }

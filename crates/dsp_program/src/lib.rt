@@ -4,8 +4,8 @@
 
 mod explaining;
 mod ports;
-mod starting;
 mod serving;
+mod starting;
 
 pub use dsp_arguments::{About, CONSOLE, VERSION};
 pub use starting::{answer, program};

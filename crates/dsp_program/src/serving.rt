@@ -45,9 +45,7 @@ fn open_output<'t, 'p, R: Files + AllocGlobal, P: Write>(
     channel: u8,
     journal: &mut Journal<OutFile<'t, R::File>, P>,
 ) -> Result<(), Fault> {
-    let file = files
-        .open_out(path, Role::Out(channel))
-        .map_err(fault_of)?;
+    let file = files.open_out(path, Role::Out(channel)).map_err(fault_of)?;
     journal.push_output(file).map_err(|_| Fault::Memory)
 }
 

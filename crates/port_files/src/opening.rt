@@ -125,10 +125,7 @@ impl<'t, 'p, R: Files + AllocGlobal> RunFiles<'t, 'p, R> {
             }
             return Ok(file);
         }
-        options
-            .create_new(false)
-            .create(true)
-            .open(self.rt, path)
+        options.create_new(false).create(true).open(self.rt, path)
     }
 
     /// Opens an OUT, and makes it where it isn't there. What it holds stays till its first write or flush.
