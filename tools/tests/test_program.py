@@ -109,7 +109,7 @@ class Wrapper(unittest.TestCase):
 
     def test_help_and_version_build_nothing(self) -> None:
         self.assertEqual(self.run_it("--help").stdout, "the help\n")
-        self.assertEqual(self.run_it("--version").stdout, "dsp_console 1.2.3\n")
+        self.assertEqual(self.run_it("--version").stdout, f"dsp_console 1.2.3, proved with {KIT}\n")
         self.assertEqual(self.calls.read_text(), "")
 
     def test_a_refused_source_leaves_the_old_program_unused(self) -> None:

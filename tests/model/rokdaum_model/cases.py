@@ -19,6 +19,13 @@ from .console import FAULT_STATUS, STATUS_LINE, Config, Served, Undetermined, se
 from .sets import HOSTED
 
 ABOUT = ("note", "kinds", "stale", "piped", "any_replies", "any_outputs")
+WRONG_COMMAND_LINE = 2   # the status of a run that doesn't begin, as where a size is wrong
+STALE = b"left by an earlier run, "
+
+
+def limited(data: bytes, length: int) -> bytes:
+    """So many bytes of a text over and over."""
+    return (data * (length // len(data) + 1))[:length]
 
 
 @dataclass
@@ -38,6 +45,15 @@ class Case:
     piped: bool = False
     any_replies: list[int] = field(default_factory=list)
     any_outputs: dict[str, list[tuple[int, Optional[int]]]] = field(default_factory=dict)
+
+    @property
+    def begins(self) -> bool:
+        """Whether the run gets to the script: one that doesn't leaves all files as they were."""
+        return self.status != WRONG_COMMAND_LINE
+
+    def held_before(self, c: int) -> Optional[bytes]:
+        """What an OUT holds before the run, None where it isn't there."""
+        return limited(STALE, len(self.outputs[c]) + 100) if self.stale else None
 
 
 def case_of(config: Config, script: bytes, inputs: list[bytes], served: Served, undetermined: Undetermined,

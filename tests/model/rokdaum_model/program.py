@@ -18,7 +18,6 @@ from .sets import HOSTED, PROGRAMS
 TOP = Path(__file__).resolve().parents[3]
 """The top of the repository."""
 
-STALE = b"left by an earlier run, "
 TIMEOUT = 60.0
 
 
@@ -47,11 +46,6 @@ def memory_folder() -> Optional[str]:
     return "/dev/shm" if os.access("/dev/shm", os.W_OK) else None
 
 
-def limited(data: bytes, length: int) -> bytes:
-    """So many bytes of a text over and over."""
-    return (data * (length // len(data) + 1))[:length]
-
-
 @dataclass
 class Started:
     """A run that was started."""
@@ -73,10 +67,11 @@ class Slot:
         for c, data in enumerate(case.inputs):
             (self.folder / f"in{c}").write_bytes(data)
             out = self.folder / f"out{c}"
-            if case.stale:
-                out.write_bytes(limited(STALE, len(case.outputs[c]) + 100))
-            else:
+            held = case.held_before(c)
+            if held is None:
                 out.unlink(missing_ok=True)
+            else:
+                out.write_bytes(held)
 
     def start(self, case: Case, environment: Optional[dict[str, str]] = None) -> Started:
         """Starts the run of a case."""
