@@ -25,7 +25,7 @@ PICTURE = Path("docs/architecture.svg")
 # The layers from the top down, where crates.txt has no headings: a crate belongs to the first whose pattern it matches as a whole.
 LAYERS: tuple[tuple[str, str], ...] = (
     ("tests", r"test_\w+|\w+_trace|rogue_kit|mixed_console"),
-    ("C library", r"\w+_library"),
+    ("C library", r"\w+_library|library_runs"),
     ("program", r"dsp_console_main|gateway_console|dsp_arguments|dsp_program|line_reasons|port_files|port_pairs"),
     ("engine", r"dsp_console|voice_console|script_server|port_journal|octet_ports"),
     ("channels", r"voice_channel"),

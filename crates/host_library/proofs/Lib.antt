@@ -1,4 +1,3 @@
 pub mod Boxed
-pub mod RunsDone
 pub mod Served
 pub mod There

@@ -12,7 +12,6 @@ mod feeding;
 mod handle;
 mod held;
 mod machine;
-mod runs;
 mod spaces;
 
 /// The call did what it says. The codes 3 to 9 are the numbers of `Refusal`.
