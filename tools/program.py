@@ -20,8 +20,9 @@ from pathlib import Path
 
 TOP = Path(__file__).resolve().parent.parent
 CRATES = TOP / "crates"
-# The crate of the program, and that of its like with kinds that break the laws, which only tests run.
+# The crate of the program, that of its like with the kinds of a gateway, and that with kinds that break the laws, which only tests run.
 NAME = "dsp_console_main"
+GATEWAY = "gateway_console"
 MIXED = "mixed_console"
 # What a crate is proved from.
 SOURCES = ("src", "specs", "proofs")
