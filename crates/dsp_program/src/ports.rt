@@ -74,7 +74,7 @@ pub(crate) struct ReplyPort<'l, 'e, R, P> {
 impl<'l, 'e, R: Eprint, P: PortOut> ReplyPort<'l, 'e, R, P> {
     /// They go to this port.
     pub(crate) fn new(replies: P, listener: Listener<'l, 'e, R>) -> Self
-        ensures { P.sink result.replies ≡ P.sink replies }
+        ensures { (P.sink result.replies).failed ≡ (P.sink replies).failed }
     {
         ReplyPort { replies, listener }
     }
