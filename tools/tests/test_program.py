@@ -152,6 +152,9 @@ class Parts(unittest.TestCase):
         here = os.getcwd()
         self.assertEqual(program.absolute(["--poison=3", "--in8", "1", "--", "-s", "/i"]), ["--poison=3", "--in8", "1", "--", f"{here}/-s", "/i"])
 
+    def test_a_static_library_is_an_archive(self) -> None:
+        self.assertEqual([program.path_of(it).name for it in ("host_library", "voice_set", program.NAME)], ["libhost_library.a", "voice_set", "dsp_console_main"])
+
     def test_a_crate_stands_behind_what_it_uses(self) -> None:
         crates = program.closure()
         listed = program.uses()
