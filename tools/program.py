@@ -180,6 +180,7 @@ class Progress:
     def __init__(self, crates: list[str], say) -> None:
         listed = uses()
         self.say, self.began, self.lanes = say, time.monotonic(), len(os.sched_getaffinity(0))
+        self.what = "library" if is_archive(crates[-1]) else "program"
         self.weight = {it: CRATE_SECONDS + LINE_SECONDS * sum(octets_of(path).count(b"\n") for path in source_files(it)) for it in crates}
         self.below = {it: [dep for dep in listed[it] if dep in self.weight] for it in crates}
         self.left = list(crates)
@@ -198,7 +199,7 @@ class Progress:
         """Tells what is coming."""
         minutes = self.seconds_left() / 60
         self.say(
-            f"the program has to be built: {self.all} crates are proved, up to {self.lanes} at a time, in about {minutes:.0f} minutes on idle processors; "
+            f"the {self.what} has to be built: {self.all} crates are proved, up to {self.lanes} at a time, in about {minutes:.0f} minutes on idle processors; "
             "all sources are read first, which takes a minute or two"
         )
         self.whole = max(self.seconds_left(), 1.0)
@@ -211,7 +212,7 @@ class Progress:
         spent, model = time.monotonic() - self.began, self.seconds_left()
         done = self.whole - model
         pace = min(max(spent / done, 0.5), 6.0) if done > 0.1 * self.whole else 1.0
-        rest = f"about {max(1, round(model * pace / 60))} minutes left" if self.left else "the program is next"
+        rest = f"about {max(1, round(model * pace / 60))} minutes left" if self.left else f"the {self.what} is next"
         self.say(f"proved {crate}, {self.all - len(self.left)} of {self.all}, {rest}")
 
 
