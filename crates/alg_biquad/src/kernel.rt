@@ -1,14 +1,11 @@
 //! The filter over plain words.
-ghost use Rattle.std.specs.Prelude.{◌≡◌, ◌≤◌, ◌∷◌, ℤ, pos, List, [], length, IfSome};
-ghost use Rattle.basic_op.specs.Operators.{l_shl_of, round_of};
+ghost use Rattle.std.specs.Prelude.{◌≡◌, ◌≤◌, ◌∷◌, ℤ, List, [], length};
 ghost use Rattle.ialg.specs.History.{History, word_at, words_in_force};
 ghost use Rattle.alg_biquad.specs.Equation.{biquad_value};
 ghost use Rattle.alg_biquad.specs.Keeps.{state_after, Ran};
 
 use crate::{COEFFICIENTS, STATE_WORDS};
-use basic_op::{
-    checked_l_mac, checked_l_msu, checked_l_mult, extract_h, l_mac, l_msu, l_mult, l_shl, round,
-};
+use basic_op::{l_mac, l_msu, l_mult, l_shl, round};
 use ialg::{BLOCK_SAMPLES, Block};
 
 /// The two newest samples and the two newest outputs, in Q15.
@@ -61,50 +58,14 @@ impl State {
     }
 }
 
-/// A sum in Q30 as an output in Q15, if neither the doubling nor the rounding saturates.
-fn rounded(sum: i32) -> Option<i16>
-    ensures { IfSome result (λ y. y ≡ round_of (l_shl_of sum (pos 1))) }
-{
-    let doubled = sum.checked_add(sum)?;
-    let high = doubled.checked_add(1 << 15)?;
-    Some(extract_h(high))
-}
-
-/// The output at the sample `x`, if no step of it saturates. Each step has a branch for that in place of a limit, which takes half the
-/// time.
-fn unsaturated(c: &[i16], state: State, x: i16) -> Option<i16>
-    requires { length c.now ≡ COEFFICIENTS }
-    ensures { IfSome result (λ y. y ≡ biquad_value (word_at c.now) x state.x1 state.x2 state.y1 state.y2) }
-{
-    let newest = checked_l_mult(c[0], x)?;
-    let newer = checked_l_mac(newest, c[1], state.x1)?;
-    let forward = checked_l_mac(newer, c[2], state.x2)?;
-    let back = checked_l_msu(forward, c[3], state.y1)?;
-    let sum = checked_l_msu(back, c[4], state.y2)?;
-    rounded(sum)
-}
-
-/// The output at the sample `x`, by saturating steps.
-#[cold]
-#[inline(never)]
-fn saturated(c: &[i16], state: State, x: i16) -> i16
+/// The output at the sample `x`, in Q15. Coefficients are in Q14, so that the sum is in Q30, and in Q31 when it is doubled.
+fn output(c: &[i16], state: State, x: i16) -> i16
     requires { length c.now ≡ COEFFICIENTS }
     ensures { result ≡ biquad_value (word_at c.now) x state.x1 state.x2 state.y1 state.y2 }
 {
     let forward = l_mac(l_mac(l_mult(c[0], x), c[1], state.x1), c[2], state.x2);
     let sum = l_msu(l_msu(forward, c[3], state.y1), c[4], state.y2);
     round(l_shl(sum, 1))
-}
-
-/// The output at the sample `x`, in Q15. Coefficients are in Q14, so that the sum is in Q30, and in Q31 when it is doubled.
-fn output(c: &[i16], state: State, x: i16) -> i16
-    requires { length c.now ≡ COEFFICIENTS }
-    ensures { result ≡ biquad_value (word_at c.now) x state.x1 state.x2 state.y1 state.y2 }
-{
-    match unsaturated(c, state, x) {
-        Some(y) => y,
-        None => saturated(c, state, x),
-    }
 }
 
 /// Runs the filter over a block; `state` has the two newest samples and outputs before and after.

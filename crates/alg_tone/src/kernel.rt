@@ -1,12 +1,12 @@
 //! The detector over plain words.
-ghost use Rattle.std.specs.Prelude.{◌≡◌, ◌≤◌, ◌<◌, ◌+◌, ◌++◌, ◌∷◌, ℤ, List, [], length, pos, IfSome};
-ghost use Rattle.basic_op.specs.Operators.{add_of, sub_of};
+ghost use Rattle.std.specs.Prelude.{◌≡◌, ◌≤◌, ◌<◌, ◌+◌, ◌++◌, ◌∷◌, ℤ, List, [], length, pos};
+ghost use Rattle.basic_op.specs.Operators.{add_of};
 ghost use Rattle.ialg.specs.History.{History, word_at};
 ghost use Rattle.alg_tone.specs.Equation.{feedback_of, tone_level, tone_value};
 ghost use Rattle.alg_tone.specs.Keeps.{state_after, KeepsParameters, Ran};
 
 use crate::{PARAMETERS, STATE_WORDS};
-use basic_op::{add, checked_l_mult, extract_h, l_mac, l_msu, l_mult, l_shl, shr, sub};
+use basic_op::{add, extract_h, l_mac, l_msu, l_mult, l_shl, shr, sub};
 use ialg::{BLOCK_SAMPLES, Block};
 
 /// A frame so far: how many samples of it there are, and the two newest values.
@@ -61,20 +61,6 @@ impl Frame {
     }
 }
 
-/// The sum, if it doesn't saturate.
-fn sum(a: i16, b: i16) -> Option<i16>
-    ensures { IfSome result (λ s. s ≡ add_of a b) }
-{
-    a.checked_add(b)
-}
-
-/// The difference, if it doesn't saturate.
-fn difference(a: i16, b: i16) -> Option<i16>
-    ensures { IfSome result (λ d. d ≡ sub_of a b) }
-{
-    a.checked_sub(b)
-}
-
 /// What a detector is made for: the factor in Q14, the samples of a frame, and the shift.
 #[derive(Clone, Copy)]
 struct Tuning {
@@ -105,41 +91,11 @@ impl Tuning {
         extract_h(l_shl(l_mult(self.factor, v), 1))
     }
 
-    /// The factor times a value, if neither doubling saturates.
-    fn quick_feedback(self, v: i16) -> Option<i16>
-        ensures { IfSome result (λ g. g ≡ feedback_of self.factor v) }
-    {
-        let twice = checked_l_mult(self.factor, v)?;
-        let doubled = twice.checked_add(twice)?;
-        Some(extract_h(doubled))
-    }
-
-    /// The value of the sample `x` in the frame, if no step of it saturates. Each step has a branch for that in place of a limit.
-    fn quick_value(self, frame: Frame, x: i16) -> Option<i16>
-        ensures { IfSome result (λ v. v ≡ tone_value self.factor self.shift x frame.v1 frame.v2) }
-    {
-        let fed = self.quick_feedback(frame.v1)?;
-        let sum = sum(shr(x, self.shift), fed)?;
-        difference(sum, frame.v2)
-    }
-
-    /// The value of the sample `x` in the frame, by saturating steps.
-    #[cold]
-    #[inline(never)]
-    fn exact_value(self, frame: Frame, x: i16) -> i16
-        ensures { result ≡ tone_value self.factor self.shift x frame.v1 frame.v2 }
-    {
-        sub(add(shr(x, self.shift), self.feedback(frame.v1)), frame.v2)
-    }
-
     /// The value of the sample `x` in the frame, in Q15.
     fn value(self, frame: Frame, x: i16) -> i16
         ensures { result ≡ tone_value self.factor self.shift x frame.v1 frame.v2 }
     {
-        match self.quick_value(frame, x) {
-            Some(v) => v,
-            None => self.exact_value(frame, x),
-        }
+        sub(add(shr(x, self.shift), self.feedback(frame.v1)), frame.v2)
     }
 
     /// The level of the tone in the frame, in Q15: the sum of squares is in Q31.

@@ -6,14 +6,12 @@
 //! value as a function of whole numbers. The flags Overflow and Carry are left out.
 #![tactic(auto)]
 
-mod checked;
 mod long;
 mod norm;
 mod shift;
 mod short;
 mod wide;
 
-pub use checked::{checked_l_mac, checked_l_msu, checked_l_mult};
 pub use long::{
     extract_h, extract_l, l_abs, l_add, l_deposit_h, l_deposit_l, l_mac, l_msu, l_mult, l_negate,
     l_sub, round,
