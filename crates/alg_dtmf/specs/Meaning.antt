@@ -3,8 +3,7 @@ use Rattle.std.specs.Prelude.{ℕ, ℤ, pos, Bool, true, false, ◌+◌, ◌==�
 use Rattle.mem_rec.specs.declared.TheConstants.{LEAST_ALIGNMENT}
 use Rattle.ialg.specs.declared.filter.FilterMemory.{FilterMemory}
 use Rattle.ialg.specs.History.{Ctl, Set, Reset, Get, word_at}
-use Rattle.ialg.specs.Meaning.{Meaning}
-use Rattle.ialg.specs.Filters.{FilterMeaning, meaning_of}
+use Rattle.ialg.specs.Filters.{FilterMeaning}
 use Rattle.kind_parts.specs.Frames.{samples_in_frame}
 use Rattle.kind_parts.specs.Words.{within}
 use Rattle.alg_dtmf.specs.declared.TheConstants.{PARAMETERS, STATE_WORDS, FRAME_SAMPLES, MOST_SHIFT}
@@ -32,9 +31,6 @@ dtmf_filter = record {
   accepts = λ p c. dtmf_accepts c;
   got = λ p h. pos (samples_in_frame (frame_length p) h) ∷ [];
 }
-
-abbrev pub dtmf_meaning : Meaning Dtmf
-dtmf_meaning = meaning_of dtmf_filter
 
 -- its name in scripts
 abbrev pub dtmf_named : List ℕ → Option Dtmf
