@@ -12,11 +12,12 @@ import gc
 import os
 import subprocess
 import sys
+import tempfile
 import threading
 from collections.abc import Callable
 from unittest import mock
 
-from library_case import PYTHON, LibraryCase
+from library_case import PYTHON, REPOSITORY, LibraryCase
 from signals import noise, tone
 
 import numpy as np
@@ -390,6 +391,30 @@ class Finding(LibraryCase):
         self.assertRaises(AttributeError, getattr, rokdaum, "Hosts")
         for code, one in errors.REFUSALS.items():
             self.assertEqual(one.code, code)
+
+
+class Examples(LibraryCase):
+    def said(self, name: str, *words: str) -> list[str]:
+        """The lines that an example prints; it ends with status 0."""
+        done = subprocess.run([sys.executable, "-B", str(REPOSITORY / "examples" / "python" / name), *words], capture_output=True, text=True, check=False)
+        self.assertEqual((done.returncode, done.stderr), (0, ""))
+        return done.stdout.splitlines()
+
+    def test_telephone_band(self) -> None:
+        with tempfile.TemporaryDirectory(prefix="rokdaum-test-") as room:
+            rokdaum.samples.write(f"{room}/in.wav", noise(80_000, 2))
+            for words in ((), (f"{room}/in.wav", f"{room}/out.wav")):
+                for line in self.said("telephone_band.py", *words)[1:]:
+                    _, heard, designed = map(float, line.split())
+                    self.assertAlmostEqual(heard, designed, delta=1)
+            self.assertEqual(rokdaum.samples.read(f"{room}/out.wav")[0].shape, (80_000,))
+
+    def test_sixteen_lines(self) -> None:
+        with tempfile.TemporaryDirectory(prefix="rokdaum-test-") as room:
+            said = self.said("sixteen_lines.py", f"{room}/picture.png")
+            self.assertGreater(os.path.getsize(f"{room}/picture.png"), 10_000)
+        self.assertEqual(said[-1], "the outputs are the same")
+        self.assertEqual([line.split(", ")[0] for line in said[:2]], ["8 scratch groups: 8704 words of daram", "1 scratch group: 1088 words of daram"])
 
 
 class Model(LibraryCase):
