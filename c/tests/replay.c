@@ -165,16 +165,18 @@ int main(int argc, char **argv)
     if (a >= argc) return 2;
     FILE *script = fopen(argv[a++], "rb");
     if (!script) return 3;
-    for (; a + 1 < argc; a += 2, ports++) {
+    char **files = argv + a;
+    for (; a + 1 < argc; a += 2, ports++)
         if (!(in[ports] = fopen(argv[a], "rb"))) return 3;
-        if (!(out[ports] = fopen(argv[a + 1], "wb"))) return 4;
-    }
     options.daram = sizes[0];
     options.saram = sizes[1];
     options.external = sizes[2];
     options.channels = (uint8_t)ports;
     int code = rokdaum_open(&host, &options);
     if (code) { fprintf(stderr, code == ROKDAUM_BAD_SIZE ? "dsp_console: a space is 0 to 65536 words, a multiple of 4\n" : "dsp_console: out of memory\n"); return code == ROKDAUM_NO_MEMORY ? 5 : 2; }
+    /* Not before: a run that doesn't begin leaves each OUT as it was. */
+    for (int p = 0; p < ports; p++)
+        if (!(out[p] = fopen(files[2 * p + 1], "wb"))) return 4;
     char *text = 0;
     size_t held = 0;
     for (ssize_t got; (got = getline(&text, &held, script)) > 0;) {
