@@ -24,18 +24,19 @@ PICTURE = Path("docs/architecture.svg")
 
 # The layers from the top down, where crates.txt has no headings: a crate belongs to the first whose pattern it matches as a whole.
 LAYERS: tuple[tuple[str, str], ...] = (
-    ("tests", r"test_\w+|trial_\w+|\w+_rows|\w+_trace|\w+_turns|rogue_kit|mixed_console|scribbler|neighbours|slicer_life|host_calls"),
-    ("program", r"dsp_console_main|dsp_arguments|port_pairs"),
-    ("engine", r"dsp_console|voice_console|script_server|port_journal|octet_ports|line_reader"),
+    ("tests", r"test_\w+|\w+_trace|rogue_kit|mixed_console"),
+    ("C library", r"\w+_library|library_runs"),
+    ("program", r"dsp_console_main|gateway_console|dsp_arguments|dsp_program|line_reasons|port_files|port_pairs"),
+    ("engine", r"dsp_console|voice_console|script_server|port_journal|octet_ports"),
     ("channels", r"voice_channel"),
-    ("host", r"alg_host|kept_\w+|host_(?:moves|create|delete|refines)"),
-    ("specification", r"\w+_spec|sound_machine|channel_machine|console_machine|machine_runs|run_theorem"),
-    ("script", r"voice_script|line_machine"),
-    ("instances in spaces", r"(?:placed|grown|started|ended)_\w+|host_(?:placed|spaces)"),
-    ("tables of instances", r"instance_\w+|table_\w+|record_shelves|host_(?:table|life|shared)"),
-    ("one instance", r"lifecycle|scratch_group|record_(?:loans|cuts)"),
-    ("spaces", r"space_blocks|relocate|space_heap|space_raw|host_map"),
-    ("algorithms", r"voice_set|alg_\w+|fir_kernel"),
+    ("host", r"alg_host|host_(?:create|delete|refines)"),
+    ("specification", r"\w+_spec|run_theorem"),
+    ("script", r"voice_script"),
+    ("instances of a host", r"host_(?:table|life|shared|moves|spaces)"),
+    ("one instance", r"lifecycle|scratch_group|record_loans"),
+    ("spaces", r"space_\w+"),
+    ("maps", r"relocate|host_map"),
+    ("algorithms", r"voice_set|alg_\w+|fir_kernel|kind_\w+|gateway_kinds"),
     ("base", r"basic_op|mem_rec|ialg"),
 )
 OTHERS = "others"

@@ -3,7 +3,7 @@
 """Keeps the documents true to the sources.
 
     tools/documents.py --check     says what the pages at the top, in docs and in examples name or link to and isn't there, and what is stale
-    tools/documents.py --write     fills in what it makes: counted numbers, reading lists, and the column `headline` of docs/DEFINITIONS.md
+    tools/documents.py --write     fills in what it makes: counted numbers, reading lists, whole files, and the column `headline` of docs/DEFINITIONS.md
 
 What is checked:
 
@@ -14,6 +14,7 @@ What is checked:
 - **Links** and their anchors.
 - **Counted numbers** between `<!-- count: NAME -->` and `<!-- -->`, and the reading list of the main theorem between `<!-- list: headline -->`
   and `<!-- end of the list -->`.
+- **Files that a page has whole**, between `<!-- file: PATH -->` and `<!-- end of the file -->`.
 - **Crates**: each has its row in docs/ARCHITECTURE.md.
 - **The length of README.md**: at most 250 lines of at most 120 letters.
 """
@@ -47,6 +48,7 @@ SPAN = re.compile(r"`([^`\n]+)`")
 LINK = re.compile(r"(?<!!)\[[^\]\n]*\]\(([^)\s]+)\)|!\[[^\]\n]*\]\(([^)\s]+)\)|src=\"([^\"]+)\"")
 COUNT = re.compile(r"<!-- count: (\w+) -->(.*?)<!-- -->", re.S)
 LIST = re.compile(r"<!-- list: (\w+) -->\n(.*?)<!-- end of the list -->", re.S)
+FILE = re.compile(r"<!-- file: (\S+) -->\n(.*?)<!-- end of the file -->", re.S)
 OF = re.compile(r"((?:`[^`\n]+`(?:,? and |, )?)+) of (?:the )?((?:`[^`\n]+`(?:,? and |, )?)+)")
 
 
@@ -100,7 +102,7 @@ class Repository:
         self.words[crate].add(crate)
 
     def _read_code(self, crate: str, text: str) -> None:
-        for found in re.finditer(r"(?m)^( *)(?:pub(?:\([a-z]+\))? )?(?:unsafe )?(?:const )?fn (\w+)", text):
+        for found in re.finditer(r'(?m)^( *)(?:pub(?:\([a-z]+\))? )?(?:unsafe )?(?:const )?(?:extern "C" )?fn (\w+)', text):
             rest = text[found.start() :]
             end = re.search(rf"\n{found[1]}[{{}}]\n|\n *(?:pub(?:\([a-z]+\))? )?fn |\{{\n{found[1]}    (?! )|\Z", rest)
             contract = rest[: end.start()] if end else rest
@@ -140,7 +142,7 @@ class Repository:
     def other_words(self) -> set[str]:
         """The words of what isn't a crate: the scripts, the examples, and the names of all files."""
         found: set[str] = set()
-        for folder in (".ci", "docs", "examples", "python", "tests", "tools"):
+        for folder in (".ci", "bench", "c", "docs", "examples", "python", "tests", "tools"):
             for path in sorted((self.root / folder).rglob("*")):
                 found |= set(WORD.findall(path.name))
                 if path.is_file() and path.suffix in ("", ".py", ".c", ".h", ".sh", ".toml") and path.name != "closure.py":
@@ -371,6 +373,12 @@ class Checker:
                 found.append(Problem(name, number, f"nothing lists {match[1]}"))
             elif match[2] != reading_list(self.repository):
                 found.append(Problem(name, number, "the reading list is stale: tools/documents.py --write"))
+        for match in FILE.finditer(text):
+            number = text.count("\n", 0, match.start()) + 1
+            if not (self.repository.root / match[1]).is_file():
+                found.append(Problem(name, number, f"the file {match[1]} isn't there"))
+            elif match[2] != fenced_file(self.repository.root / match[1]):
+                found.append(Problem(name, number, f"{match[1]} is another by now: tools/documents.py --write"))
         if text.count("<!-- count:") != len(COUNT.findall(text)):
             found.append(Problem(name, 0, "a counted number has no end"))
         return found
@@ -414,8 +422,15 @@ def reading_list(repository: Repository) -> str:
     return "\n".join(rows) + "\n"
 
 
+def fenced_file(path: Path) -> str:
+    """A file as a block of code."""
+    language = {".rt": "rust", ".antt": "text"}.get(path.suffix, "text")
+    return f"```{language}\n{path.read_text(encoding='utf-8')}```\n"
+
+
 def with_counts(text: str, repository: Repository) -> str:
-    """The text with its counted numbers and its reading lists as they are now."""
+    """The text with its counted numbers, its reading lists and its whole files as they are now."""
+    text = FILE.sub(lambda found: f"<!-- file: {found[1]} -->\n{fenced_file(repository.root / found[1])}<!-- end of the file -->", text)
     counts = repository.counts()
     text = LIST.sub(lambda found: f"<!-- list: headline -->\n{reading_list(repository)}<!-- end of the list -->" if found[1] == "headline" else found[0], text)
     return COUNT.sub(lambda found: f"<!-- count: {found[1]} -->{counts[found[1]]():,}<!-- -->" if found[1] in counts else found[0], text)

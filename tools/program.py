@@ -1,9 +1,10 @@
 # SPDX-License-Identifier: Apache-2.0
 """The proved program: whether it is built from the sources as they stand, and how it is built anew.
 
-`dsp_console` and `check` use this. A build is a run of `rt ci` over a copy of the program's crate and of the crates that it
-stands on, without their must-fail edits: every crate is proved, as many at a time as the graph, the processors and the memory
-allow, and the program is what that run makes.
+`dsp_console`, `check` and `tools/archive.py` use this. A build is a run of `rt ci` over a copy of the program's crate and of the
+crates that it stands on, without their must-fail edits: every crate is proved, as many at a time as the graph, the processors and
+the memory allow, and the program is what that run makes. The archive of a static library is made by `rattle build` over what that
+run leaves; it builds a proved crate alone.
 """
 
 from __future__ import annotations
@@ -20,8 +21,9 @@ from pathlib import Path
 
 TOP = Path(__file__).resolve().parent.parent
 CRATES = TOP / "crates"
-# The crate of the program, and that of its like with kinds that break the laws, which only tests run.
+# The crate of the program, that of its like with the kinds of a gateway, and that with kinds that break the laws, which only tests run.
 NAME = "dsp_console_main"
+GATEWAY = "gateway_console"
 MIXED = "mixed_console"
 # What a crate is proved from.
 SOURCES = ("src", "specs", "proofs")
@@ -47,9 +49,14 @@ class CantBuild(Exception):
         self.status = status
 
 
+def is_archive(name: str) -> bool:
+    """Whether crates.txt has the crate as a static library."""
+    return re.search(rf"(?m)^{name} +staticlib *:", (TOP / "crates.txt").read_text(encoding="utf-8")) is not None
+
+
 def path_of(name: str = NAME) -> Path:
-    """Where a program stands once it is built."""
-    return CRATES / name / "out" / name
+    """Where a program, or the archive of a static library, stands once it is built."""
+    return CRATES / name / "out" / (f"lib{name}.a" if is_archive(name) else name)
 
 
 def built_from(name: str = NAME) -> Path:
@@ -109,12 +116,17 @@ def checksum(name: str = NAME) -> str:
 def is_built(name: str = NAME) -> bool:
     """Whether a program is there and was built from the sources as they stand."""
     sources = built_from(name)
-    return os.access(path_of(name), os.X_OK) and sources.is_file() and sources.read_text() == checksum(name)
+    return is_made(path_of(name), name) and sources.is_file() and sources.read_text() == checksum(name)
+
+
+def is_made(made: Path, name: str) -> bool:
+    """Whether there is a program that can be run, or an archive."""
+    return os.access(made, os.R_OK if is_archive(name) else os.X_OK)
 
 
 def keep(name: str, sources: str) -> None:
     """Says of the program that `rt ci` has just made in its place that it was made from these sources, if they still stand."""
-    if os.access(path_of(name), os.X_OK) and sources == checksum(name):
+    if is_made(path_of(name), name) and sources == checksum(name):
         built_from(name).write_text(sources)
 
 
@@ -168,6 +180,7 @@ class Progress:
     def __init__(self, crates: list[str], say) -> None:
         listed = uses()
         self.say, self.began, self.lanes = say, time.monotonic(), len(os.sched_getaffinity(0))
+        self.what = "library" if is_archive(crates[-1]) else "program"
         self.weight = {it: CRATE_SECONDS + LINE_SECONDS * sum(octets_of(path).count(b"\n") for path in source_files(it)) for it in crates}
         self.below = {it: [dep for dep in listed[it] if dep in self.weight] for it in crates}
         self.left = list(crates)
@@ -186,7 +199,7 @@ class Progress:
         """Tells what is coming."""
         minutes = self.seconds_left() / 60
         self.say(
-            f"the program has to be built: {self.all} crates are proved, up to {self.lanes} at a time, in about {minutes:.0f} minutes on idle processors; "
+            f"the {self.what} has to be built: {self.all} crates are proved, up to {self.lanes} at a time, in about {minutes:.0f} minutes on idle processors; "
             "all sources are read first, which takes a minute or two"
         )
         self.whole = max(self.seconds_left(), 1.0)
@@ -199,14 +212,14 @@ class Progress:
         spent, model = time.monotonic() - self.began, self.seconds_left()
         done = self.whole - model
         pace = min(max(spent / done, 0.5), 6.0) if done > 0.1 * self.whole else 1.0
-        rest = f"about {max(1, round(model * pace / 60))} minutes left" if self.left else "the program is next"
+        rest = f"about {max(1, round(model * pace / 60))} minutes left" if self.left else f"the {self.what} is next"
         self.say(f"proved {crate}, {self.all - len(self.left)} of {self.all}, {rest}")
 
 
 def copy_closure(room: Path, crates: list[str]) -> None:
     """Copies the crates, without their must-fail edits and kept work, into a repository of their own."""
     listed = uses()
-    (room / "crates.txt").write_text("".join(f"{it}: {' '.join(listed[it])}\n" for it in crates))
+    (room / "crates.txt").write_text("".join(f"{it}{' staticlib' * is_archive(it)}: {' '.join(listed[it])}\n" for it in crates))
     shutil.copy(TOP / "HANDLES", room)
     for crate in crates:
         for part in (*SOURCES, *STORED_RUN):
@@ -215,6 +228,23 @@ def copy_closure(room: Path, crates: list[str]) -> None:
                 shutil.copytree(path, room / "crates" / crate / part)
             elif path.is_file():
                 shutil.copy(path, room / "crates" / crate)
+
+
+def make_archive(made: Path, room: Path, crates: list[str], log: Path) -> None:
+    """Makes the archive of a static library, the last of the crates that `rt ci` proved in the room, over the libraries that it made."""
+    name, kit = crates[-1], Path(shutil.which("rattle")).resolve().parent.parent
+    own = {it: room / "crates" / it / "out" / "rlib" for it in crates[:-1]}
+    words = ["rattle", "build", "--crate-name", name, "src/lib.rt", "--crate-type", "staticlib"]
+    for it in ("std", *uses()[name]):
+        words += ["--extern", f"{it}={own.get(it, kit / 'rlibs') / it}.rlib"]
+    for folder in (kit / "rlibs", *own.values()):
+        words += ["-L", f"dependency={folder}"]
+    words += ["--antt-project", f"{kit}/rattle/logic/antt-project.json", "--logic-built", f"{kit}/logic_built", "--toolchain", f"{kit}/toolchain", "-o", str(made)]
+    made.parent.mkdir(exist_ok=True)
+    with open(log, "a", encoding="utf-8") as kept:
+        status = subprocess.run(words, cwd=room / "crates" / name, stdin=subprocess.DEVNULL, stdout=kept, stderr=subprocess.STDOUT).returncode
+    if status:
+        raise CantBuild(f"not built: rattle build ended with status {status}, and all that it said is in {log}", NOT_BUILT)
 
 
 def build(say, name: str = NAME) -> None:
@@ -240,9 +270,11 @@ def build(say, name: str = NAME) -> None:
                 if refused:
                     say(f"{refused[1]} is refused")
             status = ran.wait()
-        made = room / "crates" / name / "out" / name
-        if status or not os.access(made, os.X_OK):
+        made = room / path_of(name).relative_to(TOP)
+        if status or not (is_archive(name) or is_made(made, name)):
             raise CantBuild(f"not built: rt ci ended with status {status}, and all that it said is in {log}", NOT_BUILT)
+        if is_archive(name):
+            make_archive(made, room, crates, log)
         take(made, name, sources)
     log.unlink()
     say("built")

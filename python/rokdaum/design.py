@@ -31,6 +31,8 @@ DEFAULT_RATE = 8000.0
 MOST_TAPS = 64
 MOST_MEMBERS, GROUPS, INSTANCES, CHANNELS = 8, 8, 64, 16
 SCALES = ("tones", "any", "words")
+# The kind of an instance and its words.
+Creation = tuple[str, tuple[int, ...]]
 # Frequencies at which gains are looked at, from 0 to half of the rate.
 GRID = np.linspace(0, np.pi, 2049)
 # An impulse response is summed up until its poles have let it fall this far.
@@ -90,6 +92,11 @@ class Biquads:
     designed: np.ndarray
     rate: float = DEFAULT_RATE
 
+    @property
+    def creations(self) -> tuple[Creation, ...]:
+        """The kind and the words of each instance, in the order of a chain."""
+        return tuple(("biquad", one) for one in self.words)
+
     @cached_property
     def sections(self) -> np.ndarray:
         """The values of the words as scipy has them, shape (sections, 6)."""
@@ -138,7 +145,7 @@ class Biquads:
         look_at_places(first, group, channel, count)
         if not share and group + count > GROUPS:
             raise DesignError(f"there are groups 0 to {GROUPS - 1}, and {count} sections from group {group} on don't fit: share=True, --share, puts them into one")
-        made = [f"create {first + at} biquad {group if share else group + at} {' '.join(map(str, one))}" for at, one in enumerate(self.words)]
+        made = [create(first + at, group if share else group + at, *one) for at, one in enumerate(self.creations)]
         return [*made, chain(channel, range(first, first + count))]
 
 
@@ -150,6 +157,11 @@ class Fir:
     designed: np.ndarray
     rate: float = DEFAULT_RATE
     factor: int | None = None
+
+    @property
+    def creations(self) -> tuple[Creation, ...]:
+        """The kind and the words of each instance, in the order of a chain."""
+        return (("fir", self.words) if self.factor is None else ("decim", (self.factor, *self.words)),)
 
     def response(self, frequencies: Sequence[float] | np.ndarray) -> np.ndarray:
         """The complex gain of the words at frequencies in Hz, before the rate is divided."""
@@ -177,8 +189,7 @@ class Fir:
     def lines(self, first: int = 0, group: int = 0, channel: int = 0, share: bool = False) -> list[str]:
         """The lines of a script: the creation and the chain."""
         look_at_places(first, group, channel, 1)
-        head = f"create {first} fir {group}" if self.factor is None else f"create {first} decim {group} {self.factor}"
-        return [f"{head} {' '.join(map(str, self.words))}", chain(channel, [first])]
+        return [create(first, group, *self.creations[0]), chain(channel, [first])]
 
 
 @dataclass(frozen=True)
@@ -190,6 +201,11 @@ class Tone:
     frame: int
     shift: int
     rate: float = DEFAULT_RATE
+
+    @property
+    def creations(self) -> tuple[Creation, ...]:
+        """The kind and the words of each instance, in the order of a chain."""
+        return (("tone", (self.k, self.frame, self.shift)),)
 
     @property
     def frequency(self) -> float:
@@ -235,6 +251,11 @@ class Tones:
 
     detectors: tuple[Tone, ...]
 
+    @property
+    def creations(self) -> tuple[Creation, ...]:
+        """The kind and the words of each instance, a channel each."""
+        return tuple(it for one in self.detectors for it in one.creations)
+
     def warnings(self) -> list[str]:
         """What the detectors warn of."""
         return [text for one in self.detectors for text in one.warnings()]
@@ -245,8 +266,13 @@ class Tones:
         look_at_places(first, group, channel, count)
         if channel + count > CHANNELS:
             raise DesignError(f"a tone takes a channel, there are {CHANNELS}, and {count} from channel {channel} on are asked for")
-        made = [f"create {first + at} tone {group} {one.k} {one.frame} {one.shift}" for at, one in enumerate(self.detectors)]
+        made = [create(first + at, group, *one) for at, one in enumerate(self.creations)]
         return made + [chain(channel + at, [first + at]) for at in range(count)]
+
+
+def create(instance: int, group: int, kind: str, words: Sequence[int]) -> str:
+    """The line that creates an instance."""
+    return f"create {instance} {kind} {group} {' '.join(map(str, words))}"
 
 
 def chain(channel: int, members: Sequence[int]) -> str:

@@ -81,3 +81,110 @@ class NotAMap(RokdaumError, ValueError):
     """A text isn't the reply to `map`."""
 
     status = 3
+
+
+class LibraryMissing(RokdaumError):
+    """There is no `librokdaum` to load, or one of another version."""
+
+    status = 69
+
+
+class WrongThread(RokdaumError):
+    """A host is used in another thread than the one that opened it."""
+
+
+class Refused(RokdaumError):
+    """What a host refuses. The host is as it was before the call.
+
+    `code` is the number that C and the replies of `dsp_console` have for it; a code that this package gives no cause for is of this class itself.
+    """
+
+    code = 0
+
+
+class Range(Refused, OutOfRange):
+    """The number of an instance, a group or a channel is too large, or a word isn't -32768 to 32767."""
+
+    code = 3
+
+
+class Taken(Refused):
+    """The instance lives already, the channel has members already, or none is free."""
+
+    code = 4
+
+
+class Missing(Refused):
+    """The instance doesn't live, or the channel has no members."""
+
+    code = 5
+
+
+class Params(Refused, ValueError):
+    """The algorithm doesn't take these parameters."""
+
+    code = 6
+
+
+class Room(Refused):
+    """A memory space has no free place for a block. `space` is its name: `daram`, `saram` or `external`."""
+
+    code = 7
+
+    def __init__(self, why: str, space: str) -> None:
+        super().__init__(why, space)
+        self.why, self.space = why, space
+
+    def __str__(self) -> str:
+        return self.why
+
+
+class Busy(Refused):
+    """The instance is a member of a channel, or is named twice."""
+
+    code = 8
+
+
+class Command(Refused):
+    """The algorithm doesn't take this control command."""
+
+    code = 9
+
+
+class BadSize(Refused, ValueError):
+    """A space isn't 0 to 65,536 words, a multiple of 4, or the channels aren't 1 to 16."""
+
+    code = 16
+
+
+class NoMemory(Refused, MemoryError):
+    """There is no memory for a host."""
+
+    code = 17
+
+
+class NotOpen(Refused):
+    """The host was closed."""
+
+    code = 18
+
+
+class BadLength(Refused, ValueError):
+    """Too few or too many words or members."""
+
+    code = 20
+
+
+class BadKind(Refused, ValueError):
+    """No algorithm has this name."""
+
+    code = 21
+
+
+class BadSpace(Refused, ValueError):
+    """No memory space has this name."""
+
+    code = 22
+
+
+REFUSALS: dict[int, type[Refused]] = {it.code: it for it in (Range, Taken, Missing, Params, Room, Busy, Command, BadSize, NoMemory, NotOpen, BadLength, BadKind, BadSpace)}

@@ -9,7 +9,8 @@ from __future__ import annotations
 import json
 import re
 from collections.abc import Iterable, Mapping, Sequence
-from dataclasses import asdict, dataclass, field
+from dataclasses import dataclass, field
+from typing import NamedTuple
 
 from .errors import NotAMap
 
@@ -20,8 +21,7 @@ WIDTH = 64
 FREE = "."
 
 
-@dataclass(frozen=True)
-class Block:
+class Block(NamedTuple):
     """A range of words: `iI.rK` is record K of instance I, `gG` the scratch memory of group G."""
 
     owner: str
@@ -120,7 +120,16 @@ class History:
 
     def to_json(self) -> str:
         """The history as JSON, which `from_json` reads."""
-        return json.dumps({"sizes": dict(self.sizes), "last": self.last, "moments": [asdict(moment) for moment in self.moments]}, indent=1)
+        moments = [
+            {
+                "line": moment.line,
+                "text": moment.text,
+                "maps": {space: {"words": it.words, "blocks": [block._asdict() for block in it.blocks]} for space, it in moment.maps.items()},
+                "active": dict(moment.active),
+            }
+            for moment in self.moments
+        ]
+        return json.dumps({"sizes": dict(self.sizes), "last": self.last, "moments": moments}, indent=1)
 
     @classmethod
     def from_json(cls, text: str) -> History:

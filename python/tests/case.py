@@ -26,6 +26,8 @@ try:
 except ImportError as why:
     sys.exit(f"{sys.executable} lacks a package ({why}): on Debian apt-get install $(grep -v '^#' tests/debian.txt), and run the tests by /usr/bin/python3")
 
+from signals import noise, tone  # noqa: E402, F401  (the tests take them from here)
+
 from rokdaum.script import Pair, Result, Settings, parse, run  # noqa: E402
 
 PATIENCE = 120
@@ -79,13 +81,3 @@ class Case(unittest.TestCase):
         return subprocess.run(
             [python or sys.executable, str(PYTHON / "bin" / name), *words], cwd=self.room, capture_output=True, text=True, timeout=PATIENCE, check=False, **how
         )
-
-
-def noise(count: int, seed: int = 1, peak: int = 8000) -> np.ndarray:
-    """Random samples."""
-    return np.random.default_rng(seed).integers(-peak, peak + 1, count).astype(np.int16)
-
-
-def tone(frequency: float, peak: float, count: int, rate: float = 8000.0) -> np.ndarray:
-    """A tone in samples."""
-    return np.round(peak * np.cos(2 * np.pi * frequency * np.arange(count) / rate)).astype(np.int16)

@@ -11,6 +11,7 @@ import subprocess
 import tomllib
 
 from case import PYTHON, REPOSITORY, Case, noise, tone
+from library_case import why_there_is_no_library
 
 import rokdaum
 
@@ -53,6 +54,7 @@ class Package(Case):
 class Documents(Case):
     def test_examples_in_python(self) -> None:
         """The lines of docs/PYTHON.md that begin with >>> give what stands below them."""
+        self.assertEqual(why_there_is_no_library(), "")
         os.chdir(self.room)
         self.addCleanup(os.chdir, REPOSITORY)
         self.write("speech.raw", noise(3000))

@@ -5,6 +5,8 @@ from __future__ import annotations
 
 import os
 import random
+import resource
+import signal
 import subprocess
 import unittest
 from typing import Optional
@@ -46,6 +48,43 @@ class Closed(ConsoleCase):
                 self.assertEqual(self.read("out"), words(1, 2, 3))
         self.assertEqual(self.closed((0, 1, 2), "absent", "in", "out")[0], 3)
         self.assertEqual(self.read("out"), words(1, 2, 3))
+
+
+class Outputs(ConsoleCase):
+    """Standard outputs and limits that no one thinks of."""
+
+    def test_help_that_cannot_be_written(self) -> None:
+        for option in ("--help", "--version"):
+            with open("/dev/full", "wb") as full:
+                self.assertEqual(self.run_program(option, stdout=full).end, WRITE_FAILED)
+
+    def test_a_standard_output_that_does_not_wait(self) -> None:
+        """Replies that find a pipe full whose writer mustn't wait are a write that failed: OUT has what they tell of."""
+        self.write("in", words(2) * 100_000)
+        self.write("long", HALF + b"feed 0 1\n" * 100_000)
+        reader, writer = os.pipe()
+        os.set_blocking(writer, False)
+        with open(self.folder / "told", "wb") as told:
+            done = subprocess.run([PROGRAM, "long", "in", "out"], cwd=self.folder, stdin=subprocess.DEVNULL, stdout=writer,
+                                  stderr=told, timeout=PATIENCE)
+        os.close(writer)
+        with os.fdopen(reader, "rb") as pipe:
+            replies = pipe.read().split(b"\n")[:-1]
+        self.assertEqual((done.returncode, self.read("told")), WRITE_FAILED)
+        self.assertGreaterEqual(len(self.read("out")) // 2, len(replies) - 2)
+
+    def test_a_limit_of_a_file_s_size(self) -> None:
+        """Where the caller ignores the signal it is a write that failed, else the signal ends the program: OUT has what the replies tell of."""
+        self.write("in", words(2) * 100_000)
+        self.write("long", HALF + b"feed 0 1000\n" * 100)
+        for ignored, status in ((signal.SIG_IGN, 4), (signal.SIG_DFL, -signal.SIGXFSZ)):
+            def limit() -> None:
+                signal.signal(signal.SIGXFSZ, ignored)
+                resource.setrlimit(resource.RLIMIT_FSIZE, (16384, 16384))
+            ended = self.run_program("long", "in", "out", preexec_fn=limit, restore_signals=False)
+            self.assertEqual(ended.status, status)
+            told = ended.replies.count(b"ok 1000\n")
+            self.assertGreaterEqual(len(self.read("out")), 2000 * told)
 
 
 class Files(ConsoleCase):

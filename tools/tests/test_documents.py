@@ -267,8 +267,8 @@ class Pictures(unittest.TestCase):
         self.assertEqual(house.of_layer(architecture.OTHERS), ["nobody_knows"])
 
     def test_sections(self) -> None:
-        text = "# each crate\nialg:\n# for tests alone\ntrial_runs: voice_set\n# the kernel of filters\nalg_fir: ialg\nvoice_set: alg_fir\n"
-        wanted = "# each crate and the libraries that it uses, from the bottom up\n\n## base\nialg:\n\n## algorithms\n# the kernel of filters\nalg_fir: ialg\nvoice_set: alg_fir\n\n## tests\ntrial_runs: voice_set\n"
+        text = "# each crate\nialg:\n# for tests alone\ntest_runs: voice_set\n# the kernel of filters\nalg_fir: ialg\nvoice_set: alg_fir\n"
+        wanted = "# each crate and the libraries that it uses, from the bottom up\n\n## base\nialg:\n\n## algorithms\n# the kernel of filters\nalg_fir: ialg\nvoice_set: alg_fir\n\n## tests\ntest_runs: voice_set\n"
         house = architecture.House.read(text)
         self.assertEqual(architecture.sections(text, house), wanted)
         again = architecture.House.read(wanted)

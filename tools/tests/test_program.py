@@ -109,7 +109,7 @@ class Wrapper(unittest.TestCase):
 
     def test_help_and_version_build_nothing(self) -> None:
         self.assertEqual(self.run_it("--help").stdout, "the help\n")
-        self.assertEqual(self.run_it("--version").stdout, "dsp_console 1.2.3\n")
+        self.assertEqual(self.run_it("--version").stdout, f"dsp_console 1.2.3, proved with {KIT}\n")
         self.assertEqual(self.calls.read_text(), "")
 
     def test_a_refused_source_leaves_the_old_program_unused(self) -> None:
@@ -151,6 +151,9 @@ class Parts(unittest.TestCase):
     def test_values_of_options_are_no_paths(self) -> None:
         here = os.getcwd()
         self.assertEqual(program.absolute(["--poison=3", "--in8", "1", "--", "-s", "/i"]), ["--poison=3", "--in8", "1", "--", f"{here}/-s", "/i"])
+
+    def test_a_static_library_is_an_archive(self) -> None:
+        self.assertEqual([program.path_of(it).name for it in ("host_library", "voice_set", program.NAME)], ["libhost_library.a", "voice_set", "dsp_console_main"])
 
     def test_a_crate_stands_behind_what_it_uses(self) -> None:
         crates = program.closure()

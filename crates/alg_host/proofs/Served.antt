@@ -7,18 +7,18 @@ use Rattle.ialg.specs.History.{Ctl}
 use Rattle.ialg.specs.Meaning.{Meaning}
 use Rattle.scratch_group.specs.declared.group.Group.{Group}
 use Rattle.lifecycle.specs.States.{Relation}
-use Rattle.instance_table.specs.declared.member.Member.{Member}
-use Rattle.record_shelves.specs.declared.shelves.Shelf.{Shelf}
-use Rattle.space_blocks.specs.declared.placed.Placed.{Placed}
-use Rattle.space_blocks.specs.Moves.{next_block}
+use Rattle.host_table.specs.declared.member.Member.{Member}
+use Rattle.host_shared.specs.declared.shelves.Shelf.{Shelf}
+use Rattle.host_map.specs.declared.placed.Placed.{Placed}
+use Rattle.host_map.specs.Moves.{next_block}
 use Rattle.host_spaces.specs.declared.spaces.Spaces.{Spaces}
-use Rattle.host_spaces.specs.Picture.{Picture, blocks_in}
-use Rattle.host_spaces.specs.Creation.{created_picture}
-use Rattle.sound_machine.specs.State.{Living, State, twins_of}
-use Rattle.sound_machine.specs.Steps.{Outcome, unless, control_refusal, controlled, given, processed, release, group_refusal, step, moving, delete, instance_refusal, without_instance, create_refusal, newborn, with_memory, with_room}
-use Rattle.sound_machine.specs.Calls.{Controls, Creates}
-use Rattle.kept_machine.specs.Kept.{TablesKeep}
-use Rattle.kept_moves.specs.Hosts.{HostKeeps}
+use Rattle.host_map.specs.Picture.{Picture, blocks_in}
+use Rattle.host_map.specs.Creation.{created_picture}
+use Rattle.host_spec.specs.State.{Living, State, twins_of}
+use Rattle.host_spec.specs.Steps.{Outcome, unless, control_refusal, controlled, given, processed, release, group_refusal, step, moving, delete, instance_refusal, without_instance, create_refusal, newborn, with_memory, with_room}
+use Rattle.host_spec.specs.Calls.{Controls, Creates}
+use Rattle.host_refines.specs.Kept.{TablesKeep}
+use Rattle.host_refines.specs.Hosts.{HostKeeps}
 
 -- the same picture in the same spaces
 pub record SamePlaces {M : Type 0} (before after : State M) : Type 0 where

@@ -4,15 +4,16 @@ use Rattle.ialg.specs.Meaning.{Meaning}
 use Rattle.ialg.specs.declared.refusal.Refusal.{Refusal}
 use Rattle.scratch_group.specs.declared.group.Group.{Group}
 use Rattle.lifecycle.specs.States.{Relation}
-use Rattle.instance_table.specs.declared.member.Member.{Member}
-use Rattle.record_shelves.specs.declared.shelves.Shelf.{Shelf}
-use Rattle.instance_table.specs.Table.{Activity, slot_at, TablesOk, ArePoisoned}
+use Rattle.host_table.specs.declared.member.Member.{Member}
+use Rattle.host_shared.specs.declared.shelves.Shelf.{Shelf}
+use Rattle.host_map.specs.Activity.{Activity}
+use Rattle.host_table.specs.Table.{slot_at, TablesOk, ArePoisoned}
 use Rattle.host_spaces.specs.declared.spaces.Spaces.{Spaces}
-use Rattle.placed_instances.specs.Standing.{AreStanding}
-use Rattle.sound_machine.specs.State.{State}
-use Rattle.sound_machine.specs.Calls.{Call, Does}
-use Rattle.kept_moves.specs.Hosts.{HostKeeps}
-use Rattle.scratch_group.specs.declared.group.Stat.{Stat}
+use Rattle.host_moves.specs.Standing.{AreStanding}
+use Rattle.host_spec.specs.State.{State}
+use Rattle.host_spec.specs.Calls.{Call, Does}
+use Rattle.host_refines.specs.Hosts.{HostKeeps}
+use Rattle.host_map.specs.declared.parts.Stat.{Stat}
 
 -- the tables of instances, of write-once pieces and of groups, the three spaces, and the poison word, if there is one
 pub record HostState (M : Type 0) : Type 0 where

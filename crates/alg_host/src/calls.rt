@@ -1,14 +1,14 @@
 //! What an instance is given: controls and blocks of samples.
 ghost use Rattle.std.specs.Prelude.{◌≡◌, ◌≤◌, true, [], length, OnErr};
 ghost use Rattle.ialg.specs.Views.{control_of};
-ghost use Rattle.sound_machine.specs.Calls.Call.{Control, Process, Lives};
-ghost use Rattle.kept_machine.specs.Kept.{told};
+ghost use Rattle.host_spec.specs.Calls.Call.{Control, Process, Lives};
+ghost use Rattle.host_refines.specs.Kept.{told};
 ghost use Rattle.alg_host.specs.Hosts.{lives, Serves};
 
 use crate::Host;
+use host_moves::places_stay;
+use host_refines::{give_block, give_control};
 use ialg::{BLOCK_SAMPLES, Block, Ctl, Ialg, Refusal, Status};
-use kept_machine::{give_block, give_control};
-use placed_instances::places_stay;
 
 impl<M: Ialg> Host<M> {
     /// Whether an instance lives under the number.
@@ -16,7 +16,7 @@ impl<M: Ialg> Host<M> {
         ensures value { result ≡ lives self.now i }
         ensures machine { Serves M.meaning M.idle_keeps M.active_keeps (Lives i result) self.now self.now }
     {
-        instance_table::lives(&self.slots, i)
+        self.tables.lives(i)
     }
 
     /// Gives instance `i` a control. It becomes the active member of its group, unless it is so already.
@@ -30,14 +30,7 @@ impl<M: Ialg> Host<M> {
         ensures machine { Serves M.meaning M.idle_keeps M.active_keeps (Control i (control_of c.now) (told result)) self.old self.new }
     {
         places_stay::<M>();
-        give_control(
-            &mut self.slots,
-            &mut self.once,
-            &mut self.groups,
-            self.poison,
-            i,
-            c,
-        )
+        give_control(&mut self.tables, self.poison, i, c)
     }
 
     /// Gives instance `i` a block of samples, and pushes what it gives out, no more samples than it got. It becomes the active member of
@@ -47,17 +40,10 @@ impl<M: Ialg> Host<M> {
         requires empty { out.old.items ≡ [] }
         requires some { 1 ≤ length input.now }
         requires within { length input.now ≤ BLOCK_SAMPLES }
+        ensures bounded { length out.new.items ≤ length input.now }
         ensures machine { Serves M.meaning M.idle_keeps M.active_keeps (Process i input.now out.new.items) self.old self.new }
     {
         places_stay::<M>();
-        give_block(
-            &mut self.slots,
-            &mut self.once,
-            &mut self.groups,
-            self.poison,
-            i,
-            input,
-            out,
-        );
+        give_block(&mut self.tables, self.poison, i, input, out);
     }
 }

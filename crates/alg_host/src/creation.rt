@@ -1,6 +1,6 @@
 //! How instances begin.
 ghost use Rattle.std.specs.Prelude.{◌≡◌, OnErr};
-ghost use Rattle.sound_machine.specs.Calls.Call.{Create};
+ghost use Rattle.host_spec.specs.Calls.Call.{Create};
 ghost use Rattle.alg_host.specs.Hosts.{Serves};
 
 use crate::Host;
@@ -19,10 +19,8 @@ impl<M: Ialg> Host<M> {
         ensures refused { OnErr result (self.new ≡ self.old) }
         ensures machine { Serves M.meaning M.idle_keeps M.active_keeps (Create i kind group p.now.items result) self.old self.new }
     {
-        kept_creation::create(
-            &mut self.slots,
-            &mut self.once,
-            &mut self.groups,
+        host_create::create(
+            &mut self.tables,
             &mut self.spaces,
             self.poison,
             i,

@@ -1,14 +1,15 @@
 //! How instances go, and the host with them.
 ghost use Rattle.std.specs.Prelude.{◌≡◌, false, OnErr};
-ghost use Rattle.sound_machine.specs.Calls.Call.{Delete};
+ghost use Rattle.host_spec.specs.Calls.Call.{Delete};
 ghost use Rattle.alg_host.specs.Hosts.{lives, Serves};
 
 use crate::Host;
+use host_delete::delete_all;
+use host_life::{end_groups, end_slots};
+use host_moves::nobody_stands;
+use host_shared::end_once;
+use host_table::Tables;
 use ialg::{Ialg, Refusal};
-use instance_life::{end_groups, end_slots};
-use kept_deletion::delete_all;
-use placed_instances::nobody_stands;
-use record_shelves::end_once;
 
 impl<M: Ialg> Host<M> {
     /// Deletes instance `i`: it is deactivated if it is active, algFree is called, its records go, and its group's blocks with the last
@@ -22,27 +23,23 @@ impl<M: Ialg> Host<M> {
         ensures gone { lives self.new i ≡ false }
         ensures machine { Serves M.meaning M.idle_keeps M.active_keeps (Delete i result) self.old self.new }
     {
-        kept_deletion::delete(
-            &mut self.slots,
-            &mut self.once,
-            &mut self.groups,
-            &mut self.spaces,
-            self.poison,
-            i,
-        )
+        host_delete::delete(&mut self.tables, &mut self.spaces, self.poison, i)
     }
 
     /// Deletes every instance, in ascending number, and gives all memory back.
     pub fn close(self) {
         let Host {
-            mut slots,
-            mut once,
-            mut groups,
+            mut tables,
             mut spaces,
             poison,
         } = self;
-        delete_all(&mut slots, &mut once, &mut groups, &mut spaces, poison);
+        delete_all(&mut tables, &mut spaces, poison);
         nobody_stands::<M>();
+        let Tables {
+            slots,
+            once,
+            groups,
+        } = tables;
         end_groups(groups);
         end_once(once);
         end_slots(slots);

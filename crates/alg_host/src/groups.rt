@@ -1,14 +1,14 @@
 //! Groups: their active member, and how often one was activated.
 ghost use Rattle.std.specs.Prelude.{◌≡◌, OnErr};
-ghost use Rattle.sound_machine.specs.Calls.Call.{Release, Stat as StatCall};
+ghost use Rattle.host_spec.specs.Calls.Call.{Release, Stat as StatCall};
 ghost use Rattle.alg_host.specs.Hosts.{Serves, stat_told};
 
 use crate::Host;
+use host_map::Stat;
+use host_moves::places_stay;
+use host_refines::put_to_rest;
 use ialg::{Ialg, Refusal};
-use kept_machine::put_to_rest;
 use mem_rec::GROUPS;
-use placed_instances::places_stay;
-use scratch_group::Stat;
 
 impl<M: Ialg> Host<M> {
     /// Deactivates the active member of the group, and says whether there was one. The count of activations stays.
@@ -21,13 +21,7 @@ impl<M: Ialg> Host<M> {
         ensures machine { Serves M.meaning M.idle_keeps M.active_keeps (Release group result) self.old self.new }
     {
         places_stay::<M>();
-        put_to_rest(
-            &mut self.slots,
-            &mut self.once,
-            &mut self.groups,
-            self.poison,
-            group,
-        )
+        put_to_rest(&mut self.tables, self.poison, group)
     }
 
     /// The active member of the group and its count of activations.
@@ -41,7 +35,8 @@ impl<M: Ialg> Host<M> {
         if group >= GROUPS {
             return Err(Refusal::Range);
         }
-        let group = &self.groups[group as usize];
+        let tables = &self.tables;
+        let group = &tables.groups[group as usize];
         Ok(Stat {
             active: group.active(),
             activations: group.activations(),

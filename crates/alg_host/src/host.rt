@@ -1,25 +1,21 @@
 //! The host: how it is made.
 ghost use Rattle.std.specs.Prelude.{◌≡◌, ℕ, false, IfOk, IfErr, IsErrOf};
-ghost use Rattle.host_spaces.specs.Picture.{AreSizes};
-ghost use Rattle.sound_machine.specs.State.{new_state};
+ghost use Rattle.host_map.specs.Picture.{AreSizes};
+ghost use Rattle.host_spec.specs.State.{new_state};
 ghost use Rattle.alg_host.specs.Hosts.{Keeps, lives};
 
 use crate::memory::{HostMemory, Tables};
-use host_spaces::{Sizes, Spaces, StartError};
+use host_life::in_order;
+use host_map::Sizes;
+use host_moves::nobody_stands;
+use host_spaces::{Spaces, StartError};
 use ialg::Ialg;
-use instance_life::in_order;
-use instance_table::Member;
-use placed_instances::nobody_stands;
-use record_shelves::Shelf;
-use scratch_group::Group;
 use std::alloc::Global;
 use std::marker::Model;
 
 /// A host of instances of the kinds `M`. It can't be copied, and must be given back by [`close`](Host::close).
 pub struct Host<M> {
-    pub(crate) slots: Vec<Option<Member<M>>>,
-    pub(crate) once: Vec<Shelf>,
-    pub(crate) groups: Vec<Group>,
+    pub(crate) tables: host_table::Tables<M>,
     pub(crate) spaces: Spaces,
     pub(crate) poison: Option<i16>,
 }
@@ -29,9 +25,9 @@ impl<M> Model for Host<M> {
 
     ghost Value = { HostState M };
 
-    ghost view = { λ h. record { slots = h.slots.items; once = h.once.items; groups = h.groups.items; spaces = h.spaces; poison = h.poison } };
+    ghost view = { λ h. record { slots = h.tables.slots; once = h.tables.once; groups = h.tables.groups; spaces = h.spaces; poison = h.poison } };
 
-    ghost invariant = { λ h. IsHost (record { slots = h.slots.items; once = h.once.items; groups = h.groups.items; spaces = h.spaces; poison = h.poison }) };
+    ghost invariant = { λ h. IsHost (record { slots = h.tables.slots; once = h.tables.once; groups = h.tables.groups; spaces = h.spaces; poison = h.poison }) };
 }
 
 impl<M: Ialg> Host<M> {
@@ -48,7 +44,17 @@ impl<M: Ialg> Host<M> {
         ensures empty { IfOk result (λ h. (i : ℕ) → lives h i ≡ false) }
         ensures host { IfOk result (λ h. Keeps M.meaning M.idle_keeps M.active_keeps h (new_state sizes poison)) }
     {
-        let HostMemory { spaces, tables } = HostMemory::new(alloc, sizes)?;
+        let memory = HostMemory::new(alloc, sizes)?;
+        Ok(Host::in_memory(memory, poison))
+    }
+
+    /// A host without instances in this memory, which it asked for before. Where there is a poison word, each block holds it when it is placed,
+    /// and a group's blocks hold it wherever no member is active.
+    pub fn in_memory(memory: HostMemory<M>, poison: Option<i16>) -> Host<M>
+        ensures empty { (i : ℕ) → lives result i ≡ false }
+        ensures host { Keeps M.meaning M.idle_keeps M.active_keeps result (new_state memory.spaces.sizes poison) }
+    {
+        let HostMemory { spaces, tables } = memory;
         let Tables {
             slots,
             once,
@@ -57,12 +63,15 @@ impl<M: Ialg> Host<M> {
         let spaces = Spaces::of(spaces);
         in_order(&slots, &once, &groups);
         nobody_stands::<M>();
-        Ok(Host {
+        let tables = host_table::Tables {
             slots,
             once,
             groups,
+        };
+        Host {
+            tables,
             spaces,
             poison,
-        })
+        }
     }
 }

@@ -1,8 +1,9 @@
 // SPDX-License-Identifier: Apache-2.0
 //! A host of algorithms: instances in three spaces of memory, in groups that work in the same scratch words by turns.
 //!
-//! For each call there is one sentence: whatever state of the machine the host kept, the call is answered as the machine answers it
-//! there, and the host keeps a state that comes after it. No condition is put on the kinds that it hosts.
+//! For each call there is one sentence: whatever state of the specification the host kept, the call is answered as the specification answers
+//! it there, and the host keeps a state that comes after it. No condition is put on the algorithm types that it hosts. Over any list of calls
+//! each lawful instance gives the outputs of its own history ([`make_all`]).
 #![tactic(auto)]
 
 mod calls;
@@ -10,12 +11,14 @@ mod creation;
 mod deletion;
 mod groups;
 mod host;
+mod lists;
 mod memory;
 mod moves;
+mod request;
 
 pub use host::Host;
+pub use host_map::{Map, Owner, Placed, Sizes, Stat};
+pub use host_spaces::StartError;
+pub use lists::{make, make_all, make_both};
 pub use memory::HostMemory;
-// what its calls take and answer
-pub use host_spaces::{Sizes, StartError};
-pub use scratch_group::Stat;
-pub use space_blocks::{Map, Owner, Placed};
+pub use request::Request;

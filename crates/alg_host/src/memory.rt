@@ -3,15 +3,17 @@ ghost use Rattle.std.specs.Prelude.{◌≡◌, ℕ, None, length, IfOk, IfErr, I
 ghost use Rattle.mem_rec.specs.declared.Space.{Space};
 ghost use Rattle.scratch_group.specs.Blocks.{block_in};
 ghost use Rattle.mem_rec.specs.declared.TheConstants.{INSTANCES, GROUPS};
-ghost use Rattle.record_shelves.specs.Shelves.{no_shelf, shelf_at, once_at, no_pieces};
-ghost use Rattle.instance_table.specs.Table.{slot_at, group_at, activity_at, untouched};
-ghost use Rattle.host_spaces.specs.Picture.{AreSizes};
+ghost use Rattle.host_shared.specs.Shelves.{no_shelf, shelf_at, once_at, no_pieces};
+ghost use Rattle.host_table.specs.Table.{slot_at, group_at, activity_at};
+ghost use Rattle.host_map.specs.Activity.{untouched};
+ghost use Rattle.host_map.specs.Picture.{AreSizes};
 
-use host_spaces::{EmptySpaces, Sizes, StartError};
+use host_life::{empty_groups, empty_slots, end_groups, end_slots};
+use host_map::Sizes;
+use host_shared::{Shelf, empty_once, end_once};
+use host_spaces::{EmptySpaces, StartError};
+use host_table::Member;
 use ialg::Ialg;
-use instance_life::{empty_groups, empty_slots, end_groups, end_slots};
-use instance_table::Member;
-use record_shelves::{Shelf, empty_once, end_once};
 use scratch_group::Group;
 use std::alloc::{AllocError, Allocator, Global};
 

@@ -1,13 +1,13 @@
 //! Where the blocks stand, and how they are moved together.
 ghost use Rattle.std.specs.Prelude.{◌≡◌};
-ghost use Rattle.sound_machine.specs.Calls.Call.{Step, Compact, Map as MapCall, Copied};
+ghost use Rattle.host_spec.specs.Calls.Call.{Step, Compact, Map as MapCall, Copied};
 ghost use Rattle.alg_host.specs.Hosts.{Serves};
 
 use crate::Host;
+use host_map::Map;
+use host_moves::maps_have_room;
 use ialg::Ialg;
 use mem_rec::Space;
-use placed_instances::maps_have_room;
-use space_blocks::Map;
 
 impl<M: Ialg> Host<M> {
     /// Moves the first block of the space that doesn't stand at the least place behind the block before it to that place, with its
@@ -15,26 +15,14 @@ impl<M: Ialg> Host<M> {
     pub fn step(&mut self, space: Space) -> bool
         ensures machine { Serves M.meaning M.idle_keeps M.active_keeps (Step space result) self.old self.new }
     {
-        kept_moves::step(
-            &mut self.slots,
-            &mut self.once,
-            &mut self.groups,
-            &mut self.spaces,
-            space,
-        )
+        host_refines::step(&mut self.tables, &mut self.spaces, space)
     }
 
     /// Steps until no block of the space moves, and says how many blocks moved; each moves once.
     pub fn compact(&mut self, space: Space) -> u32
         ensures machine { Serves M.meaning M.idle_keeps M.active_keeps (Compact space result) self.old self.new }
     {
-        kept_moves::compact(
-            &mut self.slots,
-            &mut self.once,
-            &mut self.groups,
-            &mut self.spaces,
-            space,
-        )
+        host_refines::compact(&mut self.tables, &mut self.spaces, space)
     }
 
     /// The blocks of the space in place order: whose each is, where it stands, its size and its alignment in words.

@@ -1,21 +1,34 @@
 //! The words of the command line.
 ghost use Rattle.std.specs.Prelude.{◌≤◌, length, IfOk};
 
-use crate::asked::{ArgFault, Arguments};
+use crate::asked::{About, ArgFault, Arguments, CONSOLE};
+use crate::version::VERSION;
 use clap::{Arg, ArgAction, ArgMatches, Command, Error};
-use host_spaces::Sizes;
+use host_map::Sizes;
 use port_pairs::pairs;
-use space_heap::SPACE_WORDS;
+use relocate::SPACE_WORDS;
 use std::alloc::Global;
 
+/// The end of the help.
+const MORE: &str = "A file whose name begins with a minus stands behind --.
+
+Exit status:
+  0  every line of SCRIPT was accepted
+  1  some lines were refused
+  2  wrong arguments
+  3  SCRIPT or an IN can't be read
+  4  an OUT or the replies can't be written
+  5  not enough memory at the start
+
+The commands and their replies: docs/SCRIPTS.md, or man dsp_console.";
+
 /// An option for the size of a space.
-fn space_option(alloc: Global, space: &'static str) -> Arg<'static> {
+fn space_option(alloc: Global, space: &'static str, help: &'static str) -> Arg<'static> {
     Arg::new(alloc, space)
         .long(space)
         .value_name("WORDS")
-        .help(
-            "The size of the space in words of 16 bits: 0 to 65536, a multiple of 4; without it 65536",
-        )
+        .help(help)
+        .default_value("65536")
         .action(ArgAction::Set)
         .value_parser(clap::value_parser!(u32))
 }
@@ -26,7 +39,7 @@ fn poison_option(alloc: Global) -> Arg<'static> {
         .long("poison")
         .value_name("WORD")
         .help(
-            "Fill new and resting memory with this word of 16 bits: 0 to 65535; without it nothing is filled",
+            "Fill new memory, and scratch memory after each deactivation, with this word, 0 to 65535, to show who reads it",
         )
         .action(ArgAction::Set)
         .value_parser(clap::value_parser!(u16))
@@ -38,14 +51,27 @@ fn mask_option(alloc: Global, name: &'static str, help: &'static str) -> Arg<'st
         .long(name)
         .value_name("MASK")
         .help(help)
+        .default_value("0")
         .action(ArgAction::Set)
         .value_parser(clap::value_parser!(u16))
+}
+
+/// The option that asks for reasons.
+fn explain_option(alloc: Global) -> Arg<'static> {
+    Arg::new(alloc, "explain")
+        .long("explain")
+        .help(
+            "Say on the standard error why each refused line was refused, and which file failed and why",
+        )
+        .action(ArgAction::SetTrue)
 }
 
 /// The path of the script.
 fn script_argument(alloc: Global) -> Arg<'static> {
     Arg::new(alloc, "SCRIPT")
-        .help("The file of commands, a line each")
+        .help(
+            "Commands, one a line: each line that isn't blank gets one reply on the standard output",
+        )
         .required(true)
         .action(ArgAction::Set)
 }
@@ -55,7 +81,7 @@ fn ports_argument(alloc: Global) -> Arg<'static> {
     Arg::new(alloc, "PORTS")
         .value_name("IN OUT")
         .help(
-            "1 to 16 pairs of files of samples of 16 bits, the low octet first: pair n, from 0 on, is what channel n reads and what it writes",
+            "1 to 16 pairs of files of samples, the low byte first, without a header: the n-th pair, from 0, is channel n's",
         )
         .num_args(0..)
         .action(ArgAction::Append)
@@ -64,20 +90,25 @@ fn ports_argument(alloc: Global) -> Arg<'static> {
 /// The options and arguments, in the order that the help has.
 fn accepted(alloc: Global) -> Result<Vec<Arg<'static>>, Error> {
     let accepted = vec![in alloc;
-        space_option(alloc, "daram"),
-        space_option(alloc, "saram"),
-        space_option(alloc, "external"),
+        space_option(
+            alloc,
+            "daram",
+            "Size of the space daram in 16-bit words, a multiple of 4 up to 65536"
+        ),
+        space_option(alloc, "saram", "Size of the space saram"),
+        space_option(alloc, "external", "Size of the space external"),
         poison_option(alloc),
         mask_option(
             alloc,
             "in8",
-            "The channels, a bit each, whose IN is of samples of one octet, 0 to 255: 0 to 65535; without it none",
+            "Channels whose IN has one byte a sample, 0 to 255: bit n is channel n",
         ),
         mask_option(
             alloc,
             "out8",
-            "The channels, a bit each, whose OUT takes of each sample the low octet alone: 0 to 65535; without it none",
+            "Channels whose OUT gets one byte a sample, its low eight bits: bit n is channel n",
         ),
+        explain_option(alloc),
         script_argument(alloc),
         ports_argument(alloc),
     ]?;
@@ -85,10 +116,17 @@ fn accepted(alloc: Global) -> Result<Vec<Arg<'static>>, Error> {
 }
 
 /// What `clap` finds in the words, which don't begin with the program's name.
-fn matches<'a>(alloc: Global, words: &'a [&'a str]) -> Result<ArgMatches<'a>, Error> {
-    Command::new(alloc, "dsp_console")
+fn matches<'a>(
+    alloc: Global,
+    about: &About,
+    words: &'a [&'a str],
+) -> Result<ArgMatches<'a>, Error> {
+    Command::new(alloc, about.name)
         .no_binary_name(true)
-        .override_usage("dsp_console [OPTIONS] <SCRIPT> <IN OUT> [IN OUT]...")
+        .version(VERSION)
+        .about(about.about)
+        .after_help(MORE)
+        .override_usage(about.usage)
         .args(accepted(alloc)?)?
         .try_get_matches_from(words)
 }
@@ -105,11 +143,23 @@ fn mask_of(matches: &ArgMatches<'_>, name: &str) -> u16 {
 
 /// Parses the words of a command line, the program's name not among them: options, SCRIPT, and the ports behind it in pairs.
 ///
-/// [`ArgFault::Ports`] is for any other count of ports than 1 to [`PORT_PAIRS`](crate::PORT_PAIRS) pairs, [`ArgFault::Clap`] for what `clap` refuses, and for `--help`.
+/// [`ArgFault::Ports`] is for any other count of ports than 1 to [`PORT_PAIRS`](crate::PORT_PAIRS) pairs, [`ArgFault::Clap`] for what
+/// `clap` refuses, and for `--help` and `--version`, which tell of the console over the five kinds.
 pub fn arguments<'a>(alloc: Global, words: &'a [&'a str]) -> Result<Arguments<'a>, ArgFault>
     ensures { IfOk result (λ a. 1 ≤ length a.ports.items) }
 {
-    let matches = match matches(alloc, words) {
+    arguments_of(alloc, &CONSOLE, words)
+}
+
+/// As [`arguments`], of another program.
+pub fn arguments_of<'a>(
+    alloc: Global,
+    about: &About,
+    words: &'a [&'a str],
+) -> Result<Arguments<'a>, ArgFault>
+    ensures { IfOk result (λ a. 1 ≤ length a.ports.items) }
+{
+    let matches = match matches(alloc, about, words) {
         Ok(matches) => matches,
         Err(error) => return Err(ArgFault::Clap(error)),
     };
@@ -130,6 +180,7 @@ pub fn arguments<'a>(alloc: Global, words: &'a [&'a str]) -> Result<Arguments<'a
         poison: poison.map(|word| word.cast_signed()),
         in8: mask_of(&matches, "in8"),
         out8: mask_of(&matches, "out8"),
+        explain: matches.get_flag("explain"),
         ports,
     })
 }

@@ -4,7 +4,9 @@
 
 mod asked;
 mod command_line;
+mod version;
 
-pub use asked::{ArgFault, Arguments};
-pub use command_line::arguments;
+pub use asked::{About, ArgFault, Arguments, CONSOLE};
+pub use command_line::{arguments, arguments_of};
 pub use port_pairs::PORT_PAIRS;
+pub use version::VERSION;

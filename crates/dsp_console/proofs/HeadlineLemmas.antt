@@ -3,10 +3,10 @@ use Rattle.std.proofs.Common.{ℕ, ℤ, List, Option, All, Result, Ok, Err, IfOk
 use Rattle.dsp_console.specs.declared.serving.Summary.{Summary}
 use Rattle.dsp_console.specs.declared.serving.Fault.{Fault}
 use Rattle.ialg.specs.Meaning.{Meaning}
-use Rattle.host_spaces.specs.declared.spaces.Sizes.{Sizes}
+use Rattle.host_map.specs.declared.parts.Sizes.{Sizes}
 use Rattle.script_server.specs.Runs.{Devices, EndsWell, IsHonest, octets_to_come}
-use Rattle.line_machine.specs.Widths.{Widths}
-use Rattle.console_machine.specs.Console.{console_machine, start}
+use Rattle.line_spec.specs.Widths.{Widths}
+use Rattle.console_spec.specs.Console.{console_machine, start}
 use Rattle.dsp_console.specs.Headline.{RunHeadline}
 
 pub says_headline : {M : Type 0} (kinds : Meaning M) (named : List ℕ → Option M) (widths : Widths) (sizes : Sizes) (poison : Option ℤ) (result : Result Summary Fault) (old new : Devices)

@@ -3,18 +3,18 @@ use Rattle.std.proofs.Common.{◌≡◌, ℕ, ℤ, List, Option, None, All, Resu
 use Rattle.dsp_console.specs.declared.serving.Summary.{Summary}
 use Rattle.dsp_console.specs.declared.serving.Fault.{Fault}
 use Rattle.ialg.specs.Meaning.{Meaning}
-use Rattle.host_spaces.specs.declared.spaces.Sizes.{Sizes}
-use Rattle.sound_machine.specs.Answers.{AreLawful}
-use Rattle.channel_machine.specs.Channels.{Channels}
+use Rattle.host_map.specs.declared.parts.Sizes.{Sizes}
+use Rattle.host_spec.specs.Answers.{AreLawful}
+use Rattle.channel_spec.specs.Channels.{Channels}
 use Rattle.voice_script.specs.Script.{lines_of}
-use Rattle.line_machine.specs.Served.{Answer, LinesAnswer, order_of, refusals}
-use Rattle.line_machine.specs.Computed.{IsComputed}
-use Rattle.line_machine.specs.Widths.{Widths}
+use Rattle.line_spec.specs.Served.{Answer, LinesAnswer, order_of, refusals}
+use Rattle.line_spec.specs.Computed.{IsComputed}
+use Rattle.line_spec.specs.Widths.{Widths}
 use Rattle.script_server.specs.Runs.{Devices, EndsByRead, EndsByWrite, EndsWell, IsHonest, Writes, octets_to_come}
 use Rattle.script_server.proofs.ComputedEnds as computed_ends
-use Rattle.channel_machine.specs.Laws.{with_poison}
-use Rattle.console_machine.specs.Console.{console_machine, start}
-use Rattle.console_machine.specs.Answers.{computed_console, served}
+use Rattle.channel_spec.specs.Laws.{with_poison}
+use Rattle.console_spec.specs.Console.{console_machine, start}
+use Rattle.console_spec.specs.Answers.{computed_console, served}
 use Rattle.dsp_console.specs.Lawful.{EndsLawfullyByRead, EndsLawfullyByWrite, ServesLawfully}
 
 -- a console of lawful kinds serves one answer

@@ -5,15 +5,15 @@ use Rattle.dsp_console.specs.declared.serving.Fault.{Fault}
 use Rattle.std.proofs.lemmas.List.{length-map}
 use Rattle.ialg.specs.Meaning.{Meaning}
 use Rattle.lifecycle.specs.States.{Relation}
-use Rattle.host_spaces.specs.declared.spaces.Sizes.{Sizes}
+use Rattle.host_map.specs.declared.parts.Sizes.{Sizes}
 use Rattle.host_spaces.specs.Picture.{sizes_of}
-use Rattle.sound_machine.specs.State.{State, new_state}
+use Rattle.host_spec.specs.State.{State, new_state}
 use Rattle.voice_console.specs.Hosts.{HostState}
 use Rattle.voice_console.specs.Hosts as hosts
 use Rattle.octet_ports.specs.Ports.{Source}
 use Rattle.script_server.specs.Runs.{Devices, EndsByRead, EndsByWrite, EndsWell, octets_to_come, run_of}
-use Rattle.line_machine.specs.Widths.{Widths}
-use Rattle.console_machine.specs.Console.{console_machine, new_channels, start}
+use Rattle.line_spec.specs.Widths.{Widths}
+use Rattle.console_spec.specs.Console.{console_machine, new_channels, start}
 use Rattle.voice_console.specs.declared.console.Console.{Console}
 use Rattle.voice_console.specs.Consoles.{Keeps, port_widths_of}
 use Rattle.dsp_console.specs.Fresh.{fresh}

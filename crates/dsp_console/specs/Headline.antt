@@ -1,12 +1,12 @@
 -- The headline, of a run of the engine between honest ports.
 use Rattle.std.specs.Prelude.{ℕ, ℤ, List, Option}
 use Rattle.ialg.specs.Meaning.{Meaning}
-use Rattle.host_spaces.specs.declared.spaces.Sizes.{Sizes}
+use Rattle.host_map.specs.declared.parts.Sizes.{Sizes}
 use Rattle.voice_script.specs.Script.{lines_of}
-use Rattle.line_machine.specs.Widths.{Widths}
+use Rattle.line_spec.specs.Widths.{Widths}
 use Rattle.script_server.specs.Runs.{Devices, ServedAll, octets_to_come}
-use Rattle.console_machine.specs.Console.{console_machine, start}
-use Rattle.machine_runs.specs.Headline.{Headline}
+use Rattle.console_spec.specs.Console.{console_machine, start}
+use Rattle.run_theorem.specs.Headline.{Headline}
 
 -- over ports of these widths, from a host of these sizes and this poison word, all of the script was served, by an answer that the machine
 -- may give: the ports hold what it says, the inputs have what it left, and so many lines were refused. And of that answer the headline holds

@@ -1,12 +1,12 @@
 -- A run where every kind is lawful: what is served is a function of widths, sizes, script and inputs, in which the poison word doesn't occur.
 use Rattle.std.specs.Prelude.{◌≡◌, ℕ, List, Option, None}
 use Rattle.ialg.specs.Meaning.{Meaning}
-use Rattle.host_spaces.specs.declared.spaces.Sizes.{Sizes}
-use Rattle.line_machine.specs.Served.{order_of, refusals}
-use Rattle.line_machine.specs.Widths.{Widths}
+use Rattle.host_map.specs.declared.parts.Sizes.{Sizes}
+use Rattle.line_spec.specs.Served.{order_of, refusals}
+use Rattle.line_spec.specs.Widths.{Widths}
 use Rattle.script_server.specs.Runs.{Devices, EndsByRead, EndsByWrite, Writes, octets_to_come}
-use Rattle.console_machine.specs.Console.{start}
-use Rattle.console_machine.specs.Answers.{lawful_console, served}
+use Rattle.console_spec.specs.Console.{start}
+use Rattle.console_spec.specs.Answers.{lawful_console, served}
 
 -- what is served was written, and nothing else; what the script left on the inputs is still to come
 pub record ServesLawfully {M : Type 0} (kinds : Meaning M) (named : List ℕ → Option M) (widths : Widths) (sizes : Sizes) (refused : ℕ) (old new : Devices) : Type 0 where

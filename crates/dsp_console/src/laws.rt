@@ -1,16 +1,16 @@
 //! The headline of a run.
 ghost use Rattle.std.specs.Prelude.{◌≡◌, ◌++◌, ℕ, ℤ, [], All, IsTrue, List, Option};
-ghost use Rattle.host_spaces.specs.declared.spaces.Sizes.{Sizes};
-ghost use Rattle.sound_machine.specs.Calls.{Call};
-ghost use Rattle.sound_machine.specs.Runs.{history_of_run, outputs_in, statuses_in};
-ghost use Rattle.channel_machine.specs.Channels.{Channels};
+ghost use Rattle.host_map.specs.declared.parts.Sizes.{Sizes};
+ghost use Rattle.host_spec.specs.Calls.{Call};
+ghost use Rattle.host_spec.specs.Runs.{history_of_run, outputs_in, statuses_in};
+ghost use Rattle.channel_spec.specs.Channels.{Channels};
 ghost use Rattle.voice_script.specs.Script.{lines_of};
-ghost use Rattle.line_machine.specs.Served.{Answer};
-ghost use Rattle.line_machine.specs.Widths.{Widths};
-ghost use Rattle.console_machine.specs.Console.{console_machine, start};
+ghost use Rattle.line_spec.specs.Served.{Answer};
+ghost use Rattle.line_spec.specs.Widths.{Widths};
+ghost use Rattle.console_spec.specs.Console.{console_machine, start};
 ghost use Rattle.script_server.specs.Runs.{Devices, EndsByRead, EndsWell, IsHonest, octets_to_come};
-ghost use Rattle.machine_runs.specs.Births.{Born};
-ghost use Rattle.machine_runs.specs.Headline.{GoesOn, Headline};
+ghost use Rattle.run_theorem.specs.Births.{Born};
+ghost use Rattle.run_theorem.specs.Headline.{GoesOn, Headline};
 ghost use Rattle.dsp_console.specs.Headline.{RunHeadline};
 
 use ialg::{Ialg, Named};
@@ -41,5 +41,5 @@ pub fn headline<M: Ialg + Named>()
         → history_of_run i [] later ≡ history_of_run j [] since
         → (outputs_in i later ≡ outputs_in j since) × (statuses_in i later ≡ statuses_in j since) }
 {
-    machine_runs::headline::<M>();
+    run_theorem::headline::<M>();
 }

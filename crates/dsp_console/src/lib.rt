@@ -10,8 +10,8 @@ pub use ending::outcome;
 pub use laws::headline;
 pub use octet_ports::{PortFault, PortIn, PortOut, Reading, TAPE_OCTETS, TapeIn, TapeOut, Writing};
 pub use script_server::SCRIPT_OCTETS;
-pub use serving::{Config, Fault, Summary, run};
-pub use voice_console::{CHANNELS, Sizes};
+pub use serving::{Config, Fault, Summary, run, run_memory};
+pub use voice_console::{CHANNELS, HostMemory, Sizes};
 
 // A command line has as many pairs of ports, and a script as many channels.
 const _: () = prove!(CHANNELS == 16);

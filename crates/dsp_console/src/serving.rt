@@ -1,10 +1,13 @@
 //! Runs of the engine.
-ghost use Rattle.std.specs.Prelude.{◌≡◌, ◌+◌, ◌≤◌, ◌⊎◌, ◌↔◌, false, map, length, All, IfOk, IfErr, IsErrOf};
+ghost use Rattle.std.specs.Prelude.{◌≡◌, ℕ, ◌+◌, ◌≤◌, ◌⊎◌, ◌↔◌, false, map, length, All, IfOk, IfErr, IsErrOf};
 ghost use Rattle.octet_ports.specs.Ports.{GivesWithin};
-ghost use Rattle.host_spaces.specs.Picture.{AreSizes};
-ghost use Rattle.sound_machine.specs.Answers.{AreLawful};
-ghost use Rattle.line_machine.specs.Widths.{widths_of};
-ghost use Rattle.console_machine.specs.Console.{console_machine, start};
+ghost use Rattle.host_map.specs.Picture.{AreSizes};
+ghost use Rattle.host_spec.specs.Answers.{AreLawful};
+ghost use Rattle.host_spec.specs.State.{new_state};
+ghost use Rattle.voice_console.specs.Hosts.{lives};
+ghost use Rattle.voice_console.specs.Hosts as hosts;
+ghost use Rattle.line_spec.specs.Widths.{widths_of};
+ghost use Rattle.console_spec.specs.Console.{console_machine, start};
 ghost use Rattle.script_server.specs.Runs.{AreReady, EndsWell, EndsByRead, EndsByWrite, IsHonest, IsUnused, known_of, octets_to_come, run_of};
 ghost use Rattle.voice_console.specs.Consoles.{Keeps, channels_of, port_widths_of};
 ghost use Rattle.dsp_console.specs.Fresh.{fresh};
@@ -12,13 +15,13 @@ ghost use Rattle.dsp_console.specs.Headline.{RunHeadline};
 ghost use Rattle.dsp_console.specs.Lawful.{EndsLawfullyByRead, EndsLawfullyByWrite, ServesLawfully};
 
 use crate::laws::headline;
-use console_machine::lawful_consoles_serve_one_answer;
+use console_spec::lawful_consoles_serve_one_answer;
 use ialg::{Ialg, Named};
 use octet_ports::{PortIn, PortOut};
 use script_server::{PortsFault, SCRIPT_OCTETS, serve};
-use std::alloc::Global;
+use std::alloc::{Allocator, Global};
 use thiserror::Error;
-use voice_console::{CHANNELS, Console, Host, PortWidths, Sizes, StartError};
+use voice_console::{CHANNELS, Console, Host, HostMemory, PortWidths, Sizes, StartError};
 
 /// What a run is told beside its ports.
 #[derive(Clone, Copy, PartialEq, Eq, Debug)]
@@ -55,6 +58,38 @@ pub enum Fault {
 pub struct Summary {
     /// How many lines were refused.
     pub refused: u64,
+}
+
+/// The memory of a run: its spaces, of these sizes, and the tables of its host. A run asks for it and for no other.
+///
+/// # Errors
+///
+/// `Size` where a size isn't a multiple of 4 up to 65,536, before any memory is asked for, and otherwise `Memory` where a request was
+/// refused. Nothing is held then.
+pub fn run_memory<M: Ialg, A: Allocator + Copy>(
+    alloc: A,
+    sizes: Sizes,
+) -> Result<HostMemory<M, A>, Fault>
+    ensures size { ¬ AreSizes sizes → IsErrOf result Fault.Size }
+    ensures memory { AreSizes sizes → IfErr result (λ fault. fault ≡ Fault.Memory) }
+    ensures sizes { IfOk result (λ memory. memory.spaces.sizes ≡ sizes) }
+{
+    match HostMemory::new(alloc, sizes) {
+        Ok(memory) => Ok(memory),
+        Err(StartError::BadSize) => Err(Fault::Size),
+        Err(StartError::Memory) => Err(Fault::Memory),
+    }
+}
+
+/// A host without instances in memory of its own.
+fn new_host<M: Ialg>(alloc: Global, sizes: Sizes, poison: Option<i16>) -> Result<Host<M>, Fault>
+    ensures size { ¬ AreSizes sizes → IsErrOf result Fault.Size }
+    ensures memory { AreSizes sizes → IfErr result (λ fault. fault ≡ Fault.Memory) }
+    ensures empty { IfOk result (λ host. (i : ℕ) → lives host i ≡ false) }
+    ensures host { IfOk result (λ host. hosts.Keeps M.meaning M.idle_keeps M.active_keeps host (new_state sizes poison)) }
+{
+    let memory = run_memory(alloc, sizes)?;
+    Ok(Host::in_memory(memory, poison))
 }
 
 /// Serves the script by a console that was just made.
@@ -161,10 +196,9 @@ pub fn run<M: Ialg + Named, S: PortIn, I: PortIn, O: PortOut, P: PortOut>(
 {
     lawful_consoles_serve_one_answer::<M>();
     headline::<M>();
-    let host = match Host::<M>::new(alloc, config.sizes, config.poison) {
+    let host = match new_host::<M>(alloc, config.sizes, config.poison) {
         Ok(host) => host,
-        Err(StartError::BadSize) => return Err(Fault::Size),
-        Err(StartError::Memory) => return Err(Fault::Memory),
+        Err(fault) => return Err(fault),
     };
     let widths = PortWidths::of_masks(config.in8, config.out8);
     let mut console = Console::new(host, inputs.len() as u8, widths);

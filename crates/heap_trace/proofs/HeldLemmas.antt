@@ -3,7 +3,7 @@ use Rattle.std.proofs.Common.{◌≡◌, ℕ, suc, ◌<◌, ◌≤◌, List, [],
 use Rattle.std.proofs.lemmas.List.{take-append-drop, length-take-le}
 use Rattle.std.proofs.Math.Seq.{take-append_seam, drop-append_seam, drop-cons}
 use Rattle.space_raw.specs.Span.{Extent, Span}
-use Rattle.space_heap.specs.Places.{Range}
+use Rattle.relocate.specs.Places.{Range}
 use Rattle.space_heap.specs.Pictures.{HeapState, Holds, IsBlock, range_of}
 use Rattle.space_heap.proofs.PictureLemmas.{block_out}
 use Rattle.heap_trace.specs.Held.{AreOf}

@@ -2,7 +2,8 @@
 
 use crate::vector_heap::VectorHeap;
 use mem_rec::{GREATEST_ALIGNMENT, LEAST_ALIGNMENT};
-use space_heap::{GREATEST_NEED, Heap};
+use relocate::GREATEST_NEED;
+use space_heap::Heap;
 use space_raw::Piece;
 use std::alloc::Global;
 use std::marker::Model;

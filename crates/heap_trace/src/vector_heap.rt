@@ -1,7 +1,7 @@
 //! The heap's earlier body as a program over numbers: its holes are kept in a vector, in place order. The heap is compared with it.
 
 use mem_rec::LEAST_ALIGNMENT;
-use space_heap::is_space_size;
+use relocate::is_space_size;
 use std::alloc::Global;
 
 // Free words. No two holes of a heap touch.

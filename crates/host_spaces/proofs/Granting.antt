@@ -6,25 +6,26 @@ use Rattle.mem_rec.specs.declared.MemRec.{MemRec}
 use Rattle.mem_rec.specs.declared.Space.{Space}
 use Rattle.mem_rec.specs.declared.Space.TheVariants.{Daram, Saram, External}
 use Rattle.mem_rec.specs.declared.Attr.{Attr}
-use Rattle.mem_rec.specs.declared.Attr.TheVariants.{Persist, WriteOnce}
-use Rattle.mem_rec.specs.declared.Attr.TheVariants.{Scratch as ScratchRecord}
+use Rattle.mem_rec.specs.declared.Attr.TheVariants.{Persist, WriteOnce, Scratch as ScratchRecord}
 use Rattle.mem_rec.specs.Records.{is_persistent, is_scratch, is_table, same_space}
 use Rattle.mem_rec.proofs.Valid.{within_limits}
 use Rattle.space_raw.specs.Span.{Extent, Span}
-use Rattle.space_heap.specs.Places.{placed_size}
+use Rattle.relocate.specs.Places.{placed_size}
 use Rattle.ialg.specs.Records.{ArePoison, record_at}
 use Rattle.record_loans.specs.Blocks.{block_words}
 use Rattle.record_loans.specs.Pieces.{piece_at, piece_words}
 use Rattle.scratch_group.specs.declared.group.Group.{Group}
 use Rattle.scratch_group.specs.declared.group.Need.{Need}
-use Rattle.space_blocks.specs.declared.placed.Owner.{Owner}
-use Rattle.space_blocks.specs.declared.placed.Owner.TheVariants.{Record, Scratch}
-use Rattle.space_blocks.specs.Blocks.{block_of, block_of_piece, owned, with_block}
+use Rattle.host_map.specs.declared.placed.Owner.{Owner}
+use Rattle.host_map.specs.declared.placed.Owner.TheVariants.{Record, Scratch}
+use Rattle.space_blocks.specs.Blocks.{block_of, block_of_piece}
+use Rattle.host_map.specs.Blocks.{owned, with_block}
 use Rattle.host_spaces.specs.declared.granted.Granted.{Granted}
 use Rattle.host_spaces.specs.declared.spaces.Spaces.{Spaces}
-use Rattle.host_spaces.specs.declared.wants.Wanted.{Wanted}
-use Rattle.host_spaces.specs.Picture.{blocks_in, picture_of, space_in}
-use Rattle.host_spaces.specs.Creation.{record_wanted}
+use Rattle.host_map.specs.declared.parts.Wanted.{Wanted}
+use Rattle.host_map.specs.Picture.{blocks_in}
+use Rattle.host_spaces.specs.Picture.{picture_of, space_in}
+use Rattle.host_map.specs.Creation.{record_wanted}
 use Rattle.lifecycle.specs.Rooms.{lasting_piece}
 use Rattle.host_spaces.specs.Pieces.{ArePlacedPieces, AreSharable, HasRecords, IsNeeded, IsPieceOf, IsPoisoned, as_block, is_placed_once, is_write_once, kept_piece, lent_piece, new_block, placement_of, record_block, with_new}
 use Rattle.host_spaces.specs.Wants.{IsFor, IsGranted, block_need, need_wanted, slot_at, want_at, wants_of}

@@ -6,26 +6,27 @@ use Rattle.mem_rec.specs.declared.MemRec.{MemRec}
 use Rattle.mem_rec.specs.declared.Space.{Space}
 use Rattle.mem_rec.specs.declared.Space.TheVariants.{Daram, Saram, External}
 use Rattle.mem_rec.specs.declared.Attr.{Attr}
-use Rattle.mem_rec.specs.declared.Attr.TheVariants.{Persist, WriteOnce}
-use Rattle.mem_rec.specs.declared.Attr.TheVariants.{Scratch as ScratchRecord}
+use Rattle.mem_rec.specs.declared.Attr.TheVariants.{Persist, WriteOnce, Scratch as ScratchRecord}
 use Rattle.mem_rec.specs.Records.{is_persistent, same_space}
 use Rattle.space_raw.specs.Span.{Extent, Span}
-use Rattle.space_heap.specs.Places.{placed_size}
+use Rattle.relocate.specs.Places.{placed_size}
 use Rattle.ialg.specs.Records.{record_at}
 use Rattle.record_loans.specs.declared.pieces.Pieces.{Pieces}
 use Rattle.record_loans.specs.Pieces.{piece_at}
-use Rattle.space_heap.proofs.RangeTests.{clash, true_or_false, when_not}
-use Rattle.space_blocks.specs.declared.placed.Owner.{Owner}
-use Rattle.space_blocks.specs.declared.placed.Owner.TheVariants.{Record, Scratch}
-use Rattle.space_blocks.specs.declared.placed.Placed.{Placed}
-use Rattle.space_blocks.specs.Blocks.{Owns, block_of_piece, disowned, owned, same_owner, without_at, without_piece}
+use Rattle.relocate.proofs.RangeTests.{clash, true_or_false, when_not}
+use Rattle.host_map.specs.declared.placed.Owner.{Owner}
+use Rattle.host_map.specs.declared.placed.Owner.TheVariants.{Record, Scratch}
+use Rattle.host_map.specs.declared.placed.Placed.{Placed}
+use Rattle.space_blocks.specs.Blocks.{Owns, block_of_piece, without_piece}
+use Rattle.host_map.specs.Blocks.{disowned, owned, same_owner, without_at}
 use Rattle.space_blocks.specs.Spaces.{SpaceState}
 use Rattle.space_blocks.proofs.Orders.{dropped, kept}
 use Rattle.space_blocks.proofs.Owners.{disowned_none, owned_beside, owns_one}
 use Rattle.host_spaces.specs.declared.pieces.OldBlocks.{OldBlocks}
 use Rattle.host_spaces.specs.declared.spaces.Spaces.{Spaces}
-use Rattle.host_spaces.specs.Picture.{Picture, blocks_in, blocks_without, is_group's, is_instance's, picture_of, space_in, without_owners}
-use Rattle.host_spaces.specs.Creation.{replaced_block, without_block, without_replaced}
+use Rattle.host_map.specs.Picture.{Picture, blocks_in, blocks_without, is_group's, is_instance's, without_owners}
+use Rattle.host_spaces.specs.Picture.{picture_of, space_in}
+use Rattle.host_map.specs.Creation.{replaced_block, without_block, without_replaced}
 use Rattle.lifecycle.specs.Rooms.{lasting_piece}
 use Rattle.host_spaces.specs.Pieces.{ArePlacedPieces, HasRecords, IsPieceOf, is_placed_once, old_piece, record_block, without_pieces}
 use Rattle.host_spaces.proofs.Pictures.{by_space, daram_external, daram_saram, pictures_equal, saram_external, seen_blocks}

@@ -9,17 +9,19 @@ use Rattle.mem_rec.specs.Records.{is_alignment, is_record, is_table}
 use Rattle.mem_rec.specs.Layout.{scratch_align, scratch_need}
 use Rattle.mem_rec.proofs.Valid.{within_limits}
 use Rattle.space_raw.specs.Span.{Span}
-use Rattle.space_heap.specs.Pictures.{AreBlocks, IsAlignment, IsBlock}
-use Rattle.space_heap.proofs.RangeTests.{both_false, both_true, clash}
+use Rattle.space_heap.specs.Pictures.{AreBlocks, IsBlock}
+use Rattle.relocate.specs.Places.{IsAlignment}
+use Rattle.relocate.proofs.RangeTests.{both_false, both_true, clash}
 use Rattle.relocate.specs.Spots.{AreSpotsFrom, IsSpot}
 use Rattle.record_loans.specs.declared.block.ScratchBlock.{ScratchBlock}
 use Rattle.record_loans.specs.Blocks.{block_align, block_piece, block_words}
 use Rattle.scratch_group.specs.declared.group.Need.{Need}
 use Rattle.scratch_group.specs.Blocks.{block_needed, serves}
-use Rattle.space_blocks.specs.declared.placed.Owner.{Owner}
-use Rattle.space_blocks.specs.declared.placed.Placed.{Placed}
-use Rattle.space_blocks.specs.Blocks.{block_of, block_of_piece, block_range, owned, ranges, same_owner}
-use Rattle.space_blocks.specs.Moves.{spot_of, spots_of}
+use Rattle.host_map.specs.declared.placed.Owner.{Owner}
+use Rattle.host_map.specs.declared.placed.Placed.{Placed}
+use Rattle.space_blocks.specs.Blocks.{block_of, block_of_piece}
+use Rattle.host_map.specs.Blocks.{block_range, owned, ranges, same_owner}
+use Rattle.host_map.specs.Moves.{spot_of, spots_of}
 use Rattle.space_blocks.specs.Spaces.{AreInOrder}
 use Rattle.space_blocks.proofs.Owners.{passing}
 use Rattle.host_spaces.specs.Wants.{IsWithinLimits}

@@ -9,7 +9,7 @@ use Rattle.mem_rec.specs.declared.Space.{Space}
 use Rattle.mem_rec.specs.Records.{is_record, is_table, is_alignment, is_scratch, same_space}
 use Rattle.mem_rec.specs.Layout.{scratch_records, end_from, align_from, scratch_need, scratch_align}
 use Rattle.mem_rec.proofs.Valid.{within_limits}
-use Rattle.space_heap.specs.Pictures.{IsAlignment}
+use Rattle.relocate.specs.Places.{IsAlignment}
 
 -- an alignment divides the limit of a record
 pub record IsPower (a : ℕ) : Type 0 where

@@ -8,20 +8,22 @@ use Rattle.mem_rec.specs.declared.Space.{Space}
 use Rattle.mem_rec.specs.declared.Space.TheVariants.{Daram, Saram, External}
 use Rattle.mem_rec.specs.Records.{same_space}
 use Rattle.space_raw.specs.Span.{Span}
-use Rattle.space_heap.specs.Places.{least_place, placed_size}
+use Rattle.relocate.specs.Places.{least_place, placed_size}
 use Rattle.ialg.specs.Records.{ArePoison}
 use Rattle.record_loans.specs.Pieces.{piece_words}
-use Rattle.space_blocks.specs.declared.TheConstants.{SPACE_BLOCKS}
-use Rattle.space_blocks.specs.declared.placed.Owner.{Owner}
-use Rattle.space_blocks.specs.declared.placed.Placed.{Placed}
-use Rattle.space_blocks.specs.Blocks.{Owns, block_of, owned, ranges, with_block, without_at}
+use Rattle.host_map.specs.declared.TheConstants.{SPACE_BLOCKS}
+use Rattle.host_map.specs.declared.placed.Owner.{Owner}
+use Rattle.host_map.specs.declared.placed.Placed.{Placed}
+use Rattle.space_blocks.specs.Blocks.{Owns, block_of}
+use Rattle.host_map.specs.Blocks.{owned, ranges, with_block, without_at}
 use Rattle.space_blocks.specs.Spaces.{SpaceState}
 use Rattle.space_blocks.proofs.Orders.{before, behind, length_with}
 use Rattle.host_spaces.specs.declared.spaces.Spaces.{Spaces}
 use Rattle.host_spaces.specs.declared.granted.Granted.{Granted}
-use Rattle.host_spaces.specs.declared.wants.Wanted.{Wanted}
-use Rattle.host_spaces.specs.Picture.{AreSameSpaces, blocks_in, picture_of, place_in, put_block, sizes_of, space_in, words_in}
-use Rattle.host_spaces.specs.Creation.{all_placed, goes_on}
+use Rattle.host_map.specs.declared.parts.Wanted.{Wanted}
+use Rattle.host_spaces.specs.Picture.{AreSameSpaces, picture_of, sizes_of, space_in}
+use Rattle.host_map.specs.Picture.{blocks_in, place_in, put_block, words_in}
+use Rattle.host_map.specs.Creation.{all_placed, goes_on}
 use Rattle.host_spaces.specs.Wants.{AreApartWants, IsFor, IsGranted, IsWithinLimits, count_in, one_in, slot_at, somes, want_at, with_slot}
 use Rattle.host_spaces.proofs.Pictures.{by_space, picture_with, same_then, seen_blocks, seen_words, sizes_same, spaces_equal}
 use Rattle.host_spaces.proofs.Slots.{slot_other, slot_same}

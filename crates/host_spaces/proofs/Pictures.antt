@@ -3,11 +3,12 @@ use Rattle.std.proofs.Common.{◌≡◌, ◌≢◌, List, refl, sym, ap, ◌∙�
 use Rattle.mem_rec.specs.declared.Space.{Space}
 use Rattle.mem_rec.specs.declared.Space.TheVariants.{Daram, Saram, External}
 use Rattle.space_raw.specs.Span.{Extent}
-use Rattle.space_blocks.specs.declared.placed.Placed.{Placed}
+use Rattle.host_map.specs.declared.placed.Placed.{Placed}
 use Rattle.space_blocks.specs.Spaces.{SpaceState}
-use Rattle.host_spaces.specs.declared.spaces.Sizes.{Sizes}
+use Rattle.host_map.specs.declared.parts.Sizes.{Sizes}
 use Rattle.host_spaces.specs.declared.spaces.Spaces.{Spaces}
-use Rattle.host_spaces.specs.Picture.{AreSameSpaces, IsSameSpace, Picture, blocks_in, picture_of, sizes_of, space_in, with_blocks, words_in}
+use Rattle.host_spaces.specs.Picture.{AreSameSpaces, IsSameSpace, picture_of, sizes_of, space_in}
+use Rattle.host_map.specs.Picture.{Picture, blocks_in, with_blocks, words_in}
 
 pub daram_saram : Daram ≢ Saram
 daram_saram e = let bad : Daram ≡ Saram = e in cc

@@ -7,16 +7,17 @@ use Rattle.std.proofs.lemmas.Option.{none-some}
 use Rattle.mem_rec.specs.declared.MemRec.{MemRec}
 use Rattle.mem_rec.specs.declared.Space.{Space}
 use Rattle.mem_rec.specs.declared.Space.TheVariants.{Daram, Saram, External}
-use Rattle.space_heap.proofs.RangeTests.{true_or_false, when_not}
-use Rattle.space_blocks.specs.declared.placed.Owner.{Owner}
-use Rattle.space_blocks.specs.declared.placed.Owner.TheVariants.{Record, Scratch}
-use Rattle.space_blocks.specs.declared.placed.Placed.{Placed}
-use Rattle.space_blocks.specs.Blocks.{owned, renamed_blocks, renaming}
+use Rattle.relocate.proofs.RangeTests.{true_or_false, when_not}
+use Rattle.host_map.specs.declared.placed.Owner.{Owner}
+use Rattle.host_map.specs.declared.placed.Owner.TheVariants.{Record, Scratch}
+use Rattle.host_map.specs.declared.placed.Placed.{Placed}
+use Rattle.host_map.specs.Blocks.{owned, renamed_blocks, renaming}
 use Rattle.space_blocks.specs.Spaces.{SpaceState}
 use Rattle.space_blocks.proofs.Renames.{renamed_alike, renamed_given, renamed_gone, renamed_same, renamed_twice}
 use Rattle.host_spaces.specs.declared.spaces.Spaces.{Spaces}
-use Rattle.host_spaces.specs.Picture.{AreSameSpaces, Picture, blocks_in, renamed}
-use Rattle.host_spaces.specs.Creation.{handed_on, is_twin_of, only, taken_over, twin_at}
+use Rattle.host_spaces.specs.Picture.{AreSameSpaces}
+use Rattle.host_map.specs.Picture.{Picture, blocks_in, renamed}
+use Rattle.host_map.specs.Creation.{handed_on, is_twin_of, only, taken_over, twin_at}
 use Rattle.host_spaces.specs.Pieces.{AreSharable}
 use Rattle.host_spaces.proofs.Pictures.{pictures_equal}
 

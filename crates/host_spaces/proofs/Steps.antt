@@ -7,25 +7,24 @@ use Rattle.mem_rec.specs.declared.MemRec.{MemRec}
 use Rattle.mem_rec.specs.declared.Space.{Space}
 use Rattle.mem_rec.specs.declared.Space.TheVariants.{Daram, Saram, External}
 use Rattle.mem_rec.specs.declared.Attr.{Attr}
-use Rattle.mem_rec.specs.declared.Attr.TheVariants.{Persist, WriteOnce}
-use Rattle.mem_rec.specs.declared.Attr.TheVariants.{Scratch as ScratchRecord}
+use Rattle.mem_rec.specs.declared.Attr.TheVariants.{Persist, WriteOnce, Scratch as ScratchRecord}
 use Rattle.mem_rec.specs.Records.{is_scratch, is_table, same_space}
 use Rattle.mem_rec.specs.Layout.{scratch_align, scratch_need}
 use Rattle.mem_rec.proofs.Valid.{within_limits}
-use Rattle.space_heap.specs.Places.{placed_size}
-use Rattle.space_heap.proofs.RangeTests.{true_or_false}
+use Rattle.relocate.specs.Places.{placed_size}
+use Rattle.relocate.proofs.RangeTests.{true_or_false}
 use Rattle.ialg.specs.Records.{record_at}
 use Rattle.record_loans.specs.declared.block.ScratchBlock.{ScratchBlock}
 use Rattle.record_loans.specs.Blocks.{block_align, block_piece, block_words}
 use Rattle.scratch_group.specs.declared.group.Group.{Group}
 use Rattle.scratch_group.specs.declared.group.Need.{Need}
 use Rattle.scratch_group.specs.Blocks.{block_in, serves}
-use Rattle.space_blocks.specs.declared.placed.Owner.{Owner}
-use Rattle.space_blocks.specs.declared.placed.Owner.TheVariants.{Record, Scratch}
+use Rattle.host_map.specs.declared.placed.Owner.{Owner}
+use Rattle.host_map.specs.declared.placed.Owner.TheVariants.{Record, Scratch}
 use Rattle.space_blocks.specs.Blocks.{block_of_piece}
-use Rattle.host_spaces.specs.declared.wants.Wanted.{Wanted}
-use Rattle.host_spaces.specs.Picture.{Picture, all_spaces, first_block}
-use Rattle.host_spaces.specs.Creation.{block_wanted, group_wanted, own_wanted, record_wanted, scratch_wanted, wanted_by}
+use Rattle.host_map.specs.declared.parts.Wanted.{Wanted}
+use Rattle.host_map.specs.Picture.{Picture, all_spaces, first_block}
+use Rattle.host_map.specs.Creation.{block_wanted, group_wanted, own_wanted, record_wanted, scratch_wanted, wanted_by}
 use Rattle.host_spaces.specs.Pieces.{HasBlocks}
 use Rattle.host_spaces.specs.Wants.{AreApartWants, block_need, count_in, need_wanted, one_in, somes, want_at, wants_of}
 

@@ -1,4 +1,3 @@
 pub mod Picture
-pub mod Creation
 pub mod Pieces
 pub mod Wants

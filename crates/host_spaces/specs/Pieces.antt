@@ -4,11 +4,10 @@ use Rattle.mem_rec.specs.declared.MemRec.{MemRec}
 use Rattle.mem_rec.specs.declared.Space.{Space}
 use Rattle.mem_rec.specs.declared.Space.TheVariants.{Daram, Saram, External}
 use Rattle.mem_rec.specs.declared.Attr.{Attr}
-use Rattle.mem_rec.specs.declared.Attr.TheVariants.{Persist, WriteOnce}
-use Rattle.mem_rec.specs.declared.Attr.TheVariants.{Scratch as ScratchRecord}
+use Rattle.mem_rec.specs.declared.Attr.TheVariants.{Persist, WriteOnce, Scratch as ScratchRecord}
 use Rattle.mem_rec.specs.Records.{is_persistent, same_space}
 use Rattle.space_raw.specs.Span.{Extent, Span}
-use Rattle.space_heap.specs.Places.{placed_size}
+use Rattle.relocate.specs.Places.{placed_size}
 use Rattle.ialg.specs.Records.{ArePoison, record_at}
 use Rattle.record_loans.specs.declared.pieces.Pieces.{Pieces}
 use Rattle.record_loans.specs.declared.block.ScratchBlock.{ScratchBlock}
@@ -17,17 +16,19 @@ use Rattle.record_loans.specs.Blocks.{block_align, block_piece, block_words}
 use Rattle.scratch_group.specs.declared.group.Group.{Group}
 use Rattle.scratch_group.specs.Blocks.{block_in}
 use Rattle.lifecycle.specs.Rooms.{piece_of_record}
-use Rattle.space_blocks.specs.declared.placed.Owner.TheVariants.{Record, Scratch}
-use Rattle.space_blocks.specs.declared.placed.Placed.{Placed}
-use Rattle.space_blocks.specs.Blocks.{block_of, block_of_piece, owned, with_block, without_piece}
+use Rattle.host_map.specs.declared.placed.Owner.TheVariants.{Record, Scratch}
+use Rattle.host_map.specs.declared.placed.Placed.{Placed}
+use Rattle.space_blocks.specs.Blocks.{block_of, block_of_piece, without_piece}
+use Rattle.host_map.specs.Blocks.{owned, with_block}
 use Rattle.scratch_group.specs.declared.group.Need.{Need}
 use Rattle.host_spaces.specs.declared.granted.Granted.{Granted}
-use Rattle.host_spaces.specs.declared.wants.Wanted.{Wanted}
+use Rattle.host_map.specs.declared.parts.Wanted.{Wanted}
 use Rattle.host_spaces.specs.declared.pieces.NewBlocks.{NewBlocks}
 use Rattle.host_spaces.specs.declared.pieces.Placement.{Placement}
 use Rattle.host_spaces.specs.declared.pieces.OldBlocks.{OldBlocks}
 use Rattle.host_spaces.specs.declared.spaces.Spaces.{Spaces}
-use Rattle.host_spaces.specs.Picture.{Picture, blocks_in, each_space, space_in}
+use Rattle.host_map.specs.Picture.{Picture, blocks_in, each_space}
+use Rattle.host_spaces.specs.Picture.{space_in}
 use Rattle.host_spaces.specs.Wants.{want_at}
 
 -- the block of record k of instance i in the space, none if it is in another

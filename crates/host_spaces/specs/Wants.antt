@@ -8,21 +8,22 @@ use Rattle.mem_rec.specs.declared.TheConstants.{LEAST_ALIGNMENT}
 use Rattle.mem_rec.specs.Records.{same_space}
 use Rattle.mem_rec.specs.Layout.{scratch_align, scratch_need}
 use Rattle.space_raw.specs.Span.{Span}
-use Rattle.space_heap.specs.declared.limits.TheConstants.{GREATEST_NEED}
-use Rattle.space_heap.specs.Pictures.{IsAlignment}
+use Rattle.relocate.specs.declared.limits.TheConstants.{GREATEST_NEED}
+use Rattle.relocate.specs.Places.{IsAlignment}
 use Rattle.ialg.specs.Records.{ArePoison, record_at}
 use Rattle.record_loans.specs.Pieces.{piece_words}
 use Rattle.scratch_group.specs.declared.group.Group.{Group}
 use Rattle.scratch_group.specs.declared.group.Need.{Need}
 use Rattle.scratch_group.specs.Blocks.{block_in, block_needed}
-use Rattle.space_blocks.specs.declared.placed.Owner.{Owner}
-use Rattle.space_blocks.specs.declared.placed.Owner.TheVariants.{Scratch}
-use Rattle.space_blocks.specs.Blocks.{block_of, owned, with_block}
+use Rattle.host_map.specs.declared.placed.Owner.{Owner}
+use Rattle.host_map.specs.declared.placed.Owner.TheVariants.{Scratch}
+use Rattle.space_blocks.specs.Blocks.{block_of}
+use Rattle.host_map.specs.Blocks.{owned, with_block}
 use Rattle.host_spaces.specs.declared.spaces.Spaces.{Spaces}
-use Rattle.host_spaces.specs.declared.wants.Wanted.{Wanted}
+use Rattle.host_map.specs.declared.parts.Wanted.{Wanted}
 use Rattle.host_spaces.specs.declared.granted.Granted.{Granted}
 use Rattle.host_spaces.specs.Picture.{space_in}
-use Rattle.host_spaces.specs.Creation.{record_wanted}
+use Rattle.host_map.specs.Creation.{record_wanted}
 
 -- a block that can be asked for
 pub record IsWithinLimits (w : Wanted) : Type 0 where

@@ -2,12 +2,13 @@
 ghost use Rattle.std.specs.Prelude.{◌≡◌, ◌≢◌, ℕ, ◌+◌, ◌<◌, [], length, IfOk, OnOk, OnErr};
 ghost use Rattle.mem_rec.specs.declared.Space.{Space};
 ghost use Rattle.mem_rec.specs.declared.TheConstants.{TABLE_RECORDS};
-ghost use Rattle.space_blocks.specs.declared.TheConstants.{SPACE_BLOCKS};
-ghost use Rattle.space_blocks.specs.declared.placed.Owner.{Owner};
-ghost use Rattle.space_blocks.specs.declared.placed.Owner.TheVariants.{Record, Scratch};
-ghost use Rattle.space_blocks.specs.Blocks.{owned};
-ghost use Rattle.host_spaces.specs.Picture.{AreSameSpaces, blocks_in, picture_of, sizes_of, space_in};
-ghost use Rattle.host_spaces.specs.Creation.{all_placed, result_map, twin_at, wanted_by};
+ghost use Rattle.host_map.specs.declared.TheConstants.{SPACE_BLOCKS};
+ghost use Rattle.host_map.specs.declared.placed.Owner.{Owner};
+ghost use Rattle.host_map.specs.declared.placed.Owner.TheVariants.{Record, Scratch};
+ghost use Rattle.host_map.specs.Blocks.{owned};
+ghost use Rattle.host_spaces.specs.Picture.{AreSameSpaces, picture_of, sizes_of, space_in};
+ghost use Rattle.host_map.specs.Picture.{blocks_in};
+ghost use Rattle.host_map.specs.Creation.{all_placed, result_map, twin_at, wanted_by};
 ghost use Rattle.host_spaces.specs.Pieces.{ArePlacedPieces, AreSharable, HasBlocks, HasRecords, IsNeeded, IsPoisoned, new_block, with_new};
 ghost use Rattle.host_spaces.specs.Wants.{block_need};
 

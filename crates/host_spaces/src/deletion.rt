@@ -2,11 +2,13 @@
 ghost use Rattle.std.specs.Prelude.{◌≡◌, ◌≢◌, ℕ, Option, None, IfSome, IsSome};
 ghost use Rattle.std.specs.Option.{option_or};
 ghost use Rattle.mem_rec.specs.declared.Space.{Space};
-ghost use Rattle.space_blocks.specs.declared.placed.Owner.{Owner};
-ghost use Rattle.space_blocks.specs.declared.placed.Owner.TheVariants.{Record, Scratch};
-ghost use Rattle.space_blocks.specs.Blocks.{Owns, block_of_piece, disowned, owned, without_piece};
+ghost use Rattle.host_map.specs.declared.placed.Owner.{Owner};
+ghost use Rattle.host_map.specs.declared.placed.Owner.TheVariants.{Record, Scratch};
+ghost use Rattle.space_blocks.specs.Blocks.{Owns, block_of_piece, without_piece};
+ghost use Rattle.host_map.specs.Blocks.{disowned, owned};
 ghost use Rattle.ialg.specs.Records.{record_at};
-ghost use Rattle.host_spaces.specs.Picture.{AreSameSpaces, blocks_in, is_group's, is_instance's, picture_of, space_in, without_owners};
+ghost use Rattle.host_spaces.specs.Picture.{AreSameSpaces, picture_of, space_in};
+ghost use Rattle.host_map.specs.Picture.{blocks_in, is_group's, is_instance's, without_owners};
 ghost use Rattle.host_spaces.specs.Pieces.{ArePlacedPieces, HasRecords, old_piece, without_pieces};
 
 use crate::pieces::OldBlocks;

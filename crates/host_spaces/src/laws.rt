@@ -4,9 +4,9 @@ ghost use Rattle.std.specs.Option.{option_map};
 ghost use Rattle.mem_rec.specs.declared.MemRec.{MemRec};
 ghost use Rattle.mem_rec.specs.declared.Space.{Space};
 ghost use Rattle.host_spaces.specs.declared.pieces.OldBlocks.{OldBlocks};
-ghost use Rattle.host_spaces.specs.declared.spaces.Sizes.{Sizes};
-ghost use Rattle.host_spaces.specs.Picture.{Picture, renamed};
-ghost use Rattle.host_spaces.specs.Creation.{all_placed, created_picture, replaced_block, taken_over, wanted_by};
+ghost use Rattle.host_map.specs.declared.parts.Sizes.{Sizes};
+ghost use Rattle.host_map.specs.Picture.{Picture, renamed};
+ghost use Rattle.host_map.specs.Creation.{all_placed, created_picture, replaced_block, taken_over, wanted_by};
 ghost use Rattle.host_spaces.specs.Pieces.{old_piece, without_pieces};
 
 /// The law that a creation is made by placing all that is needed, taking out the group's blocks that are replaced, and taking over what is

@@ -17,6 +17,6 @@ mod wants;
 
 pub use laws::creations;
 pub use pieces::{NewBlocks, OldBlocks, Placement};
-pub use spaces::{Sizes, Spaces};
+pub use spaces::Spaces;
 pub use start::{EmptySpaces, StartError};
-pub use wants::{Twins, Wanted};
+pub use wants::Twins;

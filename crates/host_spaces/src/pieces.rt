@@ -6,7 +6,7 @@ ghost use Rattle.host_spaces.specs.Pieces.{as_block, is_write_once, kept_piece, 
 ghost use Rattle.ialg.specs.Records.{record_at};
 
 use crate::granted::Granted;
-use crate::wants::Wanted;
+use host_map::Wanted;
 use mem_rec::{Attr, MemTab};
 use record_loans::{Pieces, ScratchBlock};
 use space_raw::Piece;

@@ -2,20 +2,21 @@
 ghost use Rattle.std.specs.Prelude.{◌≡◌, ◌≢◌, ℕ, ◌+◌, ◌<◌, ◌≤◌, length, drop, Some, IfOk, IfSome, IfNone, OnErr};
 ghost use Rattle.std.specs.Option.{option_map};
 ghost use Rattle.mem_rec.specs.declared.Space.{Space};
-ghost use Rattle.space_heap.specs.Places.{least_place, placed_size};
+ghost use Rattle.relocate.specs.Places.{least_place, placed_size};
 ghost use Rattle.ialg.specs.Records.{ArePoison};
-ghost use Rattle.space_blocks.specs.declared.TheConstants.{SPACE_BLOCKS};
-ghost use Rattle.space_blocks.specs.declared.placed.Owner.{Owner};
-ghost use Rattle.space_blocks.specs.Blocks.{block_of, owned, ranges, with_block, without_at};
+ghost use Rattle.host_map.specs.declared.TheConstants.{SPACE_BLOCKS};
+ghost use Rattle.host_map.specs.declared.placed.Owner.{Owner};
+ghost use Rattle.space_blocks.specs.Blocks.{block_of};
+ghost use Rattle.host_map.specs.Blocks.{owned, ranges, with_block, without_at};
 ghost use Rattle.host_spaces.specs.declared.wants.TheConstants.{WANTS};
-ghost use Rattle.host_spaces.specs.declared.wants.Wanted.{Wanted};
+ghost use Rattle.host_map.specs.declared.parts.Wanted.{Wanted};
 ghost use Rattle.host_spaces.specs.Picture.{AreSameSpaces, picture_of, sizes_of, space_in};
-ghost use Rattle.host_spaces.specs.Creation.{all_placed, result_map};
+ghost use Rattle.host_map.specs.Creation.{all_placed, result_map};
 ghost use Rattle.host_spaces.specs.Wants.{AreApartWants, IsGranted, IsWithinLimits, count_in, somes, want_at};
 
 use crate::granted::Granted;
 use crate::spaces::Spaces;
-use crate::wants::Wanted;
+use host_map::Wanted;
 use mem_rec::Space;
 use space_raw::Piece;
 

@@ -1,16 +1,17 @@
 //! Blocks of records that several instances share.
 ghost use Rattle.std.specs.Prelude.{◌≡◌, ◌≢◌, ◌<◌, ℕ, Some, []};
 ghost use Rattle.mem_rec.specs.declared.Space.{Space};
-ghost use Rattle.space_blocks.specs.declared.placed.Owner.{Owner};
-ghost use Rattle.space_blocks.specs.declared.placed.Owner.TheVariants.{Record};
-ghost use Rattle.space_blocks.specs.Blocks.{owned, renamed_blocks, renaming};
-ghost use Rattle.host_spaces.specs.Picture.{AreSameSpaces, blocks_in, picture_of, renamed};
-ghost use Rattle.host_spaces.specs.Creation.{handed_on, only, taken_over, twin_at};
+ghost use Rattle.host_map.specs.declared.placed.Owner.{Owner};
+ghost use Rattle.host_map.specs.declared.placed.Owner.TheVariants.{Record};
+ghost use Rattle.host_map.specs.Blocks.{owned, renamed_blocks, renaming};
+ghost use Rattle.host_spaces.specs.Picture.{AreSameSpaces, picture_of};
+ghost use Rattle.host_map.specs.Picture.{blocks_in, renamed};
+ghost use Rattle.host_map.specs.Creation.{handed_on, only, taken_over, twin_at};
 
 use crate::spaces::Spaces;
 use crate::wants::Twins;
+use host_map::Owner;
 use mem_rec::TABLE_RECORDS;
-use space_blocks::Owner;
 
 impl Spaces {
     // What is the block of one owner is another owner's from now on, in each space.

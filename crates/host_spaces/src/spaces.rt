@@ -3,29 +3,23 @@ ghost use Rattle.std.specs.Prelude.{◌≡◌, ◌≢◌, ℕ, ◌+◌, ◌-◌,
 ghost use Rattle.std.specs.Option.{option_map};
 ghost use Rattle.mem_rec.specs.declared.Space.{Space};
 ghost use Rattle.space_heap.specs.Pictures.{range_of};
-ghost use Rattle.space_heap.specs.Places.{least_place, placed_size};
-ghost use Rattle.space_blocks.specs.declared.TheConstants.{MAP_BLOCKS, SPACE_BLOCKS};
-ghost use Rattle.space_blocks.specs.declared.placed.Owner.{Owner};
-ghost use Rattle.space_blocks.specs.Blocks.{Owns, block_of, block_range, disowned, owned, ranges, with_block, without_at};
-ghost use Rattle.space_blocks.specs.Moves.{next_block, next_in};
+ghost use Rattle.relocate.specs.Places.{least_place, placed_size};
+ghost use Rattle.host_map.specs.declared.TheConstants.{MAP_BLOCKS, SPACE_BLOCKS};
+ghost use Rattle.host_map.specs.declared.placed.Owner.{Owner};
+ghost use Rattle.space_blocks.specs.Blocks.{Owns, block_of};
+ghost use Rattle.host_map.specs.Blocks.{block_range, disowned, owned, ranges, with_block, without_at};
+ghost use Rattle.host_map.specs.Moves.{next_block, next_in};
 ghost use Rattle.space_blocks.specs.Spaces.{AreInOrder};
-ghost use Rattle.host_spaces.specs.Picture.{AreSameSpaces, AreSizes, blocks_in, copied_in, empty_picture, moved_in, picture_of, sizes_of, space_in};
+ghost use Rattle.host_spaces.specs.Picture.{AreSameSpaces, copied_in, picture_of, sizes_of, space_in};
+ghost use Rattle.host_map.specs.Picture.{AreSizes, blocks_in, empty_picture, moved_in};
 ghost use Rattle.host_spaces.specs.Wants.{IsWithinLimits};
 
 use crate::start::{EmptySpaces, StartError};
-use crate::wants::Wanted;
+use host_map::{Map, Placed, Sizes, Wanted};
 use mem_rec::Space;
-use space_blocks::{Map, Placed, SpaceBlocks};
+use space_blocks::SpaceBlocks;
 use space_raw::Piece;
 use std::alloc::Global;
-
-/// How many words of 16 bits each space has: a multiple of 4 up to 65,536.
-#[derive(Clone, Copy, PartialEq, Eq, Debug)]
-pub struct Sizes {
-    pub daram: u32,
-    pub saram: u32,
-    pub external: u32,
-}
 
 /// The three spaces and their blocks. The pieces of the blocks are held elsewhere. They can't be copied, and must be given back by
 /// `close`.

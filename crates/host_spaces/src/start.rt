@@ -1,10 +1,11 @@
 //! How the spaces are asked for.
 ghost use Rattle.std.specs.Prelude.{◌≡◌, [], IfOk, IfErr, IsErrOf};
-ghost use Rattle.host_spaces.specs.Picture.{AreSizes};
+ghost use Rattle.host_map.specs.Picture.{AreSizes};
 
-use crate::spaces::Sizes;
+use host_map::Sizes;
+use relocate::is_space_size;
 use space_blocks::SpaceBlocks;
-use space_heap::{HeapError, is_space_size};
+use space_heap::HeapError;
 use std::alloc::{Allocator, Global};
 use thiserror::Error;
 

@@ -1,24 +1,15 @@
 //! What a new instance needs.
 ghost use Rattle.std.specs.Prelude.{◌≡◌, ℕ, Some, IfSome};
 ghost use Rattle.ialg.specs.Records.{record_at};
-ghost use Rattle.host_spaces.specs.Creation.{record_wanted, twin_at};
+ghost use Rattle.host_map.specs.Creation.{record_wanted, twin_at};
 ghost use Rattle.host_spaces.specs.Picture.{picture_of};
 ghost use Rattle.host_spaces.specs.Pieces.{HasBlocks};
 ghost use Rattle.host_spaces.specs.Wants.{IsWithinLimits, block_need, need_wanted, want_at, wants_of};
 
 use crate::spaces::Spaces;
+use host_map::{Owner, Wanted};
 use mem_rec::{Attr, LEAST_ALIGNMENT, MemTab, Space, TABLE_RECORDS};
 use scratch_group::Group;
-use space_blocks::Owner;
-
-/// A block that needs a place: whose it is, in which space, of how many words and at which alignment.
-#[derive(Clone, Copy, PartialEq, Eq, Debug)]
-pub struct Wanted {
-    pub space: Space,
-    pub owner: Owner,
-    pub size: u32,
-    pub align: u32,
-}
 
 /// For each record the least other instance that shares it, its twin.
 pub type Twins = [Option<u8>; TABLE_RECORDS];

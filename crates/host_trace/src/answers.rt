@@ -2,9 +2,9 @@
 
 use crate::call::Call;
 use alg_host::{Host, Stat};
+use host_map::{Map, Owner};
 use ialg::{Block, Refusal, Status};
 use mem_rec::Space;
-use space_blocks::{Map, Owner};
 use std::io;
 use voice_set::Voice;
 

@@ -1,6 +1,6 @@
 //! One line of a trace.
 
-use host_spaces::Sizes;
+use host_map::Sizes;
 use ialg::{Block, Ctl, Named, Params};
 use mem_rec::Space;
 use std::str::SplitWhitespace;

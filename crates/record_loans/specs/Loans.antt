@@ -1,9 +1,9 @@
 -- What a plan lends of pieces and blocks.
 use Rattle.std.specs.Prelude.{ℤ, if◌then◌else◌, List, length, Option}
 use Rattle.space_raw.specs.Span.{Span}
-use Rattle.record_cuts.specs.declared.plan.Source.{Source}
-use Rattle.record_cuts.specs.declared.plan.Plan.{Plan}
-use Rattle.record_cuts.specs.Cuts.{is_shared, plan_words, PlanFits}
+use Rattle.record_loans.specs.declared.plan.Source.{Source}
+use Rattle.record_loans.specs.declared.plan.Plan.{Plan}
+use Rattle.record_loans.specs.Cuts.{is_shared, plan_words, PlanFits}
 use Rattle.record_loans.specs.declared.block.ScratchBlock.{ScratchBlock}
 use Rattle.record_loans.specs.declared.pieces.Pieces.{Pieces}
 use Rattle.record_loans.specs.Blocks.{block_words}

@@ -1,15 +1,17 @@
 // SPDX-License-Identifier: Apache-2.0
-//! Loans of records: the words of an instance's records, cut out of pieces and blocks for one step.
+//! Loans of records: the words of an instance's records, lent as plain slices for one step.
 //!
-//! A [`Plan`](record_cuts::Plan) says of each record where its words lie. They are lent out of the pieces that the instance owns, out of pieces
-//! that are lent to it, and out of the scratch blocks of its group. What a piece or a block holds after the step is known,
-//! since each function here makes one loan and hands it on as a plain slice.
+//! A [`Plan`] says of each record of a table where its words lie: in a piece that the instance owns, in a shared piece that is lent to it,
+//! or in a scratch block of its group. Each piece and each block is borrowed by itself, so it is known what every one of them holds after
+//! the step.
 #![tactic(auto)]
 
 mod block;
 mod loans;
 mod pieces;
+mod plan;
 
 pub use block::ScratchBlock;
 pub use loans::{lend_filter, lend_with_blocks, lend_without_blocks};
 pub use pieces::Pieces;
+pub use plan::{Cut, FilterSizes, Plan, Source};

@@ -5,7 +5,7 @@ use Rattle.std.proofs.lemmas.List.Sums.{sum_by-cons}
 use Rattle.std.specs.Int.{next_multiple_of}
 use Rattle.std.specs.List.Sorted.{IsStrictlyIncreasing}
 use Rattle.std.proofs.lemmas.Bool.Decides.{eqb_tells}
-use Rattle.space_heap.proofs.RangeTests.{either}
+use Rattle.relocate.proofs.RangeTests.{either}
 use Rattle.relocate.specs.declared.packing.Spot.{Spot}
 use Rattle.relocate.specs.declared.packing.Move.{Move}
 use Rattle.relocate.specs.Spots.{AreSpots, AreSpotsFrom}

@@ -1,3 +1,4 @@
+pub mod RangeTests
 pub mod Multiples
 pub mod PackingLemmas
 pub mod CompactionLemmas

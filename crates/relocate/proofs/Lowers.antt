@@ -4,7 +4,7 @@ use Rattle.std.specs.Prelude.{fold, nat_le, if◌then◌else◌}
 use Rattle.std.specs.Int.{next_multiple_of}
 use Rattle.std.proofs.Math.Seq.{take-append_seam}
 use Rattle.std.proofs.lemmas.Bool.{le-leb, lt-leb}
-use Rattle.space_heap.specs.Places.{Range, end_of, free_from, lower_place}
+use Rattle.relocate.specs.Places.{Range, end_of, free_from, lower_place}
 use Rattle.relocate.specs.declared.packing.Spot.{Spot}
 use Rattle.relocate.specs.declared.packing.Move.{Move}
 use Rattle.relocate.specs.Spots.{AreSpots, AreSpotsFrom, IsSpot, range_of, ranges_of}

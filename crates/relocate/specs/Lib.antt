@@ -1,3 +1,4 @@
+pub mod Places
 pub mod Spots
 pub mod Packing
 pub mod Compaction

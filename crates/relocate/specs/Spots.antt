@@ -1,8 +1,7 @@
 -- The blocks of a space, in place order.
 use Rattle.std.specs.Prelude.{◌≡◌, ℕ, ◌%◌, ◌≤◌, List, [], ◌∷◌, map}
-use Rattle.space_heap.specs.declared.limits.TheConstants.{SPACE_WORDS}
-use Rattle.space_heap.specs.Places.{Range, end_of}
-use Rattle.space_heap.specs.Pictures.{IsAlignment}
+use Rattle.relocate.specs.declared.limits.TheConstants.{SPACE_WORDS}
+use Rattle.relocate.specs.Places.{Range, end_of, IsAlignment}
 use Rattle.relocate.specs.declared.packing.Spot.{Spot}
 
 -- where the block lies

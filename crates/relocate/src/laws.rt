@@ -1,6 +1,6 @@
 //! The laws of moves.
 ghost use Rattle.std.specs.Prelude.{◌≡◌, ◌<◌, ◌++◌, ◌∷◌, List, Some, length};
-ghost use Rattle.space_heap.specs.Places.{lower_place};
+ghost use Rattle.relocate.specs.Places.{lower_place};
 ghost use Rattle.relocate.specs.declared.packing.Spot.{Spot};
 ghost use Rattle.relocate.specs.declared.packing.Move.{Move};
 ghost use Rattle.relocate.specs.Spots.{AreSpots, range_of, ranges_of};

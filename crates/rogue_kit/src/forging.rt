@@ -4,7 +4,7 @@ ghost use Rattle.ialg.specs.Loans.{SameLoans};
 use crate::rogues::{KEPT, OBJECT, fill_record, record_of};
 use ialg::{Lent, Record};
 use mem_rec::{LEAST_ALIGNMENT, MemTab, Space};
-use space_heap::SPACE_WORDS;
+use relocate::SPACE_WORDS;
 
 /// At how many places of the greatest space a record may begin.
 const PLACES: u32 = 16_384;

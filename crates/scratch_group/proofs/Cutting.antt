@@ -12,17 +12,17 @@ use Rattle.mem_rec.specs.Records.{is_table}
 use Rattle.mem_rec.proofs.Valid.{within_limits, bounded_at}
 use Rattle.ialg.specs.Records.{record_at, words_of, idle_size}
 use Rattle.ialg.proofs.Tables.{object_attr}
-use Rattle.record_cuts.specs.declared.plan.Source.{Source}
-use Rattle.record_cuts.specs.declared.plan.Source.TheVariants.{Absent, Own, Shared, InDaram, InSaram, InExternal}
-use Rattle.record_cuts.specs.declared.plan.Cut.{Cut}
-use Rattle.record_cuts.specs.declared.plan.Plan.{Plan}
+use Rattle.record_loans.specs.declared.plan.Source.{Source}
+use Rattle.record_loans.specs.declared.plan.Source.TheVariants.{Absent, Own, Shared, InDaram, InSaram, InExternal}
+use Rattle.record_loans.specs.declared.plan.Cut.{Cut}
+use Rattle.record_loans.specs.declared.plan.Plan.{Plan}
 use Rattle.scratch_group.specs.declared.group.Group.{Group}
 use Rattle.record_loans.specs.declared.pieces.Pieces.{Pieces}
 use Rattle.record_loans.specs.Blocks.{block_words}
 use Rattle.scratch_group.specs.Blocks.{block_in}
 use Rattle.record_loans.specs.Pieces.{piece_at, piece_words}
 use Rattle.scratch_group.specs.Words.{scratch_end, scratch_offset, words_by, record_words, active_words, lasting_words_by, idle_record_words, idle_words}
-use Rattle.record_cuts.specs.Cuts.{words_from, left, less, cut_words, CutFits, CutsFit}
+use Rattle.record_loans.specs.Cuts.{words_from, left, less, cut_words, CutFits, CutsFit}
 use Rattle.record_loans.specs.Loans.{held, lent_by, LentFits}
 use Rattle.scratch_group.specs.Plans.{cut_by, cut_of, active_plan_of, idle_cut_by, idle_cut_of, idle_plan_of}
 use Rattle.scratch_group.proofs.Ends.{next_end, scratch_end-suc, no_alignment, blank_at, any_default}

@@ -11,8 +11,8 @@ use Rattle.mem_rec.specs.declared.Attr.TheVariants.{Scratch, Persist, WriteOnce}
 use Rattle.mem_rec.specs.Records.{is_table, is_record, first_is_persistent, is_persistent, is_scratch, same_space}
 use Rattle.ialg.specs.declared.TheConstants.{FILTER_RECORDS}
 use Rattle.ialg.specs.Records.{record_at}
-use Rattle.record_cuts.specs.declared.plan.FilterSizes.{FilterSizes}
-use Rattle.record_cuts.specs.Cuts.{filter_words}
+use Rattle.record_loans.specs.declared.plan.FilterSizes.{FilterSizes}
+use Rattle.record_loans.specs.Cuts.{filter_words}
 use Rattle.record_loans.specs.declared.pieces.Pieces.{Pieces}
 use Rattle.record_loans.specs.Pieces.{piece_words}
 use Rattle.record_loans.specs.Blocks.{block_words}

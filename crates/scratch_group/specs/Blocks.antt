@@ -1,5 +1,5 @@
 -- The blocks of a group, one per space, and its active member.
-use Rattle.std.specs.Prelude.{ℕ, ℤ, ◌≡◌, ◌≢◌, Bool, false, ◌&&◌, ◌||◌, nat_le, nat_eq, min, max, ◌+◌, ◌-◌, ◌^◌, length, replicate, Option, Some, None, if◌then◌else◌}
+use Rattle.std.specs.Prelude.{ℕ, ℤ, ◌≡◌, ◌≢◌, Bool, false, ◌&&◌, ◌||◌, nat_le, nat_eq, max, length, replicate, Option, Some, None, if◌then◌else◌}
 use Rattle.mem_rec.specs.declared.Space.{Space}
 use Rattle.mem_rec.specs.declared.Space.TheVariants.{Daram, Saram, External}
 use Rattle.record_loans.specs.declared.block.ScratchBlock.{ScratchBlock}
@@ -28,11 +28,6 @@ serves (Some b) need align = nat_le need (length b.piece.words) && nat_le align 
 abbrev pub block_needed : Option ScratchBlock → ℕ → ℕ → Option Need
 block_needed b need align = if nat_eq need 0 || serves b need align then None
     else Some (record { size = max (length (block_words b)) need; align = max (block_align b) align })
-
--- the count of activations, once the member was set. It stays at the greatest number
-abbrev pub count_after : ℕ → Option ℕ → ℕ
-count_after n None = n
-count_after n (Some m) = min (n + 1) (2 ^ 32 - 1)
 
 -- a block with each word this one
 abbrev pub filled : ℤ → Option ScratchBlock → Option ScratchBlock

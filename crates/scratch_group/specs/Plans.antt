@@ -8,11 +8,11 @@ use Rattle.mem_rec.specs.declared.Attr.{Attr}
 use Rattle.mem_rec.specs.declared.Attr.TheVariants.{Scratch, Persist, WriteOnce}
 use Rattle.ialg.specs.declared.TheConstants.{FILTER_RECORDS}
 use Rattle.ialg.specs.Records.{record_at}
-use Rattle.record_cuts.specs.declared.plan.Source.{Source}
-use Rattle.record_cuts.specs.declared.plan.Source.TheVariants.{Absent, Own, Shared, InDaram, InSaram, InExternal}
-use Rattle.record_cuts.specs.declared.plan.Cut.{Cut}
-use Rattle.record_cuts.specs.declared.plan.Plan.{Plan}
-use Rattle.record_cuts.specs.declared.plan.FilterSizes.{FilterSizes}
+use Rattle.record_loans.specs.declared.plan.Source.{Source}
+use Rattle.record_loans.specs.declared.plan.Source.TheVariants.{Absent, Own, Shared, InDaram, InSaram, InExternal}
+use Rattle.record_loans.specs.declared.plan.Cut.{Cut}
+use Rattle.record_loans.specs.declared.plan.Plan.{Plan}
+use Rattle.record_loans.specs.declared.plan.FilterSizes.{FilterSizes}
 use Rattle.scratch_group.specs.Words.{scratch_end, scratch_offset}
 
 -- a record within the limits

@@ -2,11 +2,13 @@
 ghost use Rattle.std.specs.Prelude.{◌≡◌, ◌<◌, ◌+◌, length, Option, Some, None, false};
 ghost use Rattle.mem_rec.specs.Layout.{scratch_need, scratch_align};
 ghost use Rattle.record_loans.specs.Blocks.{block_piece, block_words};
-ghost use Rattle.scratch_group.specs.Blocks.{block_in, block_spot, block_needed, count_after, filled, BlocksArePoison, SameBut, SameGroup};
+ghost use Rattle.scratch_group.specs.Blocks.{block_in, block_spot, block_needed, filled, BlocksArePoison, SameBut, SameGroup};
+ghost use Rattle.host_map.specs.Activity.{count_after};
 ghost use Rattle.record_loans.specs.Pieces.{piece_place, IsInSpace, SamePieces};
 ghost use Rattle.scratch_group.specs.Words.{active_words, HasWords};
 
 use crate::plan::{active_plan, filter_sizes};
+use host_map::Stat;
 use ialg::Step;
 use mem_rec::{Layout, MemTab, Space, scratch_layout};
 use record_loans::{Pieces, ScratchBlock, lend_filter, lend_with_blocks};
@@ -17,14 +19,6 @@ use space_raw::Piece;
 pub struct Need {
     pub size: u32,
     pub align: u32,
-}
-
-/// The number of a group's active member, if one is active, and how often a member of the group was activated; this count stays at the
-/// greatest `u32`.
-#[derive(Clone, Copy, PartialEq, Eq, Debug)]
-pub struct Stat {
-    pub active: Option<u8>,
-    pub activations: u32,
 }
 
 /// The scratch memory of a group: a block in each space, or none there. At most one member is active, and only that one is lent

@@ -12,6 +12,6 @@ mod lasting;
 mod plan;
 
 pub use bases::{lends_at_the_layout, placed};
-pub use group::{Group, Need, Stat};
+pub use group::{Group, Need};
 pub use lasting::lend_lasting;
 pub use plan::is_filter;

@@ -7,7 +7,7 @@ ghost use Rattle.scratch_group.specs.Plans.{cut_of, idle_cut_of, active_plan_of,
 
 use ialg::FILTER_RECORDS;
 use mem_rec::{Attr, GREATEST_ALIGNMENT, MemRec, MemTab, RECORD_WORDS, Space};
-use record_cuts::{Cut, FilterSizes, Plan, Source};
+use record_loans::{Cut, FilterSizes, Plan, Source};
 
 /// The most words by which a record moves the end of those before it: the greatest record, behind the greatest gap.
 pub(crate) const GREATEST_STEP: u32 = RECORD_WORDS + GREATEST_ALIGNMENT;

@@ -1,9 +1,9 @@
 -- Where a machine does no more than a computed one, a run by it ended as it does by that one.
 use Rattle.std.proofs.Common.{◌≡◌, ℕ, List, ◌++◌, ap, refl, subst, sym, ◌∙◌}
 use Rattle.octet_ports.specs.Ports.{Source}
-use Rattle.line_machine.specs.Served.{Machine, Run, Answer, Feed, LineAnswer, order_of}
-use Rattle.line_machine.specs.Computed.{Computed, IsComputed, machine_of, line_answer, lines_answer}
-use Rattle.line_machine.proofs.ComputedLemmas.{standing_run, standing_answer, line_is, lines_are, own_line, own_lines}
+use Rattle.line_spec.specs.Served.{Machine, Run, Answer, Feed, LineAnswer, order_of}
+use Rattle.line_spec.specs.Computed.{Computed, IsComputed, machine_of, line_answer, lines_answer}
+use Rattle.line_spec.proofs.ComputedLemmas.{standing_run, standing_answer, line_is, lines_are, own_line, own_lines}
 use Rattle.script_server.specs.Runs.{Devices, EndsByRead, EndsByWrite, ServedFirst, ServedUpTo, Stops, InScript, AtLimit, InFeed, Writes}
 
 module _ {S T : Type 0} (machine : Machine S) (computed : Computed T) (standing : T → S) (is : IsComputed machine computed standing) (start : Run T) where

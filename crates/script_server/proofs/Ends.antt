@@ -4,13 +4,13 @@ use Rattle.std.specs.List.{All, flat_map}
 use Rattle.std.proofs.lemmas.List.{append-nil}
 use Rattle.std.proofs.lemmas.List.Elements.{All-push}
 use Rattle.octet_ports.specs.Ports.{Source, Sink, Gives, GivesWithin}
-use Rattle.line_reader.specs.declared.reader.TheConstants.{BUFFER_OCTETS}
-use Rattle.line_reader.specs.Lines.{LineCame, LineFails, behind, ending}
-use Rattle.line_reader.specs.declared.reader.LineFault.{LineFault}
-use Rattle.line_reader.specs.declared.reader.LineFault.TheVariants.{Port, Limit}
+use Rattle.octet_ports.specs.declared.reader.TheConstants.{BUFFER_OCTETS}
+use Rattle.octet_ports.specs.Lines.{LineCame, LineFails, behind, ending}
+use Rattle.octet_ports.specs.declared.reader.LineFault.{LineFault}
+use Rattle.octet_ports.specs.declared.reader.LineFault.TheVariants.{Port, Limit}
 use Rattle.octet_ports.proofs.Ports.{gives_more}
-use Rattle.line_reader.specs.Lines.{ended, IsNoFeed}
-use Rattle.line_machine.specs.Served.{Machine, Run, LineAnswer, then_answer, order_of}
+use Rattle.octet_ports.specs.Lines.{ended, IsNoFeed}
+use Rattle.line_spec.specs.Served.{Machine, Run, LineAnswer, then_answer, order_of}
 use Rattle.script_server.specs.Runs.{Devices, IsHonest, HasFailedIn, GoesOn, ServedAll, ServedFirst, ServedUpTo, InScript, AtLimit, InFeed, Writes, run_of}
 use Rattle.script_server.specs.LineRuns.{IsServed, IsCut, IsUnfed}
 use Rattle.script_server.proofs.SoFar.{Consumes, ServedSoFar}

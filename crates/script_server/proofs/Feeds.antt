@@ -5,7 +5,7 @@ use Rattle.std.proofs.lemmas.List.Elements.{All-set, All-get_or}
 use Rattle.std.proofs.lemmas.Grind.{common_steps}
 use Rattle.octet_ports.specs.Ports.{Source, Sink, Gives, Takes, TakesFirst}
 use Rattle.octet_ports.specs.Ports.{EndsWithin}
-use Rattle.line_machine.specs.Served.{Machine, FeedAnswer, replies, gives, short_text, refusals}
+use Rattle.line_spec.specs.Served.{Machine, FeedAnswer, replies, gives, short_text, refusals}
 use Rattle.script_server.specs.Runs.{StepsAt, IsHonest, no_source, no_sink, run_of}
 use Rattle.script_server.specs.LineRuns.{IsServed, IsCut}
 use Rattle.script_server.proofs.Writes.{writes_more, writes_reply, writes_output, step_holds, first_more, first_longer, first_reply, first_output, order_of_reply, order_of_feed, octets_to}

@@ -2,8 +2,8 @@
 use Rattle.std.proofs.Common.{◌≡◌, ℕ, ◌<◌, ◌≤◌, Bool, true, false, List, [], length, nat_lt, refl, sym, subst, arith}
 use Rattle.std.proofs.lemmas.Bool.Decides.{nat_tests}
 use Rattle.octet_ports.specs.Ports.{Source, Sink, Takes, TakesFirst}
-use Rattle.line_reader.specs.Lines.{IsLine}
-use Rattle.line_machine.specs.Served.{Machine, Run, Answer, Asked, Nothing, Tell, Feed, AskedAnswer, LineAnswer, replies, at_state, long_text, order_of, refusals}
+use Rattle.octet_ports.specs.Lines.{IsLine}
+use Rattle.line_spec.specs.Served.{Machine, Run, Answer, Asked, Nothing, Tell, Feed, AskedAnswer, LineAnswer, replies, at_state, long_text, order_of, refusals}
 use Rattle.script_server.specs.Runs.{FailsWithin, IsHonest, StepsAt, Writes, no_source, run_of}
 use Rattle.script_server.specs.LineRuns.{IsServed, IsCut, IsUnfed}
 use Rattle.voice_script.specs.declared.limits.TheConstants.{LINE_OCTETS}

@@ -7,10 +7,10 @@ use Rattle.std.proofs.lemmas.List.Splits.{slice_split_none, slice_split_at, leng
 use Rattle.std.proofs.lemmas.Grind.{common_steps}
 use Rattle.std.proofs.lemmas.Bool.Decides.{nat_tests}
 use Rattle.octet_ports.specs.Ports.{Source, Sink, Gives, IsAtEnd}
-use Rattle.line_reader.specs.Lines.{LineCame}
+use Rattle.octet_ports.specs.Lines.{LineCame}
 use Rattle.octet_ports.proofs.Ports.{gives_none, gives_more}
-use Rattle.line_reader.specs.Lines.{IsNoFeed, ending, ended}
-use Rattle.line_machine.specs.Served.{Machine, Run, Answer, Written, LineAnswer, LinesAnswer, then_answer, order_of, refusals, ended_lines}
+use Rattle.octet_ports.specs.Lines.{IsNoFeed, ending, ended}
+use Rattle.line_spec.specs.Served.{Machine, Run, Answer, Written, LineAnswer, LinesAnswer, then_answer, order_of, refusals, ended_lines}
 use Rattle.voice_script.specs.Script.{lines_of}
 use Rattle.script_server.specs.Runs.{IsHonest, run_of}
 use Rattle.script_server.proofs.SoFar.{ServedSoFar, Consumes}

@@ -2,8 +2,8 @@
 use Rattle.std.proofs.Common.{◌≡◌, ℕ, ◌+◌, List, length, map}
 use Rattle.std.specs.List.{All, flat_map}
 use Rattle.octet_ports.specs.Ports.{Source, Sink, Gives}
-use Rattle.line_reader.specs.Lines.{ended, IsNoFeed}
-use Rattle.line_machine.specs.Served.{Machine, Run, Answer, order_of, refusals, LinesAnswer}
+use Rattle.octet_ports.specs.Lines.{ended, IsNoFeed}
+use Rattle.line_spec.specs.Served.{Machine, Run, Answer, order_of, refusals, LinesAnswer}
 use Rattle.script_server.specs.Runs.{IsHonest, Writes}
 use Rattle.script_server.specs.declared.limits.TheConstants.{SCRIPT_OCTETS}
 

@@ -6,7 +6,7 @@ use Rattle.std.proofs.lemmas.Grind.{common_steps, flat_map-append}
 use Rattle.std.proofs.lemmas.Bool.Decides.{nat_tests}
 use Rattle.octet_ports.specs.Ports.{Sink, Holds, Waits, Takes, TakesFirst, HasPassedAll}
 use Rattle.octet_ports.proofs.Ports.{holds_none, holds_more, waits_none, waits_more}
-use Rattle.line_machine.specs.Served.{Octet, Written, Output, Replied, held_by, order_of, same_port, octets_written}
+use Rattle.line_spec.specs.Served.{Octet, Written, Output, Replied, held_by, order_of, same_port, octets_written}
 use Rattle.script_server.specs.Runs.{StepsAt, Writes, AllWait, InAscendingOrder, no_sink}
 use Rattle.script_server.specs.LineRuns.{WritesFirst}
 

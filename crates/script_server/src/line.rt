@@ -2,20 +2,20 @@
 ghost use Rattle.std.specs.Prelude.{◌≡◌, ◌<◌, ◌≤◌, ◌⊎◌, List, ℕ, [], true, false, map, length, Ok, All, Any, IfOk, IsOk, IsErrOf};
 ghost use Rattle.std.specs.Result.{is_err};
 ghost use Rattle.octet_ports.specs.Ports.{Sink, Gives, Holds, Takes, TakesFirst, HasPassedAll, EndsWithin};
-ghost use Rattle.line_reader.specs.Lines.{IsLine};
-ghost use Rattle.line_machine.specs.Asks.{IsReady};
-ghost use Rattle.line_machine.specs.Served.{FeedAnswer, LineAnswer};
-ghost use Rattle.line_machine.specs.Widths.{octet_count};
+ghost use Rattle.octet_ports.specs.Lines.{IsLine};
+ghost use Rattle.line_spec.specs.Asks.{IsReady};
+ghost use Rattle.line_spec.specs.Served.{FeedAnswer, LineAnswer};
+ghost use Rattle.line_spec.specs.Widths.{octet_count};
 ghost use Rattle.voice_script.specs.Replies.{reply_text};
 ghost use Rattle.voice_script.specs.ReplyViews.{reply_of};
 ghost use Rattle.script_server.specs.Runs.{StepsAt, no_source, no_sink, IsHonest, IsReadyIn, IsReadyOut, HasFailedIn, HasFailedOut, AreReady, Writes, AllWait, FailsWithin, run_of, InAscendingOrder};
 ghost use Rattle.script_server.specs.LineRuns.{IsServed, IsCut, IsUnfed};
 
 use crate::serving::PortsFault;
+use host_map::Map;
 use ialg::{Params, Refusal, Words};
-use line_machine::{Ask, BLOCK_OCTETS, LineMachine};
+use line_spec::{Ask, BLOCK_OCTETS, LineMachine};
 use octet_ports::{PortFault, PortIn, PortOut, read_octets, write_octets};
-use space_blocks::Map;
 use voice_script::{FeedSamples, LINE_OCTETS, Reply, ReplyText, write_reply};
 
 /// Room for the words of a line, for a map and for words that are told of, and the buffers of replies and feeds. To make them clears thousands of

@@ -6,11 +6,10 @@ ghost use Rattle.script_server.specs.Runs.{AreReady, AllWait, ServesAll, EndsWel
 use crate::limits::SCRIPT_OCTETS;
 use crate::line::{Buffers, Desk, flush_outputs, serve_line};
 use arrayvec::ArrayVec;
+use host_map::Map;
 use ialg::{Params, Words};
-use line_machine::{BLOCK_OCTETS, LineMachine};
-use line_reader::LineReader;
-use octet_ports::{PortIn, PortOut};
-use space_blocks::Map;
+use line_spec::{BLOCK_OCTETS, LineMachine};
+use octet_ports::{LineReader, PortIn, PortOut};
 use voice_script::LINE_OCTETS;
 
 /// Which ports ended a run.
@@ -94,7 +93,7 @@ fn serve_script<T: LineMachine, S: PortIn, I: PortIn, O: PortOut, P: PortOut>(
 /// reply; it is refused as short at the input's end, and what was read of it is gone. Every other line writes its reply
 /// alone. A fault ends the run.
 ///
-/// The script is read ahead, by [`BUFFER_OCTETS`](line_reader::BUFFER_OCTETS) at most, but only where no whole line is left of what was read.
+/// The script is read ahead, by [`BUFFER_OCTETS`](octet_ports::BUFFER_OCTETS) at most, but only where no whole line is left of what was read.
 pub fn serve<T: LineMachine, S: PortIn, I: PortIn, O: PortOut, P: PortOut>(
     machine: &mut T,
     script: &mut S,

@@ -6,14 +6,15 @@ use Rattle.std.proofs.lemmas.List.{length-map}
 use Rattle.std.proofs.lemmas.Map.Steps.{length-le_from_distinct_below}
 use Rattle.mem_rec.specs.declared.TheConstants.{TABLE_RECORDS, INSTANCES}
 use Rattle.space_raw.specs.Span.{Apart, Span}
-use Rattle.space_heap.specs.Places.{Range, end_of, meets}
+use Rattle.relocate.specs.Places.{Range, end_of, meets}
 use Rattle.space_heap.specs.Pictures.{AreBlocks, range_of}
-use Rattle.space_heap.proofs.RangeTests.{both_false, clash, meet_if, meet_sym, true_or_false}
-use Rattle.space_blocks.specs.declared.TheConstants.{MAP_BLOCKS}
-use Rattle.space_blocks.specs.declared.placed.Owner.{Owner}
-use Rattle.space_blocks.specs.declared.placed.Owner.TheVariants.{Record, Scratch}
-use Rattle.space_blocks.specs.declared.placed.Placed.{Placed}
-use Rattle.space_blocks.specs.Blocks.{AreSingle, IsOwner, Owns, block_of, block_range, owned, ranges, same_owner}
+use Rattle.relocate.proofs.RangeTests.{both_false, clash, meet_if, meet_sym, true_or_false}
+use Rattle.host_map.specs.declared.TheConstants.{MAP_BLOCKS}
+use Rattle.host_map.specs.declared.placed.Owner.{Owner}
+use Rattle.host_map.specs.declared.placed.Owner.TheVariants.{Record, Scratch}
+use Rattle.host_map.specs.declared.placed.Placed.{Placed}
+use Rattle.host_map.specs.Blocks.{AreSingle, IsOwner, block_range, owned, ranges, same_owner}
+use Rattle.space_blocks.specs.Blocks.{Owns, block_of}
 use Rattle.space_blocks.proofs.Orders.{dropped, is_other, kept}
 use Rattle.space_blocks.proofs.Owners.{itself, stands}
 

@@ -4,14 +4,14 @@ use Rattle.std.specs.Prelude.{find}
 use Rattle.std.specs.List.{list_any}
 use Rattle.std.proofs.Math.Nat.{mul-mod_left}
 use Rattle.std.proofs.lemmas.Bool.{cases_lt}
-use Rattle.space_heap.specs.Places.{Range, end_of, is_free, least_place, meets}
+use Rattle.relocate.specs.Places.{Range, end_of, is_free, least_place, meets}
 use Rattle.space_heap.specs.Pictures.{AreBlocks}
-use Rattle.space_heap.proofs.RangeTests.{both_false, clash, either, meet_if, meet_sym, true_or_false}
+use Rattle.relocate.proofs.RangeTests.{both_false, clash, either, meet_if, meet_sym, true_or_false}
 use Rattle.relocate.specs.Spots.{AreSpotsFrom, IsSpot}
 use Rattle.relocate.proofs.PackingLemmas.{from_lower}
-use Rattle.space_blocks.specs.declared.placed.Placed.{Placed}
-use Rattle.space_blocks.specs.Blocks.{block_range, ranges}
-use Rattle.space_blocks.specs.Moves.{spot_of, spots_of}
+use Rattle.host_map.specs.declared.placed.Placed.{Placed}
+use Rattle.host_map.specs.Blocks.{block_range, ranges}
+use Rattle.host_map.specs.Moves.{spot_of, spots_of}
 use Rattle.space_blocks.proofs.Orders.{AreSortedFrom, BeginBefore, BeginsFrom, sorted_lower}
 
 -- of two that don't meet one ends before the other begins

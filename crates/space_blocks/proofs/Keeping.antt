@@ -4,14 +4,15 @@ use Rattle.std.proofs.lemmas.List.{take-append-drop, map-append}
 use Rattle.std.proofs.Math.Seq.{drop-cons}
 use Rattle.space_raw.specs.Span.{Extent, Span}
 use Rattle.std.specs.List.{list_any}
-use Rattle.space_heap.specs.Places.{Range, meets}
-use Rattle.space_heap.specs.Pictures.{AreBlocks, HeapState, Holds, IsAlignment, IsBlock, IsSpaceSize, range_of}
+use Rattle.relocate.specs.Places.{Range, meets, IsAlignment, IsSpaceSize}
+use Rattle.space_heap.specs.Pictures.{AreBlocks, HeapState, Holds, IsBlock, range_of}
 use Rattle.space_heap.proofs.PictureLemmas.{block_out}
 use Rattle.relocate.specs.Spots.{AreSpots}
-use Rattle.space_blocks.specs.declared.placed.Owner.{Owner}
-use Rattle.space_blocks.specs.declared.placed.Placed.{Placed}
-use Rattle.space_blocks.specs.Blocks.{Owns, block_of, block_range, ranges, with_block, without_at}
-use Rattle.space_blocks.specs.Moves.{spots_of}
+use Rattle.host_map.specs.declared.placed.Owner.{Owner}
+use Rattle.host_map.specs.declared.placed.Placed.{Placed}
+use Rattle.space_blocks.specs.Blocks.{Owns, block_of}
+use Rattle.host_map.specs.Blocks.{block_range, ranges, with_block, without_at}
+use Rattle.host_map.specs.Moves.{spots_of}
 use Rattle.space_blocks.specs.Spaces.{AreKept}
 use Rattle.space_blocks.proofs.Inserts.{order_with, order_without, sorted}
 use Rattle.space_blocks.proofs.Orders.{AreSortedFrom, put_in, removed_at, same_index, without_with}

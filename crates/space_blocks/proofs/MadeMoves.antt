@@ -3,15 +3,16 @@ use Rattle.std.proofs.Common.{◌≡◌, ◌≢◌, ℕ, suc, ◌+◌, ◌^◌, 
 use Rattle.std.specs.Option.{option_map}
 use Rattle.std.proofs.lemmas.List.Elements.{Contains-get_or}
 use Rattle.space_raw.specs.Span.{Span}
-use Rattle.space_heap.specs.Places.{Range, lower_place}
-use Rattle.space_heap.specs.Pictures.{HeapState, Holds, IsAlignment, IsBlock, range_of}
+use Rattle.relocate.specs.Places.{Range, lower_place, IsAlignment}
+use Rattle.space_heap.specs.Pictures.{HeapState, Holds, IsBlock, range_of}
 use Rattle.relocate.specs.declared.packing.Move.{Move}
-use Rattle.space_blocks.specs.declared.placed.Owner.{Owner}
-use Rattle.space_blocks.specs.declared.placed.Owner.TheVariants.{Record}
-use Rattle.space_blocks.specs.declared.placed.Placed.{Placed}
-use Rattle.space_blocks.specs.Blocks.{Owns, block_of, block_range, owned, ranges}
+use Rattle.host_map.specs.declared.placed.Owner.{Owner}
+use Rattle.host_map.specs.declared.placed.Owner.TheVariants.{Record}
+use Rattle.host_map.specs.declared.placed.Placed.{Placed}
+use Rattle.space_blocks.specs.Blocks.{Owns, block_of}
+use Rattle.host_map.specs.Blocks.{block_range, owned, ranges}
 use Rattle.space_blocks.proofs.Placing.{with_place}
-use Rattle.space_blocks.specs.Moves.{moved, moved_by, moved_to, next_in}
+use Rattle.host_map.specs.Moves.{moved, moved_by, moved_to, next_in}
 use Rattle.space_blocks.specs.Spaces.{AreKept}
 use Rattle.space_blocks.proofs.Keeping.{its_block, kept_sorted, split_held}
 use Rattle.space_blocks.proofs.Moving.{IsNext, counted_words, goes_to, is_lower, its_align, kept_moved}

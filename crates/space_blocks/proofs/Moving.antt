@@ -6,9 +6,9 @@ use Rattle.std.proofs.Math.Seq.{take-append_seam}
 use Rattle.std.proofs.lemmas.Bool.{eqb-true}
 use Rattle.std.proofs.lemmas.List.{length-map, map-append}
 use Rattle.space_raw.specs.Span.{Extent, Span}
-use Rattle.space_heap.specs.Places.{lower_place}
-use Rattle.space_heap.specs.Pictures.{HeapState, Holds, IsAlignment, IsSpaceSize, range_of}
-use Rattle.space_heap.proofs.RangeTests.{when_not}
+use Rattle.relocate.specs.Places.{lower_place, IsAlignment, IsSpaceSize}
+use Rattle.space_heap.specs.Pictures.{HeapState, Holds, range_of}
+use Rattle.relocate.proofs.RangeTests.{when_not}
 use Rattle.relocate.specs.declared.packing.Move.{Move}
 use Rattle.relocate.specs.Spots.{AreSpots, ranges_of}
 use Rattle.relocate.specs.Packing.{next_move_of, with_place as spot_moved}
@@ -16,9 +16,9 @@ use Rattle.relocate.specs.Compaction.{IsMoveDown}
 use Rattle.relocate.proofs.PackingLemmas.{place_at}
 use Rattle.relocate.proofs.CompactionLemmas.{next_move_down}
 use Rattle.relocate.proofs.Lowers.{around, next_lowered}
-use Rattle.space_blocks.specs.declared.placed.Placed.{Placed}
-use Rattle.space_blocks.specs.Blocks.{block_range, ranges}
-use Rattle.space_blocks.specs.Moves.{block_at, block_to_move, moved_to, next_block, next_in, spot_of, spots_of}
+use Rattle.host_map.specs.declared.placed.Placed.{Placed}
+use Rattle.host_map.specs.Blocks.{block_range, ranges}
+use Rattle.host_map.specs.Moves.{block_at, block_to_move, moved_to, next_block, next_in, spot_of, spots_of}
 use Rattle.space_blocks.specs.Spaces.{AreKept}
 use Rattle.space_blocks.proofs.Keeping.{ranges_beside, whole}
 

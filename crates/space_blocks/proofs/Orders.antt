@@ -2,11 +2,11 @@
 use Rattle.std.proofs.Common.{◌≡◌, ℕ, zero, suc, ◌<◌, ◌≤◌, ◌==◌, ◌⊎◌, inl, inr, Bool, true, false, not, cond, nat_lt, if◌then◌else◌, List, [], ◌∷◌, ◌++◌, filter, length, get_or, remove, insert, refl, sym, ap, subst, ◌∙◌, arith}
 use Rattle.std.proofs.lemmas.Bool.{cases_lt, eq-eqb, eqb-true}
 use Rattle.std.proofs.lemmas.Bool.Decides.{nat_tests}
-use Rattle.space_heap.proofs.RangeTests.{true_or_false, when_not}
-use Rattle.space_blocks.specs.declared.placed.Placed.{Placed}
-use Rattle.space_blocks.specs.Blocks.{with_block, without_at}
+use Rattle.relocate.proofs.RangeTests.{true_or_false, when_not}
+use Rattle.host_map.specs.declared.placed.Placed.{Placed}
+use Rattle.host_map.specs.Blocks.{with_block, without_at}
 use Rattle.space_blocks.proofs.Placing.{block_from, with_place}
-use Rattle.space_blocks.specs.Moves.{moved_to}
+use Rattle.host_map.specs.Moves.{moved_to}
 
 low : (m n : ℕ) → m < n → nat_lt m n ≡ true
 low m n lt = grind (arith, nat_tests)

@@ -1,14 +1,15 @@
 -- The blocks of one owner.
 use Rattle.std.proofs.Common.{◌≡◌, ◌≢◌, ℕ, zero, suc, ◌<◌, ◌≤◌, ◌==◌, ◌&&◌, inl, inr, Bool, true, false, not, cond, if◌then◌else◌, List, [], ◌∷◌, filter, length, get_or, remove, Contains, refl, sym, ap, subst, ◌∙◌, arith}
 use Rattle.std.proofs.lemmas.Bool.{eq-eqb, eqb-true}
-use Rattle.space_heap.proofs.RangeTests.{both_true, true_or_false, when_not}
+use Rattle.relocate.proofs.RangeTests.{both_true, true_or_false, when_not}
 use Rattle.space_raw.specs.Span.{Span}
-use Rattle.space_blocks.specs.declared.placed.Owner.{Owner}
-use Rattle.space_blocks.specs.declared.placed.Owner.TheVariants.{Record, Scratch}
-use Rattle.space_blocks.specs.declared.placed.Placed.{Placed}
-use Rattle.space_blocks.specs.Blocks.{Owns, block_of, disowned, owned, same_owner, with_block}
+use Rattle.host_map.specs.declared.placed.Owner.{Owner}
+use Rattle.host_map.specs.declared.placed.Owner.TheVariants.{Record, Scratch}
+use Rattle.host_map.specs.declared.placed.Placed.{Placed}
+use Rattle.space_blocks.specs.Blocks.{Owns, block_of}
+use Rattle.host_map.specs.Blocks.{disowned, owned, same_owner, with_block}
 use Rattle.space_blocks.proofs.Placing.{block_from, with_place}
-use Rattle.space_blocks.specs.Moves.{moved_to}
+use Rattle.host_map.specs.Moves.{moved_to}
 use Rattle.space_blocks.proofs.Orders.{AreSortedFrom, dropped, filter_in, filter_out, filter_removed, kept, same_index}
 
 pub one_owner : (o q : Owner) → same_owner o q ≡ true → o ≡ q

@@ -3,13 +3,12 @@ use Rattle.std.proofs.Common.{◌≡◌, ℕ, zero, suc, ◌+◌, List, [], ◌�
 use Rattle.std.specs.Int.{next_multiple_of}
 use Rattle.relocate.specs.declared.packing.Spot.{Spot}
 use Rattle.relocate.specs.declared.packing.Move.{Move}
-use Rattle.relocate.specs.Packing.{packed_from, unpacked_count}
-use Rattle.relocate.specs.Packing.{at_places as spots_at}
+use Rattle.relocate.specs.Packing.{packed_from, unpacked_count, at_places as spots_at}
 use Rattle.relocate.specs.Compaction.{IsCompaction}
 use Rattle.relocate.proofs.CompactionLemmas.{packs_once}
-use Rattle.space_blocks.specs.declared.placed.Owner.{Owner}
-use Rattle.space_blocks.specs.declared.placed.Placed.{Placed}
-use Rattle.space_blocks.specs.Moves.{IsPacking, at_places, moved_to, packed, spot_of, spots_of}
+use Rattle.host_map.specs.declared.placed.Owner.{Owner}
+use Rattle.host_map.specs.declared.placed.Placed.{Placed}
+use Rattle.host_map.specs.Moves.{IsPacking, at_places, moved_to, packed, spot_of, spots_of}
 use Rattle.space_blocks.proofs.Moving.{spots_moved}
 
 abbrev owners : List Placed → List Owner

@@ -1,6 +1,6 @@
 -- A block that begins at another place.
 use Rattle.std.specs.Prelude.{ℕ, ◌==◌, List, map, if◌then◌else◌}
-use Rattle.space_blocks.specs.declared.placed.Placed.{Placed}
+use Rattle.host_map.specs.declared.placed.Placed.{Placed}
 
 -- a block that begins at one place begins at another from now on
 abbrev pub block_from : ℕ → ℕ → Placed → Placed

@@ -1,14 +1,14 @@
 -- Blocks whose owners have other names.
 use Rattle.std.proofs.Common.{◌≡◌, ◌≢◌, ◌⊎◌, inl, inr, ℕ, zero, suc, ◌<◌, Bool, true, false, if◌then◌else◌, List, [], ◌∷◌, length, get_or, Contains, refl, sym, ap, subst, ◌∙◌, arith}
-use Rattle.space_heap.proofs.RangeTests.{true_or_false, when_not}
-use Rattle.space_heap.specs.Places.{Range}
+use Rattle.relocate.proofs.RangeTests.{true_or_false, when_not}
+use Rattle.relocate.specs.Places.{Range}
 use Rattle.space_heap.specs.Pictures.{HeapState, Holds}
 use Rattle.relocate.specs.declared.packing.Spot.{Spot}
 use Rattle.relocate.specs.Spots.{AreSpots}
-use Rattle.space_blocks.specs.declared.placed.Owner.{Owner}
-use Rattle.space_blocks.specs.declared.placed.Placed.{Placed}
-use Rattle.space_blocks.specs.Blocks.{AreSingle, IsOwner, block_range, owned, ranges, renamed_block, renamed_blocks, renaming, same_owner}
-use Rattle.space_blocks.specs.Moves.{spot_of, spots_of}
+use Rattle.host_map.specs.declared.placed.Owner.{Owner}
+use Rattle.host_map.specs.declared.placed.Placed.{Placed}
+use Rattle.host_map.specs.Blocks.{AreSingle, IsOwner, block_range, owned, ranges, renamed_block, renamed_blocks, renaming, same_owner}
+use Rattle.host_map.specs.Moves.{spot_of, spots_of}
 use Rattle.space_blocks.specs.Spaces.{AreKept}
 use Rattle.space_blocks.proofs.Orders.{dropped, kept}
 use Rattle.space_blocks.proofs.Owners.{itself, not_same, one_owner}

@@ -1,26 +1,10 @@
 -- The blocks of one space, with their owners.
-use Rattle.std.specs.Prelude.{ℕ, ◌≤◌, ◌<◌, ◌&&◌, ◌==◌, Bool, false, not, List, [], ◌∷◌, map, filter, length, Option, Some, None, nat_lt, if◌then◌else◌}
+use Rattle.std.specs.Prelude.{ℕ, List, [], ◌∷◌, length, Option, Some, None}
 use Rattle.std.specs.List.{Contains}
-use Rattle.mem_rec.specs.declared.TheConstants.{TABLE_RECORDS, GROUPS, INSTANCES}
 use Rattle.space_raw.specs.Span.{Span}
-use Rattle.space_heap.specs.Places.{Range}
-use Rattle.space_blocks.specs.declared.placed.Owner.{Owner}
-use Rattle.space_blocks.specs.declared.placed.Owner.TheVariants.{Record, Scratch}
-use Rattle.space_blocks.specs.declared.placed.Placed.{Placed}
-
-abbrev pub same_owner : Owner → Owner → Bool
-same_owner (Record i k) (Record j l) = i == j && k == l
-same_owner (Scratch g) (Scratch h) = g == h
-same_owner (Record i k) (Scratch h) = false
-same_owner (Scratch g) (Record j l) = false
-
--- the blocks of one owner
-abbrev pub owned : Owner → List Placed → List Placed
-owned owner blocks = filter (λ b. same_owner owner b.owner) blocks
-
--- the blocks of all other owners
-abbrev pub disowned : Owner → List Placed → List Placed
-disowned owner blocks = filter (λ b. not (same_owner owner b.owner)) blocks
+use Rattle.host_map.specs.declared.placed.Owner.{Owner}
+use Rattle.host_map.specs.declared.placed.Placed.{Placed}
+use Rattle.host_map.specs.Blocks.{owned, without_at}
 
 -- the piece as a block
 abbrev pub block_of : Owner → ℕ → Span → Placed
@@ -31,48 +15,11 @@ abbrev pub block_of_piece : Owner → ℕ → Option Span → List Placed
 block_of_piece owner align None = []
 block_of_piece owner align (Some p) = block_of owner align p ∷ []
 
--- where a block lies
-abbrev pub block_range : Placed → Range
-block_range b = record { place = b.place; size = b.size }
-
-abbrev pub ranges : List Placed → List Range
-ranges blocks = map block_range blocks
-
--- with one block more, in place order
-abbrev pub with_block : Placed → List Placed → List Placed
-with_block b [] = b ∷ []
-with_block b (c ∷ cs) = if nat_lt c.place b.place then c ∷ with_block b cs else b ∷ c ∷ cs
-
--- without the block that begins at the place
-abbrev pub without_at : ℕ → List Placed → List Placed
-without_at place blocks = filter (λ b. not (b.place == place)) blocks
-
 -- without the block that the piece is, if there is one
 abbrev pub without_piece : Option Span → List Placed → List Placed
 without_piece None blocks = blocks
 without_piece (Some p) blocks = without_at p.place blocks
 
--- the owner `to` for the owner `from`
-abbrev pub renaming : Owner → Owner → Owner → Owner
-renaming from to owner = if same_owner from owner then to else owner
-
--- each block with the owner that this gives for its own
-abbrev pub renamed_block : (Owner → Owner) → Placed → Placed
-renamed_block new b = record b { owner = new b.owner }
-
-abbrev pub renamed_blocks : (Owner → Owner) → List Placed → List Placed
-renamed_blocks new blocks = map (renamed_block new) blocks
-
 -- one of the owner's blocks lies where the piece does
 abbrev pub Owns : List Placed → Owner → Span → Type 0
 Owns blocks owner p = (align : ℕ) × Contains (owned owner blocks) (block_of owner align p)
-
--- the owner is a record of an instance, or a group
-abbrev pub IsOwner : Owner → Type 0
-IsOwner (Record i k) = (i < INSTANCES) × (k < TABLE_RECORDS)
-IsOwner (Scratch g) = g < GROUPS
-
--- no owner has two blocks
-pub record AreSingle (blocks : List Placed) : Type 0 where
-  pub owners : (b : Placed) → Contains blocks b → IsOwner b.owner
-  pub single : (owner : Owner) → length (owned owner blocks) ≤ 1

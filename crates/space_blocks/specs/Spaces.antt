@@ -1,11 +1,12 @@
 -- A space and its blocks.
 use Rattle.std.specs.Prelude.{ℕ, ◌<◌, ◌^◌, List}
 use Rattle.space_raw.specs.Span.{Extent}
-use Rattle.space_heap.specs.Pictures.{AreBlocks, HeapState, Holds, IsSpaceSize}
+use Rattle.space_heap.specs.Pictures.{AreBlocks, HeapState, Holds}
+use Rattle.relocate.specs.Places.{IsSpaceSize}
 use Rattle.relocate.specs.Spots.{AreSpots}
-use Rattle.space_blocks.specs.declared.placed.Placed.{Placed}
-use Rattle.space_blocks.specs.Blocks.{ranges}
-use Rattle.space_blocks.specs.Moves.{spots_of}
+use Rattle.host_map.specs.declared.placed.Placed.{Placed}
+use Rattle.host_map.specs.Blocks.{ranges}
+use Rattle.host_map.specs.Moves.{spots_of}
 
 -- the space, how many words were moved in it, and its blocks
 pub record SpaceState : Type 0 where

@@ -1,27 +1,24 @@
 //! One space.
 ghost use Rattle.std.specs.Prelude.{◌≡◌, ◌≢◌, ℕ, ◌+◌, ◌-◌, ◌<◌, ◌≤◌, ◌^◌, [], ◌∷◌, length, min, Some, Contains, slice_index_or, IfOk, IfErr, IfSome, IfNone, IsErrOf};
 ghost use Rattle.std.specs.Option.{option_map};
-ghost use Rattle.space_heap.specs.Places.{least_place, placed_size};
-ghost use Rattle.space_heap.specs.Pictures.{IsAlignment, IsSpaceSize, range_of};
-ghost use Rattle.space_heap.specs.declared.limits.TheConstants.{GREATEST_NEED};
-ghost use Rattle.space_blocks.specs.declared.TheConstants.{MAP_BLOCKS, SPACE_BLOCKS};
-ghost use Rattle.space_blocks.specs.declared.placed.Owner.{Owner};
-ghost use Rattle.space_blocks.specs.declared.placed.Placed.{Placed};
-ghost use Rattle.space_blocks.specs.Blocks.{AreSingle, IsOwner, Owns, block_of, block_range, disowned, owned, ranges, renamed_blocks, renaming, with_block, without_at};
-ghost use Rattle.space_blocks.specs.Moves.{moved, moved_to, next_block, next_in};
+ghost use Rattle.relocate.specs.Places.{least_place, placed_size, IsAlignment, IsSpaceSize};
+ghost use Rattle.space_heap.specs.Pictures.{range_of};
+ghost use Rattle.relocate.specs.declared.limits.TheConstants.{GREATEST_NEED};
+ghost use Rattle.host_map.specs.declared.TheConstants.{MAP_BLOCKS, SPACE_BLOCKS};
+ghost use Rattle.host_map.specs.declared.placed.Owner.{Owner};
+ghost use Rattle.host_map.specs.declared.placed.Placed.{Placed};
+ghost use Rattle.host_map.specs.Blocks.{AreSingle, IsOwner, block_range, disowned, owned, ranges, renamed_blocks, renaming, with_block, without_at};
+ghost use Rattle.space_blocks.specs.Blocks.{Owns, block_of};
+ghost use Rattle.host_map.specs.Moves.{moved, moved_to, next_block, next_in};
 ghost use Rattle.space_blocks.specs.Spaces.{AreInOrder};
 
-use crate::placed::{Owner, Placed};
-use crate::{MAP_BLOCKS, SPACE_BLOCKS};
 use arrayvec::ArrayVec;
+use host_map::{MAP_BLOCKS, Map, Owner, Placed, SPACE_BLOCKS};
 use relocate::{Move, next_move};
 use space_heap::{Heap, HeapError};
 use space_raw::Piece;
 use std::alloc::{Allocator, Global};
 use std::marker::Model;
-
-/// The blocks of a space, in place order.
-pub type Map = ArrayVec<Placed, MAP_BLOCKS>;
 
 /// A space and its blocks. The pieces of the blocks are held elsewhere. The space is of the allocator `A`, the system's by default. It can't
 /// be copied, and must be given back by `close`.

@@ -3,13 +3,14 @@ ghost use Rattle.std.specs.Prelude.{◌≡◌, ◌≢◌, ◌+◌, ◌≤◌, �
 ghost use Rattle.mem_rec.specs.declared.TheConstants.{TABLE_RECORDS, INSTANCES};
 ghost use Rattle.space_raw.specs.Span.{Apart, Span};
 ghost use Rattle.space_heap.specs.Pictures.{AreBlocks};
-ghost use Rattle.space_blocks.specs.declared.TheConstants.{MAP_BLOCKS};
-ghost use Rattle.space_blocks.specs.declared.placed.Owner.{Owner};
-ghost use Rattle.space_blocks.specs.declared.placed.Owner.TheVariants.{Record};
-ghost use Rattle.space_blocks.specs.declared.placed.Placed.{Placed};
+ghost use Rattle.host_map.specs.declared.TheConstants.{MAP_BLOCKS};
+ghost use Rattle.host_map.specs.declared.placed.Owner.{Owner};
+ghost use Rattle.host_map.specs.declared.placed.Owner.TheVariants.{Record};
+ghost use Rattle.host_map.specs.declared.placed.Placed.{Placed};
 ghost use Rattle.relocate.specs.Packing.{unpacked_count};
-ghost use Rattle.space_blocks.specs.Blocks.{AreSingle, Owns, owned, ranges};
-ghost use Rattle.space_blocks.specs.Moves.{IsPacking, packed, spots_of};
+ghost use Rattle.host_map.specs.Blocks.{AreSingle, owned, ranges};
+ghost use Rattle.space_blocks.specs.Blocks.{Owns};
+ghost use Rattle.host_map.specs.Moves.{IsPacking, packed, spots_of};
 
 /// The law that where no owner has two blocks of a space a map has room for all of them; and for the records of one more instance, where
 /// an instance number has none. The call does nothing: its contract is the law.

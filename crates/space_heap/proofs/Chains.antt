@@ -1,12 +1,11 @@
 -- Ranges in place order, none of which touches the next: what is known of each, and how they are taken apart and put together.
 use Rattle.std.proofs.Common.{◌≡◌, ℕ, ◌+◌, ◌-◌, ◌%◌, ◌<◌, ◌≤◌, Bool, true, false, ◌||◌, cond, List, [], ◌∷◌, ◌++◌, refl, sym, arith}
-use Rattle.std.proofs.lemmas.Bool.{cases_lt}
+use Rattle.std.proofs.lemmas.Bool.{cases_lt, lt-ltb, ltb-true}
 use Rattle.std.specs.Prelude.{nat_lt}
-use Rattle.std.proofs.lemmas.Bool.{lt-ltb, ltb-true}
-use Rattle.space_heap.specs.Places.{Range, covers, end_of, is_covered}
+use Rattle.relocate.specs.Places.{Range, covers, end_of, is_covered}
 use Rattle.space_heap.specs.Pictures.{IsBlock}
 use Rattle.space_heap.specs.Holes.{Chain, between}
-use Rattle.space_heap.proofs.RangeTests.{either, one_true, when_not, is_in}
+use Rattle.relocate.proofs.RangeTests.{either, one_true, when_not, is_in}
 
 pub covered_append : (xs ys : List Range) (k : ℕ) → is_covered (xs ++ ys) k ≡ (is_covered xs k || is_covered ys k)
 covered_append [] ys k = refl

@@ -4,10 +4,10 @@ use Rattle.std.specs.Prelude.{ℤ, Option, is_some, sum_by, count_by}
 use Rattle.std.proofs.lemmas.Bool.{cases_lt}
 use Rattle.std.proofs.lemmas.List.Sums.{sum_by-cons}
 use Rattle.std.specs.List.{range_with_len}
-use Rattle.space_heap.specs.Places.{Range, end_of, covers, is_covered}
+use Rattle.relocate.specs.Places.{Range, end_of, covers, is_covered}
 use Rattle.space_heap.specs.Pictures.{AreBlocks, free_beside}
 use Rattle.space_heap.specs.Holes.{in_rest, AreParts}
-use Rattle.space_heap.proofs.RangeTests.{either, true_or_false, clash, is_in, in_range}
+use Rattle.relocate.proofs.RangeTests.{either, true_or_false, clash, is_in, in_range}
 use Rattle.space_heap.proofs.Words.{marks}
 use Rattle.space_heap.proofs.PictureLemmas.{uncovered}
 

@@ -1,18 +1,15 @@
 -- The first hole in which an aligned block fits holds its least place; and the free range that ends at a place.
-use Rattle.std.proofs.Common.{◌≡◌, ℕ, suc, ◌+◌, ◌*◌, ◌/◌, ◌%◌, ◌-◌, ◌<◌, ◌≤◌, ◌⊎◌, Bool, true, false, List, [], ◌∷◌, ◌++◌, inl, inr, ap, sym, ◌∙◌, arith, Option, None, length}
+use Rattle.std.proofs.Common.{◌≡◌, ℕ, ◌+◌, ◌*◌, ◌/◌, ◌%◌, ◌-◌, ◌<◌, ◌≤◌, ◌⊎◌, Bool, true, false, List, [], ◌∷◌, ◌++◌, inl, inr, ap, sym, ◌∙◌, arith, Option, None, length}
 use Rattle.std.specs.Prelude.{ℤ}
 use Rattle.std.specs.Int.{next_multiple_of}
-use Rattle.std.proofs.Math.Nat.{mod-le, mod-add-div, mul-le-mul_left, mul-suc}
+use Rattle.std.proofs.Math.Nat.{mod-le, mod-add-div}
 use Rattle.std.proofs.lemmas.Nat.{mul-mod}
 use Rattle.std.proofs.lemmas.Bool.{cases_lt}
-use Rattle.space_heap.specs.Places.{Range, covers, end_of, is_covered}
+use Rattle.relocate.specs.Places.{Range, covers, end_of, is_covered}
 use Rattle.space_heap.specs.Holes.{in_rest, Chain, AreHoles, IsPlace, IsLeastPlace, HasNoPlace, IsFreeFrom, IsFromOn, first_place}
-use Rattle.space_heap.proofs.RangeTests.{either, one_true, left_true, right_true, when_not, or_false, is_in, in_range}
+use Rattle.relocate.proofs.RangeTests.{either, one_true, left_true, right_true, when_not, or_false, is_in, in_range}
 use Rattle.space_heap.proofs.Chains.{covered_append, words_from, around, none_below, none_above}
-
--- p is the least multiple of a from x on
-abbrev pub IsNext : ℕ → ℕ → ℕ → Type 0
-IsNext x a p = (x ≤ p) × (p < x + a) × (p % a ≡ 0)
+use Rattle.relocate.proofs.Multiples.{IsNext, next_least}
 
 -- n words do not fit into h at a multiple of a
 abbrev pub Misses : Range → ℕ → ℕ → Type 0
@@ -25,14 +22,6 @@ AllMiss (h ∷ hs) n a = Misses h n a × AllMiss hs n a
 pub one_more_misses : (hs : List Range) (h : Range) (n a : ℕ) → AllMiss hs n a → Misses h n a → AllMiss (hs ++ h ∷ []) n a
 one_more_misses [] h n a all misses = (misses, tt)
 one_more_misses (x ∷ xs) h n a all misses = (all.0, one_more_misses xs h n a all.1 misses)
-
-pub next_least : (x a p q : ℕ) → IsNext x a p → x ≤ q → q % a ≡ 0 → p ≤ q
-next_least x a p q next le whole =
-    let j = p / a in let k = q / a in let at_p = mod-add-div p a in let at_q = mod-add-div q a in
-    either (cases_lt k j)
-    (λ lt. let step : a * suc k ≤ a * j = mul-le-mul_left a lt in let more = mul-suc a k in
-    let far = next.1 in let flat = next.2 in absurd (omega (arith)))
-    (λ ge. let below : a * j ≤ a * k = mul-le-mul_left a ge in let flat = next.2 in omega arith)
 
 abbrev AreFree : List Range → ℕ → ℕ → Type 0
 AreFree hs n q = (k : ℕ) → q ≤ k → k < q + n → is_covered hs k ≡ true
@@ -109,9 +98,6 @@ pub unit_multiple : (p a : ℕ) → p % a ≡ 0 → a % 4 ≡ 0 → p % 4 ≡ 0
 unit_multiple p a multiple unit =
     let is : p ≡ a * (p / a) = (let all = mod-add-div p a in omega arith) in
     ap (λ n. n % 4) is ∙ mul-mod a (p / a) 4 ∙ ap (λ r. (r * (p / a % 4)) % 4) unit ∙ ap (λ n. n % 4) (let none : 0 * (p / a % 4) ≡ 0 = omega arith in none)
-
-pub not_lower : (x a : ℕ) → x ≤ next_multiple_of x a
-not_lower x a = omega arith
 
 -- no hole from `next` on begins before the place
 pub chain_from : (size low : ℕ) (hs : List Range) (high place : ℕ) → Chain size low hs high → place ≤ high → IsFromOn place (first_place hs None) → Chain size place hs high

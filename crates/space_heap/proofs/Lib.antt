@@ -1,4 +1,3 @@
-pub mod RangeTests
 pub mod Words
 pub mod Chains
 pub mod Links

@@ -2,10 +2,10 @@
 use Rattle.std.proofs.Common.{◌≡◌, ℕ, ◌+◌, ◌-◌, ◌<◌, ◌≤◌, ◌⊎◌, List, [], ◌∷◌, ◌++◌, length, inl, inr, refl, ap, sym, ◌∙◌, subst, arith, Option, Some, None, append_assoc, append-nil}
 use Rattle.std.specs.Prelude.{ℤ}
 use Rattle.space_heap.specs.declared.hole.Hole.{Hole}
-use Rattle.space_heap.specs.Places.{Range, end_of}
+use Rattle.relocate.specs.Places.{Range, end_of}
 use Rattle.space_heap.specs.Pictures.{IsBlock}
 use Rattle.space_heap.specs.Holes.{free_word, in_rest, link, IsLink, IsHole, IsWritten, IsSameBut, Rewrites, first_place, last_place, AreWritten, Chain, AreHoles, IsRelinked}
-use Rattle.space_heap.proofs.RangeTests.{either}
+use Rattle.relocate.proofs.RangeTests.{either}
 use Rattle.space_heap.proofs.Chains.{chain_low, chain_append, around}
 
 abbrev Slots : Type 0

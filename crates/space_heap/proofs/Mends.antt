@@ -6,10 +6,10 @@ use Rattle.space_raw.specs.Slots.{IsRun, without}
 use Rattle.space_raw.proofs.Slots.{without_long}
 use Rattle.space_heap.specs.declared.hole.Hole.{Hole}
 use Rattle.space_heap.specs.declared.find.Fit.{Fit}
-use Rattle.space_heap.specs.Places.{Range, covers, end_of, is_covered}
-use Rattle.space_heap.specs.Pictures.{IsBlock, IsSpaceSize}
+use Rattle.relocate.specs.Places.{Range, covers, end_of, is_covered, IsSpaceSize}
+use Rattle.space_heap.specs.Pictures.{IsBlock}
 use Rattle.space_heap.specs.Holes.{AreParts, AreWritten, Chain, IsCarved, IsFit, IsLink, IsRelinked, Rewrites, between, first_place, hole_end, hole_range, in_rest, last_place, free_word}
-use Rattle.space_heap.proofs.RangeTests.{either, true_or_false, clash, when_not, one_true, left_true, right_true, or_false, false_left, same_test, is_in, in_range}
+use Rattle.relocate.proofs.RangeTests.{either, true_or_false, clash, when_not, one_true, left_true, right_true, or_false, false_left, same_test, is_in, in_range}
 use Rattle.space_heap.proofs.Words.{carved_outside, carved_within, is_run}
 use Rattle.space_heap.proofs.Chains.{chain_append, chain_low, covered_append, none_above, none_below, between_chain, between_covers, from_lower}
 use Rattle.space_heap.proofs.Ends.{found_chains, is_link}

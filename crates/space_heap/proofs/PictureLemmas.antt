@@ -1,14 +1,13 @@
 -- What a taken, a given and a moved block do to the blocks and to the free words.
 use Rattle.std.proofs.Common.{◌≡◌, ℕ, zero, suc, ◌+◌, ◌<◌, ◌≤◌, ◌⊎◌, max, Bool, true, false, ◌||◌, not, List, [], ◌∷◌, ◌++◌, map, length, Option, inl, inr, refl, subst, sym, ◌∙◌, ap, arith}
 use Rattle.std.specs.Prelude.{ℤ, is_some}
-use Rattle.std.specs.List.{list_any}
+use Rattle.std.specs.List.{list_any, range_with_len}
 use Rattle.std.proofs.lemmas.Bool.{cases_lt}
 use Rattle.space_raw.specs.Slots.{IsRun}
-use Rattle.std.specs.List.{range_with_len}
-use Rattle.space_heap.specs.Places.{Range, end_of, covers, is_covered, meets}
+use Rattle.relocate.specs.Places.{Range, end_of, covers, is_covered, meets}
 use Rattle.space_heap.specs.Pictures.{IsBlock, AreBlocks, free_beside}
 use Rattle.space_heap.specs.Holes.{in_rest, AreParts}
-use Rattle.space_heap.proofs.RangeTests.{either, true_or_false, clash, when_not, both_false, or_false, left_true, false_left, not_false, is_in, in_range, meet_if, if_meet, meet_sym, covered_between}
+use Rattle.relocate.proofs.RangeTests.{either, true_or_false, clash, when_not, both_false, or_false, left_true, false_left, not_false, is_in, in_range, meet_if, if_meet, meet_sym, covered_between}
 use Rattle.space_heap.proofs.Words.{is_run, marks}
 
 marks_tell : (f g : ℕ → Bool) (first n : ℕ) → map f (range_with_len first n) ≡ map g (range_with_len first n) → (k : ℕ) → first ≤ k → k < first + n → f k ≡ g k

@@ -6,10 +6,10 @@ use Rattle.space_raw.specs.Slots.{IsRun, with_run}
 use Rattle.space_raw.proofs.Slots.{with_long}
 use Rattle.space_heap.specs.declared.holes.Front.{Front}
 use Rattle.space_heap.specs.declared.holes.Back.{Back}
-use Rattle.space_heap.specs.Places.{Range, covers, end_of, is_covered}
-use Rattle.space_heap.specs.Pictures.{IsBlock, IsSpaceSize}
+use Rattle.relocate.specs.Places.{Range, covers, end_of, is_covered, IsSpaceSize}
+use Rattle.space_heap.specs.Pictures.{IsBlock}
 use Rattle.space_heap.specs.Holes.{AreHoles, AreParts, AreWritten, Chain, HasHoles, IsBack, IsFromOn, IsFront, IsLink, IsRelinked, IsTaken, LeadsTo, Rewrites, between, first_place, in_rest, last_place, free_word}
-use Rattle.space_heap.proofs.RangeTests.{either, true_or_false, clash, one_true, left_true, right_true, false_left, same_test, is_in, in_range}
+use Rattle.relocate.proofs.RangeTests.{either, true_or_false, clash, one_true, left_true, right_true, false_left, same_test, is_in, in_range}
 use Rattle.space_heap.proofs.Words.{in_length, written_outside, written_there}
 use Rattle.space_heap.proofs.Chains.{between_chain, between_covers, covered_append, none_above}
 use Rattle.space_heap.proofs.Ends.{beyond, is_link}

@@ -7,7 +7,7 @@ use Rattle.space_raw.specs.Slots.{filled, run_of, IsRun, IsAway, without, with_r
 use Rattle.space_raw.proofs.Slots.{run_long, with_long}
 use Rattle.std.specs.List.{range_with_len}
 use Rattle.space_heap.specs.Holes.{free_word, in_rest, IsSameBut, Rewrites}
-use Rattle.space_heap.proofs.RangeTests.{either}
+use Rattle.relocate.proofs.RangeTests.{either}
 
 abbrev Slots : Type 0
 Slots = List (Option ℤ)

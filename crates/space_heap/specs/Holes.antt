@@ -3,14 +3,14 @@
 use Rattle.std.specs.Prelude.{◌≡◌, ℕ, zero, suc, ◌+◌, ◌-◌, ◌/◌, ◌%◌, ◌<◌, ◌≤◌, ◌⊎◌, Bool, true, false, ◌||◌, ℤ, pos, negsuc, List, [], ◌∷◌, ◌++◌, map, length, count_by, Option, Some, None, is_some, MatchOption, nat_lt, if◌then◌else◌}
 use Rattle.mem_rec.specs.declared.TheConstants.{LEAST_ALIGNMENT}
 use Rattle.space_raw.specs.Span.{Extent, Scattered}
-use Rattle.space_heap.specs.declared.limits.TheConstants.{SPACE_WORDS}
+use Rattle.relocate.specs.declared.limits.TheConstants.{SPACE_WORDS}
 use Rattle.space_heap.specs.declared.hole.Hole.{Hole}
 use Rattle.space_heap.specs.declared.find.Found.{Found}
 use Rattle.space_heap.specs.declared.find.Fit.{Fit}
 use Rattle.space_heap.specs.declared.holes.Front.{Front}
 use Rattle.space_heap.specs.declared.holes.Back.{Back}
-use Rattle.space_heap.specs.Places.{Range, covers, end_of, is_covered}
-use Rattle.space_heap.specs.Pictures.{IsBlock, IsSpaceSize}
+use Rattle.relocate.specs.Places.{Range, covers, end_of, is_covered, IsSpaceSize}
+use Rattle.space_heap.specs.Pictures.{IsBlock}
 
 -- the word at place k, if no piece has it
 abbrev pub free_word : List (Option ℤ) → ℕ → Option ℤ

@@ -2,23 +2,14 @@
 use Rattle.std.specs.Prelude.{◌≡◌, ℕ, ◌%◌, ◌<◌, ◌≤◌, Bool, false, not, List, [], ◌∷◌, map, length}
 use Rattle.std.specs.List.{list_any}
 use Rattle.space_raw.specs.Span.{Extent, Span}
-use Rattle.mem_rec.specs.declared.TheConstants.{LEAST_ALIGNMENT, GREATEST_ALIGNMENT}
-use Rattle.space_heap.specs.declared.limits.TheConstants.{SPACE_WORDS}
-use Rattle.space_heap.specs.Places.{Range, end_of, meets, is_covered, numbers_below}
+use Rattle.mem_rec.specs.declared.TheConstants.{LEAST_ALIGNMENT}
+use Rattle.relocate.specs.Places.{Range, end_of, meets, is_covered, numbers_below}
 
 -- the space; for each word of it, in order, whether it is free; and how many words were moved
 pub record HeapState : Type 0 where
   pub region : Extent
   pub free : List Bool
   pub slid : ℕ
-
--- a space may have so many words
-abbrev pub IsSpaceSize : ℕ → Type 0
-IsSpaceSize words = (words ≤ SPACE_WORDS) × (words % LEAST_ALIGNMENT ≡ 0)
-
--- every power of two from 4 to 1,024 is one
-abbrev pub IsAlignment : ℕ → Type 0
-IsAlignment align = (0 < align) × (align ≤ GREATEST_ALIGNMENT) × (align % LEAST_ALIGNMENT ≡ 0)
 
 -- where a piece lies
 abbrev pub range_of : Span → Range

@@ -1,10 +1,10 @@
 //! The search among the holes, in place order.
 ghost use Rattle.std.specs.Prelude.{◌+◌, ◌<◌, ◌≤◌, IfSome, IfNone};
-ghost use Rattle.space_heap.specs.Pictures.{IsAlignment};
+ghost use Rattle.relocate.specs.Places.{IsAlignment};
 ghost use Rattle.space_heap.specs.Holes.{HasHoles, HasNoPlace, IsFit, IsFound, IsFromOn, IsLeastPlace, in_rest};
 
 use crate::hole::Hole;
-use crate::limits::GREATEST_NEED;
+use relocate::GREATEST_NEED;
 use space_raw::Rest;
 
 // A hole, and where the one before it begins, if there is one.

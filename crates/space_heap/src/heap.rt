@@ -2,16 +2,16 @@
 ghost use Rattle.std.specs.Prelude.{◌≡◌, ◌==◌, ◌+◌, ◌/◌, ◌<◌, ◌≤◌, ◌^◌, ◌-◌, ◌++◌, [], ◌∷◌, List, length, min, sum_by, count_by, if◌then◌else◌, IfOk, IfErr, IsErrOf, IfSome, IfNone, is_some, map};
 ghost use Rattle.std.specs.Option.{option_map};
 ghost use Rattle.space_raw.specs.Span.{IsWhole};
-ghost use Rattle.space_heap.specs.Places.{Range, least_place, lower_place, placed_size};
-ghost use Rattle.space_heap.specs.Pictures.{Holds, IsAlignment, IsBlock, IsSpaceSize, range_of};
+ghost use Rattle.relocate.specs.Places.{Range, least_place, lower_place, placed_size, IsAlignment, IsSpaceSize};
+ghost use Rattle.space_heap.specs.Pictures.{Holds, IsBlock, range_of};
 
 #[cfg(test)]
 mod tests;
 
 use crate::find::find;
 use crate::holes::{Front, carve, gap_before, leave_hole, put_back, put_behind};
-use crate::limits::{GREATEST_NEED, is_space_size};
 use mem_rec::LEAST_ALIGNMENT;
+use relocate::{GREATEST_NEED, is_space_size};
 use space_raw::{Piece, Region, Rest};
 use std::alloc::{Allocator, Global};
 use std::marker::Model;

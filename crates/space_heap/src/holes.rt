@@ -2,8 +2,8 @@
 ghost use Rattle.std.specs.Prelude.{◌≡◌, ◌+◌, ◌-◌, ◌%◌, ◌<◌, ◌≤◌, ℕ, List, length, true, false, IfSome, MatchOption};
 ghost use Rattle.std.specs.Int.{next_multiple_of};
 ghost use Rattle.space_raw.specs.Slots.{IsRun};
-ghost use Rattle.space_heap.specs.Places.{Range};
-ghost use Rattle.space_heap.specs.Pictures.{IsAlignment, IsBlock, IsSpaceSize, range_of};
+ghost use Rattle.relocate.specs.Places.{Range, IsAlignment, IsSpaceSize};
+ghost use Rattle.space_heap.specs.Pictures.{IsBlock, range_of};
 ghost use Rattle.space_heap.specs.Holes.{AreParts, AreWritten, HasHoles, IsBack, IsCarved, IsFit, IsFreeFrom, IsFromOn, IsFront, IsLink, IsRelinked, IsTaken, LeadsTo, Rewrites, between, first_place, hole_end, in_rest, last_place};
 
 use crate::find::{Fit, Found, last_before};

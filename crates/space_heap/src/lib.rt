@@ -6,7 +6,5 @@ mod find;
 mod heap;
 mod hole;
 mod holes;
-mod limits;
 
 pub use heap::{Heap, HeapError};
-pub use limits::{GREATEST_NEED, SPACE_WORDS, is_space_size};

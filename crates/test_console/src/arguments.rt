@@ -1,7 +1,7 @@
 //! Which word of a command line becomes which field, and what is refused.
 use clap::error::ErrorKind;
 use dsp_arguments::{ArgFault, arguments};
-use host_spaces::Sizes;
+use host_map::Sizes;
 use std::process::Abort;
 use std::test::Fail;
 
@@ -21,6 +21,7 @@ struct Options {
     poison: Option<i16>,
     in8: u16,
     out8: u16,
+    explain: bool,
 }
 
 /// What a command line without options says.
@@ -33,6 +34,7 @@ const DEFAULTS: Options = Options {
     poison: None,
     in8: 0,
     out8: 0,
+    explain: false,
 };
 
 /// Reads a command line with the script `s` and the ports `a` and `b`, and compares the options.
@@ -44,6 +46,7 @@ fn assert_read<R: Abort + AllocGlobal>(rt: &R, words: &[&str], wanted: Options) 
     assert!(rt; given.sizes == wanted.sizes);
     assert!(rt; given.poison == wanted.poison);
     assert!(rt; given.in8 == wanted.in8 && given.out8 == wanted.out8);
+    assert!(rt; given.explain == wanted.explain);
 }
 
 #[test]
@@ -70,6 +73,7 @@ fn reads_arguments(rt: HostRuntime) {
         poison: Some(-1),
         in8: 1,
         out8: 2,
+        explain: false,
     };
     assert_read(&rt, &words, wanted);
     assert_read(&rt, &["s", "a", "b"], DEFAULTS);
@@ -112,6 +116,15 @@ fn each_mask_goes_by_itself(rt: HostRuntime) {
         ..DEFAULTS
     };
     assert_read(&rt, &["--out8=32768", "--in8=0", "s", "a", "b"], outs);
+}
+
+#[test]
+fn reasons_are_asked_for(rt: HostRuntime) {
+    let explained = Options {
+        explain: true,
+        ..DEFAULTS
+    };
+    assert_read(&rt, &["s", "--explain", "a", "b"], explained);
 }
 
 /// Whether these words, parted by blanks, aren't taken, and by `clap` or since the ports aren't in pairs.
@@ -237,11 +250,13 @@ fn help_names_the_words_and_their_units(rt: HostRuntime) -> Result<(), Fail> {
     let shown = format!(in rt.alloc(); "{help}")?;
     for part in [
         "Usage: dsp_console [OPTIONS] <SCRIPT> <IN OUT> [IN OUT]...\n",
-        "  [IN OUT]...  1 to 16 pairs of files of samples of 16 bits, the low octet first",
-        "--daram <WORDS>     The size of the space in words of 16 bits: 0 to 65536, a multiple of 4",
-        "--poison <WORD>     Fill new and resting memory with this word of 16 bits: 0 to 65535",
-        "--in8 <MASK>        The channels, a bit each, whose IN is of samples of one octet, 0 to 255: 0 to 65535",
-        "--out8 <MASK>       The channels, a bit each, whose OUT takes of each sample the low octet alone: 0 to 65535",
+        "by instances of the kinds fir, decim, biquad, tone and g711.\n",
+        "  [IN OUT]...  1 to 16 pairs of files of samples, the low byte first, without a header",
+        "--daram <WORDS>     Size of the space daram in 16-bit words, a multiple of 4 up to 65536 [default: 65536]",
+        "--poison <WORD>     Fill new memory, and scratch memory after each deactivation, with this word, 0 to 65535",
+        "--in8 <MASK>        Channels whose IN has one byte a sample, 0 to 255: bit n is channel n [default: 0]",
+        "--out8 <MASK>       Channels whose OUT gets one byte a sample, its low eight bits: bit n is channel n [default: 0]",
+        "  3  SCRIPT or an IN can't be read\n",
     ] {
         assert!(rt; shown.contains(part));
     }

@@ -1,18 +1,18 @@
 //! Runs over tapes and over devices that fail, and a caller that is proved from the contracts alone.
 ghost use Rattle.std.specs.Prelude.{◌≡◌, ◌<◌, ◌∷◌, [], None, Some, IfOk};
-ghost use Rattle.line_machine.specs.Served.{held_by, order_of, refusals};
-ghost use Rattle.line_machine.specs.Widths.{widths_of};
-ghost use Rattle.console_machine.specs.Answers.{served};
+ghost use Rattle.line_spec.specs.Served.{held_by, order_of, refusals};
+ghost use Rattle.line_spec.specs.Widths.{widths_of};
+ghost use Rattle.console_spec.specs.Answers.{served};
 ghost use Rattle.voice_set.specs.Voices.{voice_meaning, voice_named};
 ghost use Rattle.test_console.specs.declared.engine.TheConstants.{FULL};
 
 use arrayvec::ArrayVec;
-use dsp_console::{Config, Fault, Sizes, Summary, outcome, run};
+use dsp_console::{Config, Fault, Sizes, Summary, outcome, run, run_memory};
 use octet_ports::{PortIn, PortOut, Reading, TapeIn, TapeOut, Writing};
 use std::alloc::{AllocError, Global};
 use std::process::Abort;
 use std::test::Fail;
-use test_doubles::{HELD_OCTETS, Shaky};
+use test_doubles::{HELD_OCTETS, Metered, Shaky};
 use voice_set::{Voice, voices_are_lawful};
 
 const NEVER: u64 = u64::MAX;
@@ -129,7 +129,7 @@ struct Row {
     refused: u64,
 }
 
-fn rows() -> [Row; 9] {
+fn rows() -> [Row; 11] {
     [
         Row {
             script: b"create 0 fir 0 16384\nchain 0 0\nfeed 0 2\n",
@@ -189,6 +189,22 @@ fn rows() -> [Row; 9] {
             output: b"",
             replies: b"no 3 range\nno 3 range\nno 3 range\nok\nno 4 taken\nno 6 params\nno 2 syntax\nno 3 range\nno 2 syntax\nno 3 range\nno 3 range\nno 2 syntax\nno 2 syntax\nno 5 missing\nno 3 range\nno 5 missing\nno 3 range\nno 3 range\nok\nno 4 taken\nok\nno 8 busy\nno 3 range\n",
             refused: 20,
+        },
+        // A control within a frame is in force from the next sample on.
+        Row {
+            script: b"create 0 tone 0 0 4 0\nchain 0 0\nfeed 0 3\ncontrol 0 set 16384\ncontrol 0 get\nfeed 0 1\n",
+            input: b"\xe8\x03\x00\x00\x00\x00\xe8\x03",
+            output: b"\x1e\x00",
+            replies: b"ok\nok\nok 0\nok\nok 3\nok 1\n",
+            refused: 0,
+        },
+        // A reset forgets past samples and outputs.
+        Row {
+            script: b"create 0 biquad 0 16384 0 0 -8192 0\nchain 0 0\nfeed 0 2\ncontrol 0 reset\nfeed 0 1\n",
+            input: b"\x64\x00\x00\x00\x00\x00",
+            output: b"\x64\x00\x32\x00\x00\x00",
+            replies: b"ok\nok\nok 2\nok\nok 1\n",
+            refused: 0,
         },
         Row {
             script: b"",
@@ -417,6 +433,59 @@ fn refuses_sizes(rt: HostRuntime) -> Result<(), Fail> {
         compare(&rt, setting, rows()[0].script, b"", &wanted)?;
     }
     Ok(())
+}
+
+// What came of asking for the memory of a run and giving it back.
+#[derive(Drop)]
+struct Asked {
+    answer: Result<(), Fault>,
+    // how often memory was asked for
+    requests: u64,
+    // how many blocks came back
+    returned: u64,
+}
+
+// The request of that number is refused.
+fn ask(alloc: Global, sizes: Sizes, refused: u64) -> Asked {
+    let metered = Metered::refusing(alloc, refused);
+    let answer = match run_memory::<Voice, _>(&metered, sizes) {
+        Ok(memory) => {
+            memory.close();
+            Ok(())
+        }
+        Err(fault) => Err(fault),
+    };
+    Asked {
+        answer,
+        requests: metered.requests(),
+        returned: metered.returned(),
+    }
+}
+
+#[test]
+fn each_request_is_refused_in_turn(rt: HostRuntime) {
+    let granted = ask(rt.alloc(), FULL, u64::MAX);
+    assert!(rt; granted.answer.is_ok());
+    assert!(rt; (granted.requests, granted.returned) == (6, 6));
+    for number in 0..6 {
+        let refused = ask(rt.alloc(), FULL, number);
+        assert!(rt; refused.answer == Err(Fault::Memory));
+        assert!(rt; (refused.requests, refused.returned) == (number + 1, number));
+    }
+}
+
+#[test]
+fn a_bad_size_asks_for_no_memory(rt: HostRuntime) {
+    for (daram, saram, external) in [(2, 4, 4), (4, 65_540, 4), (4, 4, 7)] {
+        let sizes = Sizes {
+            daram,
+            saram,
+            external,
+        };
+        let asked = ask(rt.alloc(), sizes, 0);
+        assert!(rt; asked.answer == Err(Fault::Size));
+        assert!(rt; (asked.requests, asked.returned) == (0, 0));
+    }
 }
 
 /// A run with refused lines before and behind its feed.

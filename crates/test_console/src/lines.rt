@@ -1,7 +1,6 @@
 //! Lines that come in whatever pieces, up to the limit, over two buffers and past one.
 use arrayvec::ArrayVec;
-use line_reader::{BUFFER_OCTETS, LineFault, LineReader, ReadLine};
-use octet_ports::{LINE_FEED, PortIn, TapeIn};
+use octet_ports::{BUFFER_OCTETS, LINE_FEED, LineFault, LineReader, PortIn, ReadLine, TapeIn};
 use std::process::Abort;
 
 const NEVER: u64 = u64::MAX;

@@ -1,9 +1,10 @@
 //! Blocks by their numbers.
 ghost use Rattle.std.specs.Prelude.{◌≡◌, ◌<◌, ◌≤◌, []};
-ghost use Rattle.space_heap.specs.declared.limits.TheConstants.{GREATEST_NEED};
-ghost use Rattle.space_heap.specs.Pictures.{IsAlignment};
+ghost use Rattle.relocate.specs.declared.limits.TheConstants.{GREATEST_NEED};
+ghost use Rattle.relocate.specs.Places.{IsAlignment};
 
-use space_blocks::{Owner, SpaceBlocks, blocks_are_apart, blocks_are_few, moves_pack};
+use host_map::Owner;
+use space_blocks::{SpaceBlocks, blocks_are_apart, blocks_are_few, moves_pack};
 use space_heap::HeapError;
 
 // Where a block of a space without blocks is placed, and how many words it has. It is taken out again.

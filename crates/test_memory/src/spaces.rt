@@ -1,6 +1,7 @@
 //! Creations, refusals and deletions by their numbers.
 
-use host_spaces::{Sizes, Spaces, StartError, creations};
+use host_map::Sizes;
+use host_spaces::{Spaces, StartError, creations};
 use mem_rec::{Attr, MemRec, MemTab, Space};
 use scratch_group::Group;
 use std::alloc::Global;

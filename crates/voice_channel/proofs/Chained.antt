@@ -10,17 +10,17 @@ use Rattle.ialg.specs.declared.refusal.Refusal.TheVariants.{Range, Missing, Busy
 use Rattle.ialg.specs.Refusals.{first_refusal}
 use Rattle.ialg.specs.Meaning.{Meaning}
 use Rattle.lifecycle.specs.States.{Relation}
-use Rattle.instance_table.specs.declared.member.Member.{Member}
-use Rattle.sound_machine.specs.State.{Living, State, is_instance_number}
-use Rattle.sound_machine.specs.Steps as steps
-use Rattle.sound_machine.specs.Calls.Call.{Delete}
-use Rattle.kept_machine.specs.Kept.{IsLiving}
+use Rattle.host_table.specs.declared.member.Member.{Member}
+use Rattle.host_spec.specs.State.{Living, State, is_instance_number}
+use Rattle.host_spec.specs.Steps as steps
+use Rattle.host_spec.specs.Calls.Call.{Delete}
+use Rattle.host_refines.specs.Kept.{IsLiving}
 use Rattle.alg_host.specs.Hosts.{HostState}
 use Rattle.alg_host.specs.Hosts as hosts
-use Rattle.channel_machine.specs.Channels.{Channels, is_in_channel, lives, all_live}
-use Rattle.channel_machine.specs.Steps.{Outcome, unless, with_members, on_host, delete}
-use Rattle.channel_machine.specs.Calls.{Call, Does}
-use Rattle.channel_machine.specs.Calls.Call.{Remove}
+use Rattle.channel_spec.specs.Channels.{Channels, is_in_channel, lives, all_live}
+use Rattle.channel_spec.specs.Steps.{Outcome, unless, with_members, on_host, delete}
+use Rattle.channel_spec.specs.Calls.{Call, Does}
+use Rattle.channel_spec.specs.Calls.Call.{Remove}
 use Rattle.voice_channel.specs.Channels.{ChannelsState, Serves}
 use Rattle.voice_channel.proofs.Served.{HoldsOn}
 

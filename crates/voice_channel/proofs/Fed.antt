@@ -4,20 +4,20 @@ use Rattle.std.specs.Prelude.{not}
 use Rattle.std.specs.List.{list_all}
 use Rattle.std.proofs.Math.Nat.{not-suc-le-zero}
 use Rattle.std.proofs.lemmas.Bool.{lt-ltb, false≢true, and_from}
-use Rattle.space_heap.proofs.RangeTests.{both_true, left_true, right_true}
+use Rattle.relocate.proofs.RangeTests.{both_true, left_true, right_true}
 use Rattle.ialg.specs.declared.refusal.Refusal.TheVariants.{Range, Missing}
 use Rattle.ialg.specs.Refusals.{first_refusal}
 use Rattle.ialg.specs.Meaning.{Meaning}
 use Rattle.lifecycle.specs.States.{Relation}
-use Rattle.sound_machine.specs.State.{State}
-use Rattle.sound_machine.specs.Calls.Call.{Process}
+use Rattle.host_spec.specs.State.{State}
+use Rattle.host_spec.specs.Calls.Call.{Process}
 use Rattle.alg_host.specs.Hosts.{HostState}
 use Rattle.alg_host.specs.Hosts as hosts
-use Rattle.channel_machine.specs.Channels.{Channels, members_at, is_chained, has_number, lives, all_live}
-use Rattle.channel_machine.specs.Steps.{channel_refusal, on_host}
-use Rattle.channel_machine.specs.Calls.{Passes, Feeds}
-use Rattle.channel_machine.specs.Calls.Call.{Feed}
-use Rattle.channel_machine.proofs.LivingLemmas.{passes_live}
+use Rattle.channel_spec.specs.Channels.{Channels, members_at, is_chained, has_number, lives, all_live}
+use Rattle.channel_spec.specs.Steps.{channel_refusal, on_host}
+use Rattle.channel_spec.specs.Calls.{Passes, Feeds}
+use Rattle.channel_spec.specs.Calls.Call.{Feed}
+use Rattle.channel_spec.proofs.LivingLemmas.{passes_live}
 use Rattle.voice_channel.specs.Channels.{ChannelsState, PassesThrough, Serves}
 use Rattle.voice_channel.proofs.Served.{HoldsOn}
 

@@ -2,13 +2,13 @@
 use Rattle.std.proofs.Common.{◌≡◌, ℕ, zero, suc, List, [], replicate, refl, subst}
 use Rattle.ialg.specs.Meaning.{Meaning}
 use Rattle.lifecycle.specs.States.{Relation}
-use Rattle.sound_machine.specs.Calls as host_calls
+use Rattle.host_spec.specs.Calls as host_calls
 use Rattle.alg_host.specs.Hosts.{HostState}
 use Rattle.alg_host.specs.Hosts as hosts
-use Rattle.channel_machine.specs.Channels.{Channels, members_at}
-use Rattle.channel_machine.specs.Calls.{Call, Does, IsPassedOn}
-use Rattle.channel_machine.specs.Calls.Call.{OfHost}
-use Rattle.channel_machine.specs.Laws.{AreHeld}
+use Rattle.channel_spec.specs.Channels.{Channels, members_at}
+use Rattle.channel_spec.specs.Calls.{Call, Does, IsPassedOn}
+use Rattle.channel_spec.specs.Calls.Call.{OfHost}
+use Rattle.channel_spec.specs.Laws.{AreHeld}
 use Rattle.voice_channel.specs.Channels.{ChannelsState, Serves}
 
 -- each call leaves channels whose members live

@@ -4,10 +4,10 @@ use Rattle.ialg.specs.Meaning.{Meaning}
 use Rattle.lifecycle.specs.States.{Relation}
 use Rattle.alg_host.specs.Hosts.{HostState}
 use Rattle.alg_host.specs.Hosts as hosts
-use Rattle.sound_machine.specs.State.{State}
-use Rattle.channel_machine.specs.Channels.{Channels, all_live}
-use Rattle.channel_machine.specs.Calls.{Call, Does, Passes}
-use Rattle.channel_machine.specs.Laws.{AreHeld}
+use Rattle.host_spec.specs.State.{State}
+use Rattle.channel_spec.specs.Channels.{Channels, all_live}
+use Rattle.channel_spec.specs.Calls.{Call, Does, Passes}
+use Rattle.channel_spec.specs.Laws.{AreHeld}
 
 -- a host, and the members of each channel; one that isn't chained has none
 pub record ChannelsState (M : Type 0) : Type 0 where

@@ -2,14 +2,14 @@
 ghost use Rattle.std.specs.Prelude.{◌≡◌, ◌<◌, ◌≤◌, OnErr, IfNone, length, set};
 ghost use Rattle.std.specs.List.{list_all, list_any};
 ghost use Rattle.alg_host.specs.Hosts.{lives};
-ghost use Rattle.channel_machine.specs.Channels.{Channels as State, is_in_channel, all_live};
-ghost use Rattle.channel_machine.specs.Steps.{chain_refusal};
-ghost use Rattle.channel_machine.specs.Calls.Call.{Chain, Unchain, Remove};
+ghost use Rattle.channel_spec.specs.Channels.{Channels as State, is_in_channel, all_live};
+ghost use Rattle.channel_spec.specs.Steps.{chain_refusal};
+ghost use Rattle.channel_spec.specs.Calls.Call.{Chain, Unchain, Remove};
 ghost use Rattle.voice_channel.specs.Channels.{Serves};
 
 use crate::lists::{are_numbers, is_in_one, kept, names_twice};
 use crate::{Channels, MEMBERS, Members};
-use channel_machine::members_live_in_one_channel;
+use channel_spec::members_live_in_one_channel;
 use ialg::{Ialg, Refusal};
 use mem_rec::INSTANCES;
 

@@ -1,6 +1,6 @@
 //! The channels: how they are made and unmade.
 ghost use Rattle.std.specs.Prelude.{◌≡◌, ◌≤◌, ℕ, false, [], map, replicate};
-ghost use Rattle.sound_machine.specs.State.{State};
+ghost use Rattle.host_spec.specs.State.{State};
 ghost use Rattle.alg_host.specs.Hosts.{lives};
 ghost use Rattle.alg_host.specs.Hosts as hosts;
 ghost use Rattle.voice_channel.specs.Channels.{Keeps};
@@ -9,7 +9,7 @@ use crate::feeding::Between;
 use crate::{CHANNELS, Members};
 use alg_host::Host;
 use arrayvec::ArrayVec;
-use channel_machine::members_live_in_one_channel;
+use channel_spec::members_live_in_one_channel;
 use ialg::{Ialg, Refusal};
 use std::marker::Model;
 

@@ -1,12 +1,12 @@
 //! How blocks of samples pass through channels.
 ghost use Rattle.std.specs.Prelude.{◌≡◌, ◌≤◌, ◌<◌, true, ◌∷◌, [], length, map};
-ghost use Rattle.channel_machine.specs.Channels.{members_at, is_chained};
-ghost use Rattle.channel_machine.specs.Calls.Call.{Feed};
+ghost use Rattle.channel_spec.specs.Channels.{members_at, is_chained};
+ghost use Rattle.channel_spec.specs.Calls.Call.{Feed};
 ghost use Rattle.voice_channel.specs.Channels.{PassesThrough, Serves};
 
 use crate::{Channels, Members};
 use alg_host::Host;
-use channel_machine::members_live_in_one_channel;
+use channel_spec::members_live_in_one_channel;
 use ialg::{BLOCK_SAMPLES, Block, Ialg};
 
 /// What members give one another stands in two blocks by turns. They are made once, since a new block is cleared.
@@ -57,7 +57,8 @@ fn empty(block: &mut Block)
 /// Gives a member the block, unless that is empty: what the member gives takes the place of what `given` held.
 fn run<M: Ialg>(host: &mut Host<M>, member: u8, block: &[i16], given: &mut Block)
     requires within { length block.now ≤ BLOCK_SAMPLES }
-    ensures { PassesThrough M.meaning M.idle_keeps M.active_keeps (member ∷ []) block.now given.new.items host.old host.new }
+    ensures bounded { length given.new.items ≤ length block.now }
+    ensures passes { PassesThrough M.meaning M.idle_keeps M.active_keeps (member ∷ []) block.now given.new.items host.old host.new }
 {
     empty(given);
     // Members live in every state that the channels keep, so the second is always so.
@@ -76,7 +77,8 @@ fn pass_on<M: Ialg>(
     to: &mut Block,
     out: &mut Block,
 )
-    ensures { PassesThrough M.meaning M.idle_keeps M.active_keeps (member ∷ further.now) from.old.items out.new.items host.old host.new }
+    ensures bounded { length out.new.items ≤ length from.old.items }
+    ensures passes { PassesThrough M.meaning M.idle_keeps M.active_keeps (member ∷ further.now) from.old.items out.new.items host.old host.new }
 {
     let Some((next, behind)) = further.split_first() else {
         run(host, member, from, out);
@@ -95,7 +97,8 @@ fn pass<M: Ialg>(
     out: &mut Block,
 )
     requires within { length block.now ≤ BLOCK_SAMPLES }
-    ensures { PassesThrough M.meaning M.idle_keeps M.active_keeps members.now block.now out.new.items host.old host.new }
+    ensures bounded { length out.new.items ≤ length block.now }
+    ensures passes { PassesThrough M.meaning M.idle_keeps M.active_keeps members.now block.now out.new.items host.old host.new }
 {
     let Some((member, further)) = members.split_first() else {
         empty(out);
@@ -125,6 +128,7 @@ impl<M: Ialg> Channels<M> {
         requires some { 1 ≤ length input.now }
         requires within { length input.now ≤ BLOCK_SAMPLES }
         ensures chained { self.new.chained ≡ self.old.chained }
+        ensures bounded { length out.new.items ≤ length input.now }
         ensures machine { Serves M.meaning M.idle_keeps M.active_keeps (Feed c input.now out.new.items) self.old self.new }
     {
         members_live_in_one_channel::<M>();

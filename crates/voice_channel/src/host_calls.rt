@@ -1,18 +1,18 @@
 //! The calls of the host, which change no channel.
 ghost use Rattle.std.specs.Prelude.{◌≡◌, OnErr};
 ghost use Rattle.ialg.specs.Views.{control_of};
-ghost use Rattle.sound_machine.specs.Calls.Call.{Create, Control, Release, Step, Compact, Stat as StatCall, Map as MapCall, Copied};
-ghost use Rattle.kept_machine.specs.Kept.{told};
+ghost use Rattle.host_spec.specs.Calls.Call.{Create, Control, Release, Step, Compact, Stat as StatCall, Map as MapCall, Copied};
+ghost use Rattle.host_refines.specs.Kept.{told};
 ghost use Rattle.alg_host.specs.Hosts.{stat_told};
-ghost use Rattle.channel_machine.specs.Calls.Call.{OfHost};
+ghost use Rattle.channel_spec.specs.Calls.Call.{OfHost};
 ghost use Rattle.voice_channel.specs.Channels.{Serves};
 
 use crate::Channels;
 use alg_host::Stat;
-use channel_machine::members_live_in_one_channel;
+use channel_spec::members_live_in_one_channel;
+use host_map::Map;
 use ialg::{Ctl, Ialg, Params, Refusal, Status};
 use mem_rec::Space;
-use space_blocks::Map;
 
 impl<M: Ialg> Channels<M> {
     /// Creates instance `i` of this kind in the group, as [`Host::create`](alg_host::Host::create) does.

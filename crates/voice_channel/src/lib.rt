@@ -13,7 +13,7 @@ mod lists;
 mod members;
 
 // what channels stand over
-pub use alg_host::{Host, Map, Sizes, StartError, Stat};
+pub use alg_host::{Host, HostMemory, Map, Sizes, StartError, Stat};
 use arrayvec::ArrayVec;
 pub use channels::Channels;
 

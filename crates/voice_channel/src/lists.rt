@@ -1,8 +1,8 @@
 //! Which instances lists name.
 ghost use Rattle.std.specs.Prelude.{◌≡◌, ◌≤◌, length};
 ghost use Rattle.std.specs.List.{list_all, list_any};
-ghost use Rattle.sound_machine.specs.State.{is_instance_number};
-ghost use Rattle.channel_machine.specs.Channels.{has_number, has_repeat as repeats};
+ghost use Rattle.host_spec.specs.State.{is_instance_number};
+ghost use Rattle.channel_spec.specs.Channels.{has_number, has_repeat as repeats};
 
 use crate::{MEMBERS, Members};
 use mem_rec::INSTANCES;

@@ -1,8 +1,8 @@
 //! Which instances are in which channel.
 ghost use Rattle.std.specs.Prelude.{◌≡◌, ◌<◌, true, Ok, None, IfNone, IsOk, length};
-ghost use Rattle.channel_machine.specs.Channels.{Channels as State, members_at, is_chained};
-ghost use Rattle.channel_machine.specs.Steps.{channel_refusal, unless};
-ghost use Rattle.channel_machine.specs.Calls.Call.{Ready};
+ghost use Rattle.channel_spec.specs.Channels.{Channels as State, members_at, is_chained};
+ghost use Rattle.channel_spec.specs.Steps.{channel_refusal, unless};
+ghost use Rattle.channel_spec.specs.Calls.Call.{Ready};
 ghost use Rattle.voice_channel.specs.Channels.{Serves};
 
 use crate::Channels;

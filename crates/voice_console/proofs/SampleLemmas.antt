@@ -3,7 +3,7 @@ use Rattle.std.proofs.Common.{◌≡◌, ◌<◌, ◌≤◌, ℕ, ℤ, suc, ◌+
 use Rattle.std.proofs.lemmas.List.{map-append, take_all, take_more, take_more_set}
 use Rattle.std.specs.Int.{w16, cast_signed}
 use Rattle.byteorder.specs.Endian.{little_number, IsReadBy}
-use Rattle.console_machine.specs.Samples.{samples_of}
+use Rattle.console_spec.specs.Samples.{samples_of}
 
 little_sample : (low high : ℕ) (rest : List ℕ) → little_number 2 (low ∷ high ∷ rest) ≡ low + 256 * high
 little_sample low high rest = omega arith

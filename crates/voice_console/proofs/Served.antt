@@ -5,17 +5,17 @@ use Rattle.std.proofs.lemmas.List.{length-map}
 use Rattle.ialg.specs.declared.refusal.Refusal.{Refusal}
 use Rattle.ialg.specs.Meaning.{Meaning}
 use Rattle.lifecycle.specs.States.{Relation}
-use Rattle.channel_machine.specs.Channels.{Channels}
-use Rattle.channel_machine.specs.Calls.{Call}
-use Rattle.channel_machine.specs.Calls.Call.{Feed}
+use Rattle.channel_spec.specs.Channels.{Channels}
+use Rattle.channel_spec.specs.Calls.{Call}
+use Rattle.channel_spec.specs.Calls.Call.{Feed}
 use Rattle.voice_channel.specs.Channels as channels
 use Rattle.voice_channel.specs.Channels.{ChannelsState}
-use Rattle.line_machine.specs.Served.{Asked}
-use Rattle.line_machine.specs.declared.width.Width.{Width}
-use Rattle.line_machine.specs.declared.width.Width.TheVariants.{Word, Octet}
-use Rattle.line_machine.specs.Widths.{Widths, octet_count}
-use Rattle.console_machine.specs.Samples.{octets_at, octets_of, samples_at}
-use Rattle.console_machine.specs.Console.{Calls, CommandAsks, FeedGives, LineAsks}
+use Rattle.line_spec.specs.Served.{Asked}
+use Rattle.line_spec.specs.declared.width.Width.{Width}
+use Rattle.line_spec.specs.declared.width.Width.TheVariants.{Word, Octet}
+use Rattle.line_spec.specs.Widths.{Widths, octet_count}
+use Rattle.console_spec.specs.Samples.{octets_at, octets_of, samples_at}
+use Rattle.console_spec.specs.Console.{Calls, CommandAsks, FeedGives, LineAsks}
 use Rattle.voice_script.specs.Script.{Command}
 use Rattle.voice_script.specs.Replies.{Count, reply_text}
 

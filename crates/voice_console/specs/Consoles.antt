@@ -2,10 +2,10 @@
 use Rattle.std.specs.Prelude.{ℕ, ◌≡◌, true, length}
 use Rattle.ialg.specs.Meaning.{Meaning}
 use Rattle.lifecycle.specs.States.{Relation}
-use Rattle.channel_machine.specs.Channels.{Channels, members_at, is_chained}
+use Rattle.channel_spec.specs.Channels.{Channels, members_at, is_chained}
 use Rattle.voice_channel.specs.Channels as channels
-use Rattle.line_machine.specs.Served.{Asked}
-use Rattle.line_machine.specs.Widths.{Widths, widths_in}
+use Rattle.line_spec.specs.Served.{Asked}
+use Rattle.line_spec.specs.Widths.{Widths, widths_in}
 use Rattle.voice_console.specs.declared.console.Console.{Console}
 
 -- as many channels as it was made with

@@ -2,18 +2,18 @@
 ghost use Rattle.std.specs.Prelude.{◌≡◌};
 ghost use Rattle.voice_script.specs.ReplyViews.{reply_of};
 ghost use Rattle.voice_script.specs.Script as script;
-ghost use Rattle.sound_machine.specs.Calls.Call.{Control};
-ghost use Rattle.channel_machine.specs.Calls.Call.{OfHost};
-ghost use Rattle.line_machine.specs.Asks.{asked_of, AskIsReady};
-ghost use Rattle.line_machine.specs.Served.{tells};
+ghost use Rattle.host_spec.specs.Calls.Call.{Control};
+ghost use Rattle.channel_spec.specs.Calls.Call.{OfHost};
+ghost use Rattle.line_spec.specs.Asks.{asked_of, AskIsReady};
+ghost use Rattle.line_spec.specs.Served.{tells};
 ghost use Rattle.ialg.specs.Views.{control_of};
-ghost use Rattle.console_machine.specs.Console.{Calls, CommandAsks, status_reply, told_by};
+ghost use Rattle.console_spec.specs.Console.{Calls, CommandAsks, status_reply, told_by};
 ghost use Rattle.voice_console.specs.Consoles.{channels_of, port_widths_of, TakesFeeds, Serves};
 
 use crate::Console;
 use crate::replies::{tell_done, tell_flag, tell_stat, tell_status};
 use ialg::{Ctl, Ialg, Params, Words};
-use line_machine::Ask;
+use line_spec::Ask;
 use mem_rec::Space;
 use voice_channel::Map;
 use voice_script::{FeedSamples, Members, Reply};

@@ -1,12 +1,12 @@
 //! The console: how it is made.
 ghost use Rattle.std.specs.Prelude.{◌≡◌, ◌≤◌, ℕ, false, [], replicate, length};
-ghost use Rattle.sound_machine.specs.State.{State};
+ghost use Rattle.host_spec.specs.State.{State};
 ghost use Rattle.voice_channel.specs.Hosts.{lives};
 ghost use Rattle.voice_channel.specs.Hosts as hosts;
 ghost use Rattle.voice_console.specs.Consoles.{Keeps, channels_of};
 
 use ialg::{BLOCK_SAMPLES, Block, Ialg};
-use line_machine::PortWidths;
+use line_spec::PortWidths;
 use voice_channel::{CHANNELS, Channels, Host};
 
 /// A console over channels. It can't be copied, and must be given back by [`close`](Console::close).

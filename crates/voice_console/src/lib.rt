@@ -10,6 +10,6 @@ mod replies;
 mod samples;
 
 pub use console::Console;
-pub use line_machine::PortWidths;
+pub use line_spec::PortWidths;
 // what a console stands over
-pub use voice_channel::{CHANNELS, Host, Sizes, StartError};
+pub use voice_channel::{CHANNELS, Host, HostMemory, Sizes, StartError};

@@ -1,15 +1,15 @@
 //! What the console does with lines.
 ghost use Rattle.std.specs.Prelude.{◌≡◌, true, length};
-ghost use Rattle.channel_machine.specs.Channels.{members_at, is_chained};
-ghost use Rattle.channel_machine.specs.Calls.Call.{Feed};
+ghost use Rattle.channel_spec.specs.Channels.{members_at, is_chained};
+ghost use Rattle.channel_spec.specs.Calls.Call.{Feed};
 ghost use Rattle.voice_channel.specs.Channels.{Serves};
-ghost use Rattle.line_machine.specs.Widths.{octet_count};
-ghost use Rattle.console_machine.specs.Samples.{samples_at};
+ghost use Rattle.line_spec.specs.Widths.{octet_count};
+ghost use Rattle.console_spec.specs.Samples.{samples_at};
 
 use crate::Console;
 use crate::samples::{read_samples, write_samples};
 use ialg::{BLOCK_SAMPLES, Block, Ialg, Named, Params, Words};
-use line_machine::{Ask, BLOCK_OCTETS, LineMachine, Width};
+use line_spec::{Ask, BLOCK_OCTETS, LineMachine, Width};
 use voice_channel::{Channels, Map};
 use voice_script::{Command, FeedSamples, Reply, parse};
 
@@ -35,8 +35,8 @@ fn pass<M: Ialg>(
 }
 
 impl<M: Ialg + Named> LineMachine for Console<M> {
-    ghost use Rattle.channel_machine.specs.Channels.{Channels};
-    ghost use Rattle.console_machine.specs.Console.{console_machine};
+    ghost use Rattle.channel_spec.specs.Channels.{Channels};
+    ghost use Rattle.console_spec.specs.Console.{console_machine};
     ghost use Rattle.voice_console.specs.Consoles.{Keeps, channels_of, port_widths_of, TakesFeeds};
 
     ghost State = { Channels M };

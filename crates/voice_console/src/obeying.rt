@@ -1,13 +1,13 @@
 //! Which call a command is.
 ghost use Rattle.std.specs.Prelude.{◌≡◌};
 ghost use Rattle.voice_script.specs.Commands.{command_of};
-ghost use Rattle.line_machine.specs.Asks.{asked_of, AskIsReady};
-ghost use Rattle.console_machine.specs.Console.{CommandAsks};
+ghost use Rattle.line_spec.specs.Asks.{asked_of, AskIsReady};
+ghost use Rattle.console_spec.specs.Console.{CommandAsks};
 ghost use Rattle.voice_console.specs.Consoles.{channels_of, port_widths_of, TakesFeeds, Serves};
 
 use crate::Console;
 use ialg::{Ctl, Ialg, Words, copied};
-use line_machine::Ask;
+use line_spec::Ask;
 use voice_channel::Map;
 use voice_script::Command;
 

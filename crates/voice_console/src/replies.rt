@@ -2,9 +2,9 @@
 ghost use Rattle.std.specs.Prelude.{◌≡◌};
 ghost use Rattle.voice_script.specs.Replies as replies;
 ghost use Rattle.voice_script.specs.ReplyViews.{reply_of};
-ghost use Rattle.kept_machine.specs.Kept.{told};
+ghost use Rattle.host_refines.specs.Kept.{told};
 ghost use Rattle.voice_channel.specs.Hosts.{stat_told};
-ghost use Rattle.console_machine.specs.Console.{status_reply, told_by};
+ghost use Rattle.console_spec.specs.Console.{status_reply, told_by};
 
 use ialg::{Refusal, Status, Words};
 use voice_channel::Stat;

@@ -1,12 +1,12 @@
 //! Samples as octets.
 ghost use Rattle.std.specs.Prelude.{◌≡◌, ◌*◌, length};
-ghost use Rattle.line_machine.specs.declared.limits.TheConstants.{WORD_OCTETS};
-ghost use Rattle.line_machine.specs.declared.width.Width.TheVariants.{Octet};
-ghost use Rattle.line_machine.specs.Widths.{octet_count};
-ghost use Rattle.console_machine.specs.Samples.{samples_of, octets_of, samples_at, octets_at};
+ghost use Rattle.line_spec.specs.declared.limits.TheConstants.{WORD_OCTETS};
+ghost use Rattle.line_spec.specs.declared.width.Width.TheVariants.{Octet};
+ghost use Rattle.line_spec.specs.Widths.{octet_count};
+ghost use Rattle.console_spec.specs.Samples.{samples_of, octets_of, samples_at, octets_at};
 
 use byteorder::{ByteOrder, LittleEndian};
-use line_machine::{WORD_OCTETS, Width};
+use line_spec::{WORD_OCTETS, Width};
 
 /// Reads the samples of the octets, which a port of this width carries.
 pub(crate) fn read_samples(width: Width, octets: &[u8], samples: &mut [i16])

@@ -1,6 +1,6 @@
 //! The limits of lines and replies.
+use host_map::MAP_BLOCKS;
 use ialg::{BLOCK_SAMPLES, PARAMETER_WORDS};
-use space_blocks::MAP_BLOCKS;
 
 /// The most octets of a line, without the line feed.
 pub const LINE_OCTETS: usize = 1_024;

@@ -9,9 +9,8 @@ use crate::limits::{
     BYTE_DIGITS, ENTRY_OCTETS, NUMBER_DIGITS, OWNER_OCTETS, REPLY_OCTETS, WORD_OCTETS,
 };
 use arrayvec::ArrayVec;
+use host_map::{Map, Owner, Placed, Stat};
 use ialg::{Refusal, Words};
-use scratch_group::Stat;
-use space_blocks::{Map, Owner, Placed};
 
 /// The line of a reply.
 pub type ReplyText = ArrayVec<u8, REPLY_OCTETS>;

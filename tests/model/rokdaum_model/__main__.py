@@ -1,7 +1,7 @@
 # SPDX-License-Identifier: Apache-2.0
 """The model as a program with the command line of `dsp_console`:
 
-    python3 -m rokdaum_model [--mixed] [--form history|running] [the words of dsp_console]
+    python3 -m rokdaum_model [--kinds hosted|mixed|gateway] [--form history|running] [the words of dsp_console]
 """
 
 from __future__ import annotations
@@ -14,17 +14,15 @@ from typing import Sequence
 from .command_line import PortsError, UsageError, arguments, config_of
 from .console import FAULT_STATUS, STATUS_LINE, Fault, run
 from .ports import FileIn, FileOut
+from .sets import HOSTED
 
 
-def _own_options(words: list[str]) -> tuple[bool, str]:
+def _own_options(words: list[str]) -> tuple[str, str]:
     """Takes the model's own options off the front of the words."""
-    mixed, form = False, "history"
-    while words and words[0] in ("--mixed", "--form"):
-        if words.pop(0) == "--mixed":
-            mixed = True
-        else:
-            form = words.pop(0)
-    return mixed, form
+    own = {"--kinds": HOSTED, "--form": "history"}
+    while words and words[0] in own:
+        own[words.pop(0)] = words.pop(0)
+    return own["--kinds"], own["--form"]
 
 
 def _failed(cause: str, status: int) -> int:
@@ -35,7 +33,7 @@ def _failed(cause: str, status: int) -> int:
 def main(given: Sequence[str]) -> int:
     """Serves a script over files; the exit status."""
     words = list(given)
-    mixed, form = _own_options(words)
+    kinds, form = _own_options(words)
     try:
         asked = arguments(words)
     except UsageError as error:
@@ -55,7 +53,7 @@ def main(given: Sequence[str]) -> int:
     except OSError:
         return _failed("read", 3)
     try:
-        refused = run(replace(config_of(asked), mixed=mixed, form=form), script, ins, outs, FileOut(1))
+        refused = run(replace(config_of(asked), kinds=kinds, form=form), script, ins, outs, FileOut(1))
     except Fault as fault:
         return _failed(fault.cause, FAULT_STATUS[fault.cause])
     return 1 if refused else 0

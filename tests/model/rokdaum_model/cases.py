@@ -2,8 +2,8 @@
 """A case: one run of the program with what is expected of it, in memory or as a folder.
 
 A folder holds `arguments` (the words of the command line, one a line), `script`, `in0`, `in1` .., and what is expected:
-`replies`, `out0`, `out1` .., `status`, `stderr`. `about.json` says the rest: a note, whether the kinds that break the laws
-are needed, whether the OUTs hold something before the run (`stale`), whether SCRIPT comes by a pipe (`piped`), and what isn't
+`replies`, `out0`, `out1` .., `status`, `stderr`. `about.json` says the rest: a note, the set of kinds that is
+hosted, whether the OUTs hold something before the run (`stale`), whether SCRIPT comes by a pipe (`piped`), and what isn't
 determined: numbers of replies in which `*` stands for any word, and ranges of bytes of outputs.
 """
 
@@ -16,8 +16,16 @@ from typing import Optional
 
 from .command_line import option_words, port_words
 from .console import FAULT_STATUS, STATUS_LINE, Config, Served, Undetermined, serve_with_undetermined
+from .sets import HOSTED
 
-ABOUT = ("note", "mixed", "stale", "piped", "any_replies", "any_outputs")
+ABOUT = ("note", "kinds", "stale", "piped", "any_replies", "any_outputs")
+WRONG_COMMAND_LINE = 2   # the status of a run that doesn't begin, as where a size is wrong
+STALE = b"left by an earlier run, "
+
+
+def limited(data: bytes, length: int) -> bytes:
+    """So many bytes of a text over and over."""
+    return (data * (length // len(data) + 1))[:length]
 
 
 @dataclass
@@ -32,11 +40,20 @@ class Case:
     status: int
     stderr: bytes = b""
     note: str = ""
-    mixed: bool = False
+    kinds: str = HOSTED
     stale: bool = False
     piped: bool = False
     any_replies: list[int] = field(default_factory=list)
     any_outputs: dict[str, list[tuple[int, Optional[int]]]] = field(default_factory=dict)
+
+    @property
+    def begins(self) -> bool:
+        """Whether the run gets to the script: one that doesn't leaves all files as they were."""
+        return self.status != WRONG_COMMAND_LINE
+
+    def held_before(self, c: int) -> Optional[bytes]:
+        """What an OUT holds before the run, None where it isn't there."""
+        return limited(STALE, len(self.outputs[c]) + 100) if self.stale else None
 
 
 def case_of(config: Config, script: bytes, inputs: list[bytes], served: Served, undetermined: Undetermined,
@@ -47,7 +64,7 @@ def case_of(config: Config, script: bytes, inputs: list[bytes], served: Served, 
         cause = next(cause for cause, status in FAULT_STATUS.items() if status == served.status)
         stderr = STATUS_LINE[cause].encode() + b"\n"
     return Case(option_words(config) + port_words(len(inputs)), script, inputs, served.replies, served.outputs, served.status,
-                stderr, note, config.mixed, any_replies=undetermined.replies,
+                stderr, note, config.kinds, any_replies=undetermined.replies,
                 any_outputs={str(c): ranges for c, ranges in undetermined.outputs.items()})
 
 

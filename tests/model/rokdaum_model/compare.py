@@ -59,6 +59,8 @@ def replies_differ(case: Case, got: bytes) -> Optional[str]:
 
 def output_differs(case: Case, c: int, got: Optional[bytes]) -> Optional[str]:
     """How an output differs, None where it doesn't. Bytes that aren't determined aren't compared."""
+    if not case.begins:
+        return None if got == case.held_before(c) else f"output {c} was touched by a run that didn't begin"
     wanted = case.outputs[c]
     if got is None:
         return f"output {c} wasn't made"

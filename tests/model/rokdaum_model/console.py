@@ -12,6 +12,7 @@ from .memory import SPACE_WORDS_MAX, TALLY_MAX, valid_space
 from .ports import PortFault, TapeIn, TapeOut
 from .refusals import Refusal, Refused
 from .script import LINE_MAX, Command, Grammar
+from .sets import HOSTED, MIXED
 from .voices import UNKNOWN
 
 SCRIPT_BYTES_MAX = 1_000_000_000
@@ -21,7 +22,7 @@ SCRIPT_BUFFER = 4096
 @dataclass(frozen=True)
 class Config:
     """What a run is asked for besides its ports. `form` chooses between histories and delay lines, which give the same;
-    `mixed` lets a script name the kinds that break the laws."""
+    `kinds` is the set of kinds that a script may name."""
 
     daram: int = SPACE_WORDS_MAX
     saram: int = SPACE_WORDS_MAX
@@ -29,9 +30,14 @@ class Config:
     poison: Optional[int] = None      # a word, -32768 to 32767
     in8: int = 0
     out8: int = 0
-    mixed: bool = False
+    kinds: str = HOSTED
     form: str = "history"
     script_bytes_max: int = SCRIPT_BYTES_MAX
+
+    @property
+    def mixed(self) -> bool:
+        """Whether there are kinds that break the laws."""
+        return self.kinds == MIXED
 
     @property
     def sizes(self) -> tuple[int, int, int]:
@@ -63,7 +69,7 @@ class Console:
         if not all(valid_space(words) for words in config.sizes):
             raise Fault("size")
         self.config = config
-        self.grammar = Grammar(config.mixed)
+        self.grammar = Grammar(config.kinds)
         self.host = Host(config.sizes, config.poison, "history" if config.mixed else config.form)
         self.channels = Channels(self.host, ports)
 

@@ -99,7 +99,7 @@ def mutate_config(rng: random.Random, config: Config) -> Config:
         return config
     return Config(rng.choice((65536, 65536, 4 * rng.randrange(1200))), rng.choice((65536, 4 * rng.randrange(80))),
                   rng.choice((65536, 4 * rng.randrange(200))), rng.choice((None,) + POISON_WORDS), rng.randrange(4),
-                  rng.randrange(4), config.mixed, config.form)
+                  rng.randrange(4), config.kinds, config.form)
 
 
 def features(script: Script, served: Served) -> frozenset[tuple[bytes, bytes, Optional[bytes]]]:

@@ -36,6 +36,10 @@ class Failed(NamedTuple):
         ends = self.ends[descriptor] if descriptor == self.descriptor else None
         return TapeIn(data[:self.taken[descriptor]], ends=ends)
 
+    def was_read(self, descriptor: int) -> bool:
+        """Whether the program saw a byte of a file, or its end."""
+        return self.taken[descriptor] + self.ends[descriptor] > 0
+
 
 def read_report(path: Path) -> Failed:
     """What the library says at the end of a run."""

@@ -13,13 +13,11 @@ from typing import IO, Optional, Sequence
 
 from .cases import Case
 from .compare import Result
+from .sets import HOSTED, PROGRAMS
 
 TOP = Path(__file__).resolve().parents[3]
 """The top of the repository."""
 
-PROGRAM = TOP / "crates/dsp_console_main/out/dsp_console_main"
-MIXED_PROGRAM = TOP / "crates/mixed_console/out/mixed_console"
-STALE = b"left by an earlier run, "
 TIMEOUT = 60.0
 
 
@@ -27,25 +25,25 @@ class NoProgram(Exception):
     """The program isn't there."""
 
 
-def find_program(given: Optional[str], mixed: bool = False) -> Path:
+def program_of(kinds: str) -> Path:
+    """Where the program that hosts a set is built."""
+    return TOP / "crates" / PROGRAMS[kinds] / "out" / PROGRAMS[kinds]
+
+
+def find_program(given: Optional[str], kinds: str = HOSTED) -> Path:
     """The program that is to be run. Raises `NoProgram` with a sentence."""
-    path = Path(given).absolute() if given else MIXED_PROGRAM if mixed else PROGRAM
+    path = Path(given).absolute() if given else program_of(kinds)
     if os.access(path, os.X_OK) and path.is_file():
         return path
     if given:
         raise NoProgram(f"{given} isn't a program that can be run")
-    built_by = "`rt run` in crates/mixed_console" if mixed else "./dsp_console, run once,"
+    built_by = "./dsp_console, run once," if kinds == HOSTED else f"`rt run` in crates/{PROGRAMS[kinds]}"
     raise NoProgram(f"{path} isn't there: {built_by} builds it, and --program names another one")
 
 
 def memory_folder() -> Optional[str]:
     """A folder in memory where there is one, so that the runs wait for no disk."""
     return "/dev/shm" if os.access("/dev/shm", os.W_OK) else None
-
-
-def limited(data: bytes, length: int) -> bytes:
-    """So many bytes of a text over and over."""
-    return (data * (length // len(data) + 1))[:length]
 
 
 @dataclass
@@ -69,10 +67,11 @@ class Slot:
         for c, data in enumerate(case.inputs):
             (self.folder / f"in{c}").write_bytes(data)
             out = self.folder / f"out{c}"
-            if case.stale:
-                out.write_bytes(limited(STALE, len(case.outputs[c]) + 100))
-            else:
+            held = case.held_before(c)
+            if held is None:
                 out.unlink(missing_ok=True)
+            else:
+                out.write_bytes(held)
 
     def start(self, case: Case, environment: Optional[dict[str, str]] = None) -> Started:
         """Starts the run of a case."""

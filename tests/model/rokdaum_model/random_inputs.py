@@ -67,9 +67,9 @@ def random_size(rng: random.Random, space: str) -> int:
     return min(4 * words, SPACE_WORDS_MAX) if space == "daram" and rng.random() < 0.8 else words
 
 
-def random_config(rng: random.Random, mixed: bool) -> Config:
+def random_config(rng: random.Random, kinds: str) -> Config:
     """Sizes, a poison word and octet ports; once in a hundred a size that is refused."""
-    config = Config(mixed=mixed, form="running")
+    config = Config(kinds=kinds, form="running")
     if rng.random() < 0.6:
         config = replace(config, **{space: random_size(rng, space) for space in ("daram", "saram", "external")})
     if rng.random() < 0.4:

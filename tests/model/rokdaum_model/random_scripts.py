@@ -12,11 +12,13 @@ from dataclasses import dataclass
 from typing import Callable, Optional
 
 from .console import Config, Served, Session, Undetermined
+from .gateway import GATEWAY
 from .kinds import FEED_MAX
 from .memory import valid_space
 from .ports import TapeIn, TapeOut
 from .random_inputs import random_config, random_input
 from .script import VERBS
+from .sets import HOSTED
 
 ODD_WORDS = (b"+1", b"1_0", b"0x10", b"1.0", b"--1", b"-", b"1-", b"9" * 40, b"-32769", b"32768", b"256", b"-1", b"\xc2\xb2",
              b"\xd9\xa3", b"1\0", b"\0", b"1\x0b2", b"\x0c", b"1\r", b"\xff", b"1e3", b"set", b"fir", b"daram", b"-0",
@@ -136,7 +138,21 @@ class Writer:
             return [self.coefficient(), frame, self.mostly(rng.choice((0, 0, 1, 3, 8, 15)), rng.choice((16, -1)), 0.04)]
         if kind == "g711":
             return [self.mostly(rng.randint(0, 1), rng.choice((2, -1)), 0.04), rng.randint(0, 1)]
+        if kind in GATEWAY:
+            return self.gateway_parameters(kind)
         return []   # the kinds that break the laws take none
+
+    def gateway_parameters(self, kind: str) -> list[int]:
+        """Parameters of a gain, a meter or a detector of digits."""
+        rng = self.rng
+        if kind == "gain":
+            return [self.mostly(self.coefficient(), rng.choice((4096, 1)), 0.2)]
+        most, shifts = (1024, (0, 0, 1, 3, 8, 15)) if kind == "level" else (127, (0, 3, 7, 7, 8, 14))
+        frame = self.mostly(rng.choice((1, 2, 3, 5, 8, 20, 60, 102, most)), rng.choice((0, most + 1, -4)), 0.04)
+        head = [frame, self.mostly(rng.choice(shifts), rng.choice((shifts[-1] + 1, -1)), 0.04)]
+        if kind == "level":
+            return head
+        return head + rng.choice(([91, 2920, 7336, 5827, 22938], [0, 0, 0, 32767, 0], self.coefficients(5)))
 
     # Numbers of things
 
@@ -234,7 +250,7 @@ class Writer:
         instance = self.host.instances.get(i)
         n = rng.choice((0, 1, 5, 72))
         if instance is not None and rng.random() > 0.1:
-            n = {"fir": len(instance.parameters), "biquad": 5, "tone": 1}.get(instance.kind.name, n)
+            n = {"fir": len(instance.parameters), "biquad": 5, "tone": 1, "gain": 1}.get(instance.kind.name, n)
             c = self.channels.channel_of(i)
             if c is not None and self.left(c) and rng.random() < 0.6:
                 self.queue.append(self.join("feed", c, rng.randint(1, min(self.left(c), 40))))
@@ -348,9 +364,9 @@ def refused_case(config: Config, inputs: list[bytes]) -> RandomCase:
     return RandomCase(config, Script([b"create 0 fir 0 1"], ["ok"]), inputs, served, Undetermined())
 
 
-def random_case(rng: random.Random, mixed: bool = False) -> RandomCase:
+def random_case(rng: random.Random, kinds: str = HOSTED) -> RandomCase:
     """A random run over 1 to 16 pairs of ports."""
-    config = random_config(rng, mixed)
+    config = random_config(rng, kinds)
     inputs = [random_input(rng) for _ in range(rng.choice((1, 1, 1, 2, 2, 2, 3, 4, 16)))]
     if not all(valid_space(words) for words in config.sizes):
         return refused_case(config, inputs)

@@ -5,7 +5,7 @@ from __future__ import annotations
 
 from typing import TYPE_CHECKING, Optional
 
-from .kinds import LAWFUL, Kind
+from .kinds import Kind
 from .memory import OBJECT, Attr, Record, Space
 from .voices import UNKNOWN, Block, Voice
 
@@ -61,8 +61,3 @@ class RogueVoice(Voice):
 
 
 ROGUES = {name: Rogue(name) for name in ("scribble", "clinger", "forger", "babbler")}
-
-
-def kinds_by_name(mixed: bool) -> dict[str, Kind]:
-    """The kinds that a script may name."""
-    return {**LAWFUL, **ROGUES} if mixed else dict(LAWFUL)

@@ -18,6 +18,7 @@ from typing import Optional
 from .cases import Case, expected_case
 from .console import Config, Console, Served, serve
 from .refusals import Refused
+from .sets import HOSTED, MIXED
 
 ROWS = Path(__file__).parent / "rows.json"
 POISON = 21845
@@ -50,7 +51,7 @@ def inputs_of(row: dict) -> list[bytes]:
 
 def config_of(row: dict, form: str = "history") -> Config:
     """The configuration."""
-    return Config(mixed=row.get("mixed", False), form=form, **row.get("options", {}))
+    return Config(kinds=row.get("kinds", HOSTED), form=form, **row.get("options", {}))
 
 
 def wrong(row: dict, served: Served) -> list[str]:
@@ -109,11 +110,10 @@ def row_case(row: dict, poison: Optional[int] = None) -> Case:
     return expected_case(config, script_of(row), inputs_of(row), note)
 
 
-def row_cases(mixed: bool) -> list[Case]:
-    """The rows as cases: those of lawful kinds again with a poison word, which must not show; or those with the kinds that break
-    the laws."""
-    rows = [row for row in read_rows() if row.get("mixed", False) == mixed]
+def row_cases(kinds: str) -> list[Case]:
+    """The rows of a set of kinds as cases: those of lawful kinds again with a poison word, which must not show."""
+    rows = [row for row in read_rows() if row.get("kinds", HOSTED) == kinds]
     found = [row_case(row) for row in rows]
-    if not mixed:
+    if kinds != MIXED:
         found += [row_case(row, POISON) for row in rows if "poison" not in row.get("options", {})]
     return found

@@ -11,7 +11,7 @@ from .machine import MEMBERS_MAX
 from .memory import Space
 from .operators import WORD16_MAX, WORD16_MIN
 from .refusals import Refusal, Refused
-from .rogues import kinds_by_name
+from .sets import HOSTED, kinds_by_name
 from .voices import Control
 
 LINE_MAX, PARAMETERS_MAX = 1024, 72
@@ -61,8 +61,8 @@ def _check_parameters(words: Sequence[int]) -> None:
 class Grammar:
     """The lines of a script, with the kinds that it may name."""
 
-    def __init__(self, mixed: bool = False):
-        self.kinds = {name.encode(): kind for name, kind in kinds_by_name(mixed).items()}
+    def __init__(self, kinds: str = HOSTED):
+        self.kinds = {name.encode(): kind for name, kind in kinds_by_name(kinds).items()}
 
     def parse(self, line: bytes) -> Optional[Command]:
         """The command of a line, None for a blank one."""

@@ -12,6 +12,7 @@ from rokdaum_model.invariants import check_case
 from rokdaum_model.mutations import Corpus
 from rokdaum_model.random_scripts import random_case
 from rokdaum_model.rows import config_of, inputs_of, read_rows, script_of
+from rokdaum_model.sets import GATEWAY_SET, MIXED
 
 
 class RandomScripts(unittest.TestCase):
@@ -22,9 +23,14 @@ class RandomScripts(unittest.TestCase):
             case = random_case(random.Random(f"invariants/{number}"))
             self.assertEqual(check_case(random.Random(number), case), [], number)
 
+    def test_what_must_not_matter_to_a_gateway(self) -> None:
+        for number in range(40):
+            case = random_case(random.Random(f"gateway/{number}"), GATEWAY_SET)
+            self.assertEqual(check_case(random.Random(number), case), [], number)
+
     def test_line_by_line_is_the_whole(self) -> None:
         for number in range(60):
-            case = random_case(random.Random(f"mixed/{number}"), mixed=True)
+            case = random_case(random.Random(f"mixed/{number}"), MIXED)
             if case.served.status < 2:
                 whole = serve_with_undetermined(case.config, case.script.data(), case.inputs)
                 self.assertEqual(whole, (case.served, case.undetermined))
@@ -51,7 +57,7 @@ class Mutations(unittest.TestCase):
 
     def test_they_are_served_and_some_are_kept(self) -> None:
         corpus = Corpus([(replace(config_of(row), form="running"), script_of(row), inputs_of(row))
-                         for row in read_rows() if not row.get("mixed")])
+                         for row in read_rows() if "kinds" not in row])
         before, rng = len(corpus.runs), random.Random(2)
         for _ in range(300):
             config, script, inputs, served = corpus.next(rng)

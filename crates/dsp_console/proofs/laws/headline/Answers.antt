@@ -1,8 +1,8 @@
 use Rattle.std.proofs.Common.{List, ℕ, subst}
 use Rattle.script_server.specs.Runs.{octets_to_come}
 use Rattle.voice_script.specs.Script.{lines_of}
-use Rattle.line_machine.specs.Served.{LinesAnswer}
-use Rattle.console_machine.specs.Console.{console_machine, start}
+use Rattle.line_spec.specs.Served.{LinesAnswer}
+use Rattle.console_spec.specs.Console.{console_machine, start}
 use Rattle.dsp_console.proofs.laws.headline.Goals as goal
 
 pub returns-clause-ok : goal.returns-clause-ok

@@ -3,7 +3,7 @@ use Rattle.dsp_console.proofs.serving.serve_console.Goals as goal
 
 pub serve-requires : goal.serve-requires
 serve-requires g c κs within = (
-  (λ a. (both (both (within.0 a) nothing) (both (both (both (within.0 a) nothing) (both (both (both (within.0 a) nothing) (both (both (both (both (both (both (both (within.0 a) nothing) (both (both (both (within.0 a) nothing) (both (both (both (both (within.0 a) nothing) (both (both (both (within.0 a) nothing) (both (within.0 a) nothing)) nothing)) nothing) (both (both (both (both (within.0 a) nothing) (both (both (both (within.0 a) nothing) (both (within.0 a) nothing)) nothing)) nothing) nothing))) nothing)) nothing) (both (both (both (both (within.0 a) nothing) (both (both (both (within.0 a) nothing) (both (both (both (both (within.0 a) nothing) (both (both (both (within.0 a) nothing) (both (within.0 a) nothing)) nothing)) nothing) (both (both (both (both (within.0 a) nothing) (both (both (both (within.0 a) nothing) (both (within.0 a) nothing)) nothing)) nothing) nothing))) nothing)) nothing) nothing)) nothing) nothing) nothing)) nothing)) nothing))),
+  (λ a. (both (both (within.0 a) nothing) (both (both (both (within.0 a) nothing) (both (both (both (within.0 a) nothing) (both (both (both (within.0 a) nothing) (both (both (both (both (both (both (both (within.0 a) nothing) (both (both (both (within.0 a) nothing) (both (both (both (both (within.0 a) nothing) (both (both (both (within.0 a) nothing) (both (within.0 a) nothing)) nothing)) nothing) (both (both (both (both (within.0 a) nothing) (both (both (both (within.0 a) nothing) (both (within.0 a) nothing)) nothing)) nothing) nothing))) nothing)) nothing) (both (both (both (both (within.0 a) nothing) (both (both (both (within.0 a) nothing) (both (both (both (both (within.0 a) nothing) (both (both (both (within.0 a) nothing) (both (within.0 a) nothing)) nothing)) nothing) (both (both (both (both (within.0 a) nothing) (both (both (both (within.0 a) nothing) (both (within.0 a) nothing)) nothing)) nothing) nothing))) nothing)) nothing) nothing)) nothing) nothing) nothing)) nothing)) nothing)) nothing))),
   (
     within.1.0,
     (

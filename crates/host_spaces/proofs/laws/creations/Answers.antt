@@ -1,6 +1,6 @@
 use Rattle.std.proofs.Common.{Ok, ap, ◌∙◌}
-use Rattle.host_spaces.specs.Picture.{Picture, renamed}
-use Rattle.host_spaces.specs.Creation.{result_map, taken_over, without_replaced}
+use Rattle.host_map.specs.Picture.{Picture, renamed}
+use Rattle.host_map.specs.Creation.{result_map, taken_over, without_replaced}
 use Rattle.host_spaces.proofs.Leaving.{replaced_are}
 use Rattle.host_spaces.proofs.laws.creations.Goals as goal
 

@@ -1,10 +1,10 @@
 -- The rest is placed after the first, and where it isn't the first is taken out again.
 use Rattle.std.proofs.Common.{◌≤◌, ◌+◌, ℤ, suc, length, drop, Option, Some, None, sym, ◌∙◌, ap, subst, add-one, arith}
 use Rattle.mem_rec.specs.declared.Space.{Space}
-use Rattle.space_blocks.specs.declared.TheConstants.{SPACE_BLOCKS}
+use Rattle.host_map.specs.declared.TheConstants.{SPACE_BLOCKS}
 use Rattle.host_spaces.specs.declared.granted.Granted.{Granted}
 use Rattle.host_spaces.specs.Picture.{picture_of, sizes_of, space_in}
-use Rattle.host_spaces.specs.Creation.{all_placed}
+use Rattle.host_map.specs.Creation.{all_placed}
 use Rattle.host_spaces.specs.Wants.{IsGranted, count_in, somes}
 use Rattle.host_spaces.proofs.OnePlaced.{IsOne, after_some, at_none, exact_one, granted_next, granted_skip, if_ok, its_owner, room_next, taken_back}
 use Rattle.host_spaces.proofs.placing.+place_from.Goals as goal

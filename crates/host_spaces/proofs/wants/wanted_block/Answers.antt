@@ -1,7 +1,8 @@
 use Rattle.std.proofs.Common.{sym, ◌∙◌}
-use Rattle.space_blocks.specs.declared.placed.Owner.TheVariants.{Scratch}
+use Rattle.host_map.specs.declared.placed.Owner.TheVariants.{Scratch}
 use Rattle.scratch_group.specs.Blocks.{block_in}
-use Rattle.host_spaces.specs.Picture.{blocks_in, picture_of, space_in}
+use Rattle.host_map.specs.Picture.{blocks_in}
+use Rattle.host_spaces.specs.Picture.{picture_of, space_in}
 use Rattle.host_spaces.proofs.Limits.{block_limits, old_limits}
 use Rattle.host_spaces.proofs.wants.wanted_block.Goals as goal
 

@@ -1,5 +1,5 @@
 use Rattle.std.proofs.Common.{◌≡◌, ◌+◌, ◌≤◌, false, length, map, All}
-use Rattle.line_reader.specs.Lines.{behind}
+use Rattle.octet_ports.specs.Lines.{behind}
 use Rattle.script_server.specs.Runs.{AreReady, AllWait, IsHonest, run_of}
 use Rattle.script_server.proofs.SoFar.{ServedSoFar, Consumes}
 use Rattle.script_server.specs.declared.limits.TheConstants.{SCRIPT_OCTETS}

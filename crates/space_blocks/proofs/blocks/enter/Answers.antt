@@ -1,7 +1,7 @@
 -- The block stands behind those that begin before it.
 use Rattle.std.proofs.Common.{◌≤◌, List, get_or, inl, inr, subst, ◌∙◌, arith}
-use Rattle.space_blocks.specs.declared.placed.Owner.TheVariants.{Record}
-use Rattle.space_blocks.specs.declared.placed.Placed.{Placed}
+use Rattle.host_map.specs.declared.placed.Owner.TheVariants.{Record}
+use Rattle.host_map.specs.declared.placed.Placed.{Placed}
 use Rattle.space_blocks.proofs.Orders.{inserted}
 use Rattle.space_blocks.proofs.blocks.enter.Goals as goal
 use Rattle.space_blocks.proofs.blocks.enter.Goals.{then-loop-index-test+else-as_slice-index, else-loop-index-test}

@@ -1,6 +1,6 @@
 -- The blocks below the index begin before the new one.
 use Rattle.std.proofs.Common.{ℕ, ◌<◌, ◌≤◌, ◌-◌, length, get_or}
-use Rattle.space_blocks.specs.declared.placed.Placed.{Placed}
+use Rattle.host_map.specs.declared.placed.Placed.{Placed}
 use Rattle.space_blocks.proofs.blocks.enter.Given as goal
 
 abbrev pub decreases-loop-index : goal.decreases-loop-index

@@ -1,5 +1,5 @@
 use Rattle.std.proofs.Common.{arith, ap, ◌∙◌}
-use Rattle.space_blocks.specs.declared.placed.Placed.{Placed}
+use Rattle.host_map.specs.declared.placed.Placed.{Placed}
 use Rattle.space_blocks.proofs.blocks.position.Goals as goal
 
 -- one of them does

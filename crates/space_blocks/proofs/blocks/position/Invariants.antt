@@ -1,6 +1,6 @@
 -- None of the blocks so far begins at the place.
 use Rattle.std.proofs.Common.{ℕ, ◌<◌, ◌≢◌, get_or}
-use Rattle.space_blocks.specs.declared.placed.Placed.{Placed}
+use Rattle.host_map.specs.declared.placed.Placed.{Placed}
 use Rattle.space_blocks.proofs.blocks.position.Given as goal
 
 abbrev pub invariant-loop-index : goal.invariant-loop-index

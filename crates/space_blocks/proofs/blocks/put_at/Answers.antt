@@ -1,5 +1,5 @@
-use Rattle.space_blocks.specs.declared.placed.Owner.TheVariants.{Record}
-use Rattle.space_blocks.specs.declared.placed.Placed.{Placed}
+use Rattle.host_map.specs.declared.placed.Owner.TheVariants.{Record}
+use Rattle.host_map.specs.declared.placed.Placed.{Placed}
 use Rattle.space_blocks.proofs.Moving.{put_done}
 use Rattle.space_blocks.proofs.blocks.put_at.Goals as goal
 

@@ -2,10 +2,10 @@
 use Rattle.std.proofs.Common.{◌<◌, ◌≤◌, ◌++◌, List, map, length, get_or, set, take, ap, ◌∙◌, append-nil, arith}
 use Rattle.std.proofs.lemmas.List.{drop_all, get_or_default, take_all}
 use Rattle.std.proofs.lemmas.List.Edits.{map_over_more}
-use Rattle.space_blocks.specs.declared.placed.Owner.{Owner}
-use Rattle.space_blocks.specs.declared.placed.Owner.TheVariants.{Record}
-use Rattle.space_blocks.specs.declared.placed.Placed.{Placed}
-use Rattle.space_blocks.specs.Blocks.{renamed_block, renamed_blocks, renaming}
+use Rattle.host_map.specs.declared.placed.Owner.{Owner}
+use Rattle.host_map.specs.declared.placed.Owner.TheVariants.{Record}
+use Rattle.host_map.specs.declared.placed.Placed.{Placed}
+use Rattle.host_map.specs.Blocks.{renamed_block, renamed_blocks, renaming}
 use Rattle.space_blocks.proofs.blocks.rename_each.Goals as goal
 
 -- what a read past the end would give

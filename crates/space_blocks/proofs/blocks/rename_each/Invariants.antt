@@ -1,6 +1,6 @@
 -- The blocks before the index have their names.
 use Rattle.std.proofs.Common.{◌≡◌, ◌++◌, map, take, drop}
-use Rattle.space_blocks.specs.Blocks.{renamed_block, renaming}
+use Rattle.host_map.specs.Blocks.{renamed_block, renaming}
 use Rattle.space_blocks.proofs.blocks.rename_each.Given as goal
 
 abbrev pub invariant-loop-block : goal.invariant-loop-block

@@ -1,9 +1,10 @@
 -- The holes before the one that is found have no place, and it has the least.
 use Rattle.std.proofs.Common.{◌≡◌, ◌+◌, ◌<◌, ◌++◌, [], ◌∷◌, length, Option, None, Some, sym, subst, ap, ◌∙◌, arith, refl}
 use Rattle.space_heap.specs.declared.hole.Hole.{Hole}
-use Rattle.space_heap.specs.Places.{end_of, is_covered}
+use Rattle.relocate.specs.Places.{end_of, is_covered}
 use Rattle.space_heap.specs.Holes.{IsFit, first_place, hole_end, in_rest}
-use Rattle.space_heap.proofs.Finds.{IsNext, Misses, one_more_misses, none_fits, first_fits, no_place, least_place, next_small, unit_multiple}
+use Rattle.relocate.proofs.Multiples.{IsNext}
+use Rattle.space_heap.proofs.Finds.{Misses, one_more_misses, none_fits, first_fits, no_place, least_place, next_small, unit_multiple}
 use Rattle.space_heap.proofs.Links.{IsAt, at_start, next_hole, none_ahead, that, that_read, can_read, advance, its_chains, left_from, nearer}
 use Rattle.space_heap.proofs.find.find.Goals as goal
 

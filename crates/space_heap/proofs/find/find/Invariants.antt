@@ -1,6 +1,6 @@
 -- No hole before the next one has a place.
 use Rattle.std.proofs.Common.{List, length}
-use Rattle.space_heap.specs.Places.{Range}
+use Rattle.relocate.specs.Places.{Range}
 use Rattle.space_heap.proofs.Finds.{AllMiss}
 use Rattle.space_heap.proofs.Links.{IsAt, left_from}
 use Rattle.space_heap.proofs.find.find.Given as goal

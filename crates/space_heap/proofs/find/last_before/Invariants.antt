@@ -1,6 +1,6 @@
 -- The holes before the next one begin before the place, and the last of them is known.
 use Rattle.std.proofs.Common.{◌≡◌, ◌<◌, List, length, MatchOption}
-use Rattle.space_heap.specs.Places.{Range}
+use Rattle.relocate.specs.Places.{Range}
 use Rattle.space_heap.specs.Holes.{IsFound}
 use Rattle.space_heap.proofs.Links.{IsAt, left_from}
 use Rattle.space_heap.proofs.find.last_before.Given as goal

@@ -2,8 +2,8 @@
 use Rattle.std.proofs.Common.{◌≡◌, ℕ, ◌%◌, sym, subst, ap, ◌∙◌, arith, length, inr}
 use Rattle.space_raw.specs.Span.{Span}
 use Rattle.space_raw.proofs.Slots.{run_long}
-use Rattle.space_heap.specs.Places.{Range}
-use Rattle.space_heap.specs.Pictures.{IsSpaceSize, range_of}
+use Rattle.relocate.specs.Places.{Range, IsSpaceSize}
+use Rattle.space_heap.specs.Pictures.{range_of}
 use Rattle.space_heap.specs.Holes.{AreParts, in_rest}
 use Rattle.space_heap.proofs.Mends.{inside, most, can_carve, units, next_link, cut_long, still_free, two_long, behind_link, two_free, start_link, before_there, new_long, block_parts, carved_holes}
 use Rattle.space_heap.proofs.holes.carve.Goals as goal

@@ -7,7 +7,8 @@ use Rattle.space_heap.specs.declared.find.Found.{Found}
 use Rattle.space_heap.specs.declared.find.Fit.{Fit}
 use Rattle.space_heap.specs.Holes.{IsFit, IsFound, IsFreeFrom, IsFromOn, hole_end, in_rest}
 use Rattle.space_heap.proofs.Ends.{found_chains, free_before, taken_before, taken_before_all}
-use Rattle.space_heap.proofs.Finds.{not_lower, unit_multiple}
+use Rattle.relocate.proofs.Multiples.{not_lower}
+use Rattle.space_heap.proofs.Finds.{unit_multiple}
 use Rattle.space_heap.proofs.Words.{away_within}
 use Rattle.space_heap.proofs.holes.gap_before.Goals.{else-end-place-via-then-end-place+else-place, else-end-place-via-else-end-place}
 use Rattle.space_heap.proofs.holes.gap_before.Goals as goal

@@ -2,7 +2,7 @@
 use Rattle.std.proofs.Common.{◌≡◌, ℕ, ◌<◌, ◌++◌, List, Option, None, Some, sym, subst, ◌∙◌, arith}
 use Rattle.std.specs.Prelude.{ℤ}
 use Rattle.space_heap.specs.declared.hole.Hole.{Hole}
-use Rattle.space_heap.specs.Places.{Range}
+use Rattle.relocate.specs.Places.{Range}
 use Rattle.space_heap.specs.Holes.{AreHoles, IsBack, IsHole, IsWritten, LeadsTo, first_place, hole_end}
 use Rattle.space_heap.proofs.Ends.{IsHead, head_of, back_touching, back_apart, is_next, is_not_next}
 use Rattle.space_heap.proofs.Links.{hole_of, read_hole}

@@ -3,7 +3,7 @@ use Rattle.std.proofs.Common.{◌≡◌, ℕ, ◌+◌, List, length, Option, sub
 use Rattle.std.specs.Prelude.{ℤ}
 use Rattle.space_heap.specs.declared.holes.Front.{Front}
 use Rattle.space_heap.specs.declared.holes.Back.{Back}
-use Rattle.space_heap.specs.Places.{Range, end_of}
+use Rattle.relocate.specs.Places.{Range, end_of}
 use Rattle.space_heap.specs.Pictures.{IsBlock, range_of}
 use Rattle.space_heap.specs.Holes.{IsBack, IsFromOn, IsFront, IsTaken, LeadsTo}
 use Rattle.space_heap.proofs.Returns.{leads, from_end, next_link, order_joined, joined_there, start_link, before_there, new_long, block_parts, given_holes}

@@ -5,7 +5,7 @@ use Rattle.std.proofs.lemmas.Int.{to_z-of_z}
 use Rattle.std.specs.Prelude.{ℤ, pos, IfSome}
 use Rattle.space_raw.specs.Slots.{IsRun, with_run}
 use Rattle.space_heap.specs.Holes.{free_word, IsRelinked, IsSameBut}
-use Rattle.space_heap.proofs.RangeTests.{either}
+use Rattle.relocate.proofs.RangeTests.{either}
 use Rattle.space_heap.proofs.Words.{tag_first, tag_second, tag_rewrites, run_words}
 use Rattle.space_heap.proofs.holes.relink.Goals as goal
 

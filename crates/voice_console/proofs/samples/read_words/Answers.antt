@@ -1,5 +1,5 @@
 use Rattle.std.proofs.Common.{◌∙◌, ◌*◌, ap, sym}
-use Rattle.line_machine.specs.declared.limits.TheConstants.{WORD_OCTETS}
+use Rattle.line_spec.specs.declared.limits.TheConstants.{WORD_OCTETS}
 use Rattle.voice_console.proofs.SampleLemmas.{read-samples}
 use Rattle.voice_console.proofs.samples.read_words.Goals as goal
 

@@ -1,5 +1,5 @@
 use Rattle.std.proofs.Common.{sym, subst}
-use Rattle.sound_machine.specs.Steps.{compact}
+use Rattle.host_spec.specs.Steps.{compact}
 use Rattle.alg_host.specs.Hosts.{Keeps}
 use Rattle.alg_host.proofs.host.Host.compact.Goals as goal
 

@@ -1,15 +1,15 @@
 use Rattle.std.proofs.Common.{◌∙◌, sym, subst}
 use Rattle.ialg.specs.Views.{control_of}
-use Rattle.kept_machine.specs.Kept.{told}
+use Rattle.host_refines.specs.Kept.{told}
 use Rattle.alg_host.specs.Hosts.{Keeps}
 use Rattle.alg_host.proofs.Served.{controls_stay, still_kept}
 use Rattle.alg_host.proofs.host.Host.control.Goals as goal
 
 pub invariant_of-self : goal.invariant_of-self
 invariant_of-self g c = record {
-  ok = c.give_control.ensures.ok;
-  standing = c.places_stay.ensures _ _ _ _ _ _ _ c.give_control.ensures.same c.self.invariant.standing;
-  poisoned = c.give_control.ensures.poisoned;
+  ok = c.give_control.ensures.stays.ok;
+  standing = c.places_stay.ensures _ _ _ _ _ _ _ c.give_control.ensures.stays.same c.self.invariant.standing;
+  poisoned = c.give_control.ensures.stays.poisoned;
 }
 
 pub returns-clause-machine : goal.returns-clause-machine
@@ -20,8 +20,8 @@ returns-clause-machine g c = λ before keeps.
       did.0,
       did.1,
       record {
-        kept = still_kept g.M.Ialg.meaning g.M.Ialg.idle_keeps g.M.Ialg.active_keeps c.self.inside.slots.items c.give_control.new.slots.items
-            c.self.inside.once.items c.give_control.new.once.items c.self.inside.groups.items c.give_control.new.groups.items c.self.inside.spaces
+        kept = still_kept g.M.Ialg.meaning g.M.Ialg.idle_keeps g.M.Ialg.active_keeps c.self.inside.tables.slots c.give_control.new.tables.slots
+            c.self.inside.tables.once c.give_control.new.tables.once c.self.inside.tables.groups c.give_control.new.tables.groups c.self.inside.spaces
             before did.0 kept.kept same did.2;
         poison = same.poison ∙ kept.poison;
       },

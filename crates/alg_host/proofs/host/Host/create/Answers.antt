@@ -4,7 +4,7 @@ use Rattle.alg_host.proofs.Served.{creates_poison, on_refusal}
 use Rattle.alg_host.proofs.host.Host.create.Goals as goal
 
 pub returns-clause-refused : goal.returns-clause-refused
-returns-clause-refused g c = on_refusal c.create.result _ _ (λ e. rw (e.0, e.1, e.2, e.3) c.self.view_is) c.create.ensures.refused
+returns-clause-refused g c = on_refusal c.create.result _ _ (λ e. rw (e.0, e.1) c.self.view_is) c.create.ensures.refused
 
 pub returns-clause-machine : goal.returns-clause-machine
 returns-clause-machine g c = λ before keeps.

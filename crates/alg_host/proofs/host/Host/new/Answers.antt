@@ -1,33 +1,4 @@
-use Rattle.std.proofs.Common.{[], ap, is_some, refl, None, subst, sym, ◌∙◌}
-use Rattle.kept_machine.specs.Kept.{IsLiving}
 use Rattle.alg_host.proofs.host.Host.new.Goals as goal
 
-pub invariant_of-result : goal.invariant_of-result
-invariant_of-result g c =
-    let tables = c.in_ok-spaces.field-0.tables in
-    record {
-      ok = c.in_order.ensures.ok;
-      standing = c.nobody_stands.ensures.start _ _ _ _ tables.empty tables.bare tables.no_blocks c.of-spaces.ensures.picture;
-      poisoned = c.in_order.ensures.poisoned c.args.poison;
-    }
-
-pub returns-clause-empty : goal.returns-clause-empty
-returns-clause-empty g c = λ i. ap is_some (c.in_ok-spaces.field-0.tables.empty i)
-
--- the first state: nothing lives, and all is free
-pub returns-clause-host : goal.returns-clause-host
-returns-clause-host g c =
-    let tables = c.in_ok-spaces.field-0.tables in
-    record {
-      kept = record {
-        tables = record {
-          living = λ i. subst (λ slot. IsLiving slot None) (sym (tables.empty i)) tt;
-          activity = tables.no_activity;
-          histories = c.in_order.ensures.keeps c.args.poison (λ i. []);
-        };
-        picture = c.of-spaces.ensures.picture;
-        sizes = c.of-spaces.ensures.sizes ∙ c.in_ok-spaces.ensures.sizes;
-        copied = c.of-spaces.ensures.copied;
-      };
-      poison = refl;
-    }
+pub returns-clause-bad_size : goal.returns-clause-bad_size
+returns-clause-bad_size g c = λ bad. let never = c.in_ok-memory.ensures.bad_size bad in cc

@@ -5,9 +5,9 @@ use Rattle.alg_host.proofs.host.Host.release.Goals as goal
 
 pub invariant_of-self : goal.invariant_of-self
 invariant_of-self g c = record {
-  ok = c.put_to_rest.ensures.ok;
-  standing = c.places_stay.ensures _ _ _ _ _ _ _ c.put_to_rest.ensures.same c.self.invariant.standing;
-  poisoned = c.put_to_rest.ensures.poisoned;
+  ok = c.put_to_rest.ensures.stays.ok;
+  standing = c.places_stay.ensures _ _ _ _ _ _ _ c.put_to_rest.ensures.stays.same c.self.invariant.standing;
+  poisoned = c.put_to_rest.ensures.stays.poisoned;
 }
 
 pub returns-clause-machine : goal.returns-clause-machine
@@ -18,8 +18,8 @@ returns-clause-machine g c = λ before keeps.
       did.0,
       did.1,
       record {
-        kept = still_kept g.M.Ialg.meaning g.M.Ialg.idle_keeps g.M.Ialg.active_keeps c.self.inside.slots.items c.put_to_rest.new.slots.items
-            c.self.inside.once.items c.put_to_rest.new.once.items c.self.inside.groups.items c.put_to_rest.new.groups.items c.self.inside.spaces
+        kept = still_kept g.M.Ialg.meaning g.M.Ialg.idle_keeps g.M.Ialg.active_keeps c.self.inside.tables.slots c.put_to_rest.new.tables.slots
+            c.self.inside.tables.once c.put_to_rest.new.tables.once c.self.inside.tables.groups c.put_to_rest.new.tables.groups c.self.inside.spaces
             before did.0 kept.kept same did.2;
         poison = same.poison ∙ kept.poison;
       },

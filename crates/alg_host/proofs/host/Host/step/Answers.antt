@@ -1,5 +1,5 @@
 use Rattle.std.proofs.Common.{◌∙◌, sym, subst}
-use Rattle.sound_machine.specs.Steps.{step}
+use Rattle.host_spec.specs.Steps.{step}
 use Rattle.alg_host.specs.Hosts.{Keeps}
 use Rattle.alg_host.proofs.Served.{step_poison}
 use Rattle.alg_host.proofs.host.Host.step.Goals as goal

@@ -1,7 +1,8 @@
 -- One record after the other.
 use Rattle.std.proofs.Common.{◌≡◌, refl, arith}
-use Rattle.host_spaces.specs.Picture.{picture_of, renamed}
-use Rattle.host_spaces.specs.Creation.{handed_on, twin_at}
+use Rattle.host_spaces.specs.Picture.{picture_of}
+use Rattle.host_map.specs.Picture.{renamed}
+use Rattle.host_map.specs.Creation.{handed_on, twin_at}
 use Rattle.host_spaces.proofs.Pictures.{same_then}
 use Rattle.host_spaces.proofs.Renaming.{gone_blocks, handed_all, handed_first, handed_more, heir_blocks, kept_blocks_of, same_itself}
 use Rattle.host_spaces.proofs.spaces.Spaces.hand_on.Goals as goal

@@ -1,9 +1,10 @@
 -- The record's owner has its name.
 use Rattle.std.proofs.Common.{Some, sym, ◌∙◌, ap}
-use Rattle.space_blocks.specs.declared.placed.Owner.TheVariants.{Record}
-use Rattle.space_blocks.specs.Blocks.{renaming}
-use Rattle.host_spaces.specs.Picture.{picture_of, renamed}
-use Rattle.host_spaces.specs.Creation.{handed_on, only}
+use Rattle.host_map.specs.declared.placed.Owner.TheVariants.{Record}
+use Rattle.host_map.specs.Blocks.{renaming}
+use Rattle.host_spaces.specs.Picture.{picture_of}
+use Rattle.host_map.specs.Picture.{renamed}
+use Rattle.host_map.specs.Creation.{handed_on, only}
 use Rattle.host_spaces.proofs.Renaming.{alike, kept_names, handed_one, handed_stays}
 use Rattle.host_spaces.proofs.spaces.Spaces.hand_record.Goals as goal
 

@@ -1,12 +1,13 @@
 -- All that is needed was placed, as the definition says.
 use Rattle.std.proofs.Common.{◌≡◌, ℕ, List, [], length, drop, Option, sym, ◌∙◌, ap, subst, arith}
 use Rattle.mem_rec.specs.declared.Space.{Space}
-use Rattle.space_blocks.specs.declared.placed.Owner.TheVariants.{Record, Scratch}
-use Rattle.space_blocks.specs.Blocks.{owned}
+use Rattle.host_map.specs.declared.placed.Owner.TheVariants.{Record, Scratch}
+use Rattle.host_map.specs.Blocks.{owned}
 use Rattle.host_spaces.specs.declared.pieces.Placement.{Placement}
-use Rattle.host_spaces.specs.declared.wants.Wanted.{Wanted}
-use Rattle.host_spaces.specs.Picture.{blocks_in, picture_of, sizes_of, space_in}
-use Rattle.host_spaces.specs.Creation.{all_placed, twin_at}
+use Rattle.host_map.specs.declared.parts.Wanted.{Wanted}
+use Rattle.host_map.specs.Picture.{blocks_in}
+use Rattle.host_spaces.specs.Picture.{picture_of, sizes_of, space_in}
+use Rattle.host_map.specs.Creation.{all_placed, twin_at}
 use Rattle.host_spaces.specs.Pieces.{ArePlacedPieces, HasRecords, IsNeeded, IsPoisoned, new_block, placement_of, with_new}
 use Rattle.host_spaces.specs.Wants.{AreApartWants, IsGranted, block_need, count_in, somes, wants_of}
 use Rattle.host_spaces.proofs.Granting.{blocks_made, needed_made, others_made, pieces_made, poison_made, records_made}

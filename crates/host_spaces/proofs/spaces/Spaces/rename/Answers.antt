@@ -1,6 +1,7 @@
 -- Each space has its blocks under their names.
-use Rattle.host_spaces.specs.Picture.{picture_of, renamed}
-use Rattle.space_blocks.specs.Blocks.{renaming}
+use Rattle.host_spaces.specs.Picture.{picture_of}
+use Rattle.host_map.specs.Picture.{renamed}
+use Rattle.host_map.specs.Blocks.{renaming}
 use Rattle.host_spaces.proofs.Pictures.{pictures_equal}
 use Rattle.host_spaces.proofs.Renaming.{same_each}
 use Rattle.host_spaces.proofs.spaces.Spaces.rename.Goals as goal

@@ -1,12 +1,12 @@
 -- Each record's block goes back.
 use Rattle.std.proofs.Common.{◌≡◌, ◌∙◌, IfSome, refl, sym, ap, subst}
 use Rattle.mem_rec.specs.declared.Space.{Space}
-use Rattle.space_heap.specs.Places.{placed_size}
+use Rattle.relocate.specs.Places.{placed_size}
 use Rattle.ialg.specs.Records.{record_at}
 use Rattle.record_loans.specs.Pieces.{piece_at}
 use Rattle.space_raw.specs.Span.{Extent}
-use Rattle.space_blocks.specs.declared.placed.Owner.TheVariants.{Record}
-use Rattle.space_blocks.specs.Blocks.{disowned}
+use Rattle.host_map.specs.declared.placed.Owner.TheVariants.{Record}
+use Rattle.host_map.specs.Blocks.{disowned}
 use Rattle.host_spaces.specs.Picture.{space_in}
 use Rattle.host_spaces.proofs.Leaving.{its_block, its_home, not_both, one_gone, others_left, owner_there, picture_left, placed_in, record_apart, still_there}
 use Rattle.host_spaces.proofs.spaces.Spaces.take_out_records.Goals as goal

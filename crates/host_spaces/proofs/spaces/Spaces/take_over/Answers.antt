@@ -1,7 +1,8 @@
 -- One record after the other.
 use Rattle.std.proofs.Common.{◌≡◌, refl, arith}
-use Rattle.host_spaces.specs.Picture.{picture_of, renamed}
-use Rattle.host_spaces.specs.Creation.{taken_over, twin_at}
+use Rattle.host_spaces.specs.Picture.{picture_of}
+use Rattle.host_map.specs.Picture.{renamed}
+use Rattle.host_map.specs.Creation.{taken_over, twin_at}
 use Rattle.host_spaces.proofs.Pictures.{same_then}
 use Rattle.host_spaces.proofs.Renaming.{left_blocks, other_blocks, same_itself, taken_all, taken_blocks, taken_first, taken_more}
 use Rattle.host_spaces.proofs.spaces.Spaces.take_over.Goals as goal

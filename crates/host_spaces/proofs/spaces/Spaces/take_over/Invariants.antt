@@ -1,7 +1,8 @@
 -- The records below the number have their owners.
 use Rattle.std.proofs.Common.{◌≡◌}
-use Rattle.host_spaces.specs.Picture.{AreSameSpaces, picture_of, renamed}
-use Rattle.host_spaces.specs.Creation.{taken_over, twin_at}
+use Rattle.host_spaces.specs.Picture.{AreSameSpaces, picture_of}
+use Rattle.host_map.specs.Picture.{renamed}
+use Rattle.host_map.specs.Creation.{taken_over, twin_at}
 use Rattle.host_spaces.proofs.Renaming.{upto}
 use Rattle.host_spaces.proofs.spaces.Spaces.take_over.Given as goal
 

@@ -1,9 +1,10 @@
 -- The record's owner has its name.
 use Rattle.std.proofs.Common.{Some, inl, inr, sym, ◌∙◌, ap}
-use Rattle.space_blocks.specs.declared.placed.Owner.TheVariants.{Record}
-use Rattle.space_blocks.specs.Blocks.{renaming}
-use Rattle.host_spaces.specs.Picture.{picture_of, renamed}
-use Rattle.host_spaces.specs.Creation.{taken_over, only}
+use Rattle.host_map.specs.declared.placed.Owner.TheVariants.{Record}
+use Rattle.host_map.specs.Blocks.{renaming}
+use Rattle.host_spaces.specs.Picture.{picture_of}
+use Rattle.host_map.specs.Picture.{renamed}
+use Rattle.host_map.specs.Creation.{taken_over, only}
 use Rattle.host_spaces.proofs.Renaming.{alike, kept_names, taken_one, taken_stays}
 use Rattle.host_spaces.proofs.spaces.Spaces.take_record.Goals as goal
 

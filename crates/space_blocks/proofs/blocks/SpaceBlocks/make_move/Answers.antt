@@ -2,9 +2,10 @@
 use Rattle.std.proofs.Common.{◌≡◌, ◌<◌, ◌+◌, ◌-◌, ◌^◌, List, length, get_or, min, sym, ◌∙◌, ap, subst}
 use Rattle.std.specs.Option.{option_map}
 use Rattle.relocate.specs.declared.packing.Move.{Move}
-use Rattle.space_blocks.specs.declared.placed.Placed.{Placed}
-use Rattle.space_blocks.specs.Blocks.{Owns, block_range, owned}
-use Rattle.space_blocks.specs.Moves.{moved, moved_to, next_block, next_in}
+use Rattle.host_map.specs.declared.placed.Placed.{Placed}
+use Rattle.space_blocks.specs.Blocks.{Owns}
+use Rattle.host_map.specs.Blocks.{block_range, owned}
+use Rattle.host_map.specs.Moves.{moved, moved_to, next_block, next_in}
 use Rattle.space_blocks.specs.Spaces.{AreKept, SpaceState}
 use Rattle.space_blocks.proofs.MadeMoves.{aligned, counted, is_moved, its_owner, its_place, kept_after, next_there, other_owners, piece_block}
 use Rattle.space_blocks.proofs.Moving.{IsNext, is_next}

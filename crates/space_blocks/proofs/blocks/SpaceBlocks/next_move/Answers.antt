@@ -1,9 +1,9 @@
 -- The block of the move's index.
 use Rattle.std.proofs.Common.{◌≡◌, List, Some, get_or, sym, ◌∙◌, ap}
 use Rattle.relocate.specs.Packing.{next_move_of}
-use Rattle.space_blocks.specs.declared.placed.Owner.TheVariants.{Record}
-use Rattle.space_blocks.specs.declared.placed.Placed.{Placed}
-use Rattle.space_blocks.specs.Moves.{next_block, next_in, spots_of}
+use Rattle.host_map.specs.declared.placed.Owner.TheVariants.{Record}
+use Rattle.host_map.specs.declared.placed.Placed.{Placed}
+use Rattle.host_map.specs.Moves.{next_block, next_in, spots_of}
 use Rattle.space_blocks.specs.Spaces.{SpaceState}
 use Rattle.space_blocks.proofs.Moving.{next_found}
 use Rattle.space_blocks.proofs.blocks.SpaceBlocks.next_move.Goals as goal

@@ -1,9 +1,10 @@
 -- The new block is put in its place.
 use Rattle.std.proofs.Common.{◌≡◌, List, sym, ◌∙◌, ap, subst}
-use Rattle.space_blocks.specs.declared.placed.Placed.{Placed}
-use Rattle.space_blocks.specs.Blocks.{block_of, owned, ranges, with_block, without_at}
+use Rattle.host_map.specs.declared.placed.Placed.{Placed}
+use Rattle.space_blocks.specs.Blocks.{block_of}
+use Rattle.host_map.specs.Blocks.{owned, ranges, with_block, without_at}
 use Rattle.space_blocks.specs.Spaces.{AreKept, SpaceState}
-use Rattle.space_heap.specs.Places.{placed_size}
+use Rattle.relocate.specs.Places.{placed_size}
 use Rattle.space_blocks.proofs.Inserts.{least_place_multiple}
 use Rattle.space_blocks.proofs.Keeping.{entered, kept_sorted, kept_with, taken_back}
 use Rattle.space_blocks.proofs.Owners.{others_with, owned_with}

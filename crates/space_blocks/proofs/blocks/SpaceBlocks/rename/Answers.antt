@@ -2,9 +2,9 @@
 use Rattle.std.proofs.Common.{◌≡◌, List, length, sym, ◌∙◌, ap, subst}
 use Rattle.std.specs.List.{refill}
 use Rattle.std.proofs.lemmas.List.{length-map}
-use Rattle.space_blocks.specs.declared.placed.Owner.{Owner}
-use Rattle.space_blocks.specs.declared.placed.Placed.{Placed}
-use Rattle.space_blocks.specs.Blocks.{AreSingle, owned, renamed_block, renamed_blocks, renaming}
+use Rattle.host_map.specs.declared.placed.Owner.{Owner}
+use Rattle.host_map.specs.declared.placed.Placed.{Placed}
+use Rattle.host_map.specs.Blocks.{AreSingle, owned, renamed_block, renamed_blocks, renaming}
 use Rattle.space_blocks.specs.Spaces.{AreKept, SpaceState}
 use Rattle.space_blocks.proofs.Moving.{all_kept}
 use Rattle.space_blocks.proofs.Renames.{kept_renamed, other_owner, owner_given, owner_left, single_renamed}

@@ -1,9 +1,10 @@
 -- The block leaves the list, and the heap has its words again.
 use Rattle.std.proofs.Common.{◌≡◌, ◌<◌, List, length, get_or, remove, sym, ◌∙◌, ap, subst}
-use Rattle.space_blocks.specs.declared.placed.Owner.{Owner}
-use Rattle.space_blocks.specs.declared.placed.Owner.TheVariants.{Record}
-use Rattle.space_blocks.specs.declared.placed.Placed.{Placed}
-use Rattle.space_blocks.specs.Blocks.{Owns, disowned, owned, without_at}
+use Rattle.host_map.specs.declared.placed.Owner.{Owner}
+use Rattle.host_map.specs.declared.placed.Owner.TheVariants.{Record}
+use Rattle.host_map.specs.declared.placed.Placed.{Placed}
+use Rattle.space_blocks.specs.Blocks.{Owns}
+use Rattle.host_map.specs.Blocks.{disowned, owned, without_at}
 use Rattle.space_blocks.specs.Spaces.{AreKept, SpaceState}
 use Rattle.space_blocks.proofs.Keeping.{is_without, kept_given, kept_sorted, piece_block, stands_there}
 use Rattle.space_blocks.proofs.Owners.{others_without, removed_only}

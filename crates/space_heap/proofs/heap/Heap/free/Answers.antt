@@ -1,7 +1,7 @@
 -- The free words are those of the rest, and all others are taken.
 use Rattle.std.proofs.Common.{◌≡◌, ◌+◌, sym, subst, ap, ◌∙◌}
 use Rattle.std.specs.Prelude.{count_by, sum_by}
-use Rattle.space_heap.specs.Places.{Range}
+use Rattle.relocate.specs.Places.{Range}
 use Rattle.space_heap.specs.Pictures.{HeapState, Holds, free_beside}
 use Rattle.space_heap.proofs.Counts.{free_and_taken}
 use Rattle.space_heap.proofs.heap.Heap.free.Goals as goal

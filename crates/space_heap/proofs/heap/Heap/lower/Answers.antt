@@ -2,7 +2,7 @@
 use Rattle.std.proofs.Common.{◌≡◌, ℕ, ◌<◌, ◌-◌, ◌+◌, ◌%◌, ◌≤◌, ◌++◌, ◌∷◌, List, length, Option, sym, subst, ap, arith, ◌∙◌}
 use Rattle.space_raw.specs.Span.{Scattered, Span}
 use Rattle.std.specs.Prelude.{ℤ}
-use Rattle.space_heap.specs.Places.{Range, end_of}
+use Rattle.relocate.specs.Places.{Range, end_of}
 use Rattle.space_heap.specs.Pictures.{HeapState, Holds, IsBlock, range_of}
 use Rattle.space_heap.specs.declared.find.Fit.{Fit}
 use Rattle.space_heap.specs.declared.holes.Front.{Front}

@@ -3,7 +3,7 @@ use Rattle.std.proofs.Common.{◌≡◌, ℕ, ◌<◌, [], List, length, Option,
 use Rattle.std.proofs.lemmas.List.{length-map}
 use Rattle.std.specs.Prelude.{ℤ}
 use Rattle.space_raw.specs.Span.{Extent}
-use Rattle.space_heap.specs.Pictures.{IsSpaceSize}
+use Rattle.relocate.specs.Places.{IsSpaceSize}
 use Rattle.space_heap.specs.Holes.{in_rest}
 use Rattle.space_heap.proofs.Counts.{all_there}
 use Rattle.space_heap.proofs.PictureLemmas.{same_marks}

@@ -2,7 +2,7 @@
 use Rattle.std.proofs.Common.{◌≡◌, ℕ, ◌<◌, ◌%◌, ◌++◌, ◌∷◌, sym, subst, ap, arith, ◌∙◌, Some, None}
 use Rattle.std.specs.Option.{option_map}
 use Rattle.space_raw.specs.Span.{Span}
-use Rattle.space_heap.specs.Places.{least_place, placed_size}
+use Rattle.relocate.specs.Places.{least_place, placed_size}
 use Rattle.space_heap.specs.Pictures.{HeapState, Holds, IsBlock, range_of}
 use Rattle.space_heap.specs.Holes.{in_rest}
 use Rattle.space_heap.proofs.Counts.{there_less}

@@ -1,5 +1,5 @@
 use Rattle.std.specs.Prelude.{map}
-use Rattle.sound_machine.specs.Calls.Call.{Compact}
+use Rattle.host_spec.specs.Calls.Call.{Compact}
 use Rattle.voice_channel.proofs.Served.{served}
 use Rattle.voice_channel.proofs.channels.Channels.compact.Goals as goal
 

@@ -1,5 +1,5 @@
 use Rattle.std.specs.Prelude.{map}
-use Rattle.sound_machine.specs.Calls.Call.{Copied}
+use Rattle.host_spec.specs.Calls.Call.{Copied}
 use Rattle.voice_channel.proofs.Served.{read}
 use Rattle.voice_channel.proofs.channels.Channels.copied.Goals as goal
 

@@ -1,5 +1,5 @@
 use Rattle.std.specs.Prelude.{map}
-use Rattle.sound_machine.specs.Calls.Call.{Create}
+use Rattle.host_spec.specs.Calls.Call.{Create}
 use Rattle.voice_channel.proofs.Served.{served}
 use Rattle.voice_channel.proofs.channels.Channels.create.Goals as goal
 

@@ -1,7 +1,7 @@
 use Rattle.std.proofs.Common.{ℕ, ◌<◌, List, map, sym, ap, ◌∙◌, arith}
 use Rattle.std.proofs.lemmas.Bool.{lt-ltb}
 use Rattle.alg_host.specs.Hosts as hosts
-use Rattle.channel_machine.specs.Channels.{is_in_channel}
+use Rattle.channel_spec.specs.Channels.{is_in_channel}
 use Rattle.voice_channel.specs.Channels.{ChannelsState}
 use Rattle.voice_channel.proofs.Chained.{lives_alike, busy_delete, removed}
 use Rattle.voice_channel.proofs.channels.Channels.delete.Goals as goal

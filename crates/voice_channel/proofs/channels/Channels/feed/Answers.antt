@@ -1,5 +1,5 @@
 use Rattle.std.proofs.Common.{◌≡◌, ◌∙◌, ap, map, subst}
-use Rattle.channel_machine.specs.Channels.{members_at}
+use Rattle.channel_spec.specs.Channels.{members_at}
 use Rattle.voice_channel.specs.Channels.{PassesThrough}
 use Rattle.voice_channel.proofs.Fed.{fed}
 use Rattle.voice_channel.proofs.channels.Channels.feed.Goals as goal
@@ -17,4 +17,4 @@ returns-clause-machine g c =
     (ap (λ s. s.host) c.self.view_is)
     (subst
     (λ is. PassesThrough g.M.Ialg.meaning g.M.Ialg.idle_keeps g.M.Ialg.active_keeps is c.args.input.now c.pass.new.out.items c.self.inside.host c.pass.new.host)
-    its c.pass.ensures))
+    its c.pass.ensures.passes))

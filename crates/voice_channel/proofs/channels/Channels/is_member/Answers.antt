@@ -1,6 +1,6 @@
 use Rattle.std.proofs.Common.{ap, ◌∙◌}
 use Rattle.std.specs.List.{list_any}
-use Rattle.channel_machine.specs.Channels.{has_number, is_in_channel}
+use Rattle.channel_spec.specs.Channels.{has_number, is_in_channel}
 use Rattle.voice_channel.proofs.Chained.{any_of_map}
 use Rattle.voice_channel.proofs.channels.Channels.is_member.Goals as goal
 

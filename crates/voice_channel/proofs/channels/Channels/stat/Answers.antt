@@ -1,6 +1,6 @@
 use Rattle.std.specs.Prelude.{map}
 use Rattle.alg_host.specs.Hosts.{stat_told}
-use Rattle.sound_machine.specs.Calls.Call.{Stat}
+use Rattle.host_spec.specs.Calls.Call.{Stat}
 use Rattle.voice_channel.proofs.Served.{read}
 use Rattle.voice_channel.proofs.channels.Channels.stat.Goals as goal
 

@@ -1,9 +1,9 @@
 use Rattle.std.proofs.Common.{ap, subst}
-use Rattle.channel_machine.specs.Calls.Call.{Chain}
+use Rattle.channel_spec.specs.Calls.Call.{Chain}
 use Rattle.voice_channel.specs.Channels as channels
-use Rattle.console_machine.specs.Console.{told_by}
+use Rattle.console_spec.specs.Console.{told_by}
 use Rattle.voice_script.specs.Replies.{Done}
-use Rattle.line_machine.specs.Served.{tells}
+use Rattle.line_spec.specs.Served.{tells}
 use Rattle.voice_console.proofs.Served.{called}
 use Rattle.voice_console.proofs.console.Console.chain.Goals as goal
 

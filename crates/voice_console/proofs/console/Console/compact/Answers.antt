@@ -1,8 +1,8 @@
 use Rattle.std.proofs.Common.{refl}
-use Rattle.channel_machine.specs.Calls.Call.{OfHost}
-use Rattle.sound_machine.specs.Calls.Call.{Compact}
+use Rattle.channel_spec.specs.Calls.Call.{OfHost}
+use Rattle.host_spec.specs.Calls.Call.{Compact}
 use Rattle.voice_script.specs.Replies.{Count}
-use Rattle.line_machine.specs.Served.{tells}
+use Rattle.line_spec.specs.Served.{tells}
 use Rattle.voice_console.proofs.Served.{called}
 use Rattle.voice_console.proofs.console.Console.compact.Goals as goal
 

@@ -1,10 +1,10 @@
 use Rattle.std.proofs.Common.{ap}
 use Rattle.ialg.specs.Views.{control_of}
-use Rattle.kept_machine.specs.Kept.{told}
-use Rattle.channel_machine.specs.Calls.Call.{OfHost}
-use Rattle.sound_machine.specs.Calls.Call.{Control}
-use Rattle.console_machine.specs.Console.{status_reply, told_by}
-use Rattle.line_machine.specs.Served.{tells}
+use Rattle.host_refines.specs.Kept.{told}
+use Rattle.channel_spec.specs.Calls.Call.{OfHost}
+use Rattle.host_spec.specs.Calls.Call.{Control}
+use Rattle.console_spec.specs.Console.{status_reply, told_by}
+use Rattle.line_spec.specs.Served.{tells}
 use Rattle.voice_console.proofs.Served.{called}
 use Rattle.voice_console.proofs.console.Console.control.Goals as goal
 

@@ -1,8 +1,8 @@
 use Rattle.std.proofs.Common.{refl}
-use Rattle.channel_machine.specs.Calls.Call.{OfHost}
-use Rattle.sound_machine.specs.Calls.Call.{Map}
+use Rattle.channel_spec.specs.Calls.Call.{OfHost}
+use Rattle.host_spec.specs.Calls.Call.{Map}
 use Rattle.voice_script.specs.Replies.{Map as Told}
-use Rattle.line_machine.specs.Served.{tells}
+use Rattle.line_spec.specs.Served.{tells}
 use Rattle.voice_console.proofs.Served.{called}
 use Rattle.voice_console.proofs.console.Console.map.Goals as goal
 

@@ -1,9 +1,9 @@
 use Rattle.std.proofs.Common.{ap}
-use Rattle.channel_machine.specs.Calls.Call.{OfHost}
-use Rattle.sound_machine.specs.Calls.Call.{Release}
-use Rattle.console_machine.specs.Console.{told_by}
+use Rattle.channel_spec.specs.Calls.Call.{OfHost}
+use Rattle.host_spec.specs.Calls.Call.{Release}
+use Rattle.console_spec.specs.Console.{told_by}
 use Rattle.voice_script.specs.Replies.{Flag}
-use Rattle.line_machine.specs.Served.{tells}
+use Rattle.line_spec.specs.Served.{tells}
 use Rattle.voice_console.proofs.Served.{called}
 use Rattle.voice_console.proofs.console.Console.release.Goals as goal
 

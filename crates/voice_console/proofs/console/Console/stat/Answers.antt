@@ -1,10 +1,10 @@
 use Rattle.voice_script.specs.Replies as replies
 use Rattle.std.proofs.Common.{ap}
 use Rattle.voice_channel.specs.Hosts.{stat_told}
-use Rattle.channel_machine.specs.Calls.Call.{OfHost}
-use Rattle.sound_machine.specs.Calls.Call.{Stat}
-use Rattle.console_machine.specs.Console.{told_by}
-use Rattle.line_machine.specs.Served.{tells}
+use Rattle.channel_spec.specs.Calls.Call.{OfHost}
+use Rattle.host_spec.specs.Calls.Call.{Stat}
+use Rattle.console_spec.specs.Console.{told_by}
+use Rattle.line_spec.specs.Served.{tells}
 use Rattle.voice_console.proofs.Served.{called}
 use Rattle.voice_console.proofs.console.Console.stat.Goals as goal
 

@@ -1,8 +1,8 @@
 use Rattle.std.proofs.Common.{ap}
-use Rattle.channel_machine.specs.Calls.Call.{Unchain}
-use Rattle.console_machine.specs.Console.{told_by}
+use Rattle.channel_spec.specs.Calls.Call.{Unchain}
+use Rattle.console_spec.specs.Console.{told_by}
 use Rattle.voice_script.specs.Replies.{Done}
-use Rattle.line_machine.specs.Served.{tells}
+use Rattle.line_spec.specs.Served.{tells}
 use Rattle.voice_console.proofs.Served.{called}
 use Rattle.voice_console.proofs.console.Console.unchain.Goals as goal
 

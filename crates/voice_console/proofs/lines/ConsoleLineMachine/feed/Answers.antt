@@ -1,6 +1,6 @@
 use Rattle.std.proofs.Common.{◌≡◌, ◌∙◌, ap}
-use Rattle.line_machine.specs.Widths.{octet_count}
-use Rattle.console_machine.specs.Samples.{octets_at}
+use Rattle.line_spec.specs.Widths.{octet_count}
+use Rattle.console_spec.specs.Samples.{octets_at}
 use Rattle.voice_console.specs.Consoles.{port_widths_of}
 use Rattle.voice_console.proofs.Served.{gave, stands_first}
 use Rattle.voice_console.proofs.lines.ConsoleLineMachine.feed.Goals as goal

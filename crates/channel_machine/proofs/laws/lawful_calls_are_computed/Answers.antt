@@ -1,5 +1,0 @@
-use Rattle.channel_machine.proofs.AnswerLemmas.{computed}
-use Rattle.channel_machine.proofs.laws.lawful_calls_are_computed.Goals as goal
-
-pub returns : goal.returns
-returns g c = λ kinds before after call lawful does. computed kinds before after lawful call does

@@ -1,7 +1,0 @@
-use Rattle.std.proofs.Common.{rules}
-use Rattle.script_server.specs.Runs.{IsReadyIn}
-use Rattle.dsp_console_main.proofs.Opening.{ready_behind}
-use Rattle.dsp_console_main.proofs.+open_pairs.Goals as goal
-
-pub returns-clause-to_read : goal.returns-clause-to_read
-returns-clause-to_read t c = λ ok all. c.open_pairs.ensures.to_read ok (ready_behind IsReadyIn _ c.args.inputs.now.items c.in_ok-open.field-0 _ (search rules) all c.in_ok-open.ensures)

@@ -1,0 +1,87 @@
+//! Operators and filters over blocks of samples.
+ghost use Rattle.std.specs.Prelude.{◌≡◌, ◌≢◌, ◌<◌, ◌≤◌, ◌+◌, ℕ, length};
+ghost use Rattle.ialg.specs.History.{word_at};
+ghost use Rattle.ialg.specs.declared.TheConstants.{BLOCK_SAMPLES};
+ghost use Rattle.basic_op.specs.Operators.{add_of, mult_of};
+ghost use Rattle.fir_kernel.specs.Sums.{filtered_at};
+ghost use Rattle.fir_kernel.specs.declared.TheConstants.{MOST_COEFFICIENTS};
+ghost use Rattle.dsp_library.specs.declared.TheConstants.{DONE, BAD_LENGTH};
+
+use crate::{BAD_LENGTH, DONE};
+use fir_kernel::{MOST_COEFFICIENTS, filter};
+use ialg::BLOCK_SAMPLES;
+
+/// Writes the sums.
+fn add_all(a: &[i16], b: &[i16], out: &mut [i16])
+    requires first { length a.now ≡ length out.old }
+    requires second { length b.now ≡ length out.old }
+    ensures sums { (k : ℕ) → k < length out.old → word_at out.new k ≡ add_of (word_at a.now k) (word_at b.now k) }
+{
+    for k in 0..a.len() {
+        out[k] = basic_op::add(a[k], b[k]);
+    }
+}
+
+/// Writes the products.
+fn mult_all(gain: i16, samples: &[i16], out: &mut [i16])
+    requires { length samples.now ≡ length out.old }
+    ensures products { (k : ℕ) → k < length out.old → word_at out.new k ≡ mult_of (word_at samples.now k) gain }
+{
+    for k in 0..samples.len() {
+        out[k] = basic_op::mult(samples[k], gain);
+    }
+}
+
+/// Writes the sum of each two samples, saturated (G.191 `add`): `DONE`, or `BAD_LENGTH`, and then nothing is written.
+#[unsafe(no_mangle)]
+pub extern "C" fn rokdaum_proved_add_block(a: &[i16], b: &[i16], out: &mut [i16]) -> i32
+    ensures length { ¬ ((length a.now ≡ length out.old) × (length b.now ≡ length out.old)) → result ≡ BAD_LENGTH }
+    ensures done { length a.now ≡ length out.old → length b.now ≡ length out.old → result ≡ DONE }
+    ensures sums { result ≡ DONE → (k : ℕ) → k < length out.old → word_at out.new k ≡ add_of (word_at a.now k) (word_at b.now k) }
+    ensures refused { result ≢ DONE → out.new ≡ out.old }
+{
+    if a.len() != out.len() || b.len() != out.len() {
+        return BAD_LENGTH;
+    }
+    add_all(a, b, out);
+    DONE
+}
+
+/// Writes the product of each sample and a gain in Q15 (G.191 `mult`): `DONE`, or `BAD_LENGTH`, and then nothing is written.
+#[unsafe(no_mangle)]
+pub extern "C" fn rokdaum_proved_mult_block(gain: i16, samples: &[i16], out: &mut [i16]) -> i32
+    ensures length { length samples.now ≢ length out.old → result ≡ BAD_LENGTH }
+    ensures done { length samples.now ≡ length out.old → result ≡ DONE }
+    ensures products { result ≡ DONE → (k : ℕ) → k < length out.old → word_at out.new k ≡ mult_of (word_at samples.now k) gain }
+    ensures refused { result ≢ DONE → out.new ≡ out.old }
+{
+    if samples.len() != out.len() {
+        return BAD_LENGTH;
+    }
+    mult_all(gain, samples, out);
+    DONE
+}
+
+/// Writes the outputs of a FIR filter: `DONE`, or `BAD_LENGTH`, and then nothing is written. The coefficients are in Q15, that of the newest
+/// sample first. `line` has what came before the block, as many samples as there are coefficients but one, then the block, and after it
+/// as many as fill up 63 more than there are outputs; those aren't read for an output.
+#[unsafe(no_mangle)]
+pub extern "C" fn rokdaum_proved_fir(coefficients: &[i16], line: &[i16], out: &mut [i16]) -> i32
+    ensures length { ¬ ((1 ≤ length coefficients.now) × (length coefficients.now ≤ MOST_COEFFICIENTS) × (length out.old ≤ BLOCK_SAMPLES)
+        × (length out.old + MOST_COEFFICIENTS ≤ length line.now + 1)) → result ≡ BAD_LENGTH }
+    ensures done { 1 ≤ length coefficients.now → length coefficients.now ≤ MOST_COEFFICIENTS → length out.old ≤ BLOCK_SAMPLES
+        → length out.old + MOST_COEFFICIENTS ≤ length line.now + 1 → result ≡ DONE }
+    ensures outputs { result ≡ DONE → (i : ℕ) → i < length out.old → word_at out.new i ≡ filtered_at coefficients.now line.now i }
+    ensures refused { result ≢ DONE → out.new ≡ out.old }
+{
+    if coefficients.is_empty()
+        || coefficients.len() > MOST_COEFFICIENTS
+        || out.len() > BLOCK_SAMPLES
+        || line.len() < MOST_COEFFICIENTS - 1
+        || line.len() - (MOST_COEFFICIENTS - 1) < out.len()
+    {
+        return BAD_LENGTH;
+    }
+    filter(coefficients, line, 0, 1, out);
+    DONE
+}

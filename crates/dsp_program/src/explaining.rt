@@ -1,0 +1,115 @@
+//! What is said on the standard error where it is asked for: why lines were refused, and why a file failed.
+use arrayvec::ArrayVec;
+use dsp_arguments::Arguments;
+use dsp_console::Fault;
+use line_reasons::{Reason, Shown, Unanswered};
+use octet_ports::LINE_FEED;
+use port_files::{Role, Troubles};
+
+/// The most octets of a reply that are kept: no refusal has more.
+const KEPT_OCTETS: usize = 16;
+
+/// Tells of each refused line why. It sees what is read of SCRIPT and what is replied.
+#[derive(Drop)]
+pub(crate) struct Explainer<'e, R> {
+    rt: &'e R,
+    /// The path of SCRIPT.
+    script: &'e str,
+    channels: u8,
+    lines: Unanswered,
+    /// The first octets of the reply that isn't whole yet.
+    reply: ArrayVec<u8, KEPT_OCTETS>,
+}
+
+/// The number of the refusal that a reply tells, if it tells one.
+fn refusal_of(reply: &[u8]) -> Option<u32> {
+    let mut words = reply.split(|octet| *octet == b' ');
+    if words.next()? != b"no".as_slice() {
+        return None;
+    }
+    let mut number: u32 = 0;
+    for digit in words.next()? {
+        number = number
+            .saturating_mul(10)
+            .saturating_add(u32::from(digit.saturating_sub(b'0')));
+    }
+    Some(number)
+}
+
+impl<'e, R: Eprint> Explainer<'e, R> {
+    /// Nothing was read and replied yet.
+    pub(crate) fn new(rt: &'e R, arguments: &Arguments<'e>) -> Self {
+        Explainer {
+            rt,
+            script: arguments.script,
+            channels: arguments.ports.len() as u8,
+            lines: Unanswered::new(),
+            reply: ArrayVec::new(),
+        }
+    }
+
+    /// Takes octets of SCRIPT that were read.
+    pub(crate) fn read(&mut self, octets: &[u8]) {
+        self.lines.read(octets);
+    }
+
+    /// Takes octets of the replies that were put.
+    pub(crate) fn put(&mut self, octets: &[u8]) {
+        for octet in octets {
+            if *octet == LINE_FEED {
+                self.end_reply();
+            } else {
+                let _fits = self.reply.try_push(*octet);
+            }
+        }
+    }
+
+    /// Tells why the line of the reply was refused, if it was.
+    fn end_reply(&mut self) {
+        if let Some(line) = self.lines.next()
+            && let Some(refusal) = refusal_of(self.reply.as_slice())
+        {
+            let (number, text) = (line.number, Shown(line.octets));
+            let reply = Shown(self.reply.as_slice());
+            let reason = Reason {
+                line: line.octets,
+                refusal,
+                channels: self.channels,
+            };
+            let _ = eprintln!(self.rt; "{}:{number}: {text}: {reply}: {reason}", self.script);
+        }
+        self.reply.clear();
+    }
+}
+
+/// The path of the file of this role, which is empty for the standard output.
+fn path_of<'a>(arguments: &Arguments<'a>, role: Role) -> &'a str {
+    let ports = arguments.ports.as_slice();
+    match role {
+        Role::Script => arguments.script,
+        Role::In(pair) => ports.get(pair as usize).map_or("", |ports| ports.0),
+        Role::Out(pair) => ports.get(pair as usize).map_or("", |ports| ports.1),
+        Role::Replies => "",
+    }
+}
+
+/// Tells which file failed and why.
+pub(crate) fn explain_fault<R: Eprint>(
+    rt: &R,
+    arguments: &Arguments<'_>,
+    fault: Fault,
+    troubles: &Troubles,
+) {
+    let trouble = match fault {
+        Fault::Read => &troubles.read,
+        Fault::Write => &troubles.written,
+        Fault::Size | Fault::Memory => return,
+    };
+    let _ = match trouble {
+        Some(trouble) => {
+            let path = path_of(arguments, trouble.role);
+            eprintln!(rt; "dsp_console: {}: {path}: {}", trouble.role, trouble.why)
+        }
+        None => eprintln!(rt; "dsp_console: SCRIPT: {}: it is too long", arguments.script),
+    };
+}

@@ -1,5 +1,0 @@
-pub mod Belonging
-pub mod Handed
-pub mod Records
-pub mod Blocks
-pub mod Ended

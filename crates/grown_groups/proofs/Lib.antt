@@ -1,4 +1,0 @@
-pub mod Replaced
-pub mod Needed
-pub mod Grown
-pub mod Told

@@ -1,5 +1,0 @@
-use Rattle.placed_instances.proofs.Homes.{members_of_same}
-use Rattle.grown_groups.proofs.growth.rest_where.Goals as goal
-
-pub returns-then-replaced-clause-same : goal.returns-then-replaced-clause-same
-returns-then-replaced-clause-same g c = members_of_same _ _ _ _ _ _ c.rest-was_active.ensures.same

@@ -1,5 +1,0 @@
-use Rattle.host_calls.proofs.Lists.{MadeUpTo}
-use Rattle.host_calls.proofs.calls.make_all.Given as goal
-
-abbrev pub invariant-loop-k : goal.invariant-loop-k
-invariant-loop-k g l = MadeUpTo g.M.Ialg.meaning g.M.Ialg.idle_keeps g.M.Ialg.active_keeps l.k l.fn.requests l.requests l.fn.host l.host

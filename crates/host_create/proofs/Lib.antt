@@ -1,0 +1,10 @@
+pub mod Replaced
+pub mod Needed
+pub mod Grown
+pub mod Told
+pub mod Unplaced
+pub mod Joined
+pub mod Begun
+pub mod Replaces
+pub mod Placing
+pub mod CreationsKept

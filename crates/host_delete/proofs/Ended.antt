@@ -1,0 +1,99 @@
+-- The spaces after an end.
+use Rattle.std.proofs.Common.{◌≡◌, ◌⊎◌, inl, inr, ℕ, Bool, true, false, List, [], ◌∷◌, Option, Some, refl, sym, ◌∙◌, ap, subst, if◌then◌else◌}
+use Rattle.std.specs.Prelude.{unwrap_or}
+use Rattle.std.proofs.lemmas.Bool.Decides.{eqb_tells}
+use Rattle.mem_rec.specs.declared.Space.{Space}
+use Rattle.mem_rec.specs.declared.Space.TheVariants.{Daram, Saram, External}
+use Rattle.scratch_group.specs.declared.group.Group.{Group}
+use Rattle.host_map.specs.declared.placed.Owner.{Owner}
+use Rattle.host_map.specs.declared.placed.Owner.TheVariants.{Record, Scratch as GroupScratch}
+use Rattle.host_map.specs.declared.placed.Placed.{Placed}
+use Rattle.host_map.specs.Blocks.{owned, renamed_blocks, same_owner}
+use Rattle.space_blocks.proofs.Owners.{itself}
+use Rattle.host_spaces.specs.declared.spaces.Spaces.{Spaces}
+use Rattle.host_map.specs.Picture.{Picture, blocks_in, is_group's, is_instance's, renamed, without_owners}
+use Rattle.host_spaces.specs.Picture.{AreSameSpaces, copied_in, picture_of, sizes_of}
+use Rattle.host_map.specs.Creation.{deleted_picture, handed_on}
+use Rattle.host_spaces.proofs.Pictures.{pictures_equal}
+use Rattle.host_table.specs.declared.member.Member.{Member}
+use Rattle.host_shared.specs.declared.shelves.Shelf.{Shelf}
+use Rattle.host_shared.specs.Shelves.{home_of, once_at}
+use Rattle.host_shared.specs.Holders.{next_holder}
+use Rattle.host_table.specs.Table.{slot_at, group_at, instance_of}
+use Rattle.host_life.specs.Twins.{asked_by}
+use Rattle.host_moves.specs.Standing.{AreStanding, table_of}
+use Rattle.host_moves.proofs.Homes.{own_home}
+use Rattle.host_moves.proofs.OwnMoves.{same_sizes}
+use Rattle.host_delete.specs.Ends.{has_members, twins_among}
+
+pub stay_then : (a b c : Spaces) → AreSameSpaces a b → AreSameSpaces b c → AreSameSpaces a c
+stay_then a b c first second space = record { region = (second space).region ∙ (first space).region; slid = (second space).slid ∙ (first space).slid }
+
+module _ (a b : Spaces) (stay : AreSameSpaces a b) where
+  pub sizes_stay : sizes_of b ≡ sizes_of a
+  sizes_stay = same_sizes a b (λ space. (stay space).region)
+
+  pub copied_stay : copied_in b ≡ copied_in a
+  copied_stay =
+      let d : b.daram.slid ≡ a.daram.slid = (stay Daram).slid in
+      let s : b.saram.slid ≡ a.saram.slid = (stay Saram).slid in
+      let e : b.external.slid ≡ a.external.slid = (stay External).slid in
+      rw (d, s, e) refl
+
+-- ---- who gets the blocks that were shared
+
+renamed_agree : (f g : Owner → Owner) (bs : List Placed) → ((o : Owner) → (f o ≡ g o) ⊎ (owned o bs ≡ [])) → renamed_blocks f bs ≡ renamed_blocks g bs
+renamed_agree f g [] agree = refl
+renamed_agree f g (b ∷ bs) agree =
+    elim (agree b.owner) [
+      | inr none ↦
+          let first : b ∷ owned b.owner bs ≡ [] = rw (itself b.owner) at none in
+          let no : ⊥ = cc in
+          absurd no
+      | inl same ↦
+          ap (λ (q : Owner). let c : Placed = record b { owner = q } in c ∷ renamed_blocks f bs) same
+          ∙ ap (λ (cs : List Placed). let c : Placed = record b { owner = g b.owner } in c ∷ cs) (renamed_agree f g bs (λ o. rest o (agree o)))
+    ]
+  where
+    behind : (o : Owner) (t : Bool) → (if t then b ∷ owned o bs else owned o bs) ≡ [] → owned o bs ≡ []
+    behind o true none = (let no : ⊥ = cc in absurd no)
+    behind o false none = none
+
+    rest : (o : Owner) → (f o ≡ g o) ⊎ (owned o (b ∷ bs) ≡ []) → (f o ≡ g o) ⊎ (owned o bs ≡ [])
+    rest o (inl same) = inl same
+    rest o (inr none) = inr (behind o (same_owner o b.owner) none)
+
+pictures_agree : (f g : Owner → Owner) (picture : Picture) → ((o : Owner) (space : Space) → (f o ≡ g o) ⊎ (owned o (blocks_in picture space) ≡ [])) → renamed f picture ≡ renamed g picture
+pictures_agree f g picture agree =
+    pictures_equal (renamed f picture) (renamed g picture) (renamed_agree f g (blocks_in picture Daram) (λ o. agree o Daram)) (renamed_agree f g (blocks_in picture Saram) (λ o. agree o Saram))
+    (renamed_agree f g (blocks_in picture External) (λ o. agree o External))
+
+module _ {M : Type 0} (same : M → M → Bool) (i : ℕ) (slots slots' : List (Option (Member M))) (once : List Shelf) (groups : List Group) (spaces : Spaces) (standing : AreStanding slots once groups spaces)
+    (m : Member M) (at : slot_at slots i ≡ Some m) (least_twin : (k : ℕ) → home_of once i k ≡ i → next_holder once i k ≡ twins_among same slots' (asked_by (Some m)) k) where
+  twin_is : (k : ℕ) → home_of once i k ≡ i → next_holder once i k ≡ twins_among same slots' (asked_by (slot_at slots i)) k
+  twin_is k home = least_twin k home ∙ sym (ap (λ (a : Option (Member M)). twins_among same slots' (asked_by a) k) at)
+
+  same_owners : (o : Owner) (space : Space) → (handed_on (next_holder once i) i o ≡ handed_on (twins_among same slots' (asked_by (slot_at slots i))) i o) ⊎ (owned o (blocks_in (picture_of spaces) space) ≡ [])
+  same_owners (GroupScratch g) space = inl refl
+  same_owners (Record a k) space =
+      elim (eqb_tells a i) [
+        | inr e ↦ inl (rw e.0 refl)
+        | inl e ↦ elim (own_home spaces i (home_of once i) (table_of m) (instance_of m.inst).own (once_at once i) (group_at groups m.group) (standing.homes i m at) k space) [
+          | inl home ↦ inl (rw e.0 (ap (λ (twin : Option ℕ). Record (unwrap_or twin i) k) (twin_is k home)))
+          | inr none ↦ inr (ap (λ (x : ℕ). owned (Record x k) (blocks_in (picture_of spaces) space)) e.1 ∙ none)
+        ]
+      ]
+
+  -- the next holder of a record is the least twin that is left
+  pub handed_same : renamed (handed_on (next_holder once i) i) (picture_of spaces) ≡ renamed (handed_on (twins_among same slots' (asked_by (slot_at slots i))) i) (picture_of spaces)
+  handed_same = pictures_agree (handed_on (next_holder once i) i) (handed_on (twins_among same slots' (asked_by (slot_at slots i))) i) (picture_of spaces) same_owners
+
+module _ {M : Type 0} (slots : List (Option (Member M))) (picture records new : Picture) (twins : ℕ → Option ℕ) (i g h : ℕ) (same : g ≡ h) where
+  -- the picture where a member is left, and where none is
+  pub picture_with : has_members slots g ≡ true → new ≡ without_owners (is_instance's i) (renamed (handed_on twins i) picture) → new ≡ deleted_picture (has_members slots h) picture i h twins
+  picture_with is e = subst (λ n. new ≡ deleted_picture (has_members slots n) picture i n twins) same (rw is e)
+
+  pub picture_without : has_members slots g ≡ false → records ≡ without_owners (is_instance's i) (renamed (handed_on twins i) picture) → new ≡ without_owners (is_group's g) records
+      → new ≡ deleted_picture (has_members slots h) picture i h twins
+  picture_without is first second =
+      subst (λ n. new ≡ deleted_picture (has_members slots n) picture i n twins) same (rw is (second ∙ ap (without_owners (is_group's g)) first))

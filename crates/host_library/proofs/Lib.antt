@@ -1,0 +1,3 @@
+pub mod Boxed
+pub mod Served
+pub mod There

@@ -1,0 +1,16 @@
+pub mod Holders
+pub mod Owns
+pub mod Seen
+pub mod Slides
+pub mod Tells
+pub mod Rooms
+pub mod Homes
+pub mod Slots
+pub mod Moved
+pub mod MovedBlocks
+pub mod Nexts
+pub mod OwnMoves
+pub mod OnceMoves
+pub mod BlockMoves
+pub mod Maps
+pub mod ApartLemmas

@@ -1,0 +1,192 @@
+-- The pieces of one instance change.
+use Rattle.std.proofs.Common.{◌≡◌, ◌≢◌, ℕ, ◌<◌, zero, suc, inl, inr, Bool, List, [], ◌∷◌, length, Option, Some, None, set, get_or-set_other, refl, sym, ◌∙◌, ap, subst, arith}
+use Rattle.std.proofs.lemmas.List.{length-set}
+use Rattle.std.proofs.lemmas.Bool.Decides.{eqb_tells}
+use Rattle.std.proofs.lemmas.Option.{none-some, same_Some}
+use Rattle.space_raw.specs.Span.{Span}
+use Rattle.mem_rec.specs.declared.Space.{Space}
+use Rattle.record_loans.specs.declared.pieces.Pieces.{Pieces}
+use Rattle.record_loans.specs.Pieces.{SamePieces}
+use Rattle.record_loans.specs.Blocks.{IsSameBlock}
+use Rattle.scratch_group.specs.declared.group.Group.{Group}
+use Rattle.scratch_group.specs.Blocks.{block_in}
+use Rattle.lifecycle.specs.declared.instance.Instance.{Instance}
+use Rattle.lifecycle.specs.declared.instance.Inst.{Inst}
+use Rattle.lifecycle.specs.declared.instance.Inst.TheVariants.{Idling, Running}
+use Rattle.lifecycle.specs.Moves.{restored, HasRoom}
+use Rattle.record_loans.proofs.PieceLemmas.{same_pieces}
+use Rattle.lifecycle.proofs.Frames.{same_group}
+use Rattle.mem_rec.specs.declared.TheConstants.{GROUPS}
+use Rattle.host_table.specs.declared.member.Member.{Member}
+use Rattle.host_shared.specs.declared.shelves.Stand.{Stand}
+use Rattle.host_shared.specs.declared.shelves.Shelf.{Shelf}
+use Rattle.host_shared.specs.Shelves.{stand_at, shelf_at, once_at}
+use Rattle.host_table.specs.Table.{slot_at, group_at, instance_of, active_in, slot_active_in, activity_at, IsHoused, EachIsHoused, AreAlike, IsHolder, AreHeld, AreBare, Tables, TablesOk, TablesTold}
+use Rattle.host_map.specs.Activity.{Activity}
+use Rattle.host_table.proofs.Housing.{same_blocks, housed_stays, room_stays}
+use Rattle.host_moves.specs.Waiting.{inst_with, slot_with, own_set, IsHousedBut, TablesBut, IsWaiting}
+
+pub set_again : {A : Type 0} (xs : List A) (i : ℕ) (a b : A) → set (set xs i a) i b ≡ set xs i b
+set_again [] i a b = refl
+set_again (x ∷ xs) zero a b = refl
+set_again (x ∷ xs) (suc i) a b = ap (λ (l : List _). x ∷ l) (set_again xs i a b)
+
+pub active_with : {M : Type 0} (k : ℕ) (inst : Inst M) (own : Pieces) → active_in k (inst_with inst own) ≡ active_in k inst
+active_with k (Idling s) own = refl
+active_with k (Running s) own = refl
+
+slot_active_with : {M : Type 0} (slot : Option (Member M)) (own : Pieces) → slot_active_in (slot_with slot own) ≡ slot_active_in slot
+slot_active_with None own = refl
+slot_active_with (Some m) own = active_with m.group m.inst own
+
+pub own_set_same : {M : Type 0} (slots : List (Option (Member M))) (i : ℕ) (own : Pieces) → slot_at (own_set slots i own) i ≡ slot_with (slot_at slots i) own
+own_set_same [] i own = refl
+own_set_same (x ∷ xs) zero own = refl
+own_set_same (x ∷ xs) (suc i) own = own_set_same xs i own
+
+pub own_set_other : {M : Type 0} (slots : List (Option (Member M))) (i j : ℕ) (own : Pieces) → j ≢ i → slot_at (own_set slots i own) j ≡ slot_at slots j
+own_set_other slots i j own apart = get_or-set_other slots i j _ None apart
+
+active_own : {M : Type 0} (slots : List (Option (Member M))) (i : ℕ) (own : Pieces) (j : ℕ) → slot_active_in (slot_at (own_set slots i own) j) ≡ slot_active_in (slot_at slots j)
+active_own slots i own j =
+    elim (eqb_tells j i) [
+      | inl e ↦ rw (e.1, own_set_same slots i own) (slot_active_with (slot_at slots i) own)
+      | inr e ↦ ap slot_active_in (own_set_other slots i j own e.1)
+    ]
+
+-- the instance with other pieces is in the same group
+group_with : {M : Type 0} (slot : Option (Member M)) (own : Pieces) (m : Member M) → slot_with slot own ≡ Some m → (n : Member M) × ((slot ≡ Some n) × (n.group ≡ m.group))
+group_with None own m at = absurd (none-some _ at)
+group_with (Some n) own m at = (n, (refl, ap (λ (q : Member _). q.group) (same_Some _ _ at)))
+
+-- whatever holds of the instances, and what follows of it
+pub tables_map : {M : Type 0} (H K : ℕ → Member M → Pieces → Group → Type 0) (slots : List (Option (Member M))) (once : List Shelf) (groups : List Group)
+    → ((j : ℕ) (m : Member M) (o : Pieces) (y : Group) → H j m o y → K j m o y) → Tables H slots once groups → Tables K slots once groups
+tables_map H K slots once groups follows ok = record {
+  slot_count = ok.slot_count;
+  once_count = ok.once_count;
+  group_count = ok.group_count;
+  held = ok.held;
+  bare = ok.bare;
+  group_range = ok.group_range;
+  housed = λ j m at. follows j m (once_at once j) (group_at groups m.group) (ok.housed j m at);
+  active_there = ok.active_there;
+  active_known = ok.active_known;
+}
+
+pub but_all : {M : Type 0} (i : ℕ) (slots : List (Option (Member M))) (once : List Shelf) (groups : List Group) → TablesOk slots once groups → TablesBut i slots once groups
+but_all i slots once groups ok = tables_map EachIsHoused (IsHousedBut i) slots once groups (λ j m o y housed apart. housed) ok
+
+-- whatever holds of the others
+abbrev pub Beside : {M : Type 0} → (ℕ → Member M → Pieces → Group → Type 0) → ℕ → ℕ → Member M → Pieces → Group → Type 0
+Beside H i j m o y = j ≢ i → H j m o y
+
+-- an instance with other pieces holds the same records with others
+like_with : {M : Type 0} (k : ℕ) (a : Inst M) (own : Pieces) (b : Instance M) → AreAlike k (instance_of a) b → AreAlike k (instance_of (inst_with a own)) b
+like_with k (Idling s) own b alike = record { kind = alike.kind; params = alike.params; once = alike.once; shape = alike.shape }
+like_with k (Running s) own b alike = record { kind = alike.kind; params = alike.params; once = alike.once; shape = alike.shape }
+
+like_home : {M : Type 0} (k : ℕ) (a : Instance M) (b : Inst M) (own : Pieces) → AreAlike k a (instance_of b) → AreAlike k a (instance_of (inst_with b own))
+like_home k a (Idling s) own alike = record { kind = alike.kind; params = alike.params; once = alike.once; shape = alike.shape }
+like_home k a (Running s) own alike = record { kind = alike.kind; params = alike.params; once = alike.once; shape = alike.shape }
+
+holder_with : {M : Type 0} (k : ℕ) (a b : Option (Member M)) (s : Stand) (own : Pieces) → IsHolder k a b s → IsHolder k (slot_with a own) b s
+holder_with k None b s own holder = absurd holder
+holder_with k (Some m) None s own holder = absurd holder
+holder_with k (Some m) (Some n) s own holder = (like_with k m.inst own (instance_of n.inst) holder.0, holder.1)
+
+home_with : {M : Type 0} (k : ℕ) (a b : Option (Member M)) (s : Stand) (own : Pieces) → IsHolder k a b s → IsHolder k a (slot_with b own) s
+home_with k None b s own holder = absurd holder
+home_with k (Some m) None s own holder = absurd holder
+home_with k (Some m) (Some n) s own holder = (like_home k (instance_of m.inst) n.inst own holder.0, holder.1)
+
+held_own : {M : Type 0} (i : ℕ) (own : Pieces) (slots : List (Option (Member M))) (once : List Shelf) → AreHeld slots once → AreHeld (own_set slots i own) once
+held_own i own slots once held j k home is =
+    let first : IsHolder k (slot_at (own_set slots i own) j) (slot_at slots home) (stand_at (shelf_at once home) k) =
+    elim (eqb_tells j i) [
+      | inl e ↦ rw (e.1, own_set_same slots i own) (holder_with k (slot_at slots i) (slot_at slots home) (stand_at (shelf_at once home) k) own (rw e.1 at (held j k home is)))
+      | inr e ↦ rw (own_set_other slots i j own e.1) (held j k home is)
+    ] in
+    elim (eqb_tells home i) [
+      | inl e ↦ rw (e.1, own_set_same slots i own) (home_with k (slot_at (own_set slots i own) j) (slot_at slots i) (stand_at (shelf_at once i) k) own (rw e.1 at first))
+      | inr e ↦ rw (own_set_other slots i home own e.1) first
+    ]
+
+none_with : {M : Type 0} (slot : Option (Member M)) (own : Pieces) → slot_with slot own ≡ None → slot ≡ None
+none_with None own none = refl
+none_with (Some m) own none = absurd (none-some _ (sym none))
+
+bare_own : {M : Type 0} (i : ℕ) (own : Pieces) (slots : List (Option (Member M))) (once : List Shelf) → AreBare slots once → AreBare (own_set slots i own) once
+bare_own i own slots once bare j none =
+    elim (eqb_tells j i) [
+      | inl e ↦ rw e.1 (bare i (none_with (slot_at slots i) own (sym (own_set_same slots i own) ∙ rw e.1 at none)))
+      | inr e ↦ bare j (sym (own_set_other slots i j own e.1) ∙ none)
+    ]
+
+pub but_own : {M : Type 0} (H : ℕ → Member M → Pieces → Group → Type 0) (i : ℕ) (own : Pieces) (slots : List (Option (Member M))) (once : List Shelf) (groups : List Group)
+    → Tables (Beside H i) slots once groups → Tables (Beside H i) (own_set slots i own) once groups
+but_own H i own slots once groups ok = record {
+  slot_count = simp length-set ok.slot_count;
+  once_count = ok.once_count;
+  group_count = ok.group_count;
+  held = held_own i own slots once ok.held;
+  bare = bare_own i own slots once ok.bare;
+  group_range = λ j m at.
+      elim (eqb_tells j i) [
+        | inl e ↦
+            let was = group_with (slot_at slots i) own m (sym (own_set_same slots i own) ∙ rw e.1 at at) in
+            subst (λ n. n < GROUPS) was.1.1 (ok.group_range i was.0 was.1.0)
+        | inr e ↦ ok.group_range j m (sym (own_set_other slots i j own e.1) ∙ at)
+      ];
+  housed = λ j m at apart. ok.housed j m (sym (own_set_other slots i j own apart) ∙ at) apart;
+  active_there = λ k j below at. active_own slots i own j ∙ ok.active_there k j below at;
+  active_known = λ k j at. ok.active_known k j (sym (active_own slots i own j) ∙ at);
+}
+
+-- an instance stays housed where its write-once pieces and its group's blocks stay
+pub housed_beside : {M : Type 0} (m : Member M) (o o' : Pieces) (y y' : Group) → SamePieces o o' → ((space : Space) → IsSameBlock (block_in y space) (block_in y' space))
+    → IsHoused (instance_of m.inst) o y → IsHoused (instance_of m.inst) o' y'
+housed_beside m o o' y y' so sb h =
+    housed_stays (instance_of m.inst) (instance_of m.inst) o o' y y' (record { kind = refl; params = refl; table = refl; own = same_pieces (instance_of m.inst).own }) so sb h
+
+-- instances that wait to be told go on doing so, and the others stay housed
+pub waiting_beside : {M : Type 0} (waits : ℕ → Bool) (j : ℕ) (m : Member M) (o o' : Pieces) (y y' : Group) → SamePieces o o' → ((space : Space) → IsSameBlock (block_in y space) (block_in y' space))
+    → IsWaiting waits j m o y → IsWaiting waits j m o' y'
+waiting_beside waits j m o o' y y' so sb w = record {
+  told = λ h. housed_beside m o o' y y' so sb (w.told h);
+  room = λ h. room_stays (instance_of m.inst) o o' y y' so sb (w.room h);
+}
+
+none_below : (j : ℕ) → j < 0 → ⊥
+none_below j e = omega (arith, e)
+
+pub told_later : {M : Type 0} (g : ℕ) (slots : List (Option (Member M))) (once : List Shelf) (groups groups' : List Group) → TablesOk slots once groups
+    → length groups' ≡ GROUPS
+    → ((k : ℕ) → activity_at groups' k ≡ activity_at groups k)
+    → ((k : ℕ) (space : Space) → k ≢ g → block_in (group_at groups' k) space ≡ block_in (group_at groups k) space)
+    → ((i : ℕ) (m : Member M) → slot_at slots i ≡ Some m → m.group ≡ g → HasRoom (instance_of m.inst) (once_at once i) (group_at groups' g))
+    → TablesTold g 0 slots once groups'
+told_later g slots once groups groups' ok count activity blocks room = record {
+  slot_count = ok.slot_count;
+  once_count = ok.once_count;
+  group_count = count;
+  held = ok.held;
+  bare = ok.bare;
+  group_range = ok.group_range;
+  housed = λ j m at. record {
+    told = λ h.
+        elim h [
+          | inl apart ↦
+              housed_beside m (once_at once j) (once_at once j) (group_at groups m.group) (group_at groups' m.group) (same_pieces (once_at once j))
+              (λ space. rw (blocks m.group space apart) (same_blocks _ _ (same_group (group_at groups m.group)) space)) (ok.housed j m at)
+          | inr e ↦ absurd (none_below j e)
+        ];
+    waits = λ same. rw same (room j m at same);
+  };
+  active_there = λ k j below at. ok.active_there k j below (sym (ap (λ (a : Activity). a.active) (activity k)) ∙ at);
+  active_known = λ k j at. ap (λ (a : Activity). a.active) (activity k) ∙ ok.active_known k j at;
+}
+
+-- the instance with the piece that comes back
+abbrev pub member_back : {M : Type 0} → Option (ℕ × Span) → Member M → Member M
+member_back back m = record m { inst = inst_with m.inst (restored back (instance_of m.inst).own) }

@@ -1,0 +1,56 @@
+use Rattle.std.proofs.Common.{sym, ◌∙◌, arith}
+use Rattle.host_map.specs.Picture.{blocks_in}
+use Rattle.host_spaces.specs.Picture.{picture_of}
+use Rattle.host_moves.proofs.Seen.{words_seen}
+use Rattle.host_moves.proofs.Homes.{standing_stays}
+use Rattle.host_moves.proofs.OwnMoves.{kind_itself, then_same, same_sizes, words_copied}
+use Rattle.host_moves.proofs.BlockMoves.{block_there, next_is, range_is, region_is, stands, words_now, inactive_words, told_now}
+use Rattle.host_moves.proofs.moves.move_block.Goals as goal
+
+pub take_block-requires : goal.take_block-requires
+take_block-requires g c = omega (arith, c.requires.number, (rw (← c.tables.view_is) at c.requires.ok).group_count)
+
+pub make_move-moved-requires-clause-region : goal.make_move-moved-requires-clause-region
+make_move-moved-requires-clause-region g c =
+    region_is _ _ _ _ _ c.args.g c.args.align (rw (← c.tables.view_is) at c.requires.ok) (rw (← c.tables.view_is) at c.requires.standing) c.requires.next c.requires.align _ (sym c.take_block.ensures.old ∙ c.in-Some.is)
+
+pub make_move-moved-requires-clause-next : goal.make_move-moved-requires-clause-next
+make_move-moved-requires-clause-next g c =
+    range_is _ _ _ _ _ c.args.g c.args.align (rw (← c.tables.view_is) at c.requires.ok) (rw (← c.tables.view_is) at c.requires.standing) c.requires.next c.requires.align _ (sym c.take_block.ensures.old ∙ c.in-Some.is)
+
+pub tell_members-requires-clause-told : goal.tell_members-requires-clause-told
+tell_members-requires-clause-told g c =
+    told_now _ _ _ _ _ c.args.g c.args.align (rw (← c.tables.view_is) at c.requires.ok) (rw (← c.tables.view_is) at c.requires.standing) c.requires.next c.requires.align _ (sym c.take_block.ensures.old ∙ c.in-Some.is)
+    c.make_move-moved.result _ _ _ c.make_move-moved.ensures.owned c.make_move-moved.ensures.others c.make_move-moved.ensures.elsewhere c.make_move-moved.ensures.regions
+    c.make_move-moved.ensures.words.0 c.make_move-moved.ensures.words.1 c.take_block.ensures.others c.put_block-old.ensures.others c.put_block-old.ensures.new
+    c.in_order.ensures (c.put_block-old.ensures.length ∙ c.take_block.ensures.length ∙ (rw (← c.tables.view_is) at c.requires.ok).group_count) (λ k. c.put_block-old.ensures.activity k ∙ c.take_block.ensures.activity k)
+
+pub unreachable-requires : goal.unreachable-requires
+unreachable-requires g c =
+    block_there _ _ _ _ _ c.args.g c.args.align (rw (← c.tables.view_is) at c.requires.ok) (rw (← c.tables.view_is) at c.requires.standing) c.requires.next c.requires.align (sym c.take_block.ensures.old ∙ c.in-None.is)
+
+pub returns : goal.returns
+returns g c =
+    rw (← c.tables.view_is)
+    (let stand = stands _ _ _ _ _ c.args.g c.args.align (rw (← c.tables.view_is) at c.requires.ok) (rw (← c.tables.view_is) at c.requires.standing) c.requires.next c.requires.align _ (sym c.take_block.ensures.old ∙ c.in-Some.is)
+    c.make_move-moved.result _ _ _ c.make_move-moved.ensures.owned c.make_move-moved.ensures.others c.make_move-moved.ensures.elsewhere c.make_move-moved.ensures.regions
+    c.make_move-moved.ensures.words.0 c.make_move-moved.ensures.words.1 c.take_block.ensures.others c.put_block-old.ensures.others c.put_block-old.ensures.new in
+    let words = words_now _ _ _ _ _ c.args.g c.args.align (rw (← c.tables.view_is) at c.requires.ok) (rw (← c.tables.view_is) at c.requires.standing) c.requires.next c.requires.align _ (sym c.take_block.ensures.old ∙ c.in-Some.is)
+    c.make_move-moved.result _ _ _ c.make_move-moved.ensures.owned c.make_move-moved.ensures.others c.make_move-moved.ensures.elsewhere c.make_move-moved.ensures.regions
+    c.make_move-moved.ensures.words.0 c.make_move-moved.ensures.words.1 c.take_block.ensures.others c.put_block-old.ensures.others c.put_block-old.ensures.new in
+    let resting = inactive_words _ _ _ _ _ c.args.g c.args.align (rw (← c.tables.view_is) at c.requires.ok) (rw (← c.tables.view_is) at c.requires.standing) c.requires.next c.requires.align _ (sym c.take_block.ensures.old ∙ c.in-Some.is)
+    c.make_move-moved.result _ _ _ c.make_move-moved.ensures.owned c.make_move-moved.ensures.others c.make_move-moved.ensures.elsewhere c.make_move-moved.ensures.regions
+    c.make_move-moved.ensures.words.0 c.make_move-moved.ensures.words.1 c.take_block.ensures.others c.put_block-old.ensures.others c.put_block-old.ensures.new
+    _ (λ k. c.put_block-old.ensures.activity k ∙ c.take_block.ensures.activity k) c.tell_members.ensures.inactive in
+    record {
+      ok = c.tell_members.ensures.ok;
+      standing = standing_stays _ _ _ _ _ _ _ c.tell_members.ensures.same stand;
+      words = resting;
+      same = then_same _ _ _ _ _ _ _ (λ j. kind_itself _) c.tell_members.ensures.same;
+      activity = λ k. c.tell_members.ensures.activity k ∙ c.put_block-old.ensures.activity k ∙ c.take_block.ensures.activity k;
+      picture = c.make_move-moved.ensures.picture;
+      sizes = same_sizes _ _ c.make_move-moved.ensures.regions;
+      copied = words_copied (blocks_in (picture_of c.args.spaces.now) c.args.space) _ _ _ _ c.in-Some.piece
+          (next_is _ _ _ _ _ c.args.g c.args.align (rw (← c.tables.view_is) at c.requires.ok) (rw (← c.tables.view_is) at c.requires.standing) c.requires.next c.requires.align _ (sym c.take_block.ensures.old ∙ c.in-Some.is)) c.make_move-moved.ensures.copied;
+      keeps = λ w histories before. c.tell_members.ensures.keeps w histories (words_seen g.M.Ialg.meaning g.M.Ialg.idle_keeps g.M.Ialg.active_keeps w histories _ _ _ _ _ _ (rw (← c.tables.view_is) at c.requires.ok) words before);
+    })

@@ -1,0 +1,59 @@
+use Rattle.host_map.specs.Picture.{blocks_in}
+use Rattle.host_spaces.specs.Picture.{picture_of}
+use Rattle.host_moves.proofs.Seen.{words_seen, words_at_rest}
+use Rattle.host_moves.proofs.Homes.{standing_stays}
+use Rattle.host_moves.proofs.OwnMoves.{next_is, region_is, range_is, living_away, can_come_back, told_others, tables_away, room_back, stands_back, kinds_back, words_back, then_same, same_sizes, words_copied}
+use Rattle.host_moves.proofs.moves.move_own.Goals as goal
+
+pub make_move-moved-requires-clause-region : goal.make_move-moved-requires-clause-region
+make_move-moved-requires-clause-region g c =
+    region_is _ _ _ _ _ c.args.i c.args.k _ (rw (← c.tables.view_is) at c.requires.ok) (rw (← c.tables.view_is) at c.requires.standing) c.requires.next c.take_own-piece.ensures.piece
+
+pub make_move-moved-requires-clause-next : goal.make_move-moved-requires-clause-next
+make_move-moved-requires-clause-next g c =
+    range_is _ _ _ _ _ c.args.i c.args.k _ (rw (← c.tables.view_is) at c.requires.ok) (rw (← c.tables.view_is) at c.requires.standing) c.requires.next c.take_own-piece.ensures.piece
+
+pub tell-requires-clause-living : goal.tell-requires-clause-living
+tell-requires-clause-living g c =
+    rw c.take_own-piece.ensures.left (living_away _ _ _ _ _ c.args.i c.args.k _ (rw (← c.tables.view_is) at c.requires.ok) (rw (← c.tables.view_is) at c.requires.standing) c.requires.next c.take_own-piece.ensures.piece)
+
+pub tell-requires-clause-back : goal.tell-requires-clause-back
+tell-requires-clause-back g c =
+    rw c.take_own-piece.ensures.left (can_come_back _ _ _ _ _ c.args.i c.args.k _ (rw (← c.tables.view_is) at c.requires.ok) (rw (← c.tables.view_is) at c.requires.standing) c.requires.next c.take_own-piece.ensures.piece)
+
+pub tell-requires-clause-there : goal.tell-requires-clause-there
+tell-requires-clause-there g c =
+    rw c.take_own-piece.ensures.left (tables_away _ _ _ _ _ c.args.i c.args.k _ (rw (← c.tables.view_is) at c.requires.ok) (rw (← c.tables.view_is) at c.requires.standing) c.requires.next c.take_own-piece.ensures.piece)
+
+pub tell-requires-clause-room : goal.tell-requires-clause-room
+tell-requires-clause-room g c =
+    rw c.take_own-piece.ensures.left
+    (room_back _ _ _ _ _ c.args.i c.args.k _ (rw (← c.tables.view_is) at c.requires.ok) (rw (← c.tables.view_is) at c.requires.standing) c.requires.next c.take_own-piece.ensures.piece _ _
+    c.make_move-moved.ensures.owned c.make_move-moved.ensures.others c.make_move-moved.ensures.elsewhere c.make_move-moved.ensures.regions
+    c.make_move-moved.ensures.words.0 c.make_move-moved.ensures.words.1 c.in_order.ensures)
+
+pub returns : goal.returns
+returns g c =
+    rw (← c.tables.view_is)
+    (let same = rw c.take_own-piece.ensures.left at c.tell.ensures.same in
+    let keeps = rw c.take_own-piece.ensures.left at c.tell.ensures.keeps in
+    let stands = stands_back _ _ _ _ _ c.args.i c.args.k _ (rw (← c.tables.view_is) at c.requires.ok) (rw (← c.tables.view_is) at c.requires.standing) c.requires.next c.take_own-piece.ensures.piece _ _
+    c.make_move-moved.ensures.owned c.make_move-moved.ensures.others c.make_move-moved.ensures.elsewhere c.make_move-moved.ensures.regions
+    c.make_move-moved.ensures.words.0 c.make_move-moved.ensures.words.1 in
+    let kinds = kinds_back _ _ _ _ _ c.args.i c.args.k _ (rw (← c.tables.view_is) at c.requires.ok) (rw (← c.tables.view_is) at c.requires.standing) c.requires.next c.take_own-piece.ensures.piece _ _
+    c.make_move-moved.ensures.owned c.make_move-moved.ensures.others c.make_move-moved.ensures.elsewhere c.make_move-moved.ensures.regions
+    c.make_move-moved.ensures.words.0 c.make_move-moved.ensures.words.1 in
+    let words = words_back _ _ _ _ _ c.args.i c.args.k _ (rw (← c.tables.view_is) at c.requires.ok) (rw (← c.tables.view_is) at c.requires.standing) c.requires.next c.take_own-piece.ensures.piece _ _
+    c.make_move-moved.ensures.owned c.make_move-moved.ensures.others c.make_move-moved.ensures.elsewhere c.make_move-moved.ensures.regions
+    c.make_move-moved.ensures.words.0 c.make_move-moved.ensures.words.1 in
+    record {
+      ok = c.tell.ensures.ok (rw c.take_own-piece.ensures.left (told_others _ _ _ _ _ c.args.i c.args.k _ (rw (← c.tables.view_is) at c.requires.ok) (rw (← c.tables.view_is) at c.requires.standing) c.requires.next c.take_own-piece.ensures.piece));
+      standing = standing_stays _ _ _ _ _ _ _ same stands;
+      words = words_at_rest _ _ c.tell.ensures.inactive;
+      same = then_same _ _ _ _ _ _ _ kinds same;
+      activity = c.tell.ensures.activity;
+      picture = c.make_move-moved.ensures.picture;
+      sizes = same_sizes _ _ c.make_move-moved.ensures.regions;
+      copied = words_copied (blocks_in (picture_of c.args.spaces.now) c.args.space) _ _ _ _ c.take_own-piece.result (next_is _ _ _ _ _ c.args.i c.args.k _ (rw (← c.tables.view_is) at c.requires.ok) (rw (← c.tables.view_is) at c.requires.standing) c.requires.next c.take_own-piece.ensures.piece) c.make_move-moved.ensures.copied;
+      keeps = λ w histories before. keeps w histories (words_seen g.M.Ialg.meaning g.M.Ialg.idle_keeps g.M.Ialg.active_keeps w histories _ _ _ _ _ _ (rw (← c.tables.view_is) at c.requires.ok) words before);
+    })

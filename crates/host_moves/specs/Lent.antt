@@ -1,0 +1,29 @@
+-- What is lent to an instance in a call, space by space.
+use Rattle.std.specs.Prelude.{ℕ, List, Option, Some, None, if◌then◌else◌}
+use Rattle.space_raw.specs.Span.{Span}
+use Rattle.mem_rec.specs.declared.Space.{Space}
+use Rattle.mem_rec.specs.Records.{same_space}
+use Rattle.ialg.specs.Records.{record_at}
+use Rattle.record_loans.specs.declared.pieces.Pieces.{Pieces}
+use Rattle.lifecycle.specs.Rooms.{piece_of_record}
+use Rattle.host_table.specs.declared.member.Member.{Member}
+use Rattle.host_shared.specs.declared.shelves.Shelf.{Shelf}
+use Rattle.host_table.specs.Table.{slot_at, instance_of, AreAlike}
+use Rattle.host_shared.specs.Shelves.{once_at}
+use Rattle.host_moves.specs.Standing.{table_of}
+
+-- the piece of record k of what stands in a slot, which sees these pieces for its write-once records, if it is of this space
+abbrev pub record_in : {M : Type 0} → Option (Member M) → Pieces → ℕ → Space → Option Span
+record_in None seen k space = None
+record_in (Some m) seen k space =
+    if same_space (record_at (table_of m) k).space space then piece_of_record (table_of m) (instance_of m.inst).own seen k else None
+
+-- the piece of record k that is lent to instance i in this space
+abbrev pub lent_record : {M : Type 0} → List (Option (Member M)) → List Shelf → ℕ → ℕ → Space → Option Span
+lent_record slots once i k space = record_in (slot_at slots i) (once_at once i) k space
+
+-- both slots have instances, which are alike in write-once record k
+abbrev pub AreHolders : {M : Type 0} → ℕ → Option (Member M) → Option (Member M) → Type 0
+AreHolders k None other = ⊥
+AreHolders k (Some m) None = ⊥
+AreHolders k (Some m) (Some n) = AreAlike k (instance_of m.inst) (instance_of n.inst)

@@ -1,0 +1,4 @@
+pub mod Waiting
+pub mod Standing
+pub mod Moves
+pub mod Lent

@@ -1,0 +1,40 @@
+//! The blocks of groups, put in and taken out.
+ghost use Rattle.std.specs.Prelude.{◌≡◌, ◌≢◌, ◌⊎◌, ◌<◌, ℕ, length, Some, None};
+ghost use Rattle.mem_rec.specs.declared.Space.{Space};
+ghost use Rattle.record_loans.specs.Blocks.{block_piece};
+ghost use Rattle.scratch_group.specs.Blocks.{block_in};
+ghost use Rattle.host_table.specs.Table.{group_at, activity_at};
+
+use mem_rec::Space;
+use scratch_group::Group;
+use space_raw::Piece;
+
+/// Puts a block of this alignment into a space of a group, and gives back the one that stood there.
+pub fn put_block(
+    groups: &mut Vec<Group>,
+    g: u8,
+    space: Space,
+    piece: Piece,
+    align: u32,
+) -> Option<Piece>
+    requires { g < length groups.old.items }
+    ensures old { result ≡ block_piece (block_in (group_at groups.old.items g) space) }
+    ensures new { block_in (group_at groups.new.items g) space ≡ Some (record { piece = piece; align = align }) }
+    ensures others { (k : ℕ) (other : Space) → (k ≢ g) ⊎ (other ≢ space) → block_in (group_at groups.new.items k) other ≡ block_in (group_at groups.old.items k) other }
+    ensures activity { (k : ℕ) → activity_at groups.new.items k ≡ activity_at groups.old.items k }
+    ensures length { length groups.new.items ≡ length groups.old.items }
+{
+    groups[g as usize].replace(space, piece, align)
+}
+
+/// Takes the block out of a space of a group.
+pub fn take_block(groups: &mut Vec<Group>, g: u8, space: Space) -> Option<Piece>
+    requires { g < length groups.old.items }
+    ensures old { result ≡ block_piece (block_in (group_at groups.old.items g) space) }
+    ensures new { block_in (group_at groups.new.items g) space ≡ None }
+    ensures others { (k : ℕ) (other : Space) → (k ≢ g) ⊎ (other ≢ space) → block_in (group_at groups.new.items k) other ≡ block_in (group_at groups.old.items k) other }
+    ensures activity { (k : ℕ) → activity_at groups.new.items k ≡ activity_at groups.old.items k }
+    ensures length { length groups.new.items ≡ length groups.old.items }
+{
+    groups[g as usize].remove(space)
+}

@@ -1,0 +1,71 @@
+//! What moves leave as it is. The calls do nothing: their contracts are the laws.
+ghost use Rattle.std.specs.Prelude.{◌≡◌, ◌≢◌, ◌⊎◌, ◌<◌, ℕ, ℤ, true, List, length, Option, Some, nat_eq, if◌then◌else◌};
+ghost use Rattle.space_raw.specs.Span.{Span};
+ghost use Rattle.mem_rec.specs.declared.TheConstants.{TABLE_RECORDS, GROUPS};
+ghost use Rattle.mem_rec.specs.declared.Space.{Space};
+ghost use Rattle.ialg.specs.History.{History};
+ghost use Rattle.ialg.specs.Records.{ArePoison};
+ghost use Rattle.record_loans.specs.declared.pieces.Pieces.{Pieces};
+ghost use Rattle.record_loans.specs.Pieces.{with_piece};
+ghost use Rattle.record_loans.specs.Blocks.{block_words};
+ghost use Rattle.scratch_group.specs.declared.group.Group.{Group};
+ghost use Rattle.scratch_group.specs.Blocks.{block_in};
+ghost use Rattle.lifecycle.specs.Moves.{HasRoom};
+ghost use Rattle.host_table.specs.declared.member.Member.{Member};
+ghost use Rattle.host_shared.specs.declared.shelves.Shelf.{Shelf};
+ghost use Rattle.host_shared.specs.declared.shelves.Stand.TheVariants.{Here};
+ghost use Rattle.host_shared.specs.Shelves.{stand_at, shelf_at, pieces_here, once_at};
+ghost use Rattle.host_shared.specs.Homes.{AllHaveHomes};
+ghost use Rattle.host_table.specs.Table.{slot_at, group_at, instance_of, activity_at, TablesOk, TablesTold, ArePoisoned};
+ghost use Rattle.host_table.specs.Keeps.{Keeps};
+ghost use Rattle.host_moves.specs.Waiting.{own_set, slid_to, holds_with, TablesBut, TablesWaiting, WordsStay};
+
+use ialg::Ialg;
+
+/// The law that an instance keeps its history wherever its words lie; and that no member of a group sees blocks in which it has no words.
+pub fn words<M: Ialg>()
+    ensures { (w : Option ℤ) (histories : ℕ → History) (slots slots' : List (Option (Member M))) (once once' : List Shelf) (groups groups' : List Group)
+        → TablesOk slots once groups → WordsStay slots once groups slots' once' groups'
+        → Keeps M.meaning M.idle_keeps M.active_keeps w slots once groups histories
+        → Keeps M.meaning M.idle_keeps M.active_keeps w slots' once' groups' histories }
+{}
+
+/// The law that the pieces of one instance concern no other.
+pub fn apart<M: Ialg>()
+    ensures all { (i : ℕ) (slots : List (Option (Member M))) (once : List Shelf) (groups : List Group) → TablesOk slots once groups → TablesBut i slots once groups }
+    ensures own { (i : ℕ) (own : Pieces) (slots : List (Option (Member M))) (once : List Shelf) (groups : List Group)
+        → TablesBut i slots once groups → TablesBut i (own_set slots i own) once groups }
+{}
+
+/// The law that after a write-once piece lies elsewhere, in which its holders have room, these wait to be told, and no other instance does.
+/// Nothing stands with another instance than before.
+pub fn slid<M: Ialg>()
+    ensures waiting { (i k : ℕ) (p q : Span) (slots : List (Option (Member M))) (once : List Shelf) (groups : List Group) → TablesOk slots once groups
+        → k < TABLE_RECORDS → stand_at (shelf_at once i) k ≡ Here (Some p)
+        → ((j : ℕ) (m : Member M) → slot_at slots j ≡ Some m → holds_with once i k j ≡ true
+        → HasRoom (instance_of m.inst) (once_at (slid_to once i k q) j) (group_at groups m.group))
+        → TablesWaiting (holds_with (slid_to once i k q) i k) slots (slid_to once i k q) groups }
+    ensures seen { (i k : ℕ) (p q : Span) (once : List Shelf) → AllHaveHomes once → k < TABLE_RECORDS → stand_at (shelf_at once i) k ≡ Here (Some p)
+        → (j : ℕ) → once_at (slid_to once i k q) j ≡ (if holds_with once i k j then with_piece (once_at once j) k (Some q) else once_at once j) }
+    ensures here { (i k : ℕ) (p q : Span) (once : List Shelf) → AllHaveHomes once → k < TABLE_RECORDS → stand_at (shelf_at once i) k ≡ Here (Some p)
+        → (j : ℕ) → pieces_here (shelf_at (slid_to once i k q) j) ≡ (if nat_eq j i then with_piece (pieces_here (shelf_at once j)) k (Some q) else pieces_here (shelf_at once j)) }
+{}
+
+/// The law that after a change of a group's blocks, in which its members have room, these wait to be told, and no other instance does.
+pub fn waiting<M: Ialg>()
+    ensures { (g : ℕ) (slots : List (Option (Member M))) (once : List Shelf) (groups groups' : List Group) → TablesOk slots once groups
+        → length groups' ≡ GROUPS
+        → ((k : ℕ) → activity_at groups' k ≡ activity_at groups k)
+        → ((k : ℕ) (space : Space) → k ≢ g → block_in (group_at groups' k) space ≡ block_in (group_at groups k) space)
+        → ((i : ℕ) (m : Member M) → slot_at slots i ≡ Some m → m.group ≡ g → HasRoom (instance_of m.inst) (once_at once i) (group_at groups' g))
+        → TablesTold g 0 slots once groups' }
+{}
+
+/// The law that where no member is active the blocks hold the poison word still, if each that changes holds it.
+pub fn poisoned()
+    ensures { (w : Option ℤ) (groups groups' : List Group) → ArePoisoned w groups
+        → ((k : ℕ) → activity_at groups' k ≡ activity_at groups k)
+        → ((k : ℕ) (space : Space) → (block_words (block_in (group_at groups' k) space) ≡ block_words (block_in (group_at groups k) space))
+        ⊎ ArePoison w (block_words (block_in (group_at groups' k) space)))
+        → ArePoisoned w groups' }
+{}

@@ -1,0 +1,23 @@
+// SPDX-License-Identifier: Apache-2.0
+//! Moves of records and blocks, and the invariant of tables and spaces.
+//!
+//! The records of each instance, and the blocks of each group, lie where the memory map shows them. A move takes a piece out, moves it, and
+//! puts it back; then every instance that has records in it is called by algMoved, an active one too, which stays active. The words of its
+//! records are the same, so it keeps its history.
+#![tactic(auto)]
+
+mod blocks;
+mod held_laws;
+mod laws;
+mod moves;
+mod order;
+mod records;
+mod told;
+
+pub use blocks::{put_block, take_block};
+pub use held_laws::{apart, poisoned, slid, waiting, words};
+pub use laws::{loans_are_apart, maps_have_room, nobody_stands, places_stay};
+pub use moves::make_next_move;
+pub use order::in_order;
+pub use records::{put_once, take_once, take_own};
+pub use told::{tell, tell_holders};

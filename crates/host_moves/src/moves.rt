@@ -1,0 +1,114 @@
+//! Moves: the next block of a space is slid down to its packed place, and whoever has records in it is told.
+ghost use Rattle.std.specs.Prelude.{◌≡◌, ◌<◌, length, true, false, Some, None, IsSome, is_some};
+ghost use Rattle.record_loans.specs.Pieces.{piece_at};
+ghost use Rattle.mem_rec.specs.declared.TheConstants.{INSTANCES, GROUPS};
+ghost use Rattle.host_table.specs.Table.{slot_at, own_of};
+ghost use Rattle.host_shared.specs.Shelves.{once_at};
+ghost use Rattle.host_map.specs.declared.placed.Owner.{Owner};
+ghost use Rattle.host_map.specs.declared.placed.Placed.{Placed};
+ghost use Rattle.host_map.specs.Moves.{next_block};
+ghost use Rattle.host_map.specs.Picture.{blocks_in};
+ghost use Rattle.host_spaces.specs.Picture.{picture_of};
+ghost use Rattle.host_moves.specs.Moves.{IsNextOf, Moved};
+ghost use Rattle.host_table.specs.Steps.{AreConsistent, laws};
+ghost use Rattle.host_moves.specs.Standing.{MapAgrees};
+
+use crate::blocks::{put_block, take_block};
+use crate::order::in_order;
+use crate::records::{put_once, take_once, take_own};
+use crate::told::{tell, tell_holders};
+use host_life::tell_members;
+use host_map::Owner;
+use host_shared::sees;
+use host_spaces::Spaces;
+use host_table::Tables;
+use ialg::Ialg;
+use mem_rec::Space;
+use space_raw::Piece;
+
+/// Moves a record that an instance has for its own.
+fn move_own<M: Ialg>(tables: &mut Tables<M>, spaces: &mut Spaces, space: Space, i: u8, k: u8)
+    requires ok { AreConsistent tables.old }
+    requires standing { MapAgrees tables.old spaces.old }
+    requires next { IsNextOf spaces.old space (Owner.Record i k) }
+    requires own { IsSome (piece_at (own_of (slot_at tables.old.slots i)) k) }
+    ensures { Moved (laws M.meaning M.idle_keeps M.active_keeps) space tables.old spaces.old tables.new spaces.new }
+{
+    let piece = take_own(&mut tables.slots, i, k as usize);
+    let moved = spaces.make_move(space, piece);
+    in_order(spaces);
+    tell(tables, i, Some((k as usize, moved)));
+}
+
+/// Moves a write-once record that stands with an instance. All its holders are told.
+fn move_once<M: Ialg>(tables: &mut Tables<M>, spaces: &mut Spaces, space: Space, i: u8, k: u8)
+    requires ok { AreConsistent tables.old }
+    requires standing { MapAgrees tables.old spaces.old }
+    requires next { IsNextOf spaces.old space (Owner.Record i k) }
+    requires number { i < length tables.old.once }
+    requires shared { IsSome (piece_at (once_at tables.old.once i) k) }
+    ensures { Moved (laws M.meaning M.idle_keeps M.active_keeps) space tables.old spaces.old tables.new spaces.new }
+{
+    let piece = take_once(&mut tables.once, i, k as usize);
+    let moved = spaces.make_move(space, piece);
+    in_order(spaces);
+    put_once(&mut tables.once, i, k as usize, moved);
+    tell_holders(tables, i, k as usize);
+}
+
+/// Moves the block of a group.
+fn move_block<M: Ialg>(tables: &mut Tables<M>, spaces: &mut Spaces, space: Space, g: u8, align: u32)
+    requires ok { AreConsistent tables.old }
+    requires standing { MapAgrees tables.old spaces.old }
+    requires number { g < GROUPS }
+    requires next { IsNextOf spaces.old space (Owner.Scratch g) }
+    requires align { (b : Placed) → next_block (blocks_in (picture_of spaces.old) space) ≡ Some b → b.align ≡ align }
+    ensures { Moved (laws M.meaning M.idle_keeps M.active_keeps) space tables.old spaces.old tables.new spaces.new }
+{
+    match take_block(&mut tables.groups, g, space) {
+        Some(piece) => {
+            let moved = spaces.make_move(space, piece);
+            in_order(spaces);
+            let old = put_block(&mut tables.groups, g, space, moved, align);
+            end_none(old);
+            tell_members(&mut tables.slots, &mut tables.once, &mut tables.groups, g);
+        }
+        None => unreachable!(),
+    }
+}
+
+/// Ends a piece that isn't there.
+fn end_none(piece: Option<Piece>)
+    requires { piece ≡ None }
+{
+    match piece {
+        Some(_piece) => unreachable!(),
+        None => {}
+    }
+}
+
+/// Makes the next move of a space: its first block that isn't at its packed place is slid down to it, with its words, and each instance that
+/// has words in it is told, in ascending number: its owner, and all that share the record with it, or each member of its group. Says whether
+/// a block moved.
+pub fn make_next_move<M: Ialg>(tables: &mut Tables<M>, spaces: &mut Spaces, space: Space) -> bool
+    requires ok { AreConsistent tables.old }
+    requires standing { MapAgrees tables.old spaces.old }
+    ensures answer { result ≡ is_some (next_block (blocks_in (picture_of spaces.old) space)) }
+    ensures moved { result ≡ true → Moved (laws M.meaning M.idle_keeps M.active_keeps) space tables.old spaces.old tables.new spaces.new }
+    ensures packed { result ≡ false → (tables.new ≡ tables.old) × (spaces.new ≡ spaces.old) }
+{
+    let Some(block) = spaces.next_move(space) else {
+        return false;
+    };
+    match block.owner {
+        Owner::Record(i, k) => {
+            if sees(&tables.once, i as usize, k as usize) {
+                move_once(tables, spaces, space, i, k);
+            } else {
+                move_own(tables, spaces, space, i, k);
+            }
+        }
+        Owner::Scratch(g) => move_block(tables, spaces, space, g, block.align),
+    }
+    true
+}

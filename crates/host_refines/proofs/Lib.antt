@@ -1,0 +1,4 @@
+pub mod KeptLemmas
+pub mod TwinsKept
+pub mod MovesKept
+pub mod Compactions

@@ -1,0 +1,65 @@
+-- Moves change the places of blocks alone.
+use Rattle.std.proofs.Common.{◌≡◌, ℕ, zero, suc, ◌+◌, List, [], ◌∷◌, map, Option, Some, None, refl, ap}
+use Rattle.std.specs.Int.{next_multiple_of}
+use Rattle.mem_rec.specs.declared.Space.{Space}
+use Rattle.mem_rec.specs.declared.Space.TheVariants.{Daram, Saram, External}
+use Rattle.relocate.specs.declared.packing.Move.{Move}
+use Rattle.relocate.specs.Packing.{packed_from}
+use Rattle.host_map.specs.declared.placed.Placed.{Placed}
+use Rattle.host_map.specs.Moves.{spots_of, next_in, next_block, moved_to, moved_by, moved, at_places, packed}
+use Rattle.host_map.specs.Picture.{Picture, blocks_in, with_blocks}
+use Rattle.host_spec.specs.State.{State}
+use Rattle.host_spec.specs.Steps.{moving, step, compact}
+use Rattle.host_spec.specs.Laws.{unplaced_block, OnlyMoves}
+
+-- the blocks without their places
+abbrev unplaced_blocks : List Placed → List Placed
+unplaced_blocks blocks = map unplaced_block blocks
+
+same_moved_to : (bs : List Placed) (index to : ℕ) → unplaced_blocks (moved_to bs index to) ≡ unplaced_blocks bs
+same_moved_to [] index to = refl
+same_moved_to (b ∷ bs) zero to = refl
+same_moved_to (b ∷ bs) (suc index) to = ap (λ others. unplaced_block b ∷ others) (same_moved_to bs index to)
+
+same_moved_by : (m : Option Move) (bs : List Placed) → unplaced_blocks (moved_by m bs) ≡ unplaced_blocks bs
+same_moved_by None bs = refl
+same_moved_by (Some m) bs = same_moved_to bs m.index m.to
+
+same_packed : (end : ℕ) (bs : List Placed) → unplaced_blocks (at_places bs (packed_from end (spots_of bs))) ≡ unplaced_blocks bs
+same_packed end [] = refl
+same_packed end (b ∷ bs) = ap (λ others. unplaced_block b ∷ others) (same_packed (next_multiple_of end b.align + b.size) bs)
+
+same_picture : (picture : Picture) (space : Space) (blocks : List Placed) → unplaced_blocks blocks ≡ unplaced_blocks (blocks_in picture space)
+    → (other : Space) → unplaced_blocks (blocks_in (with_blocks picture space blocks) other) ≡ unplaced_blocks (blocks_in picture other)
+same_picture picture Daram blocks e Daram = e
+same_picture picture Daram blocks e Saram = refl
+same_picture picture Daram blocks e External = refl
+same_picture picture Saram blocks e Daram = refl
+same_picture picture Saram blocks e Saram = e
+same_picture picture Saram blocks e External = refl
+same_picture picture External blocks e Daram = refl
+same_picture picture External blocks e Saram = refl
+same_picture picture External blocks e External = e
+
+module _ {M : Type 0} (before : State M) (space : Space) where
+  moving_moves : (next : Option Placed) → OnlyMoves before (moving before space next).1
+  moving_moves None = record { living = refl; activity = refl; blocks = λ other. refl }
+  moving_moves (Some b) = record {
+    living = refl;
+    activity = refl;
+    blocks =
+        let blocks = blocks_in before.picture space in
+        same_picture before.picture space (moved blocks) (same_moved_by (next_in blocks) blocks);
+  }
+
+  pub step_moves : OnlyMoves before (step before space).1
+  step_moves = moving_moves (next_block (blocks_in before.picture space))
+
+  pub compact_moves : OnlyMoves before (compact before space).1
+  compact_moves = record {
+    living = refl;
+    activity = refl;
+    blocks =
+        let blocks = blocks_in before.picture space in
+        same_picture before.picture space (packed blocks) (same_packed 0 blocks);
+  }

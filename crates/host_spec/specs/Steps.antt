@@ -1,0 +1,153 @@
+-- What each call answers, and the state after it.
+use Rattle.std.specs.Prelude.{ℕ, ℤ, ◌+◌, ◌-◌, ◌^◌, min, Bool, true, false, not, ◌&&◌, List, [], ◌∷◌, Option, Some, None, is_some, is_none, Result, Ok, Err, fold, if◌then◌else◌}
+use Rattle.mem_rec.specs.declared.MemRec.{MemRec}
+use Rattle.mem_rec.specs.declared.Space.{Space}
+use Rattle.ialg.specs.declared.refusal.Refusal.{Refusal}
+use Rattle.ialg.specs.declared.refusal.Refusal.TheVariants.{Range, Taken, Missing, Params, Room, Command}
+use Rattle.ialg.specs.Refusals.{first_refusal}
+use Rattle.ialg.specs.History.{Ctl, Control, with_samples}
+use Rattle.ialg.specs.Meaning.{Meaning, Status}
+use Rattle.ialg.specs.Records.{unplaced}
+use Rattle.relocate.specs.Places.{numbers_below}
+use Rattle.relocate.specs.Packing.{unpacked_count, unpacked_words}
+use Rattle.mem_rec.specs.declared.TheConstants.{INSTANCES}
+use Rattle.host_map.specs.declared.placed.Placed.{Placed}
+use Rattle.host_map.specs.Moves.{next_block, spots_of}
+use Rattle.host_map.specs.Picture.{Picture, blocks_in, moved_in, packed_in}
+use Rattle.host_map.specs.Creation.{created_picture, replaces, deleted_picture}
+use Rattle.host_map.specs.Activity.{Activity, touched, rested, quieted, with_activity}
+use Rattle.host_spec.specs.State.{Living, State, with_living, has_member, twins_of, is_instance_number, is_group_number}
+
+-- what a call that can be refused answers, and the state after it
+abbrev pub Outcome : Type 0 → Type 0 → Type 0
+Outcome M A = Result A Refusal × State M
+
+-- a refused call leaves the state
+abbrev pub unless : {M A : Type 0} → Option Refusal → State M → Outcome M A → Outcome M A
+unless None before outcome = outcome
+unless (Some refusal) before outcome = (Err refusal, before)
+
+-- the words that were moved, with so many more. They stay at the greatest number
+abbrev pub more_copied : ℕ → ℕ → ℕ
+more_copied copied words = min (copied + words) (2 ^ 64 - 1)
+
+-- an instance that was given nothing yet
+abbrev pub newborn : {M : Type 0} → M → ℕ → List ℤ → List MemRec → Living M
+newborn kind g p table = record { kind = kind; params = p; table = unplaced table; group = g; history = [] }
+
+module _ {M : Type 0} (before : State M) where
+  -- ---- creation
+
+  abbrev pub create_refusal : ℕ → ℕ → Option Refusal
+  create_refusal i g =
+      first_refusal ((not (is_instance_number i && is_group_number g), Range) ∷ (is_some (before.living i), Taken) ∷ [])
+
+  -- no member stays active where a block of the group is replaced
+  abbrev pub activity_after_create : ℕ → List MemRec → ℕ → Activity
+  activity_after_create g table =
+      if replaces before.picture g table then with_activity before.activity g (rested (before.activity g)) else before.activity
+
+  abbrev pub created : ℕ → Living M → List MemRec → Picture → State M
+  created i x table picture = record before {
+    living = with_living before.living i (Some x);
+    picture = picture;
+    activity = activity_after_create x.group table;
+  }
+
+  abbrev pub with_room : ℕ → Living M → List MemRec → Result Picture Space → Outcome M (Unit {0})
+  with_room i x table (Err space) = (Err (Room space), before)
+  with_room i x table (Ok picture) = (Ok tt, created i x table picture)
+
+  -- ---- controls and samples
+
+  -- the instance has become the active member of its group, with this instance in its place
+  abbrev pub touching : ℕ → Living M → State M
+  touching i x = record before {
+    living = with_living before.living i (Some x);
+    activity = with_activity before.activity x.group (touched i (before.activity x.group));
+  }
+
+  abbrev pub controlled : ℕ → Option (Living M) → Ctl → State M
+  controlled i None c = before
+  controlled i (Some x) c = touching i (record x { history = Control c ∷ x.history })
+
+  abbrev pub control_refusal : ℕ → Bool → Option Refusal
+  control_refusal i taken =
+      first_refusal ((not (is_instance_number i), Range) ∷ (is_none (before.living i), Missing) ∷ (not taken, Command) ∷ [])
+
+  -- the instance takes the control and answers so, or doesn't take it
+  abbrev pub control : ℕ → Ctl → Bool → Status → Outcome M Status
+  control i c taken status = unless (control_refusal i taken) before (Ok status, controlled i (before.living i) c)
+
+  abbrev pub given : ℕ → Option (Living M) → List ℤ → State M
+  given i None block = before
+  given i (Some x) [] = before
+  given i (Some x) (s ∷ block) = touching i (record x { history = with_samples x.history (s ∷ block) })
+
+  -- an empty block touches no instance
+  abbrev pub processed : ℕ → List ℤ → State M
+  processed i block = given i (before.living i) block
+
+  -- ---- deletion
+
+  abbrev pub instance_refusal : ℕ → Option Refusal
+  instance_refusal i = first_refusal ((not (is_instance_number i), Range) ∷ (is_none (before.living i), Missing) ∷ [])
+
+  -- ---- groups
+
+  abbrev pub group_refusal : ℕ → Option Refusal
+  group_refusal g = first_refusal ((not (is_group_number g), Range) ∷ [])
+
+  -- whether a member was active
+  abbrev pub release : ℕ → Outcome M Bool
+  release g =
+      unless (group_refusal g) before
+      (Ok (is_some (before.activity g).active), record before { activity = with_activity before.activity g (rested (before.activity g)) })
+
+  abbrev pub stat : ℕ → Outcome M Activity
+  stat g = unless (group_refusal g) before (Ok (before.activity g), before)
+
+  -- ---- moves
+
+  -- whether a block moved
+  abbrev pub moving : Space → Option Placed → Bool × State M
+  moving space None = (false, before)
+  moving space (Some b) = (true, record before { picture = moved_in before.picture space; copied = more_copied before.copied b.size })
+
+  abbrev pub step : Space → Bool × State M
+  step space = moving space (next_block (blocks_in before.picture space))
+
+  -- how many blocks moved
+  abbrev pub compact : Space → ℕ × State M
+  compact space =
+      let spots = spots_of (blocks_in before.picture space) in
+      (unpacked_count spots, record before { picture = packed_in before.picture space; copied = more_copied before.copied (unpacked_words spots) })
+
+module _ {M : Type 0} (kinds : Meaning M) (before : State M) where
+  -- the kind asks for this memory, or refuses the parameters
+  abbrev pub with_memory : ℕ → M → ℕ → List ℤ → Option (List MemRec) → Outcome M (Unit {0})
+  with_memory i kind g p None = (Err Params, before)
+  with_memory i kind g p (Some table) =
+      let x = newborn kind g p table in
+      with_room before i x table (created_picture before.sizes before.picture i g table (twins_of kinds before.living x))
+
+  abbrev pub create : ℕ → M → ℕ → List ℤ → Option (List MemRec) → Outcome M (Unit {0})
+  create i kind g p table = unless (create_refusal before i g) before (with_memory i kind g p table)
+
+  -- its records go, and its group's blocks with the last member. The count stays
+  abbrev pub without_instance : ℕ → Option (Living M) → State M
+  without_instance i None = before
+  without_instance i (Some x) =
+      let others = with_living before.living i None in
+      record before {
+        living = others;
+        picture = deleted_picture (has_member others x.group) before.picture i x.group (twins_of kinds others x);
+        activity = with_activity before.activity x.group (quieted i (before.activity x.group));
+      }
+
+  abbrev pub delete : ℕ → Outcome M (Unit {0})
+  delete i = unless (instance_refusal before i) before (Ok tt, without_instance i (before.living i))
+
+-- all instances are deleted, in ascending number
+abbrev pub closed : {M : Type 0} → Meaning M → State M → State M
+closed kinds state = fold (λ left i. (delete kinds left i).1) state (numbers_below INSTANCES)

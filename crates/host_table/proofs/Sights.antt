@@ -1,0 +1,105 @@
+-- What the other instances see of write-once records, while one of them is called.
+use Rattle.std.proofs.Common.{◌≡◌, ◌≢◌, ℕ, ℤ, ◌<◌, List, [], ◌∷◌, length, take, drop, Option, Some, None, refl, sym, ap, ◌∙◌}
+use Rattle.mem_rec.specs.declared.MemRec.{MemRec}
+use Rattle.mem_rec.specs.declared.Attr.{Attr}
+use Rattle.mem_rec.specs.declared.Attr.TheVariants.{Scratch, Persist, WriteOnce}
+use Rattle.ialg.specs.Meaning.{Meaning}
+use Rattle.ialg.specs.History.{History}
+use Rattle.ialg.specs.Records.{record_at}
+use Rattle.record_loans.specs.declared.pieces.Pieces.{Pieces}
+use Rattle.record_loans.specs.Pieces.{piece_at, piece_words, SamePieces}
+use Rattle.record_loans.specs.Blocks.{block_words}
+use Rattle.scratch_group.specs.declared.group.Group.{Group}
+use Rattle.scratch_group.specs.Blocks.{block_in}
+use Rattle.scratch_group.specs.Words.{words_by, record_words, active_words, lasting_words_by, idle_record_words, idle_words, scratch_offset}
+use Rattle.lifecycle.specs.declared.instance.Inst.{Inst}
+use Rattle.lifecycle.specs.declared.instance.Inst.TheVariants.{Idling, Running}
+use Rattle.lifecycle.specs.States.{Relation, SameOnce, IsLawful}
+use Rattle.host_table.specs.declared.member.Member.{Member}
+use Rattle.host_shared.specs.declared.shelves.Shelf.{Shelf}
+use Rattle.host_shared.specs.Homes.{with_seen}
+use Rattle.host_table.specs.Table.{slot_at, group_at, instance_of, AreHeld}
+use Rattle.host_shared.specs.Shelves.{once_at}
+use Rattle.host_table.specs.Keeps.{InstKeeps, SlotKeeps}
+use Rattle.host_shared.proofs.Homes.{count_seen, lent_here}
+use Rattle.host_shared.proofs.Lent.{homes_of_all, pieces_lent}
+use Rattle.host_table.proofs.SeenWords.{words_lent}
+use Rattle.host_table.proofs.Held.{homes_of_held, alike_at}
+
+-- instance i sees the pieces o from now on, and each other one sees the same pieces
+pub record Views (once : List Shelf) (i : ℕ) (o : Pieces) (once' : List Shelf) : Type 0 where
+  pub count : length once' ≡ length once
+  pub here : once_at once' i ≡ o
+  pub others : (j : ℕ) → j ≢ i → SamePieces (once_at once j) (once_at once' j)
+
+-- and with the same words of its write-once records
+pub record Sees {M : Type 0} (slots : List (Option (Member M))) (once : List Shelf) (i : ℕ) (o : Pieces) (once' : List Shelf) : Type 0 where
+  pub count : length once' ≡ length once
+  pub here : once_at once' i ≡ o
+  pub others : (j : ℕ) → j ≢ i → SamePieces (once_at once j) (once_at once' j)
+  pub written : (j : ℕ) (n : Member M) → j ≢ i → slot_at slots j ≡ Some n → SameOnce (instance_of n.inst).table (once_at once j) (once_at once' j)
+
+pub views_of : {M : Type 0} (slots : List (Option (Member M))) (once : List Shelf) (i : ℕ) (o : Pieces) (once' : List Shelf) → Sees slots once i o once' → Views once i o once'
+views_of slots once i o once' sees = record { count = sees.count; here = sees.here; others = sees.others }
+
+-- where its pieces were put back at their homes, with the same words of its write-once records
+pub sees_lent : {M : Type 0} (slots : List (Option (Member M))) (once : List Shelf) (i : ℕ) (m : Member M) (o : Pieces) → AreHeld slots once → i < length once → slot_at slots i ≡ Some m
+    → SamePieces (once_at once i) o → SameOnce (instance_of m.inst).table (once_at once i) o → Sees slots once i o (with_seen once i o)
+sees_lent slots once i m o held inside at pieces written =
+    let homes = homes_of_all once i (homes_of_held slots once held) inside in
+    record {
+      count = count_seen once i homes o;
+      here = lent_here once i homes o;
+      others = λ j apart. pieces_lent once i homes o pieces j;
+      written = λ j n apart at_j.
+          words_lent once i homes o j (instance_of m.inst).table (instance_of n.inst).table written
+          (λ k home.
+          let both = alike_at slots once held i j k m n at at_j apart home in
+          (both.once, sym (ap (λ (r : MemRec). r.size) both.shape)));
+    }
+
+-- an instance whose write-once words stay keeps its history: one that is lawful, since the others owe nothing
+
+lasting_written : (a : Attr) (n : ℕ) (own s s' : List ℤ) → (a ≡ WriteOnce → take n s' ≡ take n s) → lasting_words_by a n own s' ≡ lasting_words_by a n own s
+lasting_written Scratch n own s s' same = refl
+lasting_written Persist n own s s' same = refl
+lasting_written WriteOnce n own s s' same = same refl
+
+words_written : (a : Attr) (n : ℕ) (own s s' block : List ℤ) → (a ≡ WriteOnce → take n s' ≡ take n s) → words_by a n own s' block ≡ words_by a n own s block
+words_written Scratch n own s s' block same = refl
+words_written Persist n own s s' block same = refl
+words_written WriteOnce n own s s' block same = same refl
+
+idle_record_written : (rs : List MemRec) (own shared shared' : Pieces) → SameOnce rs shared shared' → (k : ℕ) → idle_record_words rs own shared' k ≡ idle_record_words rs own shared k
+idle_record_written rs own shared shared' same k =
+    lasting_written (record_at rs k).attr (record_at rs k).size (piece_words (piece_at own k)) (piece_words (piece_at shared k)) (piece_words (piece_at shared' k)) (same k)
+
+record_written : (rs : List MemRec) (own shared shared' : Pieces) (g : Group) → SameOnce rs shared shared' → (k : ℕ) → record_words rs own shared' g k ≡ record_words rs own shared g k
+record_written rs own shared shared' g same k =
+    words_written (record_at rs k).attr (record_at rs k).size (piece_words (piece_at own k)) (piece_words (piece_at shared k)) (piece_words (piece_at shared' k))
+    (drop (scratch_offset rs k) (block_words (block_in g (record_at rs k).space))) (same k)
+
+-- four lists of words, each of which is the same
+four_same : (old new : ℕ → List ℤ) → ((k : ℕ) → new k ≡ old k) → new 0 ∷ new 1 ∷ new 2 ∷ new 3 ∷ [] ≡ old 0 ∷ old 1 ∷ old 2 ∷ old 3 ∷ []
+four_same old new same =
+    ap (λ (ws : List ℤ). ws ∷ new 1 ∷ new 2 ∷ new 3 ∷ []) (same 0)
+    ∙ ap (λ (ws : List ℤ). old 0 ∷ ws ∷ new 2 ∷ new 3 ∷ []) (same 1)
+    ∙ ap (λ (ws : List ℤ). old 0 ∷ old 1 ∷ ws ∷ new 3 ∷ []) (same 2)
+    ∙ ap (λ (ws : List ℤ). old 0 ∷ old 1 ∷ old 2 ∷ ws ∷ []) (same 3)
+
+pub idle_written : (rs : List MemRec) (own shared shared' : Pieces) → SameOnce rs shared shared' → idle_words rs own shared' ≡ idle_words rs own shared
+idle_written rs own shared shared' same = four_same (idle_record_words rs own shared) (idle_record_words rs own shared') (idle_record_written rs own shared shared' same)
+
+pub active_written : (rs : List MemRec) (own shared shared' : Pieces) (g : Group) → SameOnce rs shared shared' → active_words rs own shared' g ≡ active_words rs own shared g
+active_written rs own shared shared' g same = four_same (record_words rs own shared g) (record_words rs own shared' g) (record_written rs own shared shared' g same)
+
+module _ {M : Type 0} (meaning : Meaning M) (idle_keeps active_keeps : Relation M) (w : Option ℤ) (shared shared' : Pieces) (h : History) where
+  inst_sees : (inst : Inst M) (g : Group) → (IsLawful meaning (instance_of inst) w → SameOnce (instance_of inst).table shared shared')
+      → InstKeeps meaning idle_keeps active_keeps w inst shared g h → InstKeeps meaning idle_keeps active_keeps w inst shared' g h
+  inst_sees (Idling s) g same keeps = λ lawful. rw (idle_written s.instance.table s.instance.own shared shared' (same lawful)) (keeps lawful)
+  inst_sees (Running s) g same keeps = λ lawful. rw (active_written s.instance.table s.instance.own shared shared' g (same lawful)) (keeps lawful)
+
+  pub slot_sees : (slot : Option (Member M)) (groups : List Group) → ((n : Member M) → slot ≡ Some n → IsLawful meaning (instance_of n.inst) w → SameOnce (instance_of n.inst).table shared shared')
+      → SlotKeeps meaning idle_keeps active_keeps w slot shared groups h → SlotKeeps meaning idle_keeps active_keeps w slot shared' groups h
+  slot_sees None groups same keeps = tt
+  slot_sees (Some m) groups same keeps = inst_sees m.inst (group_at groups m.group) (same m refl) keeps

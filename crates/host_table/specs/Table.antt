@@ -1,0 +1,137 @@
+-- The tables of a host: a slot for each instance number, the pieces of its write-once records, and the groups.
+use Rattle.std.specs.Prelude.{ℕ, ℤ, ◌≡◌, ◌≢◌, ◌⊎◌, ◌<◌, Bool, false, List, length, Option, Some, None, nat_eq, slice_index_or}
+use Rattle.mem_rec.specs.declared.MemRec.{MemRec}
+use Rattle.mem_rec.specs.declared.Attr.TheVariants.{WriteOnce}
+use Rattle.ialg.specs.Records.{record_at}
+use Rattle.record_loans.specs.declared.pieces.Pieces.{Pieces}
+use Rattle.scratch_group.specs.declared.group.Group.{Group}
+use Rattle.host_map.specs.Activity.{Activity, quieted, touched, with_activity}
+use Rattle.scratch_group.specs.Blocks.{BlocksArePoison}
+use Rattle.scratch_group.specs.Words.{placed}
+use Rattle.lifecycle.specs.declared.instance.Instance.{Instance}
+use Rattle.lifecycle.specs.declared.instance.Inst.{Inst}
+use Rattle.lifecycle.specs.declared.instance.Inst.TheVariants.{Idling, Running}
+use Rattle.lifecycle.specs.States.{Fits}
+use Rattle.lifecycle.specs.Moves.{HasRoom}
+use Rattle.mem_rec.specs.declared.TheConstants.{INSTANCES, GROUPS}
+use Rattle.host_table.specs.declared.member.Member.{Member}
+use Rattle.host_shared.specs.declared.shelves.Stand.{Stand}
+use Rattle.host_shared.specs.declared.shelves.Stand.TheVariants.{With}
+use Rattle.host_shared.specs.declared.shelves.Shelf.{Shelf}
+use Rattle.host_shared.specs.Shelves.{stand_at, no_shelf, shelf_at, once_at, no_pieces}
+use Rattle.host_shared.specs.Homes.{IsPieceHere}
+
+-- what stands in a slot, none past the end
+abbrev pub slot_at : {M : Type 0} → List (Option (Member M)) → ℕ → Option (Member M)
+slot_at slots i = slice_index_or slots i None
+
+abbrev pub no_group : Group
+no_group = record { daram = None; saram = None; external = None; active = None; activations = 0 }
+
+abbrev pub group_at : List Group → ℕ → Group
+group_at groups g = slice_index_or groups g no_group
+
+abbrev pub instance_of : {M : Type 0} → Inst M → Instance M
+instance_of (Idling s) = s.instance
+instance_of (Running s) = s.instance
+
+-- the pieces of its own records
+abbrev pub own_of : {M : Type 0} → Option (Member M) → Pieces
+own_of None = no_pieces
+own_of (Some m) = (instance_of m.inst).own
+
+-- the group of the instance in a slot
+abbrev pub group_of : {M : Type 0} → Option (Member M) → ℕ
+group_of None = 0
+group_of (Some m) = m.group
+
+-- whether the slot has a member of group g
+abbrev pub is_member_of : {M : Type 0} → ℕ → Option (Member M) → Bool
+is_member_of g None = false
+is_member_of g (Some m) = nat_eq m.group g
+
+-- the group in which an instance is active
+abbrev pub active_in : {M : Type 0} → ℕ → Inst M → Option ℕ
+active_in g (Idling s) = None
+active_in g (Running s) = Some g
+
+abbrev pub slot_active_in : {M : Type 0} → Option (Member M) → Option ℕ
+slot_active_in None = None
+slot_active_in (Some m) = active_in m.group m.inst
+
+-- the instance has the words of its records, and goes by their places
+pub record IsHoused {M : Type 0} (s : Instance M) (shared : Pieces) (g : Group) : Type 0 where
+  pub fits : Fits s.table s.own shared g
+  pub settled : s.table ≡ placed s.table s.own shared g
+
+-- a record without its base
+abbrev pub unbased : MemRec → MemRec
+unbased r = record r { base = 0 }
+
+-- the instances are of one kind with equal parameters, and record k of both is write-once, with one size, alignment and space
+pub record AreAlike {M : Type 0} (k : ℕ) (a b : Instance M) : Type 0 where
+  pub kind : b.kind ≡ a.kind
+  pub params : b.params ≡ a.params
+  pub once : (record_at a.table k).attr ≡ WriteOnce
+  pub shape : unbased (record_at b.table k) ≡ unbased (record_at a.table k)
+
+-- both slots have instances, which are alike in record k, and its piece stands with the second
+abbrev pub IsHolder : {M : Type 0} → ℕ → Option (Member M) → Option (Member M) → Stand → Type 0
+IsHolder k None home s = ⊥
+IsHolder k (Some m) None s = ⊥
+IsHolder k (Some m) (Some n) s = AreAlike k (instance_of m.inst) (instance_of n.inst) × IsPieceHere s
+
+-- a record stands with another instance only where both hold it
+abbrev pub AreHeld : {M : Type 0} → List (Option (Member M)) → List Shelf → Type 0
+AreHeld slots once = (i k home : ℕ) → stand_at (shelf_at once i) k ≡ With home → IsHolder k (slot_at slots i) (slot_at slots home) (stand_at (shelf_at once home) k)
+
+-- the shelf of an empty slot is empty
+abbrev pub AreBare : {M : Type 0} → List (Option (Member M)) → List Shelf → Type 0
+AreBare slots once = (i : ℕ) → slot_at slots i ≡ None → shelf_at once i ≡ no_shelf
+
+-- what holds of the tables, where this holds of each instance with its write-once pieces and its group
+pub record Tables {M : Type 0} (holds : ℕ → Member M → Pieces → Group → Type 0) (slots : List (Option (Member M))) (once : List Shelf) (groups : List Group) : Type 0 where
+  pub slot_count : length slots ≡ INSTANCES
+  pub once_count : length once ≡ INSTANCES
+  pub group_count : length groups ≡ GROUPS
+  pub held : AreHeld slots once
+  pub bare : AreBare slots once
+  pub group_range : (i : ℕ) (m : Member M) → slot_at slots i ≡ Some m → m.group < GROUPS
+  pub housed : (i : ℕ) (m : Member M) → slot_at slots i ≡ Some m → holds i m (once_at once i) (group_at groups m.group)
+  pub active_there : (g i : ℕ) → g < GROUPS → (group_at groups g).active ≡ Some i → slot_active_in (slot_at slots i) ≡ Some g
+  pub active_known : (g i : ℕ) → slot_active_in (slot_at slots i) ≡ Some g → (group_at groups g).active ≡ Some i
+
+-- each instance is housed
+abbrev pub EachIsHoused : {M : Type 0} → ℕ → Member M → Pieces → Group → Type 0
+EachIsHoused i m o y = IsHoused (instance_of m.inst) o y
+
+-- what holds of the tables between two calls
+abbrev pub TablesOk : {M : Type 0} → List (Option (Member M)) → List Shelf → List Group → Type 0
+TablesOk slots once groups = Tables EachIsHoused slots once groups
+
+-- a block of group g was replaced or moved, and so far its members below n were told
+pub record IsTold {M : Type 0} (g n i : ℕ) (m : Member M) (o : Pieces) (y : Group) : Type 0 where
+  pub told : (m.group ≢ g) ⊎ (i < n) → IsHoused (instance_of m.inst) o y
+  pub waits : m.group ≡ g → HasRoom (instance_of m.inst) o y
+
+abbrev pub TablesTold : {M : Type 0} → ℕ → ℕ → List (Option (Member M)) → List Shelf → List Group → Type 0
+TablesTold g n slots once groups = Tables (IsTold g n) slots once groups
+
+-- where no member is active, the blocks hold the host's poison word
+abbrev pub ArePoisoned : Option ℤ → List Group → Type 0
+ArePoisoned w groups = (g : ℕ) → g < GROUPS → (group_at groups g).active ≡ None → BlocksArePoison w (group_at groups g)
+
+abbrev pub activity_at : List Group → ℕ → Activity
+activity_at groups g = record { active = (group_at groups g).active; count = (group_at groups g).activations }
+
+-- the activities after instance i was touched
+abbrev pub touched_by : {M : Type 0} → List (Option (Member M)) → List Group → ℕ → ℕ → Activity
+touched_by slots groups i =
+    let g = group_of (slot_at slots i) in
+    with_activity (activity_at groups) g (touched i (activity_at groups g))
+
+-- the activities after instance i was deactivated, where it was active
+abbrev pub quieted_by : {M : Type 0} → List (Option (Member M)) → List Group → ℕ → ℕ → Activity
+quieted_by slots groups i =
+    let g = group_of (slot_at slots i) in
+    with_activity (activity_at groups) g (quieted i (activity_at groups g))

@@ -1,0 +1,89 @@
+//! Slots of the table of instances.
+ghost use Rattle.std.specs.Prelude.{◌≡◌, ℕ, Option, Some, None, IsSome, IfSome, IfNone, OnSome, slice_set};
+ghost use Rattle.lifecycle.specs.declared.instance.Inst.TheVariants.{Idling, Running};
+ghost use Rattle.host_table.specs.declared.member.Member.{Member};
+ghost use Rattle.host_table.specs.Table.{slot_at, group_of, slot_active_in, instance_of};
+
+use core::mem::replace_with;
+use ialg::Ialg;
+use lifecycle::Inst;
+
+/// An instance, and the number of its group.
+pub struct Member<M> {
+    pub group: u8,
+    pub inst: Inst<M>,
+}
+
+/// The instance as an idle one.
+fn as_idle<M: Ialg>(inst: Inst<M>, _nothing: ()) -> (Inst<M>, ())
+    ensures { result.0 ≡ Idling (record { instance = instance_of inst }) }
+{
+    match inst {
+        Inst::Running(active) => (Inst::Idling(active.idled()), ()),
+        Inst::Idling(idle) => (Inst::Idling(idle), ()),
+    }
+}
+
+/// The instance as an active one.
+fn as_active<M: Ialg>(inst: Inst<M>, _nothing: ()) -> (Inst<M>, ())
+    ensures { result.0 ≡ Running (record { instance = instance_of inst }) }
+{
+    match inst {
+        Inst::Idling(idle) => (Inst::Running(idle.woken()), ()),
+        Inst::Running(active) => (Inst::Running(active), ()),
+    }
+}
+
+/// Lets the instance of a slot stand in it as an idle one. No word of it is copied.
+pub(crate) fn make_idle<M: Ialg>(slots: &mut Vec<Option<Member<M>>>, i: u8)
+    requires { IsSome (slot_at slots.old.items i) }
+    ensures { (m : Member M) → slot_at slots.old.items i ≡ Some m
+        → slots.new.items ≡ slice_set slots.old.items i (Some (record m { inst = Idling (record { instance = instance_of m.inst }) })) }
+{
+    match &mut slots[i as usize] {
+        Some(member) => replace_with(&mut member.inst, (), as_idle),
+        None => unreachable!(),
+    }
+}
+
+/// Lets the instance of a slot stand in it as an active one. No word of it is copied.
+pub(crate) fn make_active<M: Ialg>(slots: &mut Vec<Option<Member<M>>>, i: u8)
+    requires { IsSome (slot_at slots.old.items i) }
+    ensures { (m : Member M) → slot_at slots.old.items i ≡ Some m
+        → slots.new.items ≡ slice_set slots.old.items i (Some (record m { inst = Running (record { instance = instance_of m.inst }) })) }
+{
+    match &mut slots[i as usize] {
+        Some(member) => replace_with(&mut member.inst, (), as_active),
+        None => unreachable!(),
+    }
+}
+
+/// The group of an idle instance, or None where the instance is active.
+pub(crate) fn idle_in<M: Ialg>(slots: &Vec<Option<Member<M>>>, i: u8) -> Option<u8>
+    requires { IsSome (slot_at slots.now.items i) }
+    ensures active { IfNone result (slot_active_in (slot_at slots.now.items i) ≡ Some (group_of (slot_at slots.now.items i))) }
+    ensures group { IfSome result (λ g. g ≡ group_of (slot_at slots.now.items i)) }
+    ensures idle { OnSome result (slot_active_in (slot_at slots.now.items i) ≡ None) }
+{
+    match &slots[i as usize] {
+        Some(member) => match &member.inst {
+            Inst::Idling(_) => Some(member.group),
+            Inst::Running(_) => None,
+        },
+        None => unreachable!(),
+    }
+}
+
+/// The group of an active instance, or None where the instance is idle.
+pub(crate) fn active_group<M: Ialg>(slots: &Vec<Option<Member<M>>>, i: u8) -> Option<u8>
+    requires { IsSome (slot_at slots.now.items i) }
+    ensures { result ≡ slot_active_in (slot_at slots.now.items i) }
+{
+    match &slots[i as usize] {
+        Some(member) => match &member.inst {
+            Inst::Idling(_) => None,
+            Inst::Running(_) => Some(member.group),
+        },
+        None => unreachable!(),
+    }
+}

@@ -1,2 +1,0 @@
-pub mod Deleted
-pub mod Closed

@@ -1,2 +1,0 @@
-pub mod KeptLemmas
-pub mod TwinsKept

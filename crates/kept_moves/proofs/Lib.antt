@@ -1,2 +1,0 @@
-pub mod MovesKept
-pub mod Compactions

@@ -1,0 +1,4 @@
+pub mod Frames
+pub mod Framings
+pub mod Mappings
+pub mod Words

@@ -1,0 +1,15 @@
+-- Words of parameters and of states.
+use Rattle.std.specs.Prelude.{ℤ, pos, Bool, ◌&&◌, List, [], ◌∷◌, ◌+ℤ◌, ◌*ℤ◌, int_le, int_lt, if◌then◌else◌}
+use Rattle.basic_op.specs.Operators.{extract_h_of, extract_l_of}
+
+-- at least one number and at most another
+abbrev pub within : ℤ → ℤ → ℤ → Bool
+within z least most = int_le least z && int_le z most
+
+-- the Word32 of its upper and its lower word
+abbrev pub joined : ℤ → ℤ → ℤ
+joined high low = (high *ℤ pos 65536) +ℤ (if int_lt low (pos 0) then low +ℤ pos 65536 else low)
+
+-- the words that keep a sum of 32 bits
+abbrev pub sum_words : ℤ → List ℤ
+sum_words sum = extract_h_of sum ∷ extract_l_of sum ∷ []

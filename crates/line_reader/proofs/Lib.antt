@@ -1,2 +1,0 @@
-pub mod Ahead
-pub mod Lines

@@ -1,5 +1,0 @@
-use Rattle.machine_runs.proofs.LineLemmas.{are_calls}
-use Rattle.machine_runs.proofs.laws.lines_are_calls.Goals as goal
-
-pub returns : goal.returns
-returns g c = λ kinds named widths run lines answer a. are_calls kinds widths named (c.refused_calls_change_nothing.ensures kinds) lines run answer a

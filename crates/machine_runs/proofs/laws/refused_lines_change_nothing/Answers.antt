@@ -1,5 +1,0 @@
-use Rattle.machine_runs.proofs.LineLemmas.{one_did}
-use Rattle.machine_runs.proofs.laws.refused_lines_change_nothing.Goals as goal
-
-pub returns : goal.returns
-returns g c = λ kinds named widths run line answer a le. (one_did kinds widths named (c.refused_calls_change_nothing.ensures kinds) run line answer a).refused le

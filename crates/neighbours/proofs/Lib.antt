@@ -1,2 +1,0 @@
-pub mod Housing
-pub mod Standing

@@ -1,0 +1,73 @@
+-- A line feed that is ahead, and the line in front of it.
+use Rattle.std.proofs.Common.{◌≡◌, ◌≢◌, ◌⊎◌, inl, inr, ℕ, suc, ◌+◌, ◌-◌, ◌<◌, ◌≤◌, List, [], ◌∷◌, ◌++◌, length, take, drop, get_or, false, refl, sym, ◌∙◌, ap, length-append, arith}
+use Rattle.std.specs.List.{All}
+use Rattle.std.proofs.lemmas.List.Elements.{All-nil, All-cons}
+use Rattle.std.proofs.lemmas.Bool.{false≢true}
+use Rattle.std.proofs.lemmas.Bool.Decides.{nat_tests}
+use Rattle.std.proofs.lemmas.Grind.{common_steps, get_or_default_zero}
+use Rattle.std.proofs.lemmas.List.{append_assoc, drop-drop, drop-take, get_or-take, length-take, take-append-drop}
+use Rattle.std.proofs.Math.Seq.{drop-cons, drop-append-add}
+use Rattle.octet_ports.specs.Ports.{Source}
+use Rattle.octet_ports.specs.Lines.{Ahead, IsNoFeed, LineCame, ahead_of, behind}
+use Rattle.octet_ports.specs.Readers.{BeginsWith, LineTaken}
+
+pub some_where_feed : (xs : List ℕ) → (All IsNoFeed xs → ⊥) → 0 < length xs
+some_where_feed [] feed = absurd (feed (All-nil IsNoFeed))
+some_where_feed (x ∷ xs) feed = omega arith
+
+pub feed_behind : {x : ℕ} {old new : List ℕ} → (old ≡ []) ⊎ (old ≡ x ∷ new) → x ≢ 10 → (All IsNoFeed old → ⊥) → All IsNoFeed new → ⊥
+feed_behind {x} {old} {new} (inl none) other feed no_feed = feed (rw none (All-nil IsNoFeed))
+feed_behind {x} {old} {new} (inr front) other feed no_feed = feed (rw front (All-cons IsNoFeed x new other no_feed))
+
+below_take : (xs : List ℕ) (n k : ℕ) → k < length (take n xs) → k < n
+below_take xs n k less = let most = length-take n xs in omega (arith, less, most)
+
+-- the first line feed of some octets ends their first line
+pub begins_at : (xs : List ℕ) (n : ℕ) → n < length xs → get_or xs n 0 ≡ 10 → ((k : ℕ) → k < n → IsNoFeed (get_or xs k 0)) → BeginsWith (take n xs) xs
+begins_at xs n inside feed before = record {
+  no_feed = λ k d less is. let near : k < n = below_take xs n k less in
+      before k near (sym (get_or_default_zero xs k d (omega (arith, near, inside))) ∙ sym (get_or-take n xs k d near) ∙ is);
+  after = drop (suc n) xs;
+  parts = sym (take-append-drop n xs) ∙ ap (λ (t : List ℕ). take n xs ++ t) (drop-cons xs n 0 inside ∙ ap (λ (x : ℕ). x ∷ drop (suc n) xs) feed);
+}
+
+behind_part : (line after : List ℕ) (x : ℕ) → drop (length line + 1) (line ++ x ∷ after) ≡ after
+behind_part line after x = drop-append-add line (x ∷ after) 1
+
+-- the line that is ahead was taken
+pub line_taken : (most : ℕ) (buffer : List ℕ) (at end left : ℕ) (line text : List ℕ) → at ≤ end → BeginsWith line (take (end - at) (drop at buffer)) → text ≡ line → length line ≤ most → end ≤ at + left
+    → LineTaken most text (ahead_of buffer at end left) (ahead_of buffer (at + (length line + 1)) end (left - (length line + 1)))
+line_taken most buffer at end left line text order begins same room within =
+    let size = ap length begins.parts ∙ length-append line (10 ∷ begins.after) in
+    let long = length-take (end - at) (drop at buffer) in
+    let few : length line + 1 ≤ left = omega (arith, order, within, size, long) in
+    let reach : end ≡ at + (end - at) = omega (arith, order) in
+    let parts : drop at (take end buffer) ≡ line ++ 10 ∷ begins.after = ap (λ (n : ℕ). drop at (take n buffer)) reach ∙ drop-take at (end - at) buffer ∙ begins.parts in
+    let gone : drop (at + (length line + 1)) (take end buffer) ≡ begins.after =
+    sym (drop-drop (length line + 1) at (take end buffer)) ∙ ap (drop (length line + 1)) parts ∙ behind_part line begins.after 10 in
+    rw same
+    (record {
+      no_feed = begins.no_feed;
+      room = room;
+      front = parts ∙ ap (λ (t : List ℕ). line ++ 10 ∷ t) (sym gone);
+      used = omega (arith, few);
+    })
+
+-- a line that was taken so came with its line feed
+pub taken_came : {most : ℕ} (line : List ℕ) (old new : Ahead) (source : Source) → LineTaken most line old new
+    → LineCame most line false false old.left new.left (behind old.octets source) (behind new.octets source)
+taken_came {most} line old new source taken = record {
+  octets = line;
+  line = record {
+    no_feed = taken.no_feed;
+    is_long = let room = taken.room in grind (arith, common_steps, nat_tests);
+    is_text = λ e. refl;
+  };
+  gives = record {
+    stays = λ honest. honest;
+    given = λ honest.
+        ap (λ (t : List ℕ). t ++ source.coming) taken.front ∙ append_assoc line (10 ∷ new.octets) source.coming ∙ sym (append_assoc line (10 ∷ []) (new.octets ++ source.coming));
+  };
+  used = let used = taken.used in let count = length-append line (10 ∷ []) in omega (arith, used, count);
+  at_end = λ bad. absurd (false≢true bad);
+}

@@ -1,0 +1,40 @@
+use Rattle.std.proofs.Common.{rules, ◌≡◌, ◌≤◌, ◌∙◌, length, arith}
+use Rattle.std.proofs.lemmas.Bool.Decides.{nat_tests}
+use Rattle.octet_ports.specs.Readers.{OctetCame}
+use Rattle.octet_ports.proofs.Ahead.{some_where_feed, feed_behind}
+use Rattle.octet_ports.proofs.Lines.{is_line_more, is_line_long, so_far_more, line_fails}
+use Rattle.octet_ports.proofs.reader.LineReader.read_octets_of_line.Goals as goal
+
+pub returns-in-Err-clause-err : goal.returns-in-Err-clause-err
+returns-in-Err-clause-err g c =
+    let refused = c.in-Err.ensures.err in
+    line_fails (g.S.PortIn.source c.octets.script) (g.S.PortIn.source c.next_octet.new.script) c.in-Err.fault (rw refused.before at c.octets.invariant.came) refused.why
+
+pub octets-preserved-then-is_full : goal.octets-preserved-then-is_full
+octets-preserved-then-is_full g c =
+    let octet = c.in-Ok-Some.octet in
+    let came = c.octets.invariant.came in
+    let next : OctetCame octet c.octets.self c.next_octet.new.self (g.S.PortIn.source c.octets.script) (g.S.PortIn.source c.next_octet.new.script) =
+    rw c.in-Ok-Some.field-0-is at c.in-Ok-Some.ensures.some in
+    let full : length c.octets.text.items ≡ g.row.MOST = grind (arith, nat_tests) in
+    record {
+      ready = search rules;
+      came = so_far_more octet came (is_line_long c.octets.long octet came.line c.if-octet-eq-LINE_FEED.false full) next.gives next.used;
+      waits = λ feed. let waited = c.octets.invariant.waits feed in
+          (c.in-Ok-Some.ensures.waits (some_where_feed c.octets.self.octets waited.1) ∙ waited.0, feed_behind next.front c.if-octet-eq-LINE_FEED.false waited.1);
+    }
+
+pub octets-preserved : goal.octets-preserved
+octets-preserved g c =
+    let octet = c.in-Ok-Some.octet in
+    let came = c.octets.invariant.came in
+    let next : OctetCame octet c.octets.self c.next_octet.new.self (g.S.PortIn.source c.octets.script) (g.S.PortIn.source c.next_octet.new.script) =
+    rw c.in-Ok-Some.field-0-is at c.in-Ok-Some.ensures.some in
+    let room : length c.octets.text.items ≡ g.row.MOST → ⊥ = grind (arith, nat_tests) in
+    let fits : length c.octets.text.items ≤ g.row.MOST = search rules in
+    record {
+      ready = search rules;
+      came = rw c.push.ensures.items (so_far_more octet came (is_line_more c.octets.long octet came.line c.if-octet-eq-LINE_FEED.false room fits) next.gives next.used);
+      waits = λ feed. let waited = c.octets.invariant.waits feed in
+          (c.in-Ok-Some.ensures.waits (some_where_feed c.octets.self.octets waited.1) ∙ waited.0, feed_behind next.front c.if-octet-eq-LINE_FEED.false waited.1);
+    }

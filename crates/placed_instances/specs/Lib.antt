@@ -1,3 +1,0 @@
-pub mod Standing
-pub mod Moves
-pub mod Lent

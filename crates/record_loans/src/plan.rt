@@ -1,0 +1,61 @@
+//! Where the words of an instance's records lie.
+ghost use Rattle.std.specs.Prelude.{◌≡◌};
+ghost use Rattle.record_loans.specs.Cuts.{is_shared};
+
+/// Where the words of a record lie.
+#[derive(Clone, Copy, PartialEq, Eq, Debug)]
+pub enum Source {
+    /// The record isn't lent.
+    Absent,
+    /// In the instance's own piece of this record.
+    Own,
+    /// In the piece of this record that is lent to the instance.
+    Shared,
+    /// In the block in `daram`.
+    InDaram,
+    /// In the block in `saram`.
+    InSaram,
+    /// In the block in `external`.
+    InExternal,
+}
+
+impl Source {
+    /// Whether the words lie in a piece that is lent to the instance.
+    pub fn is_shared(self) -> bool
+        ensures { result ≡ is_shared self }
+    {
+        match self {
+            Source::Shared => true,
+            Source::Absent | Source::Own | Source::InDaram | Source::InSaram | Source::InExternal =>
+                { false }
+        }
+    }
+}
+
+/// How a record is cut out of its source.
+#[derive(Clone, Copy, PartialEq, Eq, Debug)]
+pub struct Cut {
+    pub source: Source,
+    /// In a block, the words that are left out behind what was cut there before. A piece is cut from its start on.
+    pub gap: usize,
+    /// The words of the record.
+    pub size: usize,
+}
+
+/// How the records of an instance are cut, in table order.
+#[derive(Clone, Copy, PartialEq, Eq, Debug)]
+pub struct Plan {
+    /// The words of record 0, which are cut out of its own piece.
+    pub object: usize,
+    pub first: Cut,
+    pub second: Cut,
+    pub third: Cut,
+}
+
+/// How many words each record of a filter has: the object, the kept words, and the running words in the block in `daram`.
+#[derive(Clone, Copy, PartialEq, Eq, Debug)]
+pub struct FilterSizes {
+    pub object: usize,
+    pub kept: usize,
+    pub running: usize,
+}

@@ -1,0 +1,95 @@
+-- Lines of a console as calls of channels.
+use Rattle.std.specs.Prelude.{ℕ, ℤ, ◌≡◌, ◌⊎◌, ◌<◌, ◌≤◌, ◌==◌, List, [], ◌∷◌, ◌++◌, length, drop, take, Option, Some, Result, Ok, Err, if◌then◌else◌}
+use Rattle.std.specs.List.{flat_map}
+use Rattle.ialg.specs.declared.refusal.Refusal.{Refusal}
+use Rattle.ialg.specs.Meaning.{Meaning}
+use Rattle.channel_spec.specs.Channels.{Channels}
+use Rattle.channel_spec.specs.Calls as calls
+use Rattle.channel_spec.specs.Calls.{Call}
+use Rattle.voice_script.specs.Script as script
+use Rattle.voice_script.specs.Script.{Command, parsed}
+use Rattle.voice_script.specs.declared.limits.TheConstants.{LINE_OCTETS}
+use Rattle.line_spec.specs.Served.{Answer, Run, held_by, octets_left, order_of}
+use Rattle.line_spec.specs.Widths.{Widths}
+use Rattle.console_spec.specs.Samples.{octets_at, samples_at}
+use Rattle.console_spec.specs.Console.{call_of}
+use Rattle.run_theorem.specs.HostRuns.{Leads}
+
+-- ---- samples
+
+-- the samples that are left on each channel's input
+abbrev pub Left : Type 0
+Left = ℕ → List ℤ
+
+abbrev pub IsSame : Left → Left → Type 0
+IsSame left after = (c : ℕ) → after c ≡ left c
+
+-- the same, but with these samples on input c
+abbrev pub IsSameBut : ℕ → List ℤ → Left → Left → Type 0
+IsSameBut c rest left after = (d : ℕ) → after d ≡ (if d == c then rest else left d)
+
+-- the samples that are left on the inputs of a run, by the widths of their ports
+abbrev pub samples_left : {M : Type 0} → Widths → Run (Channels M) → Left
+samples_left widths run c = samples_at (widths.input c) (octets_left run c)
+
+module _ {M : Type 0} (c : ℕ) where
+  -- what channel c gives in the call
+  abbrev pub output_in : Call M → List ℤ
+  output_in (calls.Feed d block out) = if c == d then out else []
+  output_in _ = []
+
+  -- all that its feeds gave
+  abbrev pub fed_out : List (Call M) → List ℤ
+  fed_out made = flat_map output_in made
+
+-- ---- commands
+
+module _ {M : Type 0} where
+  -- one call was made, and got some answer. No sample was taken
+  abbrev pub Makes : {A : Type 0} → (A → Call M) → Left → List (Call M) → Left → Type 0
+  Makes {A} call left made after = (answer : A) × (made ≡ call answer ∷ []) × IsSame left after
+
+  -- a feed is short: its channel is ready, but fewer samples are left than it asks for, and none afterwards
+  pub record IsShort (c n : ℕ) (left : Left) (made : List (Call M)) (after : Left) : Type 0 where
+    pub few : length (left c) < n
+    pub none : IsSameBut c [] left after
+    pub calls : made ≡ calls.Ready c (Ok tt) ∷ []
+
+  -- a feed is fed: its channel is ready, the first samples that are left are its block, as many as it asks for, and the others are left
+  pub record IsFed (c n : ℕ) (left : Left) (made : List (Call M)) (after : Left) : Type 0 where
+    pub enough : n ≤ length (left c)
+    pub others : IsSameBut c (drop n (left c)) left after
+    pub out : List ℤ
+    pub calls : made ≡ calls.Ready c (Ok tt) ∷ calls.Feed c (take n (left c)) out ∷ []
+
+  -- a feed is refused, short or fed. Every other command makes its one call
+  abbrev pub CommandMakes : Command M → Left → List (Call M) → Left → Type 0
+  CommandMakes (script.Feed c n) = λ left made after.
+      Makes (λ (refusal : Refusal). calls.Ready c (Err refusal)) left made after ⊎ (IsShort c n left made after ⊎ IsFed c n left made after)
+  CommandMakes command = Makes (call_of command).call
+
+  -- no call
+  abbrev pub MakesNone : Left → List (Call M) → Left → Type 0
+  MakesNone left made after = (made ≡ []) × IsSame left after
+
+  -- a line that is blank or not in the grammar makes no call
+  abbrev pub LineMakes : Result (Option (Command M)) Refusal → Left → List (Call M) → Left → Type 0
+  LineMakes (Ok (Some command)) = CommandMakes command
+  LineMakes _ = MakesNone
+
+  -- nor does a long one
+  pub record ALineMakes (named : List ℕ → Option M) (line : List ℕ) (left : Left) (made : List (Call M)) (after : Left) : Type 0 where
+    pub long : LINE_OCTETS < length line → MakesNone left made after
+    pub fits : length line ≤ LINE_OCTETS → LineMakes (parsed named line) left made after
+
+  -- the lines, one after the other
+  abbrev pub LinesMake : (List ℕ → Option M) → List (List ℕ) → Left → List (Call M) → Left → Type 0
+  LinesMake named [] left made after = MakesNone left made after
+  LinesMake named (line ∷ lines) left made after =
+      (between : Left) × (first rest : List (Call M)) × ALineMakes named line left first between × LinesMake named lines between rest after × (made ≡ first ++ rest)
+
+-- these calls were made for the lines: what a channel's feeds were given was taken from its input, and what they gave was written on it
+pub record AreCalls {M : Type 0} (kinds : Meaning M) (named : List ℕ → Option M) (widths : Widths) (run : Run (Channels M)) (lines : List (List ℕ)) (answer : Answer (Channels M)) (made : List (Call M)) : Type 0 where
+  pub lead : Leads kinds run.state made answer.run.state
+  pub commands : LinesMake named lines (samples_left widths run) made (samples_left widths answer.run)
+  pub outputs : (c : ℕ) → held_by (Some c) (order_of answer.written) ≡ octets_at (widths.output c) (fed_out c made)

@@ -1,2 +1,0 @@
-pub mod Lives
-pub mod Rooms

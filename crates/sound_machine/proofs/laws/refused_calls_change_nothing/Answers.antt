@@ -1,5 +1,0 @@
-use Rattle.sound_machine.proofs.RunLemmas.{refused_call}
-use Rattle.sound_machine.proofs.laws.refused_calls_change_nothing.Goals as goal
-
-pub returns : goal.returns
-returns g c = refused_call

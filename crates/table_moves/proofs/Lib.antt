@@ -1,5 +1,0 @@
-pub mod Holders
-pub mod Owns
-pub mod Seen
-pub mod Slides
-pub mod Tells

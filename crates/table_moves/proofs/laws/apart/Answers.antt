@@ -1,9 +1,0 @@
-use Rattle.instance_table.specs.Table.{EachIsHoused}
-use Rattle.table_moves.proofs.Owns.{but_all, but_own}
-use Rattle.table_moves.proofs.laws.apart.Goals as goal
-
-pub returns-clause-all : goal.returns-clause-all
-returns-clause-all g c i slots once groups ok = but_all i slots once groups ok
-
-pub returns-clause-own : goal.returns-clause-own
-returns-clause-own g c i own slots once groups ok = but_own EachIsHoused i own slots once groups ok

@@ -1,5 +1,0 @@
-use Rattle.table_moves.proofs.Owns.{told_later}
-use Rattle.table_moves.proofs.laws.waiting.Goals as goal
-
-pub returns : goal.returns
-returns g c k slots once groups groups' ok count activity blocks room = told_later k slots once groups groups' ok count activity blocks room

@@ -1,0 +1,17 @@
+-- An algorithm that keeps no law: what it means is never asked.
+use Rattle.std.specs.Prelude.{true, false, [], None}
+use Rattle.ialg.specs.Meaning.{Meaning}
+use Rattle.test_hosts.specs.declared.diary.Diary.{Diary}
+
+abbrev pub diary_meaning : Meaning Diary
+diary_meaning = record {
+  same = λ a b. true;
+  bound = λ _. 0;
+  table = λ _ p. None;
+  fill = λ _ p k. [];
+  gives = λ _ p h. [];
+  accepts = λ _ p c. false;
+  got = λ _ p h. [];
+  declares = λ _ p. false;
+  lawful = λ _ p w. false;
+}

@@ -1,0 +1,2 @@
+pub mod Diaries
+pub mod TwoFeeds

@@ -1,0 +1,37 @@
+//! Samples given to a channel in two blocks.
+ghost use Rattle.std.specs.Prelude.{◌≡◌, ◌≤◌, ◌++◌, ℤ, true, [], List, length};
+ghost use Rattle.channel_spec.specs.Channels.{Channels as State, members_at, is_chained};
+ghost use Rattle.channel_spec.specs.Calls.{Feeds};
+ghost use Rattle.channel_spec.specs.Cuts.{MembersAreLawful};
+ghost use Rattle.voice_channel.specs.Channels.{Keeps};
+ghost use Rattle.test_hosts.specs.TwoFeeds.{ServesBoth};
+
+use channel_spec::cuts_do_not_show;
+use ialg::{BLOCK_SAMPLES, Block, Ialg};
+use voice_channel::Channels;
+
+/// Gives a channel of lawful members two blocks of samples. Joined, what it gives for them is what it would have given for both as one.
+pub fn feed_in_two<M: Ialg>(
+    channels: &mut Channels<M>,
+    c: u8,
+    first: &[i16],
+    second: &[i16],
+    early: &mut Block,
+    late: &mut Block,
+)
+    requires ready { is_chained (members_at channels.old.chained c) ≡ true }
+    requires first { 1 ≤ length first.now }
+    requires second { 1 ≤ length second.now }
+    requires first_within { length first.now ≤ BLOCK_SAMPLES }
+    requires second_within { length second.now ≤ BLOCK_SAMPLES }
+    requires early_empty { early.old.items ≡ [] }
+    requires late_empty { late.old.items ≡ [] }
+    ensures both { ServesBoth M.meaning M.idle_keeps M.active_keeps c first.now early.new.items second.now late.new.items channels.old channels.new }
+    ensures joined { (before after : State M) (out : List ℤ) → Keeps M.meaning M.idle_keeps M.active_keeps channels.old before
+        → MembersAreLawful M.meaning before c → Feeds M.meaning before c (first.now ++ second.now) out after
+        → early.new.items ++ late.new.items ≡ out }
+{
+    cuts_do_not_show::<M>();
+    channels.feed(c, first, early);
+    channels.feed(c, second, late);
+}

@@ -1,0 +1,190 @@
+//! An algorithm that writes each of its calls down in a persistent record, and answers them to `get`.
+ghost use Rattle.std.specs.Prelude.{◌≡◌, ◌≤◌, [], length};
+ghost use Rattle.std.proofs.Common.{rules};
+ghost use Rattle.std.specs.Cmp.Rules.{comparing};
+ghost use Rattle.ialg.specs.Loans.{SameLoans};
+ghost use Rattle.test_hosts.specs.Diaries.{diary_meaning};
+
+use arrayvec::ArrayVec;
+use ialg::{
+    Block, Ctl, Ialg, Lent, PARAMETER_WORDS, Params, Record, Status, Words, copied, object_record,
+};
+use mem_rec::{Attr, LEAST_ALIGNMENT, MemRec, MemTab, Space, TABLE_RECORDS};
+
+/// What the diary has for each call. That of algFree isn't there: it may write nothing.
+pub const INIT: i16 = 1;
+
+pub const ACTIVATE: i16 = 2;
+
+pub const PROCESS: i16 = 3;
+
+pub const CONTROL: i16 = 4;
+
+pub const DEACTIVATE: i16 = 5;
+
+pub const MOVED: i16 = 6;
+
+/// The number of the diary's record.
+const DIARY: usize = 1;
+
+/// The diary: how many calls there were, and then the calls.
+const DIARY_WORDS: u32 = PARAMETER_WORDS as u32;
+
+/// Its parameters are the words of a scratch record in `daram`, of one in `saram`, and of a write-once record, 0 for none; there are two
+/// of these at most. It gives the samples that it takes, answers its diary to `get`, takes `reset`, and takes no `set`. It keeps no law.
+#[derive(Clone, Copy, PartialEq, Eq, Debug)]
+pub struct Diary;
+
+impl Ialg for Diary {
+    ghost meaning = { diary_meaning };
+
+    ghost idle_keeps = { λ _ p rs wss h. ⊥ };
+
+    ghost active_keeps = { λ _ p rs wss h. ⊥ };
+
+    fn alg_num_alloc(&self) -> usize {
+        TABLE_RECORDS
+    }
+
+    fn alg_alloc(&self, p: &Params) -> Option<MemTab> {
+        let mut records: ArrayVec<MemRec, TABLE_RECORDS> = ArrayVec::new();
+        records.push(object_record());
+        records.push(record(DIARY_WORDS, Space::Saram, Attr::Persist));
+        let spaces = [Space::Daram, Space::Saram, Space::External];
+        let attrs = [Attr::Scratch, Attr::Scratch, Attr::WriteOnce];
+        for ((words, space), attr) in p.iter().zip(spaces).zip(attrs) {
+            if *words > 0 {
+                let more = record(u32::from(words.unsigned_abs()), space, attr);
+                records.try_push(more).ok()?;
+            }
+        }
+        MemTab::make(records.as_slice())
+    }
+
+    fn alg_init(&self, _tab: &MemTab, _p: &Params, mem: &mut Lent<'_>) {
+        begin(mem);
+        note(mem, INIT);
+    }
+
+    fn alg_activate(&self, mem: &mut Lent<'_>) {
+        note(mem, ACTIVATE);
+    }
+
+    fn process(&self, mem: &mut Lent<'_>, input: &[i16], out: &mut Block) {
+        note(mem, PROCESS);
+        let _fits = out.try_extend_from_slice(input);
+    }
+
+    fn alg_deactivate(&self, mem: &mut Lent<'_>) {
+        note(mem, DEACTIVATE);
+    }
+
+    fn alg_moved(&self, _tab: &MemTab, mem: &mut Lent<'_>) {
+        note(mem, MOVED);
+    }
+
+    fn accepts(&self, _p: &Params, c: &Ctl) -> bool {
+        match c {
+            Ctl::Set(_words) => false,
+            Ctl::Reset | Ctl::Get => true,
+        }
+    }
+
+    fn alg_control(&self, mem: &mut Lent<'_>, c: &Ctl) -> Status {
+        note(mem, CONTROL);
+        match c {
+            Ctl::Get => Status::Words(written(mem)),
+            _ => Status::Done,
+        }
+    }
+
+    fn alg_free(&self, mem: &Lent<'_>) -> MemTab {
+        mem.table().copied()
+    }
+
+    ghost same = { Prim.search (comparing, rules) };
+
+    ghost compared = { Prim.search (comparing, rules) };
+
+    ghost idle_words = { λ _ p rs wss h keeps. absurd keeps };
+
+    ghost active_words = { λ _ p rs wss h keeps. absurd keeps };
+
+    ghost idle_fill = { λ _ p rs wss h keeps. absurd keeps };
+
+    ghost active_fill = { λ _ p rs wss h keeps. absurd keeps };
+}
+
+fn record(size: u32, space: Space, attr: Attr) -> MemRec {
+    MemRec {
+        size,
+        align: LEAST_ALIGNMENT,
+        space,
+        attr,
+        base: 0,
+    }
+}
+
+// No call was written down so far.
+fn begin(mem: &mut Lent<'_>)
+    ensures { SameLoans mem.old mem.new }
+{
+    let table = mem.table();
+    if DIARY < table.len() {
+        let record = table.get(DIARY);
+        if let Some(Record { k, words }) = mem.take(record.space, record.base) {
+            words.fill(0);
+            mem.put(k, words);
+        }
+    }
+}
+
+// Writes a call down, where there is room for it.
+fn note(mem: &mut Lent<'_>, call: i16)
+    ensures { SameLoans mem.old mem.new }
+{
+    let table = mem.table();
+    if DIARY < table.len() {
+        let record = table.get(DIARY);
+        if let Some(Record { k, words }) = mem.take(record.space, record.base) {
+            write(words, call);
+            mem.put(k, words);
+        }
+    }
+}
+
+fn write(words: &mut [i16], call: i16) {
+    if words.is_empty() {
+        return;
+    }
+    let at = usize::from(words[0].unsigned_abs()) + 1;
+    if at < words.len() && at < PARAMETER_WORDS {
+        words[at] = call;
+        words[0] = at as i16;
+    }
+}
+
+// The calls that were written down, the first one first.
+fn written(mem: &Lent<'_>) -> Words {
+    let table = mem.table();
+    if table.len() <= DIARY {
+        return Words::new();
+    }
+    let record = table.get(DIARY);
+    match mem.read(record.space, record.base) {
+        Some(words) => calls(words),
+        None => Words::new(),
+    }
+}
+
+fn calls(words: &[i16]) -> Words {
+    if words.is_empty() {
+        return Words::new();
+    }
+    let count = usize::from(words[0].unsigned_abs());
+    if count < words.len() && count < PARAMETER_WORDS {
+        copied(&words[1..count + 1])
+    } else {
+        Words::new()
+    }
+}

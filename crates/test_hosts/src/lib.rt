@@ -1,0 +1,26 @@
+// SPDX-License-Identifier: Apache-2.0
+//! For tests: hosts and channels in which a kind that keeps no law stands beside the hosted kinds; which calls of IALG an algorithm gets,
+//! by one that keeps a diary of them; and callers of the laws of cuts and of two runs.
+#![tactic(auto)]
+
+#[cfg(test)]
+mod agree_tests;
+#[cfg(test)]
+mod channel_runs;
+#[cfg(test)]
+mod channel_tests;
+mod cut_feeds;
+mod diary;
+#[cfg(test)]
+mod diary_tests;
+#[cfg(test)]
+mod host_tests;
+mod two_channels;
+
+pub use cut_feeds::feed_in_two;
+pub use diary::{ACTIVATE, CONTROL, DEACTIVATE, Diary, INIT, MOVED, PROCESS};
+pub use two_channels::{Outputs, feed_both};
+use voice_channel::MEMBERS;
+
+// A chain has as many members at most.
+const _: () = prove!(MEMBERS == 8);

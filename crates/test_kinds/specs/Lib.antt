@@ -1,0 +1,4 @@
+pub mod Primed
+pub mod Starts
+pub mod Slicer
+pub mod Trials

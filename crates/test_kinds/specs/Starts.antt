@@ -1,0 +1,29 @@
+-- Where the records of a primed instance begin, what they hold, and that it has started or is awake.
+use Rattle.std.specs.Prelude.{ℤ, List, [], ◌∷◌}
+use Rattle.mem_rec.specs.declared.MemRec.{MemRec}
+use Rattle.mem_rec.specs.Records.{with_base}
+use Rattle.ialg.specs.Records.{lasting}
+use Rattle.test_kinds.specs.declared.TheConstants.{ONCE, ONCE_BASE}
+use Rattle.test_kinds.specs.declared.starts.Held.{Held}
+use Rattle.test_kinds.specs.declared.starts.Awake.{Awake}
+use Rattle.test_kinds.specs.Primed.{primed_records, KeepsWords, KeepsAwake}
+
+-- the two records of `external` begin apart
+abbrev pub placed_records : List MemRec
+placed_records = with_base primed_records ONCE ONCE_BASE
+
+-- the words of each record while the instance is idle
+abbrev pub held_words : Held → List (List ℤ)
+held_words held = held.object ∷ held.once ∷ held.primed ∷ [] ∷ []
+
+-- the words keep the empty history of an idle instance
+abbrev pub HasStarted : ℤ → ℤ → Held → Type 0
+HasStarted poison once held = KeepsWords (poison ∷ once ∷ []) placed_records (lasting placed_records (held_words held)) []
+
+-- the words of each record while it is active
+abbrev pub awake_words : Awake → List (List ℤ)
+awake_words awake = awake.held.object ∷ awake.held.once ∷ awake.held.primed ∷ awake.scratch ∷ []
+
+-- the words keep the empty history of an active instance
+abbrev pub IsAwake : ℤ → ℤ → Awake → Type 0
+IsAwake poison once awake = KeepsAwake (poison ∷ once ∷ []) placed_records (awake_words awake) []

@@ -1,0 +1,4 @@
+pub mod Housing
+pub mod Standing
+pub mod Lives
+pub mod Rooms

@@ -1,0 +1,28 @@
+use Rattle.std.proofs.Common.{◌≡◌, ◌++◌, ◌∙◌, ℤ, List, ap}
+use Rattle.ialg.specs.History.{with_samples}
+use Rattle.host_table.specs.Keeps.{with_history}
+use Rattle.host_table.proofs.Changes.{tables_then, later_member}
+use Rattle.host_table.proofs.Housing.{lawful_after}
+use Rattle.host_table.proofs.Histories.{history_here, history_there}
+use Rattle.test_lives.proofs.turns.take_turns.Goals as goal
+
+pub returns-clause-stays : goal.returns-clause-stays
+returns-clause-stays g c = record {
+  ok = c.process-3.ensures.step.ok;
+  poisoned = c.process-3.ensures.step.poisoned;
+  same = tables_then _ _ _ _ _ _ _ _ _ (tables_then _ _ _ _ _ _ _ _ _ c.process.ensures.step.same c.process-2.ensures.step.same) c.process-3.ensures.step.same;
+}
+
+pub returns-clause-output : goal.returns-clause-output
+returns-clause-output g c histories m keeps at lawful =
+    let given = with_samples (histories c.args.first) c.args.before.now in
+    let once = with_history histories c.args.first given in
+    let twice = with_history once c.args.second (with_samples (once c.args.second) c.args.between.now) in
+    let kept = c.process-2.ensures.step.keeps once (c.process.ensures.step.keeps histories keeps) in
+    let meanwhile = tables_then _ _ _ _ _ _ _ _ _ c.process.ensures.step.same c.process-2.ensures.step.same in
+    let later = later_member _ _ m at (meanwhile.slot c.args.first) in
+    let same = later.1.1 in
+    let still : twice c.args.first ≡ given =
+    history_there once c.args.second c.args.first (with_samples (once c.args.second) c.args.between.now) c.requires.apart ∙ history_here histories c.args.first given in
+    let last = c.process-3.ensures.output twice kept later.0 later.1.0 (lawful_after g.M.Ialg.meaning _ _ c.args.poison same lawful) in
+    (rw (same.kind, same.params, still) at last) ∙ ap (λ (xs : List ℤ). xs ++ c.process-3.new.out.items) (c.process.ensures.output histories keeps m at lawful)

@@ -1,0 +1,20 @@
+// SPDX-License-Identifier: Apache-2.0
+//! For tests: one instance, two neighbours in one group, and two instances of one table. What one gives doesn't depend on the others,
+//! also where it is moved, idle and active.
+#![tactic(auto)]
+
+#[cfg(test)]
+mod neighbour_moves;
+#[cfg(test)]
+mod neighbour_tests;
+mod neighbours;
+mod slicer;
+#[cfg(test)]
+mod slicer_tests;
+#[cfg(test)]
+mod turn_tests;
+mod turns;
+
+pub use neighbours::{feed, interleave};
+pub use slicer::live;
+pub use turns::take_turns;

@@ -1,0 +1,181 @@
+//! Two filters are active by turns in the scratch memory of one group: each gives the outputs of its own samples, with a control in
+//! between.
+ghost use Rattle.std.specs.Prelude.{◌≡◌, ◌≤◌, [], length, Some, None};
+ghost use Rattle.ialg.specs.Records.{unplaced};
+ghost use Rattle.record_loans.specs.Pieces.{IsSamePiece, SamePieces};
+ghost use Rattle.scratch_group.specs.Blocks.{SameGroup};
+ghost use Rattle.lifecycle.specs.States.{Fits, SameInstance};
+ghost use Rattle.test_lives.specs.Homes.{IsHome, IsReady, no_pieces, two_taps};
+
+use crate::feed;
+use alg_fir::Fir;
+use ialg::{BLOCK_SAMPLES, Block, Ctl, Ialg, PARAMETER_WORDS, Params, Status, Words, copied};
+use lifecycle::{Idle, room};
+use mem_rec::{MemTab, Space};
+use record_loans::Pieces;
+use scratch_group::{Group, lends_at_the_layout};
+use space_raw::{Piece, Region};
+use std::process::Abort;
+
+fn words(rt: &impl Abort, values: &[i16]) -> Words
+    ensures { result.items ≡ values.now }
+{
+    assert!(rt; values.len() <= PARAMETER_WORDS);
+    copied(values)
+}
+
+/// The records of a filter of two coefficients.
+fn table(rt: &impl Abort, p: &Params) -> MemTab
+    requires { length p.now.items ≡ 2 }
+    ensures { result ≡ two_taps }
+{
+    Fir.alg_alloc(p).expect(rt, "a table")
+}
+
+/// A filter that gives half of a sample and half of the one before it.
+pub(crate) fn filter(
+    rt: &impl Abort,
+    object: Piece,
+    kept: Piece,
+    none: &mut Pieces,
+    group: &Group,
+) -> Idle<Fir>
+    requires object { IsHome 4 object }
+    requires kept { IsHome 4 kept }
+    requires none { none.old ≡ no_pieces }
+    requires ready { IsReady group.now }
+    ensures object { IsSamePiece (Some object) result.instance.own.p0 }
+    ensures kept { IsSamePiece (Some kept) result.instance.own.p1 }
+    ensures others { (result.instance.own.p2 ≡ None) × (result.instance.own.p3 ≡ None) }
+    ensures table { unplaced result.instance.table ≡ two_taps }
+    ensures none { SamePieces none.old none.new }
+    ensures fits { Fits result.instance.table result.instance.own none.new group.now }
+{
+    let p = words(rt, &[16384, 16384]);
+    let table = table(rt, &p);
+    let own = Pieces {
+        p0: Some(object),
+        p1: Some(kept),
+        p2: None,
+        p3: None,
+    };
+    Idle::init(Fir, p, table, own, none, group)
+}
+
+/// An idle instance is active for one control that it accepts.
+fn control<M: Ialg>(
+    member: Idle<M>,
+    none: &mut Pieces,
+    group: &mut Group,
+    c: &Ctl,
+) -> (Idle<M>, Status)
+    requires fits { Fits member.instance.table member.instance.own none.old group.old }
+    ensures same { SameInstance member.instance result.0.instance }
+    ensures none { SamePieces none.old none.new }
+    ensures group { SameGroup group.old group.new }
+    ensures fits { Fits result.0.instance.table result.0.instance.own none.new group.new }
+{
+    let mut awake = member.wake(none, group);
+    let status = awake.control(none, group, c);
+    (awake.rest(none, group), status)
+}
+
+/// What the member gives for these samples. The group's blocks are overwritten afterwards.
+pub(crate) fn give<M: Ialg>(
+    member: Idle<M>,
+    none: &mut Pieces,
+    group: &mut Group,
+    input: &[i16],
+) -> (Idle<M>, Block)
+    requires fits { Fits member.instance.table member.instance.own none.old group.old }
+    requires some { 1 ≤ length input.now }
+    requires within { length input.now ≤ BLOCK_SAMPLES }
+    ensures same { SameInstance member.instance result.0.instance }
+    ensures none { SamePieces none.old none.new }
+    ensures group { SameGroup group.old group.new }
+    ensures fits { Fits result.0.instance.table result.0.instance.own none.new group.new }
+{
+    let mut out = Block::new();
+    let member = feed(member, none, group, input, &mut out);
+    (member, out)
+}
+
+/// Looks that there is no piece.
+pub(crate) fn nothing(rt: &impl Abort, piece: Option<Piece>)
+    ensures { piece ≡ None }
+{
+    assert!(rt; piece.is_none(), "no piece");
+    match piece {
+        Some(_piece) => unreachable!(),
+        None => {}
+    }
+}
+
+/// Ends pieces that are none.
+pub(crate) fn end(rt: &impl Abort, pieces: Pieces)
+    ensures { pieces ≡ no_pieces }
+{
+    let Pieces { p0, p1, p2, p3 } = pieces;
+    nothing(rt, p0);
+    nothing(rt, p1);
+    nothing(rt, p2);
+    nothing(rt, p3);
+}
+
+/// The object and the kept words of an ended instance, which has no other pieces.
+pub(crate) fn both(rt: &impl Abort, pieces: Pieces) -> (Piece, Piece)
+    ensures object { pieces.p0 ≡ Some result.0 }
+    ensures kept { pieces.p1 ≡ Some result.1 }
+{
+    let Pieces { p0, p1, p2, p3 } = pieces;
+    nothing(rt, p2);
+    nothing(rt, p3);
+    (p0.expect(rt, "the object"), p1.expect(rt, "the kept words"))
+}
+
+#[test]
+fn members_take_turns(rt: HostRuntime) {
+    let (daram, block) = Region::make(rt.alloc(), 1_028).expect(&rt, "memory");
+    let (external, object) = Region::make(rt.alloc(), 4).expect(&rt, "memory");
+    let (saram, kept) = Region::make(rt.alloc(), 4).expect(&rt, "memory");
+    let (other_external, other_object) = Region::make(rt.alloc(), 4).expect(&rt, "memory");
+    let (other_saram, other_kept) = Region::make(rt.alloc(), 4).expect(&rt, "memory");
+    let mut group = Group::new();
+    nothing(&rt, group.replace(Space::Daram, block, 16));
+    let mut none = Pieces::none();
+    let mut other_none = Pieces::none();
+    let first = filter(&rt, object, kept, &mut none, &group);
+    let second = filter(&rt, other_object, other_kept, &mut other_none, &group);
+
+    let (first, out) = give(first, &mut none, &mut group, &[2, 4]);
+    assert_eq!(rt; out.as_slice(), [1i16, 3].as_slice());
+    let (second, out) = give(second, &mut other_none, &mut group, &[10]);
+    assert_eq!(rt; out.as_slice(), [5i16].as_slice());
+    let (first, status) = control(first, &mut none, &mut group, &Ctl::Get);
+    assert_eq!(rt; status, Status::Words(words(&rt, &[16384, 16384])));
+    let (mut first, out) = give(first, &mut none, &mut group, &[6]);
+    assert_eq!(rt; out.as_slice(), [5i16].as_slice());
+    assert!(rt; first.accepts(&Ctl::Get));
+    let told = first.freed(&mut none, &group);
+    assert_eq!(rt; told.len(), 3);
+    let (second, out) = give(second, &mut other_none, &mut group, &[20]);
+    assert_eq!(rt; out.as_slice(), [15i16].as_slice());
+
+    let (object, kept) = both(&rt, first.finish());
+    let (other_object, other_kept) = both(&rt, second.finish());
+    let block = group.remove(Space::Daram).expect(&rt, "a block");
+    group.end();
+    daram.close(block);
+    external.close(object);
+    saram.close(kept);
+    other_external.close(other_object);
+    other_saram.close(other_kept);
+    end(&rt, none);
+    end(&rt, other_none);
+}
+
+#[test]
+fn laws_are_stated(_rt: HostRuntime) {
+    lends_at_the_layout();
+    room();
+}

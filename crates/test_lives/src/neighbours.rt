@@ -1,0 +1,75 @@
+//! Two instances of one group by turns.
+ghost use Rattle.std.specs.Prelude.{◌≡◌, ◌≤◌, ◌++◌, ℤ, [], length, Option, None};
+ghost use Rattle.ialg.specs.History.{History, with_samples};
+ghost use Rattle.record_loans.specs.Pieces.{SamePieces};
+ghost use Rattle.scratch_group.specs.Blocks.{BlocksArePoison, SameGroup};
+ghost use Rattle.lifecycle.specs.States.{Fits, IsLawful, IdleKeeps, SameInstance, all_outputs};
+
+use ialg::{BLOCK_SAMPLES, Block, Ialg};
+use lifecycle::Idle;
+use record_loans::Pieces;
+use scratch_group::Group;
+
+/// An idle instance is active for one block.
+pub fn feed<M: Ialg>(
+    member: Idle<M>,
+    shared: &mut Pieces,
+    group: &mut Group,
+    input: &[i16],
+    out: &mut Block,
+) -> Idle<M>
+    requires fits { Fits member.instance.table member.instance.own shared.old group.old }
+    requires empty { out.old.items ≡ [] }
+    requires some { 1 ≤ length input.now }
+    requires within { length input.now ≤ BLOCK_SAMPLES }
+    ensures same { SameInstance member.instance result.instance }
+    ensures shared { SamePieces shared.old shared.new }
+    ensures group { SameGroup group.old group.new }
+    ensures fits { Fits result.instance.table result.instance.own shared.new group.new }
+    ensures keeps { (w : Option ℤ) (h : History) → BlocksArePoison w group.old
+        → IdleKeeps M.meaning M.idle_keeps member.instance w shared.old h
+        → IdleKeeps M.meaning M.idle_keeps result.instance w shared.new (with_samples h input.now) }
+    ensures output { (w : Option ℤ) (h : History) → BlocksArePoison w group.old → IsLawful M.meaning member.instance w
+        → IdleKeeps M.meaning M.idle_keeps member.instance w shared.old h
+        → all_outputs M.meaning member.instance (with_samples h input.now)
+        ≡ all_outputs M.meaning member.instance h ++ out.new.items }
+{
+    let mut awake = member.wake(shared, group);
+    awake.run(shared, group, input, out);
+    awake.rest(shared, group)
+}
+
+/// The first instance is given two blocks, and between them the second is given one, in a host of no poison word. What each gives are
+/// the outputs of its own blocks.
+pub fn interleave<M: Ialg, N: Ialg>(
+    first: Idle<M>,
+    second: Idle<N>,
+    shared: &mut Pieces,
+    others: &mut Pieces,
+    group: &mut Group,
+    before: &[i16],
+    between: &[i16],
+    after: &[i16],
+    out: &mut Block,
+    other: &mut Block,
+    more: &mut Block,
+) -> (Idle<M>, Idle<N>)
+    requires first { Fits first.instance.table first.instance.own shared.old group.old }
+    requires second { Fits second.instance.table second.instance.own others.old group.old }
+    requires empty { (out.old.items ≡ []) × (other.old.items ≡ []) × (more.old.items ≡ []) }
+    requires some { (1 ≤ length before.now) × (1 ≤ length between.now) × (1 ≤ length after.now) }
+    requires within { (length before.now ≤ BLOCK_SAMPLES) × (length between.now ≤ BLOCK_SAMPLES) × (length after.now ≤ BLOCK_SAMPLES) }
+    ensures output { (h : History) → IsLawful M.meaning first.instance None
+        → IdleKeeps M.meaning M.idle_keeps first.instance None shared.old h
+        → all_outputs M.meaning first.instance (with_samples (with_samples h before.now) after.now)
+        ≡ (all_outputs M.meaning first.instance h ++ out.new.items) ++ more.new.items }
+    ensures output_between { (h : History) → IsLawful N.meaning second.instance None
+        → IdleKeeps N.meaning N.idle_keeps second.instance None others.old h
+        → all_outputs N.meaning second.instance (with_samples h between.now)
+        ≡ all_outputs N.meaning second.instance h ++ other.new.items }
+{
+    let first = feed(first, shared, group, before, out);
+    let second = feed(second, others, group, between, other);
+    let first = feed(first, shared, group, after, more);
+    (first, second)
+}

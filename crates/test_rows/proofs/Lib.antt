@@ -1,0 +1,2 @@
+pub mod HostRowLemmas
+pub mod ConsoleRowLemmas

@@ -1,0 +1,4 @@
+pub mod TwoRuns
+pub mod Steps
+pub mod RowLemmas
+pub mod RoomLemmas

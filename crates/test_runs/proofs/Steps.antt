@@ -1,0 +1,143 @@
+-- Lines whose calls are known, one after the other.
+use Rattle.std.proofs.Common.{◌≡◌, ◌<◌, ◌+◌, ℕ, ℤ, true, List, [], ◌∷◌, ◌++◌, length, take, drop, Option, None, Result, Ok, Err, inl, inr, ap, sym, ◌∙◌, subst, arith, length-append}
+use Rattle.std.proofs.Math.Seq.{drop-append_seam, take-append_seam}
+use Rattle.std.specs.Prelude.{◌==◌, nat_le, if◌then◌else◌}
+use Rattle.std.proofs.lemmas.Bool.{leb-true}
+use Rattle.ialg.specs.declared.refusal.Refusal.{Refusal}
+use Rattle.ialg.specs.Meaning.{Meaning}
+use Rattle.host_spec.specs.State.{State}
+use Rattle.host_spec.specs.Steps.{processed}
+use Rattle.host_spec.specs.Calls as host_calls
+use Rattle.host_spec.specs.Calls.Call.{Process}
+use Rattle.host_spec.specs.Answers.{AreLawful}
+use Rattle.channel_spec.specs.Channels.{Channels, members_at}
+use Rattle.channel_spec.specs.Steps.{channel_refusal, on_host, unless}
+use Rattle.channel_spec.specs.Calls.{Call, Feeds, Passes}
+use Rattle.channel_spec.specs.Calls.Call.{Ready, Feed}
+use Rattle.channel_spec.specs.Answers.{answered}
+use Rattle.channel_spec.proofs.AnswerLemmas.{computed}
+use Rattle.voice_script.specs.Script as script
+use Rattle.voice_script.specs.Script.{parsed}
+use Rattle.voice_script.specs.declared.limits.TheConstants.{LINE_OCTETS}
+use Rattle.run_theorem.specs.HostRuns.{AsHostCalls, IsPassing, RunsOnHost}
+use Rattle.run_theorem.specs.Lines.{CommandMakes, IsFed, IsSameBut, Left, LineMakes, LinesMake, Makes}
+
+module _ {M : Type 0} (kinds : Meaning M) (named : List ℕ → Option M) where
+  -- whatever these lines made from here, where the inputs have these samples left, this holds of it
+  pub record Holds (lines : List (List ℕ)) (known : ℕ → List ℤ) (state : Channels M) (P : List (Call M) → List (host_calls.Call M) → Type 0) : Type 0 where
+    pub always : (left after : Left) (made : List (Call M)) (asked : List (host_calls.Call M)) (end : Channels M)
+        → ((c : ℕ) → left c ≡ known c) → LinesMake named lines left made after → RunsOnHost kinds state made asked end → P made asked
+
+  pub ended : {known : ℕ → List ℤ} {state : Channels M} {P : List (Call M) → List (host_calls.Call M) → Type 0} → P [] [] → Holds [] known state P
+  ended {state = state} {P = P} p = record {
+    always = λ left after made asked end k m r.
+        let nothing = subst (λ calls. RunsOnHost kinds state calls asked end) m.0 r in
+        subst (λ xs. P xs asked) (sym m.0) (subst (λ xs. P [] xs) (sym nothing.0) p);
+  }
+
+  -- a line makes one call, whose answer is known
+  pub told : {line : List ℕ} {lines : List (List ℕ)} {known : ℕ → List ℤ} {state : Channels M} {P : List (Call M) → List (host_calls.Call M) → Type 0}
+      {A : Type 0} (call : A → Call M) (answer : A) (next : Channels M) (host : List (host_calls.Call M))
+      → AreLawful kinds state.host.poison
+      → nat_le (length line) LINE_OCTETS ≡ true
+      → ((left after : Left) (made : List (Call M)) → LineMakes (parsed named line) left made after → Makes call left made after)
+      → ((a : A) → ◌≡◌ {A = Call M × Channels M} (answered kinds state (call a)) (call answer, next))
+      → ((asked : List (host_calls.Call M)) → AsHostCalls state (call answer) asked → asked ≡ host)
+      → Holds lines known next (λ made asked. P (call answer ∷ made) (host ++ asked))
+      → Holds (line ∷ lines) known state P
+  told {line = line} {lines = lines} {state = state} {P = P} call answer next host lawful fits makes same hosts go = record {
+    always = λ left after made asked end k m r.
+        let one = makes left m.0 m.1 (m.3.fits (leb-true (length line) LINE_OCTETS fits)) in
+        let made_is : made ≡ call one.0 ∷ m.2 = m.5 ∙ ap (λ first. first ++ m.2) one.1 in
+        let ran = subst (λ calls. RunsOnHost kinds state calls asked end) made_is r in
+        let c = computed kinds state ran.0 lawful (call one.0) ran.3 ∙ same one.0 in
+        let its : call one.0 ≡ call answer = ap (λ o. o.0) c in
+        let asks : ran.1 ≡ host = hosts ran.1 (subst (λ x. AsHostCalls state x ran.1) its ran.4) in
+        let later : RunsOnHost kinds next m.2 ran.2 end = subst (λ s. RunsOnHost kinds s m.2 ran.2 end) (ap (λ o. o.1) c) ran.5 in
+        let p = go.always m.0 after m.2 ran.2 end (λ d. one.2 d ∙ k d) m.4 later in
+        subst (λ x. P x asked) (sym (made_is ∙ ap (λ x. x ∷ m.2) its)) (subst (λ x. P (call answer ∷ m.2) x) (sym (ran.6 ∙ ap (λ first. first ++ ran.2) asks)) p);
+  }
+
+  -- the same channels over the host's new state
+  moved : (before after : Channels M) (host : State M) → after.host ≡ host → after.chained ≡ before.chained → after ≡ on_host before host
+  moved before after host e f = ap (λ chained. record after { chained = chained }) f ∙ ap (λ h. on_host before h) e
+
+  err_is_no_ok : {X : Type 0} (refusal : Refusal) → ◌≡◌ {A = Result (Unit {0}) Refusal} (Err refusal) (Ok tt) → X
+  err_is_no_ok refusal e = absurd (cc)
+
+  -- a channel of one member that has enough samples is fed the first of them
+  module _ (state : Channels M) (known : ℕ → List ℤ) (c i n : ℕ) (x : ℤ) (xs rest : List ℤ)
+      (ready : channel_refusal state c ≡ None) (only : members_at state.chained c ≡ i ∷ []) (has : known c ≡ (x ∷ xs) ++ rest) (so_many : length (x ∷ xs) ≡ n) where
+    abbrev next : Channels M
+    next = on_host state (processed state.host i (x ∷ xs))
+
+    abbrev left_then : ℕ → List ℤ
+    left_then d = if d == c then rest else known d
+
+    is_ready : (a : Result (Unit {0}) Refusal) (after : Channels M) → ◌≡◌ {A = Result (Unit {0}) Refusal × Channels M} (a, after) (unless (channel_refusal state c) state (Ok (tt {0}), state))
+        → ◌≡◌ {A = Result (Unit {0}) Refusal × Channels M} (a, after) (Ok (tt {0}), state)
+    is_ready a after e = subst (λ r. ◌≡◌ {A = Result (Unit {0}) Refusal × Channels M} (a, after) (unless r state (Ok (tt {0}), state))) ready e
+
+    fed_state : (out : List ℤ) (after : Channels M) → Feeds kinds state c (x ∷ xs) out after → after ≡ next
+    fed_state out after f =
+        let passes : Passes kinds state.host (i ∷ []) (x ∷ xs) out after.host = subst (λ is. Passes kinds state.host is (x ∷ xs) out after.host) only f.passes in
+        moved state after (processed state.host i (x ∷ xs)) (passes.3.1 ∙ passes.2.outcome) f.chained
+
+    asked_is : (out : List ℤ) (asked : List (host_calls.Call M)) → IsPassing (members_at state.chained c) (x ∷ xs) out asked → asked ≡ Process i (x ∷ xs) out ∷ []
+    asked_is out asked passing =
+        let p : IsPassing (i ∷ []) (x ∷ xs) out asked = subst (λ is. IsPassing is (x ∷ xs) out asked) only passing in
+        p.2 ∙ ap (λ given. Process i (x ∷ xs) given ∷ p.1) (sym p.3.0) ∙ ap (λ later. Process i (x ∷ xs) out ∷ later) p.3.1
+
+    -- the block is the first samples, and the others are left
+    parts : (left : Left) → ((d : ℕ) → left d ≡ known d) → (take n (left c) ≡ x ∷ xs) × (drop n (left c) ≡ rest)
+    parts left k = (
+      ap (take n) (k c ∙ has) ∙ ap (λ m. take m ((x ∷ xs) ++ rest)) (sym so_many) ∙ take-append_seam (x ∷ xs) rest,
+      ap (drop n) (k c ∙ has) ∙ ap (λ m. drop m ((x ∷ xs) ++ rest)) (sym so_many) ∙ drop-append_seam (x ∷ xs) rest,
+    )
+
+    is_left : (left between : Left) → ((d : ℕ) → left d ≡ known d) → IsSameBut c (drop n (left c)) left between → (d : ℕ) → between d ≡ left_then d
+    is_left left between k others d = others d ∙ ap (λ ys. if d == c then ys else left d) (parts left k).1 ∙ ap (λ ys. if d == c then rest else ys) (k d)
+
+    not_refused : {X : Type 0} (refusal : Refusal) (later made : List (Call M)) (asked : List (host_calls.Call M)) (end : Channels M)
+        → made ≡ Ready c (Err refusal) ∷ later → RunsOnHost kinds state made asked end → X
+    not_refused refusal later made asked end is r =
+        let ran = subst (λ calls. RunsOnHost kinds state calls asked end) is r in
+        err_is_no_ok refusal (ap (λ o. o.0) (is_ready (Err refusal) ran.0 ran.3))
+
+    not_short : {X : Type 0} (left : Left) → left c ≡ known c → length (left c) < n → X
+    not_short left k few =
+        let long : length (left c) ≡ length ((x ∷ xs) ++ rest) = ap (λ ys. length ys) (k ∙ has) in
+        let parts : length ((x ∷ xs) ++ rest) ≡ length (x ∷ xs) + length rest = length-append (x ∷ xs) rest in
+        absurd (omega (arith, few, long, parts, so_many))
+
+    module _ (P : List (Call M) → List (host_calls.Call M) → Type 0) (lines : List (List ℕ))
+        (go : (out : List ℤ) → Holds lines left_then next (λ made asked. P (Ready c (Ok tt) ∷ Feed c (x ∷ xs) out ∷ made) (Process i (x ∷ xs) out ∷ asked)))
+        (left after : Left) (made : List (Call M)) (asked : List (host_calls.Call M)) (end : Channels M) (k : (d : ℕ) → left d ≡ known d)
+        (between : Left) (first later : List (Call M)) (on : LinesMake named lines between later after) (joined : made ≡ first ++ later)
+        (r : RunsOnHost kinds state made asked end) where
+      is_fed : IsFed c n left first between → P made asked
+      is_fed f =
+          let is : made ≡ Ready c (Ok tt) ∷ Feed c (x ∷ xs) f.out ∷ later =
+          joined ∙ ap (λ calls. calls ++ later) (f.calls ∙ ap (λ block. Ready c (Ok tt) ∷ Feed c block f.out ∷ []) (parts left k).0) in
+          let ran = subst (λ calls. RunsOnHost kinds state calls asked end) is r in
+          let begun : RunsOnHost kinds state (Feed c (x ∷ xs) f.out ∷ later) ran.2 end =
+          subst (λ s. RunsOnHost kinds s (Feed c (x ∷ xs) f.out ∷ later) ran.2 end) (ap (λ o. o.1) (is_ready (Ok tt) ran.0 ran.3)) ran.5 in
+          let gone : RunsOnHost kinds next later begun.2 end = subst (λ s. RunsOnHost kinds s later begun.2 end) (fed_state f.out begun.0 begun.3) begun.5 in
+          let asks : asked ≡ Process i (x ∷ xs) f.out ∷ begun.2 =
+          ran.6 ∙ ap (λ none. none ++ ran.2) ran.4 ∙ begun.6 ∙ ap (λ few. few ++ begun.2) (asked_is f.out begun.1 begun.4) in
+          subst (λ calls. P calls asked) (sym is) (subst (λ later_asked. P (Ready c (Ok tt) ∷ Feed c (x ∷ xs) f.out ∷ later) later_asked) (sym asks)
+          ((go f.out).always between after later begun.2 end (is_left left between k f.others) on gone))
+
+      by_three : CommandMakes (script.Feed c n) left first between → P made asked
+      by_three (inl refused) = not_refused refused.0 later made asked end (joined ∙ ap (λ calls. calls ++ later) refused.1) r
+      by_three (inr (inl short)) = not_short left (k c) short.few
+      by_three (inr (inr f)) = is_fed f
+
+    pub fed : {line : List ℕ} {lines : List (List ℕ)} {P : List (Call M) → List (host_calls.Call M) → Type 0}
+        → nat_le (length line) LINE_OCTETS ≡ true
+        → ((left after : Left) (made : List (Call M)) → LineMakes (parsed named line) left made after → CommandMakes (script.Feed c n) left made after)
+        → ((out : List ℤ) → Holds lines left_then next (λ made asked. P (Ready c (Ok tt) ∷ Feed c (x ∷ xs) out ∷ made) (Process i (x ∷ xs) out ∷ asked)))
+        → Holds (line ∷ lines) known state P
+    fed {line = line} {lines = lines} {P = P} fits makes go = record {
+      always = λ left after made asked end k m r. by_three P lines go left after made asked end k m.0 m.1 m.2 m.4 m.5 r (makes left m.0 m.1 (m.3.fits (leb-true (length line) LINE_OCTETS fits)));
+    }

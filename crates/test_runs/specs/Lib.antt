@@ -1,0 +1,3 @@
+pub mod TwoRuns
+pub mod Row
+pub mod Rooms

@@ -1,3 +1,0 @@
-pub mod Primed
-pub mod Starts
-pub mod Slicer

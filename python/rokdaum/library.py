@@ -1,0 +1,111 @@
+# SPDX-License-Identifier: Apache-2.0
+"""`librokdaum`, the C library, as ctypes sees it: where it is looked for, its structs and its prototypes. `rokdaum.host` stands over it.
+
+It is looked for
+
+1. where the environment variable ROKDAUM_LIBRARY names a file, there and nowhere else;
+2. beside the package, where a release has it;
+3. in `out/c` of the repository that the package stands in, where `make -C c` leaves it;
+4. where the loader looks: LD_LIBRARY_PATH, /etc/ld.so.conf, /usr/lib.
+
+It has to have the version of the package.
+"""
+
+from __future__ import annotations
+
+import ctypes
+import os
+from ctypes import POINTER, c_char_p, c_int, c_int16, c_int32, c_size_t, c_uint8, c_uint32, c_uint64, c_void_p
+from functools import cache
+from pathlib import Path
+
+from . import __version__
+from .errors import LibraryMissing
+
+VARIABLE = "ROKDAUM_LIBRARY"
+NAME = "librokdaum.so"
+# The limits of rokdaum.h.
+SPACE_WORDS, INSTANCES, GROUPS, CHANNELS, PARAMETER_WORDS, MAP_BLOCKS = 65536, 64, 8, 16, 72, 264
+# The order of rokdaum_kind and of rokdaum_space.
+KINDS = ("fir", "decim", "biquad", "tone", "g711")
+SPACES = ("daram", "saram", "external")
+
+
+class Handle(ctypes.Structure):
+    """`rokdaum`. Zeroed it is ROKDAUM_CLOSED. It is never copied."""
+
+    _fields_ = [("mark", c_uint64), ("at", c_void_p), ("allocator", c_void_p)]
+
+
+class Options(ctypes.Structure):
+    """`rokdaum_options`."""
+
+    _fields_ = [("daram", c_uint32), ("saram", c_uint32), ("external", c_uint32), ("channels", c_uint8), ("poisoned", c_uint8), ("poison", c_int16)]
+
+
+class BlockRecord(ctypes.Structure):
+    """`rokdaum_block`."""
+
+    _fields_ = [("scratch", c_uint32), ("number", c_uint32), ("record", c_uint32), ("place", c_uint32), ("size", c_uint32), ("align", c_uint32)]
+
+
+WORDS = POINTER(c_int16)
+COUNT = POINTER(c_uint32)
+# What each call takes behind the handle. All of them answer a code.
+CALLS: dict[str, tuple[type, ...]] = {
+    "open": (POINTER(Options),),
+    "close": (),
+    "create": (c_uint8, c_int, c_uint8, WORDS, c_size_t, POINTER(c_int)),
+    "delete": (c_uint8,),
+    "set": (c_uint8, WORDS, c_size_t),
+    "reset": (c_uint8,),
+    "get": (c_uint8, WORDS, c_size_t, COUNT),
+    "chain": (c_uint8, POINTER(c_uint8), c_size_t),
+    "unchain": (c_uint8,),
+    "feed_all": (c_uint8, WORDS, c_size_t, WORDS, c_size_t, POINTER(c_size_t)),
+    "step": (c_int, COUNT),
+    "compact": (c_int, COUNT),
+    "copied": (POINTER(c_uint64),),
+    "map": (c_int, POINTER(BlockRecord), c_size_t, COUNT),
+    "release": (c_uint8, COUNT),
+    "stat": (c_uint8, POINTER(c_int32), COUNT),
+}
+
+
+def candidates() -> list[str]:
+    """The names to load, in order."""
+    if named := os.environ.get(VARIABLE):
+        return [named]
+    package = Path(__file__).resolve().parent
+    found = [path for path in (package / NAME, package.parent.parent / "out" / "c" / NAME) if path.is_file()]
+    return [*map(str, found), f"{NAME}.{__version__}", NAME]
+
+
+def open_first(names: list[str]) -> ctypes.CDLL:
+    """The first of the libraries that can be loaded. Raises LibraryMissing where none can."""
+    said = []
+    for name in names:
+        try:
+            return ctypes.CDLL(name)
+        except OSError as why:
+            said.append(str(why))
+    where = f"{VARIABLE} names {names[0]}" if os.environ.get(VARIABLE) else f"it isn't beside the package, nor in out/c of the repository, nor known to the loader, and {VARIABLE} doesn't name it"
+    raise LibraryMissing(f"{NAME} can't be loaded: {where}: `make -C c` in the repository makes it, or `make -C c install` ({said[0]})")
+
+
+@cache
+def load() -> ctypes.CDLL:
+    """The library, loaded once, with its prototypes. Raises LibraryMissing where there is none, or one of another version."""
+    found = open_first(candidates())
+    try:
+        found.rokdaum_version.restype = c_char_p
+        version = found.rokdaum_version().decode()
+    except AttributeError:
+        raise LibraryMissing(f"{found._name} is no {NAME}: it has no rokdaum_version") from None
+    if version != __version__:
+        raise LibraryMissing(f"{found._name} is version {version}, and this package is {__version__}: `make -C c` in the repository makes it anew, or {VARIABLE} names another")
+    found.rokdaum_error_text.argtypes, found.rokdaum_error_text.restype = (c_int,), c_char_p
+    for name, arguments in CALLS.items():
+        call = getattr(found, f"rokdaum_{name}")
+        call.argtypes, call.restype = (POINTER(Handle), *arguments), c_int
+    return found

@@ -1,0 +1,425 @@
+# SPDX-License-Identifier: Apache-2.0
+"""`rokdaum.Host`: its refusals, its arrays, its memory, its threads, and the same answers as the model.
+
+    /usr/bin/python3 -B -m unittest discover -s python/tests -p 'long_*.py'       the same at length: 2,000 scripts, a million creations
+
+SEED seeds the random scripts.
+"""
+
+from __future__ import annotations
+
+import gc
+import os
+import subprocess
+import sys
+import tempfile
+import threading
+from collections.abc import Callable
+from unittest import mock
+
+from library_case import PYTHON, REPOSITORY, LibraryCase
+from signals import noise, tone
+
+import numpy as np
+import rokdaum
+from calls import random_differences
+from rokdaum import Host, design, errors, library, maps
+from rokdaum.host import options_of
+
+SEED = os.environ.get("SEED", "1")
+# What memory of the process may grow by, in bytes, where nothing is leaked: less than one host takes, or a thousandth of what would leak.
+GROWTH = 400_000
+
+
+def resident() -> int:
+    """The bytes of this process that are in memory."""
+    gc.collect()
+    with open("/proc/self/statm", encoding="ascii") as file:
+        return int(file.read().split()[1]) * os.sysconf("SC_PAGE_SIZE")
+
+
+def shown(host: Host) -> list:
+    """All that a host tells of itself."""
+    return [[host.map(space) for space in library.SPACES], [host.stat(group) for group in range(8)], host.copied(), host.instances, host.lines]
+
+
+def create_and_delete(times: int) -> int:
+    """Makes instances of each kind, refused ones and chains so many times, and deletes them; how many bytes the process grew by."""
+    params = {"fir": [16384, 1], "decim": [2, 16384], "biquad": [8192, 0, 0, 0, 0], "tone": [27980, 102, 8], "g711": [1, 1]}
+    with Host(daram=2048, saram=64) as host:
+        for at in range(times):
+            if at == times // 10:
+                before = resident()
+            kind = library.KINDS[at % 5]
+            one = host.create(kind, at % 8, params[kind])
+            try:
+                host.create("fir", 7, [1] * 64)
+            except errors.Room:
+                pass
+            line = host.chain(one)
+            try:
+                one.delete()
+            except errors.Busy:
+                line.unchain()
+            one.delete()
+        return resident() - before
+
+
+class Refusals(LibraryCase):
+    def setUp(self) -> None:
+        self.host = Host(daram=4096, saram=256, external=256, channels=2)
+        self.addCleanup(self.host.close)
+        self.fir = self.host.create("fir", 0, [16384, 16384])
+        self.line = self.host.chain(self.fir)
+        self.gone = self.host.create("g711", 0, [0, 0])
+        self.gone.delete()
+        self.dropped = self.host.chain(self.host.create("biquad", 1, [16384, 0, 0, 0, 0]))
+        self.dropped.unchain()
+        self.line.feed(noise(100))
+
+    def refuse(self, wanted: type[Exception], text: str, call: Callable[[], object]) -> Exception:
+        """A call is refused by an exception with a text, and the host is as it was."""
+        before = shown(self.host)
+        with self.assertRaisesRegex(wanted, text) as caught:
+            call()
+        self.assertIs(type(caught.exception), wanted)
+        self.assertEqual(shown(self.host), before)
+        return caught.exception
+
+    def test_each_refusal(self) -> None:
+        host, fir, line, gone = self.host, self.fir, self.line, self.gone
+        for wanted, text, call in (
+            (errors.Range, "0 to 63, and 64", lambda: host.create("fir", 0, [1], 64)),
+            (errors.Range, "0 to 7, and 8", lambda: host.create("fir", 8, [1])),
+            (errors.Range, "0 to 7, and 256", lambda: host.create("fir", 256, [1])),
+            (errors.Range, "0 to 63, and -1", lambda: host.create("fir", 0, [1], -1)),
+            (errors.Range, "32768 isn't.*Q14", lambda: host.create("biquad", 0, [0, 32768, 0, 0, 0])),
+            (errors.Range, "0 to 1, and 2", lambda: host.chain(1, channel=2)),
+            (errors.Range, "0 to 63, and 64", lambda: host.chain(64)),
+            (errors.Range, "0 to 7", lambda: host.stat(8)),
+            (errors.Range, "0 to 7", lambda: host.release(-1)),
+            (errors.Taken, "create 0, a fir", lambda: host.create("fir", 0, [1], 0)),
+            (errors.Taken, "members already", lambda: host.chain(1, channel=0)),
+            (errors.Missing, "instance 1 doesn't live any more", gone.get),
+            (errors.Missing, "instance 1 doesn't live any more", gone.reset),
+            (errors.Missing, "instance 1 doesn't live any more", gone.delete),
+            (errors.Missing, "instance 1 doesn't live any more", lambda: gone.set([1])),
+            (errors.Missing, "instance 1 doesn't live any more", lambda: host.chain(gone)),
+            (errors.Missing, "channel 1 has no members any more", self.dropped.unchain),
+            (errors.Missing, "channel 1 has no members any more", lambda: self.dropped.feed([1])),
+            (errors.Missing, "chain 1 instances", lambda: host.chain(40)),
+            (errors.Missing, "instance 40", lambda: host.instance(40)),
+            (errors.Missing, "channel 1", lambda: host.line(1)),
+            (errors.Params, "five words b0 b1 b2 a1 a2 in Q14", lambda: host.create("biquad", 0, [1, 2])),
+            (errors.Params, "2 instances.*create_all", lambda: host.create("biquad", 0, design.low(1000, order=4))),
+            (errors.Params, r"\(fir\), and not of one biquad", lambda: host.create("biquad", 0, design.fir("low", [1000], 15))),
+            (errors.Busy, "unchain its line first", fir.delete),
+            (errors.Busy, "named twice", lambda: host.chain(1, 1)),
+            (errors.Busy, "a member of a channel", lambda: host.chain(fir)),
+            (errors.Command, "as many coefficients as it has", lambda: fir.set([1])),
+            (errors.BadLength, "too many", lambda: host.create("fir", 0, [1] * 73)),
+            (errors.BadLength, "1 to 8 members", host.chain),
+            (errors.BadKind, "fir, decim, biquad, tone, g711, and not iir", lambda: host.create("iir", 0, [1])),
+            (errors.BadSpace, "daram, saram, external, and not rom", lambda: host.map("rom")),
+            (errors.BadSpace, "not rom", lambda: host.step("rom")),
+            (errors.BadSpace, "not rom", lambda: host.compact("rom")),
+            (errors.OutOfRange, "70000", lambda: line.feed([70000])),
+            (errors.OutOfRange, "shape", lambda: line.feed(np.zeros((2, 2), np.int16))),
+            (TypeError, "integer", lambda: host.create("fir", 0.0, [1])),
+            (TypeError, "iterable", lambda: host.create("fir", 0, 1)),
+        ):
+            with self.subTest(text=text):
+                self.refuse(wanted, text, call)
+
+    def test_room_names_its_space(self) -> None:
+        for sizes, text in (({"daram": 1024}, "daram has no room: 0 of 1024 words are used, the largest free range has 1024"), ({"saram": 4}, "saram has no"), ({"external": 0}, "external has no")):
+            with Host(**sizes) as host, self.subTest(sizes=sizes):
+                before = shown(host)
+                with self.assertRaisesRegex(errors.Room, text) as caught:
+                    host.create("fir", 0, [1] * 8)
+                self.assertEqual(([caught.exception.space], caught.exception.code), ([*sizes], 7))
+                self.assertEqual(shown(host), before)
+
+    def test_none_is_free(self) -> None:
+        with Host(channels=1) as host:
+            made = [host.create("g711", 0, [0, 0]) for _ in range(64)]
+            self.assertRaisesRegex(errors.Taken, "all 64 instances", host.create, "g711", 0, [0, 0])
+            host.chain(made[0])
+            self.assertRaisesRegex(errors.Taken, "all 1 channels", host.chain, made[1])
+            made[5].delete()
+            self.assertEqual(host.create("g711", 0, [0, 0]).number, 5)
+
+    def test_options(self) -> None:
+        for bad in ({"daram": 2}, {"saram": 65540}, {"external": -4}, {"channels": 0}, {"channels": 17}):
+            with self.subTest(bad=bad):
+                self.assertRaises(errors.BadSize, Host, **bad)
+        self.assertRaises(errors.Range, Host, poison=65536)
+        sizes = dict.fromkeys(library.SPACES, 4)
+        self.assertEqual([(it.poisoned, it.poison) for it in (options_of(sizes, 1, word) for word in (None, 0, 65535, -1, 7))], [(0, 0), (1, 0), (1, -1), (1, -1), (1, 7)])
+        with Host(0, 0, 0, 1, 65535) as host:
+            self.assertEqual(dict(host.sizes), {"daram": 0, "saram": 0, "external": 0})
+
+    def test_floats(self) -> None:
+        for kind, text in (("fir", r"round\(32768 \* value\)"), ("decim", "32768"), ("biquad", r"round\(16384 \* value\)"), ("tone", "cos"), ("g711", "law")):
+            with self.subTest(kind=kind):
+                self.refuse(errors.FloatsRefused, text, lambda: self.host.create(kind, 0, [0.5, 1]))
+                self.refuse(errors.FloatsRefused, text, lambda: self.host.create(kind, 0, np.array([0.5])))
+        self.refuse(errors.FloatsRefused, "Q15", lambda: self.fir.set([0.5, 0.5]))
+        self.refuse(errors.FloatsRefused, "from_floats", lambda: self.line.feed(np.array([0.5])))
+        self.refuse(errors.FloatsRefused, "from_floats", lambda: self.line.feed([0.25, 1]))
+
+    def test_none_of_a_design_is_left(self) -> None:
+        """Of four sections the last two have no group: the first two are deleted."""
+        self.refuse(errors.Range, "0 to 7, and 8", lambda: self.host.create_all(design.band(300, 3400, order=4), 6))
+
+    def test_closed(self) -> None:
+        self.host.close()
+        self.host.close()
+        for call in (self.fir.get, self.fir.delete, lambda: self.line.feed([1]), self.line.unchain, lambda: self.host.map("daram"), lambda: self.host.create("fir", 0, [1]), lambda: self.host.instance(0)):
+            self.assertRaises(errors.NotOpen, call)
+        self.assertEqual(self.host.instances, ())
+
+    def test_closed_by_an_error(self) -> None:
+        with self.assertRaises(errors.Params):
+            with Host() as host:
+                host.create("biquad", 0, [1])
+        self.assertRaises(errors.NotOpen, host.map, "daram")
+
+    def test_another_host(self) -> None:
+        with Host() as other:
+            one = other.create("fir", 0, [1])
+            self.refuse(errors.Missing, "another host", lambda: self.host.chain(one))
+
+    def test_the_number_of_one_that_is_gone(self) -> None:
+        """An instance that was deleted isn't the one that has its number now."""
+        self.line.unchain()
+        self.fir.delete()
+        new = self.host.create("fir", 0, [1, 2], self.fir.number)
+        self.assertRaises(errors.Missing, self.fir.get)
+        self.assertEqual(new.get().tolist(), [1, 2])
+
+
+class Arrays(LibraryCase):
+    def test_types(self) -> None:
+        """Whole numbers of any type, lists, views and nothing at all go in; int16 comes out."""
+        for given in ([100, -200], (100, -200), np.array([100, -200]), np.array([100, 0, -200, 0], ">i4")[::2], np.array([100, -200], "<i2")):
+            with Host() as host:
+                out = host.chain(host.create("fir", 0, [16384])).feed(given)
+                self.assertEqual((out.tolist(), out.dtype, out.shape), ([50, -100], np.dtype(np.int16), (2,)))
+        with Host() as host:
+            line = host.chain(host.create("fir", 0, [16384]))
+            self.assertEqual((line.feed([]).shape, line.feed(np.empty(0, np.int16)).dtype), ((0,), np.dtype(np.int16)))
+
+    def test_input_stays(self) -> None:
+        given = noise(3000)
+        kept = given.copy()
+        with Host() as host:
+            out = host.chain(host.create("fir", 0, [16384])).feed(given)
+        self.assertTrue((given == kept).all())
+        self.assertFalse(np.shares_memory(given, out))
+
+    def test_cuts_do_not_show(self) -> None:
+        """One call, calls of odd lengths, and calls of one sample give the same."""
+        given = noise(5000, peak=30000)
+        kinds = (("fir", design.fir("low", [1000], 31)), ("decim", [3, 9000, 9000, 9000]), ("biquad", design.low(800, order=2)), ("tone", [27980, 102, 8]), ("g711", [1, 0]))
+        for kind, params in kinds:
+            whole, *others = (self.cut(kind, params, given, length) for length in (5000, 1, 7, 160, 1024, 1025, 4999))
+            self.assertGreater(len(whole), 40)
+            for other in others:
+                self.assertEqual(other.tolist(), whole.tolist(), kind)
+
+    @staticmethod
+    def cut(kind: str, params: object, given: np.ndarray, length: int) -> np.ndarray:
+        """The output for a signal that is cut into calls of a length."""
+        with Host() as host:
+            line = host.chain(host.create(kind, 0, params))
+            return np.concatenate([line.feed(given[at : at + length]) for at in range(0, len(given), length)])
+
+    def test_controls(self) -> None:
+        with Host() as host:
+            fir, tone_, law = host.create("fir", 0, [16384, 1]), host.create("tone", 0, [27980, 102, 8]), host.create("g711", 0, [1, 0])
+            fir.set(np.array([-32768, 32767]))
+            self.assertEqual((fir.get().tolist(), fir.get().dtype), ([-32768, 32767], np.dtype(np.int16)))
+            line = host.chain(tone_)
+            line.feed(noise(150))
+            self.assertEqual(tone_.get().tolist(), [48])
+            tone_.reset()
+            self.assertEqual((tone_.get().tolist(), law.get().tolist()), ([0], [1, 0]))
+
+    def test_a_band_is_heard(self) -> None:
+        """The gain of a band at tones is that of its response."""
+        band = design.band(300, 3400)
+        for frequency in (150, 1000, 3800):
+            with Host() as host, self.subTest(frequency=frequency):
+                given = tone(frequency, 8000, 8000)
+                out = host.chain(*host.create_all(band)).feed(given)
+                gain = 20 * np.log10(out[4000:].std() / given[4000:].std())
+                self.assertAlmostEqual(gain, float(design.decibels(band.response([frequency]))[0]), delta=0.1)
+
+    def test_companding(self) -> None:
+        with Host() as host:
+            codes = host.chain(host.create("g711", 0, [1, 0])).feed([0, 1000, -1000])
+            back = host.chain(host.create("g711", 0, [1, 1])).feed(codes.astype(np.uint8))
+        self.assertEqual(back.tolist(), [0, 988, -988])
+
+    def test_groups_take_turns(self) -> None:
+        with Host() as host:
+            first, second = (host.chain(host.create("fir", 3, [16384])) for _ in range(2))
+            self.assertEqual(host.stat(3), (None, 0))
+            first.feed([1])
+            second.feed([1])
+            self.assertEqual(host.stat(3), (1, 2))
+            self.assertEqual([host.release(3), host.release(3)], [True, False])
+
+
+class Memory(LibraryCase):
+    def test_map(self) -> None:
+        with Host(daram=4096) as host:
+            host.create("fir", 0, [1, 2, 3])
+            host.chain(host.create("decim", 1, [2, 16384]), 0).feed(noise(10))
+            found = host.map("daram")
+            self.assertEqual(found.blocks, maps.parse_map("ok g0@0+1028 g1@1040+1024", 4096).blocks)
+            self.assertEqual((found.used, found.largest_hole, dict(found.active)), (2052, 2032, {0: 0, 1: 1}))
+            owner, place, size = found.blocks[1]
+            self.assertEqual((owner, place, size, found.blocks[1].number), ("g1", 1040, 1024, 1))
+
+    def test_moves(self) -> None:
+        with Host() as host:
+            made = [host.create("fir", group, [1] * 8) for group in range(3)]
+            made[0].delete()
+            moved = host.step("daram"), host.compact("daram"), host.step("daram")
+            self.assertEqual(moved, (True, 1, False))
+            self.assertEqual([it.place for it in host.map("daram").blocks], [0, 1040])
+            self.assertEqual(host.copied(), 2064)
+
+    def test_plot(self) -> None:
+        with Host(daram=4096) as host:
+            host.chain(host.create("fir", 2, [1] * 8)).feed([1])
+            axes = host.map("daram").plot()
+            self.assertEqual([it.get_text() for it in axes.texts], ["g2: i0"])
+            self.assertEqual(len(axes.patches), 1)
+            self.assertIs(host.map("saram").plot(axes), axes)
+            self.assertEqual(host.moment(4, "feed").maps["daram"], host.map("daram"))
+
+    def test_creations_and_deletions_leak_nothing(self) -> None:
+        self.assertLess(create_and_delete(20_000), GROWTH)
+
+    def test_hosts_leak_nothing(self) -> None:
+        """Hosts that are closed, and hosts that nobody closes, give their half a megabyte back."""
+        for at in range(400):
+            if at == 40:
+                before = resident()
+            with Host() as host:
+                host.chain(host.create("fir", 0, [1])).feed(noise(10))
+            left = Host()
+            left.chain(left.create("fir", 0, [1]))
+            if at % 10 == 0:
+                gc.collect()
+        del left
+        self.assertLess(resident() - before, 4_000_000)
+
+
+class Threads(LibraryCase):
+    def test_a_host_in_each(self) -> None:
+        """Eight threads with a host each give what they give one after the other."""
+        wanted, found = [self.work(seed) for seed in range(8)], [None] * 8
+
+        def run(seed: int) -> None:
+            found[seed] = self.work(seed)
+
+        threads = [threading.Thread(target=run, args=(seed,)) for seed in range(8)]
+        for one in threads:
+            one.start()
+        for one in threads:
+            one.join()
+        self.assertEqual(found, wanted)
+
+    @staticmethod
+    def work(seed: int) -> list[int]:
+        """What a host with a band gives for noise, and how often it took turns."""
+        with Host(daram=4096) as host:
+            line, other = host.chain(*host.create_all(design.biquads(np.array([[0.5, 0, 0, 1, -0.5 - seed / 20, 0.3]] * 3)))), host.chain(host.create("fir", 0, [seed]))
+            given = noise(20_000, seed)
+            out = [line.feed(given[:9999]), other.feed(given), line.feed(given[9999:])]
+            return [int(np.abs(it.astype(int)).sum()) for it in out] + [host.stat(0).activations]
+
+    def test_of_another(self) -> None:
+        said = []
+
+        def run() -> None:
+            for call in (lambda: host.map("daram"), lambda: line.feed([1]), one.get, host.close):
+                try:
+                    call()
+                except errors.WrongThread as why:
+                    said.append(str(why))
+
+        with Host() as host:
+            one = host.create("fir", 0, [16384])
+            line = host.chain(one)
+            thread = threading.Thread(target=run)
+            thread.start()
+            thread.join()
+            self.assertEqual(line.feed([100]).tolist(), [50])
+        self.assertEqual(said, ["a host is used in the thread that opened it: open one in each thread"] * 4)
+
+
+class Finding(LibraryCase):
+    def said(self, code: str, **variables: str) -> str:
+        """The last line of what a Python says."""
+        done = subprocess.run([sys.executable, "-B", "-c", code], env={**os.environ, "PYTHONPATH": str(PYTHON), **variables}, capture_output=True, text=True, check=False)
+        return (done.stdout + done.stderr).strip().splitlines()[-1]
+
+    def test_a_variable_names_another(self) -> None:
+        for name, text in (("/nowhere/librokdaum.so", "ROKDAUM_LIBRARY names /nowhere/librokdaum.so.*make -C c"), ("libc.so.6", "libc.so.6 is no librokdaum.so")):
+            self.assertRegex(self.said("import rokdaum; rokdaum.Host()", ROKDAUM_LIBRARY=name), f"^rokdaum.errors.LibraryMissing: .*{text}")
+
+    def test_the_loader_knows_it(self) -> None:
+        """With the package alone in a folder, LD_LIBRARY_PATH finds it, and without it a sentence says where it was looked for."""
+        code = f"import sys; sys.path[0] = ''; import shutil, tempfile, os; room = tempfile.mkdtemp(); shutil.copytree({str(PYTHON / 'rokdaum')!r}, room + '/rokdaum'); sys.path.insert(0, room)\n"
+        code += "try:\n    import rokdaum; print(rokdaum.Host().sizes)\nfinally:\n    shutil.rmtree(room)"
+        folder = str(os.path.dirname(library.load()._name))
+        self.assertRegex(self.said(code, PYTHONPATH="", ROKDAUM_LIBRARY="", LD_LIBRARY_PATH=folder), "^{'daram': 65536")
+        self.assertRegex(self.said(code, PYTHONPATH="", ROKDAUM_LIBRARY="", LD_LIBRARY_PATH=""), "LibraryMissing: .*isn't beside the package.*make -C c")
+
+    def test_version(self) -> None:
+        with mock.patch.object(library, "__version__", "0.0.1"):
+            self.assertRaisesRegex(errors.LibraryMissing, "and this package is 0.0.1", library.load.__wrapped__)
+
+    def test_names(self) -> None:
+        for name in rokdaum.__all__:
+            self.assertIsNotNone(getattr(rokdaum, name))
+        self.assertRaises(AttributeError, getattr, rokdaum, "Hosts")
+        for code, one in errors.REFUSALS.items():
+            self.assertEqual(one.code, code)
+
+
+class Examples(LibraryCase):
+    def said(self, name: str, *words: str) -> list[str]:
+        """The lines that an example prints; it ends with status 0."""
+        done = subprocess.run([sys.executable, "-B", str(REPOSITORY / "examples" / "python" / name), *words], capture_output=True, text=True, check=False)
+        self.assertEqual((done.returncode, done.stderr), (0, ""))
+        return done.stdout.splitlines()
+
+    def test_telephone_band(self) -> None:
+        with tempfile.TemporaryDirectory(prefix="rokdaum-test-") as room:
+            rokdaum.samples.write(f"{room}/in.wav", noise(80_000, 2))
+            for words in ((), (f"{room}/in.wav", f"{room}/out.wav")):
+                for line in self.said("telephone_band.py", *words)[1:]:
+                    _, heard, designed = map(float, line.split())
+                    self.assertAlmostEqual(heard, designed, delta=1)
+            self.assertEqual(rokdaum.samples.read(f"{room}/out.wav")[0].shape, (80_000,))
+
+    def test_sixteen_lines(self) -> None:
+        with tempfile.TemporaryDirectory(prefix="rokdaum-test-") as room:
+            said = self.said("sixteen_lines.py", f"{room}/picture.png")
+            self.assertGreater(os.path.getsize(f"{room}/picture.png"), 10_000)
+        self.assertEqual(said[-1], "the outputs are the same")
+        self.assertEqual([line.split(", ")[0] for line in said[:2]], ["8 scratch groups: 8704 words of daram", "1 scratch group: 1088 words of daram"])
+
+
+class Model(LibraryCase):
+    def test_random_scripts(self) -> None:
+        found, counted = random_differences(SEED, 200)
+        self.assertEqual(found, [])
+        self.assertGreater(min(counted[verb] for verb in ("create", "control", "delete", "chain", "unchain", "feed", "step", "compact", "map", "release", "stat")), 20)
+        self.assertGreater(min(counted["granted"], counted["refused"]), 500)
