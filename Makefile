@@ -1,11 +1,13 @@
 # SPDX-License-Identifier: Apache-2.0
 #
-#     make install [PREFIX=/usr/local] [DESTDIR=]    puts the program, its man page, its completion, documents and examples in place
+#     make install [PREFIX=/usr/local] [DESTDIR=]    puts the programs, the C library, the Python package, man pages, completion, documents
+#                                                    and examples in place
 #     make uninstall [PREFIX=/usr/local] [DESTDIR=]  takes away what was installed there, and nothing else
 #     make dist                                      makes out/rokdaum-VERSION-x86_64-linux.tar.gz (in the repository)
 #     make check                                     tests everything (in the repository), or runs the examples (in a release)
 #
-# It is the same file in the repository and in a release. In the repository the program has to be built: ./dsp_console does so.
+# It is the same file in the repository and in a release. In the repository the programs and the library have to be built: ./dsp_console,
+# ./check and make -C c do so.
 
 PREFIX ?= /usr/local
 DESTDIR ?=
@@ -16,6 +18,14 @@ root = $(DESTDIR)$(PREFIX)
 doc = $(root)/share/doc/rokdaum
 man = $(root)/share/man/man1
 completion = $(root)/share/bash-completion/completions
+# The Python package stands here, and is linked to from where python3 looks below PREFIX, if it looks anywhere there.
+package = $(root)/share/rokdaum
+PYTHON ?= python3
+finds = import os, sys; print(next((it for it in sys.path if it.startswith("$(PREFIX)/") and os.path.basename(it) in ("dist-packages", "site-packages")), ""))
+PYTHONDIR ?= $(shell $(PYTHON) -c '$(finds)' 2> /dev/null)
+version := $(shell cat $(dir $(lastword $(MAKEFILE_LIST)))VERSION)
+programs = dsp_console gateway_console
+commands = dsp_run dsp_design dsp_map
 
 .PHONY: help install uninstall dist check
 help:
@@ -37,20 +47,31 @@ check:
 	./check
 
 else
-# SHA256SUMS lists the files of a release. What isn't the program, its man page or its completion goes where documents are; the
-# program is linked to from there, so that the examples find it. The C library and its header join here.
+# SHA256SUMS lists the files of a release. What has no place of its own goes where documents are; the programs and the package are linked
+# to from there, so that the examples find them.
 install:
 	@sha256sum --quiet --check SHA256SUMS
-	install -D -m 755 dsp_console '$(root)/bin/dsp_console'
-	install -D -m 644 docs/man/dsp_console.1 '$(man)/dsp_console.1'
+	for one in $(programs); do install -D -m 755 $$one '$(root)/bin/'$$one || exit 1; done
+	install -D -m 644 -t '$(man)' docs/man/*.1
 	install -D -m 644 docs/completion/dsp_console '$(completion)/dsp_console'
+	install -D -m 644 c/rokdaum.h '$(root)/include/rokdaum.h'
+	install -D -m 644 lib/librokdaum.a '$(root)/lib/librokdaum.a'
+	install -D -m 644 lib/librokdaum.so.$(version) '$(root)/lib/librokdaum.so.$(version)'
+	ln -sf librokdaum.so.$(version) '$(root)/lib/librokdaum.so'
+	mkdir -p '$(root)/lib/pkgconfig'
+	sed -e 's|^prefix=.*|prefix=$(PREFIX)|' -e 's|^includedir=.*|includedir=$${prefix}/include|' lib/pkgconfig/rokdaum.pc > '$(root)/lib/pkgconfig/rokdaum.pc'
 	@sed 's/^[0-9a-f]*  //' SHA256SUMS | while read -r file; do \
-	    case $$file in dsp_console | Makefile | docs/man/* | docs/completion/*) continue ;; esac; \
+	    case $$file in dsp_console | gateway_console | Makefile | docs/man/* | docs/completion/* | lib/* | c/rokdaum.h) continue ;; \
+	        python/*) to='$(package)' ;; *) to='$(doc)' ;; esac; \
 	    mode=644; [ ! -x "$$file" ] || mode=755; \
-	    install -D -m $$mode "$$file" '$(doc)'/"$$file" || exit 1; \
+	    install -D -m $$mode "$$file" "$$to/$$file" || exit 1; \
 	done
+	for one in $(commands); do ln -sf ../share/rokdaum/python/bin/$$one '$(root)/bin/'$$one || exit 1; done
+	[ -z '$(PYTHONDIR)' ] || { mkdir -p '$(DESTDIR)$(PYTHONDIR)' && ln -sfnr '$(package)/python/rokdaum' '$(DESTDIR)$(PYTHONDIR)/rokdaum'; }
 	install -m 644 SHA256SUMS '$(doc)/SHA256SUMS'
-	ln -sf ../../../bin/dsp_console '$(doc)/dsp_console'
+	for one in $(programs); do ln -sf ../../../bin/$$one '$(doc)/'$$one || exit 1; done
+	ln -sfn ../../rokdaum/python '$(doc)/python'
+	mkdir -p '$(doc)/c' && ln -sf ../../../../include/rokdaum.h '$(doc)/c/rokdaum.h'
 
 dist:
 	@echo 'this is a release; make dist makes one in the repository' >&2; exit 1
@@ -61,6 +82,17 @@ endif
 
 uninstall:
 	@[ -f '$(doc)/SHA256SUMS' ] || { echo 'nothing is installed in $(root)' >&2; exit 1; }
-	@sed 's/^[0-9a-f]*  //' '$(doc)/SHA256SUMS' | while read -r file; do rm -f '$(doc)'/"$$file"; done
-	rm -f '$(doc)/SHA256SUMS' '$(man)/dsp_console.1' '$(completion)/dsp_console' '$(root)/bin/dsp_console'
-	@find '$(doc)' -depth -type d -exec rmdir --ignore-fail-on-non-empty {} +
+	rm -f '$(doc)/python' '$(doc)/c/rokdaum.h'
+	@sed 's/^[0-9a-f]*  //' '$(doc)/SHA256SUMS' | while read -r file; do \
+	    case $$file in \
+	        python/*) rm -f '$(package)'/"$$file" ;; \
+	        docs/man/*) rm -f '$(man)'/"$${file#docs/man/}" ;; \
+	        lib/pkgconfig/rokdaum.pc | lib/librokdaum.a | lib/librokdaum.so.*) rm -f '$(root)'/"$$file" ;; \
+	        *) rm -f '$(doc)'/"$$file" ;; \
+	    esac; \
+	done
+	rm -f '$(doc)/SHA256SUMS' '$(completion)/dsp_console' '$(root)/include/rokdaum.h' '$(root)/lib/librokdaum.so'
+	for one in $(programs) $(commands); do rm -f '$(root)/bin/'$$one; done
+	@[ -z '$(PYTHONDIR)' ] || [ ! -L '$(DESTDIR)$(PYTHONDIR)/rokdaum' ] || rm '$(DESTDIR)$(PYTHONDIR)/rokdaum'
+	@find '$(package)' -depth -name __pycache__ -exec rm -rf {} +
+	@find '$(doc)' '$(package)' -depth -type d -exec rmdir --ignore-fail-on-non-empty {} +

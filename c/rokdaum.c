@@ -286,9 +286,29 @@ rokdaum_code rokdaum_add_block(const int16_t *a, const int16_t *b, int16_t *out,
     return (a && b && out) || !count ? (rokdaum_code)rokdaum_proved_add_block(a, count, b, count, out, count) : ROKDAUM_NULL;
 }
 
+rokdaum_code rokdaum_sub_block(const int16_t *a, const int16_t *b, int16_t *out, size_t count)
+{
+    return (a && b && out) || !count ? (rokdaum_code)rokdaum_proved_sub_block(a, count, b, count, out, count) : ROKDAUM_NULL;
+}
+
 rokdaum_code rokdaum_mult_block(int16_t gain, const int16_t *samples, int16_t *out, size_t count)
 {
     return (samples && out) || !count ? (rokdaum_code)rokdaum_proved_mult_block(gain, samples, count, out, count) : ROKDAUM_NULL;
+}
+
+rokdaum_code rokdaum_shl_block(const int16_t *samples, int16_t shift, int16_t *out, size_t count)
+{
+    return (samples && out) || !count ? (rokdaum_code)rokdaum_proved_shl_block(samples, count, shift, out, count) : ROKDAUM_NULL;
+}
+
+rokdaum_code rokdaum_shr_block(const int16_t *samples, int16_t shift, int16_t *out, size_t count)
+{
+    return (samples && out) || !count ? (rokdaum_code)rokdaum_proved_shr_block(samples, count, shift, out, count) : ROKDAUM_NULL;
+}
+
+rokdaum_code rokdaum_l_mac_block(int32_t v, const int16_t *a, const int16_t *b, size_t count, int32_t *sum)
+{
+    return sum && ((a && b) || !count) ? (rokdaum_code)rokdaum_proved_l_mac_block(v, a, count, b, count, sum) : ROKDAUM_NULL;
 }
 
 rokdaum_code rokdaum_fir(const int16_t *coefficients, size_t coefficient_count, const int16_t *line, size_t length, int16_t *out, size_t count)

@@ -54,14 +54,26 @@ typedef enum rokdaum_code {
     ROKDAUM_NULL = 24        /* a pointer is null */
 } rokdaum_code;
 
-/* The algorithms. docs/SCRIPTS.md has the parameters of each, which are the same here. */
+/* The algorithms, each with its parameters. docs/C.md tells more of the last three, and docs/SCRIPTS.md of the others. */
 typedef enum rokdaum_kind {
     ROKDAUM_FIR = 0,    /* FIR filter: 1 to 64 coefficients in Q15 */
     ROKDAUM_DECIM = 1,  /* decimator: a factor of 1 to 16, then 1 to 64 coefficients in Q15 */
     ROKDAUM_BIQUAD = 2, /* second-order section: b0 b1 b2 a1 a2 in Q14 */
-    ROKDAUM_TONE = 3,   /* Goertzel tone detector */
-    ROKDAUM_G711 = 4    /* G.711: the law (0 A, 1 mu), then 0 to encode or 1 to decode */
+    ROKDAUM_TONE = 3,   /* Goertzel tone detector: k in Q15, a frame of 1 to 1,024 samples, a shift of 0 to 15 */
+    ROKDAUM_G711 = 4,   /* G.711: the law (0 A, 1 mu), then 0 to encode or 1 to decode */
+    ROKDAUM_GAIN = 5,   /* gain: a factor in Q12, which `set` changes */
+    ROKDAUM_LEVEL = 6,  /* energy of each frame: a frame of 1 to 1,024 samples, a shift of 0 to 15 */
+    ROKDAUM_DTMF = 7    /* dialled digits: a frame of 1 to 127 samples, a shift of 0 to 14, the threshold, the two limits of twist, the
+                           dominance and the share; ROKDAUM_DTMF_A and ROKDAUM_DTMF_B are recommended */
 } rokdaum_kind;
+
+/* Parameters of a detector of digits, at 8,000 samples a second. With A a digit counts where two frames in a row have it, with B where
+ * three have; it may count again once two frames in a row haven't. */
+#define ROKDAUM_DTMF_A {102, 7, 91, 2920, 7336, 5827, 22938}
+#define ROKDAUM_DTMF_B {92, 7, 82, 2920, 7336, 9235, 20316}
+
+/* A detector gives one of these places for each frame, or -1 for a frame without a digit. */
+#define ROKDAUM_DTMF_KEYS "123A456B789C*0#D"
 
 typedef enum rokdaum_space { ROKDAUM_DARAM = 0, ROKDAUM_SARAM = 1, ROKDAUM_EXTERNAL = 2 } rokdaum_space;
 
@@ -202,9 +214,16 @@ int32_t rokdaum_l_mac(int32_t v, int16_t a, int16_t b);
 /* `*quotient` is a / b in Q15, for 0 <= a <= b and b above 0 (`div_s`). Refuses other operands with ROKDAUM_PARAMS. */
 rokdaum_code rokdaum_div_s(int16_t a, int16_t b, int16_t *quotient);
 
-/* Over blocks of `count` samples: the sum of each two (`add`), and the product of each and a gain in Q15 (`mult`). */
+/* Over blocks of `count` samples: the sum of each two (`add`), their difference (`sub`), the product of each and a gain in Q15 (`mult`),
+ * and each shifted by `shift` bits to the left, saturated (`shl`), or to the right (`shr`); a negative shift goes the other way. */
 rokdaum_code rokdaum_add_block(const int16_t *a, const int16_t *b, int16_t *out, size_t count);
+rokdaum_code rokdaum_sub_block(const int16_t *a, const int16_t *b, int16_t *out, size_t count);
 rokdaum_code rokdaum_mult_block(int16_t gain, const int16_t *samples, int16_t *out, size_t count);
+rokdaum_code rokdaum_shl_block(const int16_t *samples, int16_t shift, int16_t *out, size_t count);
+rokdaum_code rokdaum_shr_block(const int16_t *samples, int16_t shift, int16_t *out, size_t count);
+
+/* `*sum` is v with the doubled product of each two samples added to it, the first two first, saturated at each step (`L_mac`). */
+rokdaum_code rokdaum_l_mac_block(int32_t v, const int16_t *a, const int16_t *b, size_t count, int32_t *sum);
 
 /* A FIR filter over a block of up to 1,024 samples, without a host: 1 to 64 coefficients in Q15, that of the newest sample first.
  * `line` has the samples before the block, one fewer than there are coefficients, and then the block. Its length is at least 63 above

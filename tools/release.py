@@ -1,14 +1,16 @@
 #!/usr/bin/env python3
 # SPDX-License-Identifier: Apache-2.0
-"""Makes a release: the proved program with its man page, completion, documents and examples, for machines without the kit.
+"""Makes a release: the proved programs, the C library and the Python package, with man pages, completion, documents and examples, for
+machines without the kit.
 
     tools/release.py                 makes out/rokdaum-VERSION-x86_64-linux.tar.gz, and beside it its checksum
     tools/release.py --to FOLDER     makes them in that folder
     tools/release.py --stage FOLDER  makes the folder that the archive holds, and no archive
     tools/release.py --changed ..    takes files that were changed and not committed, too; ORIGIN then says so
 
-The same commit and the same program give the same archive: it holds the files that git knows, by their names, with owner 0 and the
-time of the commit, or that of SOURCE_DATE_EPOCH. The program is taken only if it was built from the sources as they stand.
+The same commit and the same programs give the same archive: it holds the files that git knows, by their names, with owner 0 and the
+time of the commit, or that of SOURCE_DATE_EPOCH. Programs and the proved part of the library are taken only if they were built from the
+sources as they stand; c/Makefile then makes the library.
 """
 
 from __future__ import annotations
@@ -33,13 +35,17 @@ import program  # noqa: E402  (the folder of this file has to be on the path fir
 
 TOP = program.TOP
 PLATFORM = "x86_64-linux"
-# What was built: where it stands in a release, and where here. The C library joins here.
-BUILT = {"dsp_console": program.path_of}
+# The programs: where each stands in a release, and its crate.
+PROGRAMS = {"dsp_console": program.NAME, "gateway_console": program.GATEWAY}
+# The crates whose archives the C library is made of.
+ARCHIVES = ("dsp_library", "host_library")
 # The files at the top that a release has. Its README is made of a page of docs.
 FILES = ("CHANGELOG.md", "LICENSE", "Makefile", "NOTICE", "SECURITY.md", "VERSION")
 README = "docs/RELEASE.md"
-# The folders whose files a release has. Headers and the Python package join here.
-FOLDERS = ("docs", "examples")
+# The folders whose files a release has, and those within them whose files it hasn't.
+FOLDERS = ("docs/", "examples/", "python/", "c/examples/")
+LEFT_OUT = ("python/tests/",)
+HEADER = "c/rokdaum.h"
 # Where the toolchain says in a program which logic it was proved by, and the versions of the C library that it asks for.
 LOGIC = re.compile(rb"rattle logic=([0-9a-f]{64})")
 GLIBC = re.compile(rb"GLIBC_(\d+)\.(\d+)")
@@ -95,21 +101,39 @@ def tracked() -> dict[str, bool]:
     return found
 
 
-def look_at_program() -> bytes:
-    """The proved program, or why there is none."""
-    if not program.is_built():
-        raise NoRelease(
-            "the program isn't built from the sources as they stand: ./check examples, or the first use of ./dsp_console, proves and builds it, "
-            "which takes the Rattle kit",
-            program.CANT_BUILD_HERE,
-        )
-    text = program.path_of().read_bytes()
+def look_at_built(name: str) -> None:
+    """Refuses a program or an archive that isn't built from the sources as they stand."""
+    if not program.is_built(name):
+        what, command = ("archive", f"tools/archive.py {name}") if program.is_archive(name) else ("program", "./check examples gateway, or the first use of ./dsp_console,")
+        raise NoRelease(f"the {what} {name} isn't built from the sources as they stand: {command} proves and builds it, which takes the Rattle kit", program.CANT_BUILD_HERE)
+
+
+def look_at_program(name: str) -> bytes:
+    """A proved program, or why there is none."""
+    look_at_built(name)
+    text = program.path_of(name).read_bytes()
     logic = LOGIC.search(text)
     known = {line.split()[-1] for line in program.kit_lines((TOP / "README.md").read_text(encoding="utf-8"))}
     if not logic or not any(logic[1].decode().startswith(it) for it in known):
         said = f"logic {logic[1].decode()}" if logic else "no logic"
-        raise NoRelease(f"the program says that it was proved by {said}, and README.md names {' or '.join(sorted(known))}")
+        raise NoRelease(f"the program {name} says that it was proved by {said}, and README.md names {' or '.join(sorted(known))}")
     return text
+
+
+def library() -> dict[str, Entry]:
+    """The C library, made of archives that are built already: for C, and beside the Python package."""
+    for name in ARCHIVES:
+        look_at_built(name)
+    made = subprocess.run(("make", "-s", "-C", "c", "all"), cwd=TOP, stdin=subprocess.DEVNULL, capture_output=True, text=True, check=False)
+    if made.returncode:
+        raise NoRelease(f"make -C c ended with status {made.returncode}: {(made.stdout + made.stderr).strip()[-500:]}")
+    out, shared = TOP / "out" / "c", f"librokdaum.so.{version()}"
+    text = (out / shared).read_bytes()
+    found = {"lib/librokdaum.a": ((out / "librokdaum.a").read_bytes(), False), f"lib/{shared}": (text, False), "python/rokdaum/librokdaum.so": (text, False)}
+    where = (TOP / "c" / "rokdaum.pc.in").read_text(encoding="utf-8").replace("@VERSION@", version())
+    # Where it was unpacked the header stands in c.
+    there = where.replace("@PREFIX@", "${pcfiledir}/../..").replace("${prefix}/include", "${prefix}/c")
+    return {**found, "lib/pkgconfig/rokdaum.pc": (there.encode(), False)}
 
 
 def origin(binary: bytes, changed: bool) -> bytes:
@@ -120,7 +144,7 @@ def origin(binary: bytes, changed: bool) -> bytes:
         f"version  {version()}",
         f"commit   {git('rev-parse', 'HEAD').strip()}{', with changes that were not committed' if changed else ''}",
         f"of       {time.strftime('%Y-%m-%d %H:%M:%S UTC', time.gmtime(seconds()))}",
-        f"sources  {program.checksum()}",
+        *(f"sources  {program.checksum(name)} of {name}" for name in (*PROGRAMS.values(), *ARCHIVES)),
         f"logic    {logic[1].decode()}",
         f"glibc    {wanted[0]}.{wanted[1]} or newer",
     )
@@ -138,20 +162,21 @@ def contents(with_changes: bool) -> dict[str, Entry]:
     if changed and not with_changes:
         raise NoRelease("files were changed and not committed: commit them, or take them as they stand with --changed")
     found: dict[str, Entry] = {}
-    binary = look_at_program()
-    for there, here in BUILT.items():
-        found[there] = (here().read_bytes(), True)
+    for there, name in PROGRAMS.items():
+        found[there] = (look_at_program(name), True)
+    found |= library()
+    binaries = b"".join(text for text, _ in found.values())
     for path, executable in tracked().items():
         if not (TOP / path).is_file():
             continue
         if path == README:
             found["README.md"] = (readme((TOP / path).read_text(encoding="utf-8")), False)
-        if path in FILES or path.split("/")[0] in FOLDERS:
+        if path in (*FILES, HEADER) or path.startswith(FOLDERS) and not path.startswith(LEFT_OUT):
             found[path] = ((TOP / path).read_bytes(), executable)
-    missing = [it for it in (*FILES, "README.md") if it not in found]
+    missing = [it for it in (*FILES, HEADER, "README.md") if it not in found]
     if missing:
         raise NoRelease(f"git knows no {', '.join(missing)}")
-    found["ORIGIN"] = (origin(binary, changed), False)
+    found["ORIGIN"] = (origin(binaries, changed), False)
     sums = "".join(f"{hashlib.sha256(found[path][0]).hexdigest()}  {path}\n" for path in sorted(found))
     found["SHA256SUMS"] = (sums.encode(), False)
     return found

@@ -26,6 +26,8 @@ class Row:
 
     functions: int = 0
     tests: int = 0
+    # Whether the proof is kept from an earlier run of the same files on the same machine: such a log has no count of functions.
+    kept: bool = False
     refused: list[str] = field(default_factory=list)
 
 
@@ -43,6 +45,9 @@ def rows_of(log: str) -> dict[str, Row]:
             rows[section].tests = int(verdict[1])
         elif verdict:
             rows[section].functions = int(verdict[2])
+        kept = re.match(r"rt: (\w+) is kept: an earlier run on this machine proved the same files", line)
+        if kept:
+            rows.setdefault(kept[1], Row()).kept = True
         edit = re.match(r"(?:rt: )?must-fail (\w+)/([\w.-]+)\.edit: refused", line)
         if edit:
             rows.setdefault(edit[1], Row()).refused.append(edit[2])
@@ -54,6 +59,10 @@ def page(summary: dict, log: str) -> str:
     rows, parts = rows_of(log), summary["parts"]
     passed = sum(part["passed"] for part in parts.values())
     edits = sum(len(row.refused) for row in rows.values())
+    kept = sum(row.kept for row in rows.values())
+    counted = [f"| functions proved | {sum(row.functions for row in rows.values()):,} |"]
+    if kept:
+        counted = [f"| of these kept from earlier runs of the same files on that machine | {kept} |"]
     lines = [
         "# Status",
         "",
@@ -68,7 +77,7 @@ def page(summary: dict, log: str) -> str:
         f"| minutes | {sum(part['minutes'] for part in parts.values()):.1f} |",
         f"| last line | {passed} passed, 0 failed |",
         f"| crates proved | {len(rows)} |",
-        f"| functions proved | {sum(row.functions for row in rows.values()):,} |",
+        *counted,
         f"| must-fail edits refused | {edits} |",
         f"| tests of crates that passed | {sum(row.tests for row in rows.values())} |",
         "",
@@ -82,7 +91,7 @@ def page(summary: dict, log: str) -> str:
         "",
         "| crate | functions proved | tests | must-fail edits refused |",
         "|---|---|---|---|",
-        *(f"| {name} | {row.functions} | {row.tests or ''} | {len(row.refused) or ''} |" for name, row in sorted(rows.items())),
+        *(f"| {name} | {'kept' if row.kept else row.functions} | {row.tests or ''} | {len(row.refused) or ''} |" for name, row in sorted(rows.items())),
     ]
     return "\n".join(lines) + "\n"
 

@@ -81,6 +81,7 @@ static double least(void (*feed)(int), int n)
 
 static void open_channel(const char *what)
 {
+    static const int16_t gain[1] = {5000}, level[2] = {160, 4}, dtmf[7] = ROKDAUM_DTMF_A;
     static const int16_t decode[2] = {1, 1}, encode[2] = {0, 0}, biquad[5] = {16384, -20000, 16384, -19000, 15000};
     static const uint8_t members[3] = {0, 1, 2}, second[1] = {1};
     rokdaum_options options = ROKDAUM_OPTIONS;
@@ -101,6 +102,15 @@ static void open_channel(const char *what)
     } else if (!strcmp(what, "mu-law decoder")) {
         must(rokdaum_create(&host, 0, ROKDAUM_G711, 0, decode, 2, 0));
         must(rokdaum_chain(&host, 0, members, 1));
+    } else if (!strcmp(what, "gain")) {
+        must(rokdaum_create(&host, 0, ROKDAUM_GAIN, 0, gain, 1, 0));
+        must(rokdaum_chain(&host, 0, members, 1));
+    } else if (!strcmp(what, "level")) {
+        must(rokdaum_create(&host, 0, ROKDAUM_LEVEL, 0, level, 2, 0));
+        must(rokdaum_chain(&host, 0, members, 1));
+    } else if (!strcmp(what, "dtmf")) {
+        must(rokdaum_create(&host, 0, ROKDAUM_DTMF, 0, dtmf, 7, 0));
+        must(rokdaum_chain(&host, 0, members, 1));
     } else {
         must(rokdaum_create(&host, 0, ROKDAUM_G711, 0, decode, 2, 0));
         must(rokdaum_create(&host, 1, ROKDAUM_BIQUAD, 1, biquad, 5, 0));
@@ -111,7 +121,7 @@ static void open_channel(const char *what)
 
 int main(void)
 {
-    static const char *const channels[] = {"fir 16", "two fir 16 by turns", "biquad", "mu-law decoder", "decoder, biquad, encoder"};
+    static const char *const channels[] = {"fir 16", "two fir 16 by turns", "biquad", "mu-law decoder", "decoder, biquad, encoder", "gain", "level", "dtmf"};
     static const int lengths[] = {1, 8, 80, 160, 1024};
     for (int k = 0; k < TAPS; k++)
         taps[k] = 1500;

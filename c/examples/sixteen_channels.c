@@ -1,6 +1,7 @@
 /* SPDX-License-Identifier: Apache-2.0
  * Sixteen telephone lines in blocks of 20 ms: a decoder, a filter and an encoder on each. It prints how long a turn over all of them
- * took at the most, of 20 ms that there are. Give it a number of turns; 500 are ten seconds of each line. */
+ * took at the most, of 20 ms that there are. Give it a number of turns; 500 are ten seconds of each line. Name a file too, and the codes
+ * that the lines give are written there, a turn of all lines after the other. */
 #define _POSIX_C_SOURCE 200809L
 #include <rokdaum.h>
 #include <stdio.h>
@@ -15,6 +16,21 @@ static void must(rokdaum_code code)
         fprintf(stderr, "sixteen_channels: %s\n", rokdaum_error_text(code));
         exit(1);
     }
+}
+
+/* What a receiver of codes gave for this sample of a line. */
+static int16_t received(long turn, int line, int sample)
+{
+    return (int16_t)((turn * 7 + line * 31 + sample * 13) & 255);
+}
+
+static void write_codes(FILE *to, const int16_t *codes, uint32_t n)
+{
+    for (uint32_t k = 0; k < n; k++)
+        if (putc(codes[k], to) == EOF) {
+            fputs("sixteen_channels: can't write\n", stderr);
+            exit(1);
+        }
 }
 
 static double microseconds(void)
@@ -33,7 +49,12 @@ int main(int argc, char **argv)
     int16_t in[SAMPLES], out[SAMPLES];
     double longest = 0, all = 0;
     uint32_t n;
+    FILE *to = argc > 2 ? fopen(argv[2], "wb") : 0;
 
+    if (argc > 2 && !to) {
+        perror(argv[2]);
+        return 1;
+    }
     must(rokdaum_open(&host, &options));
     for (uint8_t line = 0; line < LINES; line++) {
         uint8_t members[MEMBERS] = {(uint8_t)(MEMBERS * line), (uint8_t)(MEMBERS * line + 1), (uint8_t)(MEMBERS * line + 2)};
@@ -46,8 +67,10 @@ int main(int argc, char **argv)
         double begun = microseconds(), took;
         for (uint8_t line = 0; line < LINES; line++) {
             for (int i = 0; i < SAMPLES; i++)
-                in[i] = (int16_t)((turn * 7 + line * 31 + i * 13) & 255); /* a receiver's codes stand here */
+                in[i] = received(turn, line, i);
             must(rokdaum_feed(&host, line, in, SAMPLES, out, SAMPLES, &n));
+            if (to)
+                write_codes(to, out, n);
         }
         took = microseconds() - begun;
         all += took;
@@ -56,5 +79,5 @@ int main(int argc, char **argv)
     }
     printf("%ld turns of %d lines: %.0f us on average, %.0f us at the most, of 20,000\n", turns, LINES, turns ? all / (double)turns : 0, longest);
     must(rokdaum_close(&host));
-    return 0;
+    return to && fclose(to) ? 1 : 0;
 }

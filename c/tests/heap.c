@@ -30,7 +30,8 @@ static void every_call(rokdaum *host)
     static int16_t in[3000], out[3000], words[72];
     static rokdaum_block blocks[ROKDAUM_MAP_BLOCKS];
     static const int16_t taps[3] = {1000, 2000, 3000}, law[2] = {1, 1};
-    static const uint8_t members[2] = {0, 1};
+    static const int16_t level[2] = {4, 4}, digits[7] = ROKDAUM_DTMF_A;
+    static const uint8_t members[2] = {0, 1}, others[3] = {3, 4, 5};
     uint32_t n;
     uint64_t copied;
     int32_t active;
@@ -38,6 +39,11 @@ static void every_call(rokdaum *host)
     want("create", rokdaum_create(host, 0, ROKDAUM_FIR, 0, taps, 3, 0), ROKDAUM_OK);
     want("create", rokdaum_create(host, 1, ROKDAUM_G711, 1, law, 2, 0), ROKDAUM_OK);
     want("create", rokdaum_create(host, 2, ROKDAUM_FIR, 0, taps, 3, 0), ROKDAUM_OK);
+    want("create", rokdaum_create(host, 3, ROKDAUM_GAIN, 0, taps, 1, 0), ROKDAUM_OK);
+    want("create", rokdaum_create(host, 4, ROKDAUM_LEVEL, 0, level, 2, 0), ROKDAUM_OK);
+    want("create", rokdaum_create(host, 5, ROKDAUM_DTMF, 0, digits, 7, 0), ROKDAUM_OK);
+    want("chain", rokdaum_chain(host, 1, others, 3), ROKDAUM_OK);
+    want("feed", rokdaum_feed(host, 1, in, 1024, out, 1024, &n), ROKDAUM_OK);
     want("chain", rokdaum_chain(host, 0, members, 2), ROKDAUM_OK);
     want("ready", rokdaum_ready(host, 0), ROKDAUM_OK);
     want("feed", rokdaum_feed(host, 0, in, 160, out, 160, &n), ROKDAUM_OK);

@@ -11,6 +11,57 @@ static int16_t saturated(long n)
     return (int16_t)(n > 32767 ? 32767 : n < -32768 ? -32768 : n);
 }
 
+static int64_t saturated_long(int64_t n)
+{
+    return n > INT32_MAX ? INT32_MAX : n < INT32_MIN ? INT32_MIN : n;
+}
+
+/* A sample divided by 2 to the power of n, and rounded down. */
+static int16_t divided(int16_t x, int n)
+{
+    long all = 1L << n;
+    return (int16_t)(x >= 0 ? x / all : -((-(long)x + all - 1) / all));
+}
+
+/* Differences, shifts and sums of products over a block, beside sums written out here. */
+static void more_blocks(void)
+{
+    enum { N = 1000 };
+    static int16_t a[N], b[N], out[N];
+    int32_t sum = 77;
+    int64_t wanted = -5;
+    int differences = 0, saturations = 0;
+    for (int i = 0; i < N; i++) {
+        a[i] = (int16_t)(i * 2654435761u >> 9);
+        b[i] = (int16_t)(i * 40503u >> 2);
+    }
+    want("sub over a block", rokdaum_sub_block(a, b, out, N), ROKDAUM_OK);
+    for (int i = 0; i < N; i++)
+        differences += out[i] != saturated((long)a[i] - b[i]);
+    want("differences that are wrong", differences, 0);
+    for (int n = -17; n <= 17; n++) {
+        int left = 0, right = 0;
+        want("shl over a block", rokdaum_shl_block(a, (int16_t)n, out, N), ROKDAUM_OK);
+        for (int i = 0; i < N; i++)
+            left += out[i] != (n >= 0 ? saturated((long)a[i] * (1L << n)) : divided(a[i], -n));
+        want("samples that are shifted to the left otherwise", left, 0);
+        want("shr over a block", rokdaum_shr_block(a, (int16_t)n, out, N), ROKDAUM_OK);
+        for (int i = 0; i < N; i++)
+            right += out[i] != (n >= 0 ? divided(a[i], n) : saturated((long)a[i] * (1L << -n)));
+        want("samples that are shifted to the right otherwise", right, 0);
+    }
+    want("L_mac over a block", rokdaum_l_mac_block(-5, a, b, N, &sum), ROKDAUM_OK);
+    for (int i = 0; i < N; i++) {
+        int64_t next = wanted + saturated_long(2 * (int64_t)a[i] * b[i]);
+        wanted = saturated_long(next);
+        saturations += wanted != next;
+    }
+    want("the sum of the products", sum, (long)wanted);
+    want("it saturated on the way", saturations > 0, 1);
+    want("L_mac over nothing", rokdaum_l_mac_block(1234, 0, 0, 0, &sum), ROKDAUM_OK);
+    want("the sum of nothing", sum, 1234);
+}
+
 static void blocks(void)
 {
     enum { N = 1024, TAPS = 5, PAST = ROKDAUM_COEFFICIENTS - 1 };
@@ -54,6 +105,7 @@ static void blocks(void)
 int main(void)
 {
     blocks();
+    more_blocks();
     for (int i = 0; i < 65536; i++)
         samples[i] = (int16_t)(i - 32768);
     for (int law = ROKDAUM_A_LAW; law <= ROKDAUM_MU_LAW; law++) {

@@ -1,6 +1,6 @@
 /* SPDX-License-Identifier: Apache-2.0
- * The job of dsp_console over the library: the same command line, scripts, files and replies. tests/differential runs it beside the
- * independent model. */
+ * The job of dsp_console over the library: the same command line, scripts, files and replies. With -DGATEWAY it is that of
+ * gateway_console, which has three names more. tests/differential runs it beside the independent model. */
 #define _GNU_SOURCE
 #include <stdio.h>
 #include <stdlib.h>
@@ -13,7 +13,12 @@ static int ports, refused;
 static rokdaum host = ROKDAUM_CLOSED;
 
 static const char *const names[] = {"", "long", "syntax", "range", "taken", "missing", "params", "room", "busy", "command", "short"};
-static const char *const kinds[] = {"fir", "decim", "biquad", "tone", "g711"};
+static const char *const kinds[] = {"fir", "decim", "biquad", "tone", "g711", "gain", "level", "dtmf"};
+#ifdef GATEWAY
+enum { KINDS = 8 };
+#else
+enum { KINDS = 5 };
+#endif
 static const char *const spaces[] = {"daram", "saram", "external"};
 
 static void no(int code) { refused = 1; printf("no %d %s\n", code, names[code]); }
@@ -67,7 +72,7 @@ static void line(char *text)
     const char *c = w[0];
     int first = 1, numbers, kind = -1, space = -1, last = n;
     enum { CREATE, SET, RESET, GET, DELETE, CHAIN, UNCHAIN, FEED, COMPACT, STEP, RELEASE, STAT, MAP } what;
-    if (!strcmp(c, "create")) { what = CREATE; if (n < 4 || (kind = find(w[2], kinds, 5)) < 0) { no(2); return; } }
+    if (!strcmp(c, "create")) { what = CREATE; if (n < 4 || (kind = find(w[2], kinds, KINDS)) < 0) { no(2); return; } }
     else if (!strcmp(c, "control")) {
         if (n < 3) { no(2); return; }
         if (!strcmp(w[2], "set")) what = SET;

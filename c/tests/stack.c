@@ -11,7 +11,7 @@ enum { SIZE = 1 << 20, PAINT = 0xa5 };
 
 static rokdaum host = ROKDAUM_CLOSED;
 static int16_t taps[64], in[1024], out[1024];
-static const uint8_t members[2] = {0, 1};
+static const uint8_t members[3] = {0, 1, 2};
 static rokdaum_block blocks[ROKDAUM_MAP_BLOCKS];
 static uint32_t n;
 static int32_t active;
@@ -25,6 +25,14 @@ static void open_host(void)
 }
 static void create(void) { code = rokdaum_create(&host, 0, ROKDAUM_FIR, 0, taps, 64, 0); }
 static void create_decimator(void) { code = rokdaum_create(&host, 1, ROKDAUM_DECIM, 0, taps, 64, 0); }
+static void create_digits(void)
+{
+    static const int16_t words[] = ROKDAUM_DTMF_A;
+    code = rokdaum_create(&host, 2, ROKDAUM_DTMF, 0, words, 7, 0);
+}
+static void chain_digits(void) { code = rokdaum_chain(&host, 1, members + 2, 1); }
+static void feed_digits(void) { code = rokdaum_feed(&host, 1, in, 1024, out, 1024, &n); }
+static void unchain_digits(void) { code = rokdaum_unchain(&host, 1); }
 static void chain(void) { code = rokdaum_chain(&host, 0, members, 2); }
 static void feed(void) { code = rokdaum_feed(&host, 0, in, 1024, out, 1024, &n); }
 static void set(void) { code = rokdaum_set(&host, 0, taps, 64); }
@@ -41,8 +49,9 @@ static const struct {
     void (*run)(void);
     size_t most;
 } calls[] = {
-    {"open", open_host, 64 << 10}, {"create, a filter", create, 12 << 10}, {"create, a decimator", create_decimator, 12 << 10}, {"chain", chain, 12 << 10},
-    {"feed", feed, 12 << 10}, {"set", set, 12 << 10}, {"get", get, 12 << 10}, {"map", map, 20 << 10},
+    {"open", open_host, 64 << 10}, {"create, a filter", create, 12 << 10}, {"create, a decimator", create_decimator, 12 << 10},
+    {"create, digits", create_digits, 12 << 10}, {"chain, digits", chain_digits, 12 << 10}, {"feed, digits", feed_digits, 12 << 10},
+    {"unchain, digits", unchain_digits, 12 << 10}, {"chain", chain, 12 << 10}, {"feed", feed, 12 << 10}, {"set", set, 12 << 10}, {"get", get, 12 << 10}, {"map", map, 20 << 10},
     {"compact", compact, 12 << 10}, {"stat", stat, 12 << 10}, {"unchain", unchain, 12 << 10}, {"delete", delete, 12 << 10}, {"close", close_host, 48 << 10},
 };
 

@@ -74,6 +74,12 @@ static void null_pointers(void)
     want("null active", rokdaum_stat(&host, 0, 0, &count), ROKDAUM_NULL);
     want("null activations", rokdaum_stat(&host, 0, &active, 0), ROKDAUM_NULL);
     want("null quotient", rokdaum_div_s(1, 2, 0), ROKDAUM_NULL);
+    want("null sum", rokdaum_l_mac_block(0, in, in, 1, 0), ROKDAUM_NULL);
+    want("null block: L_mac", rokdaum_l_mac_block(0, in, 0, 1, &active), ROKDAUM_NULL);
+    want("null block: sub", rokdaum_sub_block(in, 0, out, 1), ROKDAUM_NULL);
+    want("null samples: shl", rokdaum_shl_block(0, 1, out, 1), ROKDAUM_NULL);
+    want("null out: shr", rokdaum_shr_block(in, 1, 0, 1), ROKDAUM_NULL);
+    want("null samples: mult", rokdaum_mult_block(1, 0, out, 1), ROKDAUM_NULL);
     want("null codes", rokdaum_g711_encode(ROKDAUM_A_LAW, in, 0, 1), ROKDAUM_NULL);
     want("null samples: decode", rokdaum_g711_decode(ROKDAUM_A_LAW, members, 0, 1), ROKDAUM_NULL);
 }
@@ -90,9 +96,15 @@ static void hosts(void)
 
 static void instances(void)
 {
-    const int16_t long_one[2] = {16384, 16384};
+    const int16_t long_one[2] = {16384, 16384}, frame[2] = {1025, 0}, digits[7] = ROKDAUM_DTMF_A, long_frames[7] = {128};
     int16_t large[64] = {0};
-    want("no such kind", rokdaum_create(&host, 0, (rokdaum_kind)5, 0, half, 1, &full), ROKDAUM_BAD_KIND);
+    want("no such kind", rokdaum_create(&host, 0, (rokdaum_kind)8, 0, half, 1, &full), ROKDAUM_BAD_KIND);
+    want("no such kind at all", rokdaum_create(&host, 0, (rokdaum_kind)4000000, 0, half, 1, &full), ROKDAUM_BAD_KIND);
+    want("a gain of two factors", rokdaum_create(&host, 0, ROKDAUM_GAIN, 0, long_one, 2, &full), ROKDAUM_PARAMS);
+    want("a meter without a shift", rokdaum_create(&host, 0, ROKDAUM_LEVEL, 0, half, 1, &full), ROKDAUM_PARAMS);
+    want("a meter of frames of 1,025", rokdaum_create(&host, 0, ROKDAUM_LEVEL, 0, frame, 2, &full), ROKDAUM_PARAMS);
+    want("a detector of digits with six words", rokdaum_create(&host, 0, ROKDAUM_DTMF, 0, digits, 6, &full), ROKDAUM_PARAMS);
+    want("a detector of digits with frames of 128", rokdaum_create(&host, 0, ROKDAUM_DTMF, 0, long_frames, 7, &full), ROKDAUM_PARAMS);
     want("73 words", rokdaum_create(&host, 0, ROKDAUM_FIR, 0, many, 73, &full), ROKDAUM_BAD_LENGTH);
     want("no words, from a null pointer", rokdaum_create(&host, 0, ROKDAUM_FIR, 0, 0, 0, &full), ROKDAUM_PARAMS);
     want("instance 64", rokdaum_create(&host, 64, ROKDAUM_FIR, 0, half, 1, &full), ROKDAUM_RANGE);

@@ -2,7 +2,8 @@
 """A proved host of fixed-point signal algorithms, over arrays: and runs, filter design and pictures for `dsp_console`.
 
 - `rokdaum.Host`: a host in the process, over the C library (numpy)
-- `rokdaum.design`: filters and tone detectors in words of Q14 and Q15, with the response that the words have (numpy, scipy)
+- `rokdaum.g711`, `rokdaum.operators`: companding and G.191's operators over arrays, without a host (numpy)
+- `rokdaum.design`: filters, detectors of tones and of dialled digits in words, with the response that the words have (numpy, scipy)
 - `rokdaum.script`: scripts with comments and `feed C all`, over files, WAV files and arrays
 - `rokdaum.samples`: arrays of 16-bit samples, from files and from floats (numpy)
 - `rokdaum.maps`: memory maps, and who is active in which scratch group, over a run
@@ -23,17 +24,17 @@ from .errors import (  # fmt: skip
 )
 
 if TYPE_CHECKING:
-    from . import design, errors, maps, plot, samples, script
+    from . import design, errors, g711, maps, operators, plot, samples, script
     from .host import Host, Instance, Line, SpaceMap, Stat
 
 __version__ = "0.9.0"
 
 OF_HOST = ("Host", "Instance", "Line", "SpaceMap", "Stat")
-MODULES = ("design", "errors", "maps", "plot", "samples", "script")
+MODULES = ("design", "errors", "g711", "maps", "operators", "plot", "samples", "script")
 __all__ = [  # fmt: skip
-    "Host", "Instance", "Line", "SpaceMap", "Stat", "design", "errors", "maps", "plot", "samples", "script", "BadKind", "BadLength", "BadSize",
-    "BadSpace", "Busy", "Command", "FloatsRefused", "LibraryMissing", "Missing", "NoMemory", "NotOpen", "OutOfRange", "Params", "Range", "Refused",
-    "RokdaumError", "Room", "Taken", "WrongThread",
+    "Host", "Instance", "Line", "SpaceMap", "Stat", "design", "errors", "g711", "maps", "operators", "plot", "samples", "script", "BadKind", "BadLength",
+    "BadSize", "BadSpace", "Busy", "Command", "FloatsRefused", "LibraryMissing", "Missing", "NoMemory", "NotOpen", "OutOfRange", "Params", "Range",
+    "Refused", "RokdaumError", "Room", "Taken", "WrongThread",
 ]
 
 

@@ -1,5 +1,5 @@
 # SPDX-License-Identifier: Apache-2.0
-"""Filters and tone detectors in words of Q14 and Q15, with the response that the rounded words have.
+"""Filters, gains, detectors of tones and of dialled digits in words, with the response that the rounded words of filters have.
 
 Frequencies are in Hz, `rate` is the samples a second. A word of Q14 is 16384 times its value, and goes from -2 to just below 2; one of Q15 is
 32768 times its value, from -1 to just below 1. scipy designs, and this module scales, rounds and says what saturates.
@@ -26,13 +26,20 @@ import numpy as np
 
 from .errors import DesignError, MissingPackage, NotStable
 
-Q14, Q15 = 16384, 32768
+Q12, Q14, Q15 = 4096, 16384, 32768
 DEFAULT_RATE = 8000.0
 MOST_TAPS = 64
 MOST_MEMBERS, GROUPS, INSTANCES, CHANNELS = 8, 8, 64, 16
 SCALES = ("tones", "any", "words")
 # The kind of an instance and its words.
 Creation = tuple[str, tuple[int, ...]]
+# b0 b1 b2 a1 a2 of a second-order section in Q14.
+Section = tuple[int, int, int, int, int]
+# The keys of a telephone by their codes, and the code of a frame without one.
+KEYS, NO_DIGIT = "123A456B789C*0#D", -1
+# Words that are recommended for a detector of digits, and how many frames in a row have one until it counts.
+DTMF_SETS = {"a": ((102, 7, 91, 2920, 7336, 5827, 22938), 2), "b": ((92, 7, 82, 2920, 7336, 9235, 20316), 3)}
+FRAMES_OFF = 2
 # Frequencies at which gains are looked at, from 0 to half of the rate.
 GRID = np.linspace(0, np.pi, 2049)
 # An impulse response is summed up until its poles have let it fall this far.
@@ -88,7 +95,7 @@ def look_at_places(first: int, group: int, channel: int, members: int) -> None:
 class Biquads:
     """A cascade of second-order sections. `words` has b0 b1 b2 a1 a2 of each in Q14; `designed` is scipy's, of shape (sections, 6)."""
 
-    words: tuple[tuple[int, int, int, int, int], ...]
+    words: tuple[Section, ...]
     designed: np.ndarray
     rate: float = DEFAULT_RATE
 
@@ -270,6 +277,72 @@ class Tones:
         return made + [chain(channel + at, [first + at]) for at in range(count)]
 
 
+@dataclass(frozen=True)
+class Gain:
+    """A gain: its factor in Q12. `asked` is the gain in dB that was asked for."""
+
+    asked: float
+    word: int
+
+    @property
+    def creations(self) -> tuple[Creation, ...]:
+        """The kind and the word of the instance."""
+        return (("gain", (self.word,)),)
+
+    @property
+    def decibels(self) -> float:
+        """The gain in dB that the word has."""
+        return float(decibels(self.word / Q12))
+
+
+@dataclass(frozen=True)
+class Level:
+    """A meter of energy: frames of `frame` samples, each shifted to the right by `shift` bits."""
+
+    frame: int
+    shift: int
+
+    @property
+    def creations(self) -> tuple[Creation, ...]:
+        """The kind and the words of the instance."""
+        return (("level", (self.frame, self.shift)),)
+
+    def rms(self, values: object) -> np.ndarray:
+        """The root of the mean square of each frame, as floats in samples, by what the meter gave, about; of 32767, which saturates, at least that."""
+        return np.sqrt(np.asarray(values, float) * Q15 / self.frame) * 2.0**self.shift
+
+
+@dataclass(frozen=True)
+class Digits:
+    """A detector of dialled digits at 8,000 samples a second, with the rule by which frames are digits."""
+
+    words: tuple[int, ...]
+    frames_on: int
+    frames_off: int
+
+    @property
+    def creations(self) -> tuple[Creation, ...]:
+        """The kind and the words of the instance."""
+        return (("dtmf", self.words),)
+
+    def dialled(self, codes: Sequence[int] | np.ndarray) -> str:
+        """The digits of a line, by all that the detector gave for it: a code for each frame, or -1.
+
+        A digit counts once `frames_on` frames in a row have it, and may count again once `frames_off` haven't.
+        """
+        found: list[str] = []
+        last, run, held, away = NO_DIGIT, 0, NO_DIGIT, 0
+        for code in map(int, codes):
+            run, last = (run + 1 if code == last else 1), code
+            away = 0 if code == held else away + 1
+            if away >= self.frames_off:
+                held = NO_DIGIT
+            if code not in (NO_DIGIT, held) and run >= self.frames_on:
+                found.append(KEYS[code])
+                held, away = code, 0
+        return "".join(found)
+
+
 def create(instance: int, group: int, kind: str, words: Sequence[int]) -> str:
     """The line that creates an instance."""
     return f"create {instance} {kind} {group} {' '.join(map(str, words))}"
@@ -328,18 +401,19 @@ def partial_sums(section: np.ndarray) -> list[tuple[np.ndarray, np.ndarray, floa
     return [(b[:1], np.array([1.0]), 2.0), (b[:2], np.array([1.0]), 2.0), (b, np.array([1.0]), 2.0), (behind_a1, a, 2.0), (b, a, 1.0)]
 
 
-def round_section(section: np.ndarray, gain: float) -> tuple[int, int, int, int, int]:
+def round_section(section: np.ndarray, gain: float) -> Section:
     """A section's five words with its numerator times a gain. Raises DesignError where one doesn't fit, NotStable where its poles leave the circle."""
-    words = [round(it * gain * Q14) for it in section[:3]] + [round(it * Q14) for it in section[4:]]
+    words: list[int] = [round(float(it) * gain * Q14) for it in section[:3]] + [round(float(it) * Q14) for it in section[4:]]
     if not all(-32768 <= it <= 32767 for it in words):
         raise DesignError(f"the words {words} don't fit Q14, -32768 to 32767: take a lower order or another edge")
-    if max(map(abs, words[:3])) < LEAST_WORD:
+    if max(abs(it) for it in words[:3]) < LEAST_WORD:
         raise DesignError(
             f"the words {words[:3]} of a numerator are too small to be rounded: the edge is too low for this rate: take a lower order, or a decimator first"
         )
     if float(np.abs(np.roots([Q14, *words[3:]])).max()) >= 1:
         raise NotStable(f"a section isn't stable once it is rounded to Q14 (a1 = {words[3]}, a2 = {words[4]}): take a lower order, a wider band or a lower rate")
-    return tuple(words)
+    b0, b1, b2, a1, a2 = words
+    return b0, b1, b2, a1, a2
 
 
 def value_of(words: Sequence[int]) -> np.ndarray:
@@ -347,7 +421,7 @@ def value_of(words: Sequence[int]) -> np.ndarray:
     return np.array([it / Q14 for it in (*words[:3], Q14, *words[3:])])
 
 
-def scaled(section: np.ndarray, before: np.ndarray, scale: str, wanted: float = 1.0) -> tuple[int, int, int, int, int]:
+def scaled(section: np.ndarray, before: np.ndarray, scale: str, wanted: float = 1.0) -> Section:
     """A section's words with the greatest gain, at most `wanted`, for which they fit and nothing saturates that `scale` names."""
     gain = wanted * min(1.0, 32767 / Q14 / max(np.abs(section[:3]).max() * wanted, 1e-12))
     for _ in range(100):
@@ -361,9 +435,9 @@ def scaled(section: np.ndarray, before: np.ndarray, scale: str, wanted: float = 
     raise DesignError("no scale of a section was found for which nothing saturates: take a lower order")
 
 
-def in_order(sections: np.ndarray, order: Sequence[int], scale: str) -> list[tuple[int, int, int, int, int]]:
+def in_order(sections: np.ndarray, order: Sequence[int], scale: str) -> list[Section]:
     """The words of sections in an order, each scaled behind those before it. The gain that one gives up, a later one may make good."""
-    words: list[tuple[int, int, int, int, int]] = []
+    words: list[Section] = []
     owed = 1.0
     for at in order:
         section = sections[at]
@@ -420,6 +494,11 @@ def band(lowest: float, highest: float, order: int = 3, rate: float = DEFAULT_RA
     return band_of("bandpass", [lowest, highest], order, rate, ripple, scale)
 
 
+def bandpass(lowest: float, highest: float, order: int = 1, rate: float = DEFAULT_RATE, ripple: float | None = None, scale: str = "tones") -> Biquads:
+    """A band pass as `band` gives it, of one section where nothing is said, which one biquad takes: 6 dB an octave at each edge."""
+    return band(lowest, highest, order, rate, ripple, scale)
+
+
 def notch(frequency: float, width: float = 10.0, rate: float = DEFAULT_RATE, scale: str = "tones") -> Biquads:
     """One section that takes out a frequency: at half of `width` Hz beside it the gain is 3 dB less.
 
@@ -433,11 +512,12 @@ def notch(frequency: float, width: float = 10.0, rate: float = DEFAULT_RATE, sca
     section = np.concatenate([b, a])
     most = abs(scaled(section, np.empty((0, 6)), scale)[0])
     cosine = 2 * math.cos(2 * math.pi * frequency / rate)
-    found = []
+    a1, a2 = (round(float(it) * Q14) for it in a[1:])
+    found: list[tuple[float, int, Section]] = []
     for first in range(max(1, int(most * 0.891)), most + 1):
         middle = round(cosine * first)
         if abs(middle) <= 32767:
-            found.append((abs(middle / first - cosine), -first, (first, -middle, first, *(round(it * Q14) for it in a[1:]))))
+            found.append((abs(middle / first - cosine), -first, (first, -middle, first, a1, a2)))
     if not found:
         raise DesignError(f"no words of Q14 have their zeros at {frequency:g} Hz")
     for _, _, words in sorted(found):
@@ -503,3 +583,31 @@ def tones(frequencies: Sequence[float], frame: int = 205, shift: int | None = No
         tried = (Tone(frequency, k, frame, it, rate) for it in ([shift] if shift is not None else range(16)))
         made.append(next((one for one in tried if shift is not None or one.overflow() <= 1), Tone(frequency, k, frame, 15, rate)))
     return Tones(tuple(made))
+
+
+def gain(asked: float) -> Gain:
+    """A gain of so many dB, up to 18.06, which is just below 8. Raises DesignError beyond that, and where the factor is rounded to 0."""
+    value = 10 ** (asked / 20) * Q12
+    if not 0.5 <= value < 32767.5:
+        raise DesignError(f"a factor in Q12 is up to just below 8, 18.06 dB, and at least 1 / 4096, -72 dB: {asked:g} dB isn't")
+    return Gain(asked, round(value))
+
+
+def level(frame: int = 160, shift: int | None = None) -> Level:
+    """A meter of the energy of frames of 1 to 1,024 samples. Where no `shift` is named it has the least for which no frame saturates."""
+    # A frame of -32768 alone has an energy of 2 N 4^(15 - shift), which stays below 2^31 where N is below 4^shift.
+    chosen = (frame.bit_length() + 1) // 2 if shift is None else shift
+    if not 1 <= frame <= 1024 or not 0 <= chosen <= 15:
+        raise DesignError(f"a frame has 1 to 1024 samples and a shift is 0 to 15, and {frame} and {chosen} are asked for")
+    return Level(frame, chosen)
+
+
+def dtmf(recommended: str = "a") -> Digits:
+    """A detector of dialled digits by one of two sets of words, for 8,000 samples a second: `host.create("dtmf", params=design.dtmf())`.
+
+    `a`, frames of 102 samples of which two in a row have a digit, finds tokens of 40 ms; `b`, frames of 92 of which three have, lets none of 23 ms be one.
+    """
+    if recommended not in DTMF_SETS:
+        raise DesignError(f"the words of a detector of digits are {' or '.join(DTMF_SETS)}, and not {recommended}")
+    words, frames_on = DTMF_SETS[recommended]
+    return Digits(words, frames_on, FRAMES_OFF)

@@ -187,4 +187,5 @@ class BadSpace(Refused, ValueError):
     code = 22
 
 
-REFUSALS: dict[int, type[Refused]] = {it.code: it for it in (Range, Taken, Missing, Params, Room, Busy, Command, BadSize, NoMemory, NotOpen, BadLength, BadKind, BadSpace)}
+OF_HOSTS: tuple[type[Refused], ...] = (Range, Taken, Missing, Params, Room, Busy, Command, BadSize, NoMemory, NotOpen, BadLength, BadKind, BadSpace)
+REFUSALS = {it.code: it for it in OF_HOSTS}

@@ -13,7 +13,9 @@ from dataclasses import dataclass, field
 
 LONGEST_LINE = 1024
 LONGEST_FEED = 1024
+# The kinds of dsp_console, and those that gateway_console and the C library have beside them.
 KINDS = ("fir", "decim", "biquad", "tone", "g711")
+GATEWAY_KINDS = ("gain", "level", "dtmf")
 SPACES = ("daram", "saram", "external")
 FORMS = {
     "create": "create I KIND G W ..",
@@ -34,8 +36,13 @@ PARAMETERS = {
     "biquad": "the five words b0 b1 b2 a1 a2 in Q14",
     "tone": "k, N (1 to 1024) and s (0 to 15)",
     "g711": "the law (0 A, 1 mu) and the direction (0 encodes, 1 decodes)",
+    "gain": "one word, the factor in Q12",
+    "level": "N (1 to 1024) and s (0 to 15)",
+    "dtmf": "N (1 to 127), s (0 to 14), the threshold, the limits of twist down and up, the dominance and the share",
 }
-SET_TAKES = {"fir": "as many coefficients as it has", "biquad": "five words", "tone": "one word, k"}
+SET_TAKES = {"fir": "as many coefficients as it has", "biquad": "five words", "tone": "one word, k", "gain": "one word, the factor"}
+# Where the words of a kind that divides have the samples that it takes for one that it gives.
+DIVISOR_AT = {"decim": 0, "tone": 1, "level": 0, "dtmf": 0}
 
 
 @dataclass(frozen=True)
@@ -48,10 +55,8 @@ class Instance:
 
     @property
     def divides_by(self) -> int:
-        """How many samples it takes for one that it gives: M of a decimator, N of a detector, else 1."""
-        if self.kind == "decim":
-            return self.words[0]
-        return self.words[1] if self.kind == "tone" else 1
+        """How many samples it takes for one that it gives: M of a decimator, N of a detector or a meter, else 1."""
+        return self.words[DIVISOR_AT[self.kind]] if self.kind in DIVISOR_AT else 1
 
 
 @dataclass
@@ -137,9 +142,11 @@ def why_syntax(words: Sequence[str], circuit: Circuit) -> str:
     form = f"a line is {FORMS[words[0]]}"
     if words[0] in ("compact", "step", "map"):
         return f"no space is named {words[1]}: {nearest(words[1], SPACES)}" if len(words) == 2 else form
+    if words[0] == "create" and len(words) > 2 and words[2] in GATEWAY_KINDS:
+        return f"dsp_console has no {words[2]}: gateway_console and rokdaum.Host have one"
     if words[0] == "create" and len(words) > 2 and words[2] not in KINDS and not is_number(words[2]):
         return f"no kind is named {words[2]}: {nearest(words[2], KINDS)}"
-    numbers = words[1:2] + words[3:] if words[0] in ("create", "control") else words[1:]
+    numbers = [*words[1:2], *words[3:]] if words[0] in ("create", "control") else words[1:]
     for word in numbers:
         if wrong := odd_word(word):
             return wrong
@@ -212,7 +219,7 @@ def why_command(words: Sequence[str], circuit: Circuit) -> str:
     """Which control an instance takes."""
     instance = circuit.instances.get(int(words[1]))
     if instance is None or instance.kind not in SET_TAKES:
-        return "`set` isn't taken by a decimator or a coder: create another one"
+        return "`set` isn't taken by a decimator, a coder, a meter or a detector of digits: create another one"
     return f"`set` of a {instance.kind} takes {SET_TAKES[instance.kind]}, and here are {len(words) - 3}"
 
 

@@ -1,5 +1,5 @@
 # SPDX-License-Identifier: Apache-2.0
-"""A host of signal algorithms in the process: instances of the five algorithms in three memory spaces, fed with arrays of int16.
+"""A host of signal algorithms in the process: instances of eight algorithms in three memory spaces, fed with arrays of int16.
 
     with rokdaum.Host(daram=4096) as host:
         half = host.create("fir", params=[16384])
@@ -38,6 +38,9 @@ Q_OF_KIND = {
     "biquad": "a word of Q14 is round(16384 * value)",
     "tone": "k is round(32768 * cos(2 * pi * frequency / rate)), at most 32767",
     "g711": "the law is 0 (A) or 1 (mu), the direction 0 (encodes) or 1 (decodes)",
+    "gain": "a factor of Q12 is round(4096 * value)",
+    "level": "a frame is 1 to 1,024 samples, a shift 0 to 15 bits",
+    "dtmf": "rokdaum.design.dtmf() has the recommended words",
 }
 
 
@@ -92,7 +95,7 @@ class Instance:
     group: int
 
     def set(self, words: Iterable[int] | Design) -> None:
-        """Puts parameters into force: the coefficients of a FIR, as many as there are, the five words of a biquad, or k of a tone.
+        """Puts parameters into force: the coefficients of a FIR, as many as there are, the five words of a biquad, k of a tone, or the factor of a gain.
 
         Past samples, past outputs and frames stay. Raises Command where the algorithm doesn't take them, Range where a word isn't 16 bits,
         BadLength for more than 72 words, FloatsRefused for floats, and Missing.
@@ -110,8 +113,8 @@ class Instance:
     def get(self) -> np.ndarray:
         """What it tells of itself, as int16 of shape (words,). Raises Missing.
 
-        The coefficients of a FIR or a biquad; the samples since a decimator's last output; the samples in a tone's frame; the law and the
-        direction of G.711.
+        The coefficients of a FIR or a biquad, the factor of a gain; the samples since a decimator's last output; the samples in the frame of a tone, a
+        meter or a detector of digits; the law and the direction of G.711.
         """
         words, count = (c_int16 * PARAMETER_WORDS)(), c_uint32()
         self.host._own(self)
@@ -140,7 +143,7 @@ class Line:
         """Passes samples through the members, and returns what the last one gives.
 
         `samples` has shape (samples,) and any length; whole numbers of any type, -32768 to 32767, each 1 / 32768 of full scale. The answer is int16 of
-        shape (given,): one for each sample, behind a decimator by M one for M, behind a tone one for each frame. G.711 takes and gives codes,
+        shape (given,): one for each sample, behind a decimator by M one for M, behind a tone, a level or a dtmf one for each frame. G.711 takes and gives codes,
         0 to 255, as numbers. What a member has heard stays, so the cut of a signal into calls doesn't show in what is given.
 
         Raises FloatsRefused for floats, OutOfRange for another shape or for numbers that don't fit, and Missing; nothing was fed then.
@@ -209,6 +212,9 @@ class Host:
         - `biquad`: b0 b1 b2 a1 a2 in Q14
         - `tone`: k in Q15, the frame in samples, 1 to 1,024, and the shift, 0 to 15
         - `g711`: the law (0 A, 1 mu), then 0 to encode or 1 to decode
+        - `gain`: the factor in Q12
+        - `level`: the frame in samples, 1 to 1,024, and the shift, 0 to 15
+        - `dtmf`: seven words, of which `rokdaum.design.dtmf()` has two sets
 
         Raises Room, with the space that is full, Params, Taken where the number lives or none is free, Range for a number, a group or a word that
         is too large, BadLength for more than 72 words, BadKind, and FloatsRefused for floats.

@@ -4,7 +4,7 @@
 It is looked for
 
 1. where the environment variable ROKDAUM_LIBRARY names a file, there and nowhere else;
-2. beside the package, where a release has it;
+2. in the package's folder, where a release has it;
 3. in `out/c` of the repository that the package stands in, where `make -C c` leaves it;
 4. where the loader looks: LD_LIBRARY_PATH, /etc/ld.so.conf, /usr/lib.
 
@@ -27,8 +27,12 @@ NAME = "librokdaum.so"
 # The limits of rokdaum.h.
 SPACE_WORDS, INSTANCES, GROUPS, CHANNELS, PARAMETER_WORDS, MAP_BLOCKS = 65536, 64, 8, 16, 72, 264
 # The order of rokdaum_kind and of rokdaum_space.
-KINDS = ("fir", "decim", "biquad", "tone", "g711")
+KINDS = ("fir", "decim", "biquad", "tone", "g711", "gain", "level", "dtmf")
 SPACES = ("daram", "saram", "external")
+# rokdaum_law.
+LAWS = {"a": 0, "mu": 1}
+# The most coefficients of a FIR filter, and the most samples of a block of one without a host.
+COEFFICIENTS, BLOCK_SAMPLES = 64, 1024
 
 
 class Handle(ctypes.Structure):
@@ -51,6 +55,7 @@ class BlockRecord(ctypes.Structure):
 
 WORDS = POINTER(c_int16)
 COUNT = POINTER(c_uint32)
+OCTETS = POINTER(c_uint8)
 # What each call takes behind the handle. All of them answer a code.
 CALLS: dict[str, tuple[type, ...]] = {
     "open": (POINTER(Options),),
@@ -60,7 +65,7 @@ CALLS: dict[str, tuple[type, ...]] = {
     "set": (c_uint8, WORDS, c_size_t),
     "reset": (c_uint8,),
     "get": (c_uint8, WORDS, c_size_t, COUNT),
-    "chain": (c_uint8, POINTER(c_uint8), c_size_t),
+    "chain": (c_uint8, OCTETS, c_size_t),
     "unchain": (c_uint8,),
     "feed_all": (c_uint8, WORDS, c_size_t, WORDS, c_size_t, POINTER(c_size_t)),
     "step": (c_int, COUNT),
@@ -69,6 +74,21 @@ CALLS: dict[str, tuple[type, ...]] = {
     "map": (c_int, POINTER(BlockRecord), c_size_t, COUNT),
     "release": (c_uint8, COUNT),
     "stat": (c_uint8, POINTER(c_int32), COUNT),
+}
+# What each call takes that needs no host, and what it returns.
+WITHOUT_HOST: dict[str, tuple[tuple[type, ...], type]] = {
+    "add": ((c_int16, c_int16), c_int16),
+    "l_mac": ((c_int32, c_int16, c_int16), c_int32),
+    "div_s": ((c_int16, c_int16, WORDS), c_int),
+    "add_block": ((WORDS, WORDS, WORDS, c_size_t), c_int),
+    "sub_block": ((WORDS, WORDS, WORDS, c_size_t), c_int),
+    "mult_block": ((c_int16, WORDS, WORDS, c_size_t), c_int),
+    "shl_block": ((WORDS, c_int16, WORDS, c_size_t), c_int),
+    "shr_block": ((WORDS, c_int16, WORDS, c_size_t), c_int),
+    "l_mac_block": ((c_int32, WORDS, WORDS, c_size_t, POINTER(c_int32)), c_int),
+    "fir": ((WORDS, c_size_t, WORDS, c_size_t, WORDS, c_size_t), c_int),
+    "g711_encode": ((c_int, WORDS, OCTETS, c_size_t), c_int),
+    "g711_decode": ((c_int, OCTETS, WORDS, c_size_t), c_int),
 }
 
 
@@ -108,4 +128,7 @@ def load() -> ctypes.CDLL:
     for name, arguments in CALLS.items():
         call = getattr(found, f"rokdaum_{name}")
         call.argtypes, call.restype = (POINTER(Handle), *arguments), c_int
+    for name, (arguments, returned) in WITHOUT_HOST.items():
+        call = getattr(found, f"rokdaum_{name}")
+        call.argtypes, call.restype = arguments, returned
     return found

@@ -72,8 +72,9 @@ class Map:
 def parse_map(reply: str, words: int = SIZE) -> Map:
     """The map of a reply `ok OWNER@PLACE+SIZE ..`. Raises NotAMap where it is no such reply or doesn't fit into `words` words."""
     head, *spoken = reply.split()[:1] + reply.split()[1:] if reply.split() else [""]
-    found = [BLOCK.fullmatch(word) for word in spoken]
-    if head != "ok" or None in found:
+    matched = [BLOCK.fullmatch(word) for word in spoken]
+    found = [one for one in matched if one]
+    if head != "ok" or len(found) < len(matched):
         raise NotAMap(f"no reply to map: {reply[:80]!r}")
     blocks = tuple(Block(one[1], int(one[2]), int(one[3])) for one in found)
     for before, block in zip(blocks, blocks[1:]):

@@ -19,8 +19,11 @@ import os
 import re
 import shlex
 import shutil
+import signal
 import subprocess
+import threading
 from collections.abc import Callable, Iterator, Sequence
+from contextlib import contextmanager
 from dataclasses import dataclass, field
 from pathlib import Path
 from typing import TYPE_CHECKING
@@ -166,7 +169,7 @@ def find_program(named: str | None = None) -> list[str]:
 
     Raises ProgramMissing where there is none.
     """
-    words = shlex.split(named or os.environ.get("DSP_CONSOLE", ""))
+    words = shlex.split(named or os.environ.get("DSP_CONSOLE") or "")
     if not words and os.access(REPOSITORY / "dsp_console", os.X_OK):
         words = [str(REPOSITORY / "dsp_console")]
     words = words or ["dsp_console"]
@@ -175,12 +178,45 @@ def find_program(named: str | None = None) -> list[str]:
     return words
 
 
+@contextmanager
+def holding_signals() -> Iterator[None]:
+    """Holds SIGINT and SIGTERM back, and then lets them come. In another thread than the main one Python has none of them come."""
+    came: list[int] = []
+    held = (signal.SIGINT, signal.SIGTERM) if threading.current_thread() is threading.main_thread() else ()
+    before = {number: signal.signal(number, lambda number, _: came.append(number)) for number in held}
+    try:
+        yield
+    finally:
+        for number, handler in before.items():
+            signal.signal(number, signal.SIG_DFL if handler is None else handler)
+        for late in came:
+            signal.raise_signal(late)
+
+
 class Session:
-    """A running `dsp_console` whose script is a pipe."""
+    """A running `dsp_console` whose script is a pipe: `with Session(words) as session`. However that ends, the program has ended then."""
 
     def __init__(self, words: Sequence[str]) -> None:
-        self.process = subprocess.Popen(words, stdin=subprocess.PIPE, stdout=subprocess.PIPE)
+        self.words = words
         self.sent = 0
+
+    def __enter__(self) -> Session:
+        # A signal between the start and its note here would leave a program behind, which makes its outputs anew.
+        try:
+            with holding_signals():
+                self.process = subprocess.Popen(self.words, stdin=subprocess.PIPE, stdout=subprocess.PIPE)
+                assert self.process.stdin and self.process.stdout  # both are pipes
+                self.lines, self.said = self.process.stdin, self.process.stdout
+        except BaseException:
+            self.__exit__()
+            raise
+        return self
+
+    def __exit__(self, *_: object) -> None:
+        if hasattr(self, "said"):
+            if self.process.poll() is None:
+                self.process.kill()
+            self.end()
 
     def ask(self, lines: Sequence[str]) -> list[str]:
         """Sends lines, none of them blank, and reads their replies. Raises ProgramFailed where the program ends before."""
@@ -188,14 +224,14 @@ class Session:
         self.sent += len(octets)
         if self.sent > LONGEST_SCRIPT:
             raise OutOfRange(f"the feeds make a script of more than {LONGEST_SCRIPT:,} bytes: take larger blocks")
-        replies = []
+        replies: list[str] = []
         try:
-            self.process.stdin.write(octets)
-            self.process.stdin.flush()
+            self.lines.write(octets)
+            self.lines.flush()
         except BrokenPipeError:
             pass
         for _ in lines:
-            reply = self.process.stdout.readline()
+            reply = self.said.readline()
             if not reply.endswith(b"\n"):
                 status = self.process.wait()
                 # 0 and 1 are the statuses of a script that was served to its end.
@@ -206,19 +242,13 @@ class Session:
     def end(self) -> int:
         """Ends the script, and waits for the program. Its exit status."""
         try:
-            self.process.stdin.close()
+            self.lines.close()
         except BrokenPipeError:
             pass
-        if not self.process.stdout.closed:
-            self.process.stdout.read()
-            self.process.stdout.close()
+        if not self.said.closed:
+            self.said.read()
+            self.said.close()
         return self.process.wait()
-
-    def stop(self) -> None:
-        """Ends a program that is still there."""
-        if self.process.poll() is None:
-            self.process.kill()
-        self.end()
 
 
 class Run:
@@ -287,7 +317,7 @@ class Run:
             for note in notes_on_channel(self.circuit, channel, bool(ports.in8 >> channel & 1), bool(ports.out8 >> channel & 1)):
                 self.noted.setdefault(note)
         if self.history is not None:
-            self.look(line)
+            self.look(line, self.history)
         return Answer(line, reply, why)
 
     def took(self, channel: int, count: int, reply: str) -> None:
@@ -335,13 +365,13 @@ class Run:
                     left[channel] = max(0, count - block)
                     yield channel, min(block, count)
 
-    def look(self, line: Line) -> None:
+    def look(self, line: Line, history: History) -> None:
         """Asks where all blocks stand and who is active. Neither command changes anything."""
         maps = self.session.ask([f"map {space}" for space in SPACES])
         self.groups |= {it.group for it in self.circuit.instances.values()}
         groups = sorted(self.groups)
         stats = self.session.ask([f"stat {group}" for group in groups]) if groups else []
-        self.history.add(line.number, line.text, dict(zip(SPACES, maps)), dict(zip(groups, map(parse_stat, stats))))
+        history.add(line.number, line.text, dict(zip(SPACES, maps)), dict(zip(groups, map(parse_stat, stats))))
 
 
 def run(
@@ -368,13 +398,13 @@ def run(
     Raises CantRead, CantWrite, SameFile, WrongWave, ScriptError and ProgramMissing before anything runs, and ProgramFailed where the program
     ends before the script does. No output was changed then.
     """
-    is_path = isinstance(script, (str, os.PathLike))
-    look_at_files(Path(script) if is_path else None, pairs)
-    lines = read_script(script) if is_path else list(script)
+    path = Path(script) if isinstance(script, (str, os.PathLike)) else None
+    look_at_files(path, pairs)
+    lines = list(script) if not isinstance(script, (str, os.PathLike)) else read_script(script)
     words = [*find_program(program), *settings.arguments(), "/dev/stdin"]
     result = Result(history=History({space: settings.size_of(space) for space in SPACES}) if history else None)
-    with Staged(pairs, settings) as staged:
-        going = Run(Session([*words, *staged.names()]), staged, watch, result.history)
+    with Staged(pairs, settings) as staged, Session([*words, *staged.names()]) as session:
+        going = Run(session, staged, watch, result.history)
         serve(going, lines, strict, tell, result)
         finish(result, going, rate)
         if not result.stopped:
@@ -383,18 +413,15 @@ def run(
 
 
 def serve(going: Run, lines: Sequence[Line], strict: bool, tell: Callable[[Answer], None] | None, result: Result) -> None:
-    """Takes each answer of a run into its result, and ends the program, however the run ends."""
-    try:
-        for answer in going.serve(lines, strict):
-            result.answers.append(answer)
-            if tell:
-                tell(answer)
-            if strict and answer.refused:
-                result.stopped = True
-                break
-        result.status = going.session.end()
-    finally:
-        going.session.stop()
+    """Takes each answer of a run into its result, and ends the program."""
+    for answer in going.serve(lines, strict):
+        result.answers.append(answer)
+        if tell:
+            tell(answer)
+        if strict and answer.refused:
+            result.stopped = True
+            break
+    result.status = going.session.end()
 
 
 def finish(result: Result, going: Run, rate: float) -> None:

@@ -12,6 +12,7 @@ import numpy as np
 from rokdaum_model.console import Config
 from rokdaum_model.random_scripts import RandomCase, random_case
 from rokdaum_model.script import words_of
+from rokdaum_model.sets import HOSTED
 
 from rokdaum import Host
 from rokdaum.errors import BadLength, BadSize, Refused
@@ -123,6 +124,8 @@ def differences(made: RandomCase, counted: Counter[str]) -> list[str]:
                 continue  # a call takes any number of samples
             reply = calls.reply(verb, words)
             counted.update([verb, "refused" if reply.startswith("no") else "granted"])
+            if verb == "create" and reply == "ok":
+                counted[words[1]] += 1
             if not agrees(reply, wanted, verb):
                 found.append(f"{line!r}: {reply}, and the model says {wanted}")
         for channel, data in enumerate(made.served.outputs):
@@ -131,8 +134,8 @@ def differences(made: RandomCase, counted: Counter[str]) -> list[str]:
     return found + (["the sizes aren't refused"] if made.served.status == 2 else [])
 
 
-def random_differences(seed: str, cases: int) -> tuple[list[str], Counter[str]]:
-    """What calls answer otherwise than the model over random scripts, and how many calls of each sort were made."""
+def random_differences(seed: str, cases: int, kinds: str = HOSTED) -> tuple[list[str], Counter[str]]:
+    """What calls answer otherwise than the model over random scripts of a set of kinds, and how many calls of each sort were made."""
     counted: Counter[str] = Counter()
-    found = [f"case {seed}/{number}: {text}" for number in range(cases) for text in differences(random_case(random.Random(f"{seed}/{number}")), counted)]
+    found = [f"case {seed}/{number}: {text}" for number in range(cases) for text in differences(random_case(random.Random(f"{seed}/{number}"), kinds), counted)]
     return found, counted

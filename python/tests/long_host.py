@@ -7,6 +7,7 @@ from library_case import LibraryCase
 from test_host import GROWTH, SEED, create_and_delete
 
 from calls import random_differences
+from rokdaum_model.sets import GATEWAY_SET
 
 
 class Long(LibraryCase):
@@ -15,6 +16,9 @@ class Long(LibraryCase):
 
     def test_two_thousand_scripts(self) -> None:
         self.assertEqual(random_differences(SEED, 2_000)[0], [])
+
+    def test_two_thousand_scripts_of_a_gateway(self) -> None:
+        self.assertEqual(random_differences(SEED, 2_000, GATEWAY_SET)[0], [])
 
 
 del LibraryCase

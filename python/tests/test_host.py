@@ -18,13 +18,17 @@ from collections.abc import Callable
 from unittest import mock
 
 from library_case import PYTHON, REPOSITORY, LibraryCase
-from signals import noise, tone
+from signals import keypad, noise, tone
 
 import numpy as np
 import rokdaum
 from calls import random_differences
-from rokdaum import Host, design, errors, library, maps
+from rokdaum import Host, design, errors, g711, library, maps, operators
 from rokdaum.host import options_of
+from rokdaum_model import companding
+from rokdaum_model import operators as model
+from rokdaum_model.gateway import GATEWAY
+from rokdaum_model.sets import GATEWAY_SET
 
 SEED = os.environ.get("SEED", "1")
 # What memory of the process may grow by, in bytes, where nothing is leaked: less than one host takes, or a thousandth of what would leak.
@@ -45,12 +49,12 @@ def shown(host: Host) -> list:
 
 def create_and_delete(times: int) -> int:
     """Makes instances of each kind, refused ones and chains so many times, and deletes them; how many bytes the process grew by."""
-    params = {"fir": [16384, 1], "decim": [2, 16384], "biquad": [8192, 0, 0, 0, 0], "tone": [27980, 102, 8], "g711": [1, 1]}
+    params = {"fir": [16384, 1], "decim": [2, 16384], "biquad": [8192, 0, 0, 0, 0], "tone": [27980, 102, 8], "g711": [1, 1], "gain": [4096], "level": [160, 4], "dtmf": design.dtmf()}
     with Host(daram=2048, saram=64) as host:
         for at in range(times):
             if at == times // 10:
                 before = resident()
-            kind = library.KINDS[at % 5]
+            kind = library.KINDS[at % len(library.KINDS)]
             one = host.create(kind, at % 8, params[kind])
             try:
                 host.create("fir", 7, [1] * 64)
@@ -119,7 +123,7 @@ class Refusals(LibraryCase):
             (errors.Command, "as many coefficients as it has", lambda: fir.set([1])),
             (errors.BadLength, "too many", lambda: host.create("fir", 0, [1] * 73)),
             (errors.BadLength, "1 to 8 members", host.chain),
-            (errors.BadKind, "fir, decim, biquad, tone, g711, and not iir", lambda: host.create("iir", 0, [1])),
+            (errors.BadKind, "fir, decim, biquad, tone, g711, gain, level, dtmf, and not iir", lambda: host.create("iir", 0, [1])),
             (errors.BadSpace, "daram, saram, external, and not rom", lambda: host.map("rom")),
             (errors.BadSpace, "not rom", lambda: host.step("rom")),
             (errors.BadSpace, "not rom", lambda: host.compact("rom")),
@@ -160,7 +164,7 @@ class Refusals(LibraryCase):
             self.assertEqual(dict(host.sizes), {"daram": 0, "saram": 0, "external": 0})
 
     def test_floats(self) -> None:
-        for kind, text in (("fir", r"round\(32768 \* value\)"), ("decim", "32768"), ("biquad", r"round\(16384 \* value\)"), ("tone", "cos"), ("g711", "law")):
+        for kind, text in (("fir", r"round\(32768 \* value\)"), ("decim", "32768"), ("biquad", r"round\(16384 \* value\)"), ("tone", "cos"), ("g711", "law"), ("gain", r"round\(4096 \* value\)"), ("level", "1,024"), ("dtmf", r"design.dtmf\(\)")):
             with self.subTest(kind=kind):
                 self.refuse(errors.FloatsRefused, text, lambda: self.host.create(kind, 0, [0.5, 1]))
                 self.refuse(errors.FloatsRefused, text, lambda: self.host.create(kind, 0, np.array([0.5])))
@@ -221,7 +225,7 @@ class Arrays(LibraryCase):
     def test_cuts_do_not_show(self) -> None:
         """One call, calls of odd lengths, and calls of one sample give the same."""
         given = noise(5000, peak=30000)
-        kinds = (("fir", design.fir("low", [1000], 31)), ("decim", [3, 9000, 9000, 9000]), ("biquad", design.low(800, order=2)), ("tone", [27980, 102, 8]), ("g711", [1, 0]))
+        kinds = (("fir", design.fir("low", [1000], 31)), ("decim", [3, 9000, 9000, 9000]), ("biquad", design.low(800, order=2)), ("tone", [27980, 102, 8]), ("g711", [1, 0]), ("gain", [-9000]), ("level", [80, 4]), ("dtmf", design.dtmf("b")))
         for kind, params in kinds:
             whole, *others = (self.cut(kind, params, given, length) for length in (5000, 1, 7, 160, 1024, 1025, 4999))
             self.assertGreater(len(whole), 40)
@@ -270,6 +274,112 @@ class Arrays(LibraryCase):
             second.feed([1])
             self.assertEqual(host.stat(3), (1, 2))
             self.assertEqual([host.release(3), host.release(3)], [True, False])
+
+
+class Kinds(LibraryCase):
+    """Gains, meters of energy and detectors of digits, beside the model and beside plain arithmetic."""
+
+    def test_beside_the_model(self) -> None:
+        given = np.concatenate([noise(3000, peak=peak) for peak in (100, 3000, 32000)] + [keypad("147*2580369#ABCD"), np.full(1000, -32768, np.int16)])
+        for kind, words in (("gain", (5000,)), ("gain", (-32768,)), ("level", (160, 4)), ("level", (1, 0)), ("level", (1024, 15)), ("dtmf", design.DTMF_SETS["a"][0]), ("dtmf", design.DTMF_SETS["b"][0])):
+            with Host() as host, self.subTest(kind=kind, words=words):
+                out = host.chain(host.create(kind, params=words)).feed(given)
+                self.assertEqual(out.tolist(), GATEWAY[kind].start(words, "running").process(given.tolist()))
+
+    def test_gain(self) -> None:
+        with Host() as host:
+            one = host.create("gain", params=design.gain(6))
+            line = host.chain(one)
+            self.assertEqual(line.feed([1000, -1000, 30000]).tolist(), [1995, -1995, 32767])
+            one.set(design.gain(-20))
+            self.assertEqual((one.get().tolist(), line.feed([1000]).tolist()), ([410], [100]))
+            self.assertRaisesRegex(errors.Command, "one word, the factor", one.set, [1, 2])
+
+    def test_level(self) -> None:
+        for frame in (1, 4, 160, 1024):
+            meter, given = design.level(frame), noise(4096, peak=30000)
+            with Host() as host, self.subTest(frame=frame):
+                out = host.chain(host.create("level", params=meter)).feed(given)
+                self.assertEqual(out.shape, (len(given) // frame,))
+                wanted = np.sqrt((given[: len(out) * frame].astype(float).reshape(-1, frame) ** 2).mean(axis=1))
+                np.testing.assert_allclose(meter.rms(out), wanted, atol=400)
+                self.assertLess(host.line(0).feed([-32768] * frame).max(), 32767)
+
+    def test_digits(self) -> None:
+        for name in design.DTMF_SETS:
+            receiver = design.dtmf(name)
+            with Host() as host, self.subTest(name=name):
+                line = host.chain(host.create("dtmf", params=receiver))
+                self.assertEqual(receiver.dialled(line.feed(keypad("0123456789ABCD*#55"))), "0123456789ABCD*#55")
+                self.assertEqual(receiver.dialled(line.feed(noise(8000, peak=8000))), "")
+
+    def test_as_it_was_asked_for(self) -> None:
+        """A band of one section is one biquad."""
+        samples = noise(8000)
+        with rokdaum.Host(daram=4096) as host:
+            band = host.create("biquad", group=0, params=rokdaum.design.bandpass(300, 3400, rate=8000))
+            line = host.chain(band)
+            out = line.feed(samples)
+            host.map("daram").plot()
+        self.assertEqual((out.dtype, out.shape), (np.dtype(np.int16), (8000,)))
+        with rokdaum.Host() as host:
+            self.assertRaisesRegex(errors.Params, "3 instances.*create_all", host.create, "biquad", 0, design.bandpass(300, 3400, order=3))
+
+
+class WithoutHost(LibraryCase):
+    """G.711 and operators over arrays, beside the model's."""
+
+    def test_companding(self) -> None:
+        every = np.arange(-32768, 32768)
+        for law, number in (("a", companding.LAW_A), ("mu", companding.LAW_MU)):
+            codes = g711.encode(every, law)
+            self.assertEqual((codes.tolist(), codes.dtype), ([companding.encode(number, x) for x in every.tolist()], np.dtype(np.uint8)))
+            back = g711.decode(range(256), law)
+            self.assertEqual((back.tolist(), back.dtype), ([companding.decode(number, code) for code in range(256)], np.dtype(np.int16)))
+        self.assertEqual((g711.encode([]).shape, g711.decode([]).shape), ((0,), (0,)))
+
+    def test_operators(self) -> None:
+        a, b = noise(3000, 1, 32768), noise(3000, 2, 32768)
+        for ours, theirs in ((operators.add, model.add), (operators.sub, model.sub)):
+            self.assertEqual(ours(a, b).tolist(), [theirs(x, y) for x, y in zip(a.tolist(), b.tolist())])
+        for n in (-32768, -17, -3, 0, 1, 7, 15, 16, 32767):
+            for ours, theirs in ((operators.shl, model.shl), (operators.shr, model.shr), (operators.mult, model.mult)):
+                self.assertEqual(ours(a, n).tolist(), [theirs(x, n) for x in a.tolist()])
+        wanted = -7
+        for x, y in zip(a.tolist(), b.tolist()):
+            wanted = model.l_mac(wanted, x, y)
+        self.assertEqual((operators.l_mac(-7, a, b), operators.l_mac(5, [], [])), (wanted, 5))
+        self.assertEqual([operators.div_s(x, y) for x, y in ((1, 2), (5, 5), (0, 9))], [model.div_s(x, y) for x, y in ((1, 2), (5, 5), (0, 9))])
+
+    def test_fir(self) -> None:
+        """Without a host it gives what an instance gives, however it is cut."""
+        given = noise(2500, peak=30000)
+        for taps in ([32767], [1000, -2000, 3000], [511] * 64):
+            with Host() as host, self.subTest(taps=len(taps)):
+                wanted = host.chain(host.create("fir", params=taps)).feed(given)
+            self.assertEqual(operators.fir(taps, given).tolist(), wanted.tolist())
+            self.assertEqual(operators.fir(taps, given[700:], given[:700]).tolist(), wanted[700:].tolist())
+            self.assertEqual(operators.fir(taps, given[2:], given[:2]).tolist(), wanted[2:].tolist())
+
+    def test_refusals(self) -> None:
+        for wanted, text, call in (
+            (errors.FloatsRefused, "from_floats", lambda: g711.encode([0.5])),
+            (errors.OutOfRange, "a or mu", lambda: g711.encode([1], "u")),
+            (errors.OutOfRange, "a byte is 0 to 255", lambda: g711.decode([256])),
+            (errors.OutOfRange, "one length", lambda: operators.add([1], [1, 2])),
+            (errors.OutOfRange, "a gain is", lambda: operators.mult([1], 32768)),
+            (errors.OutOfRange, "32 bits", lambda: operators.l_mac(1 << 31, [1], [1])),
+            (errors.Params, "div_s takes", lambda: operators.div_s(3, 2)),
+            (errors.BadLength, "1 to 64 coefficients, and 65", lambda: operators.fir([1] * 65, [1])),
+            (errors.BadLength, "and 0 are", lambda: operators.fir([], [1])),
+            (errors.DesignError, "18.06 dB", lambda: design.gain(18.07)),
+            (errors.DesignError, "-80 dB", lambda: design.gain(-80)),
+            (errors.DesignError, "1 to 1024", lambda: design.level(1025)),
+            (errors.DesignError, "a or b", lambda: design.dtmf("c")),
+            (TypeError, "integer", lambda: operators.shl([1], 0.5)),
+        ):
+            with self.subTest(text=text):
+                self.assertRaisesRegex(wanted, text, call)
 
 
 class Memory(LibraryCase):
@@ -409,6 +519,13 @@ class Examples(LibraryCase):
                     self.assertAlmostEqual(heard, designed, delta=1)
             self.assertEqual(rokdaum.samples.read(f"{room}/out.wav")[0].shape, (80_000,))
 
+    def test_dialled_digits(self) -> None:
+        self.assertEqual(self.said("dialled_digits.py"), ["0123456789"])
+        with tempfile.TemporaryDirectory(prefix="rokdaum-test-") as room:
+            for name, keys in (("a.wav", "12*#"), ("b.raw", "99")):
+                rokdaum.samples.write(f"{room}/{name}", np.concatenate([np.zeros(1000, np.int16), keypad(keys)]))
+            self.assertEqual(self.said("dialled_digits.py", f"{room}/a.wav", f"{room}/b.raw"), ["12*#", "99"])
+
     def test_sixteen_lines(self) -> None:
         with tempfile.TemporaryDirectory(prefix="rokdaum-test-") as room:
             said = self.said("sixteen_lines.py", f"{room}/picture.png")
@@ -418,6 +535,11 @@ class Examples(LibraryCase):
 
 
 class Model(LibraryCase):
+    def test_random_scripts_of_a_gateway(self) -> None:
+        found, counted = random_differences(SEED, 100, GATEWAY_SET)
+        self.assertEqual(found, [])
+        self.assertGreater(min(counted[kind] for kind in library.KINDS), 5)
+
     def test_random_scripts(self) -> None:
         found, counted = random_differences(SEED, 200)
         self.assertEqual(found, [])

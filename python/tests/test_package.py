@@ -36,6 +36,11 @@ class Package(Case):
                         self.assertTrue(node.returns is not None, "no type")
         self.assertGreater(seen, 100)
 
+    def test_types(self) -> None:
+        """Debian's mypy has no complaint."""
+        done = subprocess.run(["mypy", "--cache-dir", str(self.room / "cache")], cwd=PYTHON, capture_output=True, text=True, check=False)
+        self.assertEqual((done.returncode, done.stdout.splitlines()[-1:]), (0, [f"Success: no issues found in {len(list((PYTHON / 'rokdaum').rglob('*.py')))} source files"]))
+
     def test_files_need_python_alone(self) -> None:
         """dsp_run and dsp_map's text work where numpy isn't."""
         self.write("in", noise(2000))

@@ -5,9 +5,10 @@ from __future__ import annotations
 
 import os
 import resource
+import subprocess
 import unittest
 
-from console_case import (HALF, NO_MEMORY, READ_FAILED, WRITE_FAILED, WRONG_SIZE, ConsoleCase, words)
+from console_case import (HALF, PROGRAM, NO_MEMORY, READ_FAILED, WRITE_FAILED, WRONG_SIZE, ConsoleCase, words)
 
 DONE = b"ok\nok\nok 2\nok 1\n"
 
@@ -87,6 +88,18 @@ class WrittenOver(ConsoleCase):
         os.close(slave)
         self.assertEqual(ended.end, (0, b""))
 
+    def test_a_fifo_that_is_read_and_written_waits(self) -> None:
+        """To open a FIFO waits for its other end, which here is opened later by the run itself: no file is changed meanwhile."""
+        os.mkfifo(self.folder / "fifo")
+        before = self.files()
+        with subprocess.Popen([PROGRAM, "script", "fifo", "fifo", "in", "old"], cwd=self.folder, stdin=subprocess.DEVNULL,
+                              stdout=subprocess.PIPE, stderr=subprocess.PIPE) as run:
+            with self.assertRaises(subprocess.TimeoutExpired):
+                run.wait(1)
+            run.kill()
+            self.assertEqual(run.communicate(), (b"", b""))
+        self.assertEqual(self.files(), before)
+
     def test_a_file_may_be_read_twice(self) -> None:
         script = HALF + b"create 1 fir 1 16384\nchain 1 1\nfeed 0 3\nfeed 1 3\n"
         self.assertEqual(self.run_script(script, "in", "out", "in", "out1").status, 0)
@@ -146,6 +159,8 @@ class Unbegun(ConsoleCase):
     def test_a_link_to_no_file(self) -> None:
         """What is made through a link stays, empty."""
         os.symlink("target", self.folder / "link")
+        self.assertEqual(self.run_program("--daram", "6", "script", "in", "link").end, WRONG_SIZE)
+        self.assertEqual((self.read("target"), os.readlink(self.folder / "link")), (b"", "target"))
         self.assertEqual(self.run_program("script", "in", "link").status, 0)
         self.assertEqual(self.read("target"), words(1, 2, 3))
 

@@ -17,6 +17,13 @@ from pathlib import Path
 TOP = Path(__file__).resolve().parents[2]
 LOGIC = "5a" * 32
 SCRIPT = f"#!/bin/sh\n# rattle logic={LOGIC}\n# GLIBC_2.9 GLIBC_2.31\necho proved\n"
+PROGRAMS, ARCHIVES = ("dsp_console_main", "gateway_console"), ("dsp_library", "host_library")
+# A library that is made as c/Makefile makes the real one: of the archives.
+LIBRARY = """all:
+	mkdir -p ../out/c
+	cat ../crates/*/out/lib*.a > ../out/c/librokdaum.a
+	echo shared > ../out/c/librokdaum.so.1.2.3
+"""
 
 
 class Release(unittest.TestCase):
@@ -31,8 +38,18 @@ class Release(unittest.TestCase):
             "docs/man/dsp_console.1": ".TH X 1\n",
             "docs/completion/dsp_console": "# none\n",
             "examples/x": "#!/bin/sh\n../dsp_console\n",
-            "crates.txt": "dsp_console_main: arrayvec\n",
-            "crates/dsp_console_main/src/main.rt": "first\n",
+            "crates.txt": "".join(f"{name}: arrayvec\n" for name in PROGRAMS) + "".join(f"{name} staticlib: ialg\n" for name in ARCHIVES),
+            **{f"crates/{name}/src/main.rt": "first\n" for name in PROGRAMS + ARCHIVES},
+            "c/Makefile": LIBRARY,
+            "c/rokdaum.h": "/* h */\n",
+            "c/rokdaum.pc.in": "prefix=@PREFIX@\nincludedir=${prefix}/include\nVersion: @VERSION@\n",
+            "c/rokdaum.c": "no part of a release\n",
+            "c/examples/e.c": "int e;\n",
+            "python/rokdaum/host.py": "made = 1\n",
+            "python/bin/dsp_run": "#!/bin/sh\necho ran\n",
+            "python/bin/dsp_design": "#!/bin/sh\n",
+            "python/bin/dsp_map": "#!/bin/sh\n",
+            "python/tests/test_host.py": "no part of a release\n",
             "VERSION": "1.2.3\n",
             ".gitignore": "out/\n",
             "secret/key": "no part of a release\n",
@@ -46,7 +63,8 @@ class Release(unittest.TestCase):
         (self.top / "tools").mkdir()
         for tool in ("program.py", "release.py"):
             shutil.copy(TOP / "tools" / tool, self.top / "tools")
-        (self.top / "examples/x").chmod(0o755)
+        for path in ("examples/x", "python/bin/dsp_run", "python/bin/dsp_design", "python/bin/dsp_map"):
+            (self.top / path).chmod(0o755)
         self.git("init", "-q")
         self.commit()
         self.build()
@@ -60,13 +78,14 @@ class Release(unittest.TestCase):
         self.git("commit", "-q", "-m", "all")
 
     def build(self, text: str = SCRIPT) -> None:
-        """A program that is said to be built from the sources as they stand."""
-        made = self.top / "crates/dsp_console_main/out/dsp_console_main"
-        made.parent.mkdir(exist_ok=True)
-        made.write_text(text)
-        made.chmod(0o755)
-        words = "import program; program.built_from().write_text(program.checksum())"
-        subprocess.run((sys.executable, "-B", "-c", words), cwd=self.top / "tools", check=True)
+        """Programs and archives that are said to be built from the sources as they stand."""
+        for name in PROGRAMS + ARCHIVES:
+            made = self.top / f"crates/{name}/out" / (f"lib{name}.a" if name in ARCHIVES else name)
+            made.parent.mkdir(exist_ok=True)
+            made.write_text(text if name in PROGRAMS else f"{name}\n")
+            made.chmod(0o755)
+            words = f"import program; program.built_from({name!r}).write_text(program.checksum({name!r}))"
+            subprocess.run((sys.executable, "-B", "-c", words), cwd=self.top / "tools", check=True)
 
     def call(self, *words: str, status: int = 0) -> str:
         environment = {name: value for name, value in os.environ.items() if name not in ("SOURCE_DATE_EPOCH", "MAKEFLAGS", "MAKELEVEL")}
@@ -85,15 +104,19 @@ class Release(unittest.TestCase):
             found = {it.name: it for it in tar.getmembers()}
             texts = {name.partition("/")[2]: tar.extractfile(it).read().decode() for name, it in found.items() if it.isfile()}
         wanted = {"CHANGELOG.md", "LICENSE", "Makefile", "NOTICE", "ORIGIN", "README.md", "SECURITY.md", "SHA256SUMS", "VERSION", "docs/A.md", "docs/RELEASE.md"}
-        wanted |= {"docs/completion/dsp_console", "docs/man/dsp_console.1", "dsp_console", "examples/x"}
+        wanted |= {"docs/completion/dsp_console", "docs/man/dsp_console.1", "dsp_console", "gateway_console", "examples/x"}
+        wanted |= {"c/rokdaum.h", "c/examples/e.c", "lib/librokdaum.a", "lib/librokdaum.so.1.2.3", "lib/pkgconfig/rokdaum.pc"}
+        wanted |= {f"python/{it}" for it in ("rokdaum/host.py", "rokdaum/librokdaum.so", "bin/dsp_run", "bin/dsp_design", "bin/dsp_map")}
         self.assertEqual(set(texts), wanted)
-        self.assertEqual(texts["dsp_console"], SCRIPT)
+        self.assertEqual((texts["dsp_console"], texts["gateway_console"]), (SCRIPT, SCRIPT))
+        self.assertEqual((texts["lib/librokdaum.a"], texts["python/rokdaum/librokdaum.so"]), ("dsp_library\nhost_library\n", texts["lib/librokdaum.so.1.2.3"]))
+        self.assertEqual(texts["lib/pkgconfig/rokdaum.pc"], "prefix=${pcfiledir}/../..\nincludedir=${prefix}/c\nVersion: 1.2.3\n")
         self.assertEqual(texts["README.md"], "[a](docs/A.md) [x](examples/x) [c](CHANGELOG.md) [n](https://example.org/A.md)\n")
         self.assertIn(f"logic    {LOGIC}\n", texts["ORIGIN"])
         self.assertIn("glibc    2.31 or newer\n", texts["ORIGIN"])
         self.assertNotIn("with changes", texts["ORIGIN"])
         modes = {name.partition("/")[2]: it.mode for name, it in found.items() if it.isfile()}
-        self.assertEqual({name for name, mode in modes.items() if mode == 0o755}, {"dsp_console", "examples/x"})
+        self.assertEqual({name for name, mode in modes.items() if mode == 0o755}, {"dsp_console", "gateway_console", "examples/x", "python/bin/dsp_run", "python/bin/dsp_design", "python/bin/dsp_map"})
         self.assertEqual(len({(it.uid, it.gid, it.mtime) for it in found.values()}), 1)
 
     def test_the_time_may_be_given(self) -> None:
@@ -111,6 +134,13 @@ class Release(unittest.TestCase):
         self.assertIn("isn't built", self.release(status=69))
         self.assertFalse(self.out.exists())
         self.call("make", "dist", status=2)
+
+    def test_no_library(self) -> None:
+        (self.top / "crates/host_library/out/libhost_library.a").unlink()
+        self.assertIn("archive host_library isn't built", self.release(status=69))
+        self.build()
+        (self.top / "c/Makefile").write_text("all:\n\t@echo no compiler; exit 1\n")
+        self.assertIn("make -C c ended with status 2: no compiler", self.release("--changed", status=1))
 
     def test_a_program_of_other_sources(self) -> None:
         (self.top / "crates/dsp_console_main/src/main.rt").write_text("second\n")
@@ -148,7 +178,10 @@ class Release(unittest.TestCase):
         target = self.room / "target"
         for _ in range(2):
             self.call("make", "install", "PREFIX=/usr", f"DESTDIR={target}")
-        self.assertEqual(self.call(str(target / "usr/bin/dsp_console")), "proved\n")
+        self.assertEqual([self.call(str(target / "usr/bin" / name)) for name in ("dsp_console", "gateway_console", "dsp_run")], ["proved\n", "proved\n", "ran\n"])
+        for path in ("include/rokdaum.h", "lib/librokdaum.a", "lib/librokdaum.so", "share/rokdaum/python/rokdaum/librokdaum.so", "share/doc/rokdaum/python/rokdaum/host.py", "share/doc/rokdaum/c/rokdaum.h", "share/doc/rokdaum/c/examples/e.c"):
+            self.assertTrue((target / "usr" / path).is_file(), path)
+        self.assertEqual((target / "usr/lib/pkgconfig/rokdaum.pc").read_text(), "prefix=/usr\nincludedir=${prefix}/include\nVersion: 1.2.3\n")
         self.assertTrue((target / "usr/share/doc/rokdaum/dsp_console").samefile(target / "usr/bin/dsp_console"))
         self.assertFalse((target / "usr/share/doc/rokdaum/Makefile").exists())
         self.call("make", "uninstall", "PREFIX=/usr", f"DESTDIR={target}")

@@ -39,11 +39,11 @@ const RING: usize = 3;
 pub struct Decim;
 
 impl Ialg for Decim {
-    ghost meaning = { decim_meaning };
-
-    ghost idle_keeps = { λ _ p rs wss h. IsIdleDecim p rs wss h };
-
-    ghost active_keeps = { λ _ p rs wss h. IsActiveDecim p rs wss h };
+    ghost law = { record {
+      meaning = decim_meaning;
+      idle_keeps = λ _ p rs wss h. IsIdleDecim p rs wss h;
+      active_keeps = λ _ p rs wss h. IsActiveDecim p rs wss h;
+    } };
 
     fn alg_num_alloc(&self) -> usize {
         DECIM_RECORDS
@@ -328,5 +328,5 @@ fn get(mem: &Lent<'_>) -> Words
 /// The law that the decimator keeps IALG's laws for all parameters, refused ones too, in a host of any poison word and
 /// in one of none. The call does nothing: its contract is the law.
 pub fn decim_is_lawful()
-    ensures { (kind : Decim) (p : List ℤ) (w : Option ℤ) → IsTrue (⟦<Decim as Ialg>⟧.meaning.lawful kind p w) }
+    ensures { (kind : Decim) (p : List ℤ) (w : Option ℤ) → IsTrue (⟦<Decim as Ialg>⟧.law.meaning.lawful kind p w) }
 {}

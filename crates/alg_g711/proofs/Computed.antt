@@ -96,10 +96,10 @@ monotone law low high less b =
 -- ---- middles
 
 a_shifts : ℕ → Bool
-a_shifts e = nat_le (16 * 2 ^ (e - 1) % 2 ^ 32) 1024
+a_shifts e = nat_le (16 * 2 ^ (e - 1) % 2 ^ 16) 1024
 
 mu_shifts : ℕ → Bool
-mu_shifts e = 2 * 2 ^ e % 2 ^ 32 == 2 ^ (e + 1)
+mu_shifts e = 2 * 2 ^ e % 2 ^ 16 == 2 ^ (e + 1)
 
 all_a_shifts : list_all a_shifts (range_with_len 0 8) ≡ true
 unfolding a_shifts
@@ -109,13 +109,13 @@ all_mu_shifts : list_all mu_shifts (range_with_len 0 8) ≡ true
 unfolding mu_shifts
 all_mu_shifts = refl
 
-pub a_shift : (e : ℕ) → e < 8 → 16 * 2 ^ (e - 1) % 2 ^ 32 ≤ 1024
+pub a_shift : (e : ℕ) → e < 8 → 16 * 2 ^ (e - 1) % 2 ^ 16 ≤ 1024
 unfolding a_shifts
-a_shift e b = at_most (16 * 2 ^ (e - 1) % 2 ^ 32) 1024 (all_in a_shifts 0 8 all_a_shifts e (omega arith) (omega arith))
+a_shift e b = at_most (16 * 2 ^ (e - 1) % 2 ^ 16) 1024 (all_in a_shifts 0 8 all_a_shifts e (omega arith) (omega arith))
 
-pub mu_shift : (e : ℕ) → e < 8 → 2 * 2 ^ e % 2 ^ 32 ≡ 2 ^ (e + 1)
+pub mu_shift : (e : ℕ) → e < 8 → 2 * 2 ^ e % 2 ^ 16 ≡ 2 ^ (e + 1)
 unfolding mu_shifts
-mu_shift e b = same (2 * 2 ^ e % 2 ^ 32) (2 ^ (e + 1)) (all_in mu_shifts 0 8 all_mu_shifts e (omega arith) (omega arith))
+mu_shift e b = same (2 * 2 ^ e % 2 ^ 16) (2 ^ (e + 1)) (all_in mu_shifts 0 8 all_mu_shifts e (omega arith) (omega arith))
 
 -- the middle of an interval as a magnitude and as a sample
 has_middle : Law → ℕ → Bool

@@ -3,3 +3,4 @@ pub mod Intervals
 pub mod Meaning
 pub mod Rows
 pub mod Keeps
+pub mod Least

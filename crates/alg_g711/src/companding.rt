@@ -1,9 +1,18 @@
 //! Companding of one sample.
-ghost use Rattle.std.specs.Prelude.{◌≡◌, ◌≤◌, ◌<◌, ◌+◌, ◌/◌, ◌^◌};
+ghost use Rattle.std.specs.Prelude.{◌≡◌, ◌≤◌, ◌<◌, ◌+◌, ◌*◌, ◌/◌, ◌^◌};
 ghost use Rattle.alg_g711.specs.Companding.{decoded, encoded, interval_of, lower_end, magnitude_of, middle_of, sample_of, step_width, turned};
+ghost use Rattle.alg_g711.specs.Least.{IsLeast};
 ghost use Rattle.alg_g711.specs.declared.companding.Law.TheVariants.{A, Mu};
 
-use crate::{BIAS, EVEN_BITS, FINEST_A_STEP, GREATEST_MAGNITUDE, INTERVALS, SIGN_BIT, STEPS};
+use crate::{
+    BIAS, EVEN_BITS, FINEST_A_STEP, GREATEST_MAGNITUDE, INTERVALS, SEGMENTS, SIGN_BIT, STEPS,
+};
+
+/// How many bits A-law's finest steps leave out of a magnitude.
+const FINEST_A_BITS: u16 = 4;
+
+/// How many bits mu-law's finest steps leave out of a magnitude.
+const FINEST_MU_BITS: u16 = 1;
 
 /// The two laws of G.711, 3.2.
 #[derive(Clone, Copy, PartialEq, Eq, Debug)]
@@ -29,7 +38,7 @@ pub fn encode(law: Law, x: i16) -> u8
 pub fn decode(law: Law, code: u8) -> i16
     ensures { result ≡ decoded law code }
 {
-    let bits = u32::from(code);
+    let bits = u16::from(code);
     let number = turn(law, bits % SIGN_BIT);
     let n = middle_sample(law, number) as i16;
     if bits < SIGN_BIT { -n } else { n }
@@ -38,13 +47,13 @@ pub fn decode(law: Law, code: u8) -> i16
 /// The magnitude of a sample that the law's intervals hold. That of a negative sample is that of -1 - x, so that no sample
 /// has a magnitude of more than 15 bits.
 #[inline]
-fn magnitude(law: Law, x: i16) -> u32
+fn magnitude(law: Law, x: i16) -> u16
     ensures value { result ≡ magnitude_of law x }
     ensures above { lower_end law 0 ≤ result }
     ensures below { result < lower_end law INTERVALS }
 {
     let folded = if x < 0 { !x } else { x };
-    let magnitude = u32::from(folded.cast_unsigned());
+    let magnitude = folded.cast_unsigned();
     match law {
         Law::A => magnitude,
         Law::Mu => (magnitude / 4 + BIAS).min(GREATEST_MAGNITUDE),
@@ -53,7 +62,7 @@ fn magnitude(law: Law, x: i16) -> u32
 
 /// The number of the interval that holds the magnitude.
 #[inline]
-fn interval(law: Law, magnitude: u32) -> u32
+fn interval(law: Law, magnitude: u16) -> u16
     requires above { lower_end law 0 ≤ magnitude }
     requires below { magnitude < lower_end law INTERVALS }
     ensures number { result ≡ interval_of law magnitude }
@@ -65,56 +74,59 @@ fn interval(law: Law, magnitude: u32) -> u32
     }
 }
 
-/// The number of the interval of A-law that holds the magnitude: the five leading bits are a step and a bit that each
-/// segment but the first has. The first is as fine as the second.
+/// The number of the interval of A-law that holds the magnitude. The first segment is as fine as the second.
 #[inline]
-fn a_interval(magnitude: u32) -> u32
+fn a_interval(magnitude: u16) -> u16
     requires { magnitude < 32768 }
     ensures number { result ≡ interval_of A magnitude }
     ensures within { result < INTERVALS }
 {
-    let shift = bits_past_five(magnitude.max(256));
-    STEPS * shift + (magnitude >> shift) - 4 * STEPS
+    least_number(magnitude, FINEST_A_BITS)
 }
 
-/// The number of the interval of mu-law that holds the magnitude, whose five leading bits are a step and a bit that
-/// each segment has.
+/// The number of the interval of mu-law that holds the magnitude. The first steps lie below the bias, and no interval has them.
 #[inline]
-fn mu_interval(magnitude: u32) -> u32
+fn mu_interval(magnitude: u16) -> u16
     requires some { 32 ≤ magnitude }
     requires few { magnitude < 8192 }
     ensures number { result ≡ interval_of Mu magnitude }
     ensures within { result < INTERVALS }
 {
-    let shift = bits_past_five(magnitude);
-    STEPS * shift + (magnitude >> shift) - 2 * STEPS
+    least_number(magnitude, FINEST_MU_BITS) - STEPS
 }
 
-/// How many bits stand below the five leading bits.
+/// The least of the numbers that the segments give: the steps before the segment, and the steps of its width that the magnitude
+/// has. The magnitude's own segment gives the least, since in a finer one it has more steps, and before a coarser one there are more.
+///
+/// No segment is looked for, so the compiler makes the numbers of several samples at once.
 #[inline]
-fn bits_past_five(n: u32) -> u32
-    requires { 2 ^ 4 ≤ n }
-    ensures low { 2 ^ (result + 4) ≤ n }
-    ensures high { n < 2 ^ (result + 5) }
+fn least_number(magnitude: u16, finest: u16) -> u16
+    requires magnitude { magnitude < 32768 }
+    requires bits { finest < 8 }
+    ensures { IsLeast result SEGMENTS (λ segment. STEPS * segment + magnitude / 2 ^ (finest + segment)) }
 {
-    27 - n.leading_zeros()
+    let mut least = magnitude >> finest;
+    for segment in 1..SEGMENTS {
+        least = least.min(STEPS * segment + (magnitude >> (finest + segment)));
+    }
+    least
 }
 
 /// The bits of a number as a code has them, and the other way round.
 #[inline]
-fn turn(law: Law, bits: u32) -> u32
+fn turn(law: Law, bits: u16) -> u16
     requires { bits < INTERVALS }
     ensures bits { result ≡ turned law bits }
     ensures fits { result < INTERVALS }
 {
     match law {
         Law::A => bits ^ EVEN_BITS,
-        Law::Mu => INTERVALS as u32 - 1 - bits,
+        Law::Mu => INTERVALS as u16 - 1 - bits,
     }
 }
 
 /// The magnitude of the sample in the middle of an interval.
-fn middle_sample(law: Law, number: u32) -> u32
+fn middle_sample(law: Law, number: u16) -> u16
     requires { number < INTERVALS }
     ensures value { result ≡ sample_of law (middle_of law number) }
     ensures fits { result < 32768 }
@@ -128,7 +140,7 @@ fn middle_sample(law: Law, number: u32) -> u32
 }
 
 /// How wide the steps of a segment are.
-fn step_width(law: Law, segment: u32) -> u32
+fn step_width(law: Law, segment: u16) -> u16
     requires { segment < 8 }
     ensures width { result ≡ step_width law segment }
     ensures bounded { result ≤ 1024 }
@@ -140,7 +152,7 @@ fn step_width(law: Law, segment: u32) -> u32
 }
 
 /// Where an interval begins whose segment has steps of this width.
-fn lower_end(law: Law, number: u32, width: u32) -> u32
+fn lower_end(law: Law, number: u16, width: u16) -> u16
     requires within { number < INTERVALS }
     requires width { width ≡ step_width law (number / STEPS) }
     ensures { result ≡ lower_end law number }

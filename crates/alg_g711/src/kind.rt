@@ -33,11 +33,11 @@ const SAMPLES: usize = 1;
 pub struct G711;
 
 impl Ialg for G711 {
-    ghost meaning = { g711_meaning };
-
-    ghost idle_keeps = { λ _. Keeps };
-
-    ghost active_keeps = { λ _. Keeps };
+    ghost law = { record {
+      meaning = g711_meaning;
+      idle_keeps = λ _. Keeps;
+      active_keeps = λ _. Keeps;
+    } };
 
     fn alg_num_alloc(&self) -> usize {
         CODER_RECORDS

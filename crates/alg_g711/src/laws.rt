@@ -26,5 +26,5 @@ pub fn codes_come_back()
 /// The law that G.711 coders keep IALG's laws for all parameters, refused ones too, in a host of any poison word and in one of
 /// none.
 pub fn g711_is_lawful()
-    ensures { (kind : G711) (p : List ℤ) (w : Option ℤ) → IsTrue (⟦<G711 as Ialg>⟧.meaning.lawful kind p w) }
+    ensures { (kind : G711) (p : List ℤ) (w : Option ℤ) → IsTrue (⟦<G711 as Ialg>⟧.law.meaning.lawful kind p w) }
 {}

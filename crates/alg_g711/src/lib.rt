@@ -21,22 +21,25 @@ pub const INTERVALS: usize = 128;
 pub const CODES: usize = 256;
 
 /// The bit of a code that is set where the sample isn't negative.
-pub const SIGN_BIT: u32 = 128;
+pub const SIGN_BIT: u16 = 128;
+
+/// The segments of a law, of which each but the first has steps twice as wide as the one before. A-law's second is as fine as the first.
+pub const SEGMENTS: u16 = 8;
 
 /// The steps of a segment.
-pub const STEPS: u32 = 16;
+pub const STEPS: u16 = 16;
 
 /// The width of A-law's finest steps, in samples of 16 bits.
-pub const FINEST_A_STEP: u32 = 16;
+pub const FINEST_A_STEP: u16 = 16;
 
 /// The bias of mu-law's magnitudes (G.711, tables 2a and 2b).
-pub const BIAS: u32 = 33;
+pub const BIAS: u16 = 33;
 
 /// The greatest magnitude of mu-law, with the bias.
-pub const GREATEST_MAGNITUDE: u32 = 8191;
+pub const GREATEST_MAGNITUDE: u16 = 8191;
 
 /// The bits of a number that A-law turns in its code: the even ones.
-pub const EVEN_BITS: u32 = 0x55;
+pub const EVEN_BITS: u16 = 0x55;
 
 /// The kind word of an A-law encoder's object.
 pub const A_ENCODER_KIND: i16 = 5;

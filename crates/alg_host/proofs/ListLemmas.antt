@@ -2,7 +2,7 @@
 use Rattle.std.proofs.Common.{◌≡◌, ℕ, zero, suc, ◌+◌, ◌<◌, ◌≤◌, List, [], ◌∷◌, ◌++◌, length, map, take, refl, sym, ap, ◌∙◌, subst, arith, set, get_or, append-nil, append_assoc}
 use Rattle.std.proofs.lemmas.List.{length-map}
 use Rattle.ialg.specs.Meaning.{Meaning}
-use Rattle.lifecycle.specs.States.{Relation}
+use Rattle.ialg.specs.Laws.{Laws}
 use Rattle.host_spec.specs.State.{State}
 use Rattle.host_spec.specs.Calls.{Call, Leads}
 use Rattle.alg_host.specs.Hosts.{HostState}
@@ -14,16 +14,16 @@ leads_more : {M : Type 0} (kinds : Meaning M) (calls more : List (Call M)) (befo
 leads_more kinds [] more before mid after first then = subst (λ s. Leads kinds s more after) first then
 leads_more kinds (call ∷ calls) more before mid after first then = (first.0, first.1, leads_more kinds calls more first.0 mid after first.2 then)
 
-pub served_more : {M : Type 0} (meaning : Meaning M) (idle_keeps active_keeps : Relation M) (calls more : List (Call M)) (a b c : HostState M)
-    → AreServed meaning idle_keeps active_keeps calls a b → AreServed meaning idle_keeps active_keeps more b c
-    → AreServed meaning idle_keeps active_keeps (calls ++ more) a c
-served_more meaning idle_keeps active_keeps calls more a b c first then before keeps =
+pub served_more : {M : Type 0} (laws : Laws M) (calls more : List (Call M)) (a b c : HostState M)
+    → AreServed laws calls a b → AreServed laws more b c
+    → AreServed laws (calls ++ more) a c
+served_more laws calls more a b c first then before keeps =
     let mid = first before keeps in
     let end = then mid.0 mid.2 in
-    (end.0, leads_more meaning calls more before mid.0 end.0 mid.1 end.1, end.2)
+    (end.0, leads_more laws.meaning calls more before mid.0 end.0 mid.1 end.1, end.2)
 
-pub served_none : {M : Type 0} (meaning : Meaning M) (idle_keeps active_keeps : Relation M) (a : HostState M) → AreServed meaning idle_keeps active_keeps [] a a
-served_none meaning idle_keeps active_keeps a before keeps = (before, refl, keeps)
+pub served_none : {M : Type 0} (laws : Laws M) (a : HostState M) → AreServed laws [] a a
+served_none laws a before keeps = (before, refl, keeps)
 
 -- one request of a list was made
 made_more : {M : Type 0} (requests : List (Request M)) (k : ℕ) (r : Request M) → k < length requests
@@ -55,7 +55,7 @@ take_all (x ∷ xs) zero h = absurd (omega arith)
 take_all (x ∷ xs) (suc n) h = ap (λ ys. x ∷ ys) (take_all xs n (omega arith))
 
 -- the first k of the requests were made
-pub record MadeUpTo {M : Type 0} (meaning : Meaning M) (idle_keeps active_keeps : Relation M) (k : ℕ) (requests requests' : List (Request M)) (host host' : HostState M) : Type 0 where
+pub record MadeUpTo {M : Type 0} (laws : Laws M) (k : ℕ) (requests requests' : List (Request M)) (host host' : HostState M) : Type 0 where
   pub same : map asked requests' ≡ map asked requests
   pub count : length requests' ≡ length requests
-  pub served : AreServed meaning idle_keeps active_keeps (all_made (take k requests')) host host'
+  pub served : AreServed laws (all_made (take k requests')) host host'

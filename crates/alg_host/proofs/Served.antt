@@ -5,30 +5,28 @@ use Rattle.mem_rec.specs.declared.Space.{Space}
 use Rattle.ialg.specs.declared.refusal.Refusal.{Refusal}
 use Rattle.ialg.specs.History.{Ctl}
 use Rattle.ialg.specs.Meaning.{Meaning}
-use Rattle.scratch_group.specs.declared.group.Group.{Group}
-use Rattle.lifecycle.specs.States.{Relation}
-use Rattle.host_table.specs.declared.member.Member.{Member}
-use Rattle.host_shared.specs.declared.shelves.Shelf.{Shelf}
+use Rattle.ialg.specs.Laws.{Laws}
 use Rattle.host_map.specs.declared.placed.Placed.{Placed}
 use Rattle.host_map.specs.Moves.{next_block}
 use Rattle.host_spaces.specs.declared.spaces.Spaces.{Spaces}
-use Rattle.host_map.specs.Picture.{Picture, blocks_in}
-use Rattle.host_map.specs.Creation.{created_picture}
-use Rattle.host_spec.specs.State.{Living, State, twins_of}
+use Rattle.host_map.specs.MemoryMap.{MemoryMap, blocks_in}
+use Rattle.host_map.specs.Creation.{created_map}
+use Rattle.host_spec.specs.State.{Living, State, sharers_of}
 use Rattle.host_spec.specs.Steps.{Outcome, unless, control_refusal, controlled, given, processed, release, group_refusal, step, moving, delete, instance_refusal, without_instance, create_refusal, newborn, with_memory, with_room}
 use Rattle.host_spec.specs.Calls.{Controls, Creates}
-use Rattle.host_refines.specs.Kept.{TablesKeep}
-use Rattle.host_refines.specs.Hosts.{HostKeeps}
+use Rattle.host_refines.specs.Kept.{KeepsState}
+use Rattle.host_refines.specs.Hosts.{Refines}
+use Rattle.host_table.specs.View.{View}
 
--- the same picture in the same spaces
+-- the same memory map in the same spaces
 pub record SamePlaces {M : Type 0} (before after : State M) : Type 0 where
-  pub picture : after.picture ≡ before.picture
+  pub map : after.map ≡ before.map
   pub sizes : after.sizes ≡ before.sizes
   pub copied : after.copied ≡ before.copied
   pub poison : after.poison ≡ before.poison
 
 itself : {M : Type 0} (s : State M) → SamePlaces s s
-itself s = record { picture = refl; sizes = refl; copied = refl; poison = refl }
+itself s = record { map = refl; sizes = refl; copied = refl; poison = refl }
 
 refused_or : {M A : Type 0} (before : State M) (r : Option Refusal) (o : Outcome M A) → SamePlaces before o.1 → SamePlaces before (unless r before o).1
 refused_or before None o same = same
@@ -37,14 +35,14 @@ refused_or before (Some r) o same = itself before
 given_stays : {M : Type 0} (before : State M) (i : ℕ) (x : Option (Living M)) (block : List ℤ) → SamePlaces before (given before i x block)
 given_stays before i None block = itself before
 given_stays before i (Some x) [] = itself before
-given_stays before i (Some x) (s ∷ block) = record { picture = refl; sizes = refl; copied = refl; poison = refl }
+given_stays before i (Some x) (s ∷ block) = record { map = refl; sizes = refl; copied = refl; poison = refl }
 
 pub processed_stays : {M : Type 0} (before : State M) (i : ℕ) (block : List ℤ) → SamePlaces before (processed before i block)
 processed_stays before i block = given_stays before i (before.living i) block
 
 controlled_stays : {M : Type 0} (before : State M) (i : ℕ) (x : Option (Living M)) (c : Ctl) → SamePlaces before (controlled before i x c)
 controlled_stays before i None c = itself before
-controlled_stays before i (Some x) c = record { picture = refl; sizes = refl; copied = refl; poison = refl }
+controlled_stays before i (Some x) c = record { map = refl; sizes = refl; copied = refl; poison = refl }
 
 pub controls_stay : {M : Type 0} (meaning : Meaning M) (before after : State M) (i : ℕ) (c : Ctl) (answer : _) → Controls meaning before i c answer after → SamePlaces before after
 controls_stay meaning before after i c answer did =
@@ -52,22 +50,21 @@ controls_stay meaning before after i c answer did =
     (refused_or before (control_refusal before i did.taken) (Ok did.status, controlled before i (before.living i) c) (controlled_stays before i (before.living i) c))
 
 pub release_stays : {M : Type 0} (before : State M) (g : ℕ) → SamePlaces before (release before g).1
-release_stays before g = refused_or before (group_refusal before g) _ (record { picture = refl; sizes = refl; copied = refl; poison = refl })
+release_stays before g = refused_or before (group_refusal before g) _ (record { map = refl; sizes = refl; copied = refl; poison = refl })
 
 moving_poison : {M : Type 0} (before : State M) (space : Space) (b : Option Placed) → (moving before space b).1.poison ≡ before.poison
 moving_poison before space None = refl
 moving_poison before space (Some b) = refl
 
 pub step_poison : {M : Type 0} (before : State M) (space : Space) → (step before space).1.poison ≡ before.poison
-step_poison before space = moving_poison before space (next_block (blocks_in before.picture space))
+step_poison before space = moving_poison before space (next_block (blocks_in before.map space))
 
 -- the tables keep what comes after, and the spaces are as they were
-pub still_kept : {M : Type 0} (meaning : Meaning M) (idle_keeps active_keeps : Relation M) (slots slots' : List (Option (Member M))) (once once' : List Shelf)
-    (groups groups' : List Group) (spaces : Spaces) (before after : State M) → HostKeeps meaning idle_keeps active_keeps slots once groups spaces before
-    → SamePlaces before after → TablesKeep meaning idle_keeps active_keeps slots' once' groups' after → HostKeeps meaning idle_keeps active_keeps slots' once' groups' spaces after
-still_kept meaning idle_keeps active_keeps slots slots' once once' groups groups' spaces before after kept same tables = record {
+pub still_kept : {M : Type 0} (laws : Laws M) (old new : View M) (spaces : Spaces) (before after : State M) → Refines laws old spaces before
+    → SamePlaces before after → KeepsState laws new after → Refines laws new spaces after
+still_kept laws old new spaces before after kept same tables = record {
   tables = tables;
-  picture = kept.picture ∙ sym same.picture;
+  map = kept.map ∙ sym same.map;
   sizes = kept.sizes ∙ sym same.sizes;
   copied = kept.copied ∙ sym same.copied;
 }
@@ -92,15 +89,15 @@ on_refusal (Err e) P Q imp is = imp is
 
 -- ---- creations
 
-with_room_poison : {M : Type 0} (before : State M) (i : ℕ) (x : Living M) (table : List MemRec) (r : Result Picture Space) → (with_room before i x table r).1.poison ≡ before.poison
-with_room_poison before i x table (Ok picture) = refl
+with_room_poison : {M : Type 0} (before : State M) (i : ℕ) (x : Living M) (table : List MemRec) (r : Result MemoryMap Space) → (with_room before i x table r).1.poison ≡ before.poison
+with_room_poison before i x table (Ok map) = refl
 with_room_poison before i x table (Err space) = refl
 
 with_memory_poison : {M : Type 0} (kinds : Meaning M) (before : State M) (i : ℕ) (kind : M) (g : ℕ) (p : List ℤ) (table : Option (List MemRec))
     → (with_memory kinds before i kind g p table).1.poison ≡ before.poison
 with_memory_poison kinds before i kind g p None = refl
 with_memory_poison kinds before i kind g p (Some table) =
-    let x = newborn kind g p table in with_room_poison before i x table (created_picture before.sizes before.picture i g table (twins_of kinds before.living x))
+    let x = newborn kind g p table in with_room_poison before i x table (created_map before.sizes before.map i g table (sharers_of kinds before.living x))
 
 pub creates_poison : {M : Type 0} (meaning : Meaning M) (before after : State M) (i : ℕ) (kind : M) (g : ℕ) (p : List ℤ) (answer : Result (Unit {0}) Refusal)
     → Creates meaning before i kind g p answer after → after.poison ≡ before.poison

@@ -4,7 +4,7 @@ use Rattle.std.specs.List.{flat_map}
 use Rattle.ialg.specs.Views.{control_of}
 use Rattle.ialg.specs.declared.refusal.Refusal.TheVariants.{Range}
 use Rattle.ialg.specs.Meaning.{Meaning}
-use Rattle.lifecycle.specs.States.{Relation}
+use Rattle.ialg.specs.Laws.{Laws}
 use Rattle.host_refines.specs.Kept.{told}
 use Rattle.host_spec.specs.State.{State, Living}
 use Rattle.host_spec.specs.Choices.{IsLawful}
@@ -45,15 +45,15 @@ asked (Step space answer) = Step space false
 asked (Compact space answer) = Compact space 0
 
 -- from every state that the host kept, the calls lead to one that it keeps
-abbrev pub AreServed : {M : Type 0} → Meaning M → Relation M → Relation M → List (Call M) → HostState M → HostState M → Type 0
-AreServed {M} meaning idle_keeps active_keeps calls old new = (before : State M) → Keeps meaning idle_keeps active_keeps old before
-    → (after : State M) × Leads meaning before calls after × Keeps meaning idle_keeps active_keeps new after
+abbrev pub AreServed : {M : Type 0} → Laws M → List (Call M) → HostState M → HostState M → Type 0
+AreServed {M} laws calls old new = (before : State M) → Keeps laws old before
+    → (after : State M) × Leads laws.meaning before calls after × Keeps laws new after
 
 -- each lawful instance that lived before, and wasn't deleted, gave the outputs of its history, and answered by it
-abbrev pub EachGrows : {M : Type 0} → Meaning M → Relation M → Relation M → List (Call M) → HostState M → Type 0
-EachGrows {M} meaning idle_keeps active_keeps calls old = (before : State M) → Keeps meaning idle_keeps active_keeps old before
-    → (i : ℕ) (x : Living M) → before.living i ≡ Some x → IsLawful meaning before.poison x → AllSpare i calls
-    → Grows meaning x (history_of_run i x.history calls) (outputs_in i calls) (statuses_in i calls)
+abbrev pub EachGrows : {M : Type 0} → Laws M → List (Call M) → HostState M → Type 0
+EachGrows {M} laws calls old = (before : State M) → Keeps laws old before
+    → (i : ℕ) (x : Living M) → before.living i ≡ Some x → IsLawful laws.meaning before.poison x → AllSpare i calls
+    → Grows laws.meaning x (history_of_run i x.history calls) (outputs_in i calls) (statuses_in i calls)
 
 -- number i is the instance x, lawful, and these calls don't delete it
 pub record LivesThrough {M : Type 0} (meaning : Meaning M) (calls : List (Call M)) (before : State M) (i : ℕ) (x : Living M) : Type 0 where
@@ -69,8 +69,8 @@ pub record AreGivenTheSame {M : Type 0} (i j : ℕ) (x y : Living M) (calls othe
   pub after : history_of_run i x.history calls ≡ history_of_run j y.history others
 
 -- of two hosts: instances that were given the same, one in each, gave and answered the same
-abbrev pub LivesAgree : {M : Type 0} → Meaning M → Relation M → Relation M → List (Call M) → List (Call M) → HostState M → HostState M → Type 0
-LivesAgree {M} meaning idle_keeps active_keeps calls others one other = (one_before other_before : State M)
-    → Keeps meaning idle_keeps active_keeps one one_before → Keeps meaning idle_keeps active_keeps other other_before
-    → (i j : ℕ) (x y : Living M) → LivesThrough meaning calls one_before i x → LivesThrough meaning others other_before j y
+abbrev pub LivesAgree : {M : Type 0} → Laws M → List (Call M) → List (Call M) → HostState M → HostState M → Type 0
+LivesAgree {M} laws calls others one other = (one_before other_before : State M)
+    → Keeps laws one one_before → Keeps laws other other_before
+    → (i j : ℕ) (x y : Living M) → LivesThrough laws.meaning calls one_before i x → LivesThrough laws.meaning others other_before j y
     → AreGivenTheSame i j x y calls others → (outputs_in i calls ≡ outputs_in j others) × (statuses_in i calls ≡ statuses_in j others)

@@ -6,7 +6,6 @@ ghost use Rattle.host_refines.specs.Kept.{told};
 ghost use Rattle.alg_host.specs.Hosts.{lives, Serves};
 
 use crate::Host;
-use host_moves::places_stay;
 use host_refines::{give_block, give_control};
 use ialg::{BLOCK_SAMPLES, Block, Ctl, Ialg, Refusal, Status};
 
@@ -14,7 +13,7 @@ impl<M: Ialg> Host<M> {
     /// Whether an instance lives under the number.
     pub fn living(&self, i: u8) -> bool
         ensures value { result ≡ lives self.now i }
-        ensures machine { Serves M.meaning M.idle_keeps M.active_keeps (Lives i result) self.now self.now }
+        ensures machine { Serves M.law (Lives i result) self.now self.now }
     {
         self.tables.lives(i)
     }
@@ -27,9 +26,8 @@ impl<M: Ialg> Host<M> {
     /// control. A refused control changes nothing.
     pub fn control(&mut self, i: u8, c: &Ctl) -> Result<Status, Refusal>
         ensures refused { OnErr result (self.new ≡ self.old) }
-        ensures machine { Serves M.meaning M.idle_keeps M.active_keeps (Control i (control_of c.now) (told result)) self.old self.new }
+        ensures machine { Serves M.law (Control i (control_of c.now) (told result)) self.old self.new }
     {
-        places_stay::<M>();
         give_control(&mut self.tables, self.poison, i, c)
     }
 
@@ -41,9 +39,8 @@ impl<M: Ialg> Host<M> {
         requires some { 1 ≤ length input.now }
         requires within { length input.now ≤ BLOCK_SAMPLES }
         ensures bounded { length out.new.items ≤ length input.now }
-        ensures machine { Serves M.meaning M.idle_keeps M.active_keeps (Process i input.now out.new.items) self.old self.new }
+        ensures machine { Serves M.law (Process i input.now out.new.items) self.old self.new }
     {
-        places_stay::<M>();
         give_block(&mut self.tables, self.poison, i, input, out);
     }
 }

@@ -17,7 +17,7 @@ impl<M: Ialg> Host<M> {
     /// and `Room` with the space of the first record or block that has no place. Nothing has happened then.
     pub fn create(&mut self, i: u8, kind: M, group: u8, p: &Params) -> Result<(), Refusal>
         ensures refused { OnErr result (self.new ≡ self.old) }
-        ensures machine { Serves M.meaning M.idle_keeps M.active_keeps (Create i kind group p.now.items result) self.old self.new }
+        ensures machine { Serves M.law (Create i kind group p.now.items result) self.old self.new }
     {
         host_create::create(
             &mut self.tables,

@@ -1,14 +1,13 @@
 //! Groups: their active member, and how often one was activated.
 ghost use Rattle.std.specs.Prelude.{◌≡◌, OnErr};
 ghost use Rattle.host_spec.specs.Calls.Call.{Release, Stat as StatCall};
-ghost use Rattle.alg_host.specs.Hosts.{Serves, stat_told};
+ghost use Rattle.host_refines.specs.Kept.{stat_told};
+ghost use Rattle.alg_host.specs.Hosts.{Serves};
 
 use crate::Host;
 use host_map::Stat;
-use host_moves::places_stay;
-use host_refines::put_to_rest;
+use host_refines::deactivate_group;
 use ialg::{Ialg, Refusal};
-use mem_rec::GROUPS;
 
 impl<M: Ialg> Host<M> {
     /// Deactivates the active member of the group, and says whether there was one. The count of activations stays.
@@ -18,10 +17,9 @@ impl<M: Ialg> Host<M> {
     /// `Range` where the number is past the last group's. Nothing has happened then.
     pub fn release(&mut self, group: u8) -> Result<bool, Refusal>
         ensures refused { OnErr result (self.new ≡ self.old) }
-        ensures machine { Serves M.meaning M.idle_keeps M.active_keeps (Release group result) self.old self.new }
+        ensures machine { Serves M.law (Release group result) self.old self.new }
     {
-        places_stay::<M>();
-        put_to_rest(&mut self.tables, self.poison, group)
+        deactivate_group(&mut self.tables, self.poison, group)
     }
 
     /// The active member of the group and its count of activations.
@@ -30,16 +28,8 @@ impl<M: Ialg> Host<M> {
     ///
     /// `Range` where the number is past the last group's.
     pub fn stat(&self, group: u8) -> Result<Stat, Refusal>
-        ensures machine { Serves M.meaning M.idle_keeps M.active_keeps (StatCall group (stat_told result)) self.now self.now }
+        ensures machine { Serves M.law (StatCall group (stat_told result)) self.now self.now }
     {
-        if group >= GROUPS {
-            return Err(Refusal::Range);
-        }
-        let tables = &self.tables;
-        let group = &tables.groups[group as usize];
-        Ok(Stat {
-            active: group.active(),
-            activations: group.activations(),
-        })
+        host_refines::stat(&self.tables, group)
     }
 }

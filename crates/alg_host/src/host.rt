@@ -1,21 +1,20 @@
 //! The host: how it is made.
 ghost use Rattle.std.specs.Prelude.{◌≡◌, ℕ, false, IfOk, IfErr, IsErrOf};
-ghost use Rattle.host_map.specs.Picture.{AreSizes};
+ghost use Rattle.host_map.specs.MemoryMap.{AreSizes};
 ghost use Rattle.host_spec.specs.State.{new_state};
 ghost use Rattle.alg_host.specs.Hosts.{Keeps, lives};
 
-use crate::memory::{HostMemory, Tables};
-use host_life::in_order;
+use host_create::HostMemory;
 use host_map::Sizes;
-use host_moves::nobody_stands;
 use host_spaces::{Spaces, StartError};
+use host_table::Tables;
 use ialg::Ialg;
 use std::alloc::Global;
 use std::marker::Model;
 
 /// A host of instances of the kinds `M`. It can't be copied, and must be given back by [`close`](Host::close).
 pub struct Host<M> {
-    pub(crate) tables: host_table::Tables<M>,
+    pub(crate) tables: Tables<M>,
     pub(crate) spaces: Spaces,
     pub(crate) poison: Option<i16>,
 }
@@ -25,9 +24,9 @@ impl<M> Model for Host<M> {
 
     ghost Value = { HostState M };
 
-    ghost view = { λ h. record { slots = h.tables.slots; once = h.tables.once; groups = h.tables.groups; spaces = h.spaces; poison = h.poison } };
+    ghost view = { λ h. record { tables = h.tables; spaces = h.spaces; poison = h.poison } };
 
-    ghost invariant = { λ h. IsHost (record { slots = h.tables.slots; once = h.tables.once; groups = h.tables.groups; spaces = h.spaces; poison = h.poison }) };
+    ghost invariant = { λ h. IsHost (record { tables = h.tables; spaces = h.spaces; poison = h.poison }) };
 }
 
 impl<M: Ialg> Host<M> {
@@ -42,7 +41,7 @@ impl<M: Ialg> Host<M> {
         ensures bad_size { ¬ AreSizes sizes → IsErrOf result StartError.BadSize }
         ensures memory { AreSizes sizes → IfErr result (λ e. e ≡ StartError.Memory) }
         ensures empty { IfOk result (λ h. (i : ℕ) → lives h i ≡ false) }
-        ensures host { IfOk result (λ h. Keeps M.meaning M.idle_keeps M.active_keeps h (new_state sizes poison)) }
+        ensures host { IfOk result (λ h. Keeps M.law h (new_state sizes poison)) }
     {
         let memory = HostMemory::new(alloc, sizes)?;
         Ok(Host::in_memory(memory, poison))
@@ -52,22 +51,9 @@ impl<M: Ialg> Host<M> {
     /// and a group's blocks hold it wherever no member is active.
     pub fn in_memory(memory: HostMemory<M>, poison: Option<i16>) -> Host<M>
         ensures empty { (i : ℕ) → lives result i ≡ false }
-        ensures host { Keeps M.meaning M.idle_keeps M.active_keeps result (new_state memory.spaces.sizes poison) }
+        ensures host { Keeps M.law result (new_state memory.spaces.sizes poison) }
     {
-        let HostMemory { spaces, tables } = memory;
-        let Tables {
-            slots,
-            once,
-            groups,
-        } = tables;
-        let spaces = Spaces::of(spaces);
-        in_order(&slots, &once, &groups);
-        nobody_stands::<M>();
-        let tables = host_table::Tables {
-            slots,
-            once,
-            groups,
-        };
+        let (tables, spaces) = memory.open();
         Host {
             tables,
             spaces,

@@ -12,13 +12,12 @@ mod deletion;
 mod groups;
 mod host;
 mod lists;
-mod memory;
 mod moves;
 mod request;
 
 pub use host::Host;
+pub use host_create::HostMemory;
 pub use host_map::{Map, Owner, Placed, Sizes, Stat};
 pub use host_spaces::StartError;
 pub use lists::{make, make_all, make_both};
-pub use memory::HostMemory;
 pub use request::Request;

@@ -44,7 +44,7 @@ module _ {M : Type 0} (kinds : Meaning M) (i : ℕ) (c : Ctl) where
       refl,
       record {
         living = ap (λ living. with_living living i (Some (record x { history = history.Control c ∷ x.history }))) alike.living;
-        picture = alike.picture;
+        map = alike.map;
         sizes = alike.sizes;
         poison = alike.poison;
         copied = alike.copied;
@@ -71,7 +71,7 @@ module _ {M : Type 0} (kinds : Meaning M) (i : ℕ) (c : Ctl) where
           now.0,
           record {
             living = now.1.living;
-            picture = now.1.picture;
+            map = now.1.map;
             sizes = now.1.sizes;
             poison = now.1.poison;
             copied = now.1.copied;

@@ -20,7 +20,7 @@ use Rattle.channel_spec.proofs.TurnLemmas.{turned, GroupsApart, turns, turns_of_
 
 -- what else than instances and activities a host has
 pub record SameRoom {M : Type 0} (before after : State M) : Type 0 where
-  pub picture : after.picture ≡ before.picture
+  pub map : after.map ≡ before.map
   pub sizes : after.sizes ≡ before.sizes
   pub poison : after.poison ≡ before.poison
   pub copied : after.copied ≡ before.copied
@@ -28,11 +28,11 @@ pub record SameRoom {M : Type 0} (before after : State M) : Type 0 where
 module _ {M : Type 0} where
   same : (before after : State M) → after ≡ before → SameRoom before after
   same before after e =
-      record { picture = ap (λ s. s.picture) e; sizes = ap (λ s. s.sizes) e; poison = ap (λ s. s.poison) e; copied = ap (λ s. s.copied) e }
+      record { map = ap (λ s. s.map) e; sizes = ap (λ s. s.sizes) e; poison = ap (λ s. s.poison) e; copied = ap (λ s. s.copied) e }
 
   and_then : (before between after : State M) → SameRoom before between → SameRoom between after → SameRoom before after
   and_then before between after first second = record {
-    picture = second.picture ∙ first.picture;
+    map = second.map ∙ first.map;
     sizes = second.sizes ∙ first.sizes;
     poison = second.poison ∙ first.poison;
     copied = second.copied ∙ first.copied;
@@ -41,7 +41,7 @@ module _ {M : Type 0} where
   module _ (before : State M) (i : ℕ) (s : ℤ) (block : List ℤ) where
     given_room : (x : Option (Living M)) → SameRoom before (given before i x (s ∷ block))
     given_room None = same before before refl
-    given_room (Some x) = record { picture = refl; sizes = refl; poison = refl; copied = refl }
+    given_room (Some x) = record { map = refl; sizes = refl; poison = refl; copied = refl }
 
 module _ {M : Type 0} (kinds : Meaning M) where
   -- ---- one member
@@ -185,7 +185,7 @@ module _ {M : Type 0} (kinds : Meaning M) where
   -- ---- two cuttings
 
   pub alike_itself : (channels : Channels M) → AreAlike channels channels
-  alike_itself channels = record { living = refl; picture = refl; sizes = refl; poison = refl; copied = refl; chained = refl }
+  alike_itself channels = record { living = refl; map = refl; sizes = refl; poison = refl; copied = refl; chained = refl }
 
   module _ (one one_after other other_after : Channels M) (c : ℕ) where
     abbrev members : List ℕ
@@ -209,7 +209,7 @@ module _ {M : Type 0} (kinds : Meaning M) where
           ap (λ r. r.0) sound,
           record {
             living = ap (λ r. r.1) sound;
-            picture = flows.0.room.picture ∙ alike.picture ∙ sym others.0.room.picture;
+            map = flows.0.room.map ∙ alike.map ∙ sym others.0.room.map;
             sizes = flows.0.room.sizes ∙ alike.sizes ∙ sym others.0.room.sizes;
             poison = flows.0.room.poison ∙ alike.poison ∙ sym others.0.room.poison;
             copied = flows.0.room.copied ∙ alike.copied ∙ sym others.0.room.copied;

@@ -7,9 +7,9 @@ use Rattle.ialg.specs.History.{Ctl}
 use Rattle.ialg.specs.Meaning.{Meaning}
 use Rattle.host_map.specs.declared.placed.Placed.{Placed}
 use Rattle.host_map.specs.Moves.{next_block}
-use Rattle.host_map.specs.Picture.{Picture, blocks_in}
-use Rattle.host_map.specs.Creation.{created_picture}
-use Rattle.host_spec.specs.State.{Living, State, twins_of, with_living}
+use Rattle.host_map.specs.MemoryMap.{MemoryMap, blocks_in}
+use Rattle.host_map.specs.Creation.{created_map}
+use Rattle.host_spec.specs.State.{Living, State, sharers_of, with_living}
 use Rattle.host_spec.specs.Steps.{newborn, with_room, with_memory, controlled, given, moving}
 use Rattle.host_spec.specs.Calls as host_calls
 use Rattle.host_spec.specs.Calls.{Processes}
@@ -30,14 +30,14 @@ module _ {M : Type 0} (before : State M) (i : ℕ) where
   with_one : (x : Living M) (j : ℕ) → lives before j ≡ true → is_some (with_living before.living i (Some x) j) ≡ true
   with_one x j e = if_some (nat_eq j i) (Some x) (before.living j) refl e
 
-  room_live : (x : Living M) (table : List MemRec) (placed : Result Picture Space) → StillLive before (with_room before i x table placed).1
+  room_live : (x : Living M) (table : List MemRec) (placed : Result MemoryMap Space) → StillLive before (with_room before i x table placed).1
   room_live x table (Err space) = λ j e. e
-  room_live x table (Ok picture) = with_one x
+  room_live x table (Ok map) = with_one x
 
   memory_live : (kinds : Meaning M) (kind : M) (g : ℕ) (p : List ℤ) (table : Option (List MemRec)) → StillLive before (with_memory kinds before i kind g p table).1
   memory_live kinds kind g p None = λ j e. e
   memory_live kinds kind g p (Some table) =
-      let x = newborn kind g p table in room_live x table (created_picture before.sizes before.picture i g table (twins_of kinds before.living x))
+      let x = newborn kind g p table in room_live x table (created_map before.sizes before.map i g table (sharers_of kinds before.living x))
 
   controlled_live : (x : Option (Living M)) (c : Ctl) → StillLive before (controlled before i x c)
   controlled_live None c = λ j e. e
@@ -66,7 +66,7 @@ module _ {M : Type 0} (kinds : Meaning M) where
   passed_on_live before after (Release g answer) on does =
       after_is (StillLive before) answer after _ does (unless_holds (StillLive before) before _ _ (λ j e. e) (λ j e. e))
   passed_on_live before after (Step space answer) on does =
-      after_is (StillLive before) answer after _ does (moving_live before space (next_block (blocks_in before.picture space)))
+      after_is (StillLive before) answer after _ does (moving_live before space (next_block (blocks_in before.map space)))
   passed_on_live before after (Compact space answer) on does = after_is (StillLive before) answer after _ does (λ j e. e)
   passed_on_live before after (Stat g answer) on does =
       after_is (StillLive before) answer after _ does (unless_holds (StillLive before) before _ _ (λ j e. e) (λ j e. e))

@@ -7,9 +7,9 @@ use Rattle.ialg.specs.History.{Ctl}
 use Rattle.ialg.specs.Meaning.{Meaning, Status}
 use Rattle.host_map.specs.declared.placed.Placed.{Placed}
 use Rattle.host_map.specs.Moves.{next_block}
-use Rattle.host_map.specs.Picture.{Picture, blocks_in}
-use Rattle.host_map.specs.Creation.{created_picture}
-use Rattle.host_spec.specs.State.{Living, State, twins_of}
+use Rattle.host_map.specs.MemoryMap.{MemoryMap, blocks_in}
+use Rattle.host_map.specs.Creation.{created_map}
+use Rattle.host_spec.specs.State.{Living, State, sharers_of}
 use Rattle.host_spec.specs.Steps as steps
 use Rattle.host_spec.specs.Steps.{unless, newborn, with_room, with_memory, create_refusal, controlled, control_refusal, given, processed, without_instance, instance_refusal, group_refusal, moving}
 use Rattle.host_spec.specs.Calls as host_calls
@@ -38,15 +38,15 @@ module _ {M : Type 0} (poison : Option ℤ) where
     unless_same None new old e = e
     unless_same (Some refusal) new old e = refl
 
-    room_same : (i : ℕ) (x : Living M) (table : List MemRec) (placed : Result Picture Space) → Same (with_room (of before) i x table placed) (with_room before i x table placed)
+    room_same : (i : ℕ) (x : Living M) (table : List MemRec) (placed : Result MemoryMap Space) → Same (with_room (of before) i x table placed) (with_room before i x table placed)
     room_same i x table (Err space) = refl
-    room_same i x table (Ok picture) = refl
+    room_same i x table (Ok map) = refl
 
     memory_same : (kinds : Meaning M) (i : ℕ) (kind : M) (g : ℕ) (p : List ℤ) (table : Option (List MemRec))
         → Same (with_memory kinds (of before) i kind g p table) (with_memory kinds before i kind g p table)
     memory_same kinds i kind g p None = refl
     memory_same kinds i kind g p (Some table) =
-        let x = newborn kind g p table in room_same i x table (created_picture before.sizes before.picture i g table (twins_of kinds before.living x))
+        let x = newborn kind g p table in room_same i x table (created_map before.sizes before.map i g table (sharers_of kinds before.living x))
 
     controlled_same : (i : ℕ) (x : Option (Living M)) (c : Ctl) → controlled (of before) i x c ≡ of (controlled before i x c)
     controlled_same i None c = refl
@@ -96,7 +96,7 @@ module _ {M : Type 0} (poison : Option ℤ) where
           answer_same (Process i block (output_at kinds (before.living i) block)) (processed (of before) i block) (processed before i block) (given_same i (before.living i) block)
       host_same (Delete i a) = call_same (λ o. Delete i o) _ (steps.delete kinds before i) (delete_same kinds i)
       host_same (Release g a) = call_same (λ o. Release g o) _ (steps.release before g) (unless_same (group_refusal before g) _ _ refl)
-      host_same (Step space a) = call_same (λ o. Step space o) _ (steps.step before space) (moving_same space (next_block (blocks_in before.picture space)))
+      host_same (Step space a) = call_same (λ o. Step space o) _ (steps.step before space) (moving_same space (next_block (blocks_in before.map space)))
       host_same (Compact space a) = refl
       host_same (Stat g a) = call_same (λ o. Stat g o) _ (steps.stat before g) (unless_same (group_refusal before g) _ _ refl)
       host_same (Map space a) = refl

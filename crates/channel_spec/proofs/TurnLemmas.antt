@@ -4,7 +4,7 @@ use Rattle.std.proofs.lemmas.Bool.{eq-eqb}
 use Rattle.std.proofs.lemmas.Bool.Decides.{eqb_tells}
 use Rattle.relocate.proofs.RangeTests.{either, both_false, true_or_false, clash, left_true, right_true}
 use Rattle.ialg.specs.Meaning.{Meaning}
-use Rattle.host_map.specs.Activity.{Activity, is_active, touched, with_activity}
+use Rattle.host_map.specs.Activity.{Activity, is_active, activated, with_activity}
 use Rattle.host_spec.specs.State.{Living, with_living, is_of_group}
 use Rattle.host_spec.specs.Answers.{output_at}
 use Rattle.channel_spec.specs.Channels.{has_number, has_repeat}
@@ -18,20 +18,20 @@ Turns = ℕ → Activity
 abbrev pub turned : {M : Type 0} → Turns → ℕ → Option (Living M) → List ℤ → Turns
 turned all i None block = all
 turned all i (Some x) [] = all
-turned all i (Some x) (s ∷ block) = with_activity all x.group (touched i (all x.group))
+turned all i (Some x) (s ∷ block) = with_activity all x.group (activated i (all x.group))
 
 -- ---- one instance
 
-touched_by_test : (i : ℕ) (a : Activity) (b : Bool) → is_active a.active i ≡ b → touched i (touched i a) ≡ touched i a
+touched_by_test : (i : ℕ) (a : Activity) (b : Bool) → is_active a.active i ≡ b → activated i (activated i a) ≡ activated i a
 touched_by_test i a true e =
-    let stays : touched i a ≡ a = rw e refl in
-    ap (touched i) stays
-touched_by_test i a false e = either (true_or_false (is_active (touched i a).active i)) (λ t. rw t refl) (λ f. clash (is_active (touched i a).active i) (its i a e) f)
+    let stays : activated i a ≡ a = rw e refl in
+    ap (activated i) stays
+touched_by_test i a false e = either (true_or_false (is_active (activated i a).active i)) (λ t. rw t refl) (λ f. clash (is_active (activated i a).active i) (its i a e) f)
   where
-    its : (i : ℕ) (a : Activity) → is_active a.active i ≡ false → is_active (touched i a).active i ≡ true
+    its : (i : ℕ) (a : Activity) → is_active a.active i ≡ false → is_active (activated i a).active i ≡ true
     its i a e = rw e (eq-eqb i i refl)
 
-touched_again : (i : ℕ) (a : Activity) → touched i (touched i a) ≡ touched i a
+touched_again : (i : ℕ) (a : Activity) → activated i (activated i a) ≡ activated i a
 touched_again i a = touched_by_test i a (is_active a.active i) refl
 
 turned_by_two : {M : Type 0} (all : Turns) (i : ℕ) (x : Option (Living M)) (xs ys : List ℤ) → turned all i x (xs ++ ys) ≡ turned (turned all i x xs) i (grown x xs) ys
@@ -39,9 +39,9 @@ turned_by_two all i None xs ys = refl
 turned_by_two all i (Some x) [] ys = refl
 turned_by_two all i (Some x) (s ∷ xs) [] = refl
 turned_by_two all i (Some x) (s ∷ xs) (t ∷ ys) =
-    let a = touched i (all x.group) in
-    sym (again all x.group a (touched i (with_value all x.group a x.group))
-    ∙ ap (λ v. with_value all x.group v) (ap (touched i) (there all x.group a) ∙ touched_again i (all x.group)))
+    let a = activated i (all x.group) in
+    sym (again all x.group a (activated i (with_value all x.group a x.group))
+    ∙ ap (λ v. with_value all x.group v) (ap (activated i) (there all x.group a) ∙ touched_again i (all x.group)))
 
 turned_by_none : {M : Type 0} (all : Turns) (i : ℕ) (x : Option (Living M)) → turned all i x [] ≡ all
 turned_by_none all i None = refl
@@ -109,8 +109,8 @@ module _ {M : Type 0} (kinds : Meaning M) where
   turned_apart all g w k (Some x) [] e = refl
   turned_apart all g w k (Some x) (s ∷ block) e =
       let apart : x.group ≢ g = not_number kinds g x.group e in
-      ap (λ a. with_value (with_value all g w) x.group (touched k a)) (elsewhere all g w x.group apart)
-      ∙ swapped all g x.group (λ same. apart (sym same)) w (touched k (all x.group))
+      ap (λ a. with_value (with_value all g w) x.group (activated k a)) (elsewhere all g w x.group apart)
+      ∙ swapped all g x.group (λ same. apart (sym same)) w (activated k (all x.group))
 
   other_group : (is : List ℕ) (living : Instances M) (all : Turns) (g : ℕ) (w : Activity) (block : List ℤ) → NoneOf living is g
       → turns living (with_activity all g w) is block ≡ with_activity (turns living all is block) g w
@@ -134,8 +134,8 @@ module _ {M : Type 0} (kinds : Meaning M) where
   turn_later is living all i (Some y) [] block none = refl
   turn_later is living all i (Some y) (s ∷ its) block none =
       let apart : NoneOf living is y.group = none y.group (eq-eqb y.group y.group refl) in
-      other_group is living all y.group (touched i (all y.group)) block apart
-      ∙ ap (λ a. with_activity (turns living all is block) y.group (touched i a)) (sym (turn_stays is living all y.group block apart))
+      other_group is living all y.group (activated i (all y.group)) block apart
+      ∙ ap (λ a. with_activity (turns living all is block) y.group (activated i a)) (sym (turn_stays is living all y.group block apart))
 
   -- ---- cuts
 

@@ -14,7 +14,7 @@ joined (block ∷ blocks) = block ++ joined blocks
 -- the same channels over hosts that are the same, but for which members of groups are active and how often one was activated
 pub record AreAlike {M : Type 0} (one other : Channels M) : Type 0 where
   pub living : one.host.living ≡ other.host.living
-  pub picture : one.host.picture ≡ other.host.picture
+  pub map : one.host.map ≡ other.host.map
   pub sizes : one.host.sizes ≡ other.host.sizes
   pub poison : one.host.poison ≡ other.host.poison
   pub copied : one.host.copied ≡ other.host.copied

@@ -1,5 +1,5 @@
 -- A console of lawful kinds does no more than the computed one.
-use Rattle.std.proofs.Common.{◌≡◌, ℕ, ℤ, List, [], length, Option, Some, None, Result, Ok, Err, refl, ap, ◌∙◌}
+use Rattle.std.proofs.Common.{◌≡◌, ℕ, ℤ, Bool, true, List, [], length, Option, Some, None, Result, Ok, Err, refl, ap, ◌∙◌}
 use Rattle.ialg.specs.declared.refusal.Refusal.{Refusal}
 use Rattle.ialg.specs.Meaning.{Meaning}
 use Rattle.host_map.specs.declared.parts.Sizes.{Sizes}
@@ -95,10 +95,10 @@ module _ {M : Type 0} (kinds : Meaning M) (poison : Option ℤ) (lawful : AreLaw
         (a.given ∙ ap (octets_at (widths.output c)) out, a.counted ∙ ap (λ xs. reply_text (replies.Count (length xs))) out, ap (λ o. o.1) e);
   }
 
-  pub lines_same : (named : List ℕ → Option M) (widths : Widths) (sizes : Sizes) (lines inputs : List (List ℕ)) (answer : Answer (Channels M))
-      → LinesAnswer (console_machine kinds named widths) (start sizes poison inputs) lines answer
+  pub lines_same : (named : List ℕ → Option M) (widths : Widths) (sizes : Sizes) (lines inputs : List (List ℕ)) (honest : ℕ → Bool) (answer : Answer (Channels M))
+      → ((channel : ℕ) → honest channel ≡ true) → LinesAnswer (console_machine kinds named widths) honest (start sizes poison inputs) lines answer
       → (answer.written ≡ (lines_served kinds named widths sizes lines inputs).written)
       × (answer.run.inputs ≡ (lines_served kinds named widths sizes lines inputs).run.inputs)
-  lines_same named widths sizes lines inputs answer a =
-      let e = lines_are (console_machine kinds named widths) (computed_console kinds named widths) (with_poison poison) (is_computed named widths) lines (start sizes None inputs) answer a in
+  lines_same named widths sizes lines inputs honest answer all a =
+      let e = lines_are (console_machine kinds named widths) (computed_console kinds named widths) (with_poison poison) (is_computed named widths) honest all lines (start sizes None inputs) answer a in
       (ap (λ o. o.written) e, ap (λ o. o.run.inputs) e)

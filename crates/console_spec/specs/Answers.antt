@@ -4,7 +4,7 @@ use Rattle.ialg.specs.declared.refusal.Refusal.{Refusal}
 use Rattle.ialg.specs.History as history
 use Rattle.ialg.specs.Meaning.{Meaning}
 use Rattle.host_map.specs.declared.parts.Sizes.{Sizes}
-use Rattle.host_map.specs.Picture.{blocks_in}
+use Rattle.host_map.specs.MemoryMap.{blocks_in}
 use Rattle.host_spec.specs.State.{State}
 use Rattle.host_spec.specs.Steps as host
 use Rattle.host_spec.specs.Answers.{accepted, status_at}
@@ -48,7 +48,7 @@ module _ {M : Type 0} (kinds : Meaning M) where
   command_asks widths before (Compact space) = tell_of_host before replies.Count (host.compact before.host space)
   command_asks widths before (Step space) = tell_of_host before replies.Flag (host.step before.host space)
   command_asks widths before (Release g) = tell_of_host before (told_by replies.Flag) (host.release before.host g)
-  command_asks widths before (Map space) = (tells (replies.Map (blocks_in before.host.picture space)), before)
+  command_asks widths before (Map space) = (tells (replies.Map (blocks_in before.host.map space)), before)
   command_asks widths before (Stat g) = tell_of_host before (told_by (λ a. replies.Stat a.active a.count)) (host.stat before.host g)
 
   abbrev pub line_asks : Widths → Channels M → Result (Option (Command M)) Refusal → Asked × Channels M

@@ -4,4 +4,4 @@
 
 mod laws;
 
-pub use laws::lawful_consoles_serve_one_answer;
+pub use laws::{honest_feeds_are_exact, lawful_consoles_serve_one_answer};

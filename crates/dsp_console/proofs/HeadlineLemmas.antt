@@ -1,5 +1,5 @@
 -- The headline of a run that ended well.
-use Rattle.std.proofs.Common.{ℕ, ℤ, List, Option, All, Result, Ok, Err, IfOk}
+use Rattle.std.proofs.Common.{ℕ, ℤ, List, Option, Result, Ok, Err, IfOk}
 use Rattle.dsp_console.specs.declared.serving.Summary.{Summary}
 use Rattle.dsp_console.specs.declared.serving.Fault.{Fault}
 use Rattle.ialg.specs.Meaning.{Meaning}
@@ -10,10 +10,10 @@ use Rattle.console_spec.specs.Console.{console_machine, start}
 use Rattle.dsp_console.specs.Headline.{RunHeadline}
 
 pub says_headline : {M : Type 0} (kinds : Meaning M) (named : List ℕ → Option M) (widths : Widths) (sizes : Sizes) (poison : Option ℤ) (result : Result Summary Fault) (old new : Devices)
-    → ((refused : ℕ) (old new : Devices) → IsHonest old.script → All IsHonest old.inputs
+    → ((refused : ℕ) (old new : Devices) → IsHonest old.script
     → EndsWell (console_machine kinds named widths) (start sizes poison (octets_to_come old.inputs)) refused old new → RunHeadline kinds named widths sizes poison refused old new)
-    → IsHonest old.script → All IsHonest old.inputs
+    → IsHonest old.script
     → IfOk result (λ summary. EndsWell (console_machine kinds named widths) (start sizes poison (octets_to_come old.inputs)) summary.refused old new)
     → IfOk result (λ summary. RunHeadline kinds named widths sizes poison summary.refused old new)
-says_headline kinds named widths sizes poison (Ok summary) old new law script inputs ends = law summary.refused old new script inputs ends
-says_headline kinds named widths sizes poison (Err fault) old new law script inputs ends = tt
+says_headline kinds named widths sizes poison (Ok summary) old new law script ends = law summary.refused old new script ends
+says_headline kinds named widths sizes poison (Err fault) old new law script ends = tt

@@ -3,10 +3,8 @@ use Rattle.std.proofs.Common.{◌≡◌, ℕ, ℤ, List, [], replicate, Option, 
 use Rattle.dsp_console.specs.declared.serving.Summary.{Summary}
 use Rattle.dsp_console.specs.declared.serving.Fault.{Fault}
 use Rattle.std.proofs.lemmas.List.{length-map}
-use Rattle.ialg.specs.Meaning.{Meaning}
-use Rattle.lifecycle.specs.States.{Relation}
 use Rattle.host_map.specs.declared.parts.Sizes.{Sizes}
-use Rattle.host_spaces.specs.Picture.{sizes_of}
+use Rattle.host_spaces.specs.MemoryMap.{sizes_of}
 use Rattle.host_spec.specs.State.{State, new_state}
 use Rattle.voice_console.specs.Hosts.{HostState}
 use Rattle.voice_console.specs.Hosts as hosts
@@ -17,9 +15,10 @@ use Rattle.console_spec.specs.Console.{console_machine, new_channels, start}
 use Rattle.voice_console.specs.declared.console.Console.{Console}
 use Rattle.voice_console.specs.Consoles.{Keeps, port_widths_of}
 use Rattle.dsp_console.specs.Fresh.{fresh}
+use Rattle.ialg.specs.Laws.{Laws}
 
-module _ {M : Type 0} (meaning : Meaning M) (idle_keeps active_keeps : Relation M) (console : Console M) (host : HostState M) (sizes : Sizes) (poison : Option ℤ) (sources : List Source)
-    (same : console.channels.host ≡ host) (keeps : hosts.Keeps meaning idle_keeps active_keeps host (new_state sizes poison)) where
+module _ {M : Type 0} (laws : Laws M) (console : Console M) (host : HostState M) (sizes : Sizes) (poison : Option ℤ) (sources : List Source)
+    (same : console.channels.host ≡ host) (keeps : hosts.Keeps laws host (new_state sizes poison)) where
   is_fresh : fresh console sources ≡ new_channels sizes poison (length (octets_to_come sources))
   is_fresh =
       let its_sizes : sizes_of console.channels.host.spaces ≡ sizes = ap (λ h. sizes_of h.spaces) same ∙ keeps.kept.sizes in
@@ -32,30 +31,30 @@ module _ {M : Type 0} (meaning : Meaning M) (idle_keeps active_keeps : Relation 
 
   -- the console keeps it
   pub kept : (count : ℕ) → length (octets_to_come sources) ≡ count
-      → ((state : State M) → hosts.Keeps meaning idle_keeps active_keeps host state → Keeps meaning idle_keeps active_keeps console (record { host = state; chained = replicate count [] }))
-      → Keeps meaning idle_keeps active_keeps console (fresh console sources)
-  kept count counted made = subst (Keeps meaning idle_keeps active_keeps console) (sym (is_fresh ∙ ap (new_channels sizes poison) counted)) (made (new_state sizes poison) keeps)
+      → ((state : State M) → hosts.Keeps laws host state → Keeps laws console (record { host = state; chained = replicate count [] }))
+      → Keeps laws console (fresh console sources)
+  kept count counted made = subst (Keeps laws console) (sym (is_fresh ∙ ap (new_channels sizes poison) counted)) (made (new_state sizes poison) keeps)
 
   -- and ends from there, by the widths that it was made with
   module _ (named : List ℕ → Option M) (widths : Widths) (same_widths : port_widths_of console ≡ widths) where
     pub well : (result : Result Summary Fault) (old new : Devices)
-        → IfOk result (λ summary. EndsWell (console_machine meaning named (port_widths_of console)) (run_of (fresh console sources) sources) summary.refused old new)
-        → IfOk result (λ summary. EndsWell (console_machine meaning named widths) (start sizes poison (octets_to_come sources)) summary.refused old new)
+        → IfOk result (λ summary. EndsWell (console_machine laws.meaning named (port_widths_of console)) (run_of (fresh console sources) sources) summary.refused old new)
+        → IfOk result (λ summary. EndsWell (console_machine laws.meaning named widths) (start sizes poison (octets_to_come sources)) summary.refused old new)
     well result old new ends =
-        subst (λ w. IfOk result (λ summary. EndsWell (console_machine meaning named w) (start sizes poison (octets_to_come sources)) summary.refused old new)) same_widths
-        (subst (λ r. IfOk result (λ summary. EndsWell (console_machine meaning named (port_widths_of console)) r summary.refused old new)) starts ends)
+        subst (λ w. IfOk result (λ summary. EndsWell (console_machine laws.meaning named w) (start sizes poison (octets_to_come sources)) summary.refused old new)) same_widths
+        (subst (λ r. IfOk result (λ summary. EndsWell (console_machine laws.meaning named (port_widths_of console)) r summary.refused old new)) starts ends)
 
-    pub by_read : (A : Type 0) (old new : Devices) → (A → EndsByRead (console_machine meaning named (port_widths_of console)) (run_of (fresh console sources) sources) old new)
-        → A → EndsByRead (console_machine meaning named widths) (start sizes poison (octets_to_come sources)) old new
+    pub by_read : (A : Type 0) (old new : Devices) → (A → EndsByRead (console_machine laws.meaning named (port_widths_of console)) (run_of (fresh console sources) sources) old new)
+        → A → EndsByRead (console_machine laws.meaning named widths) (start sizes poison (octets_to_come sources)) old new
     by_read A old new ends a =
-        subst (λ w. EndsByRead (console_machine meaning named w) (start sizes poison (octets_to_come sources)) old new) same_widths
-        (subst (λ r. EndsByRead (console_machine meaning named (port_widths_of console)) r old new) starts (ends a))
+        subst (λ w. EndsByRead (console_machine laws.meaning named w) (start sizes poison (octets_to_come sources)) old new) same_widths
+        (subst (λ r. EndsByRead (console_machine laws.meaning named (port_widths_of console)) r old new) starts (ends a))
 
-    pub by_write : (A : Type 0) (old new : Devices) → (A → EndsByWrite (console_machine meaning named (port_widths_of console)) (run_of (fresh console sources) sources) old new)
-        → A → EndsByWrite (console_machine meaning named widths) (start sizes poison (octets_to_come sources)) old new
+    pub by_write : (A : Type 0) (old new : Devices) → (A → EndsByWrite (console_machine laws.meaning named (port_widths_of console)) (run_of (fresh console sources) sources) old new)
+        → A → EndsByWrite (console_machine laws.meaning named widths) (start sizes poison (octets_to_come sources)) old new
     by_write A old new ends a =
-        subst (λ w. EndsByWrite (console_machine meaning named w) (start sizes poison (octets_to_come sources)) old new) same_widths
-        (subst (λ r. EndsByWrite (console_machine meaning named (port_widths_of console)) r old new) starts (ends a))
+        subst (λ w. EndsByWrite (console_machine laws.meaning named w) (start sizes poison (octets_to_come sources)) old new) same_widths
+        (subst (λ r. EndsByWrite (console_machine laws.meaning named (port_widths_of console)) r old new) starts (ends a))
 
 -- each port has its octets to come
 pub as_many : {I : Type 0} (ports : List I) (source : I → Source) (count : ℕ) → count ≡ length ports → length (octets_to_come (map source ports)) ≡ count

@@ -1,6 +1,6 @@
 -- For private clauses alone: the first state of a console, of the sizes and the poison word that its host has, with these sources.
 use Rattle.std.specs.Prelude.{List, length}
-use Rattle.host_spaces.specs.Picture.{sizes_of}
+use Rattle.host_spaces.specs.MemoryMap.{sizes_of}
 use Rattle.channel_spec.specs.Channels.{Channels}
 use Rattle.octet_ports.specs.Ports.{Source}
 use Rattle.script_server.specs.Runs.{octets_to_come}

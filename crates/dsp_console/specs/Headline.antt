@@ -1,10 +1,10 @@
--- The headline, of a run of the engine between honest ports.
+-- The headline, of a run of the engine whose script is honest.
 use Rattle.std.specs.Prelude.{ℕ, ℤ, List, Option}
 use Rattle.ialg.specs.Meaning.{Meaning}
 use Rattle.host_map.specs.declared.parts.Sizes.{Sizes}
 use Rattle.voice_script.specs.Script.{lines_of}
 use Rattle.line_spec.specs.Widths.{Widths}
-use Rattle.script_server.specs.Runs.{Devices, ServedAll, octets_to_come}
+use Rattle.script_server.specs.Runs.{Devices, ServedAll, honest_at, octets_to_come}
 use Rattle.console_spec.specs.Console.{console_machine, start}
 use Rattle.run_theorem.specs.Headline.{Headline}
 
@@ -12,4 +12,4 @@ use Rattle.run_theorem.specs.Headline.{Headline}
 -- may give: the ports hold what it says, the inputs have what it left, and so many lines were refused. And of that answer the headline holds
 pub record RunHeadline {M : Type 0} (kinds : Meaning M) (named : List ℕ → Option M) (widths : Widths) (sizes : Sizes) (poison : Option ℤ) (refused : ℕ) (old new : Devices) : Type 0 where
   pub serves : ServedAll (console_machine kinds named widths) (start sizes poison (octets_to_come old.inputs)) refused old new
-  pub says : Headline kinds named widths sizes poison (lines_of old.script.coming) (octets_to_come old.inputs) serves.answer
+  pub says : Headline kinds named widths sizes poison (lines_of old.script.coming) (octets_to_come old.inputs) (honest_at old.inputs) serves.answer

@@ -1,7 +1,7 @@
 //! Runs of the engine.
 ghost use Rattle.std.specs.Prelude.{◌≡◌, ℕ, ◌+◌, ◌≤◌, ◌⊎◌, ◌↔◌, false, map, length, All, IfOk, IfErr, IsErrOf};
 ghost use Rattle.octet_ports.specs.Ports.{GivesWithin};
-ghost use Rattle.host_map.specs.Picture.{AreSizes};
+ghost use Rattle.host_map.specs.MemoryMap.{AreSizes};
 ghost use Rattle.host_spec.specs.Answers.{AreLawful};
 ghost use Rattle.host_spec.specs.State.{new_state};
 ghost use Rattle.voice_console.specs.Hosts.{lives};
@@ -12,7 +12,7 @@ ghost use Rattle.script_server.specs.Runs.{AreReady, EndsWell, EndsByRead, EndsB
 ghost use Rattle.voice_console.specs.Consoles.{Keeps, channels_of, port_widths_of};
 ghost use Rattle.dsp_console.specs.Fresh.{fresh};
 ghost use Rattle.dsp_console.specs.Headline.{RunHeadline};
-ghost use Rattle.dsp_console.specs.Lawful.{EndsLawfullyByRead, EndsLawfullyByWrite, ServesLawfully};
+ghost use Rattle.dsp_console.specs.Lawful.{EndsLawfully, EndsLawfullyByRead, EndsLawfullyByWrite, ServesLawfully};
 
 use crate::laws::headline;
 use console_spec::lawful_consoles_serve_one_answer;
@@ -86,7 +86,7 @@ fn new_host<M: Ialg>(alloc: Global, sizes: Sizes, poison: Option<i16>) -> Result
     ensures size { ¬ AreSizes sizes → IsErrOf result Fault.Size }
     ensures memory { AreSizes sizes → IfErr result (λ fault. fault ≡ Fault.Memory) }
     ensures empty { IfOk result (λ host. (i : ℕ) → lives host i ≡ false) }
-    ensures host { IfOk result (λ host. hosts.Keeps M.meaning M.idle_keeps M.active_keeps host (new_state sizes poison)) }
+    ensures host { IfOk result (λ host. hosts.Keeps M.law host (new_state sizes poison)) }
 {
     let memory = run_memory(alloc, sizes)?;
     Ok(Host::in_memory(memory, poison))
@@ -100,20 +100,20 @@ fn serve_console<M: Ialg + Named, S: PortIn, I: PortIn, O: PortOut, P: PortOut>(
     outputs: &mut Vec<O>,
     replies: &mut P,
 ) -> Result<Summary, Fault>
-    requires kept { Keeps M.meaning M.idle_keeps M.active_keeps console.old (fresh console.old (map I.source inputs.old.items)) }
+    requires kept { Keeps M.law console.old (fresh console.old (map I.source inputs.old.items)) }
     requires script { (S.source script.old).failed ≡ false }
     requires one { length inputs.old.items ≡ channels_of console.old }
     requires pairs { length outputs.old.items ≡ channels_of console.old }
     requires ready { AreReady (map I.source inputs.old.items) (map O.sink outputs.old.items) (P.sink replies.old) }
     ensures few { GivesWithin (SCRIPT_OCTETS + 1) (S.source script.old) (S.source script.new) }
     ensures used { IfErr result (λ fault. (fault ≡ Fault.Read) ⊎ (fault ≡ Fault.Write)) }
-    ensures ok { IfOk result (λ summary. EndsWell (console_machine M.meaning M.named (port_widths_of console.old)) (run_of (fresh console.old (map I.source inputs.old.items)) (map I.source inputs.old.items)) summary.refused
+    ensures ok { IfOk result (λ summary. EndsWell (console_machine M.law.meaning M.named (port_widths_of console.old)) (run_of (fresh console.old (map I.source inputs.old.items)) (map I.source inputs.old.items)) summary.refused
         (known_of S.source I.source O.sink P.sink script.old inputs.old.items outputs.old.items replies.old)
         (known_of S.source I.source O.sink P.sink script.new inputs.new.items outputs.new.items replies.new)) }
-    ensures read { IsErrOf result Fault.Read → EndsByRead (console_machine M.meaning M.named (port_widths_of console.old)) (run_of (fresh console.old (map I.source inputs.old.items)) (map I.source inputs.old.items))
+    ensures read { IsErrOf result Fault.Read → EndsByRead (console_machine M.law.meaning M.named (port_widths_of console.old)) (run_of (fresh console.old (map I.source inputs.old.items)) (map I.source inputs.old.items))
         (known_of S.source I.source O.sink P.sink script.old inputs.old.items outputs.old.items replies.old)
         (known_of S.source I.source O.sink P.sink script.new inputs.new.items outputs.new.items replies.new) }
-    ensures write { IsErrOf result Fault.Write → EndsByWrite (console_machine M.meaning M.named (port_widths_of console.old)) (run_of (fresh console.old (map I.source inputs.old.items)) (map I.source inputs.old.items))
+    ensures write { IsErrOf result Fault.Write → EndsByWrite (console_machine M.law.meaning M.named (port_widths_of console.old)) (run_of (fresh console.old (map I.source inputs.old.items)) (map I.source inputs.old.items))
         (known_of S.source I.source O.sink P.sink script.old inputs.old.items outputs.old.items replies.old)
         (known_of S.source I.source O.sink P.sink script.new inputs.new.items outputs.new.items replies.new) }
 {
@@ -139,7 +139,8 @@ fn serve_console<M: Ialg + Named, S: PortIn, I: PortIn, O: PortOut, P: PortOut>(
 ///
 /// After `Read` or `Write` what was served before stands in the outputs and the replies, and the port that failed says so.
 ///
-/// What is served is said of honest ports. Whether a port is honest is a word of the contract, which the code can't see: so between ports
+/// What is served is said of an honest script, and what a feed is given of its own input, where that is honest: of any other input each feed may be
+/// given any samples, or be refused as short. Whether a port is honest is a word of the contract, which the code can't see: so between ports
 /// that behave as honest ones do, of which nothing is proved, as those over files, a run does what it is proved to do between honest ones.
 /// A device that does what no honest port can, as one that gives octets after it ended, is outside of that.
 pub fn run<M: Ialg + Named, S: PortIn, I: PortIn, O: PortOut, P: PortOut>(
@@ -157,8 +158,8 @@ pub fn run<M: Ialg + Named, S: PortIn, I: PortIn, O: PortOut, P: PortOut>(
     requires ready { AreReady (map I.source inputs.old.items) (map O.sink outputs.old.items) (P.sink replies.old) }
 
     // Over any list of commands: the headline.
-    ensures headline { IsHonest (S.source script.old) → All IsHonest (map I.source inputs.old.items)
-        → IfOk result (λ summary. RunHeadline M.meaning M.named (widths_of config.in8 config.out8) config.sizes config.poison summary.refused
+    ensures headline { IsHonest (S.source script.old)
+        → IfOk result (λ summary. RunHeadline M.law.meaning M.named (widths_of config.in8 config.out8) config.sizes config.poison summary.refused
         (known_of S.source I.source O.sink P.sink script.old inputs.old.items outputs.old.items replies.old)
         (known_of S.source I.source O.sink P.sink script.new inputs.new.items outputs.new.items replies.new)) }
 
@@ -171,26 +172,29 @@ pub fn run<M: Ialg + Named, S: PortIn, I: PortIn, O: PortOut, P: PortOut>(
     // Of an honest script come SCRIPT_OCTETS + 1 octets at most.
     ensures few { GivesWithin (SCRIPT_OCTETS + 1) (S.source script.old) (S.source script.new) }
 
-    // Between honest ports what is served is written: all of it, or that of exactly the lines that were begun.
-    ensures ok { IfOk result (λ summary. EndsWell (console_machine M.meaning M.named (widths_of config.in8 config.out8)) (start config.sizes config.poison (octets_to_come (map I.source inputs.old.items))) summary.refused
+    // To honest ports what is served is written: all of it, or that of exactly the lines that were begun.
+    ensures ok { IfOk result (λ summary. EndsWell (console_machine M.law.meaning M.named (widths_of config.in8 config.out8)) (start config.sizes config.poison (octets_to_come (map I.source inputs.old.items))) summary.refused
         (known_of S.source I.source O.sink P.sink script.old inputs.old.items outputs.old.items replies.old)
         (known_of S.source I.source O.sink P.sink script.new inputs.new.items outputs.new.items replies.new)) }
-    ensures read { IsErrOf result Fault.Read → EndsByRead (console_machine M.meaning M.named (widths_of config.in8 config.out8)) (start config.sizes config.poison (octets_to_come (map I.source inputs.old.items)))
+    ensures read { IsErrOf result Fault.Read → EndsByRead (console_machine M.law.meaning M.named (widths_of config.in8 config.out8)) (start config.sizes config.poison (octets_to_come (map I.source inputs.old.items)))
         (known_of S.source I.source O.sink P.sink script.old inputs.old.items outputs.old.items replies.old)
         (known_of S.source I.source O.sink P.sink script.new inputs.new.items outputs.new.items replies.new) }
-    ensures write { IsErrOf result Fault.Write → EndsByWrite (console_machine M.meaning M.named (widths_of config.in8 config.out8)) (start config.sizes config.poison (octets_to_come (map I.source inputs.old.items)))
+    ensures write { IsErrOf result Fault.Write → EndsByWrite (console_machine M.law.meaning M.named (widths_of config.in8 config.out8)) (start config.sizes config.poison (octets_to_come (map I.source inputs.old.items)))
         (known_of S.source I.source O.sink P.sink script.old inputs.old.items outputs.old.items replies.old)
         (known_of S.source I.source O.sink P.sink script.new inputs.new.items outputs.new.items replies.new) }
 
-    // Where the kinds are lawful, nothing is free, and the poison word tells nothing.
-    ensures lawful { AreLawful M.meaning config.poison → IsHonest (S.source script.old) → All IsHonest (map I.source inputs.old.items)
-        → IfOk result (λ summary. ServesLawfully M.meaning M.named (widths_of config.in8 config.out8) config.sizes summary.refused
+    // Where the kinds are lawful, nothing is free but what inputs give that aren't honest, and the poison word tells nothing.
+    ensures lawful { AreLawful M.law.meaning config.poison → IsHonest (S.source script.old) → All IsHonest (map I.source inputs.old.items)
+        → IfOk result (λ summary. ServesLawfully M.law.meaning M.named (widths_of config.in8 config.out8) config.sizes summary.refused
         (known_of S.source I.source O.sink P.sink script.old inputs.old.items outputs.old.items replies.old)
         (known_of S.source I.source O.sink P.sink script.new inputs.new.items outputs.new.items replies.new)) }
-    ensures lawful_read { AreLawful M.meaning config.poison → IsErrOf result Fault.Read → EndsLawfullyByRead M.meaning M.named (widths_of config.in8 config.out8) config.sizes
+    ensures lawful_ok { AreLawful M.law.meaning config.poison → IfOk result (λ summary. EndsLawfully M.law.meaning M.named (widths_of config.in8 config.out8) config.sizes
+        (known_of S.source I.source O.sink P.sink script.old inputs.old.items outputs.old.items replies.old)
+        (known_of S.source I.source O.sink P.sink script.new inputs.new.items outputs.new.items replies.new) summary.refused) }
+    ensures lawful_read { AreLawful M.law.meaning config.poison → IsErrOf result Fault.Read → EndsLawfullyByRead M.law.meaning M.named (widths_of config.in8 config.out8) config.sizes
         (known_of S.source I.source O.sink P.sink script.old inputs.old.items outputs.old.items replies.old)
         (known_of S.source I.source O.sink P.sink script.new inputs.new.items outputs.new.items replies.new) }
-    ensures lawful_write { AreLawful M.meaning config.poison → IsErrOf result Fault.Write → EndsLawfullyByWrite M.meaning M.named (widths_of config.in8 config.out8) config.sizes
+    ensures lawful_write { AreLawful M.law.meaning config.poison → IsErrOf result Fault.Write → EndsLawfullyByWrite M.law.meaning M.named (widths_of config.in8 config.out8) config.sizes
         (known_of S.source I.source O.sink P.sink script.old inputs.old.items outputs.old.items replies.old)
         (known_of S.source I.source O.sink P.sink script.new inputs.new.items outputs.new.items replies.new) }
 {

@@ -2,9 +2,10 @@
 ghost use Rattle.std.specs.Prelude.{◌≡◌, ◌≢◌, ◌<◌, ◌≤◌, ◌+◌, ℕ, length};
 ghost use Rattle.ialg.specs.History.{word_at};
 ghost use Rattle.ialg.specs.declared.TheConstants.{BLOCK_SAMPLES};
-ghost use Rattle.basic_op.specs.Operators.{add_of, mult_of};
+ghost use Rattle.basic_op.specs.Operators.{add_of, sub_of, mult_of, shl_of, shr_of};
 ghost use Rattle.fir_kernel.specs.Sums.{filtered_at};
 ghost use Rattle.fir_kernel.specs.declared.TheConstants.{MOST_COEFFICIENTS};
+ghost use Rattle.dsp_library.specs.Sums.{l_mac_sum};
 ghost use Rattle.dsp_library.specs.declared.TheConstants.{DONE, BAD_LENGTH};
 
 use crate::{BAD_LENGTH, DONE};
@@ -22,6 +23,17 @@ fn add_all(a: &[i16], b: &[i16], out: &mut [i16])
     }
 }
 
+/// Writes the differences.
+fn sub_all(a: &[i16], b: &[i16], out: &mut [i16])
+    requires first { length a.now ≡ length out.old }
+    requires second { length b.now ≡ length out.old }
+    ensures differences { (k : ℕ) → k < length out.old → word_at out.new k ≡ sub_of (word_at a.now k) (word_at b.now k) }
+{
+    for k in 0..a.len() {
+        out[k] = basic_op::sub(a[k], b[k]);
+    }
+}
+
 /// Writes the products.
 fn mult_all(gain: i16, samples: &[i16], out: &mut [i16])
     requires { length samples.now ≡ length out.old }
@@ -30,6 +42,38 @@ fn mult_all(gain: i16, samples: &[i16], out: &mut [i16])
     for k in 0..samples.len() {
         out[k] = basic_op::mult(samples[k], gain);
     }
+}
+
+/// Writes the samples, each shifted to the left.
+fn shl_all(samples: &[i16], shift: i16, out: &mut [i16])
+    requires { length samples.now ≡ length out.old }
+    ensures shifted { (k : ℕ) → k < length out.old → word_at out.new k ≡ shl_of (word_at samples.now k) shift }
+{
+    for k in 0..samples.len() {
+        out[k] = basic_op::shl(samples[k], shift);
+    }
+}
+
+/// Writes the samples, each shifted to the right.
+fn shr_all(samples: &[i16], shift: i16, out: &mut [i16])
+    requires { length samples.now ≡ length out.old }
+    ensures shifted { (k : ℕ) → k < length out.old → word_at out.new k ≡ shr_of (word_at samples.now k) shift }
+{
+    for k in 0..samples.len() {
+        out[k] = basic_op::shr(samples[k], shift);
+    }
+}
+
+/// The products of each two samples are added to `v`, one after another.
+fn l_mac_all(v: i32, a: &[i16], b: &[i16]) -> i32
+    requires { length a.now ≡ length b.now }
+    ensures { result ≡ l_mac_sum v a.now b.now (length a.now) }
+{
+    let mut sum = v;
+    for k in 0..a.len() {
+        sum = basic_op::l_mac(sum, a[k], b[k]);
+    }
+    sum
 }
 
 /// Writes the sum of each two samples, saturated (G.191 `add`): `DONE`, or `BAD_LENGTH`, and then nothing is written.
@@ -47,6 +91,21 @@ pub extern "C" fn rokdaum_proved_add_block(a: &[i16], b: &[i16], out: &mut [i16]
     DONE
 }
 
+/// Writes the difference of each two samples, saturated (G.191 `sub`): `DONE`, or `BAD_LENGTH`, and then nothing is written.
+#[unsafe(no_mangle)]
+pub extern "C" fn rokdaum_proved_sub_block(a: &[i16], b: &[i16], out: &mut [i16]) -> i32
+    ensures length { ¬ ((length a.now ≡ length out.old) × (length b.now ≡ length out.old)) → result ≡ BAD_LENGTH }
+    ensures done { length a.now ≡ length out.old → length b.now ≡ length out.old → result ≡ DONE }
+    ensures differences { result ≡ DONE → (k : ℕ) → k < length out.old → word_at out.new k ≡ sub_of (word_at a.now k) (word_at b.now k) }
+    ensures refused { result ≢ DONE → out.new ≡ out.old }
+{
+    if a.len() != out.len() || b.len() != out.len() {
+        return BAD_LENGTH;
+    }
+    sub_all(a, b, out);
+    DONE
+}
+
 /// Writes the product of each sample and a gain in Q15 (G.191 `mult`): `DONE`, or `BAD_LENGTH`, and then nothing is written.
 #[unsafe(no_mangle)]
 pub extern "C" fn rokdaum_proved_mult_block(gain: i16, samples: &[i16], out: &mut [i16]) -> i32
@@ -59,6 +118,53 @@ pub extern "C" fn rokdaum_proved_mult_block(gain: i16, samples: &[i16], out: &mu
         return BAD_LENGTH;
     }
     mult_all(gain, samples, out);
+    DONE
+}
+
+/// Writes each sample shifted to the left, saturated, and to the right where `shift` is negative (G.191 `shl`): `DONE`, or `BAD_LENGTH`,
+/// and then nothing is written.
+#[unsafe(no_mangle)]
+pub extern "C" fn rokdaum_proved_shl_block(samples: &[i16], shift: i16, out: &mut [i16]) -> i32
+    ensures length { length samples.now ≢ length out.old → result ≡ BAD_LENGTH }
+    ensures done { length samples.now ≡ length out.old → result ≡ DONE }
+    ensures shifted { result ≡ DONE → (k : ℕ) → k < length out.old → word_at out.new k ≡ shl_of (word_at samples.now k) shift }
+    ensures refused { result ≢ DONE → out.new ≡ out.old }
+{
+    if samples.len() != out.len() {
+        return BAD_LENGTH;
+    }
+    shl_all(samples, shift, out);
+    DONE
+}
+
+/// Writes each sample shifted to the right, and to the left, saturated, where `shift` is negative (G.191 `shr`): `DONE`, or `BAD_LENGTH`,
+/// and then nothing is written.
+#[unsafe(no_mangle)]
+pub extern "C" fn rokdaum_proved_shr_block(samples: &[i16], shift: i16, out: &mut [i16]) -> i32
+    ensures length { length samples.now ≢ length out.old → result ≡ BAD_LENGTH }
+    ensures done { length samples.now ≡ length out.old → result ≡ DONE }
+    ensures shifted { result ≡ DONE → (k : ℕ) → k < length out.old → word_at out.new k ≡ shr_of (word_at samples.now k) shift }
+    ensures refused { result ≢ DONE → out.new ≡ out.old }
+{
+    if samples.len() != out.len() {
+        return BAD_LENGTH;
+    }
+    shr_all(samples, shift, out);
+    DONE
+}
+
+/// Writes `v` with the products of each two samples added to it, one after another, the first two first; each product is doubled and
+/// saturated, and so is each sum (G.191 `L_mac`): `DONE`, or `BAD_LENGTH`, and then nothing is written.
+#[unsafe(no_mangle)]
+pub extern "C" fn rokdaum_proved_l_mac_block(v: i32, a: &[i16], b: &[i16], sum: &mut i32) -> i32
+    ensures length { length a.now ≢ length b.now → result ≡ BAD_LENGTH }
+    ensures done { length a.now ≡ length b.now → (result ≡ DONE) × (sum.new ≡ l_mac_sum v a.now b.now (length a.now)) }
+    ensures refused { result ≢ DONE → sum.new ≡ sum.old }
+{
+    if a.len() != b.len() {
+        return BAD_LENGTH;
+    }
+    *sum = l_mac_all(v, a, b);
     DONE
 }
 

@@ -1,3 +1,4 @@
 pub mod Bounded
 pub mod Rings
 pub mod Sums
+pub mod Windows

@@ -6,6 +6,7 @@ ghost use Rattle.ialg.specs.History.{word_at};
 ghost use Rattle.fir_kernel.specs.Bounded.{product_sum, magnitude_sum, NoneLouder, IsBounded};
 ghost use Rattle.fir_kernel.specs.Sums.{filtered_at};
 
+use crate::windows::{WINDOWS, read_words, sum_eight};
 use crate::{GREATEST_MAGNITUDE, LEAST_UNBOUNDED_SUM, MOST_COEFFICIENTS};
 use basic_op::{l_add, round};
 use ialg::BLOCK_SAMPLES;
@@ -134,9 +135,16 @@ fn sum_windows(taps: &[i16], line: &[i16], first: usize, step: usize, sums: &mut
     ensures { (i : ℕ) → i < length sums.old → word_at sums.new i ≡ int_wrap w32
         (product_sum (word_at taps.now) (λ j. word_at line.now (first + step * i + j)) (length taps.now)) }
 {
-    for (i, sum) in sums.iter_mut().enumerate() {
+    read_words(taps);
+    read_words(line);
+    let groups = sums.len() / WINDOWS;
+    for group in 0..groups {
+        let at = WINDOWS * group;
+        sum_eight(taps, line, first + step * at, step, sums, at);
+    }
+    for i in WINDOWS * groups..sums.len() {
         let from = first + step * i;
-        *sum = dot(taps, &line[from..from + taps.len()]);
+        sums[i] = dot(taps, &line[from..from + taps.len()]);
     }
 }
 

@@ -7,6 +7,7 @@
 mod bounded;
 mod kernel;
 mod ring;
+mod windows;
 
 pub use kernel::filter;
 pub use ring::{enter, named_place, unroll};

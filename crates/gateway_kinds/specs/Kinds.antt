@@ -1,12 +1,22 @@
--- The kinds of a gateway, each at its place in the set.
+-- The kinds of a gateway, each at its place in the set, and what each means.
+use Rattle.ialg.specs.Meaning.{Meaning}
+use Rattle.ialg.specs.Filters.{FilterMeaning, meaning_of}
 use Rattle.kind_sets.specs.declared.either.Or.{Or}
 use Rattle.kind_sets.specs.declared.either.Or.TheVariants.{First, Second}
+use Rattle.kind_sets.specs.Either.{either_means}
 use Rattle.kind_parts.specs.declared.mapping.Mapped.{Mapped}
 use Rattle.kind_parts.specs.declared.framing.Framed.{Framed}
+use Rattle.kind_parts.specs.declared.words.TheConstants.{SUM_WORDS}
+use Rattle.kind_parts.specs.Mappings.{mapping_filter}
+use Rattle.kind_parts.specs.Framings.{framing_filter}
 use Rattle.voice_set.specs.declared.voice.Voice.{Voice}
+use Rattle.voice_set.specs.Voices.{voice_meaning}
 use Rattle.alg_gain.specs.declared.Amplifier.{Amplifier}
+use Rattle.alg_gain.specs.Equation.{is_factor, amplified}
 use Rattle.alg_level.specs.declared.Meter.{Meter}
+use Rattle.alg_level.specs.Equation.{is_meter, frame_level}
 use Rattle.alg_dtmf.specs.declared.detector.Dtmf.{Dtmf}
+use Rattle.alg_dtmf.specs.Meaning.{dtmf_filter}
 
 abbrev pub Kind : Type 0
 Kind = Or Voice (Or (Mapped Amplifier) (Or (Framed Meter) Dtmf))
@@ -22,3 +32,15 @@ of_level m = Second (Second (First m))
 
 abbrev pub of_dtmf : Dtmf → Kind
 of_dtmf d = Second (Second (Second d))
+
+-- a gain multiplies each sample by the factor in force
+abbrev pub gain_filter : FilterMeaning
+gain_filter = mapping_filter is_factor amplified
+
+-- a meter tells the energy of each frame
+abbrev pub level_filter : FilterMeaning
+level_filter = framing_filter SUM_WORDS is_meter frame_level
+
+-- what each kind means
+abbrev pub kind_meaning : Meaning Kind
+kind_meaning = either_means voice_meaning (either_means (meaning_of gain_filter) (either_means (meaning_of level_filter) (meaning_of dtmf_filter)))

@@ -1,1 +1,2 @@
+pub mod Keeps
 pub mod Kinds

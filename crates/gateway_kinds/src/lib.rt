@@ -30,18 +30,18 @@ pub type GatewayKind = Or<Voice, Or<Gain, Or<Level, Dtmf>>>;
 /// The law that all kinds of a gateway keep IALG's laws for all parameters, refused ones too, in a host of any poison word and in one of
 /// none. The call does nothing: its contract is the law.
 pub fn gateway_kinds_are_lawful()
-    ensures { (kind : Kind) (p : List ℤ) (w : Option ℤ) → IsTrue (⟦<GatewayKind as Ialg>⟧.meaning.lawful kind p w) }
+    ensures { (kind : Kind) (p : List ℤ) (w : Option ℤ) → IsTrue (⟦<GatewayKind as Ialg>⟧.law.meaning.lawful kind p w) }
 {}
 
 /// The law that each kind gives the outputs of its own equation: a voice what it gives among the voices, `gain` each sample times the
 /// factor in force, `level` the energy of each frame, and `dtmf` the code of each frame. The call does nothing: its contract is the law.
 pub fn gateway_kinds_give_their_equations()
     ensures voices { (v : Voice) (p : List ℤ) (h : History)
-        → outputs_of ⟦<GatewayKind as Ialg>⟧.meaning (of_voice v) p h ≡ outputs_of voice_meaning v p h }
+        → outputs_of ⟦<GatewayKind as Ialg>⟧.law.meaning (of_voice v) p h ≡ outputs_of voice_meaning v p h }
     ensures gains { (g : Mapped Amplifier) (p : List ℤ) (h : History)
-        → outputs_of ⟦<GatewayKind as Ialg>⟧.meaning (of_gain g) p h ≡ outputs_by (gain_gives p) h }
+        → outputs_of ⟦<GatewayKind as Ialg>⟧.law.meaning (of_gain g) p h ≡ outputs_by (gain_gives p) h }
     ensures levels { (m : Framed Meter) (p : List ℤ) (h : History)
-        → outputs_of ⟦<GatewayKind as Ialg>⟧.meaning (of_level m) p h ≡ outputs_by (level_gives p) h }
+        → outputs_of ⟦<GatewayKind as Ialg>⟧.law.meaning (of_level m) p h ≡ outputs_by (level_gives p) h }
     ensures digits { (d : Dtmf) (p : List ℤ) (h : History)
-        → outputs_of ⟦<GatewayKind as Ialg>⟧.meaning (of_dtmf d) p h ≡ outputs_by (dtmf_gives p) h }
+        → outputs_of ⟦<GatewayKind as Ialg>⟧.law.meaning (of_dtmf d) p h ≡ outputs_by (dtmf_gives p) h }
 {}

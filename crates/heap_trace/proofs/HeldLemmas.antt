@@ -4,8 +4,8 @@ use Rattle.std.proofs.lemmas.List.{take-append-drop, length-take-le}
 use Rattle.std.proofs.Math.Seq.{take-append_seam, drop-append_seam, drop-cons}
 use Rattle.space_raw.specs.Span.{Extent, Span}
 use Rattle.relocate.specs.Places.{Range}
-use Rattle.space_heap.specs.Pictures.{HeapState, Holds, IsBlock, range_of}
-use Rattle.space_heap.proofs.PictureLemmas.{block_out}
+use Rattle.space_heap.specs.Maps.{HeapState, Holds, IsBlock, range_of}
+use Rattle.space_heap.proofs.MapLemmas.{block_out}
 use Rattle.heap_trace.specs.Held.{AreOf}
 
 abbrev pub ranges : List Span → List Range

@@ -36,7 +36,7 @@ pub struct Desk {
 impl Model for Desk {
     ghost use Rattle.std.specs.Prelude.{◌≤◌, map};
     ghost use Rattle.std.specs.Vec.{vec_capacity};
-    ghost use Rattle.space_heap.specs.Pictures.{HeapState, Holds, range_of};
+    ghost use Rattle.space_heap.specs.Maps.{HeapState, Holds, range_of};
     ghost use Rattle.heap_trace.specs.Held.{AreOf};
     ghost use Rattle.heap_trace.specs.declared.desk.TheConstants.{HELD};
 

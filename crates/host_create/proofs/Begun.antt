@@ -20,33 +20,33 @@ use Rattle.lifecycle.specs.Moves.{settled}
 use Rattle.lifecycle.specs.States.{Fits, SameInstance}
 use Rattle.record_loans.proofs.PieceLemmas.{same_pieces}
 use Rattle.host_table.specs.declared.member.Member.{Member}
-use Rattle.host_shared.specs.declared.shelves.Shelf.{Shelf}
-use Rattle.host_shared.specs.declared.joining.Twins.{Twins}
-use Rattle.host_shared.specs.Shelves.{stand_at, shelf_at, home_of, once_at, no_pieces}
-use Rattle.host_shared.specs.Homes.{IsSameStand}
+use Rattle.host_shared.specs.declared.locations.Locations.{Locations}
+use Rattle.host_shared.specs.declared.joining.Sharers.{Sharers}
+use Rattle.host_shared.specs.Locations.{location_at, locations_at, owner_of, shared_at, no_pieces}
+use Rattle.host_shared.specs.Owners.{IsSameLocation}
 use Rattle.host_table.specs.Table.{slot_at, group_at, instance_of, active_in, is_member_of, AreHeld, TablesOk}
-use Rattle.host_map.specs.Twins.{Asked, asked, twin_of}
-use Rattle.host_life.specs.Twins.{asked_by, AreTwins, AreTogether}
-use Rattle.host_shared.specs.Joining.{twin_at, pieces_joined, stand_joined}
-use Rattle.host_shared.specs.Holders.{AreLeast}
+use Rattle.host_map.specs.Sharers.{Asked, asked, sharer_of}
+use Rattle.host_life.specs.Sharers.{asked_by, AreLeastSharers, AreTogether}
+use Rattle.host_shared.specs.Joining.{sharer_at, pieces_joined, location_joined}
+use Rattle.host_shared.specs.Sharing.{AreLeast}
 use Rattle.host_table.specs.Frames.{IsIdle, IsStarted, OthersStay}
-use Rattle.host_life.proofs.Sharing.{IsTwin}
-use Rattle.host_life.proofs.Twinned.{tells_twin, twin_at_home}
+use Rattle.host_life.proofs.Sharing.{IsLeastSharer}
+use Rattle.host_life.proofs.Shared.{tells_sharer, sharer_at_owner}
 use Rattle.host_map.specs.declared.placed.Owner.{Owner}
 use Rattle.host_map.specs.declared.placed.Owner.TheVariants.{Record}
 use Rattle.host_map.specs.Blocks.{owned, renamed_blocks}
 use Rattle.host_spaces.specs.declared.spaces.Spaces.{Spaces}
-use Rattle.host_spaces.specs.Picture.{AreSameSpaces, picture_of, space_in}
-use Rattle.host_map.specs.Picture.{blocks_in}
+use Rattle.host_spaces.specs.MemoryMap.{AreSameSpaces, map_of, space_in}
+use Rattle.host_map.specs.MemoryMap.{blocks_in}
 use Rattle.host_spaces.specs.Pieces.{AreSharable, HasBlocks, is_write_once}
-use Rattle.host_moves.specs.Standing.{AreOrdered, AreStanding, IsHome, IsOf, SameInstances, SlotIsSame, table_of}
-use Rattle.host_moves.proofs.Homes.{home_by_same, home_stays, pieces_none}
+use Rattle.host_moves.specs.Standing.{AreOrdered, AgreeWithMap, IsPieceThere, IsOf, SameInstances, SlotIsSame, table_of}
+use Rattle.host_moves.proofs.Owners.{owner_by_same, owner_stays, pieces_none}
 use Rattle.host_moves.proofs.MovedBlocks.{alike_itself}
-use Rattle.host_moves.proofs.Rooms.{room_at_home}
+use Rattle.host_moves.proofs.Rooms.{room_at_owner}
 use Rattle.host_create.specs.Growth.{AreGrown}
 use Rattle.host_create.specs.Started.{IsNewborn, IsPlaced}
-use Rattle.host_create.proofs.Joined.{home_joined, seen_none, seen_twin, nothing_placed, home_new, group_stays, gone_stays, home_of_new, home_of_other}
-use Rattle.host_create.proofs.Unplaced.{home_unplaced}
+use Rattle.host_create.proofs.Joined.{owner_joined, seen_none, seen_sharer, nothing_placed, owner_new, group_stays, gone_stays, owner_of_new, owner_of_other}
+use Rattle.host_create.proofs.Unplaced.{owner_unplaced}
 
 same_of : {M : Type 0} (s : Instance M) (inst : Inst M) → IsIdle s inst → SameInstance s (instance_of inst)
 same_of s (Idling x) is = is
@@ -56,50 +56,50 @@ started_as : {M : Type 0} (g : ℕ) (s : Instance M) (slot : Option (Member M)) 
 started_as g s None is = absurd is
 started_as g s (Some m) is = (m, (refl, (is.0, same_of s m.inst is.1)))
 
--- a new instance joins its twins, whose blocks it takes over where it has the lower number
-pub record Joins {M : Type 0} (i g : ℕ) (slots : List (Option (Member M))) (once : List Shelf) (groups : List Group) (spaces mid : Spaces) (s : Instance M) (shared : Pieces) (twins : Twins) : Type 0 where
-  pub empty : slot_at slots i ≡ None
-  pub held : AreHeld slots once
-  pub grown : AreGrown g slots once groups spaces
-  pub tells : (k t : ℕ) → twin_at twins k ≡ Some t → IsTwin slots k s t
-  pub at_home : (k t : ℕ) → twin_at twins k ≡ Some t → home_of once t k ≡ t
-  pub placed : IsPlaced spaces i (twin_at twins) s.table s.own shared (group_at groups g)
-  pub taken : (k t : ℕ) (space : Space) → twin_at twins k ≡ Some t → i < t → owned (Record i k) (blocks_in (picture_of spaces) space) ≡ []
-      → owned (Record i k) (blocks_in (picture_of mid) space) ≡ renamed_blocks (λ o. Record i k) (owned (Record t k) (blocks_in (picture_of spaces) space))
-  pub left : (k t : ℕ) (space : Space) → twin_at twins k ≡ Some t → i < t → owned (Record t k) (blocks_in (picture_of mid) space) ≡ []
-  pub others : (o : Owner) (space : Space) → ((k t : ℕ) → twin_at twins k ≡ Some t → i < t → (o ≢ Record i k) × (o ≢ Record t k))
-      → owned o (blocks_in (picture_of mid) space) ≡ owned o (blocks_in (picture_of spaces) space)
+-- a new instance joins its sharers, whose blocks it takes over where it has the lower number
+pub record Joins {M : Type 0} (i g : ℕ) (instances : List (Option (Member M))) (sharing : List Locations) (groups : List Group) (spaces mid : Spaces) (s : Instance M) (shared : Pieces) (sharers : Sharers) : Type 0 where
+  pub empty : slot_at instances i ≡ None
+  pub held : AreHeld instances sharing
+  pub grown : AreGrown g instances sharing groups spaces
+  pub tells : (k t : ℕ) → sharer_at sharers k ≡ Some t → IsLeastSharer instances k s t
+  pub at_owner : (k t : ℕ) → sharer_at sharers k ≡ Some t → owner_of sharing t k ≡ t
+  pub placed : IsPlaced spaces i (sharer_at sharers) s.table s.own shared (group_at groups g)
+  pub taken : (k t : ℕ) (space : Space) → sharer_at sharers k ≡ Some t → i < t → owned (Record i k) (blocks_in (map_of spaces) space) ≡ []
+      → owned (Record i k) (blocks_in (map_of mid) space) ≡ renamed_blocks (λ o. Record i k) (owned (Record t k) (blocks_in (map_of spaces) space))
+  pub left : (k t : ℕ) (space : Space) → sharer_at sharers k ≡ Some t → i < t → owned (Record t k) (blocks_in (map_of mid) space) ≡ []
+  pub others : (o : Owner) (space : Space) → ((k t : ℕ) → sharer_at sharers k ≡ Some t → i < t → (o ≢ Record i k) × (o ≢ Record t k))
+      → owned o (blocks_in (map_of mid) space) ≡ owned o (blocks_in (map_of spaces) space)
   pub stays : AreSameSpaces spaces mid
 
--- the twins that are listed
-module _ {M : Type 0} (same : M → M → Bool) (one : (a b : M) → same a b ≡ true → a ≡ b) (itself : (a : M) → same a a ≡ true) (slots : List (Option (Member M))) (once : List Shelf) (groups : List Group)
-    (ok : TablesOk slots once groups) (s : Instance M) (twins : Twins) (are : AreTwins same slots (asked s.kind s.params.items s.table) twins) where
-  pub twin_tells : (k t : ℕ) → twin_at twins k ≡ Some t → IsTwin slots k s t
-  twin_tells k t is = tells_twin same one itself slots ok.slot_count s k (Some t) (sym is ∙ are k)
+-- the sharers that are listed
+module _ {M : Type 0} (same : M → M → Bool) (one : (a b : M) → same a b ≡ true → a ≡ b) (itself : (a : M) → same a a ≡ true) (instances : List (Option (Member M))) (sharing : List Locations) (groups : List Group)
+    (ok : TablesOk instances sharing groups) (s : Instance M) (sharers : Sharers) (are : AreLeastSharers same instances (asked s.kind s.params.items s.table) sharers) where
+  pub sharer_tells : (k t : ℕ) → sharer_at sharers k ≡ Some t → IsLeastSharer instances k s t
+  sharer_tells k t is = tells_sharer same one itself instances ok.slot_count s k (Some t) (sym is ∙ are k)
 
-  pub twins_home : AreLeast once → (k t : ℕ) → twin_at twins k ≡ Some t → home_of once t k ≡ t
-  twins_home least k t is = twin_at_home same one itself slots ok.slot_count once ok.held least s k t (sym (are k) ∙ is)
+  pub sharers_owner : AreLeast sharing → (k t : ℕ) → sharer_at sharers k ≡ Some t → owner_of sharing t k ≡ t
+  sharers_owner least k t is = sharer_at_owner same one itself instances ok.slot_count sharing ok.held least s k t (sym (are k) ∙ is)
 
-  pub sharable : AreSharable s.table (twin_at twins)
-  sharable k t is = ap is_write_once (twin_tells k t is).alike.once
+  pub sharable : AreSharable s.table (sharer_at sharers)
+  sharable k t is = ap is_write_once (sharer_tells k t is).alike.once
 
 module _ {M : Type 0} (same : M → M → Bool) (one : (a b : M) → same a b ≡ true → a ≡ b) (itself : (a : M) → same a a ≡ true)
-    (i g : ℕ) (slots : List (Option (Member M))) (once : List Shelf) (groups : List Group) (spaces mid : Spaces) (s : Instance M) (shared : Pieces) (twins : Twins) (list : ℕ → Option ℕ)
-    (is_list : (k : ℕ) → list k ≡ twin_at twins k) (ok : TablesOk slots once groups) (empty : slot_at slots i ≡ None) (grown : AreGrown g slots once groups spaces)
-    (are : AreTwins same slots (asked s.kind s.params.items s.table) twins) (placed : IsPlaced spaces i (twin_at twins) s.table s.own shared (group_at groups g))
-    (taken : (k t : ℕ) (space : Space) → list k ≡ Some t → i < t → owned (Record i k) (blocks_in (picture_of spaces) space) ≡ []
-    → owned (Record i k) (blocks_in (picture_of mid) space) ≡ renamed_blocks (λ o. Record i k) (owned (Record t k) (blocks_in (picture_of spaces) space)))
-    (left : (k t : ℕ) (space : Space) → list k ≡ Some t → i < t → owned (Record t k) (blocks_in (picture_of mid) space) ≡ [])
+    (i g : ℕ) (instances : List (Option (Member M))) (sharing : List Locations) (groups : List Group) (spaces mid : Spaces) (s : Instance M) (shared : Pieces) (sharers : Sharers) (list : ℕ → Option ℕ)
+    (is_list : (k : ℕ) → list k ≡ sharer_at sharers k) (ok : TablesOk instances sharing groups) (empty : slot_at instances i ≡ None) (grown : AreGrown g instances sharing groups spaces)
+    (are : AreLeastSharers same instances (asked s.kind s.params.items s.table) sharers) (placed : IsPlaced spaces i (sharer_at sharers) s.table s.own shared (group_at groups g))
+    (taken : (k t : ℕ) (space : Space) → list k ≡ Some t → i < t → owned (Record i k) (blocks_in (map_of spaces) space) ≡ []
+    → owned (Record i k) (blocks_in (map_of mid) space) ≡ renamed_blocks (λ o. Record i k) (owned (Record t k) (blocks_in (map_of spaces) space)))
+    (left : (k t : ℕ) (space : Space) → list k ≡ Some t → i < t → owned (Record t k) (blocks_in (map_of mid) space) ≡ [])
     (others : (o : Owner) (space : Space) → ((k t : ℕ) → list k ≡ Some t → i < t → (o ≢ Record i k) × (o ≢ Record t k))
-    → owned o (blocks_in (picture_of mid) space) ≡ owned o (blocks_in (picture_of spaces) space))
+    → owned o (blocks_in (map_of mid) space) ≡ owned o (blocks_in (map_of spaces) space))
     (stays : AreSameSpaces spaces mid) where
-  pub joining : Joins i g slots once groups spaces mid s shared twins
+  pub joining : Joins i g instances sharing groups spaces mid s shared sharers
   joining = record {
     empty = empty;
     held = ok.held;
     grown = grown;
-    tells = twin_tells same one itself slots once groups ok s twins are;
-    at_home = twins_home same one itself slots once groups ok s twins are grown.least;
+    tells = sharer_tells same one itself instances sharing groups ok s sharers are;
+    at_owner = sharers_owner same one itself instances sharing groups ok s sharers are grown.least;
     placed = placed;
     taken = λ k t space is. taken k t space (is_list k ∙ is);
     left = λ k t space is. left k t space (is_list k ∙ is);
@@ -111,27 +111,27 @@ some_of : (o : Option ℕ) → IsSome o → (t : ℕ) × (o ≡ Some t)
 some_of None some = absurd (false≢true some)
 some_of (Some t) some = (t, refl)
 
-module _ {M : Type 0} (i g : ℕ) (slots : List (Option (Member M))) (once : List Shelf) (groups : List Group) (spaces mid : Spaces) (s : Instance M) (shared : Pieces) (twins : Twins)
-    (joins : Joins i g slots once groups spaces mid s shared twins) where
+module _ {M : Type 0} (i g : ℕ) (instances : List (Option (Member M))) (sharing : List Locations) (groups : List Group) (spaces mid : Spaces) (s : Instance M) (shared : Pieces) (sharers : Sharers)
+    (joins : Joins i g instances sharing groups spaces mid s shared sharers) where
   abbrev seen : Pieces
-  seen = pieces_joined once twins shared
+  seen = pieces_joined sharing sharers shared
 
-  -- a record with a twin has no piece of its own
-  pub none_placed : (k : ℕ) → IsSome (twin_at twins k) → piece_at shared k ≡ None
+  -- a record with a sharer has no piece of its own
+  pub none_placed : (k : ℕ) → IsSome (sharer_at sharers k) → piece_at shared k ≡ None
   none_placed k some =
-      let twin = some_of (twin_at twins k) some in
-      nothing_placed i g slots once groups spaces mid s shared seen (twin_at twins) joins.empty joins.held joins.grown joins.tells joins.at_home joins.placed
-      (seen_none once twins shared) (seen_twin once twins shared) joins.taken joins.left joins.others joins.stays k twin.0 twin.1
+      let sharer = some_of (sharer_at sharers k) some in
+      nothing_placed i g instances sharing groups spaces mid s shared seen (sharer_at sharers) joins.empty joins.held joins.grown joins.tells joins.at_owner joins.placed
+      (seen_none sharing sharers shared) (seen_sharer sharing sharers shared) joins.taken joins.left joins.others joins.stays k sharer.0 sharer.1
 
-  joined_home : IsHome mid i (λ k. home_joined i (twin_at twins k)) s.table s.own seen (group_at groups g)
-  joined_home =
-      home_new i g slots once groups spaces mid s shared seen (twin_at twins) joins.empty joins.held joins.grown joins.tells joins.at_home joins.placed
-      (seen_none once twins shared) (seen_twin once twins shared) joins.taken joins.left joins.others joins.stays
+  joined_owner : IsPieceThere mid i (λ k. owner_joined i (sharer_at sharers k)) s.table s.own seen (group_at groups g)
+  joined_owner =
+      owner_new i g instances sharing groups spaces mid s shared seen (sharer_at sharers) joins.empty joins.held joins.grown joins.tells joins.at_owner joins.placed
+      (seen_none sharing sharers shared) (seen_sharer sharing sharers shared) joins.taken joins.left joins.others joins.stays
 
-  joined_blocks : (h : ℕ) → HasBlocks (picture_of mid) h (group_at groups h)
+  joined_blocks : (h : ℕ) → HasBlocks (map_of mid) h (group_at groups h)
   joined_blocks h space =
-      group_stays i g slots once groups spaces mid s shared seen (twin_at twins) joins.empty joins.held joins.grown joins.tells joins.at_home joins.placed
-      (seen_none once twins shared) (seen_twin once twins shared) joins.taken joins.left joins.others joins.stays h space
+      group_stays i g instances sharing groups spaces mid s shared seen (sharer_at sharers) joins.empty joins.held joins.grown joins.tells joins.at_owner joins.placed
+      (seen_none sharing sharers shared) (seen_sharer sharing sharers shared) joins.taken joins.left joins.others joins.stays h space
       ∙ joins.grown.blocks h space
 
   joined_regions : (h : ℕ) (space : Space) → IsOf (space_in mid space).region (block_piece (block_in (group_at groups h) space))
@@ -140,70 +140,70 @@ module _ {M : Type 0} (i g : ℕ) (slots : List (Option (Member M))) (once : Lis
   -- there is room for it
   pub room_joined : AreOrdered mid → Fits (placed s.table s.own seen (group_at groups g)) s.own seen (group_at groups g)
   room_joined ordered =
-      room_at_home mid i (λ k. home_joined i (twin_at twins k)) g s.table s.own seen (group_at groups g) ordered joined_home (joined_blocks g) (joined_regions g)
+      room_at_owner mid i (λ k. owner_joined i (sharer_at sharers k)) g s.table s.own seen (group_at groups g) ordered joined_owner (joined_blocks g) (joined_regions g)
 
-  module _ (slots' : List (Option (Member M))) (once' : List Shelf)
-      (gone : (j k : ℕ) (space : Space) → slot_at slots j ≡ None → j ≢ i → owned (Record j k) (blocks_in (picture_of spaces) space) ≡ [])
-      (others : OthersStay i slots once slots' once') (started : IsStarted g (settled s seen (group_at groups g)) (slot_at slots' i)) (pieces : SamePieces seen (once_at once' i))
-      (stands : (j k : ℕ) → IsSameStand (stand_joined once i k (twin_at twins k) (piece_at shared k) j) (stand_at (shelf_at once' j) k))
-      (least : AreLeast once') (together : AreTogether slots' once') where
-    new : (m : Member M) × ((slot_at slots' i ≡ Some m) × ((m.group ≡ g) × SameInstance (settled s seen (group_at groups g)) (instance_of m.inst)))
-    new = started_as g (settled s seen (group_at groups g)) (slot_at slots' i) started
+  module _ (instances' : List (Option (Member M))) (sharing' : List Locations)
+      (gone : (j k : ℕ) (space : Space) → slot_at instances j ≡ None → j ≢ i → owned (Record j k) (blocks_in (map_of spaces) space) ≡ [])
+      (others : OthersStay i instances sharing instances' sharing') (started : IsStarted g (settled s seen (group_at groups g)) (slot_at instances' i)) (pieces : SamePieces seen (shared_at sharing' i))
+      (stands : (j k : ℕ) → IsSameLocation (location_joined sharing i k (sharer_at sharers k) (piece_at shared k) j) (location_at (locations_at sharing' j) k))
+      (least : AreLeast sharing') (together : AreTogether instances' sharing') where
+    new : (m : Member M) × ((slot_at instances' i ≡ Some m) × ((m.group ≡ g) × SameInstance (settled s seen (group_at groups g)) (instance_of m.inst)))
+    new = started_as g (settled s seen (group_at groups g)) (slot_at instances' i) started
 
     same_table : table_of new.0 ≡ unplaced s.table
     same_table = ap unplaced new.1.1.1.table ∙ unplaced-with_bases s.table (record_place s.table s.own seen (group_at groups g))
 
-    its_homes : (k : ℕ) → home_of once' i k ≡ home_joined i (twin_at twins k)
-    its_homes =
-        home_of_new i g slots once groups spaces mid s shared seen (twin_at twins) joins.empty joins.held joins.grown joins.tells joins.at_home joins.placed
-        (seen_none once twins shared) (seen_twin once twins shared) joins.taken joins.left joins.others joins.stays once' stands
+    its_owners : (k : ℕ) → owner_of sharing' i k ≡ owner_joined i (sharer_at sharers k)
+    its_owners =
+        owner_of_new i g instances sharing groups spaces mid s shared seen (sharer_at sharers) joins.empty joins.held joins.grown joins.tells joins.at_owner joins.placed
+        (seen_none sharing sharers shared) (seen_sharer sharing sharers shared) joins.taken joins.left joins.others joins.stays sharing' stands
 
-    home_of_it : IsHome mid i (home_of once' i) (table_of new.0) (instance_of new.0.inst).own (once_at once' i) (group_at groups new.0.group)
-    home_of_it =
-        subst (λ (h : ℕ). IsHome mid i (home_of once' i) (table_of new.0) (instance_of new.0.inst).own (once_at once' i) (group_at groups h)) (sym new.1.1.0)
-        (subst (λ (rs : List MemRec). IsHome mid i (home_of once' i) rs (instance_of new.0.inst).own (once_at once' i) (group_at groups g)) (sym same_table)
-        (home_by_same mid i (λ k. home_joined i (twin_at twins k)) (home_of once' i) (unplaced s.table) (instance_of new.0.inst).own (once_at once' i) (group_at groups g) its_homes
-        (home_stays mid i (λ k. home_joined i (twin_at twins k)) (unplaced s.table) s.own (instance_of new.0.inst).own seen (once_at once' i) (group_at groups g) (group_at groups g)
-        new.1.1.1.own pieces (λ space. alike_itself (block_in (group_at groups g) space)) (home_unplaced mid i (λ k. home_joined i (twin_at twins k)) s.table s.own seen (group_at groups g) joined_home))))
+    owner_of_it : IsPieceThere mid i (owner_of sharing' i) (table_of new.0) (instance_of new.0.inst).own (shared_at sharing' i) (group_at groups new.0.group)
+    owner_of_it =
+        subst (λ (h : ℕ). IsPieceThere mid i (owner_of sharing' i) (table_of new.0) (instance_of new.0.inst).own (shared_at sharing' i) (group_at groups h)) (sym new.1.1.0)
+        (subst (λ (rs : List MemRec). IsPieceThere mid i (owner_of sharing' i) rs (instance_of new.0.inst).own (shared_at sharing' i) (group_at groups g)) (sym same_table)
+        (owner_by_same mid i (λ k. owner_joined i (sharer_at sharers k)) (owner_of sharing' i) (unplaced s.table) (instance_of new.0.inst).own (shared_at sharing' i) (group_at groups g) its_owners
+        (owner_stays mid i (λ k. owner_joined i (sharer_at sharers k)) (unplaced s.table) s.own (instance_of new.0.inst).own seen (shared_at sharing' i) (group_at groups g) (group_at groups g)
+        new.1.1.1.own pieces (λ space. alike_itself (block_in (group_at groups g) space)) (owner_unplaced mid i (λ k. owner_joined i (sharer_at sharers k)) s.table s.own seen (group_at groups g) joined_owner))))
 
-    home_of_another : (j : ℕ) (n : Member M) → j ≢ i → slot_at slots j ≡ Some n → IsHome mid j (home_of once' j) (table_of n) (instance_of n.inst).own (once_at once' j) (group_at groups n.group)
-    home_of_another j n apart at =
-        home_stays mid j (home_of once' j) (table_of n) (instance_of n.inst).own (instance_of n.inst).own (once_at once j) (once_at once' j) (group_at groups n.group) (group_at groups n.group)
+    owner_of_another : (j : ℕ) (n : Member M) → j ≢ i → slot_at instances j ≡ Some n → IsPieceThere mid j (owner_of sharing' j) (table_of n) (instance_of n.inst).own (shared_at sharing' j) (group_at groups n.group)
+    owner_of_another j n apart at =
+        owner_stays mid j (owner_of sharing' j) (table_of n) (instance_of n.inst).own (instance_of n.inst).own (shared_at sharing j) (shared_at sharing' j) (group_at groups n.group) (group_at groups n.group)
         (same_pieces (instance_of n.inst).own) (others.pieces j apart) (λ space. alike_itself (block_in (group_at groups n.group) space))
-        (home_of_other i g slots once groups spaces mid s shared seen (twin_at twins) joins.empty joins.held joins.grown joins.tells joins.at_home joins.placed
-        (seen_none once twins shared) (seen_twin once twins shared) joins.taken joins.left joins.others joins.stays once' stands j n at apart)
+        (owner_of_other i g instances sharing groups spaces mid s shared seen (sharer_at sharers) joins.empty joins.held joins.grown joins.tells joins.at_owner joins.placed
+        (seen_none sharing sharers shared) (seen_sharer sharing sharers shared) joins.taken joins.left joins.others joins.stays sharing' stands j n at apart)
 
-    not_new : (j : ℕ) → slot_at slots' j ≡ None → j ≢ i
-    not_new j none e = none-some _ (sym none ∙ ap (slot_at slots') e ∙ new.1.0)
+    not_new : (j : ℕ) → slot_at instances' j ≡ None → j ≢ i
+    not_new j none e = none-some _ (sym none ∙ ap (slot_at instances') e ∙ new.1.0)
 
-    member_is : is_member_of g (slot_at slots' i) ≡ true
+    member_is : is_member_of g (slot_at instances' i) ≡ true
     member_is = ap (is_member_of g) new.1.0 ∙ eq-eqb new.0.group g new.1.1.0
 
-    was_none : (h j : ℕ) → is_member_of h (slot_at slots' j) ≡ false → is_member_of h (slot_at slots j) ≡ false
+    was_none : (h j : ℕ) → is_member_of h (slot_at instances' j) ≡ false → is_member_of h (slot_at instances j) ≡ false
     was_none h j none = elim (eqb_tells j i) [
       | inl e ↦ rw (e.1, joins.empty) refl
       | inr e ↦ ap (is_member_of h) (sym (others.slot j e.1)) ∙ none
     ]
 
-    pub joined_stands : AreStanding slots' once' groups mid
+    pub joined_stands : AgreeWithMap instances' sharing' groups mid
     joined_stands = record {
-      homes = λ j n at. elim (eqb_tells j i) [
+      owners = λ j n at. elim (eqb_tells j i) [
         | inl e ↦
             let is : new.0 ≡ n = same_Some _ _ (sym new.1.0 ∙ rw e.1 at at) in
-            rw e.1 (subst (λ (x : Member M). IsHome mid i (home_of once' i) (table_of x) (instance_of x.inst).own (once_at once' i) (group_at groups x.group)) is home_of_it)
-        | inr e ↦ home_of_another j n e.1 (sym (others.slot j e.1) ∙ at)
+            rw e.1 (subst (λ (x : Member M). IsPieceThere mid i (owner_of sharing' i) (table_of x) (instance_of x.inst).own (shared_at sharing' i) (group_at groups x.group)) is owner_of_it)
+        | inr e ↦ owner_of_another j n e.1 (sym (others.slot j e.1) ∙ at)
       ];
       least = least;
       together = together;
       free = λ j none.
           let apart = not_new j none in
-          let was : once_at once j ≡ no_pieces = joins.grown.free j (sym (others.slot j apart) ∙ none) in
-          pieces_none (once_at once' j) (subst (λ (p : Pieces). SamePieces p (once_at once' j)) was (others.pieces j apart));
+          let was : shared_at sharing j ≡ no_pieces = joins.grown.free j (sym (others.slot j apart) ∙ none) in
+          pieces_none (shared_at sharing' j) (subst (λ (p : Pieces). SamePieces p (shared_at sharing' j)) was (others.pieces j apart));
       gone = λ j k space none.
           let apart = not_new j none in
-          let was : slot_at slots j ≡ None = sym (others.slot j apart) ∙ none in
-          gone_stays i g slots once groups spaces mid s shared seen (twin_at twins) joins.empty joins.held joins.grown joins.tells joins.at_home joins.placed
-          (seen_none once twins shared) (seen_twin once twins shared) joins.taken joins.left joins.others joins.stays j k space apart was (gone j k space was apart);
+          let was : slot_at instances j ≡ None = sym (others.slot j apart) ∙ none in
+          gone_stays i g instances sharing groups spaces mid s shared seen (sharer_at sharers) joins.empty joins.held joins.grown joins.tells joins.at_owner joins.placed
+          (seen_none sharing sharers shared) (seen_sharer sharing sharers shared) joins.taken joins.left joins.others joins.stays j k space apart was (gone j k space was apart);
       blocks = joined_blocks;
       regions = joined_regions;
       unused = λ h space none. elim (eqb_tells h g) [
@@ -229,10 +229,10 @@ module _ {M : Type 0} (i g : ℕ) (slots : List (Option (Member M))) (once : Lis
         idle_of h (Idling x) idle = refl
         idle_of h (Running x) idle = absurd idle
 
-    pub newborn : IsNewborn g s.kind s.params.items s.table (slot_at slots' i)
-    newborn = idle_one (slot_at slots' i) started
+    pub newborn : IsNewborn g s.kind s.params.items s.table (slot_at instances' i)
+    newborn = idle_one (slot_at instances' i) started
 
--- ---- the same instances have the same twins
+-- ---- the same instances have the same sharers
 
 asked_stays : {M : Type 0} (a b : Option (Member M)) → SlotIsSame a b → asked_by b ≡ asked_by a
 asked_stays None b same = ap asked_by same
@@ -245,6 +245,6 @@ asked_stays (Some m) (Some n) same =
         → (let x : Asked M = record { kind = a; params = p; table = rs } in x) ≡ (let y : Asked M = record { kind = b; params = q; table = ts } in y)
     alike_asked a b p q rs ts e f h = rw (e, f, h) refl
 
-pub twins_stay : {M : Type 0} (same : M → M → Bool) (slots slots' : List (Option (Member M))) (x : Asked M) (twins : Twins) → SameInstances slots slots' → AreTwins same slots x twins → AreTwins same slots' x twins
-twins_stay {M} same slots slots' x twins stay are k =
-    are k ∙ sym (ap (λ (others : ℕ → Option (Asked M)). twin_of same others x k) (λ t j. asked_stays (slot_at slots j) (slot_at slots' j) (stay j) t))
+pub sharers_stay : {M : Type 0} (same : M → M → Bool) (instances instances' : List (Option (Member M))) (x : Asked M) (sharers : Sharers) → SameInstances instances instances' → AreLeastSharers same instances x sharers → AreLeastSharers same instances' x sharers
+sharers_stay {M} same instances instances' x sharers stay are k =
+    are k ∙ sym (ap (λ (others : ℕ → Option (Asked M)). sharer_of same others x k) (λ t j. asked_stays (slot_at instances j) (slot_at instances' j) (stay j) t))

@@ -9,29 +9,29 @@ use Rattle.mem_rec.specs.declared.Space.TheVariants.{Daram, Saram, External}
 use Rattle.ialg.specs.Records.{unplaced}
 use Rattle.ialg.specs.Meaning.{Meaning}
 use Rattle.ialg.specs.History.{History}
+use Rattle.ialg.specs.Laws.{Laws}
 use Rattle.scratch_group.specs.declared.group.Group.{Group}
-use Rattle.lifecycle.specs.States.{Relation}
 use Rattle.host_table.specs.declared.member.Member.{Member}
-use Rattle.host_shared.specs.declared.shelves.Shelf.{Shelf}
+use Rattle.host_shared.specs.declared.locations.Locations.{Locations}
 use Rattle.host_table.specs.Table.{slot_at, activity_at}
-use Rattle.host_map.specs.Activity.{Activity, rested, with_activity}
-use Rattle.host_shared.specs.Shelves.{once_at}
+use Rattle.host_map.specs.Activity.{Activity, deactivated, with_activity}
+use Rattle.host_shared.specs.Locations.{shared_at}
 use Rattle.host_table.specs.Keeps.{Keeps, SlotKeeps, with_history}
 use Rattle.host_map.specs.declared.parts.Sizes.{Sizes}
 use Rattle.host_spaces.specs.declared.spaces.Spaces.{Spaces}
-use Rattle.host_map.specs.Creation.{created_picture, replaces}
-use Rattle.host_spaces.specs.Picture.{AreSameSpaces, copied_in, picture_of, sizes_of, space_in}
-use Rattle.host_map.specs.Picture.{Picture}
+use Rattle.host_map.specs.Creation.{created_map, replaces}
+use Rattle.host_spaces.specs.MemoryMap.{AreSameSpaces, copied_in, map_of, sizes_of, space_in}
+use Rattle.host_map.specs.MemoryMap.{MemoryMap}
 use Rattle.host_moves.proofs.OwnMoves.{same_sizes}
-use Rattle.host_map.specs.Twins.{asked, twin_of}
-use Rattle.host_life.specs.Twins.{asked_by}
-use Rattle.host_spec.specs.State.{Living, State, twins_of, with_living}
-use Rattle.host_refines.proofs.TwinsKept.{twins_same}
+use Rattle.host_map.specs.Sharers.{asked, sharer_of}
+use Rattle.host_life.specs.Sharers.{asked_by}
+use Rattle.host_spec.specs.State.{Living, State, sharers_of, with_living}
+use Rattle.host_moves.proofs.SharersKept.{sharers_same}
 use Rattle.host_spec.specs.Choices.{MayAsk}
 use Rattle.host_spec.specs.Steps.{activity_after_create, created, newborn}
 use Rattle.host_refines.specs.Kept.{IsLiving, history_of}
 use Rattle.host_refines.specs.Hosts.{HostKeeps}
-use Rattle.host_refines.proofs.MovesKept.{still_living}
+use Rattle.host_moves.proofs.MovesKept.{still_living}
 use Rattle.host_create.specs.Growth.{activity_grown}
 use Rattle.host_create.specs.Started.{IsNewborn, OthersAreSame}
 
@@ -62,42 +62,42 @@ asks meaning w kind p q table same asked without lawful =
     let its = subst (λ (xs : List ℤ). IsTrue (meaning.lawful kind xs w)) same lawful in
     ap (meaning.table kind) same ∙ sym (asked.told (or_left (meaning.lawful kind p w) (meaning.declares kind p) its)) ∙ ap Some (sym (without its))
 
-module _ {M : Type 0} (meaning : Meaning M) (idle_keeps active_keeps : Relation M) (slots : List (Option (Member M))) (once : List Shelf) (groups : List Group) (spaces : Spaces) (before : State M)
-    (kept : HostKeeps meaning idle_keeps active_keeps slots once groups spaces before) (i g : ℕ) (kind : M) (p : List ℤ) (table : List MemRec) where
-  pub is_free : slot_at slots i ≡ None → before.living i ≡ None
-  is_free empty = living_none (slot_at slots i) (before.living i) (kept.tables.living i) empty
+module _ {M : Type 0} (laws : Laws M) (instances : List (Option (Member M))) (sharing : List Locations) (groups : List Group) (spaces : Spaces) (before : State M)
+    (kept : HostKeeps laws instances sharing groups spaces before) (i g : ℕ) (kind : M) (p : List ℤ) (table : List MemRec) where
+  pub is_free : slot_at instances i ≡ None → before.living i ≡ None
+  is_free empty = living_none (slot_at instances i) (before.living i) (kept.tables.living i) empty
 
-  pub is_taken : is_some (slot_at slots i) ≡ true → (l : Living M) × (before.living i ≡ Some l)
-  is_taken there = living_some (slot_at slots i) (before.living i) (kept.tables.living i) there
+  pub is_taken : is_some (slot_at instances i) ≡ true → (l : Living M) × (before.living i ≡ Some l)
+  is_taken there = living_some (slot_at instances i) (before.living i) (kept.tables.living i) there
 
-  -- the twins of what is asked for, among the instances in the slots
-  abbrev twins : ℕ → Option ℕ
-  twins = λ k. twin_of meaning.same (λ j. asked_by (slot_at slots j)) (asked kind p table) k
+  -- the sharers of what is asked for, among the instances in the slots
+  abbrev sharers : ℕ → Option ℕ
+  sharers = λ k. sharer_of laws.meaning.same (λ j. asked_by (slot_at instances j)) (asked kind p table) k
 
-  twins_are : twins ≡ twins_of meaning before.living (newborn kind g p table)
-  twins_are t k = twins_same meaning.same slots before.living (asked kind p table) kept.tables.living k t
+  sharers_are : sharers ≡ sharers_of laws.meaning before.living (newborn kind g p table)
+  sharers_are t k = sharers_same laws.meaning.same instances before.living (asked kind p table) kept.tables.living k t
 
-  -- the picture is the machine's
-  pub picture_is : (r : Result Picture Space) → created_picture (sizes_of spaces) (picture_of spaces) i g table twins ≡ r
-      → created_picture before.sizes before.picture i g table (twins_of meaning before.living (newborn kind g p table)) ≡ r
-  picture_is r e =
-      ap (created_picture before.sizes before.picture i g table) (sym twins_are)
-      ∙ ap (λ (s : Sizes). created_picture s before.picture i g table twins) (sym kept.sizes)
-      ∙ ap (λ (q : Picture). created_picture (sizes_of spaces) q i g table twins) (sym kept.picture) ∙ e
+  -- the memory map is the machine's
+  pub map_is : (r : Result MemoryMap Space) → created_map (sizes_of spaces) (map_of spaces) i g table sharers ≡ r
+      → created_map before.sizes before.map i g table (sharers_of laws.meaning before.living (newborn kind g p table)) ≡ r
+  map_is r e =
+      ap (created_map before.sizes before.map i g table) (sym sharers_are)
+      ∙ ap (λ (s : Sizes). created_map s before.map i g table sharers) (sym kept.sizes)
+      ∙ ap (λ (q : MemoryMap). created_map (sizes_of spaces) q i g table sharers) (sym kept.map) ∙ e
 
-  module _ (slots' : List (Option (Member M))) (once' : List Shelf) (groups' : List Group) (spaces' : Spaces)
-      (others : OthersAreSame i slots slots') (new : IsNewborn g kind p table (slot_at slots' i))
-      (activity : (k : ℕ) → activity_at groups' k ≡ activity_grown (replaces (picture_of spaces) g table) groups g k)
-      (keeps : Keeps meaning idle_keeps active_keeps before.poison slots' once' groups' (with_history (λ j. history_of (before.living j)) i []))
+  module _ (instances' : List (Option (Member M))) (sharing' : List Locations) (groups' : List Group) (spaces' : Spaces)
+      (others : OthersAreSame i instances instances') (new : IsNewborn g kind p table (slot_at instances' i))
+      (activity : (k : ℕ) → activity_at groups' k ≡ activity_grown (replaces (map_of spaces) g table) groups g k)
+      (keeps : Keeps laws before.poison instances' sharing' groups' (with_history (λ j. history_of (before.living j)) i []))
       (stays : AreSameSpaces spaces spaces') where
-    lives_now : (j : ℕ) → IsLiving (slot_at slots' j) (with_living before.living i (Some (newborn kind g p table)) j)
+    lives_now : (j : ℕ) → IsLiving (slot_at instances' j) (with_living before.living i (Some (newborn kind g p table)) j)
     lives_now j = elim (eqb_tells j i) [
       | inl here ↦
-          subst (IsLiving (slot_at slots' j)) (sym (ap (λ (b : Bool). cond b (Some (newborn kind g p table)) (before.living j)) here.0))
-          (rw here.1 (born g kind p table (slot_at slots' i) new))
+          subst (IsLiving (slot_at instances' j)) (sym (ap (λ (b : Bool). cond b (Some (newborn kind g p table)) (before.living j)) here.0))
+          (rw here.1 (born g kind p table (slot_at instances' i) new))
       | inr apart ↦
-          subst (IsLiving (slot_at slots' j)) (sym (ap (λ (b : Bool). cond b (Some (newborn kind g p table)) (before.living j)) apart.0))
-          (still_living (slot_at slots j) (slot_at slots' j) (before.living j) (others j apart.1) (kept.tables.living j))
+          subst (IsLiving (slot_at instances' j)) (sym (ap (λ (b : Bool). cond b (Some (newborn kind g p table)) (before.living j)) apart.0))
+          (still_living (slot_at instances j) (slot_at instances' j) (before.living j) (others j apart.1) (kept.tables.living j))
     ]
 
     all_activity : activity_at groups ≡ before.activity
@@ -106,8 +106,8 @@ module _ {M : Type 0} (meaning : Meaning M) (idle_keeps active_keeps : Relation 
     active_now : (k : ℕ) → activity_at groups' k ≡ activity_after_create before g table k
     active_now k =
         activity k
-        ∙ ap (λ (q : Picture). activity_grown (replaces q g table) groups g k) kept.picture
-        ∙ ap (λ (a : ℕ → Activity). cond (replaces before.picture g table) (with_activity a g (rested (a g))) a k) all_activity
+        ∙ ap (λ (q : MemoryMap). activity_grown (replaces q g table) groups g k) kept.map
+        ∙ ap (λ (a : ℕ → Activity). cond (replaces before.map g table) (with_activity a g (deactivated (a g))) a k) all_activity
 
     history_now : (j : ℕ) → with_history (λ l. history_of (before.living l)) i [] j ≡ history_of (with_living before.living i (Some (newborn kind g p table)) j)
     history_now j = elim (eqb_tells j i) [
@@ -119,14 +119,14 @@ module _ {M : Type 0} (meaning : Meaning M) (idle_keeps active_keeps : Relation 
           ∙ sym (ap (λ (b : Bool). history_of (cond b (Some (newborn kind g p table)) (before.living j))) apart.0)
     ]
 
-    pub created_kept : HostKeeps meaning idle_keeps active_keeps slots' once' groups' spaces' (created before i (newborn kind g p table) table (picture_of spaces'))
+    pub created_kept : HostKeeps laws instances' sharing' groups' spaces' (created before i (newborn kind g p table) table (map_of spaces'))
     created_kept = record {
       tables = record {
         living = lives_now;
         activity = active_now;
-        histories = λ j. subst (λ (h : History). SlotKeeps meaning idle_keeps active_keeps before.poison (slot_at slots' j) (once_at once' j) groups' h) (history_now j) (keeps j);
+        histories = λ j. subst (λ (h : History). SlotKeeps laws before.poison (slot_at instances' j) (shared_at sharing' j) groups' h) (history_now j) (keeps j);
       };
-      picture = refl;
+      map = refl;
       sizes = same_sizes spaces spaces' (λ space. (stays space).region) ∙ kept.sizes;
       copied = same_copied spaces spaces' stays ∙ kept.copied;
     }

@@ -38,28 +38,28 @@ larger_serves old None need align larger none = none
 larger_serves old (Some c) need align larger none =
     test_done (nat_eq need 0 || serves (Some c) need align) _ (more_serves old c need align larger.0 larger.1 (test_true (nat_eq need 0 || serves old need align) _ none))
 
-sizes_of : (t : Bool) (home : Extent) (c : ScratchBlock) (n : Need) → IsNeeded home (if t then None else Some n) (Some c) → (length c.piece.words ≡ n.size) × (c.align ≡ n.align)
-sizes_of true home c n is = absurd is
-sizes_of false home c n is = (is.1, is.2)
+sizes_of : (t : Bool) (owner : Extent) (c : ScratchBlock) (n : Need) → IsNeeded owner (if t then None else Some n) (Some c) → (length c.piece.words ≡ n.size) × (c.align ≡ n.align)
+sizes_of true owner c n is = absurd is
+sizes_of false owner c n is = (is.1, is.2)
 
-none_needed : (n : Option Need) (home : Extent) → IsNeeded home n None → n ≡ None
-none_needed None home is = refl
-none_needed (Some n) home is = absurd is
+none_needed : (n : Option Need) (owner : Extent) → IsNeeded owner n None → n ≡ None
+none_needed None owner is = refl
+none_needed (Some n) owner is = absurd is
 
 serves_all : (c : ScratchBlock) (need align : ℕ) → need ≤ length c.piece.words → align ≤ c.align → (nat_eq need 0 || serves (Some c) need align) ≡ true
 serves_all c need align long fine = grind (arith, nat_tests)
 
 -- for whom it was made
-pub needed_serves : (home : Extent) (old new : Option ScratchBlock) (need align : ℕ) → IsNeeded home (block_needed old need align) new → block_needed (newer new old) need align ≡ None
-needed_serves home old None need align is = none_needed (block_needed old need align) home is
-needed_serves home old (Some c) need align is =
-    let sizes = sizes_of (nat_eq need 0 || serves old need align) home c (record { size = max (length (block_words old)) need; align = max (block_align old) align }) is in
+pub needed_serves : (owner : Extent) (old new : Option ScratchBlock) (need align : ℕ) → IsNeeded owner (block_needed old need align) new → block_needed (newer new old) need align ≡ None
+needed_serves owner old None need align is = none_needed (block_needed old need align) owner is
+needed_serves owner old (Some c) need align is =
+    let sizes = sizes_of (nat_eq need 0 || serves old need align) owner c (record { size = max (length (block_words old)) need; align = max (block_align old) align }) is in
     test_done (nat_eq need 0 || serves (Some c) need align) _ (serves_all c need align (omega (arith, sizes.0)) (omega (arith, sizes.1)))
 
-pub larger_needed : (home : Extent) (old new : Option ScratchBlock) (need align : ℕ) → IsNeeded home (block_needed old need align) new → IsLarger old new
-larger_needed home old None need align is = tt
-larger_needed home old (Some c) need align is =
-    let sizes = sizes_of (nat_eq need 0 || serves old need align) home c (record { size = max (length (block_words old)) need; align = max (block_align old) align }) is in
+pub larger_needed : (owner : Extent) (old new : Option ScratchBlock) (need align : ℕ) → IsNeeded owner (block_needed old need align) new → IsLarger old new
+larger_needed owner old None need align is = tt
+larger_needed owner old (Some c) need align is =
+    let sizes = sizes_of (nat_eq need 0 || serves old need align) owner c (record { size = max (length (block_words old)) need; align = max (block_align old) align }) is in
     (omega (arith, sizes.0), omega (arith, sizes.1))
 
 -- ---- bases where a group gets first blocks

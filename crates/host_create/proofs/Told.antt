@@ -29,20 +29,20 @@ use Rattle.space_blocks.proofs.Orders.{before, behind}
 use Rattle.host_spaces.specs.declared.pieces.NewBlocks.{NewBlocks}
 use Rattle.host_spaces.specs.declared.pieces.OldBlocks.{OldBlocks}
 use Rattle.host_spaces.specs.declared.spaces.Spaces.{Spaces}
-use Rattle.host_spaces.specs.Picture.{AreSameSpaces, picture_of}
-use Rattle.host_map.specs.Picture.{Picture, blocks_in, each_space}
+use Rattle.host_spaces.specs.MemoryMap.{AreSameSpaces, map_of}
+use Rattle.host_map.specs.MemoryMap.{MemoryMap, blocks_in, each_space}
 use Rattle.host_spaces.specs.Pieces.{IsNeeded, new_block, old_piece, with_new, without_pieces}
 use Rattle.host_spaces.specs.Wants.{block_need}
 use Rattle.mem_rec.specs.declared.TheConstants.{GROUPS}
 use Rattle.host_table.specs.declared.member.Member.{Member}
-use Rattle.host_shared.specs.declared.shelves.Shelf.{Shelf}
-use Rattle.host_shared.specs.Shelves.{home_of, once_at}
+use Rattle.host_shared.specs.declared.locations.Locations.{Locations}
+use Rattle.host_shared.specs.Locations.{owner_of, shared_at}
 use Rattle.host_table.specs.Table.{slot_at, group_at, instance_of, activity_at, IsHoused, TablesOk, TablesTold, ArePoisoned}
 use Rattle.host_map.specs.Activity.{Activity}
 use Rattle.host_table.specs.Frames.{IsSameMember}
 use Rattle.host_moves.specs.Waiting.{BlockStays, WordsStay}
 use Rattle.host_moves.proofs.Owns.{told_later}
-use Rattle.host_moves.specs.Standing.{AreOrdered, IsHome, IsOf, table_of}
+use Rattle.host_moves.specs.Standing.{AreOrdered, IsPieceThere, IsOf, table_of}
 use Rattle.host_moves.proofs.MovedBlocks.{block_stays_itself, member_stays_itself}
 use Rattle.host_create.specs.Blocks.{newer, replaced_piece, replaced_pieces, replaced_in}
 use Rattle.host_create.specs.Growth.{ArePlaced, AreGrown}
@@ -117,10 +117,10 @@ block_kept (Some b) (Some o) none = absurd (true≢false none)
 
 -- ---- the pieces that are taken out
 
-pub region_of : (home : Extent) (new old : Option ScratchBlock) (p : Option Span) → p ≡ replaced_piece new old → IsOf home (block_piece old) → IfSome p (λ q. q.region ≡ home)
-region_of home None old p e is = rw e tt
-region_of home (Some b) None p e is = rw e tt
-region_of home (Some b) (Some o) p e is = rw e is
+pub region_of : (owner : Extent) (new old : Option ScratchBlock) (p : Option Span) → p ≡ replaced_piece new old → IsOf owner (block_piece old) → IfSome p (λ q. q.region ≡ owner)
+region_of owner None old p e is = rw e tt
+region_of owner (Some b) None p e is = rw e tt
+region_of owner (Some b) (Some o) p e is = rw e is
 
 among : (b o : Placed) → Contains (with_block b (o ∷ [])) o
 among b o = elim (cases_lt o.place b.place) [
@@ -128,36 +128,36 @@ among b o = elim (cases_lt o.place b.place) [
   | inr ge ↦ subst (λ (xs : List Placed). Contains xs o) (sym (before b o [] ge)) (1, (let some : 1 < length (b ∷ o ∷ []) = omega arith in some), refl)
 ]
 
-pub owner_of : (g : ℕ) (bs : List Placed) (new old : Option ScratchBlock) (p : Option Span) → p ≡ replaced_piece new old
+pub replaced_owner : (g : ℕ) (bs : List Placed) (new old : Option ScratchBlock) (p : Option Span) → p ≡ replaced_piece new old
     → owned (Scratch g) bs ≡ with_new g new (block_of_piece (Scratch g) (block_align old) (block_piece old)) → IfSome p (Owns bs (Scratch g))
-owner_of g bs None old p e is = rw e tt
-owner_of g bs (Some b) None p e is = rw e tt
-owner_of g bs (Some b) (Some o) p e is =
+replaced_owner g bs None old p e is = rw e tt
+replaced_owner g bs (Some b) None p e is = rw e tt
+replaced_owner g bs (Some b) (Some o) p e is =
     rw e (o.align, subst (λ (xs : List Placed). Contains xs (block_of (Scratch g) o.align o.piece)) (sym is) (among (block_of (Scratch g) b.align b.piece) (block_of (Scratch g) o.align o.piece)))
 
 each_same : (f h : Space → List Placed) → f Daram ≡ h Daram → f Saram ≡ h Saram → f External ≡ h External → each_space f ≡ each_space h
 each_same f h d s e =
-    ap (λ (xs : List Placed). let p : Picture = record { daram = xs; saram = f Saram; external = f External } in p) d
-    ∙ ap (λ (xs : List Placed). let p : Picture = record { daram = h Daram; saram = xs; external = f External } in p) s
-    ∙ ap (λ (xs : List Placed). let p : Picture = record { daram = h Daram; saram = h Saram; external = xs } in p) e
+    ap (λ (xs : List Placed). let p : MemoryMap = record { daram = xs; saram = f Saram; external = f External } in p) d
+    ∙ ap (λ (xs : List Placed). let p : MemoryMap = record { daram = h Daram; saram = xs; external = f External } in p) s
+    ∙ ap (λ (xs : List Placed). let p : MemoryMap = record { daram = h Daram; saram = h Saram; external = xs } in p) e
 
 -- whatever their words are
-pub without_replaced_pieces : (picture : Picture) (blocks : NewBlocks) (y y' : Group) (old : OldBlocks) → ((space : Space) → IsSameBlock (block_in y space) (block_in y' space))
-    → ((space : Space) → old_piece old space ≡ replaced_piece (new_block blocks space) (block_in y' space)) → without_pieces picture old ≡ without_pieces picture (replaced_pieces blocks y)
-without_replaced_pieces picture blocks y y' old same is =
-    each_same (λ space. without_piece (old_piece old space) (blocks_in picture space)) (λ space. without_piece (old_piece (replaced_pieces blocks y) space) (blocks_in picture space))
+pub without_replaced_pieces : (map : MemoryMap) (blocks : NewBlocks) (y y' : Group) (old : OldBlocks) → ((space : Space) → IsSameBlock (block_in y space) (block_in y' space))
+    → ((space : Space) → old_piece old space ≡ replaced_piece (new_block blocks space) (block_in y' space)) → without_pieces map old ≡ without_pieces map (replaced_pieces blocks y)
+without_replaced_pieces map blocks y y' old same is =
+    each_same (λ space. without_piece (old_piece old space) (blocks_in map space)) (λ space. without_piece (old_piece (replaced_pieces blocks y) space) (blocks_in map space))
     (at Daram) (at Saram) (at External)
   where
-    at : (space : Space) → without_piece (old_piece old space) (blocks_in picture space) ≡ without_piece (replaced_piece (new_block blocks space) (block_in y space)) (blocks_in picture space)
+    at : (space : Space) → without_piece (old_piece old space) (blocks_in map space) ≡ without_piece (replaced_piece (new_block blocks space) (block_in y space)) (blocks_in map space)
     at space =
-        ap (λ (p : Option Span). without_piece p (blocks_in picture space)) (is space)
-        ∙ without_same (new_block blocks space) (block_in y space) (block_in y' space) (blocks_in picture space) (same space)
+        ap (λ (p : Option Span). without_piece p (blocks_in map space)) (is space)
+        ∙ without_same (new_block blocks space) (block_in y space) (block_in y' space) (blocks_in map space) (same space)
 
 -- ---- the group with its new blocks
 
-pub record Renewed {M : Type 0} (g : ℕ) (blocks : NewBlocks) (slots : List (Option (Member M))) (once : List Shelf) (groups groups' : List Group) (spaces spaces' : Spaces) : Type 0 where
+pub record Renewed {M : Type 0} (g : ℕ) (blocks : NewBlocks) (instances : List (Option (Member M))) (sharing : List Locations) (groups groups' : List Group) (spaces spaces' : Spaces) : Type 0 where
   pub old : OldBlocks
-  pub placed : ArePlaced g blocks slots once groups spaces
+  pub placed : ArePlaced g blocks instances sharing groups spaces
   pub ordered : AreOrdered spaces
   pub ordered_now : AreOrdered spaces'
   pub is_old : (space : Space) → old_piece old space ≡ replaced_piece (new_block blocks space) (block_in (group_at groups g) space)
@@ -165,25 +165,25 @@ pub record Renewed {M : Type 0} (g : ℕ) (blocks : NewBlocks) (slots : List (Op
   pub same : (h : ℕ) (space : Space) → h ≢ g → block_in (group_at groups' h) space ≡ block_in (group_at groups h) space
   pub activity : (k : ℕ) → activity_at groups' k ≡ activity_at groups k
   pub count : length groups' ≡ length groups
-  pub picture : picture_of spaces' ≡ without_pieces (picture_of spaces) old
-  pub others : (o : Owner) (space : Space) → o ≢ Scratch g → owned o (blocks_in (picture_of spaces') space) ≡ owned o (blocks_in (picture_of spaces) space)
+  pub map : map_of spaces' ≡ without_pieces (map_of spaces) old
+  pub others : (o : Owner) (space : Space) → o ≢ Scratch g → owned o (blocks_in (map_of spaces') space) ≡ owned o (blocks_in (map_of spaces) space)
   pub regions : AreSameSpaces spaces spaces'
 
-module _ {M : Type 0} (g : ℕ) (blocks : NewBlocks) (slots : List (Option (Member M))) (once : List Shelf) (groups groups' : List Group) (spaces spaces' : Spaces)
-    (r : Renewed g blocks slots once groups groups' spaces spaces') (ok : TablesOk slots once groups) where
-  pub stands : AreGrown g slots once groups' spaces'
-  stands = grown_now g blocks slots once groups groups' spaces spaces' r.old r.placed r.ordered r.is_old r.is_new r.same r.picture r.others (λ space. (r.regions space).region) ok.held
+module _ {M : Type 0} (g : ℕ) (blocks : NewBlocks) (instances : List (Option (Member M))) (sharing : List Locations) (groups groups' : List Group) (spaces spaces' : Spaces)
+    (r : Renewed g blocks instances sharing groups groups' spaces spaces') (ok : TablesOk instances sharing groups) where
+  pub stands : AreGrown g instances sharing groups' spaces'
+  stands = grown_now g blocks instances sharing groups groups' spaces spaces' r.old r.placed r.ordered r.is_old r.is_new r.same r.map r.others (λ space. (r.regions space).region) ok.held
 
   counted : length groups' ≡ GROUPS
   counted = r.count ∙ ok.group_count
 
-  room : (i : ℕ) (m : Member M) → slot_at slots i ≡ Some m → HasRoom (instance_of m.inst) (once_at once i) (group_at groups' m.group)
-  room = room_of_grown g slots once groups' spaces' r.ordered_now stands
+  room : (i : ℕ) (m : Member M) → slot_at instances i ≡ Some m → HasRoom (instance_of m.inst) (shared_at sharing i) (group_at groups' m.group)
+  room = room_of_grown g instances sharing groups' spaces' r.ordered_now stands
 
-  pub told_now : TablesTold g 0 slots once groups'
+  pub told_now : TablesTold g 0 instances sharing groups'
   told_now =
-      told_later g slots once groups groups' ok counted r.activity (λ k space apart. r.same k space apart)
-      (λ i m at of. subst (λ (h : ℕ). HasRoom (instance_of m.inst) (once_at once i) (group_at groups' h)) of (room i m at))
+      told_later g instances sharing groups groups' ok counted r.activity (λ k space apart. r.same k space apart)
+      (λ i m at of. subst (λ (h : ℕ). HasRoom (instance_of m.inst) (shared_at sharing i) (group_at groups' h)) of (room i m at))
 
   same_active : (k : ℕ) → (group_at groups' k).active ≡ (group_at groups k).active
   same_active k = ap (λ (a : Activity). a.active) (r.activity k)
@@ -195,31 +195,31 @@ module _ {M : Type 0} (g : ℕ) (blocks : NewBlocks) (slots : List (Option (Memb
       | inr e ↦ inl (r.same h space e.1)
     ]
 
-    module _ (i : ℕ) (m : Member M) (at : slot_at slots i ≡ Some m) where
-      home : IsHome r.placed.before i (home_of once i) (table_of m) (instance_of m.inst).own (once_at once i) (group_at groups m.group)
-      home = r.placed.standing.homes i m at
+    module _ (i : ℕ) (m : Member M) (at : slot_at instances i ≡ Some m) where
+      owner : IsPieceThere r.placed.before i (owner_of sharing i) (table_of m) (instance_of m.inst).own (shared_at sharing i) (group_at groups m.group)
+      owner = r.placed.standing.owners i m at
 
-      same_bases : placed (instance_of m.inst).table (instance_of m.inst).own (once_at once i) (group_at groups' m.group)
-          ≡ placed (instance_of m.inst).table (instance_of m.inst).own (once_at once i) (group_at groups m.group)
+      same_bases : placed (instance_of m.inst).table (instance_of m.inst).own (shared_at sharing i) (group_at groups' m.group)
+          ≡ placed (instance_of m.inst).table (instance_of m.inst).own (shared_at sharing i) (group_at groups m.group)
       same_bases =
-          sym (placed-unplaced (instance_of m.inst).table (instance_of m.inst).own (once_at once i) (group_at groups' m.group))
-          ∙ placed_first (table_of m) (instance_of m.inst).own (once_at once i) (group_at groups m.group) (group_at groups' m.group) home.valid home.need (first_now m.group)
-          ∙ placed-unplaced (instance_of m.inst).table (instance_of m.inst).own (once_at once i) (group_at groups m.group)
+          sym (placed-unplaced (instance_of m.inst).table (instance_of m.inst).own (shared_at sharing i) (group_at groups' m.group))
+          ∙ placed_first (table_of m) (instance_of m.inst).own (shared_at sharing i) (group_at groups m.group) (group_at groups' m.group) owner.valid owner.need (first_now m.group)
+          ∙ placed-unplaced (instance_of m.inst).table (instance_of m.inst).own (shared_at sharing i) (group_at groups m.group)
 
-      settled_now : (instance_of m.inst).table ≡ placed (instance_of m.inst).table (instance_of m.inst).own (once_at once i) (group_at groups' m.group)
+      settled_now : (instance_of m.inst).table ≡ placed (instance_of m.inst).table (instance_of m.inst).own (shared_at sharing i) (group_at groups' m.group)
       settled_now = (ok.housed i m at).settled ∙ sym same_bases
 
-      housed_now : IsHoused (instance_of m.inst) (once_at once i) (group_at groups' m.group)
+      housed_now : IsHoused (instance_of m.inst) (shared_at sharing i) (group_at groups' m.group)
       housed_now = record {
-        fits = subst (λ (rs : List MemRec). Fits rs (instance_of m.inst).own (once_at once i) (group_at groups' m.group)) (sym settled_now) (room i m at);
+        fits = subst (λ (rs : List MemRec). Fits rs (instance_of m.inst).own (shared_at sharing i) (group_at groups' m.group)) (sym settled_now) (room i m at);
         settled = settled_now;
       }
 
     -- where a group only gets first blocks nobody goes by other bases
-    pub ok_now : TablesOk slots once groups'
+    pub ok_now : TablesOk instances sharing groups'
     ok_now = record {
       slot_count = ok.slot_count;
-      once_count = ok.once_count;
+      sharing_count = ok.sharing_count;
       group_count = counted;
       held = ok.held;
       bare = ok.bare;
@@ -230,9 +230,9 @@ module _ {M : Type 0} (g : ℕ) (blocks : NewBlocks) (slots : List (Option (Memb
     }
 
   -- no member of the group sees the change
-  pub words_now : (replaced_in blocks (group_at groups g) ≡ false) ⊎ ((group_at groups g).active ≡ None) → WordsStay slots once groups slots once groups'
+  pub words_now : (replaced_in blocks (group_at groups g) ≡ false) ⊎ ((group_at groups g).active ≡ None) → WordsStay instances sharing groups instances sharing groups'
   words_now unseen = record {
-    slot = λ i. member_stays_itself (slot_at slots i);
+    slot = λ i. member_stays_itself (slot_at instances i);
     pieces = λ i k. refl;
     blocks = λ k i space active. elim (eqb_tells k g) [
       | inl e ↦ elim unseen [
@@ -259,10 +259,10 @@ needed_same None (Some c) need align same = absurd (none-some _ (sym same.0))
 needed_same (Some b) None need align same = absurd same.0
 needed_same (Some b) (Some c) need align same = rw (same.0.2, same.1) refl
 
-pub need_new : (rs : List MemRec) (blocks : NewBlocks) (y y1 y2 : Group) (homes : Space → Extent) → ((space : Space) → IsSameBlock (block_in y space) (block_in y1 space))
+pub need_new : (rs : List MemRec) (blocks : NewBlocks) (y y1 y2 : Group) (owners : Space → Extent) → ((space : Space) → IsSameBlock (block_in y space) (block_in y1 space))
     → ((space : Space) → block_in y2 space ≡ newer (new_block blocks space) (block_in y1 space))
-    → ((space : Space) → IsNeeded (homes space) (block_need rs y space) (new_block blocks space)) → NoNeed rs y2
-need_new rs blocks y y1 y2 homes same is needed space =
+    → ((space : Space) → IsNeeded (owners space) (block_need rs y space) (new_block blocks space)) → NoNeed rs y2
+need_new rs blocks y y1 y2 owners same is needed space =
     rw (is space)
-    (needed_serves (homes space) (block_in y1 space) (new_block blocks space) (scratch_need rs space) (scratch_align rs space)
-    (subst (λ (n : Option Need). IsNeeded (homes space) n (new_block blocks space)) (sym (needed_same (block_in y space) (block_in y1 space) (scratch_need rs space) (scratch_align rs space) (same space))) (needed space)))
+    (needed_serves (owners space) (block_in y1 space) (new_block blocks space) (scratch_need rs space) (scratch_align rs space)
+    (subst (λ (n : Option Need). IsNeeded (owners space) n (new_block blocks space)) (sym (needed_same (block_in y space) (block_in y1 space) (scratch_need rs space) (scratch_align rs space) (same space))) (needed space)))

@@ -1,4 +1,4 @@
--- Bases don't matter to where an instance is at home.
+-- Bases don't matter to where an instance is at owner.
 use Rattle.std.proofs.Common.{◌≡◌, ℕ, ◌+◌, ◌&&◌, max, cond, Bool, true, false, List, [], ◌∷◌, refl, sym, ◌∙◌, ap, subst}
 use Rattle.std.specs.Int.{next_multiple_of}
 use Rattle.mem_rec.specs.declared.MemRec.{MemRec}
@@ -17,10 +17,10 @@ use Rattle.lifecycle.specs.Rooms.{NoNeed, lasting_piece}
 use Rattle.host_map.specs.declared.placed.Owner.TheVariants.{Record}
 use Rattle.host_map.specs.Blocks.{owned}
 use Rattle.host_spaces.specs.declared.spaces.Spaces.{Spaces}
-use Rattle.host_map.specs.Picture.{blocks_in}
-use Rattle.host_spaces.specs.Picture.{picture_of, space_in}
+use Rattle.host_map.specs.MemoryMap.{blocks_in}
+use Rattle.host_spaces.specs.MemoryMap.{map_of, space_in}
 use Rattle.host_spaces.specs.Pieces.{IsPieceOf, is_write_once, record_block}
-use Rattle.host_moves.specs.Standing.{IsHome}
+use Rattle.host_moves.specs.Standing.{IsPieceThere}
 
 end_step : (t : Bool) (r : MemRec) (b : ℕ) (xs ys : List MemRec) → ((c : ℕ) → end_from c ys ≡ end_from c xs) → end_from b (cond t (record r { base = 0 } ∷ ys) ys) ≡ end_from b (cond t (r ∷ xs) xs)
 end_step true r b xs ys same = same (next_multiple_of b r.align + r.size)
@@ -44,16 +44,16 @@ need_unplaced rs y need space =
     ∙ ap (λ (n : ℕ). block_needed (block_in y space) (scratch_need rs space) n) (align_same rs space 4)
     ∙ need space
 
-pub home_unplaced : (spaces : Spaces) (i : ℕ) (at : ℕ → ℕ) (rs : List MemRec) (own shared : Pieces) (y : Group) → IsHome spaces i at rs own shared y → IsHome spaces i at (unplaced rs) own shared y
-home_unplaced spaces i at rs own shared y home = record {
-  valid = is_table-unplaced rs home.valid;
-  need = need_unplaced rs y home.need;
+pub owner_unplaced : (spaces : Spaces) (i : ℕ) (at : ℕ → ℕ) (rs : List MemRec) (own shared : Pieces) (y : Group) → IsPieceThere spaces i at rs own shared y → IsPieceThere spaces i at (unplaced rs) own shared y
+owner_unplaced spaces i at rs own shared y owner = record {
+  valid = is_table-unplaced rs owner.valid;
+  need = need_unplaced rs y owner.need;
   records = λ k space.
-      subst (λ (r : MemRec). owned (Record (at k) k) (blocks_in (picture_of spaces) space) ≡ record_block (at k) k r space (lasting_piece r.attr (piece_at own k) (piece_at shared k)))
-      (sym (record_at-unplaced rs k)) (home.records k space);
-  away = home.away;
+      subst (λ (r : MemRec). owned (Record (at k) k) (blocks_in (map_of spaces) space) ≡ record_block (at k) k r space (lasting_piece r.attr (piece_at own k) (piece_at shared k)))
+      (sym (record_at-unplaced rs k)) (owner.records k space);
+  away = owner.away;
   pieces = record {
-    persistent = λ k. subst (λ (r : MemRec). IsPieceOf (space_in spaces r.space).region (placed_size r.size) (is_persistent r.attr) (piece_at own k)) (sym (record_at-unplaced rs k)) (home.pieces.persistent k);
-    write_once = λ k. subst (λ (r : MemRec). IsPieceOf (space_in spaces r.space).region (placed_size r.size) (is_write_once r.attr) (piece_at shared k)) (sym (record_at-unplaced rs k)) (home.pieces.write_once k);
+    persistent = λ k. subst (λ (r : MemRec). IsPieceOf (space_in spaces r.space).region (placed_size r.size) (is_persistent r.attr) (piece_at own k)) (sym (record_at-unplaced rs k)) (owner.pieces.persistent k);
+    write_once = λ k. subst (λ (r : MemRec). IsPieceOf (space_in spaces r.space).region (placed_size r.size) (is_write_once r.attr) (piece_at shared k)) (sym (record_at-unplaced rs k)) (owner.pieces.write_once k);
   };
 }

@@ -8,7 +8,7 @@ use Rattle.scratch_group.specs.declared.group.Group.{Group}
 use Rattle.scratch_group.specs.Blocks.{block_in}
 use Rattle.host_spaces.specs.declared.pieces.NewBlocks.{NewBlocks}
 use Rattle.host_spaces.specs.declared.pieces.OldBlocks.{OldBlocks}
-use Rattle.host_map.specs.Picture.{all_spaces}
+use Rattle.host_map.specs.MemoryMap.{all_spaces}
 use Rattle.host_spaces.specs.Pieces.{new_block}
 
 -- the new block, or the old one where there is no new one

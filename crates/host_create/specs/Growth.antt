@@ -6,20 +6,20 @@ use Rattle.record_loans.specs.Blocks.{block_align, block_piece, block_words}
 use Rattle.scratch_group.specs.declared.group.Group.{Group}
 use Rattle.scratch_group.specs.Blocks.{block_in}
 use Rattle.host_table.specs.declared.member.Member.{Member}
-use Rattle.host_shared.specs.declared.shelves.Shelf.{Shelf}
-use Rattle.host_shared.specs.Shelves.{home_of, once_at, no_pieces}
+use Rattle.host_shared.specs.declared.locations.Locations.{Locations}
+use Rattle.host_shared.specs.Locations.{owner_of, shared_at, no_pieces}
 use Rattle.host_table.specs.Table.{slot_at, group_at, instance_of, is_member_of, activity_at}
-use Rattle.host_map.specs.Activity.{Activity, rested, with_activity}
-use Rattle.host_shared.specs.Holders.{AreLeast}
-use Rattle.host_life.specs.Twins.{AreTogether}
+use Rattle.host_map.specs.Activity.{Activity, deactivated, with_activity}
+use Rattle.host_shared.specs.Sharing.{AreLeast}
+use Rattle.host_life.specs.Sharers.{AreTogether}
 use Rattle.host_map.specs.declared.placed.Owner.TheVariants.{Record, Scratch}
 use Rattle.host_map.specs.Blocks.{owned}
 use Rattle.host_spaces.specs.declared.pieces.NewBlocks.{NewBlocks}
 use Rattle.host_spaces.specs.declared.spaces.Spaces.{Spaces}
-use Rattle.host_map.specs.Picture.{blocks_in}
-use Rattle.host_spaces.specs.Picture.{picture_of, space_in}
+use Rattle.host_map.specs.MemoryMap.{blocks_in}
+use Rattle.host_spaces.specs.MemoryMap.{map_of, space_in}
 use Rattle.host_spaces.specs.Pieces.{HasBlocks, new_block, with_new}
-use Rattle.host_moves.specs.Standing.{AreStanding, IsHome, IsOf, table_of}
+use Rattle.host_moves.specs.Standing.{AgreeWithMap, IsPieceThere, IsOf, table_of}
 
 -- a new block is no smaller than the old one, and of no lower alignment
 abbrev pub IsLarger : Option ScratchBlock → Option ScratchBlock → Type 0
@@ -27,27 +27,27 @@ IsLarger old None = Unit {0}
 IsLarger old (Some b) = (length (block_words old) ≤ length b.piece.words) × (block_align old ≤ b.align)
 
 -- new blocks of group g were placed in the spaces, while its old ones stand. The blocks of all instances and other groups stand as before
-pub record ArePlaced {M : Type 0} (g : ℕ) (blocks : NewBlocks) (slots : List (Option (Member M))) (once : List Shelf) (groups : List Group) (spaces : Spaces) : Type 0 where
+pub record ArePlaced {M : Type 0} (g : ℕ) (blocks : NewBlocks) (instances : List (Option (Member M))) (sharing : List Locations) (groups : List Group) (spaces : Spaces) : Type 0 where
   pub before : Spaces
-  pub standing : AreStanding slots once groups before
-  pub records : (i k : ℕ) (m : Member M) (space : Space) → slot_at slots i ≡ Some m
-      → owned (Record i k) (blocks_in (picture_of spaces) space) ≡ owned (Record i k) (blocks_in (picture_of before) space)
-  pub others : (h : ℕ) (space : Space) → h ≢ g → owned (Scratch h) (blocks_in (picture_of spaces) space) ≡ owned (Scratch h) (blocks_in (picture_of before) space)
-  pub placed : (space : Space) → owned (Scratch g) (blocks_in (picture_of spaces) space) ≡ with_new g (new_block blocks space) (owned (Scratch g) (blocks_in (picture_of before) space))
+  pub standing : AgreeWithMap instances sharing groups before
+  pub records : (i k : ℕ) (m : Member M) (space : Space) → slot_at instances i ≡ Some m
+      → owned (Record i k) (blocks_in (map_of spaces) space) ≡ owned (Record i k) (blocks_in (map_of before) space)
+  pub others : (h : ℕ) (space : Space) → h ≢ g → owned (Scratch h) (blocks_in (map_of spaces) space) ≡ owned (Scratch h) (blocks_in (map_of before) space)
+  pub placed : (space : Space) → owned (Scratch g) (blocks_in (map_of spaces) space) ≡ with_new g (new_block blocks space) (owned (Scratch g) (blocks_in (map_of before) space))
   pub regions : (space : Space) → (space_in spaces space).region ≡ (space_in before space).region
-  pub home : (space : Space) → IsOf (space_in spaces space).region (block_piece (new_block blocks space))
+  pub owner : (space : Space) → IsOf (space_in spaces space).region (block_piece (new_block blocks space))
   pub larger : (space : Space) → IsLarger (block_in (group_at groups g) space) (new_block blocks space)
 
--- each instance and each group has its blocks of the picture. Group g may have blocks before it has a member
-pub record AreGrown {M : Type 0} (g : ℕ) (slots : List (Option (Member M))) (once : List Shelf) (groups : List Group) (spaces : Spaces) : Type 0 where
-  pub homes : (i : ℕ) (m : Member M) → slot_at slots i ≡ Some m → IsHome spaces i (home_of once i) (table_of m) (instance_of m.inst).own (once_at once i) (group_at groups m.group)
-  pub least : AreLeast once
-  pub together : AreTogether slots once
-  pub free : (i : ℕ) → slot_at slots i ≡ None → once_at once i ≡ no_pieces
-  pub blocks : (h : ℕ) → HasBlocks (picture_of spaces) h (group_at groups h)
+-- each instance and each group has its blocks of the memory map. Group g may have blocks before it has a member
+pub record AreGrown {M : Type 0} (g : ℕ) (instances : List (Option (Member M))) (sharing : List Locations) (groups : List Group) (spaces : Spaces) : Type 0 where
+  pub owners : (i : ℕ) (m : Member M) → slot_at instances i ≡ Some m → IsPieceThere spaces i (owner_of sharing i) (table_of m) (instance_of m.inst).own (shared_at sharing i) (group_at groups m.group)
+  pub least : AreLeast sharing
+  pub together : AreTogether instances sharing
+  pub free : (i : ℕ) → slot_at instances i ≡ None → shared_at sharing i ≡ no_pieces
+  pub blocks : (h : ℕ) → HasBlocks (map_of spaces) h (group_at groups h)
   pub regions : (h : ℕ) (space : Space) → IsOf (space_in spaces space).region (block_piece (block_in (group_at groups h) space))
-  pub unused : (h : ℕ) (space : Space) → h ≢ g → ((i : ℕ) → is_member_of h (slot_at slots i) ≡ false) → block_in (group_at groups h) space ≡ None
+  pub unused : (h : ℕ) (space : Space) → h ≢ g → ((i : ℕ) → is_member_of h (slot_at instances i) ≡ false) → block_in (group_at groups h) space ≡ None
 
 -- no member of group g is active where a block was replaced
 abbrev pub activity_grown : Bool → List Group → ℕ → ℕ → Activity
-activity_grown replaced groups g = if replaced then with_activity (activity_at groups) g (rested (activity_at groups g)) else activity_at groups
+activity_grown replaced groups g = if replaced then with_activity (activity_at groups) g (deactivated (activity_at groups g)) else activity_at groups

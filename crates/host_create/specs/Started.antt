@@ -7,7 +7,7 @@ use Rattle.record_loans.specs.declared.pieces.Pieces.{Pieces}
 use Rattle.scratch_group.specs.declared.group.Group.{Group}
 use Rattle.lifecycle.specs.Rooms.{NoNeed}
 use Rattle.host_spaces.specs.declared.spaces.Spaces.{Spaces}
-use Rattle.host_spaces.specs.Picture.{picture_of}
+use Rattle.host_spaces.specs.MemoryMap.{map_of}
 use Rattle.host_spaces.specs.Pieces.{ArePlacedPieces, HasRecords}
 use Rattle.host_table.specs.declared.member.Member.{Member}
 use Rattle.host_table.specs.Table.{slot_at, instance_of, slot_active_in}
@@ -25,13 +25,13 @@ abbrev pub IsNewborn : {M : Type 0} → ℕ → M → List ℤ → List MemRec �
 IsNewborn g kind p table None = ⊥
 IsNewborn g kind p table (Some m) = IsOfKind g kind p table m
 
--- what a new instance with this table needs is placed: the records that have no twin
-pub record IsPlaced (spaces : Spaces) (i : ℕ) (twins : ℕ → Option ℕ) (table : List MemRec) (own shared : Pieces) (y : Group) : Type 0 where
+-- what a new instance with this table needs is placed: the records that have no sharer
+pub record IsPlaced (spaces : Spaces) (i : ℕ) (sharers : ℕ → Option ℕ) (table : List MemRec) (own shared : Pieces) (y : Group) : Type 0 where
   pub valid : IsTrue (is_table table)
   pub need : NoNeed table y
-  pub records : HasRecords (picture_of spaces) i table own shared
-  pub pieces : ArePlacedPieces spaces table twins own shared
+  pub records : HasRecords (map_of spaces) i table own shared
+  pub pieces : ArePlacedPieces spaces table sharers own shared
 
 -- all other instances are the same
 abbrev pub OthersAreSame : {M : Type 0} → ℕ → List (Option (Member M)) → List (Option (Member M)) → Type 0
-OthersAreSame i slots slots' = (j : ℕ) → j ≢ i → SlotIsSame (slot_at slots j) (slot_at slots' j)
+OthersAreSame i instances instances' = (j : ℕ) → j ≢ i → SlotIsSame (slot_at instances j) (slot_at instances' j)

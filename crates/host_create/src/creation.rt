@@ -6,7 +6,7 @@ ghost use Rattle.host_spec.specs.State.{State};
 ghost use Rattle.host_spec.specs.Choices.{MayAsk};
 ghost use Rattle.host_spec.specs.Calls.{Does};
 ghost use Rattle.host_spec.specs.Calls.Call.{Create};
-ghost use Rattle.host_table.specs.Steps.{AreConsistent, laws};
+ghost use Rattle.host_table.specs.Steps.{AreConsistent};
 ghost use Rattle.host_moves.specs.Standing.{MapAgrees};
 ghost use Rattle.host_refines.specs.Hosts.{Refines};
 
@@ -20,8 +20,8 @@ use mem_rec::{GROUPS, INSTANCES, MemTab};
 
 /// The memory that the kind asks for with these parameters, None where it refuses them.
 fn asked_for<M: Ialg>(kind: M, p: &Params) -> Option<MemTab>
-    ensures allowed { (w : Option ℤ) → MayAsk M.meaning w kind p.now.items result }
-    ensures unplaced { (w : Option ℤ) → IsTrue (M.meaning.lawful kind p.now.items w) → IfSome result (λ t. unplaced t ≡ t) }
+    ensures allowed { (w : Option ℤ) → MayAsk M.law.meaning w kind p.now.items result }
+    ensures unplaced { (w : Option ℤ) → IsTrue (M.law.meaning.lawful kind p.now.items w) → IfSome result (λ t. unplaced t ≡ t) }
 {
     let asked = kind.alg_alloc(p);
     if let Some(table) = &asked {
@@ -52,9 +52,9 @@ pub fn create<M: Ialg>(
     ensures poisoned { ArePoisoned poison tables.new.groups }
     ensures refused { OnErr result ((tables.new ≡ tables.old) × (spaces.new ≡ spaces.old)) }
     ensures machine { (before : State M) → before.poison ≡ poison
-        → Refines (laws M.meaning M.idle_keeps M.active_keeps) tables.old spaces.old before
-        → (after : State M) × Does M.meaning before (Create i kind group p.now.items result) after
-        × Refines (laws M.meaning M.idle_keeps M.active_keeps) tables.new spaces.new after }
+        → Refines M.law tables.old spaces.old before
+        → (after : State M) × Does M.law.meaning before (Create i kind group p.now.items result) after
+        × Refines M.law tables.new spaces.new after }
 {
     creations_answer_in_order::<M>();
     let asked = asked_for(kind, p);

@@ -12,17 +12,17 @@ ghost use Rattle.host_table.specs.Frames.{InactiveGroupsStay};
 ghost use Rattle.host_map.specs.declared.placed.Owner.{Owner};
 ghost use Rattle.host_map.specs.declared.placed.Owner.TheVariants.{Scratch};
 ghost use Rattle.host_map.specs.Blocks.{owned};
-ghost use Rattle.host_spaces.specs.Picture.{AreSameSpaces, picture_of, space_in};
-ghost use Rattle.host_map.specs.Picture.{blocks_in};
+ghost use Rattle.host_spaces.specs.MemoryMap.{AreSameSpaces, map_of, space_in};
+ghost use Rattle.host_map.specs.MemoryMap.{blocks_in};
 ghost use Rattle.host_spaces.specs.Pieces.{IsNeeded, new_block, without_pieces};
 ghost use Rattle.host_spaces.specs.Wants.{block_need};
 ghost use Rattle.host_moves.specs.Standing.{SameInstances};
 ghost use Rattle.host_create.specs.Blocks.{replaced_in, replaced_pieces};
 ghost use Rattle.host_create.specs.Growth.{ArePlaced, AreGrown, activity_grown};
-ghost use Rattle.host_table.specs.Steps.{AreConsistent, MembersStay, AreKept, laws};
+ghost use Rattle.host_table.specs.Steps.{AreConsistent, MembersStay, AreKept};
 
 use crate::blocks::{put_new_blocks, replaces_any};
-use host_life::tell_members;
+use host_life::call_moved_in_group;
 use host_moves::in_order;
 use host_spaces::{NewBlocks, Spaces};
 use host_table::Tables;
@@ -47,8 +47,8 @@ fn rest_where<M: Ialg>(tables: &mut Tables<M>, poison: Option<i16>, g: u8, repla
     ensures idle { replaced ≡ true → (group_at tables.new.groups g).active ≡ None }
     ensures same { MembersStay tables.old tables.new }
     ensures activity { (k : ℕ) → activity_at tables.new.groups k ≡ activity_grown replaced tables.old.groups g k }
-    ensures keeps { (histories : ℕ → History) → AreKept (laws M.meaning M.idle_keeps M.active_keeps) poison tables.old histories
-        → AreKept (laws M.meaning M.idle_keeps M.active_keeps) poison tables.new histories }
+    ensures keeps { (histories : ℕ → History) → AreKept M.law poison tables.old histories
+        → AreKept M.law poison tables.new histories }
 {
     if replaced {
         let _was_active = tables.deactivate_in(poison, g);
@@ -58,17 +58,22 @@ fn rest_where<M: Ialg>(tables: &mut Tables<M>, poison: Option<i16>, g: u8, repla
 /// Tells each member of the group where its records lie now, where a block was replaced.
 fn tell_where<M: Ialg>(tables: &mut Tables<M>, g: u8, replaced: bool)
     requires range { g < GROUPS }
-    requires told { replaced ≡ true → TablesTold g 0 tables.old.slots tables.old.once tables.old.groups }
+    requires told { replaced ≡ true → TablesTold g 0 tables.old.instances tables.old.sharing tables.old.groups }
     requires ok { replaced ≡ false → AreConsistent tables.old }
     ensures ok { AreConsistent tables.new }
     ensures inactive { InactiveGroupsStay tables.old.groups tables.new.groups }
     ensures same { MembersStay tables.old tables.new }
     ensures activity { (k : ℕ) → activity_at tables.new.groups k ≡ activity_at tables.old.groups k }
-    ensures keeps { (w : Option ℤ) (histories : ℕ → History) → AreKept (laws M.meaning M.idle_keeps M.active_keeps) w tables.old histories
-        → AreKept (laws M.meaning M.idle_keeps M.active_keeps) w tables.new histories }
+    ensures keeps { (w : Option ℤ) (histories : ℕ → History) → AreKept M.law w tables.old histories
+        → AreKept M.law w tables.new histories }
 {
     if replaced {
-        tell_members(&mut tables.slots, &mut tables.once, &mut tables.groups, g);
+        call_moved_in_group(
+            &mut tables.instances,
+            &mut tables.sharing,
+            &mut tables.groups,
+            g,
+        );
     }
 }
 
@@ -84,20 +89,20 @@ pub fn grow<M: Ialg>(
     requires range { g < GROUPS }
     requires ok { AreConsistent tables.old }
     requires poisoned { ArePoisoned poison tables.old.groups }
-    requires placed { ArePlaced g blocks tables.old.slots tables.old.once tables.old.groups spaces.old }
+    requires placed { ArePlaced g blocks tables.old.instances tables.old.sharing tables.old.groups spaces.old }
     requires words { (space : Space) → ArePoison poison (block_words (new_block blocks space)) }
     ensures ok { AreConsistent tables.new }
     ensures poisoned { ArePoisoned poison tables.new.groups }
-    ensures grown { AreGrown g tables.new.slots tables.new.once tables.new.groups spaces.new }
+    ensures grown { AreGrown g tables.new.instances tables.new.sharing tables.new.groups spaces.new }
     ensures need { (rs : List MemRec) → ((space : Space) → IsNeeded (space_in spaces.old space).region (block_need rs (group_at tables.old.groups g) space) (new_block blocks space))
         → NoNeed rs (group_at tables.new.groups g) }
-    ensures same { SameInstances tables.old.slots tables.new.slots }
+    ensures same { SameInstances tables.old.instances tables.new.instances }
     ensures activity { (k : ℕ) → activity_at tables.new.groups k ≡ activity_grown (replaced_in blocks (group_at tables.old.groups g)) tables.old.groups g k }
-    ensures picture { picture_of spaces.new ≡ without_pieces (picture_of spaces.old) (replaced_pieces blocks (group_at tables.old.groups g)) }
-    ensures others { (o : Owner) (space : Space) → o ≢ Scratch g → owned o (blocks_in (picture_of spaces.new) space) ≡ owned o (blocks_in (picture_of spaces.old) space) }
+    ensures map { map_of spaces.new ≡ without_pieces (map_of spaces.old) (replaced_pieces blocks (group_at tables.old.groups g)) }
+    ensures others { (o : Owner) (space : Space) → o ≢ Scratch g → owned o (blocks_in (map_of spaces.new) space) ≡ owned o (blocks_in (map_of spaces.old) space) }
     ensures stays { AreSameSpaces spaces.old spaces.new }
-    ensures keeps { (histories : ℕ → History) → AreKept (laws M.meaning M.idle_keeps M.active_keeps) poison tables.old histories
-        → AreKept (laws M.meaning M.idle_keeps M.active_keeps) poison tables.new histories }
+    ensures keeps { (histories : ℕ → History) → AreKept M.law poison tables.old histories
+        → AreKept M.law poison tables.new histories }
 {
     let replaced = replaces_in(&tables.groups, g, &blocks);
     rest_where(tables, poison, g, replaced);

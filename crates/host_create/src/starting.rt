@@ -6,28 +6,28 @@ ghost use Rattle.ialg.specs.History.{History};
 ghost use Rattle.ialg.specs.Records.{unplaced, AreNew};
 ghost use Rattle.scratch_group.specs.Words.{idle_words};
 ghost use Rattle.host_table.specs.Table.{slot_at, group_at, activity_at, ArePoisoned};
-ghost use Rattle.host_map.specs.Twins.{asked, twin_of};
-ghost use Rattle.host_life.specs.Twins.{asked_by, AreTwins};
-ghost use Rattle.host_shared.specs.Joining.{twin_at};
+ghost use Rattle.host_map.specs.Sharers.{asked, sharer_of};
+ghost use Rattle.host_life.specs.Sharers.{asked_by, AreLeastSharers};
+ghost use Rattle.host_shared.specs.Joining.{sharer_at};
 ghost use Rattle.host_table.specs.Keeps.{with_history};
 ghost use Rattle.host_map.specs.declared.TheConstants.{SPACE_BLOCKS};
 ghost use Rattle.host_map.specs.declared.placed.Owner.{Owner};
 ghost use Rattle.host_map.specs.declared.placed.Owner.TheVariants.{Record, Scratch};
 ghost use Rattle.host_map.specs.Blocks.{owned};
-ghost use Rattle.host_map.specs.Creation.{all_placed, created_picture, replaces, result_map, taken_over, wanted_by, twin_at as listed_at};
-ghost use Rattle.host_spaces.specs.Picture.{AreSameSpaces, picture_of, sizes_of, space_in};
-ghost use Rattle.host_map.specs.Picture.{blocks_in, renamed};
+ghost use Rattle.host_map.specs.Creation.{all_placed, created_map, replaces, result_map, taken_over, wanted_by, sharer_at as listed_at};
+ghost use Rattle.host_spaces.specs.MemoryMap.{AreSameSpaces, map_of, sizes_of, space_in};
+ghost use Rattle.host_map.specs.MemoryMap.{blocks_in, renamed};
 ghost use Rattle.host_spaces.specs.Pieces.{ArePlacedPieces, AreSharable, HasBlocks, HasRecords, IsNeeded, IsPoisoned, new_block, with_new};
 ghost use Rattle.host_spaces.specs.Wants.{block_need};
 ghost use Rattle.host_create.specs.Growth.{AreGrown, activity_grown};
 ghost use Rattle.host_create.specs.Started.{IsNewborn, IsPlaced, OthersAreSame};
-ghost use Rattle.host_table.specs.Steps.{AreConsistent, AreKept, laws};
+ghost use Rattle.host_table.specs.Steps.{AreConsistent, AreKept};
 ghost use Rattle.host_moves.specs.Standing.{MapAgrees};
 
 use crate::growth::grow;
-use host_life::{NewInstance, find_twins, start};
+use host_life::{NewInstance, find_sharers, start};
 use host_moves::{in_order, maps_have_room};
-use host_shared::Twins;
+use host_shared::Sharers;
 use host_spaces::{Placement, Spaces, creations};
 use host_table::Tables;
 use ialg::{Ialg, Params};
@@ -36,11 +36,11 @@ use record_loans::Pieces;
 use scratch_group::Group;
 use space_blocks::blocks_are_few;
 
-/// The twins as a list, by the numbers of records.
-fn listed(twins: &Twins) -> host_spaces::Twins
-    ensures { (k : ℕ) → listed_at result k ≡ twin_at twins.now k }
+/// The sharers as a list, by the numbers of records.
+fn listed(sharers: &Sharers) -> host_spaces::Sharers
+    ensures { (k : ℕ) → listed_at result k ≡ sharer_at sharers.now k }
 {
-    [twins.t0, twins.t1, twins.t2, twins.t3]
+    [sharers.t0, sharers.t1, sharers.t2, sharers.t3]
 }
 
 /// Places all blocks that a new instance needs for what it doesn't share, or says the space of the first one that has no place.
@@ -49,31 +49,31 @@ fn place(
     i: u8,
     g: u8,
     table: &MemTab,
-    twins: &host_spaces::Twins,
+    sharers: &host_spaces::Sharers,
     groups: &Vec<Group>,
     poison: Option<i16>,
 ) -> Result<Placement, Space>
     requires group { g < length groups.now.items }
-    requires twins { AreSharable table.now (listed_at twins.now) }
-    requires blocks { HasBlocks (picture_of spaces.old) g (group_at groups.now.items g) }
-    requires records { (k : ℕ) (space : Space) → owned (Record i k) (blocks_in (picture_of spaces.old) space) ≡ [] }
-    requires room { (space : Space) → length (blocks_in (picture_of spaces.old) space) + TABLE_RECORDS < SPACE_BLOCKS }
-    ensures exact { all_placed (sizes_of spaces.old) (picture_of spaces.old) (wanted_by (listed_at twins.now) (picture_of spaces.old) i g table.now) ≡ result_map (λ _. picture_of spaces.new) result }
-    ensures pieces { IfOk result (λ made. ArePlacedPieces spaces.old table.now (listed_at twins.now) made.own made.shared) }
-    ensures records { IfOk result (λ made. HasRecords (picture_of spaces.new) i table.now made.own made.shared) }
+    requires sharers { AreSharable table.now (listed_at sharers.now) }
+    requires blocks { HasBlocks (map_of spaces.old) g (group_at groups.now.items g) }
+    requires records { (k : ℕ) (space : Space) → owned (Record i k) (blocks_in (map_of spaces.old) space) ≡ [] }
+    requires room { (space : Space) → length (blocks_in (map_of spaces.old) space) + TABLE_RECORDS < SPACE_BLOCKS }
+    ensures exact { all_placed (sizes_of spaces.old) (map_of spaces.old) (wanted_by (listed_at sharers.now) (map_of spaces.old) i g table.now) ≡ result_map (λ _. map_of spaces.new) result }
+    ensures pieces { IfOk result (λ made. ArePlacedPieces spaces.old table.now (listed_at sharers.now) made.own made.shared) }
+    ensures records { IfOk result (λ made. HasRecords (map_of spaces.new) i table.now made.own made.shared) }
     ensures needed { IfOk result (λ made. (space : Space) → IsNeeded (space_in spaces.old space).region (block_need table.now (group_at groups.now.items g) space) (new_block made.blocks space)) }
-    ensures blocks { IfOk result (λ made. (space : Space) → owned (Scratch g) (blocks_in (picture_of spaces.new) space)
-        ≡ with_new g (new_block made.blocks space) (owned (Scratch g) (blocks_in (picture_of spaces.old) space))) }
+    ensures blocks { IfOk result (λ made. (space : Space) → owned (Scratch g) (blocks_in (map_of spaces.new) space)
+        ≡ with_new g (new_block made.blocks space) (owned (Scratch g) (blocks_in (map_of spaces.old) space))) }
     ensures others { OnOk result ((o : Owner) (space : Space) → o ≢ Scratch g → ((k : ℕ) → o ≢ Record i k)
-        → owned o (blocks_in (picture_of spaces.new) space) ≡ owned o (blocks_in (picture_of spaces.old) space)) }
+        → owned o (blocks_in (map_of spaces.new) space) ≡ owned o (blocks_in (map_of spaces.old) space)) }
     ensures poison { IfOk result (IsPoisoned poison) }
     ensures refused { OnErr result (spaces.new ≡ spaces.old) }
     ensures stays { AreSameSpaces spaces.old spaces.new }
 {
-    spaces.place_instance(i, g, table, twins, &groups[g as usize], poison)
+    spaces.place_instance(i, g, table, sharers, &groups[g as usize], poison)
 }
 
-/// Starts an instance whose records are placed, but for those that it shares with its twins, and whose group has the blocks for it. A shared
+/// Starts an instance whose records are placed, but for those that it shares with its sharers, and whose group has the blocks for it. A shared
 /// block is the new instance's from now on where that one has the lower number.
 fn begin<M: Ialg>(
     tables: &mut Tables<M>,
@@ -81,37 +81,37 @@ fn begin<M: Ialg>(
     instance: NewInstance<M>,
     own: Pieces,
     shared: Pieces,
-    twins: Twins,
+    sharers: Sharers,
 )
     requires number { instance.number < INSTANCES }
     requires group { instance.group < GROUPS }
-    requires empty { slot_at tables.old.slots instance.number ≡ None }
+    requires empty { slot_at tables.old.instances instance.number ≡ None }
     requires ok { AreConsistent tables.old }
-    requires grown { AreGrown instance.group tables.old.slots tables.old.once tables.old.groups spaces.old }
-    requires twins { AreTwins M.meaning.same tables.old.slots (asked instance.kind instance.params.items instance.table) twins }
-    requires placed { IsPlaced spaces.old instance.number (twin_at twins) instance.table own shared (group_at tables.old.groups instance.group) }
-    requires gone { (j k : ℕ) (space : Space) → slot_at tables.old.slots j ≡ None → j ≢ instance.number → owned (Record j k) (blocks_in (picture_of spaces.old) space) ≡ [] }
+    requires grown { AreGrown instance.group tables.old.instances tables.old.sharing tables.old.groups spaces.old }
+    requires sharers { AreLeastSharers M.law.meaning.same tables.old.instances (asked instance.kind instance.params.items instance.table) sharers }
+    requires placed { IsPlaced spaces.old instance.number (sharer_at sharers) instance.table own shared (group_at tables.old.groups instance.group) }
+    requires gone { (j k : ℕ) (space : Space) → slot_at tables.old.instances j ≡ None → j ≢ instance.number → owned (Record j k) (blocks_in (map_of spaces.old) space) ≡ [] }
     ensures groups { tables.new.groups ≡ tables.old.groups }
     ensures ok { AreConsistent tables.new }
     ensures standing { MapAgrees tables.new spaces.new }
-    ensures others { (j : ℕ) → j ≢ instance.number → slot_at tables.new.slots j ≡ slot_at tables.old.slots j }
-    ensures newborn { IsNewborn instance.group instance.kind instance.params.items instance.table (slot_at tables.new.slots instance.number) }
-    ensures picture { picture_of spaces.new ≡ renamed (taken_over (twin_at twins) instance.number) (picture_of spaces.old) }
+    ensures others { (j : ℕ) → j ≢ instance.number → slot_at tables.new.instances j ≡ slot_at tables.old.instances j }
+    ensures newborn { IsNewborn instance.group instance.kind instance.params.items instance.table (slot_at tables.new.instances instance.number) }
+    ensures map { map_of spaces.new ≡ renamed (taken_over (sharer_at sharers) instance.number) (map_of spaces.old) }
     ensures stays { AreSameSpaces spaces.old spaces.new }
     ensures keeps { (w : Option ℤ) (histories : ℕ → History)
-        → (IsTrue (M.meaning.lawful instance.kind instance.params.items w) → M.meaning.table instance.kind instance.params.items ≡ Some (unplaced instance.table))
-        → AreNew w (M.meaning.fill instance.kind instance.params.items) instance.table (idle_words instance.table own shared)
-        → AreKept (laws M.meaning M.idle_keeps M.active_keeps) w tables.old histories
-        → AreKept (laws M.meaning M.idle_keeps M.active_keeps) w tables.new (with_history histories instance.number []) }
+        → (IsTrue (M.law.meaning.lawful instance.kind instance.params.items w) → M.law.meaning.table instance.kind instance.params.items ≡ Some (unplaced instance.table))
+        → AreNew w (M.law.meaning.fill instance.kind instance.params.items) instance.table (idle_words instance.table own shared)
+        → AreKept M.law w tables.old histories
+        → AreKept M.law w tables.new (with_history histories instance.number []) }
 {
-    let list = listed(&twins);
+    let list = listed(&sharers);
     spaces.take_over(instance.number, &list);
     in_order(spaces);
-    start(tables, instance, own, shared, twins);
+    start(tables, instance, own, shared, sharers);
 }
 
 /// Starts an instance in an empty slot. A write-once record that a living instance shares gets no
-/// block: it stands with the least of those that share it. All other blocks that it needs are placed first, while the old ones of its group
+/// block: the least of those that share it owns it. All other blocks that it needs are placed first, while the old ones of its group
 /// stand, and it is called last. Or says the space of the first block that has no place; then nothing has happened.
 pub fn start_in_spaces<M: Ialg>(
     tables: &mut Tables<M>,
@@ -121,37 +121,37 @@ pub fn start_in_spaces<M: Ialg>(
 ) -> Result<(), Space>
     requires number { instance.number < INSTANCES }
     requires group { instance.group < GROUPS }
-    requires empty { slot_at tables.old.slots instance.number ≡ None }
+    requires empty { slot_at tables.old.instances instance.number ≡ None }
     requires ok { AreConsistent tables.old }
     requires standing { MapAgrees tables.old spaces.old }
     requires poisoned { ArePoisoned poison tables.old.groups }
     ensures ok { AreConsistent tables.new }
     ensures standing { MapAgrees tables.new spaces.new }
     ensures poisoned { ArePoisoned poison tables.new.groups }
-    ensures exact { created_picture (sizes_of spaces.old) (picture_of spaces.old) instance.number instance.group instance.table (twin_of M.meaning.same (λ j. asked_by (slot_at tables.old.slots j)) (asked instance.kind instance.params.items instance.table))
-        ≡ result_map (λ _. picture_of spaces.new) result }
+    ensures exact { created_map (sizes_of spaces.old) (map_of spaces.old) instance.number instance.group instance.table (sharer_of M.law.meaning.same (λ j. asked_by (slot_at tables.old.instances j)) (asked instance.kind instance.params.items instance.table))
+        ≡ result_map (λ _. map_of spaces.new) result }
     ensures refused { OnErr result ((tables.new ≡ tables.old) × (spaces.new ≡ spaces.old)) }
     ensures stays { AreSameSpaces spaces.old spaces.new }
-    ensures others { OnOk result (OthersAreSame instance.number tables.old.slots tables.new.slots) }
-    ensures newborn { OnOk result (IsNewborn instance.group instance.kind instance.params.items instance.table (slot_at tables.new.slots instance.number)) }
-    ensures activity { OnOk result ((k : ℕ) → activity_at tables.new.groups k ≡ activity_grown (replaces (picture_of spaces.old) instance.group instance.table) tables.old.groups instance.group k) }
+    ensures others { OnOk result (OthersAreSame instance.number tables.old.instances tables.new.instances) }
+    ensures newborn { OnOk result (IsNewborn instance.group instance.kind instance.params.items instance.table (slot_at tables.new.instances instance.number)) }
+    ensures activity { OnOk result ((k : ℕ) → activity_at tables.new.groups k ≡ activity_grown (replaces (map_of spaces.old) instance.group instance.table) tables.old.groups instance.group k) }
     ensures keeps { OnOk result ((histories : ℕ → History)
-        → (IsTrue (M.meaning.lawful instance.kind instance.params.items poison) → M.meaning.table instance.kind instance.params.items ≡ Some (unplaced instance.table))
-        → AreKept (laws M.meaning M.idle_keeps M.active_keeps) poison tables.old histories
-        → AreKept (laws M.meaning M.idle_keeps M.active_keeps) poison tables.new (with_history histories instance.number [])) }
+        → (IsTrue (M.law.meaning.lawful instance.kind instance.params.items poison) → M.law.meaning.table instance.kind instance.params.items ≡ Some (unplaced instance.table))
+        → AreKept M.law poison tables.old histories
+        → AreKept M.law poison tables.new (with_history histories instance.number [])) }
 {
     maps_have_room::<M>();
     blocks_are_few();
     creations();
     // a table is valid, as its records say
     let _records = instance.table.records();
-    let twins = find_twins(
-        &tables.slots,
+    let sharers = find_sharers(
+        &tables.instances,
         instance.kind,
         &instance.params,
         &instance.table,
     );
-    let list = listed(&twins);
+    let list = listed(&sharers);
     let i = instance.number;
     let g = instance.group;
     let placed = match place(spaces, i, g, &instance.table, &list, &tables.groups, poison) {
@@ -164,6 +164,6 @@ pub fn start_in_spaces<M: Ialg>(
         blocks,
     } = placed;
     grow(tables, spaces, poison, g, blocks);
-    begin(tables, spaces, instance, own, shared, twins);
+    begin(tables, spaces, instance, own, shared, sharers);
     Ok(())
 }

@@ -13,21 +13,21 @@ use Rattle.host_delete.specs.Ends.{has_members}
 
 -- no slot below n has a member of the group
 abbrev pub NoneBelow : {M : Type 0} → List (Option (Member M)) → ℕ → ℕ → Type 0
-NoneBelow slots g n = (j : ℕ) → j < n → is_member_of g (slot_at slots j) ≡ false
+NoneBelow instances g n = (j : ℕ) → j < n → is_member_of g (slot_at instances j) ≡ false
 
-pub some_left : {M : Type 0} (slots : List (Option (Member M))) (g i : ℕ) → i < length slots → is_member_of g (slot_at slots i) ≡ true → has_members slots g ≡ true
-some_left slots g i below is = list_any_at (is_member_of g) slots i None below is
+pub some_left : {M : Type 0} (instances : List (Option (Member M))) (g i : ℕ) → i < length instances → is_member_of g (slot_at instances i) ≡ true → has_members instances g ≡ true
+some_left instances g i below is = list_any_at (is_member_of g) instances i None below is
 
-pub none_left : {M : Type 0} (slots : List (Option (Member M))) (g : ℕ) → NoneBelow slots g (length slots) → has_members slots g ≡ false
+pub none_left : {M : Type 0} (instances : List (Option (Member M))) (g : ℕ) → NoneBelow instances g (length instances) → has_members instances g ≡ false
 none_left [] g none = refl
-none_left (s ∷ slots) g none =
-    or_false (is_member_of g s) (has_members slots g) (none 0 (omega arith))
-    (none_left slots g (λ j below. none (suc j) (let less : suc j < suc (length slots) = omega (arith, below) in less)))
+none_left (s ∷ instances) g none =
+    or_false (is_member_of g s) (has_members instances g) (none 0 (omega arith))
+    (none_left instances g (λ j below. none (suc j) (let less : suc j < suc (length instances) = omega (arith, below) in less)))
 
-pub none_there : {M : Type 0} (slots : List (Option (Member M))) (g : ℕ) → has_members slots g ≡ false → (j : ℕ) → is_member_of g (slot_at slots j) ≡ false
+pub none_there : {M : Type 0} (instances : List (Option (Member M))) (g : ℕ) → has_members instances g ≡ false → (j : ℕ) → is_member_of g (slot_at instances j) ≡ false
 none_there [] g none j = refl
-none_there (s ∷ slots) g none zero = (both_false (is_member_of g s) (has_members slots g) none).0
-none_there (s ∷ slots) g none (suc j) = none_there slots g (both_false (is_member_of g s) (has_members slots g) none).1 j
+none_there (s ∷ instances) g none zero = (both_false (is_member_of g s) (has_members instances g) none).0
+none_there (s ∷ instances) g none (suc j) = none_there instances g (both_false (is_member_of g s) (has_members instances g) none).1 j
 
 -- an instance is a member of no other group than its own
 pub not_of : {M : Type 0} (slot : Option (Member M)) (k : ℕ) → k ≢ group_of slot → is_member_of k slot ≡ false

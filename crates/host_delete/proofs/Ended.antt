@@ -11,20 +11,20 @@ use Rattle.host_map.specs.declared.placed.Placed.{Placed}
 use Rattle.host_map.specs.Blocks.{owned, renamed_blocks, same_owner}
 use Rattle.space_blocks.proofs.Owners.{itself}
 use Rattle.host_spaces.specs.declared.spaces.Spaces.{Spaces}
-use Rattle.host_map.specs.Picture.{Picture, blocks_in, is_group's, is_instance's, renamed, without_owners}
-use Rattle.host_spaces.specs.Picture.{AreSameSpaces, copied_in, picture_of, sizes_of}
-use Rattle.host_map.specs.Creation.{deleted_picture, handed_on}
-use Rattle.host_spaces.proofs.Pictures.{pictures_equal}
+use Rattle.host_map.specs.MemoryMap.{MemoryMap, blocks_in, is_group's, is_instance's, renamed, without_owners}
+use Rattle.host_spaces.specs.MemoryMap.{AreSameSpaces, copied_in, map_of, sizes_of}
+use Rattle.host_map.specs.Creation.{deleted_map, handed_on}
+use Rattle.host_spaces.proofs.Maps.{maps_equal}
 use Rattle.host_table.specs.declared.member.Member.{Member}
-use Rattle.host_shared.specs.declared.shelves.Shelf.{Shelf}
-use Rattle.host_shared.specs.Shelves.{home_of, once_at}
-use Rattle.host_shared.specs.Holders.{next_holder}
+use Rattle.host_shared.specs.declared.locations.Locations.{Locations}
+use Rattle.host_shared.specs.Locations.{owner_of, shared_at}
+use Rattle.host_shared.specs.Sharing.{next_sharer}
 use Rattle.host_table.specs.Table.{slot_at, group_at, instance_of}
-use Rattle.host_life.specs.Twins.{asked_by}
-use Rattle.host_moves.specs.Standing.{AreStanding, table_of}
-use Rattle.host_moves.proofs.Homes.{own_home}
+use Rattle.host_life.specs.Sharers.{asked_by}
+use Rattle.host_moves.specs.Standing.{AgreeWithMap, table_of}
+use Rattle.host_moves.proofs.Owners.{own_owner}
 use Rattle.host_moves.proofs.OwnMoves.{same_sizes}
-use Rattle.host_delete.specs.Ends.{has_members, twins_among}
+use Rattle.host_delete.specs.Ends.{has_members, sharers_among}
 
 pub stay_then : (a b c : Spaces) → AreSameSpaces a b → AreSameSpaces b c → AreSameSpaces a c
 stay_then a b c first second space = record { region = (second space).region ∙ (first space).region; slid = (second space).slid ∙ (first space).slid }
@@ -63,37 +63,37 @@ renamed_agree f g (b ∷ bs) agree =
     rest o (inl same) = inl same
     rest o (inr none) = inr (behind o (same_owner o b.owner) none)
 
-pictures_agree : (f g : Owner → Owner) (picture : Picture) → ((o : Owner) (space : Space) → (f o ≡ g o) ⊎ (owned o (blocks_in picture space) ≡ [])) → renamed f picture ≡ renamed g picture
-pictures_agree f g picture agree =
-    pictures_equal (renamed f picture) (renamed g picture) (renamed_agree f g (blocks_in picture Daram) (λ o. agree o Daram)) (renamed_agree f g (blocks_in picture Saram) (λ o. agree o Saram))
-    (renamed_agree f g (blocks_in picture External) (λ o. agree o External))
+maps_agree : (f g : Owner → Owner) (map : MemoryMap) → ((o : Owner) (space : Space) → (f o ≡ g o) ⊎ (owned o (blocks_in map space) ≡ [])) → renamed f map ≡ renamed g map
+maps_agree f g map agree =
+    maps_equal (renamed f map) (renamed g map) (renamed_agree f g (blocks_in map Daram) (λ o. agree o Daram)) (renamed_agree f g (blocks_in map Saram) (λ o. agree o Saram))
+    (renamed_agree f g (blocks_in map External) (λ o. agree o External))
 
-module _ {M : Type 0} (same : M → M → Bool) (i : ℕ) (slots slots' : List (Option (Member M))) (once : List Shelf) (groups : List Group) (spaces : Spaces) (standing : AreStanding slots once groups spaces)
-    (m : Member M) (at : slot_at slots i ≡ Some m) (least_twin : (k : ℕ) → home_of once i k ≡ i → next_holder once i k ≡ twins_among same slots' (asked_by (Some m)) k) where
-  twin_is : (k : ℕ) → home_of once i k ≡ i → next_holder once i k ≡ twins_among same slots' (asked_by (slot_at slots i)) k
-  twin_is k home = least_twin k home ∙ sym (ap (λ (a : Option (Member M)). twins_among same slots' (asked_by a) k) at)
+module _ {M : Type 0} (same : M → M → Bool) (i : ℕ) (instances instances' : List (Option (Member M))) (sharing : List Locations) (groups : List Group) (spaces : Spaces) (standing : AgreeWithMap instances sharing groups spaces)
+    (m : Member M) (at : slot_at instances i ≡ Some m) (least_sharer : (k : ℕ) → owner_of sharing i k ≡ i → next_sharer sharing i k ≡ sharers_among same instances' (asked_by (Some m)) k) where
+  sharer_is : (k : ℕ) → owner_of sharing i k ≡ i → next_sharer sharing i k ≡ sharers_among same instances' (asked_by (slot_at instances i)) k
+  sharer_is k owner = least_sharer k owner ∙ sym (ap (λ (a : Option (Member M)). sharers_among same instances' (asked_by a) k) at)
 
-  same_owners : (o : Owner) (space : Space) → (handed_on (next_holder once i) i o ≡ handed_on (twins_among same slots' (asked_by (slot_at slots i))) i o) ⊎ (owned o (blocks_in (picture_of spaces) space) ≡ [])
+  same_owners : (o : Owner) (space : Space) → (handed_on (next_sharer sharing i) i o ≡ handed_on (sharers_among same instances' (asked_by (slot_at instances i))) i o) ⊎ (owned o (blocks_in (map_of spaces) space) ≡ [])
   same_owners (GroupScratch g) space = inl refl
   same_owners (Record a k) space =
       elim (eqb_tells a i) [
         | inr e ↦ inl (rw e.0 refl)
-        | inl e ↦ elim (own_home spaces i (home_of once i) (table_of m) (instance_of m.inst).own (once_at once i) (group_at groups m.group) (standing.homes i m at) k space) [
-          | inl home ↦ inl (rw e.0 (ap (λ (twin : Option ℕ). Record (unwrap_or twin i) k) (twin_is k home)))
-          | inr none ↦ inr (ap (λ (x : ℕ). owned (Record x k) (blocks_in (picture_of spaces) space)) e.1 ∙ none)
+        | inl e ↦ elim (own_owner spaces i (owner_of sharing i) (table_of m) (instance_of m.inst).own (shared_at sharing i) (group_at groups m.group) (standing.owners i m at) k space) [
+          | inl owner ↦ inl (rw e.0 (ap (λ (sharer : Option ℕ). Record (unwrap_or sharer i) k) (sharer_is k owner)))
+          | inr none ↦ inr (ap (λ (x : ℕ). owned (Record x k) (blocks_in (map_of spaces) space)) e.1 ∙ none)
         ]
       ]
 
-  -- the next holder of a record is the least twin that is left
-  pub handed_same : renamed (handed_on (next_holder once i) i) (picture_of spaces) ≡ renamed (handed_on (twins_among same slots' (asked_by (slot_at slots i))) i) (picture_of spaces)
-  handed_same = pictures_agree (handed_on (next_holder once i) i) (handed_on (twins_among same slots' (asked_by (slot_at slots i))) i) (picture_of spaces) same_owners
+  -- the next sharer of a record is the least sharer that is left
+  pub handed_same : renamed (handed_on (next_sharer sharing i) i) (map_of spaces) ≡ renamed (handed_on (sharers_among same instances' (asked_by (slot_at instances i))) i) (map_of spaces)
+  handed_same = maps_agree (handed_on (next_sharer sharing i) i) (handed_on (sharers_among same instances' (asked_by (slot_at instances i))) i) (map_of spaces) same_owners
 
-module _ {M : Type 0} (slots : List (Option (Member M))) (picture records new : Picture) (twins : ℕ → Option ℕ) (i g h : ℕ) (same : g ≡ h) where
-  -- the picture where a member is left, and where none is
-  pub picture_with : has_members slots g ≡ true → new ≡ without_owners (is_instance's i) (renamed (handed_on twins i) picture) → new ≡ deleted_picture (has_members slots h) picture i h twins
-  picture_with is e = subst (λ n. new ≡ deleted_picture (has_members slots n) picture i n twins) same (rw is e)
+module _ {M : Type 0} (instances : List (Option (Member M))) (map records new : MemoryMap) (sharers : ℕ → Option ℕ) (i g h : ℕ) (same : g ≡ h) where
+  -- the memory map where a member is left, and where none is
+  pub map_with : has_members instances g ≡ true → new ≡ without_owners (is_instance's i) (renamed (handed_on sharers i) map) → new ≡ deleted_map (has_members instances h) map i h sharers
+  map_with is e = subst (λ n. new ≡ deleted_map (has_members instances n) map i n sharers) same (rw is e)
 
-  pub picture_without : has_members slots g ≡ false → records ≡ without_owners (is_instance's i) (renamed (handed_on twins i) picture) → new ≡ without_owners (is_group's g) records
-      → new ≡ deleted_picture (has_members slots h) picture i h twins
-  picture_without is first second =
-      subst (λ n. new ≡ deleted_picture (has_members slots n) picture i n twins) same (rw is (second ∙ ap (without_owners (is_group's g)) first))
+  pub map_without : has_members instances g ≡ false → records ≡ without_owners (is_instance's i) (renamed (handed_on sharers i) map) → new ≡ without_owners (is_group's g) records
+      → new ≡ deleted_map (has_members instances h) map i h sharers
+  map_without is first second =
+      subst (λ n. new ≡ deleted_map (has_members instances n) map i n sharers) same (rw is (second ∙ ap (without_owners (is_group's g)) first))

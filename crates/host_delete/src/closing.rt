@@ -1,35 +1,47 @@
 //! The end of all instances.
 ghost use Rattle.std.specs.Prelude.{◌≡◌, ℕ, None};
 ghost use Rattle.host_table.specs.Table.{slot_at, ArePoisoned};
-ghost use Rattle.host_map.specs.Picture.{empty_picture};
-ghost use Rattle.host_spaces.specs.Picture.{picture_of};
+ghost use Rattle.host_map.specs.MemoryMap.{empty_map};
+ghost use Rattle.host_spaces.specs.MemoryMap.{map_of};
 ghost use Rattle.host_spec.specs.State.{State};
 ghost use Rattle.host_spec.specs.Steps.{closed};
-ghost use Rattle.host_table.specs.Steps.{AreConsistent, laws};
+ghost use Rattle.host_table.specs.Steps.{AreConsistent};
 ghost use Rattle.host_moves.specs.Standing.{MapAgrees};
 ghost use Rattle.host_refines.specs.Hosts.{Refines};
 
 use crate::deletions::delete;
+use host_life::end_tables;
 use host_spaces::Spaces;
 use host_table::Tables;
 use ialg::Ialg;
 use mem_rec::INSTANCES;
 
 /// Deletes all instances, in ascending number, as the machine does. No block is left in the spaces.
-pub fn delete_all<M: Ialg>(tables: &mut Tables<M>, spaces: &mut Spaces, poison: Option<i16>)
+fn delete_all<M: Ialg>(tables: &mut Tables<M>, spaces: &mut Spaces, poison: Option<i16>)
     requires ok { AreConsistent tables.old }
     requires standing { MapAgrees tables.old spaces.old }
     requires poisoned { ArePoisoned poison tables.old.groups }
     ensures ok { AreConsistent tables.new }
     ensures standing { MapAgrees tables.new spaces.new }
     ensures poisoned { ArePoisoned poison tables.new.groups }
-    ensures none { (i : ℕ) → slot_at tables.new.slots i ≡ None }
-    ensures empty { picture_of spaces.new ≡ empty_picture }
+    ensures none { (i : ℕ) → slot_at tables.new.instances i ≡ None }
+    ensures empty { map_of spaces.new ≡ empty_map }
     ensures machine { (before : State M) → before.poison ≡ poison
-        → Refines (laws M.meaning M.idle_keeps M.active_keeps) tables.old spaces.old before
-        → Refines (laws M.meaning M.idle_keeps M.active_keeps) tables.new spaces.new (closed M.meaning before) }
+        → Refines M.law tables.old spaces.old before
+        → Refines M.law tables.new spaces.new (closed M.law.meaning before) }
 {
     for i in 0..INSTANCES as u8 {
         let _answer = delete(tables, spaces, poison, i);
     }
+}
+
+/// Deletes all instances, in ascending number, and gives all memory back.
+pub fn close<M: Ialg>(mut tables: Tables<M>, mut spaces: Spaces, poison: Option<i16>)
+    requires ok { AreConsistent tables }
+    requires standing { MapAgrees tables spaces }
+    requires poisoned { ArePoisoned poison tables.groups }
+{
+    delete_all(&mut tables, &mut spaces, poison);
+    end_tables(tables);
+    spaces.close();
 }

@@ -5,7 +5,7 @@ ghost use Rattle.host_spec.specs.State.{State};
 ghost use Rattle.host_spec.specs.Calls.{Does};
 ghost use Rattle.host_spec.specs.Calls.Call.{Delete};
 ghost use Rattle.host_moves.specs.Standing.{SlotIsSame, MapAgrees};
-ghost use Rattle.host_table.specs.Steps.{AreConsistent, laws};
+ghost use Rattle.host_table.specs.Steps.{AreConsistent};
 ghost use Rattle.host_refines.specs.Hosts.{Refines};
 
 use crate::ends::end_instance;
@@ -28,13 +28,13 @@ pub fn delete<M: Ialg>(
     ensures ok { AreConsistent tables.new }
     ensures standing { MapAgrees tables.new spaces.new }
     ensures poisoned { ArePoisoned poison tables.new.groups }
-    ensures gone { slot_at tables.new.slots i ≡ None }
-    ensures others { (j : ℕ) → j ≢ i → SlotIsSame (slot_at tables.old.slots j) (slot_at tables.new.slots j) }
+    ensures gone { slot_at tables.new.instances i ≡ None }
+    ensures others { (j : ℕ) → j ≢ i → SlotIsSame (slot_at tables.old.instances j) (slot_at tables.new.instances j) }
     ensures refused { OnErr result ((tables.new ≡ tables.old) × (spaces.new ≡ spaces.old)) }
     ensures machine { (before : State M) → before.poison ≡ poison
-        → Refines (laws M.meaning M.idle_keeps M.active_keeps) tables.old spaces.old before
-        → (after : State M) × Does M.meaning before (Delete i result) after
-        × Refines (laws M.meaning M.idle_keeps M.active_keeps) tables.new spaces.new after }
+        → Refines M.law tables.old spaces.old before
+        → (after : State M) × Does M.law.meaning before (Delete i result) after
+        × Refines M.law tables.new spaces.new after }
 {
     if usize::from(i) >= INSTANCES {
         return Err(Refusal::Range);

@@ -19,16 +19,22 @@ pub fn end_instance<M: Ialg>(
     poison: Option<i16>,
     i: u8,
 )
-    requires living { IsSome (slot_at tables.old.slots i) }
+    requires living { IsSome (slot_at tables.old.instances i) }
     requires ok { AreConsistent tables.old }
     requires standing { MapAgrees tables.old spaces.old }
     requires poisoned { ArePoisoned poison tables.old.groups }
-    ensures { HasEnded M.meaning M.idle_keeps M.active_keeps poison i tables.old.slots tables.old.once tables.old.groups spaces.old
-        tables.new.slots tables.new.once tables.new.groups spaces.new }
+    ensures { HasEnded M.law poison i tables.old.instances tables.old.sharing tables.old.groups spaces.old
+        tables.new.instances tables.new.sharing tables.new.groups spaces.new }
 {
-    let g = group_number(&tables.slots, i);
+    let g = group_number(&tables.instances, i);
     give_records(tables, spaces, poison, i);
-    if !members_left(&tables.slots, g) {
-        give_blocks(&tables.slots, &tables.once, &mut tables.groups, spaces, g);
+    if !members_left(&tables.instances, g) {
+        give_blocks(
+            &tables.instances,
+            &tables.sharing,
+            &mut tables.groups,
+            spaces,
+            g,
+        );
     }
 }

@@ -11,22 +11,22 @@ use lifecycle::Inst;
 use mem_rec::{INSTANCES, MemTab};
 
 /// The group of an instance.
-pub(crate) fn group_number<M: Ialg>(slots: &Vec<Option<Member<M>>>, i: u8) -> u8
-    requires { IsSome (slot_at slots.now.items i) }
-    ensures { result ≡ group_of (slot_at slots.now.items i) }
+pub(crate) fn group_number<M: Ialg>(instances: &Vec<Option<Member<M>>>, i: u8) -> u8
+    requires { IsSome (slot_at instances.now.items i) }
+    ensures { result ≡ group_of (slot_at instances.now.items i) }
 {
-    match &slots[i as usize] {
+    match &instances[i as usize] {
         Some(member) => member.group,
         None => unreachable!(),
     }
 }
 
 /// The table of an instance.
-pub(crate) fn table_copied<M: Ialg>(slots: &Vec<Option<Member<M>>>, i: u8) -> MemTab
-    requires { IsSome (slot_at slots.now.items i) }
-    ensures { (m : Member M) → slot_at slots.now.items i ≡ Some m → result ≡ (instance_of m.inst).table }
+pub(crate) fn table_copied<M: Ialg>(instances: &Vec<Option<Member<M>>>, i: u8) -> MemTab
+    requires { IsSome (slot_at instances.now.items i) }
+    ensures { (m : Member M) → slot_at instances.now.items i ≡ Some m → result ≡ (instance_of m.inst).table }
 {
-    match &slots[i as usize] {
+    match &instances[i as usize] {
         Some(member) => match &member.inst {
             Inst::Idling(idle) => idle.instance.table.copied(),
             Inst::Running(active) => active.instance.table.copied(),
@@ -36,23 +36,23 @@ pub(crate) fn table_copied<M: Ialg>(slots: &Vec<Option<Member<M>>>, i: u8) -> Me
 }
 
 /// Whether the slot has a member of the group.
-fn is_member<M: Ialg>(slots: &Vec<Option<Member<M>>>, g: u8, i: usize) -> bool
-    requires { i < length slots.now.items }
-    ensures { result ≡ is_member_of g (slot_at slots.now.items i) }
+fn is_member<M: Ialg>(instances: &Vec<Option<Member<M>>>, g: u8, i: usize) -> bool
+    requires { i < length instances.now.items }
+    ensures { result ≡ is_member_of g (slot_at instances.now.items i) }
 {
-    match &slots[i] {
+    match &instances[i] {
         Some(member) => member.group == g,
         None => false,
     }
 }
 
 /// Whether the group has a member.
-pub(crate) fn members_left<M: Ialg>(slots: &Vec<Option<Member<M>>>, g: u8) -> bool
-    requires { length slots.now.items ≡ INSTANCES }
-    ensures { result ≡ has_members slots.now.items g }
+pub(crate) fn members_left<M: Ialg>(instances: &Vec<Option<Member<M>>>, g: u8) -> bool
+    requires { length instances.now.items ≡ INSTANCES }
+    ensures { result ≡ has_members instances.now.items g }
 {
     for i in 0..INSTANCES {
-        if is_member(slots, g, i) {
+        if is_member(instances, g, i) {
             return true;
         }
     }

@@ -6,7 +6,7 @@ use Rattle.ialg.specs.declared.control.Status.{Status}
 use Rattle.ialg.specs.Views.{answer_of}
 use Rattle.ialg.specs.Meaning as meaning
 use Rattle.host_refines.specs.Kept.{told}
-use Rattle.voice_set.specs.declared.voice.Voice.{Voice}
+use Rattle.gateway_kinds.specs.Kinds.{Kind}
 use Rattle.channel_spec.specs.Calls.{Call}
 use Rattle.voice_channel.specs.Channels.{ChannelsState}
 use Rattle.host_library.specs.declared.machine.Machine.{Machine}
@@ -14,7 +14,7 @@ use Rattle.host_library.specs.declared.handle.Handle.{Handle}
 use Rattle.host_library.specs.Codes.{code_of}
 use Rattle.host_library.specs.Calls.{Answers, Serves}
 
-pub answered : {A : Type 0} (call : Result A Refusal → Call Voice) {m taken : Machine} {new : Handle} {code : ℤ} (answer : Result A Refusal) (channels : ChannelsState Voice)
+pub answered : {A : Type 0} (call : Result A Refusal → Call Kind) {m taken : Machine} {new : Handle} {code : ℤ} (answer : Result A Refusal) (channels : ChannelsState Kind)
     → taken ≡ m → code ≡ code_of answer → new.held.machine ≡ Some (record { channels = channels; given = taken.given })
     → Serves (call answer) taken (record { channels = channels; given = taken.given }) → Answers call m new code
 answered call {m} {taken} answer channels its coded kept serves =

@@ -8,9 +8,8 @@ use Rattle.mem_rec.specs.declared.Space.{Space}
 use Rattle.host_map.specs.Activity.{Activity}
 use Rattle.host_map.specs.declared.placed.Placed.{Placed}
 use Rattle.host_library.specs.declared.spaces.BlockShown.{BlockShown}
-use Rattle.voice_set.specs.declared.voice.Voice.{Voice}
-use Rattle.voice_set.specs.Voices.{voice_meaning}
-use Rattle.voice_set.specs.Keeps.{IsIdle, IsActive}
+use Rattle.gateway_kinds.specs.Kinds.{Kind}
+use Rattle.gateway_kinds.specs.Keeps.{kind_laws}
 use Rattle.channel_spec.specs.Calls.{Call}
 use Rattle.channel_spec.specs.Calls.Call.{Ready, Feed, OfHost}
 use Rattle.host_spec.specs.Calls.Call.{Create, Control, Step, Compact, Copied, Map, Release, Stat}
@@ -28,15 +27,15 @@ pub record IsHandle (handle : Handle) : Type 0 where
   pub shut : handle.mark ≢ MARK → handle.held.machine ≡ None
 
 -- the channels keep a state of the machine
-abbrev pub Keeps : ChannelsState Voice → Channels Voice → Type 0
-Keeps = KeepsOf voice_meaning IsIdle IsActive
+abbrev pub Keeps : ChannelsState Kind → Channels Kind → Type 0
+Keeps = KeepsOf kind_laws
 
 -- whatever state the channels kept, the call was answered as the machine may answer it there, and they keep a state that comes after it
-abbrev pub Serves : Call Voice → Machine → Machine → Type 0
-Serves call old new = ServesOf voice_meaning IsIdle IsActive call old.channels new.channels
+abbrev pub Serves : Call Kind → Machine → Machine → Type 0
+Serves call old new = ServesOf kind_laws call old.channels new.channels
 
 -- the machine takes a call whose answer has this code, and the handle has it as it is then
-pub record Answers {A : Type 0} (call : Result A Refusal → Call Voice) (old : Machine) (new : Handle) (code : ℤ) : Type 0 where
+pub record Answers {A : Type 0} (call : Result A Refusal → Call Kind) (old : Machine) (new : Handle) (code : ℤ) : Type 0 where
   pub answer : Result A Refusal
   pub after : Machine
   pub coded : code ≡ code_of answer
@@ -44,7 +43,7 @@ pub record Answers {A : Type 0} (call : Result A Refusal → Call Voice) (old : 
   pub serves : Serves (call answer) old after
 
 -- the machine creates an instance or refuses to, and tells which space has no room
-pub record Creates (i : ℕ) (kind : Voice) (g : ℕ) (parameters : List ℤ) (old : Machine) (new : Handle) (code : ℤ) (before full : ℕ) : Type 0 where
+pub record Creates (i : ℕ) (kind : Kind) (g : ℕ) (parameters : List ℤ) (old : Machine) (new : Handle) (code : ℤ) (before full : ℕ) : Type 0 where
   pub answer : Result (Unit {0}) Refusal
   pub after : Machine
   pub coded : code ≡ code_of answer

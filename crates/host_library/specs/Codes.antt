@@ -5,7 +5,7 @@ use Rattle.ialg.specs.declared.refusal.Refusal.TheVariants.{Long, Syntax, Range,
 use Rattle.ialg.specs.Refusals.{refusal_number}
 use Rattle.mem_rec.specs.declared.Space.{Space}
 use Rattle.mem_rec.specs.declared.Space.TheVariants.{Daram, Saram, External}
-use Rattle.voice_set.specs.declared.voice.Voice.{Voice}
+use Rattle.gateway_kinds.specs.Kinds.{Kind, of_voice, of_gain, of_level, of_dtmf}
 use Rattle.voice_set.specs.declared.voice.Voice.TheVariants.{Fir, Decim, Biquad, Tone, G711}
 use Rattle.host_map.specs.declared.parts.Sizes.{Sizes}
 use Rattle.host_map.specs.declared.placed.Owner.{Owner}
@@ -14,13 +14,17 @@ use Rattle.host_map.specs.declared.placed.Placed.{Placed}
 use Rattle.host_library.specs.declared.spaces.BlockShown.{BlockShown}
 use Rattle.host_library.specs.declared.TheConstants.{DONE}
 
-abbrev pub voice_numbered : ℕ → Option Voice
-voice_numbered zero = Some Fir
-voice_numbered (suc zero) = Some Decim
-voice_numbered (suc (suc zero)) = Some Biquad
-voice_numbered (suc (suc (suc zero))) = Some Tone
-voice_numbered (suc (suc (suc (suc zero)))) = Some G711
-voice_numbered (suc (suc (suc (suc (suc n))))) = None
+-- 0 to 4 are the voices, 5 a gain, 6 a meter and 7 a detector of digits
+abbrev pub kind_numbered : ℕ → Option Kind
+kind_numbered zero = Some (of_voice Fir)
+kind_numbered (suc zero) = Some (of_voice Decim)
+kind_numbered (suc (suc zero)) = Some (of_voice Biquad)
+kind_numbered (suc (suc (suc zero))) = Some (of_voice Tone)
+kind_numbered (suc (suc (suc (suc zero)))) = Some (of_voice G711)
+kind_numbered (suc (suc (suc (suc (suc zero))))) = Some (of_gain (record { of = record {} }))
+kind_numbered (suc (suc (suc (suc (suc (suc zero)))))) = Some (of_level (record { of = record {} }))
+kind_numbered (suc (suc (suc (suc (suc (suc (suc zero))))))) = Some (of_dtmf (record {}))
+kind_numbered (suc (suc (suc (suc (suc (suc (suc (suc n)))))))) = None
 
 abbrev pub space_numbered : ℕ → Option Space
 space_numbered zero = Some Daram

@@ -2,14 +2,14 @@
 ghost use Rattle.std.specs.Prelude.{◌≡◌, ◌≢◌, ◌≤◌, Some, None, length};
 ghost use Rattle.channel_spec.specs.Calls.Call.{Chain, Unchain, Remove};
 ghost use Rattle.ialg.specs.declared.TheConstants.{PARAMETER_WORDS};
-ghost use Rattle.voice_set.specs.declared.voice.Voice.{Voice as VoiceOf};
+ghost use Rattle.gateway_kinds.specs.Kinds.{Kind};
 ghost use Rattle.voice_channel.specs.declared.TheConstants.{MEMBERS};
 ghost use Rattle.host_library.specs.declared.machine.Machine.{Machine as MachineOf};
 ghost use Rattle.host_library.specs.declared.TheConstants.{CLOSED, BAD_LENGTH, BAD_KIND, MARK};
 ghost use Rattle.host_library.specs.Calls.{IsHandle, Answers, Creates};
-ghost use Rattle.host_library.specs.Codes.{voice_numbered};
+ghost use Rattle.host_library.specs.Codes.{kind_numbered};
 
-use crate::codes::{code, tell_space, voice_by};
+use crate::codes::{code, kind_by, tell_space};
 use crate::handle::Handle;
 use crate::{BAD_KIND, BAD_LENGTH, CLOSED, MARK};
 use ialg::{PARAMETER_WORDS, copied};
@@ -32,16 +32,16 @@ pub extern "C" fn rokdaum_proved_create(
     ensures handle { IsHandle handle.new }
     ensures mark { handle.new.mark ≡ handle.old.mark }
     ensures closed { handle.old.mark ≢ MARK → (result ≡ CLOSED) × (handle.new ≡ handle.old) }
-    ensures kind { handle.old.mark ≡ MARK → voice_numbered kind ≡ None → (result ≡ BAD_KIND) × (handle.new ≡ handle.old) }
-    ensures length { handle.old.mark ≡ MARK → voice_numbered kind ≢ None → ¬ (length parameters.now ≤ PARAMETER_WORDS)
+    ensures kind { handle.old.mark ≡ MARK → kind_numbered kind ≡ None → (result ≡ BAD_KIND) × (handle.new ≡ handle.old) }
+    ensures length { handle.old.mark ≡ MARK → kind_numbered kind ≢ None → ¬ (length parameters.now ≤ PARAMETER_WORDS)
         → (result ≡ BAD_LENGTH) × (handle.new ≡ handle.old) }
-    ensures machine { (m : MachineOf) (voice : VoiceOf) → handle.old.mark ≡ MARK → handle.old.held.machine ≡ Some m → voice_numbered kind ≡ Some voice
-        → length parameters.now ≤ PARAMETER_WORDS → Creates i voice group parameters.now m handle.new result full.old full.new }
+    ensures machine { (m : MachineOf) (k : Kind) → handle.old.mark ≡ MARK → handle.old.held.machine ≡ Some m → kind_numbered kind ≡ Some k
+        → length parameters.now ≤ PARAMETER_WORDS → Creates i k group parameters.now m handle.new result full.old full.new }
 {
     if handle.mark != MARK {
         return CLOSED;
     }
-    let Some(kind) = voice_by(kind) else {
+    let Some(kind) = kind_by(kind) else {
         return BAD_KIND;
     };
     if parameters.len() > PARAMETER_WORDS {

@@ -1,22 +1,30 @@
 //! How C names kinds, spaces and answers.
 ghost use Rattle.std.specs.Prelude.{◌≡◌};
-ghost use Rattle.host_library.specs.Codes.{voice_numbered, space_numbered, code_of, full_after};
+ghost use Rattle.host_library.specs.Codes.{kind_numbered, space_numbered, code_of, full_after};
 
 use crate::DONE;
+use alg_dtmf::Dtmf;
+use alg_gain::Gain;
+use alg_level::Level;
+use gateway_kinds::GatewayKind;
 use ialg::Refusal;
+use kind_sets::Or;
 use mem_rec::Space;
 use voice_set::Voice;
 
 /// The kind of a number.
-pub(crate) fn voice_by(number: u32) -> Option<Voice>
-    ensures { result ≡ voice_numbered number }
+pub(crate) fn kind_by(number: u32) -> Option<GatewayKind>
+    ensures { result ≡ kind_numbered number }
 {
     match number {
-        0 => Some(Voice::Fir),
-        1 => Some(Voice::Decim),
-        2 => Some(Voice::Biquad),
-        3 => Some(Voice::Tone),
-        4 => Some(Voice::G711),
+        0 => Some(Or::First(Voice::Fir)),
+        1 => Some(Or::First(Voice::Decim)),
+        2 => Some(Or::First(Voice::Biquad)),
+        3 => Some(Or::First(Voice::Tone)),
+        4 => Some(Or::First(Voice::G711)),
+        5 => Some(Or::Second(Or::First(Gain::new()))),
+        6 => Some(Or::Second(Or::Second(Or::First(Level::new())))),
+        7 => Some(Or::Second(Or::Second(Or::Second(Dtmf)))),
         _ => None,
     }
 }

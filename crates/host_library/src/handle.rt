@@ -1,6 +1,6 @@
 //! The handle that a caller keeps, and how it is opened and closed.
 ghost use Rattle.std.specs.Prelude.{◌≡◌, ◌≢◌, ◌≤◌, true, Some, None, is_some, [], replicate, IfOk, IfErr, IsErrOf};
-ghost use Rattle.host_map.specs.Picture.{AreSizes};
+ghost use Rattle.host_map.specs.MemoryMap.{AreSizes};
 ghost use Rattle.host_spec.specs.State.{new_state};
 ghost use Rattle.host_library.specs.declared.machine.Machine.{Machine as MachineOf};
 ghost use Rattle.host_library.specs.declared.TheConstants.{DONE, BAD_SIZE, NO_MEMORY, CLOSED, OPEN, MARK};
@@ -10,11 +10,11 @@ ghost use Rattle.host_library.specs.Codes.{poison_of, sizes_by};
 use crate::held::Held;
 use crate::machine::Machine;
 use crate::{BAD_SIZE, CLOSED, DONE, MARK, NO_MEMORY, OPEN};
+use gateway_kinds::GatewayKind;
 use ialg::Block;
 use std::alloc::Global;
 use std::mem;
 use voice_channel::{CHANNELS, Channels, Host, Sizes, StartError};
-use voice_set::Voice;
 
 /// A handle. A caller sets all of it to zero, and then passes it to these functions alone. It can't be copied.
 #[repr(C)]
@@ -56,7 +56,7 @@ fn new_machine(
     ensures memory { AreSizes sizes → IfErr result (λ e. e ≡ NO_MEMORY) }
     ensures keeps { IfOk result (λ m. Keeps m.value.channels (record { host = new_state sizes poison; chained = replicate channels [] })) }
 {
-    let host: Host<Voice> = match Host::new(alloc, sizes, poison) {
+    let host: Host<GatewayKind> = match Host::new(alloc, sizes, poison) {
         Ok(host) => host,
         Err(StartError::BadSize) => return Err(BAD_SIZE),
         Err(StartError::Memory) => return Err(NO_MEMORY),

@@ -3,9 +3,10 @@ use Rattle.std.proofs.Common.{◌≡◌, ℕ, zero, suc, ℤ, ◌<◌, List, tak
 use Rattle.mem_rec.specs.declared.MemRec.{MemRec}
 use Rattle.mem_rec.specs.declared.Attr.{Attr}
 use Rattle.mem_rec.specs.declared.Attr.TheVariants.{WriteOnce}
-use Rattle.ialg.specs.Meaning.{Meaning}
 use Rattle.ialg.specs.History.{History}
 use Rattle.ialg.specs.Records.{record_at, words_of, HoldFill}
+use Rattle.ialg.specs.Meaning.{Meaning}
+use Rattle.ialg.specs.Laws.{Laws, Relation}
 use Rattle.record_loans.specs.declared.pieces.Pieces.{Pieces}
 use Rattle.record_loans.specs.Pieces.{piece_at, piece_words}
 use Rattle.record_loans.specs.Blocks.{block_words}
@@ -14,10 +15,10 @@ use Rattle.scratch_group.specs.Blocks.{block_in}
 use Rattle.scratch_group.specs.Words.{words_by, active_words, lasting_words_by, idle_record_words, idle_words, scratch_offset}
 use Rattle.lifecycle.specs.declared.instance.Inst.{Inst}
 use Rattle.lifecycle.specs.declared.instance.Inst.TheVariants.{Idling, Running}
-use Rattle.lifecycle.specs.States.{Relation, IsLawful}
+use Rattle.lifecycle.specs.States.{IsLawful}
 use Rattle.host_table.specs.Table.{instance_of}
 use Rattle.host_table.specs.Keeps.{InstKeeps}
-use Rattle.host_life.proofs.Twinned.{words_at}
+use Rattle.host_life.proofs.Shared.{words_at}
 
 pub idle_words_at : (rs : List MemRec) (own shared : Pieces) (k : ℕ) → k < 4 → words_of (idle_words rs own shared) k ≡ idle_record_words rs own shared k
 idle_words_at rs own shared zero h = refl
@@ -45,10 +46,10 @@ active_once rs own shared g k below attr =
 abbrev pub Fills : {M : Type 0} → Meaning M → Relation M → Type 0
 Fills {M = M} meaning keeps = (kind : M) (p : List ℤ) (rs : List MemRec) (wss : List (List ℤ)) (h : History) → keeps kind p rs wss h → HoldFill (meaning.fill kind p) rs wss
 
-module _ {M : Type 0} (meaning : Meaning M) (idle_keeps active_keeps : Relation M) (idle_fill : Fills meaning idle_keeps) (active_fill : Fills meaning active_keeps) (w : Option ℤ) where
-  pub fill_seen : (inst : Inst M) (shared : Pieces) (g : Group) (h : History) → InstKeeps meaning idle_keeps active_keeps w inst shared g h → IsLawful meaning (instance_of inst) w
+module _ {M : Type 0} (laws : Laws M) (idle_fill : Fills laws.meaning laws.idle_keeps) (active_fill : Fills laws.meaning laws.active_keeps) (w : Option ℤ) where
+  pub fill_seen : (inst : Inst M) (shared : Pieces) (g : Group) (h : History) → InstKeeps laws w inst shared g h → IsLawful laws.meaning (instance_of inst) w
       → (k : ℕ) → k < 4 → (record_at (instance_of inst).table k).attr ≡ WriteOnce
-      → take (record_at (instance_of inst).table k).size (piece_words (piece_at shared k)) ≡ meaning.fill (instance_of inst).kind (instance_of inst).params.items k
+      → take (record_at (instance_of inst).table k).size (piece_words (piece_at shared k)) ≡ laws.meaning.fill (instance_of inst).kind (instance_of inst).params.items k
   fill_seen (Idling s) shared g h keeps lawful k below attr =
       let i = s.instance in
       sym (idle_once i.table i.own shared k below attr) ∙ idle_fill i.kind i.params.items i.table (idle_words i.table i.own shared) h (keeps lawful) k attr

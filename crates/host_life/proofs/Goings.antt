@@ -7,15 +7,15 @@ use Rattle.lifecycle.specs.declared.instance.Inst.{Inst}
 use Rattle.lifecycle.specs.declared.instance.Inst.TheVariants.{Idling, Running}
 use Rattle.lifecycle.specs.States.{SameOnce}
 use Rattle.host_table.specs.declared.member.Member.{Member}
-use Rattle.host_shared.specs.declared.shelves.Shelf.{Shelf}
-use Rattle.host_shared.specs.Shelves.{stand_at, no_shelf, shelf_at, once_at, no_pieces}
-use Rattle.host_shared.specs.Homes.{with_seen, AllHaveHomes, SameShelves}
-use Rattle.host_shared.specs.Holders.{left_with, stand_without}
+use Rattle.host_shared.specs.declared.locations.Locations.{Locations}
+use Rattle.host_shared.specs.Locations.{location_at, no_locations, locations_at, shared_at, no_pieces}
+use Rattle.host_shared.specs.Owners.{with_pieces_of, AllHaveOwners, SameLocations}
+use Rattle.host_shared.specs.Sharing.{left_with, location_without}
 use Rattle.host_table.specs.Table.{slot_at, instance_of, active_in, AreHeld, AreBare}
 use Rattle.host_shared.proofs.Stands.{seen_of}
-use Rattle.host_shared.proofs.Homes.{count_seen}
-use Rattle.host_shared.proofs.Lent.{stands_lent, homes_of_all}
-use Rattle.host_table.proofs.Held.{same_members_slot, homes_of_held, held_stays, bare_stays}
+use Rattle.host_shared.proofs.Owners.{count_seen}
+use Rattle.host_shared.proofs.Lent.{stands_lent, owners_of_all}
+use Rattle.host_table.proofs.Held.{same_members_slot, owners_of_held, held_stays, bare_stays}
 use Rattle.host_table.proofs.Sights.{Sees, sees_lent}
 use Rattle.host_life.proofs.HeldOn.{held_handed, bare_handed}
 use Rattle.host_shared.proofs.Handing.{once_handed, left_stays}
@@ -26,41 +26,41 @@ idle_in_any g k (Idling s) idle = refl
 idle_in_any g k (Running s) idle = absurd (none-some g (sym idle))
 
 -- its pieces were put back
-module _ {M : Type 0} (slots : List (Option (Member M))) (once : List Shelf) (i : ℕ) (m : Member M) (o : Pieces) (once' : List Shelf) (held : AreHeld slots once) (inside : i < length once)
-    (at : slot_at slots i ≡ Some m) (pieces : SamePieces (once_at once i) o) (put : once' ≡ with_seen once i o) where
-  pub stands_put : SameShelves once once'
-  stands_put = rw put (stands_lent once i (homes_of_all once i (homes_of_held slots once held) inside) o pieces)
+module _ {M : Type 0} (instances : List (Option (Member M))) (sharing : List Locations) (i : ℕ) (m : Member M) (o : Pieces) (sharing' : List Locations) (held : AreHeld instances sharing) (inside : i < length sharing)
+    (at : slot_at instances i ≡ Some m) (pieces : SamePieces (shared_at sharing i) o) (put : sharing' ≡ with_pieces_of sharing i o) where
+  pub stands_put : SameLocations sharing sharing'
+  stands_put = rw put (stands_lent sharing i (owners_of_all sharing i (owners_of_held instances sharing held) inside) o pieces)
 
-  pub count_put : length once' ≡ length once
-  count_put = rw put (count_seen once i (homes_of_all once i (homes_of_held slots once held) inside) o)
+  pub count_put : length sharing' ≡ length sharing
+  count_put = rw put (count_seen sharing i (owners_of_all sharing i (owners_of_held instances sharing held) inside) o)
 
-  held_put : AreHeld slots once'
-  held_put = held_stays slots slots once once' (λ j. same_members_slot (slot_at slots j)) stands_put held
+  held_put : AreHeld instances sharing'
+  held_put = held_stays instances instances sharing sharing' (λ j. same_members_slot (slot_at instances j)) stands_put held
 
-  pub homes_put : AllHaveHomes once'
-  homes_put = homes_of_held slots once' held_put
+  pub owners_put : AllHaveOwners sharing'
+  owners_put = owners_of_held instances sharing' held_put
 
-  pub left_put : SamePieces (left_with once i) (left_with once' i)
-  left_put = left_stays once once' i (sym count_put) stands_put
+  pub left_put : SamePieces (left_with sharing i) (left_with sharing' i)
+  left_put = left_stays sharing sharing' i (sym count_put) stands_put
 
   -- and handed on
-  module _ (once'' : List Shelf) (count : length once'' ≡ length once') (gone : shelf_at once'' i ≡ no_shelf)
-      (handed : (j k : ℕ) → stand_at (shelf_at once'' j) k ≡ stand_without once' i k j) where
-    pub held_gone : AreHeld (set slots i None) once''
-    held_gone = held_handed once' once'' i homes_put handed slots held_put
+  module _ (sharing'' : List Locations) (count : length sharing'' ≡ length sharing') (gone : locations_at sharing'' i ≡ no_locations)
+      (handed : (j k : ℕ) → location_at (locations_at sharing'' j) k ≡ location_without sharing' i k j) where
+    pub held_gone : AreHeld (set instances i None) sharing''
+    held_gone = held_handed sharing' sharing'' i owners_put handed instances held_put
 
-    pub bare_gone : AreBare slots once → AreBare (set slots i None) once''
-    bare_gone bare = bare_handed once' once'' i homes_put handed slots held_put gone (bare_stays slots slots once once' (λ j. same_members_slot (slot_at slots j)) stands_put bare)
+    pub bare_gone : AreBare instances sharing → AreBare (set instances i None) sharing''
+    bare_gone bare = bare_handed sharing' sharing'' i owners_put handed instances held_put gone (bare_stays instances instances sharing sharing' (λ j. same_members_slot (slot_at instances j)) stands_put bare)
 
-    pub none_gone : once_at once'' i ≡ no_pieces
-    none_gone = seen_of once'' i no_pieces gone
+    pub none_gone : shared_at sharing'' i ≡ no_pieces
+    none_gone = seen_of sharing'' i no_pieces gone
 
-    once_gone : (j : ℕ) → j ≢ i → once_at once'' j ≡ once_at (with_seen once i o) j
-    once_gone j apart = once_handed once' once'' i homes_put handed j apart ∙ ap (λ (l : List Shelf). once_at l j) put
+    once_gone : (j : ℕ) → j ≢ i → shared_at sharing'' j ≡ shared_at (with_pieces_of sharing i o) j
+    once_gone j apart = once_handed sharing' sharing'' i owners_put handed j apart ∙ ap (λ (l : List Locations). shared_at l j) put
 
-    pub sees_gone : SameOnce (instance_of m.inst).table (once_at once i) o → Sees slots once i no_pieces once''
+    pub sees_gone : SameOnce (instance_of m.inst).table (shared_at sharing i) o → Sees instances sharing i no_pieces sharing''
     sees_gone written =
-        let sight = sees_lent slots once i m o held inside at pieces written in
+        let sight = sees_lent instances sharing i m o held inside at pieces written in
         record {
           count = count ∙ count_put;
           here = none_gone;

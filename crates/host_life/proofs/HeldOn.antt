@@ -1,68 +1,68 @@
--- The holders that are left hold their records together.
+-- The sharers that are left hold their records together.
 use Rattle.std.proofs.Common.{◌≡◌, ◌≢◌, ℕ, inl, inr, List, Option, Some, None, set, get_or-set_other, refl, sym, ◌∙◌, ap}
 use Rattle.std.proofs.lemmas.Bool.Decides.{eqb_tells}
 use Rattle.host_table.specs.declared.member.Member.{Member}
-use Rattle.host_shared.specs.declared.shelves.Stand.{Stand}
-use Rattle.host_shared.specs.declared.shelves.Stand.TheVariants.{Here, With}
-use Rattle.host_shared.specs.declared.shelves.Shelf.{Shelf}
-use Rattle.host_shared.specs.Shelves.{stand_at, no_shelf, shelf_at}
-use Rattle.host_shared.specs.Homes.{IsPieceHere, AllHaveHomes}
-use Rattle.host_shared.specs.Holders.{stand_without}
-use Rattle.host_table.specs.Table.{slot_at, IsHolder, AreHeld, AreBare}
-use Rattle.host_shared.proofs.Lent.{four_stands, no_stand}
+use Rattle.host_shared.specs.declared.locations.Location.{Location}
+use Rattle.host_shared.specs.declared.locations.Location.TheVariants.{Here, At}
+use Rattle.host_shared.specs.declared.locations.Locations.{Locations}
+use Rattle.host_shared.specs.Locations.{location_at, no_locations, locations_at}
+use Rattle.host_shared.specs.Owners.{IsPieceHere, AllHaveOwners}
+use Rattle.host_shared.specs.Sharing.{location_without}
+use Rattle.host_table.specs.Table.{slot_at, IsSharer, AreHeld, AreBare}
+use Rattle.host_shared.proofs.Lent.{four_locations, no_location}
 use Rattle.host_table.proofs.Held.{alike_both}
 use Rattle.host_shared.proofs.Handing.{stays_here, stays_with, goes, next_apart, next_of, next_here, next_there, without_gone}
 
-holders_then : {M : Type 0} (k : ℕ) (a b home : Option (Member M)) (s t : Stand) → IsHolder k a home s → IsHolder k b home s → IsPieceHere t → IsHolder k a b t
-holders_then k None b home s t first second here = first
-holders_then k (Some m) None home s t first second here = absurd second
-holders_then k (Some m) (Some n) home s t first second here = (alike_both k m n home s first second, here)
+sharers_then : {M : Type 0} (k : ℕ) (a b owner : Option (Member M)) (s t : Location) → IsSharer k a owner s → IsSharer k b owner s → IsPieceHere t → IsSharer k a b t
+sharers_then k None b owner s t first second here = first
+sharers_then k (Some m) None owner s t first second here = absurd second
+sharers_then k (Some m) (Some n) owner s t first second here = (alike_both k m n owner s first second, here)
 
 -- what stands with instance i is handed on
-module _ (once once' : List Shelf) (i : ℕ) (homes : AllHaveHomes once) (handed : (j k : ℕ) → stand_at (shelf_at once' j) k ≡ stand_without once i k j)
-    {M : Type 0} (slots : List (Option (Member M))) (held : AreHeld slots once) where
-  beside : (j : ℕ) → j ≢ i → slot_at (set slots i None) j ≡ slot_at slots j
-  beside j apart = get_or-set_other slots i j None None apart
+module _ (sharing sharing' : List Locations) (i : ℕ) (owners : AllHaveOwners sharing) (handed : (j k : ℕ) → location_at (locations_at sharing' j) k ≡ location_without sharing i k j)
+    {M : Type 0} (instances : List (Option (Member M))) (held : AreHeld instances sharing) where
+  beside : (j : ℕ) → j ≢ i → slot_at (set instances i None) j ≡ slot_at instances j
+  beside j apart = get_or-set_other instances i j None None apart
 
-  held_by : (j k home : ℕ) (s : Stand) → j ≢ i → stand_at (shelf_at once j) k ≡ s → stand_at (shelf_at once' j) k ≡ With home
-      → IsHolder k (slot_at (set slots i None) j) (slot_at (set slots i None) home) (stand_at (shelf_at once' home) k)
-  held_by j k home (Here p) apart was is = let both : Here p ≡ With home = sym (stays_here once once' i homes handed j k p apart was) ∙ is in cc
-  held_by j k home (With g) apart was is =
-      let here = homes j k g was in
+  held_by : (j k owner : ℕ) (s : Location) → j ≢ i → location_at (locations_at sharing j) k ≡ s → location_at (locations_at sharing' j) k ≡ At owner
+      → IsSharer k (slot_at (set instances i None) j) (slot_at (set instances i None) owner) (location_at (locations_at sharing' owner) k)
+  held_by j k owner (Here p) apart was is = let both : Here p ≡ At owner = sym (stays_here sharing sharing' i owners handed j k p apart was) ∙ is in cc
+  held_by j k owner (At g) apart was is =
+      let here = owners j k g was in
       elim (eqb_tells g i) [
         | inr e ↦
-            let same : g ≡ home = (let both : With g ≡ With home = sym (stays_with once once' i homes handed j k g apart e.1 was) ∙ is in cc) in
-            rw (← same, beside j apart, beside g e.1, stays_here once once' i homes handed g k (Some here.0) e.1 here.1 ∙ sym here.1) (held j k g was)
+            let same : g ≡ owner = (let both : At g ≡ At owner = sym (stays_with sharing sharing' i owners handed j k g apart e.1 was) ∙ is in cc) in
+            rw (← same, beside j apart, beside g e.1, stays_here sharing sharing' i owners handed g k (Some here.0) e.1 here.1 ∙ sym here.1) (held j k g was)
         | inl e ↦
-            let with_i : stand_at (shelf_at once j) k ≡ With i = was ∙ ap With e.1 in
-            let home_is : stand_at (shelf_at once i) k ≡ Here (Some here.0) = ap (λ (x : ℕ). stand_at (shelf_at once x) k) (sym e.1) ∙ here.1 in
-            let next = next_of once i k j with_i in
-            let next_is_apart = next_apart once once' i homes handed next.0 k next.2 in
-            let at_next : stand_at (shelf_at once' next.0) k ≡ Here (Some here.0) =
-            goes once once' i homes handed next.0 k next.0 next_is_apart next.2 next.1 ∙ next_here next.0 _ next.0 refl ∙ home_is in
+            let with_i : location_at (locations_at sharing j) k ≡ At i = was ∙ ap At e.1 in
+            let owner_is : location_at (locations_at sharing i) k ≡ Here (Some here.0) = ap (λ (x : ℕ). location_at (locations_at sharing x) k) (sym e.1) ∙ here.1 in
+            let next = next_of sharing i k j with_i in
+            let next_is_apart = next_apart sharing sharing' i owners handed next.0 k next.2 in
+            let at_next : location_at (locations_at sharing' next.0) k ≡ Here (Some here.0) =
+            goes sharing sharing' i owners handed next.0 k next.0 next_is_apart next.2 next.1 ∙ next_here next.0 _ next.0 refl ∙ owner_is in
             elim (eqb_tells j next.0) [
-              | inl f ↦ let both : Here (Some here.0) ≡ With home = sym at_next ∙ ap (λ (x : ℕ). stand_at (shelf_at once' x) k) (sym f.1) ∙ is in cc
+              | inl f ↦ let both : Here (Some here.0) ≡ At owner = sym at_next ∙ ap (λ (x : ℕ). location_at (locations_at sharing' x) k) (sym f.1) ∙ is in cc
               | inr f ↦
-                  let same : next.0 ≡ home = (let both : With next.0 ≡ With home = sym (goes once once' i homes handed j k next.0 apart with_i next.1 ∙ next_there next.0 _ j f.1) ∙ is in cc) in
+                  let same : next.0 ≡ owner = (let both : At next.0 ≡ At owner = sym (goes sharing sharing' i owners handed j k next.0 apart with_i next.1 ∙ next_there next.0 _ j f.1) ∙ is in cc) in
                   rw (← same, beside j apart, beside next.0 next_is_apart)
-                  (holders_then k (slot_at slots j) (slot_at slots next.0) (slot_at slots i) (stand_at (shelf_at once i) k) (stand_at (shelf_at once' next.0) k)
+                  (sharers_then k (slot_at instances j) (slot_at instances next.0) (slot_at instances i) (location_at (locations_at sharing i) k) (location_at (locations_at sharing' next.0) k)
                   (held j k i with_i) (held next.0 k i next.2) (here.0, at_next))
             ]
       ]
 
-  -- the holders that are left hold their records together
-  pub held_handed : AreHeld (set slots i None) once'
-  held_handed j k home is =
+  -- the sharers that are left hold their records together
+  pub held_handed : AreHeld (set instances i None) sharing'
+  held_handed j k owner is =
       elim (eqb_tells j i) [
-        | inl e ↦ let both : Here None ≡ With home = sym (handed j k ∙ without_gone once i k j e.1) ∙ is in cc
-        | inr e ↦ held_by j k home (stand_at (shelf_at once j) k) e.1 refl is
+        | inl e ↦ let both : Here None ≡ At owner = sym (handed j k ∙ without_gone sharing i k j e.1) ∙ is in cc
+        | inr e ↦ held_by j k owner (location_at (locations_at sharing j) k) e.1 refl is
       ]
 
-  pub bare_handed : shelf_at once' i ≡ no_shelf → AreBare slots once → AreBare (set slots i None) once'
+  pub bare_handed : locations_at sharing' i ≡ no_locations → AreBare instances sharing → AreBare (set instances i None) sharing'
   bare_handed gone bare j empty =
       elim (eqb_tells j i) [
         | inl e ↦ rw e.1 gone
         | inr e ↦
-            let was : shelf_at once j ≡ no_shelf = bare j (sym (beside j e.1) ∙ empty) in
-            four_stands (shelf_at once' j) no_shelf (λ k. stays_here once once' i homes handed j k None e.1 (ap (λ (s : Shelf). stand_at s k) was ∙ no_stand k) ∙ sym (no_stand k))
+            let was : locations_at sharing j ≡ no_locations = bare j (sym (beside j e.1) ∙ empty) in
+            four_locations (locations_at sharing' j) no_locations (λ k. stays_here sharing sharing' i owners handed j k None e.1 (ap (λ (s : Locations). location_at s k) was ∙ no_location k) ∙ sym (no_location k))
       ]

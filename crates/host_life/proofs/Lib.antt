@@ -7,7 +7,7 @@ pub mod Likes
 pub mod Sharing
 pub mod Leasts
 pub mod Together
-pub mod Twinned
+pub mod Shared
 pub mod Fills
 pub mod Starts
 pub mod Ends

@@ -18,10 +18,10 @@ use Rattle.ialg.proofs.Tables.{length-unplaced}
 use Rattle.ialg.specs.Records.{record_at, unplaced}
 use Rattle.lifecycle.specs.declared.instance.Instance.{Instance}
 use Rattle.host_table.specs.Table.{unbased, AreAlike}
-use Rattle.host_map.specs.Twins.{Asked, is_once, is_same_once, is_twin, twin_of, asked}
-use Rattle.host_shared.specs.Joining.{twin_at}
+use Rattle.host_map.specs.Sharers.{Asked, is_once, is_same_once, is_sharer, sharer_of, asked}
+use Rattle.host_shared.specs.Joining.{sharer_at}
 use Rattle.mem_rec.specs.declared.TheConstants.{INSTANCES}
-use Rattle.host_shared.specs.declared.joining.Twins.{Twins}
+use Rattle.host_shared.specs.declared.joining.Sharers.{Sharers}
 use Rattle.host_life.proofs.Finds.{find_nothing}
 use Rattle.host_table.proofs.Held.{record_unplaced}
 
@@ -88,8 +88,8 @@ same_once_unplaced rs ss k =
 
 -- the test of two instances, where `same` tells which kinds are one
 module _ {M : Type 0} (same : M → M → Bool) (one : (a b : M) → same a b ≡ true → a ≡ b) (itself : (a : M) → same a a ≡ true) where
-  pub twin_tells : (a b : Instance M) (k : ℕ) → is_twin same (asked a.kind a.params.items a.table) k (Some (asked b.kind b.params.items b.table)) ≡ true → AreAlike k a b
-  twin_tells a b k told =
+  pub sharer_tells : (a b : Instance M) (k : ℕ) → is_sharer same (asked a.kind a.params.items a.table) k (Some (asked b.kind b.params.items b.table)) ≡ true → AreAlike k a b
+  sharer_tells a b k told =
       let all = and_parts (same a.kind b.kind && pointwise int_eq a.params.items b.params.items) (is_same_once (record_at (unplaced a.table) k) (record_at (unplaced b.table) k)) told in
       let two = and_parts (same a.kind b.kind) (pointwise int_eq a.params.items b.params.items) all.0 in
       let records = same_once_tells (record_at a.table k) (record_at b.table k) (sym (same_once_unplaced a.table b.table k) ∙ all.1) in
@@ -101,44 +101,44 @@ module _ {M : Type 0} (same : M → M → Bool) (one : (a b : M) → same a b �
         shape = records.shape;
       }
 
-  pub twin_told : (a b : Instance M) (k : ℕ) → AreAlike k a b → is_twin same (asked a.kind a.params.items a.table) k (Some (asked b.kind b.params.items b.table)) ≡ true
-  twin_told a b k alike =
+  pub sharer_told : (a b : Instance M) (k : ℕ) → AreAlike k a b → is_sharer same (asked a.kind a.params.items a.table) k (Some (asked b.kind b.params.items b.table)) ≡ true
+  sharer_told a b k alike =
       let kinds : same a.kind b.kind ≡ true = subst (λ (x : M). same a.kind x ≡ true) (sym alike.kind) (itself a.kind) in
       let params : pointwise int_eq a.params.items b.params.items ≡ true = (signed_items a.params.items b.params.items).1 (ap (λ (x : ArrayVec ℤ). x.items) (sym alike.params)) in
       and_from _ _ (and_from _ _ kinds params) (same_once_unplaced a.table b.table k ∙ same_once_told (record_at a.table k) (record_at b.table k) (record { once = alike.once; shape = alike.shape }))
 
--- past a table there are no records, so no twins
+-- past a table there are no records, so no sharers
 unlike_blank : (rs ss : List MemRec) (k : ℕ) → length rs ≤ k → is_same_once (record_at (unplaced rs) k) (record_at ss k) ≡ false
 unlike_blank rs ss k past =
     let size : length (unplaced rs) ≤ k = omega (arith, past, length-unplaced rs) in
     ap (λ (x : MemRec). is_same_once x (record_at ss k)) (get_or_past (unplaced rs) k (record { size = 0; align = 0; space = Daram; attr = Scratch; base = 0 }) size)
 
-no_twin : {M : Type 0} (same : M → M → Bool) (kind : M) (params : List ℤ) (table : List MemRec) (k : ℕ) → length table ≤ k → (y : Option (Asked M)) → is_twin same (asked kind params table) k y ≡ false
-no_twin same kind params table k past None = refl
-no_twin same kind params table k past (Some y) = and_right (same kind y.kind && pointwise int_eq params y.params) (is_same_once (record_at (unplaced table) k) (record_at y.table k)) (unlike_blank table y.table k past)
+no_sharer : {M : Type 0} (same : M → M → Bool) (kind : M) (params : List ℤ) (table : List MemRec) (k : ℕ) → length table ≤ k → (y : Option (Asked M)) → is_sharer same (asked kind params table) k y ≡ false
+no_sharer same kind params table k past None = refl
+no_sharer same kind params table k past (Some y) = and_right (same kind y.kind && pointwise int_eq params y.params) (is_same_once (record_at (unplaced table) k) (record_at y.table k)) (unlike_blank table y.table k past)
 
-pub no_twin_past : {M : Type 0} (same : M → M → Bool) (others : ℕ → Option (Asked M)) (kind : M) (params : List ℤ) (table : List MemRec) (k : ℕ) → IsTrue (is_table table) → 4 ≤ k
-    → twin_of same others (asked kind params table) k ≡ None
-no_twin_past same others kind params table k valid past =
+pub no_sharer_past : {M : Type 0} (same : M → M → Bool) (others : ℕ → Option (Asked M)) (kind : M) (params : List ℤ) (table : List MemRec) (k : ℕ) → IsTrue (is_table table) → 4 ≤ k
+    → sharer_of same others (asked kind params table) k ≡ None
+no_sharer_past same others kind params table k valid past =
     let few = (within_limits table valid).few in
-    find_nothing (λ j. is_twin same (asked kind params table) k (others j)) 0 INSTANCES (λ j low high. no_twin same kind params table k (omega (arith, few, past)) (others j))
+    find_nothing (λ j. is_sharer same (asked kind params table) k (others j)) 0 INSTANCES (λ j low high. no_sharer same kind params table k (omega (arith, few, past)) (others j))
 
 -- a record that isn't write-once has none
-no_twin_other : {M : Type 0} (same : M → M → Bool) (kind : M) (params : List ℤ) (table : List MemRec) (k : ℕ) → is_once (record_at table k).attr ≡ false → (y : Option (Asked M))
-    → is_twin same (asked kind params table) k y ≡ false
-no_twin_other same kind params table k other None = refl
-no_twin_other same kind params table k other (Some y) =
+no_sharer_other : {M : Type 0} (same : M → M → Bool) (kind : M) (params : List ℤ) (table : List MemRec) (k : ℕ) → is_once (record_at table k).attr ≡ false → (y : Option (Asked M))
+    → is_sharer same (asked kind params table) k y ≡ false
+no_sharer_other same kind params table k other None = refl
+no_sharer_other same kind params table k other (Some y) =
     let attr : is_once (record_at (unplaced table) k).attr ≡ false = ap (λ (x : MemRec). is_once x.attr) (record_unplaced table k) ∙ other in
     and_right (same kind y.kind && pointwise int_eq params y.params) (is_same_once (record_at (unplaced table) k) (record_at y.table k)) (rw attr refl)
 
 pub none_of_other : {M : Type 0} (same : M → M → Bool) (others : ℕ → Option (Asked M)) (kind : M) (params : List ℤ) (table : List MemRec) (k : ℕ) → is_once (record_at table k).attr ≡ false
-    → twin_of same others (asked kind params table) k ≡ None
+    → sharer_of same others (asked kind params table) k ≡ None
 none_of_other same others kind params table k other =
-    find_nothing (λ j. is_twin same (asked kind params table) k (others j)) 0 INSTANCES (λ j low high. no_twin_other same kind params table k other (others j))
+    find_nothing (λ j. is_sharer same (asked kind params table) k (others j)) 0 INSTANCES (λ j low high. no_sharer_other same kind params table k other (others j))
 
-pub four_twins : (t : Twins) (f : ℕ → Option ℕ) → t.t0 ≡ f 0 → t.t1 ≡ f 1 → t.t2 ≡ f 2 → t.t3 ≡ f 3 → ((k : ℕ) → 4 ≤ k → f k ≡ None) → (k : ℕ) → twin_at t k ≡ f k
-four_twins t f e0 e1 e2 e3 past zero = e0
-four_twins t f e0 e1 e2 e3 past (suc zero) = e1
-four_twins t f e0 e1 e2 e3 past (suc (suc zero)) = e2
-four_twins t f e0 e1 e2 e3 past (suc (suc (suc zero))) = e3
-four_twins t f e0 e1 e2 e3 past (suc (suc (suc (suc k)))) = sym (past (suc (suc (suc (suc k)))) (omega arith))
+pub four_sharers : (t : Sharers) (f : ℕ → Option ℕ) → t.t0 ≡ f 0 → t.t1 ≡ f 1 → t.t2 ≡ f 2 → t.t3 ≡ f 3 → ((k : ℕ) → 4 ≤ k → f k ≡ None) → (k : ℕ) → sharer_at t k ≡ f k
+four_sharers t f e0 e1 e2 e3 past zero = e0
+four_sharers t f e0 e1 e2 e3 past (suc zero) = e1
+four_sharers t f e0 e1 e2 e3 past (suc (suc zero)) = e2
+four_sharers t f e0 e1 e2 e3 past (suc (suc (suc zero))) = e3
+four_sharers t f e0 e1 e2 e3 past (suc (suc (suc (suc k)))) = sym (past (suc (suc (suc (suc k)))) (omega arith))

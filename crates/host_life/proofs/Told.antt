@@ -19,16 +19,16 @@ use Rattle.record_loans.proofs.PieceLemmas.{same_pieces}
 use Rattle.lifecycle.proofs.Frames.{same_group}
 use Rattle.mem_rec.specs.declared.TheConstants.{INSTANCES}
 use Rattle.host_table.specs.declared.member.Member.{Member}
-use Rattle.host_shared.specs.declared.shelves.Shelf.{Shelf}
-use Rattle.host_shared.specs.Homes.{with_seen, HasHomes, AllHaveHomes, SameShelves}
+use Rattle.host_shared.specs.declared.locations.Locations.{Locations}
+use Rattle.host_shared.specs.Owners.{with_pieces_of, HasOwners, AllHaveOwners, SameLocations}
 use Rattle.host_table.specs.Table.{slot_at, group_at, no_group, instance_of, is_member_of, IsHoused, IsTold, TablesOk, TablesTold}
-use Rattle.host_shared.specs.Shelves.{once_at}
+use Rattle.host_shared.specs.Locations.{shared_at}
 use Rattle.host_table.specs.Frames.{SameMember, IsSameMember, SameMembers}
 use Rattle.host_table.proofs.Housing.{same_blocks, room_of_housed, room_stays, housed_stays}
-use Rattle.host_shared.proofs.Homes.{lent_here}
-use Rattle.host_shared.proofs.Lent.{same_shelves, stands_lent, homes_of_all}
+use Rattle.host_shared.proofs.Owners.{lent_here}
+use Rattle.host_shared.proofs.Lent.{same_locations, stands_lent, owners_of_all}
 use Rattle.host_table.proofs.Held.{same_members_slot}
-use Rattle.host_table.proofs.Changes.{slot_in, pieces_then, shelves_then, block_then, pieces_stay, blocks_stay}
+use Rattle.host_table.proofs.Changes.{slot_in, pieces_then, locations_then, block_then, pieces_stay, blocks_stay}
 
 -- a slot that has a member of the group
 pub member_is : {M : Type 0} (slot : Option (Member M)) (g : ℕ) (m : Member M) → slot ≡ Some m → is_member_of g slot ≡ true → m.group ≡ g
@@ -54,10 +54,10 @@ pub is_told : {M : Type 0} (g n i : ℕ) (m : Member M) (o : Pieces) (y : Group)
 is_told g n i m o y housed = record { told = λ h. housed; waits = λ h. room_of_housed (instance_of m.inst) o y housed }
 
 -- in its slot and its group
-pub told_here : {M : Type 0} (g i : ℕ) (once : List Shelf) (groups : List Group) (o : Pieces) (y : Group) (m : Member M) → HasHomes once i → g < length groups
-    → IsHoused (instance_of m.inst) o y → IsTold g (i + 1) i m (once_at (with_seen once i o) i) (group_at (set groups g y) g)
-told_here g i once groups o y m homes group_in housed =
-    rw (lent_here once i homes o, get_or-set_same groups g y no_group group_in) (is_told g (i + 1) i m o y housed)
+pub told_here : {M : Type 0} (g i : ℕ) (sharing : List Locations) (groups : List Group) (o : Pieces) (y : Group) (m : Member M) → HasOwners sharing i → g < length groups
+    → IsHoused (instance_of m.inst) o y → IsTold g (i + 1) i m (shared_at (with_pieces_of sharing i o) i) (group_at (set groups g y) g)
+told_here g i sharing groups o y m owners group_in housed =
+    rw (lent_here sharing i owners o, get_or-set_same groups g y no_group group_in) (is_told g (i + 1) i m o y housed)
 
 -- the others stay as they are
 pub told_beside : {M : Type 0} (g n j : ℕ) (m : Member M) (o o' : Pieces) (y y' : Group) → j ≢ n → SamePieces o o' → ((space : Space) → IsSameBlock (block_in y space) (block_in y' space))
@@ -77,11 +77,11 @@ equal_is a b same =
     ]
 
 -- where the slot has no member of the group, nothing is to be told
-pub told_by_none : {M : Type 0} (g n : ℕ) (slots : List (Option (Member M))) (once : List Shelf) (groups : List Group) → is_member_of g (slot_at slots n) ≡ false
-    → TablesTold g n slots once groups → TablesTold g (n + 1) slots once groups
-told_by_none g n slots once groups none ok = record {
+pub told_by_none : {M : Type 0} (g n : ℕ) (instances : List (Option (Member M))) (sharing : List Locations) (groups : List Group) → is_member_of g (slot_at instances n) ≡ false
+    → TablesTold g n instances sharing groups → TablesTold g (n + 1) instances sharing groups
+told_by_none g n instances sharing groups none ok = record {
   slot_count = ok.slot_count;
-  once_count = ok.once_count;
+  sharing_count = ok.sharing_count;
   held = ok.held;
   bare = ok.bare;
   group_count = ok.group_count;
@@ -99,16 +99,16 @@ told_by_none g n slots once groups none ok = record {
 }
 
 -- all were told
-pub all_told : {M : Type 0} (g n : ℕ) (slots : List (Option (Member M))) (once : List Shelf) (groups : List Group) → INSTANCES ≤ n → TablesTold g n slots once groups → TablesOk slots once groups
-all_told g n slots once groups all ok = record {
+pub all_told : {M : Type 0} (g n : ℕ) (instances : List (Option (Member M))) (sharing : List Locations) (groups : List Group) → INSTANCES ≤ n → TablesTold g n instances sharing groups → TablesOk instances sharing groups
+all_told g n instances sharing groups all ok = record {
   slot_count = ok.slot_count;
-  once_count = ok.once_count;
+  sharing_count = ok.sharing_count;
   held = ok.held;
   bare = ok.bare;
   group_count = ok.group_count;
   group_range = ok.group_range;
   housed = λ j m at.
-      let inside = slot_in slots j m at in
+      let inside = slot_in instances j m at in
       (ok.housed j m at).told (inr (omega (arith, inside, all, ok.slot_count)));
   active_there = ok.active_there;
   active_known = ok.active_known;
@@ -138,67 +138,67 @@ member_then (Some a) (Some b) (Some c) e f = record {
   own = pieces_then (instance_of a.inst).own (instance_of b.inst).own (instance_of c.inst).own e.own f.own;
 }
 
-pub members_then : {M : Type 0} (slots slots' slots'' : List (Option (Member M))) (once once' once'' : List Shelf) (groups groups' groups'' : List Group)
-    → SameMembers slots once groups slots' once' groups' → SameMembers slots' once' groups' slots'' once'' groups'' → SameMembers slots once groups slots'' once'' groups''
-members_then slots slots' slots'' once once' once'' groups groups' groups'' a b = record {
+pub members_then : {M : Type 0} (instances instances' instances'' : List (Option (Member M))) (sharing sharing' sharing'' : List Locations) (groups groups' groups'' : List Group)
+    → SameMembers instances sharing groups instances' sharing' groups' → SameMembers instances' sharing' groups' instances'' sharing'' groups'' → SameMembers instances sharing groups instances'' sharing'' groups''
+members_then instances instances' instances'' sharing sharing' sharing'' groups groups' groups'' a b = record {
   slot = λ i. member_then _ _ _ (a.slot i) (b.slot i);
   pieces = λ i. pieces_then _ _ _ (a.pieces i) (b.pieces i);
-  stands = shelves_then once once' once'' a.stands b.stands;
+  stands = locations_then sharing sharing' sharing'' a.stands b.stands;
   blocks = λ g space. block_then _ _ _ (a.blocks g space) (b.blocks g space);
 }
 
-pub same_members : {M : Type 0} (slots : List (Option (Member M))) (once : List Shelf) (groups : List Group) → SameMembers slots once groups slots once groups
-same_members slots once groups = record {
-  slot = λ i. same_members_slot (slot_at slots i);
-  pieces = λ i. same_pieces (once_at once i);
-  stands = same_shelves once;
+pub same_members : {M : Type 0} (instances : List (Option (Member M))) (sharing : List Locations) (groups : List Group) → SameMembers instances sharing groups instances sharing groups
+same_members instances sharing groups = record {
+  slot = λ i. same_members_slot (slot_at instances i);
+  pieces = λ i. same_pieces (shared_at sharing i);
+  stands = same_locations sharing;
   blocks = λ g space. same_blocks _ _ (same_group (group_at groups g)) space;
 }
 
 -- with what each instance sees of write-once records afterwards
 
-pub members_after_sight : {M : Type 0} (slots : List (Option (Member M))) (once : List Shelf) (groups : List Group) (i g : ℕ) (m n : Member M) (once' : List Shelf) (y : Group)
-    → i < length slots → g < length groups → slot_at slots i ≡ Some m → SameMember m n → ((j : ℕ) → SamePieces (once_at once j) (once_at once' j)) → SameShelves once once'
+pub members_after_sight : {M : Type 0} (instances : List (Option (Member M))) (sharing : List Locations) (groups : List Group) (i g : ℕ) (m n : Member M) (sharing' : List Locations) (y : Group)
+    → i < length instances → g < length groups → slot_at instances i ≡ Some m → SameMember m n → ((j : ℕ) → SamePieces (shared_at sharing j) (shared_at sharing' j)) → SameLocations sharing sharing'
     → ((space : Space) → IsSameBlock (block_in (group_at groups g) space) (block_in y space))
-    → SameMembers slots once groups (set slots i (Some n)) once' (set groups g y)
-members_after_sight slots once groups i g m n once' y slot_in group_in at same pieces stands blocks = record {
+    → SameMembers instances sharing groups (set instances i (Some n)) sharing' (set groups g y)
+members_after_sight instances sharing groups i g m n sharing' y slot_in group_in at same pieces stands blocks = record {
   slot = λ j.
       elim (eqb_tells j i) [
-        | inl e ↦ rw (e.1, get_or-set_same slots i (Some n) None slot_in, at) same
-        | inr e ↦ rw (get_or-set_other slots i j (Some n) None e.1) (same_members_slot (slot_at slots j))
+        | inl e ↦ rw (e.1, get_or-set_same instances i (Some n) None slot_in, at) same
+        | inr e ↦ rw (get_or-set_other instances i j (Some n) None e.1) (same_members_slot (slot_at instances j))
       ];
   pieces = pieces;
   stands = stands;
   blocks = blocks_stay groups g y group_in blocks;
 }
 
-pub members_after_still : {M : Type 0} (slots : List (Option (Member M))) (once : List Shelf) (groups : List Group) (i : ℕ) (m n : Member M) (once' : List Shelf)
-    → i < length slots → slot_at slots i ≡ Some m → SameMember m n → ((j : ℕ) → SamePieces (once_at once j) (once_at once' j)) → SameShelves once once'
-    → SameMembers slots once groups (set slots i (Some n)) once' groups
-members_after_still slots once groups i m n once' slot_in at same pieces stands = record {
+pub members_after_still : {M : Type 0} (instances : List (Option (Member M))) (sharing : List Locations) (groups : List Group) (i : ℕ) (m n : Member M) (sharing' : List Locations)
+    → i < length instances → slot_at instances i ≡ Some m → SameMember m n → ((j : ℕ) → SamePieces (shared_at sharing j) (shared_at sharing' j)) → SameLocations sharing sharing'
+    → SameMembers instances sharing groups (set instances i (Some n)) sharing' groups
+members_after_still instances sharing groups i m n sharing' slot_in at same pieces stands = record {
   slot = λ j.
       elim (eqb_tells j i) [
-        | inl e ↦ rw (e.1, get_or-set_same slots i (Some n) None slot_in, at) same
-        | inr e ↦ rw (get_or-set_other slots i j (Some n) None e.1) (same_members_slot (slot_at slots j))
+        | inl e ↦ rw (e.1, get_or-set_same instances i (Some n) None slot_in, at) same
+        | inr e ↦ rw (get_or-set_other instances i j (Some n) None e.1) (same_members_slot (slot_at instances j))
       ];
   pieces = pieces;
   stands = stands;
   blocks = λ g space. same_blocks _ _ (same_group (group_at groups g)) space;
 }
 
--- where its pieces were put back at their homes
+-- where its pieces were put back at their owners
 
-pub members_after : {M : Type 0} (slots : List (Option (Member M))) (once : List Shelf) (groups : List Group) (i g : ℕ) (m n : Member M) (o : Pieces) (y : Group)
-    → i < length slots → i < length once → AllHaveHomes once → g < length groups → slot_at slots i ≡ Some m → SameMember m n → SamePieces (once_at once i) o
+pub members_after : {M : Type 0} (instances : List (Option (Member M))) (sharing : List Locations) (groups : List Group) (i g : ℕ) (m n : Member M) (o : Pieces) (y : Group)
+    → i < length instances → i < length sharing → AllHaveOwners sharing → g < length groups → slot_at instances i ≡ Some m → SameMember m n → SamePieces (shared_at sharing i) o
     → ((space : Space) → IsSameBlock (block_in (group_at groups g) space) (block_in y space))
-    → SameMembers slots once groups (set slots i (Some n)) (with_seen once i o) (set groups g y)
-members_after slots once groups i g m n o y slot_in once_in homes group_in at same pieces blocks =
-    members_after_sight slots once groups i g m n (with_seen once i o) y slot_in group_in at same (pieces_stay once i o once_in homes pieces)
-    (stands_lent once i (homes_of_all once i homes once_in) o pieces) blocks
+    → SameMembers instances sharing groups (set instances i (Some n)) (with_pieces_of sharing i o) (set groups g y)
+members_after instances sharing groups i g m n o y slot_in once_in owners group_in at same pieces blocks =
+    members_after_sight instances sharing groups i g m n (with_pieces_of sharing i o) y slot_in group_in at same (pieces_stay sharing i o once_in owners pieces)
+    (stands_lent sharing i (owners_of_all sharing i owners once_in) o pieces) blocks
 
-pub members_after_quiet : {M : Type 0} (slots : List (Option (Member M))) (once : List Shelf) (groups : List Group) (i : ℕ) (m n : Member M) (o : Pieces)
-    → i < length slots → i < length once → AllHaveHomes once → slot_at slots i ≡ Some m → SameMember m n → SamePieces (once_at once i) o
-    → SameMembers slots once groups (set slots i (Some n)) (with_seen once i o) groups
-members_after_quiet slots once groups i m n o slot_in once_in homes at same pieces =
-    members_after_still slots once groups i m n (with_seen once i o) slot_in at same (pieces_stay once i o once_in homes pieces)
-    (stands_lent once i (homes_of_all once i homes once_in) o pieces)
+pub members_after_quiet : {M : Type 0} (instances : List (Option (Member M))) (sharing : List Locations) (groups : List Group) (i : ℕ) (m n : Member M) (o : Pieces)
+    → i < length instances → i < length sharing → AllHaveOwners sharing → slot_at instances i ≡ Some m → SameMember m n → SamePieces (shared_at sharing i) o
+    → SameMembers instances sharing groups (set instances i (Some n)) (with_pieces_of sharing i o) groups
+members_after_quiet instances sharing groups i m n o slot_in once_in owners at same pieces =
+    members_after_still instances sharing groups i m n (with_pieces_of sharing i o) slot_in at same (pieces_stay sharing i o once_in owners pieces)
+    (stands_lent sharing i (owners_of_all sharing i owners once_in) o pieces)

@@ -1,1 +1,1 @@
-pub mod Twins
+pub mod Sharers

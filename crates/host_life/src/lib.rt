@@ -5,10 +5,10 @@
 
 mod life;
 mod moves;
+mod sharers;
 mod tables;
-mod twins;
 
 pub use life::{NewInstance, end, start};
-pub use moves::tell_members;
-pub use tables::{empty_groups, empty_slots, end_groups, end_slots, in_order};
-pub use twins::find_twins;
+pub use moves::call_moved_in_group;
+pub use sharers::find_sharers;
+pub use tables::{EmptyTables, end_tables};

@@ -6,7 +6,7 @@ ghost use Rattle.host_table.specs.Table.{slot_at, is_member_of, activity_at, Tab
 ghost use Rattle.host_table.specs.Keeps.{Keeps};
 ghost use Rattle.host_table.specs.Frames.{InactiveGroupsStay, SameMembers};
 
-use host_shared::{Shelf, put_seen, take_seen};
+use host_shared::{Locations, borrow_pieces, give_back_pieces};
 use host_table::Member;
 use ialg::Ialg;
 use lifecycle::Inst;
@@ -14,46 +14,46 @@ use mem_rec::INSTANCES;
 use scratch_group::Group;
 
 /// Whether the slot has a member of the group.
-fn is_member<M: Ialg>(slots: &Vec<Option<Member<M>>>, g: u8, i: usize) -> bool
-    requires { i < length slots.now.items }
-    ensures { result ≡ is_member_of g (slot_at slots.now.items i) }
+fn is_member<M: Ialg>(instances: &Vec<Option<Member<M>>>, g: u8, i: usize) -> bool
+    requires { i < length instances.now.items }
+    ensures { result ≡ is_member_of g (slot_at instances.now.items i) }
 {
-    match &slots[i] {
+    match &instances[i] {
         Some(member) => member.group == g,
         None => false,
     }
 }
 
 /// Tells a member of the group where its records lie now.
-fn tell_member<M: Ialg>(
-    slots: &mut Vec<Option<Member<M>>>,
-    once: &mut Vec<Shelf>,
+fn call_moved_of_member<M: Ialg>(
+    instances: &mut Vec<Option<Member<M>>>,
+    sharing: &mut Vec<Locations>,
     groups: &mut Vec<Group>,
     g: u8,
     i: usize,
 )
     requires range { g < GROUPS }
     requires number { i < INSTANCES }
-    requires member { is_member_of g (slot_at slots.old.items i) ≡ true }
-    requires told { TablesTold g i slots.old.items once.old.items groups.old.items }
-    ensures told { TablesTold g (i + 1) slots.new.items once.new.items groups.new.items }
+    requires member { is_member_of g (slot_at instances.old.items i) ≡ true }
+    requires told { TablesTold g i instances.old.items sharing.old.items groups.old.items }
+    ensures told { TablesTold g (i + 1) instances.new.items sharing.new.items groups.new.items }
     ensures inactive { InactiveGroupsStay groups.old.items groups.new.items }
-    ensures same { SameMembers slots.old.items once.old.items groups.old.items slots.new.items once.new.items groups.new.items }
+    ensures same { SameMembers instances.old.items sharing.old.items groups.old.items instances.new.items sharing.new.items groups.new.items }
     ensures activity { (k : ℕ) → activity_at groups.new.items k ≡ activity_at groups.old.items k }
-    ensures keeps { (w : Option ℤ) (histories : ℕ → History) → Keeps M.meaning M.idle_keeps M.active_keeps w slots.old.items once.old.items groups.old.items histories
-        → Keeps M.meaning M.idle_keeps M.active_keeps w slots.new.items once.new.items groups.new.items histories }
+    ensures keeps { (w : Option ℤ) (histories : ℕ → History) → Keeps M.law w instances.old.items sharing.old.items groups.old.items histories
+        → Keeps M.law w instances.new.items sharing.new.items groups.new.items histories }
 {
-    match &mut slots[i] {
+    match &mut instances[i] {
         Some(member) => match &mut member.inst {
             Inst::Idling(idle) => {
-                let mut shared = take_seen(once, i);
+                let mut shared = borrow_pieces(sharing, i);
                 idle.moved(None, &mut shared, &groups[g as usize]);
-                put_seen(once, i, shared);
+                give_back_pieces(sharing, i, shared);
             }
             Inst::Running(active) => {
-                let mut shared = take_seen(once, i);
+                let mut shared = borrow_pieces(sharing, i);
                 active.moved(None, &mut shared, &mut groups[g as usize]);
-                put_seen(once, i, shared);
+                give_back_pieces(sharing, i, shared);
             }
         },
         None => unreachable!(),
@@ -61,45 +61,45 @@ fn tell_member<M: Ialg>(
 }
 
 /// Tells the instance in the slot where its records lie now, if it is a member of the group.
-fn tell_slot<M: Ialg>(
-    slots: &mut Vec<Option<Member<M>>>,
-    once: &mut Vec<Shelf>,
+fn call_moved_in_slot<M: Ialg>(
+    instances: &mut Vec<Option<Member<M>>>,
+    sharing: &mut Vec<Locations>,
     groups: &mut Vec<Group>,
     g: u8,
     i: usize,
 )
     requires range { g < GROUPS }
     requires number { i < INSTANCES }
-    requires told { TablesTold g i slots.old.items once.old.items groups.old.items }
-    ensures told { TablesTold g (i + 1) slots.new.items once.new.items groups.new.items }
+    requires told { TablesTold g i instances.old.items sharing.old.items groups.old.items }
+    ensures told { TablesTold g (i + 1) instances.new.items sharing.new.items groups.new.items }
     ensures inactive { InactiveGroupsStay groups.old.items groups.new.items }
-    ensures same { SameMembers slots.old.items once.old.items groups.old.items slots.new.items once.new.items groups.new.items }
+    ensures same { SameMembers instances.old.items sharing.old.items groups.old.items instances.new.items sharing.new.items groups.new.items }
     ensures activity { (k : ℕ) → activity_at groups.new.items k ≡ activity_at groups.old.items k }
-    ensures keeps { (w : Option ℤ) (histories : ℕ → History) → Keeps M.meaning M.idle_keeps M.active_keeps w slots.old.items once.old.items groups.old.items histories
-        → Keeps M.meaning M.idle_keeps M.active_keeps w slots.new.items once.new.items groups.new.items histories }
+    ensures keeps { (w : Option ℤ) (histories : ℕ → History) → Keeps M.law w instances.old.items sharing.old.items groups.old.items histories
+        → Keeps M.law w instances.new.items sharing.new.items groups.new.items histories }
 {
-    if is_member(slots, g, i) {
-        tell_member(slots, once, groups, g, i);
+    if is_member(instances, g, i) {
+        call_moved_of_member(instances, sharing, groups, g, i);
     }
 }
 
 /// Tells each member of the group, in ascending number, where its records lie now. An active member stays active.
-pub fn tell_members<M: Ialg>(
-    slots: &mut Vec<Option<Member<M>>>,
-    once: &mut Vec<Shelf>,
+pub fn call_moved_in_group<M: Ialg>(
+    instances: &mut Vec<Option<Member<M>>>,
+    sharing: &mut Vec<Locations>,
     groups: &mut Vec<Group>,
     g: u8,
 )
     requires range { g < GROUPS }
-    requires told { TablesTold g 0 slots.old.items once.old.items groups.old.items }
-    ensures ok { TablesOk slots.new.items once.new.items groups.new.items }
+    requires told { TablesTold g 0 instances.old.items sharing.old.items groups.old.items }
+    ensures ok { TablesOk instances.new.items sharing.new.items groups.new.items }
     ensures inactive { InactiveGroupsStay groups.old.items groups.new.items }
-    ensures same { SameMembers slots.old.items once.old.items groups.old.items slots.new.items once.new.items groups.new.items }
+    ensures same { SameMembers instances.old.items sharing.old.items groups.old.items instances.new.items sharing.new.items groups.new.items }
     ensures activity { (k : ℕ) → activity_at groups.new.items k ≡ activity_at groups.old.items k }
-    ensures keeps { (w : Option ℤ) (histories : ℕ → History) → Keeps M.meaning M.idle_keeps M.active_keeps w slots.old.items once.old.items groups.old.items histories
-        → Keeps M.meaning M.idle_keeps M.active_keeps w slots.new.items once.new.items groups.new.items histories }
+    ensures keeps { (w : Option ℤ) (histories : ℕ → History) → Keeps M.law w instances.old.items sharing.old.items groups.old.items histories
+        → Keeps M.law w instances.new.items sharing.new.items groups.new.items histories }
 {
     for i in 0..INSTANCES {
-        tell_slot(slots, once, groups, g, i);
+        call_moved_in_slot(instances, sharing, groups, g, i);
     }
 }

@@ -4,35 +4,35 @@ ghost use Rattle.ialg.specs.History.{History};
 ghost use Rattle.mem_rec.specs.declared.Space.{Space};
 ghost use Rattle.scratch_group.specs.Blocks.{block_in};
 ghost use Rattle.mem_rec.specs.declared.TheConstants.{INSTANCES, GROUPS};
-ghost use Rattle.host_shared.specs.Shelves.{no_shelf, shelf_at};
-ghost use Rattle.host_table.specs.Table.{slot_at, group_at, activity_at, TablesOk, ArePoisoned};
-ghost use Rattle.host_map.specs.Activity.{untouched};
-ghost use Rattle.host_table.specs.Keeps.{Keeps};
+ghost use Rattle.host_shared.specs.Locations.{no_locations, no_pieces, locations_at, shared_at};
+ghost use Rattle.host_table.specs.Table.{slot_at, group_at, activity_at, ArePoisoned};
+ghost use Rattle.host_map.specs.Activity.{never_activated};
+ghost use Rattle.host_table.specs.Steps.{AreConsistent, AreKept};
 
-use host_shared::Shelf;
-use host_table::Member;
+use host_shared::{Locations, empty_sharing, end_sharing};
+use host_table::{Member, Tables};
 use ialg::Ialg;
 use mem_rec::{GROUPS, INSTANCES};
 use scratch_group::Group;
-use std::alloc::{AllocError, Allocator};
+use std::alloc::{AllocError, Allocator, Global};
 
 /// A slot for each instance number, each of them empty. This table and the one below stand over any allocator, and ask it once each.
-pub fn empty_slots<M: Ialg, A: Allocator>(alloc: A) -> Result<Vec<Option<Member<M>>, A>, AllocError>
+fn empty_instances<M: Ialg, A: Allocator>(alloc: A) -> Result<Vec<Option<Member<M>>, A>, AllocError>
     ensures count { IfOk result (λ v. length v.items ≡ INSTANCES) }
     ensures empty { IfOk result (λ v. (i : ℕ) → slot_at v.items i ≡ None) }
 {
-    let mut slots = Vec::with_capacity(alloc, INSTANCES)?;
+    let mut instances = Vec::with_capacity(alloc, INSTANCES)?;
     for _ in 0..INSTANCES {
-        slots.push_reserved(None);
+        instances.push_reserved(None);
     }
-    Ok(slots)
+    Ok(instances)
 }
 
 /// Groups without blocks and members.
-pub fn empty_groups<A: Allocator>(alloc: A) -> Result<Vec<Group, A>, AllocError>
+fn empty_groups<A: Allocator>(alloc: A) -> Result<Vec<Group, A>, AllocError>
     ensures count { IfOk result (λ v. length v.items ≡ GROUPS) }
     ensures blocks { IfOk result (λ v. (g : ℕ) (space : Space) → block_in (group_at v.items g) space ≡ None) }
-    ensures activity { IfOk result (λ v. (g : ℕ) → activity_at v.items g ≡ untouched) }
+    ensures activity { IfOk result (λ v. (g : ℕ) → activity_at v.items g ≡ never_activated) }
 {
     let mut groups = Vec::with_capacity(alloc, GROUPS as usize)?;
     for _ in 0..GROUPS {
@@ -42,21 +42,21 @@ pub fn empty_groups<A: Allocator>(alloc: A) -> Result<Vec<Group, A>, AllocError>
 }
 
 /// Ends a table of empty slots.
-pub fn end_slots<M: Ialg, A: Allocator>(slots: Vec<Option<Member<M>>, A>)
-    requires { (i : ℕ) → slot_at slots.items i ≡ None }
+fn end_instances<M: Ialg, A: Allocator>(instances: Vec<Option<Member<M>>, A>)
+    requires { (i : ℕ) → slot_at instances.items i ≡ None }
 {
-    let mut slots = slots;
-    while let Some(slot) = slots.pop() {
+    let mut instances = instances;
+    while let Some(slot) = instances.pop() {
         match slot {
             Some(_member) => unreachable!(),
             None => {}
         }
     }
-    slots.destroy_empty();
+    instances.destroy_empty();
 }
 
 /// Ends groups whose blocks were all taken out.
-pub fn end_groups<A: Allocator>(groups: Vec<Group, A>)
+fn end_groups<A: Allocator>(groups: Vec<Group, A>)
     requires { (g : ℕ) (space : Space) → block_in (group_at groups.items g) space ≡ None }
 {
     let mut groups = groups;
@@ -66,16 +66,99 @@ pub fn end_groups<A: Allocator>(groups: Vec<Group, A>)
     groups.destroy_empty();
 }
 
-/// The law that tables without instances are in order, and keep any histories. The call does nothing: its contract is the law.
-pub fn in_order<M: Ialg>(slots: &Vec<Option<Member<M>>>, once: &Vec<Shelf>, groups: &Vec<Group>)
-    requires slots { length slots.now.items ≡ INSTANCES }
-    requires once { length once.now.items ≡ INSTANCES }
-    requires groups { length groups.now.items ≡ GROUPS }
-    requires bare { (i : ℕ) → shelf_at once.now.items i ≡ no_shelf }
-    requires empty { (i : ℕ) → slot_at slots.now.items i ≡ None }
-    requires blocks { (g : ℕ) (space : Space) → block_in (group_at groups.now.items g) space ≡ None }
-    requires untouched { (g : ℕ) → activity_at groups.now.items g ≡ untouched }
-    ensures ok { TablesOk slots.now.items once.now.items groups.now.items }
-    ensures poisoned { (w : Option ℤ) → ArePoisoned w groups.now.items }
-    ensures keeps { (w : Option ℤ) (histories : ℕ → History) → Keeps M.meaning M.idle_keeps M.active_keeps w slots.now.items once.now.items groups.now.items histories }
-{}
+/// The tables of a host without instances, of the allocator `A`, the system's by default. They can't be copied, and must be given back by
+/// `close`.
+pub struct EmptyTables<M, A: Allocator = Global> {
+    instances: Vec<Option<Member<M>>, A>,
+    sharing: Vec<Locations, A>,
+    groups: Vec<Group, A>,
+    ghost slot_count: { length instances.items ≡ INSTANCES },
+    ghost sharing_count: { length sharing.items ≡ INSTANCES },
+    ghost group_count: { length groups.items ≡ GROUPS },
+    ghost empty: { (i : ℕ) → slot_at instances.items i ≡ None },
+    ghost no_sharing: { (i : ℕ) → shared_at sharing.items i ≡ no_pieces },
+    ghost bare: { (i : ℕ) → locations_at sharing.items i ≡ no_locations },
+    ghost no_blocks: { (g : ℕ) (space : Space) → block_in (group_at groups.items g) space ≡ None },
+    ghost no_activity: { (g : ℕ) → activity_at groups.items g ≡ never_activated },
+}
+
+impl<M: Ialg, A: Allocator + Copy> EmptyTables<M, A> {
+    /// Each table asks for memory once. Nothing is held where one is refused.
+    pub fn new(alloc: A) -> Result<EmptyTables<M, A>, AllocError> {
+        let instances = empty_instances(alloc)?;
+        let sharing = match empty_sharing(alloc) {
+            Ok(sharing) => sharing,
+            Err(refused) => {
+                end_instances(instances);
+                return Err(refused);
+            }
+        };
+        match empty_groups(alloc) {
+            Ok(groups) => Ok(EmptyTables {
+                instances,
+                sharing,
+                groups,
+            }),
+            Err(refused) => {
+                end_sharing(sharing);
+                end_instances(instances);
+                Err(refused)
+            }
+        }
+    }
+}
+
+impl<M: Ialg, A: Allocator> EmptyTables<M, A> {
+    /// The memory goes back to the allocator.
+    pub fn close(self) {
+        let EmptyTables {
+            instances,
+            sharing,
+            groups,
+        } = self;
+        end_groups(groups);
+        end_sharing(sharing);
+        end_instances(instances);
+    }
+}
+
+impl<M: Ialg> EmptyTables<M> {
+    /// The tables of a host in which no instance lives, no group has a block, and none was ever active.
+    pub fn into_tables(self) -> Tables<M>
+        ensures ok { AreConsistent result }
+        ensures poisoned { (w : Option ℤ) → ArePoisoned w result.groups }
+        ensures keeps { (w : Option ℤ) (histories : ℕ → History) → AreKept M.law w result histories }
+        ensures empty { (i : ℕ) → slot_at result.instances i ≡ None }
+        ensures bare { (i : ℕ) → locations_at result.sharing i ≡ no_locations }
+        ensures blocks { (g : ℕ) (space : Space) → block_in (group_at result.groups g) space ≡ None }
+        ensures activity { (g : ℕ) → activity_at result.groups g ≡ never_activated }
+    {
+        let EmptyTables {
+            instances,
+            sharing,
+            groups,
+        } = self;
+        Tables {
+            instances,
+            sharing,
+            groups,
+        }
+    }
+}
+
+/// Ends tables in which no instance lives and no group has a block. It answers nothing and leaves nothing behind, so that there is no more
+/// to say.
+pub fn end_tables<M: Ialg>(tables: Tables<M>)
+    requires empty { (i : ℕ) → slot_at tables.instances i ≡ None }
+    requires none { (i : ℕ) → shared_at tables.sharing i ≡ no_pieces }
+    requires blocks { (g : ℕ) (space : Space) → block_in (group_at tables.groups g) space ≡ None }
+{
+    let Tables {
+        instances,
+        sharing,
+        groups,
+    } = tables;
+    end_groups(groups);
+    end_sharing(sharing);
+    end_instances(instances);
+}

@@ -6,12 +6,12 @@ pub record Activity : Type 0 where
   pub active : Option ℕ
   pub count : ℕ
 
-abbrev pub untouched : Activity
-untouched = record { active = None; count = 0 }
+abbrev pub never_activated : Activity
+never_activated = record { active = None; count = 0 }
 
 -- with no active member
-abbrev pub rested : Activity → Activity
-rested a = record { active = None; count = a.count }
+abbrev pub deactivated : Activity → Activity
+deactivated a = record { active = None; count = a.count }
 
 abbrev pub is_active : Option ℕ → ℕ → Bool
 is_active None i = false
@@ -23,17 +23,17 @@ count_after n None = n
 count_after n (Some m) = min (n + 1) (2 ^ 32 - 1)
 
 -- with i as the active member from now on, which counts
-abbrev pub woken : ℕ → Activity → Activity
-woken i a = record { active = Some i; count = count_after a.count (Some i) }
+abbrev pub newly_active : ℕ → Activity → Activity
+newly_active i a = record { active = Some i; count = count_after a.count (Some i) }
 
 -- with i as the active member, which counts unless it is so already
-abbrev pub touched : ℕ → Activity → Activity
-touched i a = if is_active a.active i then a else woken i a
+abbrev pub activated : ℕ → Activity → Activity
+activated i a = if is_active a.active i then a else newly_active i a
 
 -- the activities, with the one of group g replaced
 abbrev pub with_activity : (ℕ → Activity) → ℕ → Activity → ℕ → Activity
 with_activity all g a k = if nat_eq k g then a else all k
 
 -- with no active member where it was i
-abbrev pub quieted : ℕ → Activity → Activity
-quieted i a = if is_active a.active i then rested a else a
+abbrev pub without_active : ℕ → Activity → Activity
+without_active i a = if is_active a.active i then deactivated a else a

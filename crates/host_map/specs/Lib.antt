@@ -1,6 +1,6 @@
 pub mod Blocks
 pub mod Moves
-pub mod Picture
+pub mod MemoryMap
 pub mod Creation
-pub mod Twins
+pub mod Sharers
 pub mod Activity

@@ -18,16 +18,16 @@ use Rattle.host_map.specs.declared.placed.Placed.{Placed}
 use Rattle.space_blocks.specs.Blocks.{Owns, block_of, block_of_piece}
 use Rattle.host_map.specs.Blocks.{owned}
 use Rattle.host_spaces.specs.declared.spaces.Spaces.{Spaces}
-use Rattle.host_map.specs.Picture.{blocks_in}
-use Rattle.host_spaces.specs.Picture.{picture_of}
+use Rattle.host_map.specs.MemoryMap.{blocks_in}
+use Rattle.host_spaces.specs.MemoryMap.{map_of}
 use Rattle.host_table.specs.declared.member.Member.{Member}
-use Rattle.host_shared.specs.declared.shelves.Shelf.{Shelf}
-use Rattle.host_shared.specs.Shelves.{home_of, once_at}
+use Rattle.host_shared.specs.declared.locations.Locations.{Locations}
+use Rattle.host_shared.specs.Locations.{owner_of, shared_at}
 use Rattle.host_table.specs.Table.{AreHeld, slot_at, group_at, instance_of}
 use Rattle.host_table.proofs.Held.{alike_at}
-use Rattle.host_moves.specs.Standing.{AreStanding, table_of}
-use Rattle.host_moves.specs.Lent.{AreHolders, lent_record, record_in}
-use Rattle.host_moves.proofs.Slots.{only_one}
+use Rattle.host_moves.specs.Standing.{AgreeWithMap, table_of}
+use Rattle.host_moves.specs.Lent.{AreSharers, lent_record, record_in}
+use Rattle.host_moves.proofs.Instances.{only_one}
 
 -- two owners that are records of other instances, or of other numbers
 abbrev record_number : Owner → ℕ
@@ -68,53 +68,53 @@ owns_if false owner align x p bs is lent = absurd (none-some p lent)
 abbrev AreApartOwners : List Placed → Type 0
 AreApartOwners bs = (o q : Owner) (s t : Span) → Owns bs o s → Owns bs q t → o ≢ q → Apart s t
 
-module _ {M : Type 0} (slots : List (Option (Member M))) (once : List Shelf) (groups : List Group) (spaces : Spaces) (standing : AreStanding slots once groups spaces) (space : Space) where
+module _ {M : Type 0} (instances : List (Option (Member M))) (sharing : List Locations) (groups : List Group) (spaces : Spaces) (standing : AgreeWithMap instances sharing groups spaces) (space : Space) where
   abbrev bs : List Placed
-  bs = blocks_in (picture_of spaces) space
+  bs = blocks_in (map_of spaces) space
 
-  lent_owns : (i k : ℕ) (x : Option (Member M)) (p : Span) → slot_at slots i ≡ x → record_in x (once_at once i) k space ≡ Some p → Owns bs (Record (home_of once i k) k) p
+  lent_owns : (i k : ℕ) (x : Option (Member M)) (p : Span) → slot_at instances i ≡ x → record_in x (shared_at sharing i) k space ≡ Some p → Owns bs (Record (owner_of sharing i k) k) p
   lent_owns i k None p at lent = absurd (none-some p lent)
   lent_owns i k (Some m) p at lent =
-      owns_if (same_space (record_at (table_of m) k).space space) (Record (home_of once i k) k) (record_at (table_of m) k).align (piece_of_record (table_of m) (instance_of m.inst).own (once_at once i) k) p bs
-      ((standing.homes i m at).records k space) lent
+      owns_if (same_space (record_at (table_of m) k).space space) (Record (owner_of sharing i k) k) (record_at (table_of m) k).align (piece_of_record (table_of m) (instance_of m.inst).own (shared_at sharing i) k) p bs
+      ((standing.owners i m at).records k space) lent
 
   block_owns : (g : ℕ) (p : Span) → block_piece (block_in (group_at groups g) space) ≡ Some p → Owns bs (Scratch g) p
   block_owns g p there =
       owns_piece (Scratch g) (block_align (block_in (group_at groups g) space)) (block_piece (block_in (group_at groups g) space)) p bs (standing.blocks g space) there
 
-  alike_in : AreHeld slots once → (i j k : ℕ) (x y : Option (Member M)) (p q : Span) → slot_at slots i ≡ x → slot_at slots j ≡ y → record_in x (once_at once i) k space ≡ Some p → record_in y (once_at once j) k space ≡ Some q
-      → i ≢ j → home_of once i k ≡ home_of once j k → AreHolders k x y
-  alike_in held i j k None y p q at_i at_j lent_i lent_j apart home = absurd (none-some p lent_i)
-  alike_in held i j k (Some m) None p q at_i at_j lent_i lent_j apart home = absurd (none-some q lent_j)
-  alike_in held i j k (Some m) (Some n) p q at_i at_j lent_i lent_j apart home = alike_at slots once held i j k m n at_i at_j (λ same. apart (sym same)) (sym home)
+  alike_in : AreHeld instances sharing → (i j k : ℕ) (x y : Option (Member M)) (p q : Span) → slot_at instances i ≡ x → slot_at instances j ≡ y → record_in x (shared_at sharing i) k space ≡ Some p → record_in y (shared_at sharing j) k space ≡ Some q
+      → i ≢ j → owner_of sharing i k ≡ owner_of sharing j k → AreSharers k x y
+  alike_in held i j k None y p q at_i at_j lent_i lent_j apart owner = absurd (none-some p lent_i)
+  alike_in held i j k (Some m) None p q at_i at_j lent_i lent_j apart owner = absurd (none-some q lent_j)
+  alike_in held i j k (Some m) (Some n) p q at_i at_j lent_i lent_j apart owner = alike_at instances sharing held i j k m n at_i at_j (λ same. apart (sym same)) (sym owner)
 
   -- two records that are lent
-  pub records_apart : AreHeld slots once → AreApartOwners bs → (i j k l : ℕ) (p q : Span) → lent_record slots once i k space ≡ Some p → lent_record slots once j l space ≡ Some q → (i ≢ j) ⊎ (k ≢ l)
-      → Apart p q ⊎ ((i ≢ j) × (k ≡ l) × AreHolders k (slot_at slots i) (slot_at slots j))
+  pub records_apart : AreHeld instances sharing → AreApartOwners bs → (i j k l : ℕ) (p q : Span) → lent_record instances sharing i k space ≡ Some p → lent_record instances sharing j l space ≡ Some q → (i ≢ j) ⊎ (k ≢ l)
+      → Apart p q ⊎ ((i ≢ j) × (k ≡ l) × AreSharers k (slot_at instances i) (slot_at instances j))
   records_apart held law i j k l p q lent_i lent_j other =
-      let first = lent_owns i k (slot_at slots i) p refl lent_i in
-      let second = lent_owns j l (slot_at slots j) q refl lent_j in
+      let first = lent_owns i k (slot_at instances i) p refl lent_i in
+      let second = lent_owns j l (slot_at instances j) q refl lent_j in
       elim (eqb_tells k l) [
-        | inr e ↦ inl (law (Record (home_of once i k) k) (Record (home_of once j l) l) p q first second (other_number (home_of once i k) k (home_of once j l) l e.1))
+        | inr e ↦ inl (law (Record (owner_of sharing i k) k) (Record (owner_of sharing j l) l) p q first second (other_number (owner_of sharing i k) k (owner_of sharing j l) l e.1))
         | inl e ↦
-            elim (eqb_tells (home_of once i k) (home_of once j l)) [
-              | inr f ↦ inl (law (Record (home_of once i k) k) (Record (home_of once j l) l) p q first second (other_owner (home_of once i k) k (home_of once j l) l f.1))
+            elim (eqb_tells (owner_of sharing i k) (owner_of sharing j l)) [
+              | inr f ↦ inl (law (Record (owner_of sharing i k) k) (Record (owner_of sharing j l) l) p q first second (other_owner (owner_of sharing i k) k (owner_of sharing j l) l f.1))
               | inl f ↦
                   let apart : i ≢ j = elim other [ inl differ ↦ differ | inr differ ↦ absurd (differ e.1) ] in
                   let same : l ≡ k = sym e.1 in
                   inr (
                     apart,
                     e.1,
-                    alike_in held i j k (slot_at slots i) (slot_at slots j) p q refl refl lent_i (subst (λ (n : ℕ). lent_record slots once j n space ≡ Some q) same lent_j) apart
-                        (f.1 ∙ ap (home_of once j) same),
+                    alike_in held i j k (slot_at instances i) (slot_at instances j) p q refl refl lent_i (subst (λ (n : ℕ). lent_record instances sharing j n space ≡ Some q) same lent_j) apart
+                        (f.1 ∙ ap (owner_of sharing j) same),
                   )
             ]
       ]
 
   -- a record and a group's block
-  pub scratch_apart : AreApartOwners bs → (i k g : ℕ) (p q : Span) → lent_record slots once i k space ≡ Some p → block_piece (block_in (group_at groups g) space) ≡ Some q → Apart p q
+  pub scratch_apart : AreApartOwners bs → (i k g : ℕ) (p q : Span) → lent_record instances sharing i k space ≡ Some p → block_piece (block_in (group_at groups g) space) ≡ Some q → Apart p q
   scratch_apart law i k g p q lent there =
-      law (Record (home_of once i k) k) (Scratch g) p q (lent_owns i k (slot_at slots i) p refl lent) (block_owns g q there) (not_scratch (home_of once i k) k g)
+      law (Record (owner_of sharing i k) k) (Scratch g) p q (lent_owns i k (slot_at instances i) p refl lent) (block_owns g q there) (not_scratch (owner_of sharing i k) k g)
 
   -- the blocks of two groups
   pub groups_apart : AreApartOwners bs → (g h : ℕ) (p q : Span) → g ≢ h → block_piece (block_in (group_at groups g) space) ≡ Some p → block_piece (block_in (group_at groups h) space) ≡ Some q → Apart p q

@@ -1,11 +1,11 @@
-pub mod Holders
+pub mod Sharing
 pub mod Owns
 pub mod Seen
 pub mod Slides
 pub mod Tells
 pub mod Rooms
-pub mod Homes
-pub mod Slots
+pub mod Owners
+pub mod Instances
 pub mod Moved
 pub mod MovedBlocks
 pub mod Nexts
@@ -14,3 +14,7 @@ pub mod OnceMoves
 pub mod BlockMoves
 pub mod Maps
 pub mod ApartLemmas
+pub mod SharersKept
+pub mod MovesKept
+pub mod Places
+pub mod Compactions

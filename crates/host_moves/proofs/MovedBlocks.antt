@@ -18,27 +18,27 @@ use Rattle.host_map.specs.declared.placed.Owner.TheVariants.{Record, Scratch as 
 use Rattle.space_blocks.specs.Blocks.{block_of_piece}
 use Rattle.host_map.specs.Blocks.{owned}
 use Rattle.host_spaces.specs.declared.spaces.Spaces.{Spaces}
-use Rattle.host_map.specs.Picture.{blocks_in}
-use Rattle.host_spaces.specs.Picture.{picture_of, space_in}
+use Rattle.host_map.specs.MemoryMap.{blocks_in}
+use Rattle.host_spaces.specs.MemoryMap.{map_of, space_in}
 use Rattle.host_spaces.specs.Pieces.{HasBlocks}
 use Rattle.host_table.specs.declared.member.Member.{Member}
-use Rattle.host_shared.specs.declared.shelves.Shelf.{Shelf}
-use Rattle.host_shared.specs.Shelves.{home_of, once_at}
+use Rattle.host_shared.specs.declared.locations.Locations.{Locations}
+use Rattle.host_shared.specs.Locations.{owner_of, shared_at}
 use Rattle.host_table.specs.Table.{slot_at, group_at, instance_of}
 use Rattle.host_moves.specs.Waiting.{BlockStays, SlotStays, WordsStay}
-use Rattle.host_moves.specs.Standing.{IsOf, AreStanding, AreOrdered, table_of}
-use Rattle.host_moves.proofs.Rooms.{either, room_at_home}
-use Rattle.host_moves.proofs.Homes.{IsAlike, home_stays, home_elsewhere}
-use Rattle.host_moves.proofs.Slots.{one_space, other_space, not_a_group, other_group}
+use Rattle.host_moves.specs.Standing.{IsOf, AgreeWithMap, AreOrdered, table_of}
+use Rattle.host_moves.proofs.Rooms.{either, room_at_owner}
+use Rattle.host_moves.proofs.Owners.{IsAlike, owner_stays, owner_elsewhere}
+use Rattle.host_moves.proofs.Instances.{one_space, other_space, not_a_group, other_group}
 use Rattle.host_moves.proofs.Moved.{OneMoves, other_owned, blocks_elsewhere}
 
--- each instance that stands in the picture has room
-pub room_of_standing : {M : Type 0} (slots : List (Option (Member M))) (once : List Shelf) (groups : List Group) (spaces : Spaces) → AreOrdered spaces → AreStanding slots once groups spaces
-    → (i : ℕ) (m : Member M) → slot_at slots i ≡ Some m → HasRoom (instance_of m.inst) (once_at once i) (group_at groups m.group)
-room_of_standing slots once groups spaces ordered standing i m at =
-    subst (λ (rs : List MemRec). Fits rs (instance_of m.inst).own (once_at once i) (group_at groups m.group))
-    (placed-unplaced (instance_of m.inst).table (instance_of m.inst).own (once_at once i) (group_at groups m.group))
-    (room_at_home spaces i (home_of once i) m.group (table_of m) (instance_of m.inst).own (once_at once i) (group_at groups m.group) ordered (standing.homes i m at) (standing.blocks m.group) (standing.regions m.group))
+-- each instance that stands in the memory map has room
+pub room_of_standing : {M : Type 0} (instances : List (Option (Member M))) (sharing : List Locations) (groups : List Group) (spaces : Spaces) → AreOrdered spaces → AgreeWithMap instances sharing groups spaces
+    → (i : ℕ) (m : Member M) → slot_at instances i ≡ Some m → HasRoom (instance_of m.inst) (shared_at sharing i) (group_at groups m.group)
+room_of_standing instances sharing groups spaces ordered standing i m at =
+    subst (λ (rs : List MemRec). Fits rs (instance_of m.inst).own (shared_at sharing i) (group_at groups m.group))
+    (placed-unplaced (instance_of m.inst).table (instance_of m.inst).own (shared_at sharing i) (group_at groups m.group))
+    (room_at_owner spaces i (owner_of sharing i) m.group (table_of m) (instance_of m.inst).own (shared_at sharing i) (group_at groups m.group) ordered (standing.owners i m at) (standing.blocks m.group) (standing.regions m.group))
 
 pub alike_itself : (b : Option ScratchBlock) → IsAlike b b
 alike_itself None = refl
@@ -52,7 +52,7 @@ pub member_stays_itself : {M : Type 0} (slot : Option (Member M)) → SlotStays 
 member_stays_itself None = refl
 member_stays_itself (Some m) = record { group = refl; state = refl; kind = refl; params = refl; table = refl; own = λ k. refl }
 
-module _ {M : Type 0} (space : Space) (g al : ℕ) (p q : Span) (slots : List (Option (Member M))) (once : List Shelf) (groups groups' : List Group) (spaces spaces' : Spaces)
+module _ {M : Type 0} (space : Space) (g al : ℕ) (p q : Span) (instances : List (Option (Member M))) (sharing : List Locations) (groups groups' : List Group) (spaces spaces' : Spaces)
     (moves : OneMoves space (GroupScratch g) p q spaces spaces')
     (same : (k : ℕ) (s : Space) → (k ≢ g) ⊎ (s ≢ space) → block_in (group_at groups' k) s ≡ block_in (group_at groups k) s)
     (was : block_in (group_at groups g) space ≡ Some (record { piece = p; align = al })) (is : block_in (group_at groups' g) space ≡ Some (record { piece = q; align = al })) where
@@ -72,11 +72,11 @@ module _ {M : Type 0} (space : Space) (g al : ℕ) (p q : Span) (slots : List (O
       by_block (λ k s. IsAlike (block_in (group_at groups k) s) (block_in (group_at groups' k) s)) (rw (was, is) (ap length moves.words, refl))
       (λ k s apart. rw (same k s apart) (alike_itself (block_in (group_at groups k) s)))
 
-  has_now : (k : ℕ) → HasBlocks (picture_of spaces) k (group_at groups k) → HasBlocks (picture_of spaces') k (group_at groups' k)
+  has_now : (k : ℕ) → HasBlocks (map_of spaces) k (group_at groups k) → HasBlocks (map_of spaces') k (group_at groups' k)
   has_now k before s =
       by_block
-      (λ l t. owned (GroupScratch l) (blocks_in (picture_of spaces) t) ≡ block_of_piece (GroupScratch l) (block_align (block_in (group_at groups l) t)) (block_piece (block_in (group_at groups l) t))
-      → owned (GroupScratch l) (blocks_in (picture_of spaces') t) ≡ block_of_piece (GroupScratch l) (block_align (block_in (group_at groups' l) t)) (block_piece (block_in (group_at groups' l) t)))
+      (λ l t. owned (GroupScratch l) (blocks_in (map_of spaces) t) ≡ block_of_piece (GroupScratch l) (block_align (block_in (group_at groups l) t)) (block_piece (block_in (group_at groups l) t))
+      → owned (GroupScratch l) (blocks_in (map_of spaces') t) ≡ block_of_piece (GroupScratch l) (block_align (block_in (group_at groups' l) t)) (block_piece (block_in (group_at groups' l) t)))
       (λ e. rw is (moves.here al (rw was at e)))
       (λ l t apart e. rw (same l t apart)
       (elim apart [
@@ -85,14 +85,14 @@ module _ {M : Type 0} (space : Space) (g al : ℕ) (p q : Span) (slots : List (O
       ]))
       k s (before s)
 
-  pub standing_block : AreStanding slots once groups spaces → AreStanding slots once groups' spaces'
+  pub standing_block : AgreeWithMap instances sharing groups spaces → AgreeWithMap instances sharing groups' spaces'
   standing_block standing = record {
-    homes = λ i m at.
-        home_stays spaces' i (home_of once i) (table_of m) (instance_of m.inst).own (instance_of m.inst).own (once_at once i) (once_at once i) (group_at groups m.group) (group_at groups' m.group)
-        (same_pieces (instance_of m.inst).own) (same_pieces (once_at once i)) (alike_now m.group)
-        (home_elsewhere spaces spaces' i (home_of once i) (table_of m) (instance_of m.inst).own (once_at once i) (group_at groups m.group)
-        (λ l s. other_owned space (GroupScratch g) p q spaces spaces' moves (Record (home_of once i l) l) (not_a_group (home_of once i l) l g) s)
-        (λ l s apart. other_owned space (GroupScratch g) p q spaces spaces' moves (Record i l) (not_a_group i l g) s) moves.regions (standing.homes i m at));
+    owners = λ i m at.
+        owner_stays spaces' i (owner_of sharing i) (table_of m) (instance_of m.inst).own (instance_of m.inst).own (shared_at sharing i) (shared_at sharing i) (group_at groups m.group) (group_at groups' m.group)
+        (same_pieces (instance_of m.inst).own) (same_pieces (shared_at sharing i)) (alike_now m.group)
+        (owner_elsewhere spaces spaces' i (owner_of sharing i) (table_of m) (instance_of m.inst).own (shared_at sharing i) (group_at groups m.group)
+        (λ l s. other_owned space (GroupScratch g) p q spaces spaces' moves (Record (owner_of sharing i l) l) (not_a_group (owner_of sharing i l) l g) s)
+        (λ l s apart. other_owned space (GroupScratch g) p q spaces spaces' moves (Record i l) (not_a_group i l g) s) moves.regions (standing.owners i m at));
     least = standing.least;
     together = standing.together;
     free = standing.free;
@@ -107,9 +107,9 @@ module _ {M : Type 0} (space : Space) (g al : ℕ) (p q : Span) (slots : List (O
         (λ before. absurd (none-some _ (sym before ∙ was))) (λ l t apart before. same l t apart ∙ before) k s (standing.unused k s none);
   }
 
-  pub words_of_block : WordsStay slots once groups slots once groups'
+  pub words_of_block : WordsStay instances sharing groups instances sharing groups'
   words_of_block = record {
-    slot = λ i. member_stays_itself (slot_at slots i);
+    slot = λ i. member_stays_itself (slot_at instances i);
     pieces = λ i k. refl;
     blocks = λ k i s active.
         by_block (λ l t. BlockStays (block_in (group_at groups l) t) (block_in (group_at groups' l) t)) (rw (was, is) moves.words)

@@ -18,18 +18,18 @@ use Rattle.host_map.specs.Blocks.{owned, same_owner}
 use Rattle.host_map.specs.Moves.{block_at, block_to_move, next_block, next_in}
 use Rattle.space_blocks.proofs.Owners.{itself}
 use Rattle.host_spaces.specs.declared.spaces.Spaces.{Spaces}
-use Rattle.host_map.specs.Picture.{blocks_in}
-use Rattle.host_spaces.specs.Picture.{picture_of}
+use Rattle.host_map.specs.MemoryMap.{blocks_in}
+use Rattle.host_spaces.specs.MemoryMap.{map_of}
 use Rattle.host_spaces.specs.Pieces.{record_block}
 use Rattle.host_table.specs.declared.member.Member.{Member}
-use Rattle.host_shared.specs.declared.shelves.Shelf.{Shelf}
-use Rattle.host_shared.specs.Shelves.{home_of, once_at}
+use Rattle.host_shared.specs.declared.locations.Locations.{Locations}
+use Rattle.host_shared.specs.Locations.{owner_of, shared_at}
 use Rattle.host_table.specs.Table.{slot_at, group_at, instance_of}
-use Rattle.host_moves.specs.Standing.{AreStanding, table_of}
+use Rattle.host_moves.specs.Standing.{AgreeWithMap, table_of}
 use Rattle.host_moves.specs.Moves.{IsNextOf}
 use Rattle.host_moves.proofs.Rooms.{either}
-use Rattle.host_moves.proofs.Homes.{home_record}
-use Rattle.host_moves.proofs.Slots.{one_space}
+use Rattle.host_moves.proofs.Owners.{owner_record}
+use Rattle.host_moves.proofs.Instances.{one_space}
 
 abbrev pub IsIn : Placed → List Placed → Type 0
 IsIn b [] = ⊥
@@ -63,14 +63,14 @@ next_piece b o al None h = absurd h
 next_piece b o al (Some s) h = (s, (refl, only_block b (block_of o al s) h))
 
 -- the record whose block moves next
-pub record IsNextRecord {M : Type 0} (slots : List (Option (Member M))) (once : List Shelf) (spaces : Spaces) (space : Space) (i k : ℕ) : Type 0 where
+pub record IsNextRecord {M : Type 0} (instances : List (Option (Member M))) (sharing : List Locations) (spaces : Spaces) (space : Space) (i k : ℕ) : Type 0 where
   pub member : Member M
-  pub there : slot_at slots i ≡ Some member
+  pub there : slot_at instances i ≡ Some member
   pub of_space : (record_at (table_of member) k).space ≡ space
   pub piece : Span
-  pub here : home_of once i k ≡ i
-  pub its : piece_of_record (table_of member) (instance_of member.inst).own (once_at once i) k ≡ Some piece
-  pub next : next_block (blocks_in (picture_of spaces) space) ≡ Some (block_of (Record i k) (record_at (table_of member) k).align piece)
+  pub here : owner_of sharing i k ≡ i
+  pub its : piece_of_record (table_of member) (instance_of member.inst).own (shared_at sharing i) k ≡ Some piece
+  pub next : next_block (blocks_in (map_of spaces) space) ≡ Some (block_of (Record i k) (record_at (table_of member) k).align piece)
 
 pub in_space : (i k : ℕ) (r : MemRec) (space : Space) (p : Option Span) (b : Placed) → IsIn b (record_block i k r space p) → (r.space ≡ space) × IsIn b (block_of_piece (Record i k) r.align p)
 in_space i k r space p b h =
@@ -83,24 +83,24 @@ pub slot_of : {M : Type 0} (slot : Option (Member M)) → (slot ≡ None → ⊥
 slot_of None none = absurd (none refl)
 slot_of (Some m) none = (m, refl)
 
--- an instance that has a block for a record is the record's home
-pub home_among : (i k : ℕ) (b : Placed) (home : ℕ) (bs : List Placed) → (home ≢ i → owned (Record i k) bs ≡ []) → IsIn b (owned (Record i k) bs) → home ≡ i
-home_among i k b home bs away among =
-    elim (eqb_tells home i) [
+-- an instance that has a block for a record is the record's owner
+pub owner_among : (i k : ℕ) (b : Placed) (owner : ℕ) (bs : List Placed) → (owner ≢ i → owned (Record i k) bs ≡ []) → IsIn b (owned (Record i k) bs) → owner ≡ i
+owner_among i k b owner bs away among =
+    elim (eqb_tells owner i) [
       | inl e ↦ e.1
       | inr e ↦ absurd (let none : IsIn b [] = subst (λ (xs : List Placed). IsIn b xs) (away e.1) among in none)
     ]
 
-pub next_record : {M : Type 0} (slots : List (Option (Member M))) (once : List Shelf) (groups : List Group) (spaces : Spaces) (space : Space) (i k : ℕ) → AreStanding slots once groups spaces
-    → IsNextOf spaces space (Record i k) → IsNextRecord slots once spaces space i k
-next_record slots once groups spaces space i k standing next =
+pub next_record : {M : Type 0} (instances : List (Option (Member M))) (sharing : List Locations) (groups : List Group) (spaces : Spaces) (space : Space) (i k : ℕ) → AgreeWithMap instances sharing groups spaces
+    → IsNextOf spaces space (Record i k) → IsNextRecord instances sharing spaces space i k
+next_record instances sharing groups spaces space i k standing next =
     let b = next.0 in
-    let among : IsIn b (owned (Record i k) (blocks_in (picture_of spaces) space)) = next_owned (blocks_in (picture_of spaces) space) (Record i k) b next.1.0 next.1.1 in
-    let slot = slot_of (slot_at slots i) (λ none. subst (λ (xs : List Placed). IsIn b xs) (standing.gone i k space none) among) in
+    let among : IsIn b (owned (Record i k) (blocks_in (map_of spaces) space)) = next_owned (blocks_in (map_of spaces) space) (Record i k) b next.1.0 next.1.1 in
+    let slot = slot_of (slot_at instances i) (λ none. subst (λ (xs : List Placed). IsIn b xs) (standing.gone i k space none) among) in
     let m = slot.0 in
-    let home = standing.homes i m slot.1 in
-    let here = home_among i k b (home_of once i k) (blocks_in (picture_of spaces) space) (home.away k space) among in
-    let block = in_space i k (record_at (table_of m) k) space (piece_of_record (table_of m) (instance_of m.inst).own (once_at once i) k) b
-    (subst (λ (xs : List Placed). IsIn b xs) (home_record spaces i (home_of once i) (table_of m) (instance_of m.inst).own (once_at once i) (group_at groups m.group) home k space i here) among) in
-    let piece = next_piece b (Record i k) (record_at (table_of m) k).align (piece_of_record (table_of m) (instance_of m.inst).own (once_at once i) k) block.1 in
+    let owner = standing.owners i m slot.1 in
+    let here = owner_among i k b (owner_of sharing i k) (blocks_in (map_of spaces) space) (owner.away k space) among in
+    let block = in_space i k (record_at (table_of m) k) space (piece_of_record (table_of m) (instance_of m.inst).own (shared_at sharing i) k) b
+    (subst (λ (xs : List Placed). IsIn b xs) (owner_record spaces i (owner_of sharing i) (table_of m) (instance_of m.inst).own (shared_at sharing i) (group_at groups m.group) owner k space i here) among) in
+    let piece = next_piece b (Record i k) (record_at (table_of m) k).align (piece_of_record (table_of m) (instance_of m.inst).own (shared_at sharing i) k) block.1 in
     record { member = m; there = slot.1; of_space = block.0; here = here; piece = piece.0; its = piece.1.0; next = next.1.0 ∙ ap Some piece.1.1 }

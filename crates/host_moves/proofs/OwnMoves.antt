@@ -11,7 +11,7 @@ use Rattle.mem_rec.specs.declared.Attr.TheVariants.{Persist, WriteOnce}
 use Rattle.mem_rec.specs.declared.Space.{Space}
 use Rattle.mem_rec.specs.declared.Space.TheVariants.{Daram, Saram, External}
 use Rattle.mem_rec.specs.Records.{is_persistent, same_space}
-use Rattle.space_heap.specs.Pictures.{range_of}
+use Rattle.space_heap.specs.Maps.{range_of}
 use Rattle.ialg.specs.Records.{record_at, unplaced}
 use Rattle.record_loans.specs.declared.pieces.Pieces.{Pieces}
 use Rattle.record_loans.specs.Pieces.{piece_at, piece_words, with_piece}
@@ -28,25 +28,25 @@ use Rattle.host_map.specs.Blocks.{block_range, owned}
 use Rattle.host_map.specs.Moves.{next_block}
 use Rattle.host_spaces.specs.declared.spaces.Spaces.{Spaces}
 use Rattle.host_map.specs.declared.parts.Sizes.{Sizes}
-use Rattle.host_map.specs.Picture.{blocks_in}
-use Rattle.host_spaces.specs.Picture.{picture_of, sizes_of, space_in}
+use Rattle.host_map.specs.MemoryMap.{blocks_in}
+use Rattle.host_spaces.specs.MemoryMap.{map_of, sizes_of, space_in}
 use Rattle.host_spaces.specs.Pieces.{IsPieceOf}
 use Rattle.host_table.specs.declared.member.Member.{Member}
-use Rattle.host_shared.specs.declared.shelves.Shelf.{Shelf}
-use Rattle.host_shared.specs.declared.shelves.Stand.{Stand}
-use Rattle.host_shared.specs.declared.shelves.Stand.TheVariants.{Here, With}
-use Rattle.host_shared.specs.Shelves.{stand_at, shelf_at, home_by, home_of, once_at}
-use Rattle.host_table.specs.Table.{slot_at, group_at, instance_of, own_of, IsHolder, AreHeld, EachIsHoused, TablesOk}
+use Rattle.host_shared.specs.declared.locations.Locations.{Locations}
+use Rattle.host_shared.specs.declared.locations.Location.{Location}
+use Rattle.host_shared.specs.declared.locations.Location.TheVariants.{Here, At}
+use Rattle.host_shared.specs.Locations.{location_at, locations_at, owner_by, owner_of, shared_at}
+use Rattle.host_table.specs.Table.{slot_at, group_at, instance_of, own_of, IsSharer, AreHeld, EachIsHoused, TablesOk}
 use Rattle.host_table.specs.Frames.{SameMembers}
 use Rattle.host_moves.specs.Waiting.{inst_with, slot_with, own_set, IsThere, IsHousedBut, TablesThere, TablesBut, MemberStays, SlotStays, SameWords, WordsStay}
 use Rattle.host_moves.proofs.Owns.{tables_map, set_again, active_with, own_set_same, own_set_other, but_all, but_own}
-use Rattle.host_moves.specs.Standing.{IsHome, AreOrdered, AreStanding, table_of, IsSameKind, SlotIsSame, SameInstances}
+use Rattle.host_moves.specs.Standing.{IsPieceThere, AreOrdered, AgreeWithMap, table_of, IsSameKind, SlotIsSame, SameInstances}
 use Rattle.host_moves.specs.Moves.{IsNextOf}
-use Rattle.host_moves.proofs.Homes.{home_record, slot_same}
+use Rattle.host_moves.proofs.Owners.{owner_record, slot_same}
 use Rattle.host_moves.proofs.Moved.{OneMoves, standing_moved}
 use Rattle.host_moves.proofs.MovedBlocks.{room_of_standing, block_stays_itself}
 use Rattle.host_moves.proofs.Nexts.{IsNextRecord, next_record}
-use Rattle.host_moves.proofs.Slots.{only_one, persists, piece_there, piece_with_same, piece_with_other, piece_again, inst_is}
+use Rattle.host_moves.proofs.Instances.{only_one, persists, piece_there, piece_with_same, piece_with_other, piece_again, inst_is}
 
 -- ---- one slot
 
@@ -89,10 +89,10 @@ kind_then (Some a) (Some b) (Some c) e f = record {
   table = f.table ∙ e.table;
 }
 
-pub then_same : {M : Type 0} (slots slots' slots'' : List (Option (Member M))) (once once' : List Shelf) (groups groups' : List Group) → SameInstances slots slots'
-    → SameMembers slots' once groups slots'' once' groups' → SameInstances slots slots''
-then_same slots slots' slots'' once once' groups groups' kinds same i =
-    kind_then (slot_at slots i) (slot_at slots' i) (slot_at slots'' i) (kinds i) (slot_same (slot_at slots' i) (slot_at slots'' i) (same.slot i))
+pub then_same : {M : Type 0} (instances instances' instances'' : List (Option (Member M))) (sharing sharing' : List Locations) (groups groups' : List Group) → SameInstances instances instances'
+    → SameMembers instances' sharing groups instances'' sharing' groups' → SameInstances instances instances''
+then_same instances instances' instances'' sharing sharing' groups groups' kinds same i =
+    kind_then (slot_at instances i) (slot_at instances' i) (slot_at instances'' i) (kinds i) (slot_same (slot_at instances' i) (slot_at instances'' i) (same.slot i))
 
 pub same_sizes : (spaces spaces' : Spaces) → ((any : Space) → (space_in spaces' any).region ≡ (space_in spaces any).region) → sizes_of spaces' ≡ sizes_of spaces
 same_sizes spaces spaces' regions =
@@ -118,10 +118,10 @@ slot_twice : {M : Type 0} (slot : Option (Member M)) (a b : Pieces) → slot_wit
 slot_twice None a b = refl
 slot_twice (Some m) a b = ap (λ (inst : Inst _). Some (record m { inst = inst })) (inst_twice m.inst a b)
 
-pub set_twice : {M : Type 0} (slots : List (Option (Member M))) (i : ℕ) (a b : Pieces) → own_set (own_set slots i a) i b ≡ own_set slots i b
-set_twice slots i a b =
-    ap (λ (x : Option (Member _)). set (own_set slots i a) i x) (ap (λ (s : Option (Member _)). slot_with s b) (own_set_same slots i a) ∙ slot_twice (slot_at slots i) a b)
-    ∙ set_again slots i (slot_with (slot_at slots i) a) (slot_with (slot_at slots i) b)
+pub set_twice : {M : Type 0} (instances : List (Option (Member M))) (i : ℕ) (a b : Pieces) → own_set (own_set instances i a) i b ≡ own_set instances i b
+set_twice instances i a b =
+    ap (λ (x : Option (Member _)). set (own_set instances i a) i x) (ap (λ (s : Option (Member _)). slot_with s b) (own_set_same instances i a) ∙ slot_twice (slot_at instances i) a b)
+    ∙ set_again instances i (slot_with (slot_at instances i) a) (slot_with (slot_at instances i) b)
 
 -- ---- the move
 
@@ -134,57 +134,57 @@ unplaced_attr (r ∷ rs) zero once = once
 unplaced_attr (r ∷ rs) (suc k) once = unplaced_attr rs k once
 
 -- a record with which another one stands is write-once
-held_once : {M : Type 0} (slots : List (Option (Member M))) (once : List Shelf) → AreHeld slots once → (i j k : ℕ) (m : Member M) → slot_at slots i ≡ Some m → j ≢ i → home_of once j k ≡ i
+held_once : {M : Type 0} (instances : List (Option (Member M))) (sharing : List Locations) → AreHeld instances sharing → (i j k : ℕ) (m : Member M) → slot_at instances i ≡ Some m → j ≢ i → owner_of sharing j k ≡ i
     → (record_at (instance_of m.inst).table k).attr ≡ WriteOnce
-held_once slots once held i j k m at apart home = by_stand (stand_at (shelf_at once j) k) refl
+held_once instances sharing held i j k m at apart owner = by_location (location_at (locations_at sharing j) k) refl
   where
-    by_holder : (slot : Option (Member _)) (s : Stand) → IsHolder k slot (Some m) s → (record_at (instance_of m.inst).table k).attr ≡ WriteOnce
-    by_holder None s h = absurd h
-    by_holder (Some n) s h = ap (λ (r : MemRec). r.attr) h.0.shape ∙ h.0.once
+    by_sharer : (slot : Option (Member _)) (s : Location) → IsSharer k slot (Some m) s → (record_at (instance_of m.inst).table k).attr ≡ WriteOnce
+    by_sharer None s h = absurd h
+    by_sharer (Some n) s h = ap (λ (r : MemRec). r.attr) h.0.shape ∙ h.0.once
 
-    by_stand : (s : Stand) → stand_at (shelf_at once j) k ≡ s → (record_at (instance_of m.inst).table k).attr ≡ WriteOnce
-    by_stand (Here p) is = absurd (apart (sym (ap (home_by j) is) ∙ home))
-    by_stand (With h) is =
-        let same : h ≡ i = sym (ap (home_by j) is) ∙ home in
-        let holder = held j k i (is ∙ ap With same) in
-        by_holder (slot_at slots j) (stand_at (shelf_at once i) k) (rw at at holder)
+    by_location : (s : Location) → location_at (locations_at sharing j) k ≡ s → (record_at (instance_of m.inst).table k).attr ≡ WriteOnce
+    by_location (Here p) is = absurd (apart (sym (ap (owner_by j) is) ∙ owner))
+    by_location (At h) is =
+        let same : h ≡ i = sym (ap (owner_by j) is) ∙ owner in
+        let sharer = held j k i (is ∙ ap At same) in
+        by_sharer (slot_at instances j) (location_at (locations_at sharing i) k) (rw at at sharer)
 
-module _ {M : Type 0} (slots : List (Option (Member M))) (once : List Shelf) (groups : List Group) (spaces : Spaces) (space : Space) (i k : ℕ) (p : Span)
-    (ok : TablesOk slots once groups) (standing : AreStanding slots once groups spaces) (next : IsNextOf spaces space (Record i k))
-    (taken : piece_at (own_of (slot_at slots i)) k ≡ Some p) where
-  pub its : IsNextRecord slots once spaces space i k
-  its = next_record slots once groups spaces space i k standing next
+module _ {M : Type 0} (instances : List (Option (Member M))) (sharing : List Locations) (groups : List Group) (spaces : Spaces) (space : Space) (i k : ℕ) (p : Span)
+    (ok : TablesOk instances sharing groups) (standing : AgreeWithMap instances sharing groups spaces) (next : IsNextOf spaces space (Record i k))
+    (taken : piece_at (own_of (slot_at instances i)) k ≡ Some p) where
+  pub its : IsNextRecord instances sharing spaces space i k
+  its = next_record instances sharing groups spaces space i k standing next
 
   own_piece : piece_at (instance_of its.member.inst).own k ≡ Some p
   own_piece = rw its.there at taken
 
-  home : IsHome spaces i (home_of once i) (table_of its.member) (instance_of its.member.inst).own (once_at once i) (group_at groups its.member.group)
-  home = standing.homes i its.member its.there
+  owner : IsPieceThere spaces i (owner_of sharing i) (table_of its.member) (instance_of its.member.inst).own (shared_at sharing i) (group_at groups its.member.group)
+  owner = standing.owners i its.member its.there
 
   is_its : its.piece ≡ p
   is_its =
-      let kept : IsPieceOf _ _ (is_persistent (record_at (table_of its.member) k).attr) (Some p) = rw own_piece at (home.pieces.persistent k) in
+      let kept : IsPieceOf _ _ (is_persistent (record_at (table_of its.member) k).attr) (Some p) = rw own_piece at (owner.pieces.persistent k) in
       let attr = persists (record_at (table_of its.member) k).attr kept.0 in
       let piece : piece_at (instance_of its.member.inst).own k ≡ Some its.piece = rw attr at its.its in
       same_Some _ _ (sym piece ∙ own_piece)
 
-  pub next_is : next_block (blocks_in (picture_of spaces) space) ≡ Some (block_of (Record i k) (record_at (table_of its.member) k).align p)
+  pub next_is : next_block (blocks_in (map_of spaces) space) ≡ Some (block_of (Record i k) (record_at (table_of its.member) k).align p)
   next_is = its.next ∙ ap (λ (s : Span). Some (block_of (Record i k) (record_at (table_of its.member) k).align s)) is_its
 
   pub region_is : p.region ≡ (space_in spaces space).region
   region_is =
-      let kept : IsPieceOf (space_in spaces (record_at (table_of its.member) k).space).region _ _ (Some p) = rw own_piece at (home.pieces.persistent k) in
+      let kept : IsPieceOf (space_in spaces (record_at (table_of its.member) k).space).region _ _ (Some p) = rw own_piece at (owner.pieces.persistent k) in
       subst (λ (s : Space). p.region ≡ (space_in spaces s).region) its.of_space kept.1
 
-  pub range_is : option_map block_range (next_block (blocks_in (picture_of spaces) space)) ≡ Some (range_of p)
+  pub range_is : option_map block_range (next_block (blocks_in (map_of spaces) space)) ≡ Some (range_of p)
   range_is = rw next_is refl
 
-  owned_is : owned (Record i k) (blocks_in (picture_of spaces) space) ≡ block_of (Record i k) (record_at (table_of its.member) k).align p ∷ []
+  owned_is : owned (Record i k) (blocks_in (map_of spaces) space) ≡ block_of (Record i k) (record_at (table_of its.member) k).align p ∷ []
   owned_is =
-      let kept : IsPieceOf _ _ (is_persistent (record_at (table_of its.member) k).attr) (Some p) = rw own_piece at (home.pieces.persistent k) in
+      let kept : IsPieceOf _ _ (is_persistent (record_at (table_of its.member) k).attr) (Some p) = rw own_piece at (owner.pieces.persistent k) in
       let attr = persists (record_at (table_of its.member) k).attr kept.0 in
       let same : same_space space space ≡ true = same_itself space in
-      rw (attr, own_piece, its.of_space, same) at (home_record spaces i (home_of once i) (table_of its.member) (instance_of its.member.inst).own (once_at once i) (group_at groups its.member.group) home k space i its.here)
+      rw (attr, own_piece, its.of_space, same) at (owner_record spaces i (owner_of sharing i) (table_of its.member) (instance_of its.member.inst).own (shared_at sharing i) (group_at groups its.member.group) owner k space i its.here)
     where
       same_itself : (s : Space) → same_space s s ≡ true
       same_itself Daram = refl
@@ -194,48 +194,48 @@ module _ {M : Type 0} (slots : List (Option (Member M))) (once : List Shelf) (gr
   -- it is a record of its own, with which no other one stands
   own_attr : (record_at (table_of its.member) k).attr ≡ Persist
   own_attr =
-      let kept : IsPieceOf _ _ (is_persistent (record_at (table_of its.member) k).attr) (Some p) = rw own_piece at (home.pieces.persistent k) in
+      let kept : IsPieceOf _ _ (is_persistent (record_at (table_of its.member) k).attr) (Some p) = rw own_piece at (owner.pieces.persistent k) in
       persists (record_at (table_of its.member) k).attr kept.0
 
-  nobody_else : (j : ℕ) → j ≢ i → home_of once j k ≢ i
+  nobody_else : (j : ℕ) → j ≢ i → owner_of sharing j k ≢ i
   nobody_else j apart at_i =
-      let shared = held_once slots once ok.held i j k its.member its.there apart at_i in
+      let shared = held_once instances sharing ok.held i j k its.member its.there apart at_i in
       persist_once (record_at (table_of its.member) k).attr own_attr (unplaced_attr (instance_of its.member.inst).table k shared)
 
-  owns : Owns (blocks_in (picture_of spaces) space) (Record i k) p
+  owns : Owns (blocks_in (map_of spaces) space) (Record i k) p
   owns = (
     (record_at (table_of its.member) k).align,
     subst (λ (bs : List Placed). Contains bs (block_of (Record i k) (record_at (table_of its.member) k).align p)) (sym owned_is) (only_one (block_of (Record i k) (record_at (table_of its.member) k).align p)),
   )
 
   abbrev away : Pieces
-  away = with_piece (own_of (slot_at slots i)) k None
+  away = with_piece (own_of (slot_at instances i)) k None
 
-  pub told_others : TablesBut i (own_set slots i away) once groups
-  told_others = but_own EachIsHoused i away slots once groups (but_all i slots once groups ok)
+  pub told_others : TablesBut i (own_set instances i away) sharing groups
+  told_others = but_own EachIsHoused i away instances sharing groups (but_all i instances sharing groups ok)
 
-  pub tables_away : TablesThere (own_set slots i away) once groups
-  tables_away = tables_map (IsHousedBut i) IsThere (own_set slots i away) once groups (λ j m o y h. tt) told_others
+  pub tables_away : TablesThere (own_set instances i away) sharing groups
+  tables_away = tables_map (IsHousedBut i) IsThere (own_set instances i away) sharing groups (λ j m o y h. tt) told_others
 
-  own_is : own_of (slot_at slots i) ≡ (instance_of its.member.inst).own
+  own_is : own_of (slot_at instances i) ≡ (instance_of its.member.inst).own
   own_is = rw its.there refl
 
   -- without the piece the instance lives on, and there is room for the piece
-  pub living_away : is_some (slot_at (own_set slots i away) i) ≡ true
-  living_away = ap is_some (own_set_same slots i away) ∙ ap (λ (s : Option (Member M)). is_some (slot_with s away)) its.there
+  pub living_away : is_some (slot_at (own_set instances i away) i) ≡ true
+  living_away = ap is_some (own_set_same instances i away) ∙ ap (λ (s : Option (Member M)). is_some (slot_with s away)) its.there
 
-  pub can_come_back : (k < 4) × (piece_at (own_of (slot_at (own_set slots i away) i)) k ≡ None)
+  pub can_come_back : (k < 4) × (piece_at (own_of (slot_at (own_set instances i away) i)) k ≡ None)
   can_come_back =
-      let below = piece_there (own_of (slot_at slots i)) k p taken in (
+      let below = piece_there (own_of (slot_at instances i)) k p taken in (
         below,
-        ap (λ (s : Option (Member M)). piece_at (own_of s) k) (own_set_same slots i away)
-            ∙ ap (λ (o : Pieces). piece_at o k) (own_with (slot_at slots i) its.member away its.there)
-            ∙ piece_with_same (own_of (slot_at slots i)) k None below,
+        ap (λ (s : Option (Member M)). piece_at (own_of s) k) (own_set_same instances i away)
+            ∙ ap (λ (o : Pieces). piece_at o k) (own_with (slot_at instances i) its.member away its.there)
+            ∙ piece_with_same (own_of (slot_at instances i)) k None below,
       )
 
   module _ (q : Span) (spaces' : Spaces)
-      (here : (owner : Owner) (align : ℕ) → owned owner (blocks_in (picture_of spaces) space) ≡ block_of owner align p ∷ [] → owned owner (blocks_in (picture_of spaces') space) ≡ block_of owner align q ∷ [])
-      (others : (owner o : Owner) → Owns (blocks_in (picture_of spaces) space) owner p → o ≢ owner → owned o (blocks_in (picture_of spaces') space) ≡ owned o (blocks_in (picture_of spaces) space))
+      (here : (owner : Owner) (align : ℕ) → owned owner (blocks_in (map_of spaces) space) ≡ block_of owner align p ∷ [] → owned owner (blocks_in (map_of spaces') space) ≡ block_of owner align q ∷ [])
+      (others : (owner o : Owner) → Owns (blocks_in (map_of spaces) space) owner p → o ≢ owner → owned o (blocks_in (map_of spaces') space) ≡ owned o (blocks_in (map_of spaces) space))
       (elsewhere : (other : Space) → other ≢ space → space_in spaces' other ≡ space_in spaces other)
       (regions : (any : Space) → (space_in spaces' any).region ≡ (space_in spaces any).region) (words : q.words ≡ p.words) (region : q.region ≡ p.region) where
     moves : OneMoves space (Record i k) p q spaces spaces'
@@ -244,31 +244,31 @@ module _ {M : Type 0} (slots : List (Option (Member M))) (once : List Shelf) (gr
     abbrev now : Pieces
     now = with_piece (instance_of its.member.inst).own k (Some q)
 
-    stands : AreStanding (own_set slots i now) once groups spaces'
-    stands = standing_moved space i k p q slots once groups spaces spaces' moves standing its.member its.there its.of_space its.here own_piece nobody_else
+    stands : AgreeWithMap (own_set instances i now) sharing groups spaces'
+    stands = standing_moved space i k p q instances sharing groups spaces spaces' moves standing its.member its.there its.of_space its.here own_piece nobody_else
 
-    room_now : AreOrdered spaces' → HasRoom (record (instance_of its.member.inst) { own = now }) (once_at once i) (group_at groups its.member.group)
+    room_now : AreOrdered spaces' → HasRoom (record (instance_of its.member.inst) { own = now }) (shared_at sharing i) (group_at groups its.member.group)
     room_now ordered =
-        subst (λ (s : Instance M). HasRoom s (once_at once i) (group_at groups its.member.group)) (inst_is its.member.inst now)
-        (room_of_standing (own_set slots i now) once groups spaces' ordered stands i (record its.member { inst = inst_with its.member.inst now }) (own_set_same slots i now ∙ rw its.there refl))
+        subst (λ (s : Instance M). HasRoom s (shared_at sharing i) (group_at groups its.member.group)) (inst_is its.member.inst now)
+        (room_of_standing (own_set instances i now) sharing groups spaces' ordered stands i (record its.member { inst = inst_with its.member.inst now }) (own_set_same instances i now ∙ rw its.there refl))
 
     -- there is room for the instance when the piece comes back
-    pub room_back : AreOrdered spaces' → (n : Member M) → slot_at (own_set slots i away) i ≡ Some n
-        → HasRoom (with_back (instance_of n.inst) (Some (k, q))) (once_at once i) (group_at groups n.group)
+    pub room_back : AreOrdered spaces' → (n : Member M) → slot_at (own_set instances i away) i ≡ Some n
+        → HasRoom (with_back (instance_of n.inst) (Some (k, q))) (shared_at sharing i) (group_at groups n.group)
     room_back ordered n at =
-        let is : record its.member { inst = inst_with its.member.inst away } ≡ n = same_Some _ _ (sym (own_set_same slots i away ∙ rw its.there refl) ∙ at) in
-        subst (λ (x : Member M). HasRoom (with_back (instance_of x.inst) (Some (k, q))) (once_at once i) (group_at groups x.group)) is
-        (rw (inst_is its.member.inst away, piece_again (own_of (slot_at slots i)) k None (Some q), own_is) (room_now ordered))
+        let is : record its.member { inst = inst_with its.member.inst away } ≡ n = same_Some _ _ (sym (own_set_same instances i away ∙ rw its.there refl) ∙ at) in
+        subst (λ (x : Member M). HasRoom (with_back (instance_of x.inst) (Some (k, q))) (shared_at sharing i) (group_at groups x.group)) is
+        (rw (inst_is its.member.inst away, piece_again (own_of (slot_at instances i)) k None (Some q), own_is) (room_now ordered))
 
-    pub back_is : own_set (own_set slots i away) i (restored (Some (k, q)) (own_of (slot_at (own_set slots i away) i))) ≡ own_set slots i now
+    pub back_is : own_set (own_set instances i away) i (restored (Some (k, q)) (own_of (slot_at (own_set instances i away) i))) ≡ own_set instances i now
     back_is =
-        ap (own_set (own_set slots i away) i)
-        (ap (λ (o : Pieces). with_piece o k (Some q)) (ap own_of (own_set_same slots i away) ∙ own_with (slot_at slots i) its.member away its.there)
-        ∙ piece_again (own_of (slot_at slots i)) k None (Some q) ∙ ap (λ (o : Pieces). with_piece o k (Some q)) own_is)
-        ∙ set_twice slots i away now
+        ap (own_set (own_set instances i away) i)
+        (ap (λ (o : Pieces). with_piece o k (Some q)) (ap own_of (own_set_same instances i away) ∙ own_with (slot_at instances i) its.member away its.there)
+        ∙ piece_again (own_of (slot_at instances i)) k None (Some q) ∙ ap (λ (o : Pieces). with_piece o k (Some q)) own_is)
+        ∙ set_twice instances i away now
 
-    pub stands_back : AreStanding (own_set (own_set slots i away) i (restored (Some (k, q)) (own_of (slot_at (own_set slots i away) i)))) once groups spaces'
-    stands_back = subst (λ (l : List (Option (Member M))). AreStanding l once groups spaces') (sym back_is) stands
+    pub stands_back : AgreeWithMap (own_set (own_set instances i away) i (restored (Some (k, q)) (own_of (slot_at (own_set instances i away) i)))) sharing groups spaces'
+    stands_back = subst (λ (l : List (Option (Member M))). AgreeWithMap l sharing groups spaces') (sym back_is) stands
 
     same_words : SameWords (instance_of its.member.inst).own now
     same_words j =
@@ -277,29 +277,29 @@ module _ {M : Type 0} (slots : List (Option (Member M))) (once : List Shelf) (gr
           | inr e ↦ ap piece_words (piece_with_other (instance_of its.member.inst).own k j (Some q) e.1)
         ]
 
-    slot_now : slot_at (own_set slots i now) i ≡ Some (record its.member { inst = inst_with its.member.inst now })
-    slot_now = own_set_same slots i now ∙ rw its.there refl
+    slot_now : slot_at (own_set instances i now) i ≡ Some (record its.member { inst = inst_with its.member.inst now })
+    slot_now = own_set_same instances i now ∙ rw its.there refl
 
-    kinds_now : SameInstances slots (own_set slots i now)
+    kinds_now : SameInstances instances (own_set instances i now)
     kinds_now j =
         elim (eqb_tells j i) [
           | inl e ↦ rw (e.1, slot_now, its.there) (kind_with its.member now)
-          | inr e ↦ rw (own_set_other slots i j now e.1) (kind_itself (slot_at slots j))
+          | inr e ↦ rw (own_set_other instances i j now e.1) (kind_itself (slot_at instances j))
         ]
 
-    pub kinds_back : SameInstances slots (own_set (own_set slots i away) i (restored (Some (k, q)) (own_of (slot_at (own_set slots i away) i))))
-    kinds_back = subst (λ (l : List (Option (Member M))). SameInstances slots l) (sym back_is) kinds_now
+    pub kinds_back : SameInstances instances (own_set (own_set instances i away) i (restored (Some (k, q)) (own_of (slot_at (own_set instances i away) i))))
+    kinds_back = subst (λ (l : List (Option (Member M))). SameInstances instances l) (sym back_is) kinds_now
 
-    words_now : WordsStay slots once groups (own_set slots i now) once groups
+    words_now : WordsStay instances sharing groups (own_set instances i now) sharing groups
     words_now = record {
       slot = λ j.
           elim (eqb_tells j i) [
             | inl e ↦ rw (e.1, slot_now, its.there) (stays_with its.member now same_words)
-            | inr e ↦ rw (own_set_other slots i j now e.1) (kept_slot (slot_at slots j))
+            | inr e ↦ rw (own_set_other instances i j now e.1) (kept_slot (slot_at instances j))
           ];
       pieces = λ j l. refl;
       blocks = λ g j s active. block_stays_itself _;
     }
 
-    pub words_back : WordsStay slots once groups (own_set (own_set slots i away) i (restored (Some (k, q)) (own_of (slot_at (own_set slots i away) i)))) once groups
-    words_back = subst (λ (l : List (Option (Member M))). WordsStay slots once groups l once groups) (sym back_is) words_now
+    pub words_back : WordsStay instances sharing groups (own_set (own_set instances i away) i (restored (Some (k, q)) (own_of (slot_at (own_set instances i away) i)))) sharing groups
+    words_back = subst (λ (l : List (Option (Member M))). WordsStay instances sharing groups l sharing groups) (sym back_is) words_now

@@ -1,4 +1,4 @@
--- Where an instance's blocks stand in the picture, its records fit.
+-- Where an instance's blocks stand in the memory map, its records fit.
 use Rattle.std.proofs.Common.{◌≡◌, ℕ, zero, suc, ◌+◌, ◌<◌, ◌≤◌, ◌⊎◌, ◌||◌, ◌==◌, inl, inr, Bool, true, false, List, [], ◌∷◌, length, Option, Some, None, refl, sym, ◌∙◌, subst, arith, length-take}
 use Rattle.std.specs.List.{list_any}
 use Rattle.std.proofs.lemmas.Bool.{true≢false, eqb-true}
@@ -12,7 +12,7 @@ use Rattle.mem_rec.specs.Records.{is_persistent, same_space}
 use Rattle.mem_rec.proofs.Valid.{within_limits}
 use Rattle.ialg.specs.Records.{record_at, idle_size}
 use Rattle.relocate.specs.Places.{meets, placed_size}
-use Rattle.space_heap.specs.Pictures.{AreBlocks}
+use Rattle.space_heap.specs.Maps.{AreBlocks}
 use Rattle.relocate.proofs.RangeTests.{meet_if, both_true}
 use Rattle.record_loans.specs.declared.pieces.Pieces.{Pieces}
 use Rattle.record_loans.specs.Pieces.{piece_at, piece_words, IsInSpace}
@@ -30,10 +30,10 @@ use Rattle.host_map.specs.declared.placed.Placed.{Placed}
 use Rattle.space_blocks.specs.Blocks.{block_of, block_of_piece}
 use Rattle.host_map.specs.Blocks.{block_range, owned, ranges, same_owner}
 use Rattle.host_spaces.specs.declared.spaces.Spaces.{Spaces}
-use Rattle.host_map.specs.Picture.{blocks_in}
-use Rattle.host_spaces.specs.Picture.{picture_of, space_in}
+use Rattle.host_map.specs.MemoryMap.{blocks_in}
+use Rattle.host_spaces.specs.MemoryMap.{map_of, space_in}
 use Rattle.host_spaces.specs.Pieces.{HasBlocks, IsPieceOf, is_write_once}
-use Rattle.host_moves.specs.Standing.{IsHome, IsOf, AreOrdered}
+use Rattle.host_moves.specs.Standing.{IsPieceThere, IsOf, AreOrdered}
 
 -- ---- two blocks of a space do not meet
 
@@ -140,26 +140,26 @@ space_itself Daram = refl
 space_itself Saram = refl
 space_itself External = refl
 
-has_by : (a : Attr) (n : ℕ) (home : Extent) (o s : Option Span) → IsPieceOf home (placed_size n) (is_persistent a) o → IsPieceOf home (placed_size n) (is_write_once a) s
+has_by : (a : Attr) (n : ℕ) (owner : Extent) (o s : Option Span) → IsPieceOf owner (placed_size n) (is_persistent a) o → IsPieceOf owner (placed_size n) (is_write_once a) s
     → length (lasting_words_by a n (piece_words o) (piece_words s)) ≡ idle_size a n
-has_by Scratch n home o s po ps = refl
-has_by Persist n home None s po ps = absurd (true≢false po)
-has_by Persist n home (Some p) s po ps = omega (arith, po.2, length-take n p.words)
-has_by WriteOnce n home o None po ps = absurd (true≢false ps)
-has_by WriteOnce n home o (Some p) po ps = omega (arith, ps.2, length-take n p.words)
+has_by Scratch n owner o s po ps = refl
+has_by Persist n owner None s po ps = absurd (true≢false po)
+has_by Persist n owner (Some p) s po ps = omega (arith, po.2, length-take n p.words)
+has_by WriteOnce n owner o None po ps = absurd (true≢false ps)
+has_by WriteOnce n owner o (Some p) po ps = omega (arith, ps.2, length-take n p.words)
 
-in_space : (home : Extent) (size : ℕ) (wanted : Bool) (p : Option Span) → home.size ≤ 65536 → IsPieceOf home size wanted p → IsInSpace p
-in_space home size wanted None small is = tt
-in_space home size wanted (Some p) small is = rw is.1 small
+in_space : (owner : Extent) (size : ℕ) (wanted : Bool) (p : Option Span) → owner.size ≤ 65536 → IsPieceOf owner size wanted p → IsInSpace p
+in_space owner size wanted None small is = tt
+in_space owner size wanted (Some p) small is = rw is.1 small
 
-block_in_space : (home : Extent) (p : Option Span) → home.size ≤ 65536 → IsOf home p → IsInSpace p
-block_in_space home None small is = tt
-block_in_space home (Some p) small is = rw is small
+block_in_space : (owner : Extent) (p : Option Span) → owner.size ≤ 65536 → IsOf owner p → IsInSpace p
+block_in_space owner None small is = tt
+block_in_space owner (Some p) small is = rw is small
 
-module _ (spaces : Spaces) (i : ℕ) (at : ℕ → ℕ) (g : ℕ) (rs : List MemRec) (own shared : Pieces) (y : Group) (ordered : AreOrdered spaces) (home : IsHome spaces i at rs own shared y)
-    (blocks : HasBlocks (picture_of spaces) g y) (regions : (space : Space) → IsOf (space_in spaces space).region (block_piece (block_in y space))) where
+module _ (spaces : Spaces) (i : ℕ) (at : ℕ → ℕ) (g : ℕ) (rs : List MemRec) (own shared : Pieces) (y : Group) (ordered : AreOrdered spaces) (owner : IsPieceThere spaces i at rs own shared y)
+    (blocks : HasBlocks (map_of spaces) g y) (regions : (space : Space) → IsOf (space_in spaces space).region (block_piece (block_in y space))) where
   has_piece : (k : ℕ) → length (idle_record_words rs own shared k) ≡ idle_size (record_at rs k).attr (record_at rs k).size
-  has_piece k = has_by (record_at rs k).attr (record_at rs k).size (space_in spaces (record_at rs k).space).region (piece_at own k) (piece_at shared k) (home.pieces.persistent k) (home.pieces.write_once k)
+  has_piece k = has_by (record_at rs k).attr (record_at rs k).size (space_in spaces (record_at rs k).space).region (piece_at own k) (piece_at shared k) (owner.pieces.persistent k) (owner.pieces.write_once k)
 
   has_pieces : HasPieces rs own shared
   has_pieces zero = has_piece 0
@@ -167,36 +167,36 @@ module _ (spaces : Spaces) (i : ℕ) (at : ℕ → ℕ) (g : ℕ) (rs : List Mem
   has_pieces (suc (suc zero)) = has_piece 2
   has_pieces (suc (suc (suc zero))) = has_piece 3
   has_pieces (suc (suc (suc (suc k)))) =
-      let few = (within_limits rs home.valid).few in
+      let few = (within_limits rs owner.valid).few in
       let blank = blank_at rs (suc (suc (suc (suc k)))) (omega (arith, few)) in
       rw blank refl
 
   small : (space : Space) → (space_in spaces space).region.size ≤ 65536
   small space = let size = (ordered space).size.0 in omega (arith, size)
 
-  of_record : (k : ℕ) → owned (Record (at k) k) (blocks_in (picture_of spaces) (record_at rs k).space) ≡ block_of_piece (Record (at k) k) (record_at rs k).align (piece_of_record rs own shared k)
-  of_record k = rw (space_itself (record_at rs k).space) at (home.records k (record_at rs k).space)
+  of_record : (k : ℕ) → owned (Record (at k) k) (blocks_in (map_of spaces) (record_at rs k).space) ≡ block_of_piece (Record (at k) k) (record_at rs k).align (piece_of_record rs own shared k)
+  of_record k = rw (space_itself (record_at rs k).space) at (owner.records k (record_at rs k).space)
 
   separate : Separate rs own shared y
   separate = record {
     pieces = λ j k less below same.
-        separate_by (space_in spaces (record_at rs k).space).region.size (blocks_in (picture_of spaces) (record_at rs k).space) (Record (at j) j) (Record (at k) k) (record_at rs j).align (record_at rs k).align
+        separate_by (space_in spaces (record_at rs k).space).region.size (blocks_in (map_of spaces) (record_at rs k).space) (Record (at j) j) (Record (at k) k) (record_at rs j).align (record_at rs k).align
         (piece_of_record rs own shared j) (piece_of_record rs own shared k) (ordered (record_at rs k).space).apart
         (λ d mine its. two_records (at j) (at k) j k less d.owner mine its)
-        (subst (λ (s : Space). owned (Record (at j) j) (blocks_in (picture_of spaces) s) ≡ block_of_piece (Record (at j) j) (record_at rs j).align (piece_of_record rs own shared j)) same (of_record j))
+        (subst (λ (s : Space). owned (Record (at j) j) (blocks_in (map_of spaces) s) ≡ block_of_piece (Record (at j) j) (record_at rs j).align (piece_of_record rs own shared j)) same (of_record j))
         (of_record k);
     block = λ k below.
-        separate_by (space_in spaces (record_at rs k).space).region.size (blocks_in (picture_of spaces) (record_at rs k).space) (Record (at k) k) (GroupScratch g) (record_at rs k).align
+        separate_by (space_in spaces (record_at rs k).space).region.size (blocks_in (map_of spaces) (record_at rs k).space) (Record (at k) k) (GroupScratch g) (record_at rs k).align
         (block_align (block_in y (record_at rs k).space)) (piece_of_record rs own shared k) (block_piece (block_in y (record_at rs k).space)) (ordered (record_at rs k).space).apart
         (λ d mine its. record_and_block (at k) k g d.owner mine its) (of_record k) (blocks (record_at rs k).space);
   }
 
   -- there is room for the instance's records at their places
-  pub room_at_home : Fits (placed rs own shared y) own shared y
-  room_at_home =
-      there_is_room rs own shared y home.valid home.need has_pieces separate
+  pub room_at_owner : Fits (placed rs own shared y) own shared y
+  room_at_owner =
+      there_is_room rs own shared y owner.valid owner.need has_pieces separate
       (record {
-        own_space = λ k. in_space _ _ _ (piece_at own k) (small (record_at rs k).space) (home.pieces.persistent k);
-        shared_space = λ k. in_space _ _ _ (piece_at shared k) (small (record_at rs k).space) (home.pieces.write_once k);
+        own_space = λ k. in_space _ _ _ (piece_at own k) (small (record_at rs k).space) (owner.pieces.persistent k);
+        shared_space = λ k. in_space _ _ _ (piece_at shared k) (small (record_at rs k).space) (owner.pieces.write_once k);
         block_space = λ space. block_in_space _ (block_piece (block_in y space)) (small space) (regions space);
       })

@@ -5,9 +5,9 @@ use Rattle.mem_rec.specs.declared.MemRec.{MemRec}
 use Rattle.mem_rec.specs.declared.Space.{Space}
 use Rattle.mem_rec.specs.declared.Attr.{Attr}
 use Rattle.mem_rec.specs.declared.Attr.TheVariants.{Scratch, Persist, WriteOnce}
-use Rattle.ialg.specs.Meaning.{Meaning}
 use Rattle.ialg.specs.History.{History}
 use Rattle.ialg.specs.Records.{record_at, words_of}
+use Rattle.ialg.specs.Laws.{Laws}
 use Rattle.record_loans.specs.declared.block.ScratchBlock.{ScratchBlock}
 use Rattle.record_loans.specs.declared.pieces.Pieces.{Pieces}
 use Rattle.record_loans.specs.Pieces.{piece_at, piece_words}
@@ -17,11 +17,10 @@ use Rattle.scratch_group.specs.Blocks.{block_in}
 use Rattle.scratch_group.specs.Words.{words_by, lasting_words_by, record_words, active_words, idle_record_words, idle_words, scratch_offset}
 use Rattle.lifecycle.specs.declared.instance.Inst.{Inst}
 use Rattle.lifecycle.specs.declared.instance.Inst.TheVariants.{Idling, Running}
-use Rattle.lifecycle.specs.States.{Relation}
 use Rattle.host_table.specs.declared.member.Member.{Member}
-use Rattle.host_shared.specs.declared.shelves.Shelf.{Shelf}
+use Rattle.host_shared.specs.declared.locations.Locations.{Locations}
 use Rattle.host_table.specs.Table.{slot_at, group_at, instance_of, active_in, slot_active_in, IsHoused, TablesOk}
-use Rattle.host_shared.specs.Shelves.{once_at}
+use Rattle.host_shared.specs.Locations.{shared_at}
 use Rattle.host_table.specs.Keeps.{InstKeeps, SlotKeeps, Keeps}
 use Rattle.host_table.specs.Frames.{InactiveGroupsStay}
 use Rattle.host_moves.specs.Waiting.{SameWords, SlotStays, BlockStays, WordsStay}
@@ -72,12 +71,12 @@ active_words_seen rs own own' shared shared' y y' o s stays sizes =
     ∙ ap (λ (ws : List ℤ). old 0 ∷ old 1 ∷ ws ∷ new 3 ∷ []) (at 2 (sizes 2))
     ∙ ap (λ (ws : List ℤ). old 0 ∷ old 1 ∷ old 2 ∷ ws ∷ []) (at 3 (sizes 3))
 
-module _ {M : Type 0} (meaning : Meaning M) (idle_keeps active_keeps : Relation M) (w : Option ℤ) (h : History) where
+module _ {M : Type 0} (laws : Laws M) (w : Option ℤ) (h : History) where
   inst_seen : (k : ℕ) (a b : Inst M) (o o' : Pieces) (y y' : Group) → active_in k b ≡ active_in k a
       → (instance_of b).kind ≡ (instance_of a).kind → (instance_of b).params ≡ (instance_of a).params → (instance_of b).table ≡ (instance_of a).table
       → SameWords (instance_of a).own (instance_of b).own → SameWords o o'
       → (active_in k a ≡ Some k → (space : Space) → BlockStays (block_in y space) (block_in y' space)) → IsHoused (instance_of a) o y
-      → InstKeeps meaning idle_keeps active_keeps w a o y h → InstKeeps meaning idle_keeps active_keeps w b o' y' h
+      → InstKeeps laws w a o y h → InstKeeps laws w b o' y' h
   inst_seen k (Idling s) (Idling n) o o' y y' state kind params table own shared blocks housed keeps =
       λ lawful. rw (kind, params, table, idle_words_seen s.instance.table s.instance.own n.instance.own o o' own shared) (keeps (rw (kind, params) at lawful))
   inst_seen k (Idling s) (Running n) o o' y y' state kind params table own shared blocks housed keeps = absurd (none-some _ (sym state))
@@ -89,7 +88,7 @@ module _ {M : Type 0} (meaning : Meaning M) (idle_keeps active_keeps : Relation 
   slot_seen : (slot slot' : Option (Member M)) (o o' : Pieces) (groups groups' : List Group) → SlotStays slot slot' → SameWords o o'
       → ((g : ℕ) (space : Space) → slot_active_in slot ≡ Some g → BlockStays (block_in (group_at groups g) space) (block_in (group_at groups' g) space))
       → ((m : Member M) → slot ≡ Some m → IsHoused (instance_of m.inst) o (group_at groups m.group))
-      → SlotKeeps meaning idle_keeps active_keeps w slot o groups h → SlotKeeps meaning idle_keeps active_keeps w slot' o' groups' h
+      → SlotKeeps laws w slot o groups h → SlotKeeps laws w slot' o' groups' h
   slot_seen None slot' o o' groups groups' stays shared blocks housed keeps = rw stays tt
   slot_seen (Some m) None o o' groups groups' stays shared blocks housed keeps = absurd stays
   slot_seen (Some m) (Some n) o o' groups groups' stays shared blocks housed keeps =
@@ -97,12 +96,12 @@ module _ {M : Type 0} (meaning : Meaning M) (idle_keeps active_keeps : Relation 
       (inst_seen m.group m.inst n.inst o o' (group_at groups m.group) (group_at groups' m.group) stays.state stays.kind stays.params stays.table stays.own shared
       (λ active space. blocks m.group space active) (housed m refl) keeps)
 
-pub words_seen : {M : Type 0} (meaning : Meaning M) (idle_keeps active_keeps : Relation M) (w : Option ℤ) (histories : ℕ → History)
-    (slots slots' : List (Option (Member M))) (once once' : List Shelf) (groups groups' : List Group) → TablesOk slots once groups
-    → WordsStay slots once groups slots' once' groups'
-    → Keeps meaning idle_keeps active_keeps w slots once groups histories → Keeps meaning idle_keeps active_keeps w slots' once' groups' histories
-words_seen meaning idle_keeps active_keeps w histories slots slots' once once' groups groups' ok stays keeps i =
-    slot_seen meaning idle_keeps active_keeps w (histories i) (slot_at slots i) (slot_at slots' i) (once_at once i) (once_at once' i) groups groups' (stays.slot i) (stays.pieces i)
+pub words_seen : {M : Type 0} (laws : Laws M) (w : Option ℤ) (histories : ℕ → History)
+    (instances instances' : List (Option (Member M))) (sharing sharing' : List Locations) (groups groups' : List Group) → TablesOk instances sharing groups
+    → WordsStay instances sharing groups instances' sharing' groups'
+    → Keeps laws w instances sharing groups histories → Keeps laws w instances' sharing' groups' histories
+words_seen laws w histories instances instances' sharing sharing' groups groups' ok stays keeps i =
+    slot_seen laws w (histories i) (slot_at instances i) (slot_at instances' i) (shared_at sharing i) (shared_at sharing' i) groups groups' (stays.slot i) (stays.pieces i)
     (λ g space active. stays.blocks g i space active) (λ m at. ok.housed i m at) (keeps i)
 
 pub words_at_rest : (groups groups' : List Group) → InactiveGroupsStay groups groups' → InactiveWordsStay groups groups'

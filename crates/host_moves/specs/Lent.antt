@@ -7,9 +7,9 @@ use Rattle.ialg.specs.Records.{record_at}
 use Rattle.record_loans.specs.declared.pieces.Pieces.{Pieces}
 use Rattle.lifecycle.specs.Rooms.{piece_of_record}
 use Rattle.host_table.specs.declared.member.Member.{Member}
-use Rattle.host_shared.specs.declared.shelves.Shelf.{Shelf}
+use Rattle.host_shared.specs.declared.locations.Locations.{Locations}
 use Rattle.host_table.specs.Table.{slot_at, instance_of, AreAlike}
-use Rattle.host_shared.specs.Shelves.{once_at}
+use Rattle.host_shared.specs.Locations.{shared_at}
 use Rattle.host_moves.specs.Standing.{table_of}
 
 -- the piece of record k of what stands in a slot, which sees these pieces for its write-once records, if it is of this space
@@ -19,11 +19,11 @@ record_in (Some m) seen k space =
     if same_space (record_at (table_of m) k).space space then piece_of_record (table_of m) (instance_of m.inst).own seen k else None
 
 -- the piece of record k that is lent to instance i in this space
-abbrev pub lent_record : {M : Type 0} → List (Option (Member M)) → List Shelf → ℕ → ℕ → Space → Option Span
-lent_record slots once i k space = record_in (slot_at slots i) (once_at once i) k space
+abbrev pub lent_record : {M : Type 0} → List (Option (Member M)) → List Locations → ℕ → ℕ → Space → Option Span
+lent_record instances sharing i k space = record_in (slot_at instances i) (shared_at sharing i) k space
 
 -- both slots have instances, which are alike in write-once record k
-abbrev pub AreHolders : {M : Type 0} → ℕ → Option (Member M) → Option (Member M) → Type 0
-AreHolders k None other = ⊥
-AreHolders k (Some m) None = ⊥
-AreHolders k (Some m) (Some n) = AreAlike k (instance_of m.inst) (instance_of n.inst)
+abbrev pub AreSharers : {M : Type 0} → ℕ → Option (Member M) → Option (Member M) → Type 0
+AreSharers k None other = ⊥
+AreSharers k (Some m) None = ⊥
+AreSharers k (Some m) (Some n) = AreAlike k (instance_of m.inst) (instance_of n.inst)

@@ -1,29 +1,27 @@
 -- One move of a host's blocks.
 use Rattle.std.specs.Prelude.{◌≡◌, ℕ, ℤ, ◌+◌, ◌-◌, ◌^◌, min, List, Option, Some, None}
 use Rattle.mem_rec.specs.declared.Space.{Space}
-use Rattle.ialg.specs.Meaning.{Meaning}
 use Rattle.ialg.specs.History.{History}
+use Rattle.ialg.specs.Laws.{Laws}
 use Rattle.record_loans.specs.Blocks.{block_words}
 use Rattle.scratch_group.specs.declared.group.Group.{Group}
 use Rattle.scratch_group.specs.Blocks.{block_in}
-use Rattle.lifecycle.specs.States.{Relation}
 use Rattle.host_table.specs.declared.member.Member.{Member}
-use Rattle.host_shared.specs.declared.shelves.Shelf.{Shelf}
+use Rattle.host_shared.specs.declared.locations.Locations.{Locations}
 use Rattle.host_table.specs.Table.{TablesOk, group_at, activity_at}
 use Rattle.host_table.specs.Keeps.{Keeps}
 use Rattle.host_table.specs.View.{View}
-use Rattle.host_table.specs.Steps.{Laws}
 use Rattle.host_map.specs.declared.placed.Owner.{Owner}
 use Rattle.host_map.specs.declared.placed.Placed.{Placed}
 use Rattle.host_map.specs.Moves.{next_block}
 use Rattle.host_spaces.specs.declared.spaces.Spaces.{Spaces}
-use Rattle.host_map.specs.Picture.{blocks_in, moved_in}
-use Rattle.host_spaces.specs.Picture.{copied_in, picture_of, sizes_of}
-use Rattle.host_moves.specs.Standing.{AreStanding, SameInstances}
+use Rattle.host_map.specs.MemoryMap.{blocks_in, moved_in}
+use Rattle.host_spaces.specs.MemoryMap.{copied_in, map_of, sizes_of}
+use Rattle.host_moves.specs.Standing.{AgreeWithMap, SameInstances}
 
 -- the next block that moves in the space is this owner's
 abbrev pub IsNextOf : Spaces → Space → Owner → Type 0
-IsNextOf spaces space owner = (b : Placed) × ((next_block (blocks_in (picture_of spaces) space) ≡ Some b) × (b.owner ≡ owner))
+IsNextOf spaces space owner = (b : Placed) × ((next_block (blocks_in (map_of spaces) space) ≡ Some b) × (b.owner ≡ owner))
 
 -- the blocks of a group without an active member have the words that they had
 abbrev pub InactiveWordsStay : List Group → List Group → Type 0
@@ -31,21 +29,21 @@ InactiveWordsStay groups groups' = (g : ℕ) (space : Space) → (group_at group
     → block_words (block_in (group_at groups' g) space) ≡ block_words (block_in (group_at groups g) space)
 
 -- the next block of a space was moved, and whoever has records in it was told: each instance is the same, in its state, and keeps its history
-pub record HasMoved {M : Type 0} (meaning : Meaning M) (idle_keeps active_keeps : Relation M) (space : Space)
-    (slots : List (Option (Member M))) (once : List Shelf) (groups : List Group) (spaces : Spaces)
-    (slots' : List (Option (Member M))) (once' : List Shelf) (groups' : List Group) (spaces' : Spaces) : Type 0 where
-  pub ok : TablesOk slots' once' groups'
-  pub standing : AreStanding slots' once' groups' spaces'
+pub record HasMoved {M : Type 0} (laws : Laws M) (space : Space)
+    (instances : List (Option (Member M))) (sharing : List Locations) (groups : List Group) (spaces : Spaces)
+    (instances' : List (Option (Member M))) (sharing' : List Locations) (groups' : List Group) (spaces' : Spaces) : Type 0 where
+  pub ok : TablesOk instances' sharing' groups'
+  pub standing : AgreeWithMap instances' sharing' groups' spaces'
   pub words : InactiveWordsStay groups groups'
-  pub same : SameInstances slots slots'
+  pub same : SameInstances instances instances'
   pub activity : (k : ℕ) → activity_at groups' k ≡ activity_at groups k
-  pub picture : picture_of spaces' ≡ moved_in (picture_of spaces) space
+  pub map : map_of spaces' ≡ moved_in (map_of spaces) space
   pub sizes : sizes_of spaces' ≡ sizes_of spaces
-  pub copied : (b : Placed) → next_block (blocks_in (picture_of spaces) space) ≡ Some b → copied_in spaces' ≡ min (copied_in spaces + b.size) (2 ^ 64 - 1)
-  pub keeps : (w : Option ℤ) (histories : ℕ → History) → Keeps meaning idle_keeps active_keeps w slots once groups histories
-      → Keeps meaning idle_keeps active_keeps w slots' once' groups' histories
+  pub copied : (b : Placed) → next_block (blocks_in (map_of spaces) space) ≡ Some b → copied_in spaces' ≡ min (copied_in spaces + b.size) (2 ^ 64 - 1)
+  pub keeps : (w : Option ℤ) (histories : ℕ → History) → Keeps laws w instances sharing groups histories
+      → Keeps laws w instances' sharing' groups' histories
 
 -- the same, of all that the tables hold
 abbrev pub Moved : {M : Type 0} → Laws M → Space → View M → Spaces → View M → Spaces → Type 0
 Moved laws space old spaces new spaces' =
-    HasMoved laws.meaning laws.idle_keeps laws.active_keeps space old.slots old.once old.groups spaces new.slots new.once new.groups spaces'
+    HasMoved laws space old.instances old.sharing old.groups spaces new.instances new.sharing new.groups spaces'

@@ -11,10 +11,10 @@ use Rattle.scratch_group.specs.Blocks.{block_in}
 use Rattle.lifecycle.specs.declared.instance.Inst.{Inst}
 use Rattle.lifecycle.specs.declared.instance.Inst.TheVariants.{Idling, Running}
 use Rattle.host_table.specs.declared.member.Member.{Member}
-use Rattle.host_shared.specs.declared.shelves.Shelf.{Shelf}
+use Rattle.host_shared.specs.declared.locations.Locations.{Locations}
 use Rattle.lifecycle.specs.Moves.{HasRoom}
-use Rattle.host_shared.specs.Shelves.{home_of, once_at}
-use Rattle.host_shared.specs.Homes.{with_seen}
+use Rattle.host_shared.specs.Locations.{owner_of, shared_at}
+use Rattle.host_shared.specs.Owners.{with_pieces_of}
 use Rattle.host_table.specs.Table.{slot_at, group_at, instance_of, active_in, slot_active_in, Tables, IsHoused}
 
 -- an instance with these pieces for its own records
@@ -28,36 +28,36 @@ slot_with (Some m) own = Some (record m { inst = inst_with m.inst own })
 
 -- the slots, where instance i has these pieces
 abbrev pub own_set : {M : Type 0} → List (Option (Member M)) → ℕ → Pieces → List (Option (Member M))
-own_set slots i own = slice_set slots i (slot_with (slot_at slots i) own)
+own_set instances i own = slice_set instances i (slot_with (slot_at instances i) own)
 
 -- the tables, whatever holds of their instances
 abbrev pub IsThere : {M : Type 0} → ℕ → Member M → Pieces → Group → Type 0
 IsThere j m o y = Unit {0}
 
-abbrev pub TablesThere : {M : Type 0} → List (Option (Member M)) → List Shelf → List Group → Type 0
-TablesThere slots once groups = Tables IsThere slots once groups
+abbrev pub TablesThere : {M : Type 0} → List (Option (Member M)) → List Locations → List Group → Type 0
+TablesThere instances sharing groups = Tables IsThere instances sharing groups
 
 -- each instance but i is housed
 abbrev pub IsHousedBut : {M : Type 0} → ℕ → ℕ → Member M → Pieces → Group → Type 0
 IsHousedBut i j m o y = j ≢ i → IsHoused (instance_of m.inst) o y
 
-abbrev pub TablesBut : {M : Type 0} → ℕ → List (Option (Member M)) → List Shelf → List Group → Type 0
-TablesBut i slots once groups = Tables (IsHousedBut i) slots once groups
+abbrev pub TablesBut : {M : Type 0} → ℕ → List (Option (Member M)) → List Locations → List Group → Type 0
+TablesBut i instances sharing groups = Tables (IsHousedBut i) instances sharing groups
 
 -- those that wait to be told have room where their records lie, and each other one is housed
 pub record IsWaiting {M : Type 0} (waits : ℕ → Bool) (j : ℕ) (m : Member M) (o : Pieces) (y : Group) : Type 0 where
   pub told : waits j ≡ false → IsHoused (instance_of m.inst) o y
   pub room : waits j ≡ true → HasRoom (instance_of m.inst) o y
 
-abbrev pub TablesWaiting : {M : Type 0} → (ℕ → Bool) → List (Option (Member M)) → List Shelf → List Group → Type 0
-TablesWaiting waits slots once groups = Tables (IsWaiting waits) slots once groups
+abbrev pub TablesWaiting : {M : Type 0} → (ℕ → Bool) → List (Option (Member M)) → List Locations → List Group → Type 0
+TablesWaiting waits instances sharing groups = Tables (IsWaiting waits) instances sharing groups
 
 -- the same, while the pieces of instance i are away or it isn't told
 abbrev pub IsWaitingBut : {M : Type 0} → (ℕ → Bool) → ℕ → ℕ → Member M → Pieces → Group → Type 0
 IsWaitingBut waits i j m o y = j ≢ i → IsWaiting waits j m o y
 
-abbrev pub TablesWaitingBut : {M : Type 0} → (ℕ → Bool) → ℕ → List (Option (Member M)) → List Shelf → List Group → Type 0
-TablesWaitingBut waits i slots once groups = Tables (IsWaitingBut waits i) slots once groups
+abbrev pub TablesWaitingBut : {M : Type 0} → (ℕ → Bool) → ℕ → List (Option (Member M)) → List Locations → List Group → Type 0
+TablesWaitingBut waits i instances sharing groups = Tables (IsWaitingBut waits i) instances sharing groups
 
 -- all of them but i
 abbrev pub all_but : (ℕ → Bool) → ℕ → ℕ → Bool
@@ -67,13 +67,13 @@ all_but waits i j = if nat_eq j i then false else waits j
 abbrev pub all_from : (ℕ → Bool) → ℕ → ℕ → Bool
 all_from waits n j = if nat_lt j n then false else waits j
 
--- the shelves, where the piece of record k of instance i is this one
-abbrev pub slid_to : List Shelf → ℕ → ℕ → Span → List Shelf
-slid_to once i k q = with_seen once i (with_piece (once_at once i) k (Some q))
+-- the locations, where the piece of record k of instance i is this one
+abbrev pub slid_to : List Locations → ℕ → ℕ → Span → List Locations
+slid_to sharing i k q = with_pieces_of sharing i (with_piece (shared_at sharing i) k (Some q))
 
--- those whose record k stands with instance i
-abbrev pub holds_with : List Shelf → ℕ → ℕ → ℕ → Bool
-holds_with once i k j = nat_eq (home_of once j k) i
+-- those that share record k with its owner i, and the owner
+abbrev pub holds_with : List Locations → ℕ → ℕ → ℕ → Bool
+holds_with sharing i k j = nat_eq (owner_of sharing j k) i
 
 -- the same words, wherever the pieces lie
 abbrev pub SameWords : Pieces → Pieces → Type 0
@@ -99,8 +99,8 @@ BlockStays None new = Unit {0}
 BlockStays (Some b) new = block_words new ≡ b.piece.words
 
 -- the same instances in the same states, whose words are the same; those of a group's blocks, where one of its members is active
-pub record WordsStay {M : Type 0} (slots : List (Option (Member M))) (once : List Shelf) (groups : List Group)
-    (slots' : List (Option (Member M))) (once' : List Shelf) (groups' : List Group) : Type 0 where
-  pub slot : (i : ℕ) → SlotStays (slot_at slots i) (slot_at slots' i)
-  pub pieces : (i : ℕ) → SameWords (once_at once i) (once_at once' i)
-  pub blocks : (g i : ℕ) (space : Space) → slot_active_in (slot_at slots i) ≡ Some g → BlockStays (block_in (group_at groups g) space) (block_in (group_at groups' g) space)
+pub record WordsStay {M : Type 0} (instances : List (Option (Member M))) (sharing : List Locations) (groups : List Group)
+    (instances' : List (Option (Member M))) (sharing' : List Locations) (groups' : List Group) : Type 0 where
+  pub slot : (i : ℕ) → SlotStays (slot_at instances i) (slot_at instances' i)
+  pub pieces : (i : ℕ) → SameWords (shared_at sharing i) (shared_at sharing' i)
+  pub blocks : (g i : ℕ) (space : Space) → slot_active_in (slot_at instances i) ≡ Some g → BlockStays (block_in (group_at groups g) space) (block_in (group_at groups' g) space)

@@ -12,10 +12,10 @@ ghost use Rattle.scratch_group.specs.declared.group.Group.{Group};
 ghost use Rattle.scratch_group.specs.Blocks.{block_in};
 ghost use Rattle.lifecycle.specs.Moves.{HasRoom};
 ghost use Rattle.host_table.specs.declared.member.Member.{Member};
-ghost use Rattle.host_shared.specs.declared.shelves.Shelf.{Shelf};
-ghost use Rattle.host_shared.specs.declared.shelves.Stand.TheVariants.{Here};
-ghost use Rattle.host_shared.specs.Shelves.{stand_at, shelf_at, pieces_here, once_at};
-ghost use Rattle.host_shared.specs.Homes.{AllHaveHomes};
+ghost use Rattle.host_shared.specs.declared.locations.Locations.{Locations};
+ghost use Rattle.host_shared.specs.declared.locations.Location.TheVariants.{Here};
+ghost use Rattle.host_shared.specs.Locations.{location_at, locations_at, pieces_here, shared_at};
+ghost use Rattle.host_shared.specs.Owners.{AllHaveOwners};
 ghost use Rattle.host_table.specs.Table.{slot_at, group_at, instance_of, activity_at, TablesOk, TablesTold, ArePoisoned};
 ghost use Rattle.host_table.specs.Keeps.{Keeps};
 ghost use Rattle.host_moves.specs.Waiting.{own_set, slid_to, holds_with, TablesBut, TablesWaiting, WordsStay};
@@ -24,41 +24,41 @@ use ialg::Ialg;
 
 /// The law that an instance keeps its history wherever its words lie; and that no member of a group sees blocks in which it has no words.
 pub fn words<M: Ialg>()
-    ensures { (w : Option ℤ) (histories : ℕ → History) (slots slots' : List (Option (Member M))) (once once' : List Shelf) (groups groups' : List Group)
-        → TablesOk slots once groups → WordsStay slots once groups slots' once' groups'
-        → Keeps M.meaning M.idle_keeps M.active_keeps w slots once groups histories
-        → Keeps M.meaning M.idle_keeps M.active_keeps w slots' once' groups' histories }
+    ensures { (w : Option ℤ) (histories : ℕ → History) (instances instances' : List (Option (Member M))) (sharing sharing' : List Locations) (groups groups' : List Group)
+        → TablesOk instances sharing groups → WordsStay instances sharing groups instances' sharing' groups'
+        → Keeps M.law w instances sharing groups histories
+        → Keeps M.law w instances' sharing' groups' histories }
 {}
 
 /// The law that the pieces of one instance concern no other.
 pub fn apart<M: Ialg>()
-    ensures all { (i : ℕ) (slots : List (Option (Member M))) (once : List Shelf) (groups : List Group) → TablesOk slots once groups → TablesBut i slots once groups }
-    ensures own { (i : ℕ) (own : Pieces) (slots : List (Option (Member M))) (once : List Shelf) (groups : List Group)
-        → TablesBut i slots once groups → TablesBut i (own_set slots i own) once groups }
+    ensures all { (i : ℕ) (instances : List (Option (Member M))) (sharing : List Locations) (groups : List Group) → TablesOk instances sharing groups → TablesBut i instances sharing groups }
+    ensures own { (i : ℕ) (own : Pieces) (instances : List (Option (Member M))) (sharing : List Locations) (groups : List Group)
+        → TablesBut i instances sharing groups → TablesBut i (own_set instances i own) sharing groups }
 {}
 
-/// The law that after a write-once piece lies elsewhere, in which its holders have room, these wait to be told, and no other instance does.
+/// The law that after a write-once piece lies elsewhere, in which its sharers have room, these wait to be told, and no other instance does.
 /// Nothing stands with another instance than before.
 pub fn slid<M: Ialg>()
-    ensures waiting { (i k : ℕ) (p q : Span) (slots : List (Option (Member M))) (once : List Shelf) (groups : List Group) → TablesOk slots once groups
-        → k < TABLE_RECORDS → stand_at (shelf_at once i) k ≡ Here (Some p)
-        → ((j : ℕ) (m : Member M) → slot_at slots j ≡ Some m → holds_with once i k j ≡ true
-        → HasRoom (instance_of m.inst) (once_at (slid_to once i k q) j) (group_at groups m.group))
-        → TablesWaiting (holds_with (slid_to once i k q) i k) slots (slid_to once i k q) groups }
-    ensures seen { (i k : ℕ) (p q : Span) (once : List Shelf) → AllHaveHomes once → k < TABLE_RECORDS → stand_at (shelf_at once i) k ≡ Here (Some p)
-        → (j : ℕ) → once_at (slid_to once i k q) j ≡ (if holds_with once i k j then with_piece (once_at once j) k (Some q) else once_at once j) }
-    ensures here { (i k : ℕ) (p q : Span) (once : List Shelf) → AllHaveHomes once → k < TABLE_RECORDS → stand_at (shelf_at once i) k ≡ Here (Some p)
-        → (j : ℕ) → pieces_here (shelf_at (slid_to once i k q) j) ≡ (if nat_eq j i then with_piece (pieces_here (shelf_at once j)) k (Some q) else pieces_here (shelf_at once j)) }
+    ensures waiting { (i k : ℕ) (p q : Span) (instances : List (Option (Member M))) (sharing : List Locations) (groups : List Group) → TablesOk instances sharing groups
+        → k < TABLE_RECORDS → location_at (locations_at sharing i) k ≡ Here (Some p)
+        → ((j : ℕ) (m : Member M) → slot_at instances j ≡ Some m → holds_with sharing i k j ≡ true
+        → HasRoom (instance_of m.inst) (shared_at (slid_to sharing i k q) j) (group_at groups m.group))
+        → TablesWaiting (holds_with (slid_to sharing i k q) i k) instances (slid_to sharing i k q) groups }
+    ensures seen { (i k : ℕ) (p q : Span) (sharing : List Locations) → AllHaveOwners sharing → k < TABLE_RECORDS → location_at (locations_at sharing i) k ≡ Here (Some p)
+        → (j : ℕ) → shared_at (slid_to sharing i k q) j ≡ (if holds_with sharing i k j then with_piece (shared_at sharing j) k (Some q) else shared_at sharing j) }
+    ensures here { (i k : ℕ) (p q : Span) (sharing : List Locations) → AllHaveOwners sharing → k < TABLE_RECORDS → location_at (locations_at sharing i) k ≡ Here (Some p)
+        → (j : ℕ) → pieces_here (locations_at (slid_to sharing i k q) j) ≡ (if nat_eq j i then with_piece (pieces_here (locations_at sharing j)) k (Some q) else pieces_here (locations_at sharing j)) }
 {}
 
 /// The law that after a change of a group's blocks, in which its members have room, these wait to be told, and no other instance does.
 pub fn waiting<M: Ialg>()
-    ensures { (g : ℕ) (slots : List (Option (Member M))) (once : List Shelf) (groups groups' : List Group) → TablesOk slots once groups
+    ensures { (g : ℕ) (instances : List (Option (Member M))) (sharing : List Locations) (groups groups' : List Group) → TablesOk instances sharing groups
         → length groups' ≡ GROUPS
         → ((k : ℕ) → activity_at groups' k ≡ activity_at groups k)
         → ((k : ℕ) (space : Space) → k ≢ g → block_in (group_at groups' k) space ≡ block_in (group_at groups k) space)
-        → ((i : ℕ) (m : Member M) → slot_at slots i ≡ Some m → m.group ≡ g → HasRoom (instance_of m.inst) (once_at once i) (group_at groups' g))
-        → TablesTold g 0 slots once groups' }
+        → ((i : ℕ) (m : Member M) → slot_at instances i ≡ Some m → m.group ≡ g → HasRoom (instance_of m.inst) (shared_at sharing i) (group_at groups' g))
+        → TablesTold g 0 instances sharing groups' }
 {}
 
 /// The law that where no member is active the blocks hold the poison word still, if each that changes holds it.

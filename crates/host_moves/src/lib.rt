@@ -7,6 +7,7 @@
 #![tactic(auto)]
 
 mod blocks;
+mod compaction;
 mod held_laws;
 mod laws;
 mod moves;
@@ -15,9 +16,9 @@ mod records;
 mod told;
 
 pub use blocks::{put_block, take_block};
+pub use compaction::{compact, step};
 pub use held_laws::{apart, poisoned, slid, waiting, words};
-pub use laws::{loans_are_apart, maps_have_room, nobody_stands, places_stay};
-pub use moves::make_next_move;
+pub use laws::{loans_are_apart, maps_have_room};
 pub use order::in_order;
 pub use records::{put_once, take_once, take_own};
-pub use told::{tell, tell_holders};
+pub use told::{call_moved_of_sharers, tell};

@@ -3,21 +3,21 @@ ghost use Rattle.std.specs.Prelude.{◌≡◌, ◌<◌, length, true, false, Som
 ghost use Rattle.record_loans.specs.Pieces.{piece_at};
 ghost use Rattle.mem_rec.specs.declared.TheConstants.{INSTANCES, GROUPS};
 ghost use Rattle.host_table.specs.Table.{slot_at, own_of};
-ghost use Rattle.host_shared.specs.Shelves.{once_at};
+ghost use Rattle.host_shared.specs.Locations.{shared_at};
 ghost use Rattle.host_map.specs.declared.placed.Owner.{Owner};
 ghost use Rattle.host_map.specs.declared.placed.Placed.{Placed};
 ghost use Rattle.host_map.specs.Moves.{next_block};
-ghost use Rattle.host_map.specs.Picture.{blocks_in};
-ghost use Rattle.host_spaces.specs.Picture.{picture_of};
+ghost use Rattle.host_map.specs.MemoryMap.{blocks_in};
+ghost use Rattle.host_spaces.specs.MemoryMap.{map_of};
 ghost use Rattle.host_moves.specs.Moves.{IsNextOf, Moved};
-ghost use Rattle.host_table.specs.Steps.{AreConsistent, laws};
+ghost use Rattle.host_table.specs.Steps.{AreConsistent};
 ghost use Rattle.host_moves.specs.Standing.{MapAgrees};
 
 use crate::blocks::{put_block, take_block};
 use crate::order::in_order;
 use crate::records::{put_once, take_once, take_own};
-use crate::told::{tell, tell_holders};
-use host_life::tell_members;
+use crate::told::{call_moved_of_sharers, tell};
+use host_life::call_moved_in_group;
 use host_map::Owner;
 use host_shared::sees;
 use host_spaces::Spaces;
@@ -31,29 +31,29 @@ fn move_own<M: Ialg>(tables: &mut Tables<M>, spaces: &mut Spaces, space: Space, 
     requires ok { AreConsistent tables.old }
     requires standing { MapAgrees tables.old spaces.old }
     requires next { IsNextOf spaces.old space (Owner.Record i k) }
-    requires own { IsSome (piece_at (own_of (slot_at tables.old.slots i)) k) }
-    ensures { Moved (laws M.meaning M.idle_keeps M.active_keeps) space tables.old spaces.old tables.new spaces.new }
+    requires own { IsSome (piece_at (own_of (slot_at tables.old.instances i)) k) }
+    ensures { Moved M.law space tables.old spaces.old tables.new spaces.new }
 {
-    let piece = take_own(&mut tables.slots, i, k as usize);
+    let piece = take_own(&mut tables.instances, i, k as usize);
     let moved = spaces.make_move(space, piece);
     in_order(spaces);
     tell(tables, i, Some((k as usize, moved)));
 }
 
-/// Moves a write-once record that stands with an instance. All its holders are told.
+/// Moves a write-once record that instance `i` owns, and calls algMoved of every instance that shares it.
 fn move_once<M: Ialg>(tables: &mut Tables<M>, spaces: &mut Spaces, space: Space, i: u8, k: u8)
     requires ok { AreConsistent tables.old }
     requires standing { MapAgrees tables.old spaces.old }
     requires next { IsNextOf spaces.old space (Owner.Record i k) }
-    requires number { i < length tables.old.once }
-    requires shared { IsSome (piece_at (once_at tables.old.once i) k) }
-    ensures { Moved (laws M.meaning M.idle_keeps M.active_keeps) space tables.old spaces.old tables.new spaces.new }
+    requires number { i < length tables.old.sharing }
+    requires shared { IsSome (piece_at (shared_at tables.old.sharing i) k) }
+    ensures { Moved M.law space tables.old spaces.old tables.new spaces.new }
 {
-    let piece = take_once(&mut tables.once, i, k as usize);
+    let piece = take_once(&mut tables.sharing, i, k as usize);
     let moved = spaces.make_move(space, piece);
     in_order(spaces);
-    put_once(&mut tables.once, i, k as usize, moved);
-    tell_holders(tables, i, k as usize);
+    put_once(&mut tables.sharing, i, k as usize, moved);
+    call_moved_of_sharers(tables, i, k as usize);
 }
 
 /// Moves the block of a group.
@@ -62,8 +62,8 @@ fn move_block<M: Ialg>(tables: &mut Tables<M>, spaces: &mut Spaces, space: Space
     requires standing { MapAgrees tables.old spaces.old }
     requires number { g < GROUPS }
     requires next { IsNextOf spaces.old space (Owner.Scratch g) }
-    requires align { (b : Placed) → next_block (blocks_in (picture_of spaces.old) space) ≡ Some b → b.align ≡ align }
-    ensures { Moved (laws M.meaning M.idle_keeps M.active_keeps) space tables.old spaces.old tables.new spaces.new }
+    requires align { (b : Placed) → next_block (blocks_in (map_of spaces.old) space) ≡ Some b → b.align ≡ align }
+    ensures { Moved M.law space tables.old spaces.old tables.new spaces.new }
 {
     match take_block(&mut tables.groups, g, space) {
         Some(piece) => {
@@ -71,7 +71,12 @@ fn move_block<M: Ialg>(tables: &mut Tables<M>, spaces: &mut Spaces, space: Space
             in_order(spaces);
             let old = put_block(&mut tables.groups, g, space, moved, align);
             end_none(old);
-            tell_members(&mut tables.slots, &mut tables.once, &mut tables.groups, g);
+            call_moved_in_group(
+                &mut tables.instances,
+                &mut tables.sharing,
+                &mut tables.groups,
+                g,
+            );
         }
         None => unreachable!(),
     }
@@ -93,8 +98,8 @@ fn end_none(piece: Option<Piece>)
 pub fn make_next_move<M: Ialg>(tables: &mut Tables<M>, spaces: &mut Spaces, space: Space) -> bool
     requires ok { AreConsistent tables.old }
     requires standing { MapAgrees tables.old spaces.old }
-    ensures answer { result ≡ is_some (next_block (blocks_in (picture_of spaces.old) space)) }
-    ensures moved { result ≡ true → Moved (laws M.meaning M.idle_keeps M.active_keeps) space tables.old spaces.old tables.new spaces.new }
+    ensures answer { result ≡ is_some (next_block (blocks_in (map_of spaces.old) space)) }
+    ensures moved { result ≡ true → Moved M.law space tables.old spaces.old tables.new spaces.new }
     ensures packed { result ≡ false → (tables.new ≡ tables.old) × (spaces.new ≡ spaces.old) }
 {
     let Some(block) = spaces.next_move(space) else {
@@ -102,7 +107,7 @@ pub fn make_next_move<M: Ialg>(tables: &mut Tables<M>, spaces: &mut Spaces, spac
     };
     match block.owner {
         Owner::Record(i, k) => {
-            if sees(&tables.once, i as usize, k as usize) {
+            if sees(&tables.sharing, i as usize, k as usize) {
                 move_once(tables, spaces, space, i, k);
             } else {
                 move_own(tables, spaces, space, i, k);

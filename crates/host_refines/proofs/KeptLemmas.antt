@@ -6,20 +6,21 @@ use Rattle.ialg.specs.declared.refusal.Refusal.TheVariants.{Command}
 use Rattle.std.proofs.lemmas.Bool.Decides.{eqb_tells}
 use Rattle.relocate.proofs.RangeTests.{either}
 use Rattle.ialg.specs.History.{History, Ctl, Control, with_samples}
-use Rattle.ialg.specs.Meaning.{Meaning, Status, outputs_of, status_of}
+use Rattle.ialg.specs.Meaning.{Status, outputs_of, status_of}
 use Rattle.ialg.specs.Records.{unplaced}
+use Rattle.ialg.specs.Laws.{Laws}
 use Rattle.scratch_group.specs.declared.group.Group.{Group}
-use Rattle.lifecycle.specs.States.{Relation, IsLawful, all_outputs, status_after}
+use Rattle.lifecycle.specs.States.{IsLawful, all_outputs, status_after}
 use Rattle.host_table.specs.declared.member.Member.{Member}
-use Rattle.host_shared.specs.declared.shelves.Shelf.{Shelf}
-use Rattle.host_map.specs.Activity.{Activity, touched, rested, with_activity}
-use Rattle.host_table.specs.Table.{slot_at, group_at, group_of, instance_of, activity_at, touched_by}
-use Rattle.host_shared.specs.Shelves.{once_at}
+use Rattle.host_shared.specs.declared.locations.Locations.{Locations}
+use Rattle.host_map.specs.Activity.{Activity, activated, deactivated, with_activity}
+use Rattle.host_table.specs.Table.{slot_at, group_at, group_of, instance_of, activity_at, activated_by}
+use Rattle.host_shared.specs.Locations.{shared_at}
 use Rattle.host_table.specs.Keeps.{Keeps, SlotKeeps, with_history}
 use Rattle.host_table.specs.Frames.{SameSlot, SameTables, IsSameMember, SameMembers}
 use Rattle.host_spec.specs.State.{Living, State, with_living}
 use Rattle.host_spec.specs.Choices.{MayGive, MayAnswer}
-use Rattle.host_spec.specs.Steps.{Outcome, touching, processed, release}
+use Rattle.host_spec.specs.Steps.{Outcome, activating, processed, release}
 use Rattle.host_spec.specs.Calls.{Processes, Controls}
 use Rattle.host_spec.proofs.OutcomeLemmas.{process_some, release_granted, control_granted, control_command}
 use Rattle.host_refines.specs.Kept.{IsInstance, IsLiving, history_of, TablesKeep}
@@ -79,140 +80,140 @@ module _ {M : Type 0} where
       (λ same. ap (λ b. cond b h (history_of (living j))) same.0 ∙ sym (ap (λ b. history_of (cond b (Some (record x { history = h })) (living j))) same.0))
       (λ apart. ap (λ b. cond b h (history_of (living j))) apart.0 ∙ sym (ap (λ b. history_of (cond b (Some (record x { history = h })) (living j))) apart.0))
 
-module _ {M : Type 0} (meaning : Meaning M) (idle_keeps active_keeps : Relation M) where
-  keeps_these : (w : Option ℤ) (slots : List (Option (Member M))) (once : List Shelf) (groups : List Group) (old new : ℕ → History)
-      → ((i : ℕ) → old i ≡ new i) → Keeps meaning idle_keeps active_keeps w slots once groups old → Keeps meaning idle_keeps active_keeps w slots once groups new
-  keeps_these w slots once groups old new same keeps =
-      λ i. subst (λ h. SlotKeeps meaning idle_keeps active_keeps w (slot_at slots i) (once_at once i) groups h) (same i) (keeps i)
+module _ {M : Type 0} (laws : Laws M) where
+  keeps_these : (w : Option ℤ) (instances : List (Option (Member M))) (sharing : List Locations) (groups : List Group) (old new : ℕ → History)
+      → ((i : ℕ) → old i ≡ new i) → Keeps laws w instances sharing groups old → Keeps laws w instances sharing groups new
+  keeps_these w instances sharing groups old new same keeps =
+      λ i. subst (λ h. SlotKeeps laws w (slot_at instances i) (shared_at sharing i) groups h) (same i) (keeps i)
 
-  module _ (slots : List (Option (Member M))) (once : List Shelf) (groups : List Group)
-      (slots' : List (Option (Member M))) (once' : List Shelf) (groups' : List Group) (before : State M) (i : ℕ) where
+  module _ (instances : List (Option (Member M))) (sharing : List Locations) (groups : List Group)
+      (instances' : List (Option (Member M))) (sharing' : List Locations) (groups' : List Group) (before : State M) (i : ℕ) where
     abbrev Kept : State M → Type 0
-    Kept state = TablesKeep meaning idle_keeps active_keeps slots' once' groups' state
+    Kept state = TablesKeep laws instances' sharing' groups' state
 
     -- an instance was touched, and its history is h now
-    module _ (kept : TablesKeep meaning idle_keeps active_keeps slots once groups before)
-        (its : Found (slot_at slots i) (before.living i)) (h : History)
-        (same : SameTables slots once groups slots' once' groups')
-        (activity : (k : ℕ) → activity_at groups' k ≡ touched_by slots groups i k)
-        (keeps : Keeps meaning idle_keeps active_keeps before.poison slots' once' groups' (with_history (λ j. history_of (before.living j)) i h)) where
+    module _ (kept : TablesKeep laws instances sharing groups before)
+        (its : Found (slot_at instances i) (before.living i)) (h : History)
+        (same : SameTables instances sharing groups instances' sharing' groups')
+        (activity : (k : ℕ) → activity_at groups' k ≡ activated_by instances groups i k)
+        (keeps : Keeps laws before.poison instances' sharing' groups' (with_history (λ j. history_of (before.living j)) i h)) where
       abbrev aged_x : Living M
       aged_x = record its.instance { history = h }
 
-      lives_on : (j : ℕ) → IsLiving (slot_at slots' j) (with_living before.living i (Some aged_x) j)
+      lives_on : (j : ℕ) → IsLiving (slot_at instances' j) (with_living before.living i (Some aged_x) j)
       lives_on j =
-          let stays = same_living (slot_at slots j) (slot_at slots' j) (before.living j) (same.slot j) (kept.living j) in
+          let stays = same_living (slot_at instances j) (slot_at instances' j) (before.living j) (same.slot j) (kept.living j) in
           either (eqb_tells j i)
-          (λ here. subst (IsLiving (slot_at slots' j)) (sym (ap (λ b. cond b (Some aged_x) (before.living j)) here.0))
-          (aged (slot_at slots' j) its.instance h (subst (IsLiving (slot_at slots' j)) (ap before.living here.1 ∙ its.lives) stays)))
-          (λ apart. subst (IsLiving (slot_at slots' j)) (sym (at_other before.living i (Some aged_x) j apart.0)) stays)
+          (λ here. subst (IsLiving (slot_at instances' j)) (sym (ap (λ b. cond b (Some aged_x) (before.living j)) here.0))
+          (aged (slot_at instances' j) its.instance h (subst (IsLiving (slot_at instances' j)) (ap before.living here.1 ∙ its.lives) stays)))
+          (λ apart. subst (IsLiving (slot_at instances' j)) (sym (at_other before.living i (Some aged_x) j apart.0)) stays)
 
       -- the group of the slot is the instance's
-      its_group : group_of (slot_at slots i) ≡ its.instance.group
+      its_group : group_of (slot_at instances i) ≡ its.instance.group
       its_group = ap group_of its.there ∙ its.is.group
 
-      active_now : (k : ℕ) → activity_at groups' k ≡ with_activity before.activity its.instance.group (touched i (before.activity its.instance.group)) k
+      active_now : (k : ℕ) → activity_at groups' k ≡ with_activity before.activity its.instance.group (activated i (before.activity its.instance.group)) k
       active_now k =
           activity k
-          ∙ ap (λ g. with_activity (activity_at groups) g (touched i (activity_at groups g)) k) its_group
-          ∙ ap (λ a. with_activity (activity_at groups) its.instance.group (touched i a) k) (kept.activity its.instance.group)
-          ∙ ap (λ a. cond (nat_eq k its.instance.group) (touched i (before.activity its.instance.group)) a) (kept.activity k)
+          ∙ ap (λ g. with_activity (activity_at groups) g (activated i (activity_at groups g)) k) its_group
+          ∙ ap (λ a. with_activity (activity_at groups) its.instance.group (activated i a) k) (kept.activity its.instance.group)
+          ∙ ap (λ a. cond (nat_eq k its.instance.group) (activated i (before.activity its.instance.group)) a) (kept.activity k)
 
-      pub kept_touching : Kept (touching before i aged_x)
+      pub kept_touching : Kept (activating before i aged_x)
       kept_touching = record {
         living = lives_on;
         activity = active_now;
-        histories = keeps_these before.poison slots' once' groups' (with_history (λ j. history_of (before.living j)) i h)
+        histories = keeps_these before.poison instances' sharing' groups' (with_history (λ j. history_of (before.living j)) i h)
             (λ j. history_of (with_living before.living i (Some aged_x) j)) (history_with before.living i its.instance h) keeps;
       }
 
     -- what a call keeps, in a host of this poison word
     abbrev pub KeepsBy : (History → History) → Option ℤ → Type 0
-    KeepsBy longer w = (histories : ℕ → History) → Keeps meaning idle_keeps active_keeps w slots once groups histories
-        → Keeps meaning idle_keeps active_keeps w slots' once' groups' (with_history histories i (longer (histories i)))
+    KeepsBy longer w = (histories : ℕ → History) → Keeps laws w instances sharing groups histories
+        → Keeps laws w instances' sharing' groups' (with_history histories i (longer (histories i)))
 
     -- what a block gives
     abbrev pub GivesBy : List ℤ → List ℤ → Option ℤ → Type 0
-    GivesBy block out w = (histories : ℕ → History) → Keeps meaning idle_keeps active_keeps w slots once groups histories
-        → (m : Member M) → slot_at slots i ≡ Some m → IsLawful meaning (instance_of m.inst) w
-        → all_outputs meaning (instance_of m.inst) (with_samples (histories i) block) ≡ all_outputs meaning (instance_of m.inst) (histories i) ++ out
+    GivesBy block out w = (histories : ℕ → History) → Keeps laws w instances sharing groups histories
+        → (m : Member M) → slot_at instances i ≡ Some m → IsLawful laws.meaning (instance_of m.inst) w
+        → all_outputs laws.meaning (instance_of m.inst) (with_samples (histories i) block) ≡ all_outputs laws.meaning (instance_of m.inst) (histories i) ++ out
 
     -- a block of samples
-    module _ (kept : TablesKeep meaning idle_keeps active_keeps slots once groups before) (block out : List ℤ)
-        (same : SameTables slots once groups slots' once' groups')
-        (activity : (k : ℕ) → activity_at groups' k ≡ touched_by slots groups i k)
+    module _ (kept : TablesKeep laws instances sharing groups before) (block out : List ℤ)
+        (same : SameTables instances sharing groups instances' sharing' groups')
+        (activity : (k : ℕ) → activity_at groups' k ≡ activated_by instances groups i k)
         (keeps : KeepsBy (λ h. with_samples h block) before.poison)
         (output : GivesBy block out before.poison)
         (bounded : length out ≤ length block) (some : 1 ≤ length block) where
       abbrev histories : ℕ → History
       histories j = history_of (before.living j)
 
-      module _ (its : Found (slot_at slots i) (before.living i)) where
+      module _ (its : Found (slot_at instances i) (before.living i)) where
         its_history : histories i ≡ its.instance.history
         its_history = ap history_of its.lives
 
-        outputs_by_instance : (h : History) → all_outputs meaning (instance_of its.member.inst) h ≡ outputs_of meaning its.instance.kind its.instance.params h
-        outputs_by_instance h = ap (λ k. outputs_of meaning k (instance_of its.member.inst).params.items h) its.is.kind ∙ ap (λ p. outputs_of meaning its.instance.kind p h) its.is.params
+        outputs_by_instance : (h : History) → all_outputs laws.meaning (instance_of its.member.inst) h ≡ outputs_of laws.meaning its.instance.kind its.instance.params h
+        outputs_by_instance h = ap (λ k. outputs_of laws.meaning k (instance_of its.member.inst).params.items h) its.is.kind ∙ ap (λ p. outputs_of laws.meaning its.instance.kind p h) its.is.params
 
-        gives : MayGive meaning before.poison its.instance block out
+        gives : MayGive laws.meaning before.poison its.instance block out
         gives = record {
           lawful = λ lawful.
-              let its_own : IsLawful meaning (instance_of its.member.inst) before.poison =
-              subst (λ k. IsTrue (meaning.lawful k (instance_of its.member.inst).params.items before.poison)) (sym its.is.kind)
-              (subst (λ p. IsTrue (meaning.lawful its.instance.kind p before.poison)) (sym its.is.params) lawful) in
-              ap (λ h. outputs_of meaning its.instance.kind its.instance.params (with_samples h block)) (sym its_history)
+              let its_own : IsLawful laws.meaning (instance_of its.member.inst) before.poison =
+              subst (λ k. IsTrue (laws.meaning.lawful k (instance_of its.member.inst).params.items before.poison)) (sym its.is.kind)
+              (subst (λ p. IsTrue (laws.meaning.lawful its.instance.kind p before.poison)) (sym its.is.params) lawful) in
+              ap (λ h. outputs_of laws.meaning its.instance.kind its.instance.params (with_samples h block)) (sym its_history)
               ∙ sym (outputs_by_instance (with_samples (histories i) block))
               ∙ output histories kept.histories its.member its.there its_own
-              ∙ ap (λ all. all ++ out) (outputs_by_instance (histories i) ∙ ap (outputs_of meaning its.instance.kind its.instance.params) its_history);
+              ∙ ap (λ all. all ++ out) (outputs_by_instance (histories i) ∙ ap (outputs_of laws.meaning its.instance.kind its.instance.params) its_history);
           bounded = bounded;
         }
 
-        block_kept : Processes meaning before i block out (processed before i block) × Kept (processed before i block)
+        block_kept : Processes laws.meaning before i block out (processed before i block) × Kept (processed before i block)
         block_kept =
             let h = with_samples its.instance.history block in
             let now = keeps histories kept.histories in (
               record { instance = its.instance; there = its.lives; gives = gives; outcome = refl },
               subst Kept (sym (process_some before i block its.instance its.lives some))
                   (kept_touching kept its h same activity
-                  (subst (λ k. Keeps meaning idle_keeps active_keeps before.poison slots' once' groups' (with_history histories i (with_samples k block))) its_history now)),
+                  (subst (λ k. Keeps laws before.poison instances' sharing' groups' (with_history histories i (with_samples k block))) its_history now)),
             )
 
-      given_kept : IsSome (slot_at slots i) → Processes meaning before i block out (processed before i block) × Kept (processed before i block)
-      given_kept living = block_kept (found (slot_at slots i) (before.living i) living (kept.living i))
+      given_kept : IsSome (slot_at instances i) → Processes laws.meaning before i block out (processed before i block) × Kept (processed before i block)
+      given_kept living = block_kept (found (slot_at instances i) (before.living i) living (kept.living i))
 
     -- the same, in a host of poison word w
     pub block_given : (w : Option ℤ) (block out : List ℤ) → before.poison ≡ w
-        → TablesKeep meaning idle_keeps active_keeps slots once groups before → IsSome (slot_at slots i)
-        → SameTables slots once groups slots' once' groups' → ((k : ℕ) → activity_at groups' k ≡ touched_by slots groups i k)
+        → TablesKeep laws instances sharing groups before → IsSome (slot_at instances i)
+        → SameTables instances sharing groups instances' sharing' groups' → ((k : ℕ) → activity_at groups' k ≡ activated_by instances groups i k)
         → KeepsBy (λ h. with_samples h block) w → GivesBy block out w → length out ≤ length block → 1 ≤ length block
-        → Processes meaning before i block out (processed before i block) × Kept (processed before i block)
+        → Processes laws.meaning before i block out (processed before i block) × Kept (processed before i block)
     block_given w block out e kept living same activity keeps output bounded some =
         given_kept kept block out same activity (subst (KeepsBy (λ h. with_samples h block)) (sym e) keeps) (subst (GivesBy block out) (sym e) output) bounded some living
 
     -- the member was put to rest in group g
-    pub rested_kept : (w : Option ℤ) (g : ℕ) → before.poison ≡ w → TablesKeep meaning idle_keeps active_keeps slots once groups before
-        → SameTables slots once groups slots' once' groups'
-        → ((k : ℕ) → activity_at groups' k ≡ with_activity (activity_at groups) g (rested (activity_at groups g)) k)
-        → ((histories : ℕ → History) → Keeps meaning idle_keeps active_keeps w slots once groups histories
-        → Keeps meaning idle_keeps active_keeps w slots' once' groups' histories)
-        → Kept (record before { activity = with_activity before.activity g (rested (before.activity g)) })
+    pub rested_kept : (w : Option ℤ) (g : ℕ) → before.poison ≡ w → TablesKeep laws instances sharing groups before
+        → SameTables instances sharing groups instances' sharing' groups'
+        → ((k : ℕ) → activity_at groups' k ≡ with_activity (activity_at groups) g (deactivated (activity_at groups g)) k)
+        → ((histories : ℕ → History) → Keeps laws w instances sharing groups histories
+        → Keeps laws w instances' sharing' groups' histories)
+        → Kept (record before { activity = with_activity before.activity g (deactivated (before.activity g)) })
     rested_kept w g e kept same activity keeps = record {
-      living = λ j. same_living (slot_at slots j) (slot_at slots' j) (before.living j) (same.slot j) (kept.living j);
+      living = λ j. same_living (slot_at instances j) (slot_at instances' j) (before.living j) (same.slot j) (kept.living j);
       activity = λ k.
           activity k
-          ∙ ap (λ a. with_activity (activity_at groups) g (rested a) k) (kept.activity g)
-          ∙ ap (λ a. cond (nat_eq k g) (rested (before.activity g)) a) (kept.activity k);
+          ∙ ap (λ a. with_activity (activity_at groups) g (deactivated a) k) (kept.activity g)
+          ∙ ap (λ a. cond (nat_eq k g) (deactivated (before.activity g)) a) (kept.activity k);
       histories =
           let histories : ℕ → History = λ j. history_of (before.living j) in
-          subst (λ v. Keeps meaning idle_keeps active_keeps v slots' once' groups' histories) (sym e)
-          (keeps histories (subst (λ v. Keeps meaning idle_keeps active_keeps v slots once groups histories) e kept.histories));
+          subst (λ v. Keeps laws v instances' sharing' groups' histories) (sym e)
+          (keeps histories (subst (λ v. Keeps laws v instances sharing groups histories) e kept.histories));
     }
 
-    pub rest_answered : (g : ℕ) (result : Bool) → g < GROUPS → TablesKeep meaning idle_keeps active_keeps slots once groups before
+    pub rest_answered : (g : ℕ) (result : Bool) → g < GROUPS → TablesKeep laws instances sharing groups before
         → result ≡ is_some (group_at groups g).active
-        → ◌≡◌ {A = Outcome M Bool} (Ok result, record before { activity = with_activity before.activity g (rested (before.activity g)) }) (release before g)
+        → ◌≡◌ {A = Outcome M Bool} (Ok result, record before { activity = with_activity before.activity g (deactivated (before.activity g)) }) (release before g)
     rest_answered g result lt kept active =
-        let now : State M = record before { activity = with_activity before.activity g (rested (before.activity g)) } in
+        let now : State M = record before { activity = with_activity before.activity g (deactivated (before.activity g)) } in
         subst (λ b. ◌≡◌ {A = Outcome M Bool} (Ok b, now) (release before g)) (sym (active ∙ ap (λ (a : Activity). is_some a.active) (kept.activity g)))
         (sym (release_granted before g lt))
 
@@ -220,44 +221,44 @@ module _ {M : Type 0} (meaning : Meaning M) (idle_keeps active_keeps : Relation 
 
     -- whether the table's instance takes a control, and what it answers
     abbrev pub TakesBy : Ctl → Bool → Option ℤ → Type 0
-    TakesBy c taken w = (m : Member M) → slot_at slots i ≡ Some m → IsLawful meaning (instance_of m.inst) w
-        → taken ≡ meaning.accepts (instance_of m.inst).kind (instance_of m.inst).params.items c
+    TakesBy c taken w = (m : Member M) → slot_at instances i ≡ Some m → IsLawful laws.meaning (instance_of m.inst) w
+        → taken ≡ laws.meaning.accepts (instance_of m.inst).kind (instance_of m.inst).params.items c
 
     abbrev pub AnswersBy : Ctl → Status → Option ℤ → Type 0
-    AnswersBy c status w = (histories : ℕ → History) (m : Member M) → slot_at slots i ≡ Some m → IsLawful meaning (instance_of m.inst) w
-        → Keeps meaning idle_keeps active_keeps w slots once groups histories → status ≡ status_after meaning (instance_of m.inst) (histories i) c
+    AnswersBy c status w = (histories : ℕ → History) (m : Member M) → slot_at instances i ≡ Some m → IsLawful laws.meaning (instance_of m.inst) w
+        → Keeps laws w instances sharing groups histories → status ≡ status_after laws.meaning (instance_of m.inst) (histories i) c
 
-    module _ (kept : TablesKeep meaning idle_keeps active_keeps slots once groups before) (its : Found (slot_at slots i) (before.living i)) (c : Ctl) where
-      lawful_there : IsTrue (meaning.lawful its.instance.kind its.instance.params before.poison) → IsLawful meaning (instance_of its.member.inst) before.poison
+    module _ (kept : TablesKeep laws instances sharing groups before) (its : Found (slot_at instances i) (before.living i)) (c : Ctl) where
+      lawful_there : IsTrue (laws.meaning.lawful its.instance.kind its.instance.params before.poison) → IsLawful laws.meaning (instance_of its.member.inst) before.poison
       lawful_there lawful =
-          subst (λ k. IsTrue (meaning.lawful k (instance_of its.member.inst).params.items before.poison)) (sym its.is.kind)
-          (subst (λ p. IsTrue (meaning.lawful its.instance.kind p before.poison)) (sym its.is.params) lawful)
+          subst (λ k. IsTrue (laws.meaning.lawful k (instance_of its.member.inst).params.items before.poison)) (sym its.is.kind)
+          (subst (λ p. IsTrue (laws.meaning.lawful its.instance.kind p before.poison)) (sym its.is.params) lawful)
 
-      taken_there : (taken : Bool) → TakesBy c taken before.poison → IsTrue (meaning.lawful its.instance.kind its.instance.params before.poison)
-          → taken ≡ meaning.accepts its.instance.kind its.instance.params c
+      taken_there : (taken : Bool) → TakesBy c taken before.poison → IsTrue (laws.meaning.lawful its.instance.kind its.instance.params before.poison)
+          → taken ≡ laws.meaning.accepts its.instance.kind its.instance.params c
       taken_there taken takes lawful =
           takes its.member its.there (lawful_there lawful)
-          ∙ ap (λ k. meaning.accepts k (instance_of its.member.inst).params.items c) its.is.kind ∙ ap (λ p. meaning.accepts its.instance.kind p c) its.is.params
+          ∙ ap (λ k. laws.meaning.accepts k (instance_of its.member.inst).params.items c) its.is.kind ∙ ap (λ p. laws.meaning.accepts its.instance.kind p c) its.is.params
 
-      status_there : (status : Status) → AnswersBy c status before.poison → IsTrue (meaning.lawful its.instance.kind its.instance.params before.poison)
-          → status ≡ status_of meaning its.instance.kind its.instance.params its.instance.history c
+      status_there : (status : Status) → AnswersBy c status before.poison → IsTrue (laws.meaning.lawful its.instance.kind its.instance.params before.poison)
+          → status ≡ status_of laws.meaning its.instance.kind its.instance.params its.instance.history c
       status_there status answers lawful =
           answers (λ j. history_of (before.living j)) its.member its.there (lawful_there lawful) kept.histories
-          ∙ ap (λ k. status_of meaning k (instance_of its.member.inst).params.items (history_of (before.living i)) c) its.is.kind
-          ∙ ap (λ p. status_of meaning its.instance.kind p (history_of (before.living i)) c) its.is.params
-          ∙ ap (λ h. status_of meaning its.instance.kind its.instance.params h c) (ap history_of its.lives)
+          ∙ ap (λ k. status_of laws.meaning k (instance_of its.member.inst).params.items (history_of (before.living i)) c) its.is.kind
+          ∙ ap (λ p. status_of laws.meaning its.instance.kind p (history_of (before.living i)) c) its.is.params
+          ∙ ap (λ h. status_of laws.meaning its.instance.kind its.instance.params h c) (ap history_of its.lives)
 
-      one_lives : (taken : Bool) (status : Status) → MayAnswer meaning before.poison its.instance c taken status
-          → (x : Living M) → before.living i ≡ Some x → MayAnswer meaning before.poison x c taken status
-      one_lives taken status may x lives = subst (λ y. MayAnswer meaning before.poison y c taken status) (some_same its.instance x (sym its.lives ∙ lives)) may
+      one_lives : (taken : Bool) (status : Status) → MayAnswer laws.meaning before.poison its.instance c taken status
+          → (x : Living M) → before.living i ≡ Some x → MayAnswer laws.meaning before.poison x c taken status
+      one_lives taken status may x lives = subst (λ y. MayAnswer laws.meaning before.poison y c taken status) (some_same its.instance x (sym its.lives ∙ lives)) may
 
       control_taken : (status : Status) → i < INSTANCES → TakesBy c true before.poison → AnswersBy c status before.poison
-          → SameTables slots once groups slots' once' groups' → ((k : ℕ) → activity_at groups' k ≡ touched_by slots groups i k)
+          → SameTables instances sharing groups instances' sharing' groups' → ((k : ℕ) → activity_at groups' k ≡ activated_by instances groups i k)
           → KeepsBy (λ h. Control c ∷ h) before.poison
-          → (after : State M) × Controls meaning before i c (Ok status) after × Kept after
+          → (after : State M) × Controls laws.meaning before i c (Ok status) after × Kept after
       control_taken status lt takes answers same activity keeps =
           let h = Control c ∷ its.instance.history in (
-            touching before i (record its.instance { history = h }),
+            activating before i (record its.instance { history = h }),
             record {
               taken = true;
               status = status;
@@ -265,13 +266,13 @@ module _ {M : Type 0} (meaning : Meaning M) (idle_keeps active_keeps : Relation 
               outcome = sym (control_granted before i c status its.instance lt its.lives);
             },
             kept_touching kept its h same activity
-                (subst (λ k. Keeps meaning idle_keeps active_keeps before.poison slots' once' groups' (with_history (λ j. history_of (before.living j)) i (Control c ∷ k))) (ap history_of its.lives)
+                (subst (λ k. Keeps laws before.poison instances' sharing' groups' (with_history (λ j. history_of (before.living j)) i (Control c ∷ k))) (ap history_of its.lives)
                 (keeps (λ j. history_of (before.living j)) kept.histories)),
           )
 
-      control_not_taken : i < INSTANCES → TakesBy c false before.poison → Controls meaning before i c (Err Command) before
+      control_not_taken : i < INSTANCES → TakesBy c false before.poison → Controls laws.meaning before i c (Err Command) before
       control_not_taken lt takes =
-          let status = status_of meaning its.instance.kind its.instance.params its.instance.history c in
+          let status = status_of laws.meaning its.instance.kind its.instance.params its.instance.history c in
           record {
             taken = false;
             status = status;
@@ -281,35 +282,35 @@ module _ {M : Type 0} (meaning : Meaning M) (idle_keeps active_keeps : Relation 
 
     -- the same, in a host of poison word w
     pub control_given : (w : Option ℤ) (c : Ctl) (status : Status) → before.poison ≡ w
-        → TablesKeep meaning idle_keeps active_keeps slots once groups before → IsSome (slot_at slots i) → i < INSTANCES
+        → TablesKeep laws instances sharing groups before → IsSome (slot_at instances i) → i < INSTANCES
         → TakesBy c true w → AnswersBy c status w
-        → SameTables slots once groups slots' once' groups' → ((k : ℕ) → activity_at groups' k ≡ touched_by slots groups i k)
+        → SameTables instances sharing groups instances' sharing' groups' → ((k : ℕ) → activity_at groups' k ≡ activated_by instances groups i k)
         → KeepsBy (λ h. Control c ∷ h) w
-        → (after : State M) × Controls meaning before i c (Ok status) after × Kept after
+        → (after : State M) × Controls laws.meaning before i c (Ok status) after × Kept after
     control_given w c status e kept living lt takes answers same activity keeps =
-        control_taken kept (found (slot_at slots i) (before.living i) living (kept.living i)) c status lt
+        control_taken kept (found (slot_at instances i) (before.living i) living (kept.living i)) c status lt
         (subst (TakesBy c true) (sym e) takes) (subst (AnswersBy c status) (sym e) answers) same activity (subst (KeepsBy (λ h. Control c ∷ h)) (sym e) keeps)
 
     pub control_refused : (w : Option ℤ) (c : Ctl) → before.poison ≡ w
-        → TablesKeep meaning idle_keeps active_keeps slots once groups before → IsSome (slot_at slots i) → i < INSTANCES
-        → TakesBy c false w → Controls meaning before i c (Err Command) before
+        → TablesKeep laws instances sharing groups before → IsSome (slot_at instances i) → i < INSTANCES
+        → TakesBy c false w → Controls laws.meaning before i c (Err Command) before
     control_refused w c e kept living lt takes =
-        control_not_taken kept (found (slot_at slots i) (before.living i) living (kept.living i)) c lt (subst (TakesBy c false) (sym e) takes)
+        control_not_taken kept (found (slot_at instances i) (before.living i) living (kept.living i)) c lt (subst (TakesBy c false) (sym e) takes)
 
     -- nothing has happened
-    pub same_kept : slots' ≡ slots → once' ≡ once → groups' ≡ groups → TablesKeep meaning idle_keeps active_keeps slots once groups before → Kept before
+    pub same_kept : instances' ≡ instances → sharing' ≡ sharing → groups' ≡ groups → TablesKeep laws instances sharing groups before → Kept before
     same_kept e f h kept =
-        subst (λ s. TablesKeep meaning idle_keeps active_keeps s once' groups' before) (sym e)
-        (subst (λ o. TablesKeep meaning idle_keeps active_keeps slots o groups' before) (sym f)
-        (subst (λ y. TablesKeep meaning idle_keeps active_keeps slots once y before) (sym h) kept))
+        subst (λ s. TablesKeep laws s sharing' groups' before) (sym e)
+        (subst (λ o. TablesKeep laws instances o groups' before) (sym f)
+        (subst (λ y. TablesKeep laws instances sharing y before) (sym h) kept))
 
     -- the members were told of a move
-    pub told_kept : SameMembers slots once groups slots' once' groups' → ((k : ℕ) → activity_at groups' k ≡ activity_at groups k)
-        → ((w : Option ℤ) (histories : ℕ → History) → Keeps meaning idle_keeps active_keeps w slots once groups histories
-        → Keeps meaning idle_keeps active_keeps w slots' once' groups' histories)
-        → TablesKeep meaning idle_keeps active_keeps slots once groups before → Kept before
+    pub told_kept : SameMembers instances sharing groups instances' sharing' groups' → ((k : ℕ) → activity_at groups' k ≡ activity_at groups k)
+        → ((w : Option ℤ) (histories : ℕ → History) → Keeps laws w instances sharing groups histories
+        → Keeps laws w instances' sharing' groups' histories)
+        → TablesKeep laws instances sharing groups before → Kept before
     told_kept same activity keeps kept = record {
-      living = λ j. same_member (slot_at slots j) (slot_at slots' j) (before.living j) (same.slot j) (kept.living j);
+      living = λ j. same_member (slot_at instances j) (slot_at instances' j) (before.living j) (same.slot j) (kept.living j);
       activity = λ k. activity k ∙ kept.activity k;
       histories = keeps before.poison (λ j. history_of (before.living j)) kept.histories;
     }

@@ -1,4 +1,1 @@
 pub mod KeptLemmas
-pub mod TwinsKept
-pub mod MovesKept
-pub mod Compactions

@@ -2,19 +2,19 @@
 use Rattle.std.specs.Prelude.{◌≡◌, ℕ, List, [], Option, Some, None, Result, Ok, Err}
 use Rattle.ialg.specs.History.{History}
 use Rattle.ialg.specs.Meaning as meaning
-use Rattle.ialg.specs.Meaning.{Meaning}
 use Rattle.ialg.specs.Views.{answer_of}
 use Rattle.ialg.specs.Records.{unplaced}
 use Rattle.ialg.specs.declared.control.Status.{Status}
 use Rattle.ialg.specs.declared.refusal.Refusal.{Refusal}
+use Rattle.ialg.specs.Laws.{Laws}
 use Rattle.scratch_group.specs.declared.group.Group.{Group}
-use Rattle.lifecycle.specs.States.{Relation}
 use Rattle.host_table.specs.declared.member.Member.{Member}
-use Rattle.host_shared.specs.declared.shelves.Shelf.{Shelf}
+use Rattle.host_shared.specs.declared.locations.Locations.{Locations}
 use Rattle.host_table.specs.Table.{slot_at, instance_of, activity_at}
 use Rattle.host_table.specs.Keeps.{Keeps}
 use Rattle.host_table.specs.View.{View}
-use Rattle.host_table.specs.Steps.{Laws}
+use Rattle.host_map.specs.Activity.{Activity}
+use Rattle.host_map.specs.declared.parts.Stat.{Stat}
 use Rattle.host_spec.specs.State.{Living, State}
 
 -- the member is this instance
@@ -37,17 +37,25 @@ history_of None = []
 history_of (Some x) = x.history
 
 -- the same instances, active members and counts, and each lawful instance keeps its history
-pub record TablesKeep {M : Type 0} (meaning : Meaning M) (idle_keeps active_keeps : Relation M)
-    (slots : List (Option (Member M))) (once : List Shelf) (groups : List Group) (state : State M) : Type 0 where
-  pub living : (i : ℕ) → IsLiving (slot_at slots i) (state.living i)
+pub record TablesKeep {M : Type 0} (laws : Laws M)
+    (instances : List (Option (Member M))) (sharing : List Locations) (groups : List Group) (state : State M) : Type 0 where
+  pub living : (i : ℕ) → IsLiving (slot_at instances i) (state.living i)
   pub activity : (g : ℕ) → activity_at groups g ≡ state.activity g
-  pub histories : Keeps meaning idle_keeps active_keeps state.poison slots once groups (λ i. history_of (state.living i))
+  pub histories : Keeps laws state.poison instances sharing groups (λ i. history_of (state.living i))
 
 -- the same, of all that the tables hold
 abbrev pub KeepsState : {M : Type 0} → Laws M → View M → State M → Type 0
-KeepsState laws t state = TablesKeep laws.meaning laws.idle_keeps laws.active_keeps t.slots t.once t.groups state
+KeepsState laws t state = TablesKeep laws t.instances t.sharing t.groups state
 
 -- what a control is answered, as plain values
 abbrev pub told : Result Status Refusal → Result meaning.Status Refusal
 told (Ok status) = Ok (answer_of status)
 told (Err refusal) = Err refusal
+
+-- what is told of a group
+abbrev pub activity_of : Stat → Activity
+activity_of stat = record { active = stat.active; count = stat.activations }
+
+abbrev pub stat_told : Result Stat Refusal → Result Activity Refusal
+stat_told (Ok stat) = Ok (activity_of stat)
+stat_told (Err refusal) = Err refusal

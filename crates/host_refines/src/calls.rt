@@ -2,13 +2,14 @@
 ghost use Rattle.std.specs.Prelude.{◌≡◌, ◌≤◌, ◌<◌, [], length, IsSome, OnErr, is_some};
 ghost use Rattle.ialg.specs.Views.{control_of};
 ghost use Rattle.host_table.specs.Table.{slot_at};
-ghost use Rattle.host_table.specs.Steps.{laws, Ready, Stays};
+ghost use Rattle.host_table.specs.Steps.{AreConsistent, Ready, Stays};
 ghost use Rattle.host_spec.specs.State.{State};
 ghost use Rattle.host_spec.specs.Calls.{Processes, Controls, Does};
-ghost use Rattle.host_spec.specs.Calls.Call.{Release};
+ghost use Rattle.host_spec.specs.Calls.Call.{Release, Stat as StatCall};
 ghost use Rattle.host_spec.specs.Steps.{processed};
-ghost use Rattle.host_refines.specs.Kept.{KeepsState, told};
+ghost use Rattle.host_refines.specs.Kept.{KeepsState, told, stat_told};
 
+use host_map::Stat;
 use host_table::Tables;
 use ialg::{BLOCK_SAMPLES, Block, Ctl, Ialg, Refusal, Status};
 use mem_rec::{GROUPS, INSTANCES};
@@ -21,7 +22,7 @@ pub fn give_block<M: Ialg>(
     input: &[i16],
     out: &mut Block,
 )
-    requires living { IsSome (slot_at tables.old.slots i) }
+    requires living { IsSome (slot_at tables.old.instances i) }
     requires ready { Ready poison tables.old }
     requires empty { out.old.items ≡ [] }
     requires some { 1 ≤ length input.now }
@@ -29,9 +30,9 @@ pub fn give_block<M: Ialg>(
     ensures stays { Stays poison tables.old tables.new }
     ensures bounded { length out.new.items ≤ length input.now }
     ensures machine { (before : State M) → before.poison ≡ poison
-        → KeepsState (laws M.meaning M.idle_keeps M.active_keeps) tables.old before
-        → Processes M.meaning before i input.now out.new.items (processed before i input.now)
-        × KeepsState (laws M.meaning M.idle_keeps M.active_keeps) tables.new (processed before i input.now) }
+        → KeepsState M.law tables.old before
+        → Processes M.law.meaning before i input.now out.new.items (processed before i input.now)
+        × KeepsState M.law tables.new (processed before i input.now) }
 {
     tables.process(poison, i, input, out);
 }
@@ -48,9 +49,9 @@ pub fn give_control<M: Ialg>(
     ensures stays { Stays poison tables.old tables.new }
     ensures refused { OnErr result (tables.new ≡ tables.old) }
     ensures machine { (before : State M) → before.poison ≡ poison
-        → KeepsState (laws M.meaning M.idle_keeps M.active_keeps) tables.old before
-        → (after : State M) × Controls M.meaning before i (control_of c.now) (told result) after
-        × KeepsState (laws M.meaning M.idle_keeps M.active_keeps) tables.new after }
+        → KeepsState M.law tables.old before
+        → (after : State M) × Controls M.law.meaning before i (control_of c.now) (told result) after
+        × KeepsState M.law tables.new after }
 {
     if usize::from(i) >= INSTANCES {
         return Err(Refusal::Range);
@@ -66,7 +67,7 @@ pub fn give_control<M: Ialg>(
 
 /// Deactivates the active member of the group, if there is one, and says whether there was one, as the machine does. A refused call
 /// changes nothing.
-pub fn put_to_rest<M: Ialg>(
+pub fn deactivate_group<M: Ialg>(
     tables: &mut Tables<M>,
     poison: Option<i16>,
     g: u8,
@@ -75,12 +76,28 @@ pub fn put_to_rest<M: Ialg>(
     ensures stays { Stays poison tables.old tables.new }
     ensures refused { OnErr result (tables.new ≡ tables.old) }
     ensures machine { (before : State M) → before.poison ≡ poison
-        → KeepsState (laws M.meaning M.idle_keeps M.active_keeps) tables.old before
-        → (after : State M) × Does M.meaning before (Release g result) after
-        × KeepsState (laws M.meaning M.idle_keeps M.active_keeps) tables.new after }
+        → KeepsState M.law tables.old before
+        → (after : State M) × Does M.law.meaning before (Release g result) after
+        × KeepsState M.law tables.new after }
 {
     if g >= GROUPS {
         return Err(Refusal::Range);
     }
     Ok(tables.deactivate_in(poison, g))
+}
+
+/// The active member of the group and its count of activations, as the machine has them.
+pub fn stat<M: Ialg>(tables: &Tables<M>, g: u8) -> Result<Stat, Refusal>
+    requires ready { AreConsistent tables.now }
+    ensures machine { (before : State M) → KeepsState M.law tables.now before
+        → Does M.law.meaning before (StatCall g (stat_told result)) before }
+{
+    if g >= GROUPS {
+        return Err(Refusal::Range);
+    }
+    let group = &tables.groups[g as usize];
+    Ok(Stat {
+        active: group.active(),
+        activations: group.activations(),
+    })
 }

@@ -1,5 +1,5 @@
 pub mod Stands
-pub mod Homes
+pub mod Owners
 pub mod Lent
 pub mod Bare
 pub mod Handing

@@ -1,21 +1,21 @@
--- What an instance sees of the shelves, where its pieces stand with it.
+-- What an instance sees of the locations, where its pieces stand with it.
 use Rattle.std.proofs.Common.{◌≡◌, ◌≢◌, ℕ, List, Option, set, get_or-set_other, ◌∙◌, ap}
 use Rattle.space_raw.specs.Span.{Span}
 use Rattle.record_loans.specs.declared.pieces.Pieces.{Pieces}
-use Rattle.host_shared.specs.declared.shelves.Stand.{Stand}
-use Rattle.host_shared.specs.declared.shelves.Stand.TheVariants.{Here, With}
-use Rattle.host_shared.specs.declared.shelves.Shelf.{Shelf}
-use Rattle.host_shared.specs.Shelves.{stand_at, piece_here, shelf_of, no_shelf, shelf_at, home_by, piece_seen, once_at, IsUnshared}
+use Rattle.host_shared.specs.declared.locations.Location.{Location}
+use Rattle.host_shared.specs.declared.locations.Location.TheVariants.{Here, At}
+use Rattle.host_shared.specs.declared.locations.Locations.{Locations}
+use Rattle.host_shared.specs.Locations.{location_at, piece_here, locations_of, no_locations, locations_at, owner_by, piece_seen, shared_at, IsUnshared}
 
 -- a piece that stands with its instance is seen by it
-pub seen_here : (once : List Shelf) (i k : ℕ) (p : Option Span) → stand_at (shelf_at once i) k ≡ Here p → piece_seen once i k ≡ p
-seen_here once i k p here =
-    ap (λ (s : Stand). piece_here (stand_at (shelf_at once (home_by i s)) k)) here
+pub seen_here : (sharing : List Locations) (i k : ℕ) (p : Option Span) → location_at (locations_at sharing i) k ≡ Here p → piece_seen sharing i k ≡ p
+seen_here sharing i k p here =
+    ap (λ (s : Location). piece_here (location_at (locations_at sharing (owner_by i s)) k)) here
     ∙ ap piece_here here
 
 -- one that stands with another instance is the one that stands there
-pub seen_with : (once : List Shelf) (i k h : ℕ) → stand_at (shelf_at once i) k ≡ With h → piece_seen once i k ≡ piece_here (stand_at (shelf_at once h) k)
-seen_with once i k h is = ap (λ (s : Stand). piece_here (stand_at (shelf_at once (home_by i s)) k)) is
+pub seen_with : (sharing : List Locations) (i k h : ℕ) → location_at (locations_at sharing i) k ≡ At h → piece_seen sharing i k ≡ piece_here (location_at (locations_at sharing h) k)
+seen_with sharing i k h is = ap (λ (s : Location). piece_here (location_at (locations_at sharing (owner_by i s)) k)) is
 
 pub four_pieces : (a b : Pieces) → a.p0 ≡ b.p0 → a.p1 ≡ b.p1 → a.p2 ≡ b.p2 → a.p3 ≡ b.p3 → a ≡ b
 four_pieces a b e0 e1 e2 e3 =
@@ -24,11 +24,11 @@ four_pieces a b e0 e1 e2 e3 =
     ∙ ap (λ (p : Option Span). let r : Pieces = record { p0 = b.p0; p1 = b.p1; p2 = p; p3 = a.p3 } in r) e2
     ∙ ap (λ (p : Option Span). let r : Pieces = record { p0 = b.p0; p1 = b.p1; p2 = b.p2; p3 = p } in r) e3
 
-pub seen_of : (once : List Shelf) (i : ℕ) (o : Pieces) → shelf_at once i ≡ shelf_of o → once_at once i ≡ o
-seen_of once i o is =
-    four_pieces (once_at once i) o
-    (seen_here once i 0 o.p0 (ap (λ (s : Shelf). s.s0) is)) (seen_here once i 1 o.p1 (ap (λ (s : Shelf). s.s1) is))
-    (seen_here once i 2 o.p2 (ap (λ (s : Shelf). s.s2) is)) (seen_here once i 3 o.p3 (ap (λ (s : Shelf). s.s3) is))
+pub seen_of : (sharing : List Locations) (i : ℕ) (o : Pieces) → locations_at sharing i ≡ locations_of o → shared_at sharing i ≡ o
+seen_of sharing i o is =
+    four_pieces (shared_at sharing i) o
+    (seen_here sharing i 0 o.p0 (ap (λ (s : Locations). s.s0) is)) (seen_here sharing i 1 o.p1 (ap (λ (s : Locations). s.s1) is))
+    (seen_here sharing i 2 o.p2 (ap (λ (s : Locations). s.s2) is)) (seen_here sharing i 3 o.p3 (ap (λ (s : Locations). s.s3) is))
 
-pub set_there : (once : List Shelf) (i j : ℕ) (s : Shelf) → IsUnshared once j → j ≢ i → once_at (set once i s) j ≡ once_at once j
-set_there once i j s unshared apart = seen_of (set once i s) j (once_at once j) (get_or-set_other once i j s no_shelf apart ∙ unshared)
+pub set_there : (sharing : List Locations) (i j : ℕ) (s : Locations) → IsUnshared sharing j → j ≢ i → shared_at (set sharing i s) j ≡ shared_at sharing j
+set_there sharing i j s unshared apart = seen_of (set sharing i s) j (shared_at sharing j) (get_or-set_other sharing i j s no_locations apart ∙ unshared)

@@ -1,4 +1,4 @@
-pub mod Shelves
-pub mod Homes
-pub mod Holders
+pub mod Locations
+pub mod Owners
+pub mod Sharing
 pub mod Joining

@@ -1,98 +1,105 @@
-//! How a new instance comes to share records: its pieces stand with its twins, or theirs with it.
+//! How a new instance comes to share records with those that have equal ones.
 ghost use Rattle.std.specs.Prelude.{◌≡◌, ◌≢◌, ◌<◌, ℕ, length, Option, Some, None};
 ghost use Rattle.mem_rec.specs.declared.TheConstants.{TABLE_RECORDS, INSTANCES};
 ghost use Rattle.record_loans.specs.Pieces.{piece_at};
-ghost use Rattle.host_shared.specs.declared.shelves.Stand.TheVariants.{Here};
-ghost use Rattle.host_shared.specs.Shelves.{stand_at, no_shelf, shelf_at, once_at};
-ghost use Rattle.host_shared.specs.Homes.{IsPieceHere, AllHaveHomes};
-ghost use Rattle.host_shared.specs.Joining.{twin_at, stand_over, stand_joined, pieces_joined, CanJoin};
-ghost use Rattle.host_shared.specs.Holders.{AreLeast};
+ghost use Rattle.host_shared.specs.declared.locations.Location.TheVariants.{Here};
+ghost use Rattle.host_shared.specs.Locations.{location_at, no_locations, locations_at, shared_at};
+ghost use Rattle.host_shared.specs.Owners.{IsPieceHere, AllHaveOwners};
+ghost use Rattle.host_shared.specs.Joining.{sharer_at, location_over, location_joined, pieces_joined, CanJoin};
+ghost use Rattle.host_shared.specs.Sharing.{AreLeast};
 
-use crate::holders::{point_all, put_stand};
-use crate::shelves::{Shelf, Stand, end_none, replace_stand};
+use crate::locations::{Location, Locations, end_none, replace_location};
+use crate::sharers::{point_all, put_location};
 use record_loans::Pieces;
 use space_raw::Piece;
 
-/// For each record of an instance the least number of another one that shares it, if there is one.
+/// For each record of an instance the least-numbered other one that shares it, if there is one.
 #[derive(Clone, Copy)]
-pub struct Twins {
+pub struct Sharers {
     pub t0: Option<u8>,
     pub t1: Option<u8>,
     pub t2: Option<u8>,
     pub t3: Option<u8>,
 }
 
-/// Lets the piece of record `k` stand with instance `i`, and so what stood with its twin, which had the piece.
-fn take_over(once: &mut Vec<Shelf>, i: u8, k: usize, twin: u8)
-    requires count { length once.old.items ≡ INSTANCES }
+/// Makes instance `i` the owner of record `k` in place of `sharer`, for all that share it.
+fn take_over(sharing: &mut Vec<Locations>, i: u8, k: usize, sharer: u8)
+    requires count { length sharing.old.items ≡ INSTANCES }
     requires number { i < INSTANCES }
     requires record { k < TABLE_RECORDS }
-    requires none { stand_at (shelf_at once.old.items i) k ≡ Here None }
-    requires here { IsPieceHere (stand_at (shelf_at once.old.items twin) k) }
-    ensures count { length once.new.items ≡ INSTANCES }
-    ensures taken { (j : ℕ) → stand_at (shelf_at once.new.items j) k ≡ stand_over once.old.items i k twin j }
-    ensures beside { (j l : ℕ) → l ≢ k → stand_at (shelf_at once.new.items j) l ≡ stand_at (shelf_at once.old.items j) l }
+    requires none { location_at (locations_at sharing.old.items i) k ≡ Here None }
+    requires here { IsPieceHere (location_at (locations_at sharing.old.items sharer) k) }
+    ensures count { length sharing.new.items ≡ INSTANCES }
+    ensures taken { (j : ℕ) → location_at (locations_at sharing.new.items j) k ≡ location_over sharing.old.items i k sharer j }
+    ensures beside { (j l : ℕ) → l ≢ k → location_at (locations_at sharing.new.items j) l ≡ location_at (locations_at sharing.old.items j) l }
 {
-    let stand = replace_stand(once, twin as usize, k, Stand::With(i));
-    point_all(once, twin, k, i);
-    put_stand(once, i as usize, k, stand);
+    let location = replace_location(sharing, sharer as usize, k, Location::At(i));
+    point_all(sharing, sharer, k, i);
+    put_location(sharing, i as usize, k, location);
 }
 
-/// Lets record `k` of a new instance stand with its twin, or the twin's with the new instance where that one has the lower number.
-fn join_twin(once: &mut Vec<Shelf>, i: u8, k: usize, twin: u8)
-    requires count { length once.old.items ≡ INSTANCES }
+/// Shares record `k` of a new instance with `sharer`. The owner is the one with the lower number.
+fn join_sharer(sharing: &mut Vec<Locations>, i: u8, k: usize, sharer: u8)
+    requires count { length sharing.old.items ≡ INSTANCES }
     requires number { i < INSTANCES }
     requires record { k < TABLE_RECORDS }
-    requires none { stand_at (shelf_at once.old.items i) k ≡ Here None }
-    requires here { IsPieceHere (stand_at (shelf_at once.old.items twin) k) }
-    ensures count { length once.new.items ≡ INSTANCES }
-    ensures joined { (j : ℕ) → stand_at (shelf_at once.new.items j) k ≡ stand_joined once.old.items i k (Some twin) None j }
-    ensures beside { (j l : ℕ) → l ≢ k → stand_at (shelf_at once.new.items j) l ≡ stand_at (shelf_at once.old.items j) l }
+    requires none { location_at (locations_at sharing.old.items i) k ≡ Here None }
+    requires here { IsPieceHere (location_at (locations_at sharing.old.items sharer) k) }
+    ensures count { length sharing.new.items ≡ INSTANCES }
+    ensures joined { (j : ℕ) → location_at (locations_at sharing.new.items j) k ≡ location_joined sharing.old.items i k (Some sharer) None j }
+    ensures beside { (j l : ℕ) → l ≢ k → location_at (locations_at sharing.new.items j) l ≡ location_at (locations_at sharing.old.items j) l }
 {
-    if twin < i {
-        put_stand(once, i as usize, k, Stand::With(twin));
+    if sharer < i {
+        put_location(sharing, i as usize, k, Location::At(sharer));
     } else {
-        take_over(once, i, k, twin);
+        take_over(sharing, i, k, sharer);
     }
 }
 
-/// Lets record `k` of a new instance stand with its twin. Without one its own piece stands here.
-fn join_record(once: &mut Vec<Shelf>, i: u8, k: usize, twin: Option<u8>, piece: Option<Piece>)
-    requires count { length once.old.items ≡ INSTANCES }
+/// Shares record `k` of a new instance with `sharer`. Without one it owns its own piece.
+fn join_record(
+    sharing: &mut Vec<Locations>,
+    i: u8,
+    k: usize,
+    sharer: Option<u8>,
+    piece: Option<Piece>,
+)
+    requires count { length sharing.old.items ≡ INSTANCES }
     requires number { i < INSTANCES }
     requires record { k < TABLE_RECORDS }
-    requires none { stand_at (shelf_at once.old.items i) k ≡ Here None }
-    requires twin { CanJoin once.old.items k twin piece }
-    ensures count { length once.new.items ≡ INSTANCES }
-    ensures joined { (j : ℕ) → stand_at (shelf_at once.new.items j) k ≡ stand_joined once.old.items i k twin piece j }
-    ensures beside { (j l : ℕ) → l ≢ k → stand_at (shelf_at once.new.items j) l ≡ stand_at (shelf_at once.old.items j) l }
+    requires none { location_at (locations_at sharing.old.items i) k ≡ Here None }
+    requires sharer { CanJoin sharing.old.items k sharer piece }
+    ensures count { length sharing.new.items ≡ INSTANCES }
+    ensures joined { (j : ℕ) → location_at (locations_at sharing.new.items j) k ≡ location_joined sharing.old.items i k sharer piece j }
+    ensures beside { (j l : ℕ) → l ≢ k → location_at (locations_at sharing.new.items j) l ≡ location_at (locations_at sharing.old.items j) l }
 {
-    match twin {
-        None => put_stand(once, i as usize, k, Stand::Here(piece)),
+    match sharer {
+        None => put_location(sharing, i as usize, k, Location::Here(piece)),
         Some(other) => {
             end_none(piece);
-            join_twin(once, i, k, other);
+            join_sharer(sharing, i, k, other);
         }
     }
 }
 
-/// Lets a new instance join its twins, record by record, with the pieces that were placed for it. Each other instance sees what it saw.
-pub fn join(once: &mut Vec<Shelf>, i: u8, placed: Pieces, twins: Twins)
-    requires count { length once.old.items ≡ INSTANCES }
+/// Gives a new instance its write-once records, each shared with `sharers` or in a piece that was placed for it. The pieces of each other
+/// instance stay as they are.
+pub fn join(sharing: &mut Vec<Locations>, i: u8, placed: Pieces, sharers: Sharers)
+    requires count { length sharing.old.items ≡ INSTANCES }
     requires number { i < INSTANCES }
-    requires bare { shelf_at once.old.items i ≡ no_shelf }
-    requires homes { AllHaveHomes once.old.items }
-    requires twins { (k : ℕ) → CanJoin once.old.items k (twin_at twins k) (piece_at placed k) }
-    ensures count { length once.new.items ≡ INSTANCES }
-    ensures joined { (j k : ℕ) → stand_at (shelf_at once.new.items j) k ≡ stand_joined once.old.items i k (twin_at twins k) (piece_at placed k) j }
-    ensures pieces { once_at once.new.items i ≡ pieces_joined once.old.items twins placed }
-    ensures others { (j : ℕ) → j ≢ i → once_at once.new.items j ≡ once_at once.old.items j }
-    ensures homes { AllHaveHomes once.new.items }
-    ensures least { AreLeast once.old.items → AreLeast once.new.items }
+    requires bare { locations_at sharing.old.items i ≡ no_locations }
+    requires owners { AllHaveOwners sharing.old.items }
+    requires sharers { (k : ℕ) → CanJoin sharing.old.items k (sharer_at sharers k) (piece_at placed k) }
+    ensures count { length sharing.new.items ≡ INSTANCES }
+    ensures joined { (j k : ℕ) → location_at (locations_at sharing.new.items j) k ≡ location_joined sharing.old.items i k (sharer_at sharers k) (piece_at placed k) j }
+    ensures pieces { shared_at sharing.new.items i ≡ pieces_joined sharing.old.items sharers placed }
+    ensures others { (j : ℕ) → j ≢ i → shared_at sharing.new.items j ≡ shared_at sharing.old.items j }
+    ensures owners { AllHaveOwners sharing.new.items }
+    ensures least { AreLeast sharing.old.items → AreLeast sharing.new.items }
 {
     let Pieces { p0, p1, p2, p3 } = placed;
-    join_record(once, i, 0, twins.t0, p0);
-    join_record(once, i, 1, twins.t1, p1);
-    join_record(once, i, 2, twins.t2, p2);
-    join_record(once, i, 3, twins.t3, p3);
+    join_record(sharing, i, 0, sharers.t0, p0);
+    join_record(sharing, i, 1, sharers.t1, p1);
+    join_record(sharing, i, 2, sharers.t2, p2);
+    join_record(sharing, i, 3, sharers.t3, p3);
 }

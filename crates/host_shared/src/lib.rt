@@ -1,16 +1,18 @@
 // SPDX-License-Identifier: Apache-2.0
-//! Where the pieces of write-once records stand: instances whose records are equal share one piece.
+//! Shared write-once records: instances whose records are equal share one piece.
 //!
-//! Each instance number has a shelf, with a stand for each record of its table. A piece stands with the least of the instances that hold it,
-//! its home; the record of each other holder stands with that one. Nothing here knows a kind, a group or an instance's state.
+//! For each record of each instance there is a location: here, with the piece, or at another instance, the record's owner. The owner is
+//! the least-numbered instance that shares the record. Nothing here knows a kind, a group or an instance's state.
 #![tactic(auto)]
 
-mod holders;
 mod joining;
-mod shelves;
+mod locations;
+mod sharers;
 mod tables;
 
-pub use holders::{hand_on, next_holder};
-pub use joining::{Twins, join};
-pub use shelves::{Shelf, Stand, end_absent, home, put_seen, sees, take_seen};
-pub use tables::{empty_once, end_once};
+pub use joining::{Sharers, join};
+pub use locations::{
+    Location, Locations, borrow_pieces, end_absent, give_back_pieces, owner, sees,
+};
+pub use sharers::{hand_on, next_sharer};
+pub use tables::{empty_sharing, end_sharing};

@@ -1,35 +1,34 @@
-//! Shelves without pieces: how they are made and ended.
+//! Locations without pieces: how they are made and ended.
 ghost use Rattle.std.specs.Prelude.{◌≡◌, ℕ, length, IfOk};
 ghost use Rattle.mem_rec.specs.declared.TheConstants.{INSTANCES};
-ghost use Rattle.host_shared.specs.Shelves.{no_shelf, shelf_at, once_at, no_pieces, IsUnshared};
+ghost use Rattle.host_shared.specs.Locations.{no_locations, locations_at, shared_at, no_pieces, IsUnshared};
 
-use crate::shelves::{Shelf, end_absent};
+use crate::locations::{Locations, end_absent};
 use mem_rec::INSTANCES;
 use record_loans::Pieces;
 use std::alloc::{AllocError, Allocator};
 
-/// For each instance number the pieces of its write-once records, of which there are none. The table stands over any allocator, and
-/// asks it once.
-pub fn empty_once<A: Allocator>(alloc: A) -> Result<Vec<Shelf, A>, AllocError>
+/// The table of shared records, without a piece. It is of any allocator, which is asked once.
+pub fn empty_sharing<A: Allocator>(alloc: A) -> Result<Vec<Locations, A>, AllocError>
     ensures count { IfOk result (λ v. length v.items ≡ INSTANCES) }
-    ensures empty { IfOk result (λ v. (i : ℕ) → once_at v.items i ≡ no_pieces) }
+    ensures empty { IfOk result (λ v. (i : ℕ) → shared_at v.items i ≡ no_pieces) }
     ensures unshared { IfOk result (λ v. (i : ℕ) → IsUnshared v.items i) }
-    ensures bare { IfOk result (λ v. (i : ℕ) → shelf_at v.items i ≡ no_shelf) }
+    ensures bare { IfOk result (λ v. (i : ℕ) → locations_at v.items i ≡ no_locations) }
 {
-    let mut once = Vec::with_capacity(alloc, INSTANCES)?;
+    let mut sharing = Vec::with_capacity(alloc, INSTANCES)?;
     for _ in 0..INSTANCES {
-        once.push_reserved(Shelf::of(Pieces::none()));
+        sharing.push_reserved(Locations::of(Pieces::none()));
     }
-    Ok(once)
+    Ok(sharing)
 }
 
 /// Ends a table of no pieces.
-pub fn end_once<A: Allocator>(once: Vec<Shelf, A>)
-    requires { (i : ℕ) → once_at once.items i ≡ no_pieces }
+pub fn end_sharing<A: Allocator>(sharing: Vec<Locations, A>)
+    requires { (i : ℕ) → shared_at sharing.items i ≡ no_pieces }
 {
-    let mut once = once;
-    while let Some(shelf) = once.pop() {
-        end_absent(shelf.pieces());
+    let mut sharing = sharing;
+    while let Some(locations) = sharing.pop() {
+        end_absent(locations.pieces());
     }
-    once.destroy_empty();
+    sharing.destroy_empty();
 }

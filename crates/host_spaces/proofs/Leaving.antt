@@ -24,12 +24,12 @@ use Rattle.space_blocks.proofs.Orders.{dropped, kept}
 use Rattle.space_blocks.proofs.Owners.{disowned_none, owned_beside, owns_one}
 use Rattle.host_spaces.specs.declared.pieces.OldBlocks.{OldBlocks}
 use Rattle.host_spaces.specs.declared.spaces.Spaces.{Spaces}
-use Rattle.host_map.specs.Picture.{Picture, blocks_in, blocks_without, is_group's, is_instance's, without_owners}
-use Rattle.host_spaces.specs.Picture.{picture_of, space_in}
+use Rattle.host_map.specs.MemoryMap.{MemoryMap, blocks_in, blocks_without, is_group's, is_instance's, without_owners}
+use Rattle.host_spaces.specs.MemoryMap.{map_of, space_in}
 use Rattle.host_map.specs.Creation.{replaced_block, without_block, without_replaced}
 use Rattle.lifecycle.specs.Rooms.{lasting_piece}
 use Rattle.host_spaces.specs.Pieces.{ArePlacedPieces, HasRecords, IsPieceOf, is_placed_once, old_piece, record_block, without_pieces}
-use Rattle.host_spaces.proofs.Pictures.{by_space, daram_external, daram_saram, pictures_equal, saram_external, seen_blocks}
+use Rattle.host_spaces.proofs.Maps.{by_space, daram_external, daram_saram, maps_equal, saram_external, seen_blocks}
 use Rattle.host_spaces.proofs.Granting.{block_if, itself_space, other_is}
 
 pub if_some : (o : Option Span) (P Q : Span → Type 0) → ((p : Span) → P p → Q p) → IfSome o P → IfSome o Q
@@ -110,51 +110,51 @@ instance_gone i bs none =
 
 -- ---- a record's piece
 
-one_piece : (home : Extent) (n : ℕ) (a : Attr) (twin : Option ℕ) (own shared : Option Span) → IsPieceOf home n (is_persistent a) own → IsPieceOf home n (is_placed_once twin a) shared → option_or own shared ≡ lasting_piece a own shared
-one_piece home n ScratchRecord twin None None is it = refl
-one_piece home n ScratchRecord None None (Some q) is it = clash false it.0 refl
-one_piece home n ScratchRecord (Some twin) None (Some q) is it = clash false it.0 refl
-one_piece home n ScratchRecord twin (Some p) shared is it = clash false is.0 refl
-one_piece home n Persist twin None shared is it = clash true refl is
-one_piece home n Persist twin (Some p) shared is it = refl
-one_piece home n WriteOnce twin None shared is it = refl
-one_piece home n WriteOnce twin (Some p) shared is it = clash false is.0 refl
+one_piece : (owner : Extent) (n : ℕ) (a : Attr) (sharer : Option ℕ) (own shared : Option Span) → IsPieceOf owner n (is_persistent a) own → IsPieceOf owner n (is_placed_once sharer a) shared → option_or own shared ≡ lasting_piece a own shared
+one_piece owner n ScratchRecord sharer None None is it = refl
+one_piece owner n ScratchRecord None None (Some q) is it = clash false it.0 refl
+one_piece owner n ScratchRecord (Some sharer) None (Some q) is it = clash false it.0 refl
+one_piece owner n ScratchRecord sharer (Some p) shared is it = clash false is.0 refl
+one_piece owner n Persist sharer None shared is it = clash true refl is
+one_piece owner n Persist sharer (Some p) shared is it = refl
+one_piece owner n WriteOnce sharer None shared is it = refl
+one_piece owner n WriteOnce sharer (Some p) shared is it = clash false is.0 refl
 
 no_some : (o : Option Span) → o ≡ None → IsSome o → ⊥
 no_some None e some = let bad : false ≡ true = some in cc
 no_some (Some p) e some = let bad : Some p ≡ None = e in cc
 
-pub not_both : (home : Extent) (n : ℕ) (a : Attr) (twin : Option ℕ) (own shared : Option Span) → IsPieceOf home n (is_persistent a) own → IsPieceOf home n (is_placed_once twin a) shared → IsSome own → shared ≡ None
-not_both home n a twin None shared is it some = absurd (no_some None refl some)
-not_both home n a twin (Some p) None is it some = refl
-not_both home n ScratchRecord twin (Some p) (Some q) is it some = clash false is.0 refl
-not_both home n Persist None (Some p) (Some q) is it some = clash false it.0 refl
-not_both home n Persist (Some twin) (Some p) (Some q) is it some = clash false it.0 refl
-not_both home n WriteOnce twin (Some p) (Some q) is it some = clash false is.0 refl
+pub not_both : (owner : Extent) (n : ℕ) (a : Attr) (sharer : Option ℕ) (own shared : Option Span) → IsPieceOf owner n (is_persistent a) own → IsPieceOf owner n (is_placed_once sharer a) shared → IsSome own → shared ≡ None
+not_both owner n a sharer None shared is it some = absurd (no_some None refl some)
+not_both owner n a sharer (Some p) None is it some = refl
+not_both owner n ScratchRecord sharer (Some p) (Some q) is it some = clash false is.0 refl
+not_both owner n Persist None (Some p) (Some q) is it some = clash false it.0 refl
+not_both owner n Persist (Some sharer) (Some p) (Some q) is it some = clash false it.0 refl
+not_both owner n WriteOnce sharer (Some p) (Some q) is it some = clash false is.0 refl
 
-home_of : (home : Extent) (n : ℕ) (a : Attr) (twin : Option ℕ) (own shared : Option Span) → IsPieceOf home n (is_persistent a) own → IsPieceOf home n (is_placed_once twin a) shared → IfSome (option_or own shared) (λ p. p.region ≡ home)
-home_of home n a twin None None is it = tt
-home_of home n a twin None (Some q) is it = it.1
-home_of home n a twin (Some p) shared is it = is.1
+owner_of : (owner : Extent) (n : ℕ) (a : Attr) (sharer : Option ℕ) (own shared : Option Span) → IsPieceOf owner n (is_persistent a) own → IsPieceOf owner n (is_placed_once sharer a) shared → IfSome (option_or own shared) (λ p. p.region ≡ owner)
+owner_of owner n a sharer None None is it = tt
+owner_of owner n a sharer None (Some q) is it = it.1
+owner_of owner n a sharer (Some p) shared is it = is.1
 
 -- its block in a space
 abbrev pub placed_in : Owner → Space → ℕ → Option Span → Space → List Placed
 placed_in o sp al q any = if same_space sp any then block_of_piece o al q else []
 
-module _ (old : Spaces) (i : ℕ) (table : List MemRec) (own shared : Pieces) (pieces : (twins : ℕ → Option ℕ) × ArePlacedPieces old table twins own shared) (records : HasRecords (picture_of old) i table own shared)
+module _ (old : Spaces) (i : ℕ) (table : List MemRec) (own shared : Pieces) (pieces : (sharers : ℕ → Option ℕ) × ArePlacedPieces old table sharers own shared) (records : HasRecords (map_of old) i table own shared)
     (k : ℕ) (sp : Space) (there : sp ≡ (record_at table k).space) (q : Option Span) (is : q ≡ option_or (piece_at own k) (piece_at shared k)) where
   pub its_block : (any : Space) → owned (Record i k) (space_in old any).blocks ≡ placed_in (Record i k) sp (record_at table k).align q any
   its_block any =
-      let home = (space_in old (record_at table k).space).region in let n = placed_size (record_at table k).size in
+      let owner = (space_in old (record_at table k).space).region in let n = placed_size (record_at table k).size in
       ap (owned (Record i k)) (sym (seen_blocks old any)) ∙ records k any
-      ∙ ap (record_block i k (record_at table k) any) (sym (is ∙ one_piece home n (record_at table k).attr (pieces.0 k) (piece_at own k) (piece_at shared k) (pieces.1.persistent k) (pieces.1.write_once k)))
+      ∙ ap (record_block i k (record_at table k) any) (sym (is ∙ one_piece owner n (record_at table k).attr (pieces.0 k) (piece_at own k) (piece_at shared k) (pieces.1.persistent k) (pieces.1.write_once k)))
       ∙ ap (λ x. placed_in (Record i k) x (record_at table k).align q any) (sym there)
 
-  pub its_home : IfSome q (λ p. p.region ≡ (space_in old sp).region)
-  its_home =
+  pub its_owner : IfSome q (λ p. p.region ≡ (space_in old sp).region)
+  its_owner =
       subst (λ x. IfSome q (λ p. p.region ≡ (space_in old x).region)) (sym there)
       (subst (λ x. IfSome x (λ p. p.region ≡ (space_in old (record_at table k).space).region)) (sym is)
-      (home_of (space_in old (record_at table k).space).region (placed_size (record_at table k).size) (record_at table k).attr (pieces.0 k) (piece_at own k) (piece_at shared k) (pieces.1.persistent k) (pieces.1.write_once k)))
+      (owner_of (space_in old (record_at table k).space).region (placed_size (record_at table k).size) (record_at table k).attr (pieces.0 k) (piece_at own k) (piece_at shared k) (pieces.1.persistent k) (pieces.1.write_once k)))
 
 module _ (o : Owner) (sp : Space) (al : ℕ) (s : Spaces) where
   owned_here : (q : Option Span) → ((any : Space) → owned o (space_in s any).blocks ≡ placed_in o sp al q any) → owned o (space_in s sp).blocks ≡ block_of_piece o al q
@@ -184,7 +184,7 @@ lasting_none ScratchRecord = refl
 lasting_none Persist = refl
 lasting_none WriteOnce = refl
 
-module _ (old new : Spaces) (i : ℕ) (table : List MemRec) (own shared : Pieces) (records : HasRecords (picture_of old) i table own shared)
+module _ (old new : Spaces) (i : ℕ) (table : List MemRec) (own shared : Pieces) (records : HasRecords (map_of old) i table own shared)
     (gone : (any : Space) → (space_in new any).blocks ≡ disowned (Record i 3) (disowned (Record i 2) (disowned (Record i 1) (disowned (Record i 0) (space_in old any).blocks)))) where
   none_behind : (k : ℕ) (any : Space) → owned (Record i (suc (suc (suc (suc k))))) (space_in old any).blocks ≡ []
   none_behind k any =
@@ -196,10 +196,10 @@ module _ (old new : Spaces) (i : ℕ) (table : List MemRec) (own shared : Pieces
   left_in : (any : Space) → (space_in new any).blocks ≡ blocks_without (is_instance's i) (space_in old any).blocks
   left_in any = gone any ∙ instance_gone i (space_in old any).blocks (λ k. none_behind k any)
 
-  pub picture_left : picture_of new ≡ without_owners (is_instance's i) (picture_of old)
-  picture_left = pictures_equal (picture_of new) (without_owners (is_instance's i) (picture_of old)) (left_in Daram) (left_in Saram) (left_in External)
+  pub map_left : map_of new ≡ without_owners (is_instance's i) (map_of old)
+  map_left = maps_equal (map_of new) (without_owners (is_instance's i) (map_of old)) (left_in Daram) (left_in Saram) (left_in External)
 
-  pub others_left : (o : Owner) (space : Space) → ((k : ℕ) → o ≢ Record i k) → owned o (blocks_in (picture_of new) space) ≡ owned o (blocks_in (picture_of old) space)
+  pub others_left : (o : Owner) (space : Space) → ((k : ℕ) → o ≢ Record i k) → owned o (blocks_in (map_of new) space) ≡ owned o (blocks_in (map_of old) space)
   others_left o space apart =
       let bs = (space_in old space).blocks in
       ap (owned o) (seen_blocks new space ∙ gone space)
@@ -224,23 +224,23 @@ module _ (old first second new : Spaces) (pieces : OldBlocks)
   at_external : (space_in second External) ≡ space_in old External
   at_external = not_saram External (λ e. saram_external (sym e)) ∙ not_daram External (λ e. daram_external (sym e))
 
-  pub pieces_left : picture_of new ≡ without_pieces (picture_of old) pieces
+  pub pieces_left : map_of new ≡ without_pieces (map_of old) pieces
   pieces_left =
-      pictures_equal (picture_of new) (without_pieces (picture_of old) pieces)
+      maps_equal (map_of new) (without_pieces (map_of old) pieces)
       (ap (λ (s : SpaceState). s.blocks) at_daram ∙ daram)
       (ap (λ (s : SpaceState). s.blocks) (not_external Saram saram_external) ∙ saram ∙ ap (λ (s : SpaceState). without_piece pieces.saram s.blocks) at_saram)
       (external ∙ ap (λ (s : SpaceState). without_piece pieces.external s.blocks) at_external)
 
   pub group_left : (g : ℕ) → (space_in first Daram).blocks ≡ disowned (Scratch g) (space_in old Daram).blocks → (space_in second Saram).blocks ≡ disowned (Scratch g) (space_in first Saram).blocks
-      → (space_in new External).blocks ≡ disowned (Scratch g) (space_in second External).blocks → picture_of new ≡ without_owners (is_group's g) (picture_of old)
+      → (space_in new External).blocks ≡ disowned (Scratch g) (space_in second External).blocks → map_of new ≡ without_owners (is_group's g) (map_of old)
   group_left g one two three =
-      pictures_equal (picture_of new) (without_owners (is_group's g) (picture_of old))
+      maps_equal (map_of new) (without_owners (is_group's g) (map_of old))
       (ap (λ (s : SpaceState). s.blocks) at_daram ∙ one ∙ group_gone g old.daram.blocks)
       (ap (λ (s : SpaceState). s.blocks) (not_external Saram saram_external) ∙ two ∙ ap (λ (s : SpaceState). disowned (Scratch g) s.blocks) at_saram ∙ group_gone g old.saram.blocks)
       (three ∙ ap (λ (s : SpaceState). disowned (Scratch g) s.blocks) at_external ∙ group_gone g old.external.blocks)
 
   pub group_others : (o : Owner) → owned o (space_in first Daram).blocks ≡ owned o (space_in old Daram).blocks → owned o (space_in second Saram).blocks ≡ owned o (space_in first Saram).blocks
-      → owned o (space_in new External).blocks ≡ owned o (space_in second External).blocks → (space : Space) → owned o (blocks_in (picture_of new) space) ≡ owned o (blocks_in (picture_of old) space)
+      → owned o (space_in new External).blocks ≡ owned o (space_in second External).blocks → (space : Space) → owned o (blocks_in (map_of new) space) ≡ owned o (blocks_in (map_of old) space)
   group_others o one two three Daram = ap (λ (s : SpaceState). owned o s.blocks) at_daram ∙ one
   group_others o one two three Saram = ap (λ (s : SpaceState). owned o s.blocks) (not_external Saram saram_external) ∙ two ∙ ap (λ (s : SpaceState). owned o s.blocks) at_saram
   group_others o one two three External = three ∙ ap (λ (s : SpaceState). owned o s.blocks) at_external
@@ -263,11 +263,11 @@ same_without None (Some b) bs e = let bad : None ≡ Some b.place = e in cc
 same_without (Some p) None bs e = let bad : Some p.place ≡ None = e in cc
 same_without (Some p) (Some b) bs e = let same : Some p.place ≡ Some b.place = e in let at : b.place ≡ p.place = cc in ap (λ n. without_at n bs) at
 
-pub replaced_are : (picture placed : Picture) (g : ℕ) (table : List MemRec) (pieces : OldBlocks)
-    → ((space : Space) → option_map (λ (p : Span). p.place) (old_piece pieces space) ≡ option_map (λ (b : Placed). b.place) (replaced_block picture g table space))
-    → without_replaced picture g table placed ≡ without_pieces placed pieces
-replaced_are picture placed g table pieces same =
-    pictures_equal (without_replaced picture g table placed) (without_pieces placed pieces)
-    (same_without pieces.daram (replaced_block picture g table Daram) placed.daram (same Daram))
-    (same_without pieces.saram (replaced_block picture g table Saram) placed.saram (same Saram))
-    (same_without pieces.external (replaced_block picture g table External) placed.external (same External))
+pub replaced_are : (map placed : MemoryMap) (g : ℕ) (table : List MemRec) (pieces : OldBlocks)
+    → ((space : Space) → option_map (λ (p : Span). p.place) (old_piece pieces space) ≡ option_map (λ (b : Placed). b.place) (replaced_block map g table space))
+    → without_replaced map g table placed ≡ without_pieces placed pieces
+replaced_are map placed g table pieces same =
+    maps_equal (without_replaced map g table placed) (without_pieces placed pieces)
+    (same_without pieces.daram (replaced_block map g table Daram) placed.daram (same Daram))
+    (same_without pieces.saram (replaced_block map g table Saram) placed.saram (same Saram))
+    (same_without pieces.external (replaced_block map g table External) placed.external (same External))

@@ -1,4 +1,4 @@
-pub mod Pictures
+pub mod Maps
 pub mod Slots
 pub mod OnePlaced
 pub mod Needs

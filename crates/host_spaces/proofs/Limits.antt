@@ -9,7 +9,7 @@ use Rattle.mem_rec.specs.Records.{is_alignment, is_record, is_table}
 use Rattle.mem_rec.specs.Layout.{scratch_align, scratch_need}
 use Rattle.mem_rec.proofs.Valid.{within_limits}
 use Rattle.space_raw.specs.Span.{Span}
-use Rattle.space_heap.specs.Pictures.{AreBlocks, IsBlock}
+use Rattle.space_heap.specs.Maps.{AreBlocks, IsBlock}
 use Rattle.relocate.specs.Places.{IsAlignment}
 use Rattle.relocate.proofs.RangeTests.{both_false, both_true, clash}
 use Rattle.relocate.specs.Spots.{AreSpotsFrom, IsSpot}

@@ -21,11 +21,11 @@ use Rattle.space_blocks.proofs.Orders.{before, behind, length_with}
 use Rattle.host_spaces.specs.declared.spaces.Spaces.{Spaces}
 use Rattle.host_spaces.specs.declared.granted.Granted.{Granted}
 use Rattle.host_map.specs.declared.parts.Wanted.{Wanted}
-use Rattle.host_spaces.specs.Picture.{AreSameSpaces, picture_of, sizes_of, space_in}
-use Rattle.host_map.specs.Picture.{blocks_in, place_in, put_block, words_in}
+use Rattle.host_spaces.specs.MemoryMap.{AreSameSpaces, map_of, sizes_of, space_in}
+use Rattle.host_map.specs.MemoryMap.{blocks_in, place_in, put_block, words_in}
 use Rattle.host_map.specs.Creation.{all_placed, goes_on}
 use Rattle.host_spaces.specs.Wants.{AreApartWants, IsFor, IsGranted, IsWithinLimits, count_in, one_in, slot_at, somes, want_at, with_slot}
-use Rattle.host_spaces.proofs.Pictures.{by_space, picture_with, same_then, seen_blocks, seen_words, sizes_same, spaces_equal}
+use Rattle.host_spaces.proofs.Maps.{by_space, map_with, same_then, seen_blocks, seen_words, sizes_same, spaces_equal}
 use Rattle.host_spaces.proofs.Slots.{slot_other, slot_same}
 
 -- what is known of a block that was placed
@@ -80,7 +80,7 @@ full_size : (w : Wanted) → IsWithinLimits w → placed_size w.size ≡ w.size
 full_size w limits = let unit = limits.unit in omega arith
 
 place_seen : (old : Spaces) (w : Wanted) → IsWithinLimits w
-    → least_place (space_in old w.space).region.size (ranges (space_in old w.space).blocks) (placed_size w.size) w.align ≡ place_in (sizes_of old) (picture_of old) w.space w.size w.align
+    → least_place (space_in old w.space).region.size (ranges (space_in old w.space).blocks) (placed_size w.size) w.align ≡ place_in (sizes_of old) (map_of old) w.space w.size w.align
 place_seen old w limits =
     ap (λ n. least_place (space_in old w.space).region.size (ranges (space_in old w.space).blocks) n w.align) (full_size w limits)
     ∙ ap (λ n. least_place n (ranges (space_in old w.space).blocks) w.size w.align) (sym (seen_words old w.space))
@@ -90,17 +90,17 @@ module _ (old mid : Spaces) (w : Wanted) (p : Span) (m : IsOne old mid w p) (lim
   long : length p.words ≡ w.size
   long = m.piece.1 ∙ full_size w limits
 
-  picture_is : picture_of mid ≡ put_block (picture_of old) w.space (block_of w.owner w.align p)
-  picture_is =
-      picture_with old mid w.space (with_block (block_of w.owner w.align p) (blocks_in (picture_of old) w.space))
+  map_is : map_of mid ≡ put_block (map_of old) w.space (block_of w.owner w.align p)
+  map_is =
+      map_with old mid w.space (with_block (block_of w.owner w.align p) (blocks_in (map_of old) w.space))
       (m.blocks ∙ ap (with_block (block_of w.owner w.align p)) (sym (seen_blocks old w.space))) m.elsewhere
 
-  pub exact_one : (ws : List Wanted) → all_placed (sizes_of old) (picture_of old) (w ∷ ws) ≡ all_placed (sizes_of mid) (picture_of mid) ws
+  pub exact_one : (ws : List Wanted) → all_placed (sizes_of old) (map_of old) (w ∷ ws) ≡ all_placed (sizes_of mid) (map_of mid) ws
   exact_one ws =
-      ap (λ o. goes_on o w (λ b. all_placed (sizes_of old) (put_block (picture_of old) w.space b) ws)) (sym (m.place ∙ place_seen old w limits))
-      ∙ ap (λ n. let b : Placed = record { owner = w.owner; place = p.place; size = n; align = w.align } in all_placed (sizes_of old) (put_block (picture_of old) w.space b) ws) (sym long)
-      ∙ ap (λ q. all_placed (sizes_of old) q ws) (sym picture_is)
-      ∙ ap (λ s. all_placed s (picture_of mid) ws) (sym (sizes_same old mid m.stays))
+      ap (λ o. goes_on o w (λ b. all_placed (sizes_of old) (put_block (map_of old) w.space b) ws)) (sym (m.place ∙ place_seen old w limits))
+      ∙ ap (λ n. let b : Placed = record { owner = w.owner; place = p.place; size = n; align = w.align } in all_placed (sizes_of old) (put_block (map_of old) w.space b) ws) (sym long)
+      ∙ ap (λ q. all_placed (sizes_of old) q ws) (sym map_is)
+      ∙ ap (λ s. all_placed s (map_of mid) ws) (sym (sizes_same old mid m.stays))
 
   pub is_for : IsFor old (Some w) (Some p)
   is_for = (m.piece.0, long)

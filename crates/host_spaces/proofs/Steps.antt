@@ -23,23 +23,23 @@ use Rattle.host_map.specs.declared.placed.Owner.{Owner}
 use Rattle.host_map.specs.declared.placed.Owner.TheVariants.{Record, Scratch}
 use Rattle.space_blocks.specs.Blocks.{block_of_piece}
 use Rattle.host_map.specs.declared.parts.Wanted.{Wanted}
-use Rattle.host_map.specs.Picture.{Picture, all_spaces, first_block}
+use Rattle.host_map.specs.MemoryMap.{MemoryMap, all_spaces, first_block}
 use Rattle.host_map.specs.Creation.{block_wanted, group_wanted, own_wanted, record_wanted, scratch_wanted, wanted_by}
 use Rattle.host_spaces.specs.Pieces.{HasBlocks}
 use Rattle.host_spaces.specs.Wants.{AreApartWants, block_need, count_in, need_wanted, one_in, somes, want_at, wants_of}
 
 -- ---- whose each of them is
 
-record_by : (a : Attr) (twin : Option ℕ) (x v : Wanted) → (if is_scratch a || is_some twin then None else Some x) ≡ Some v → x ≡ v
-record_by ScratchRecord twin x v e = absurd (let bad : None ≡ Some v = e in cc)
+record_by : (a : Attr) (sharer : Option ℕ) (x v : Wanted) → (if is_scratch a || is_some sharer then None else Some x) ≡ Some v → x ≡ v
+record_by ScratchRecord sharer x v e = absurd (let bad : None ≡ Some v = e in cc)
 record_by Persist None x v e = let same : Some x ≡ Some v = e in cc
-record_by Persist (Some twin) x v e = absurd (let bad : None ≡ Some v = e in cc)
+record_by Persist (Some sharer) x v e = absurd (let bad : None ≡ Some v = e in cc)
 record_by WriteOnce None x v e = let same : Some x ≡ Some v = e in cc
-record_by WriteOnce (Some twin) x v e = absurd (let bad : None ≡ Some v = e in cc)
+record_by WriteOnce (Some sharer) x v e = absurd (let bad : None ≡ Some v = e in cc)
 
-record_step : (twins : ℕ → Option ℕ) (i k : ℕ) (r : MemRec) (v : Wanted) → record_wanted twins i k r ≡ Some v → (v.owner ≡ Record i k) × (v.space ≡ r.space)
-record_step twins i k r v e =
-    let is = record_by r.attr (twins k) (record { space = r.space; owner = Record i k; size = placed_size r.size; align = r.align }) v e in
+record_step : (sharers : ℕ → Option ℕ) (i k : ℕ) (r : MemRec) (v : Wanted) → record_wanted sharers i k r ≡ Some v → (v.owner ≡ Record i k) × (v.space ≡ r.space)
+record_step sharers i k r v e =
+    let is = record_by r.attr (sharers k) (record { space = r.space; owner = Record i k; size = placed_size r.size; align = r.align }) v e in
     (sym (ap (λ (w : Wanted). w.owner) is), sym (ap (λ (w : Wanted). w.space) is))
 
 need_step : (g : ℕ) (space : Space) (n : Option Need) (v : Wanted) → need_wanted g space n ≡ Some v → (v.owner ≡ Scratch g) × (v.space ≡ space)
@@ -63,31 +63,31 @@ entry_of (Scratch g) External = 6
 entry_is : (v : Wanted) (o : Owner) (space : Space) (n : ℕ) → v.owner ≡ o → v.space ≡ space → entry_of o space ≡ n → entry_of v.owner v.space ≡ n
 entry_is v o space n owner there e = ap (λ x. entry_of x v.space) owner ∙ ap (entry_of o) there ∙ e
 
-module _ (twins : ℕ → Option ℕ) (i g : ℕ) (table : List MemRec) (group : Group) where
+module _ (sharers : ℕ → Option ℕ) (i g : ℕ) (table : List MemRec) (group : Group) where
   abbrev pub wants : List (Option Wanted)
-  wants = wants_of twins i g table group
+  wants = wants_of sharers i g table group
 
-  pub owner_of_step : (j : ℕ) (v : Wanted) → want_at (wants_of twins i g table group) j ≡ Some v → (v.owner ≡ Record i j) ⊎ (v.owner ≡ Scratch g)
-  owner_of_step zero v e = inl (record_step twins i 0 (record_at table 0) v e).0
-  owner_of_step (suc zero) v e = inl (record_step twins i 1 (record_at table 1) v e).0
-  owner_of_step (suc (suc zero)) v e = inl (record_step twins i 2 (record_at table 2) v e).0
-  owner_of_step (suc (suc (suc zero))) v e = inl (record_step twins i 3 (record_at table 3) v e).0
+  pub owner_of_step : (j : ℕ) (v : Wanted) → want_at (wants_of sharers i g table group) j ≡ Some v → (v.owner ≡ Record i j) ⊎ (v.owner ≡ Scratch g)
+  owner_of_step zero v e = inl (record_step sharers i 0 (record_at table 0) v e).0
+  owner_of_step (suc zero) v e = inl (record_step sharers i 1 (record_at table 1) v e).0
+  owner_of_step (suc (suc zero)) v e = inl (record_step sharers i 2 (record_at table 2) v e).0
+  owner_of_step (suc (suc (suc zero))) v e = inl (record_step sharers i 3 (record_at table 3) v e).0
   owner_of_step (suc (suc (suc (suc zero)))) v e = inr (need_step g Daram (block_need table group Daram) v e).0
   owner_of_step (suc (suc (suc (suc (suc zero))))) v e = inr (need_step g Saram (block_need table group Saram) v e).0
   owner_of_step (suc (suc (suc (suc (suc (suc zero)))))) v e = inr (need_step g External (block_need table group External) v e).0
   owner_of_step (suc (suc (suc (suc (suc (suc (suc j))))))) v e = absurd (let bad : None ≡ Some v = e in cc)
 
-  pub entry_of_step : (j : ℕ) (v : Wanted) → want_at (wants_of twins i g table group) j ≡ Some v → entry_of v.owner v.space ≡ j
-  entry_of_step zero v e = let s = record_step twins i 0 (record_at table 0) v e in entry_is v (Record i 0) (record_at table 0).space 0 s.0 s.1 refl
-  entry_of_step (suc zero) v e = let s = record_step twins i 1 (record_at table 1) v e in entry_is v (Record i 1) (record_at table 1).space 1 s.0 s.1 refl
-  entry_of_step (suc (suc zero)) v e = let s = record_step twins i 2 (record_at table 2) v e in entry_is v (Record i 2) (record_at table 2).space 2 s.0 s.1 refl
-  entry_of_step (suc (suc (suc zero))) v e = let s = record_step twins i 3 (record_at table 3) v e in entry_is v (Record i 3) (record_at table 3).space 3 s.0 s.1 refl
+  pub entry_of_step : (j : ℕ) (v : Wanted) → want_at (wants_of sharers i g table group) j ≡ Some v → entry_of v.owner v.space ≡ j
+  entry_of_step zero v e = let s = record_step sharers i 0 (record_at table 0) v e in entry_is v (Record i 0) (record_at table 0).space 0 s.0 s.1 refl
+  entry_of_step (suc zero) v e = let s = record_step sharers i 1 (record_at table 1) v e in entry_is v (Record i 1) (record_at table 1).space 1 s.0 s.1 refl
+  entry_of_step (suc (suc zero)) v e = let s = record_step sharers i 2 (record_at table 2) v e in entry_is v (Record i 2) (record_at table 2).space 2 s.0 s.1 refl
+  entry_of_step (suc (suc (suc zero))) v e = let s = record_step sharers i 3 (record_at table 3) v e in entry_is v (Record i 3) (record_at table 3).space 3 s.0 s.1 refl
   entry_of_step (suc (suc (suc (suc zero)))) v e = let s = need_step g Daram (block_need table group Daram) v e in entry_is v (Scratch g) Daram 4 s.0 s.1 refl
   entry_of_step (suc (suc (suc (suc (suc zero))))) v e = let s = need_step g Saram (block_need table group Saram) v e in entry_is v (Scratch g) Saram 5 s.0 s.1 refl
   entry_of_step (suc (suc (suc (suc (suc (suc zero)))))) v e = let s = need_step g External (block_need table group External) v e in entry_is v (Scratch g) External 6 s.0 s.1 refl
   entry_of_step (suc (suc (suc (suc (suc (suc (suc j))))))) v e = absurd (let bad : None ≡ Some v = e in cc)
 
-  pub apart_wants : AreApartWants (wants_of twins i g table group)
+  pub apart_wants : AreApartWants (wants_of sharers i g table group)
   apart_wants j l v u less at there space owner =
       let same : j ≡ l = sym (entry_of_step j v at) ∙ ap (λ o. entry_of o v.space) owner ∙ ap (entry_of u.owner) space ∙ entry_of_step l u there in omega arith
 
@@ -112,10 +112,10 @@ three_needs Daram = refl
 three_needs Saram = refl
 three_needs External = refl
 
-pub few_wants : (twins : ℕ → Option ℕ) (i g : ℕ) (table : List MemRec) (group : Group) (space : Space) → count_in space (wants_of twins i g table group) ≤ 5
-few_wants twins i g table group space =
-    let a = one_at_most space (record_wanted twins i 0 (record_at table 0)) in let b = one_at_most space (record_wanted twins i 1 (record_at table 1)) in
-    let c = one_at_most space (record_wanted twins i 2 (record_at table 2)) in let d = one_at_most space (record_wanted twins i 3 (record_at table 3)) in
+pub few_wants : (sharers : ℕ → Option ℕ) (i g : ℕ) (table : List MemRec) (group : Group) (space : Space) → count_in space (wants_of sharers i g table group) ≤ 5
+few_wants sharers i g table group space =
+    let a = one_at_most space (record_wanted sharers i 0 (record_at table 0)) in let b = one_at_most space (record_wanted sharers i 1 (record_at table 1)) in
+    let c = one_at_most space (record_wanted sharers i 2 (record_at table 2)) in let d = one_at_most space (record_wanted sharers i 3 (record_at table 3)) in
     let x = need_there space Daram g (block_need table group Daram) in let y = need_there space Saram g (block_need table group Saram) in
     let z = need_there space External g (block_need table group External) in let three = three_needs space in omega arith
 
@@ -125,23 +125,23 @@ last_option : (o : Option Wanted) (xs ys : List Wanted) → cons_option o (xs ++
 last_option None xs ys = refl
 last_option (Some w) xs ys = refl
 
-own_wants : (twins : ℕ → Option ℕ) (i : ℕ) (table : List MemRec) (rest : List Wanted) → length table ≤ 4
-    → cons_option (record_wanted twins i 0 (record_at table 0)) (cons_option (record_wanted twins i 1 (record_at table 1)) (cons_option (record_wanted twins i 2 (record_at table 2)) (cons_option (record_wanted twins i 3 (record_at table 3)) rest)))
-    ≡ own_wanted twins i 0 table ++ rest
-own_wants twins i [] rest few = refl
-own_wants twins i (a ∷ []) rest few = last_option (record_wanted twins i 0 a) [] rest
-own_wants twins i (a ∷ b ∷ []) rest few =
-    ap (cons_option (record_wanted twins i 0 a)) (last_option (record_wanted twins i 1 b) [] rest) ∙ last_option (record_wanted twins i 0 a) (own_wanted twins i 1 (b ∷ [])) rest
-own_wants twins i (a ∷ b ∷ c ∷ []) rest few =
-    ap (λ ws. cons_option (record_wanted twins i 0 a) (cons_option (record_wanted twins i 1 b) ws)) (last_option (record_wanted twins i 2 c) [] rest)
-    ∙ ap (cons_option (record_wanted twins i 0 a)) (last_option (record_wanted twins i 1 b) (own_wanted twins i 2 (c ∷ [])) rest)
-    ∙ last_option (record_wanted twins i 0 a) (own_wanted twins i 1 (b ∷ c ∷ [])) rest
-own_wants twins i (a ∷ b ∷ c ∷ d ∷ []) rest few =
-    ap (λ ws. cons_option (record_wanted twins i 0 a) (cons_option (record_wanted twins i 1 b) (cons_option (record_wanted twins i 2 c) ws))) (last_option (record_wanted twins i 3 d) [] rest)
-    ∙ ap (λ ws. cons_option (record_wanted twins i 0 a) (cons_option (record_wanted twins i 1 b) ws)) (last_option (record_wanted twins i 2 c) (own_wanted twins i 3 (d ∷ [])) rest)
-    ∙ ap (cons_option (record_wanted twins i 0 a)) (last_option (record_wanted twins i 1 b) (own_wanted twins i 2 (c ∷ d ∷ [])) rest)
-    ∙ last_option (record_wanted twins i 0 a) (own_wanted twins i 1 (b ∷ c ∷ d ∷ [])) rest
-own_wants twins i (a ∷ b ∷ c ∷ d ∷ e ∷ others) rest few = absurd (omega arith)
+own_wants : (sharers : ℕ → Option ℕ) (i : ℕ) (table : List MemRec) (rest : List Wanted) → length table ≤ 4
+    → cons_option (record_wanted sharers i 0 (record_at table 0)) (cons_option (record_wanted sharers i 1 (record_at table 1)) (cons_option (record_wanted sharers i 2 (record_at table 2)) (cons_option (record_wanted sharers i 3 (record_at table 3)) rest)))
+    ≡ own_wanted sharers i 0 table ++ rest
+own_wants sharers i [] rest few = refl
+own_wants sharers i (a ∷ []) rest few = last_option (record_wanted sharers i 0 a) [] rest
+own_wants sharers i (a ∷ b ∷ []) rest few =
+    ap (cons_option (record_wanted sharers i 0 a)) (last_option (record_wanted sharers i 1 b) [] rest) ∙ last_option (record_wanted sharers i 0 a) (own_wanted sharers i 1 (b ∷ [])) rest
+own_wants sharers i (a ∷ b ∷ c ∷ []) rest few =
+    ap (λ ws. cons_option (record_wanted sharers i 0 a) (cons_option (record_wanted sharers i 1 b) ws)) (last_option (record_wanted sharers i 2 c) [] rest)
+    ∙ ap (cons_option (record_wanted sharers i 0 a)) (last_option (record_wanted sharers i 1 b) (own_wanted sharers i 2 (c ∷ [])) rest)
+    ∙ last_option (record_wanted sharers i 0 a) (own_wanted sharers i 1 (b ∷ c ∷ [])) rest
+own_wants sharers i (a ∷ b ∷ c ∷ d ∷ []) rest few =
+    ap (λ ws. cons_option (record_wanted sharers i 0 a) (cons_option (record_wanted sharers i 1 b) (cons_option (record_wanted sharers i 2 c) ws))) (last_option (record_wanted sharers i 3 d) [] rest)
+    ∙ ap (λ ws. cons_option (record_wanted sharers i 0 a) (cons_option (record_wanted sharers i 1 b) ws)) (last_option (record_wanted sharers i 2 c) (own_wanted sharers i 3 (d ∷ [])) rest)
+    ∙ ap (cons_option (record_wanted sharers i 0 a)) (last_option (record_wanted sharers i 1 b) (own_wanted sharers i 2 (c ∷ d ∷ [])) rest)
+    ∙ last_option (record_wanted sharers i 0 a) (own_wanted sharers i 1 (b ∷ c ∷ d ∷ [])) rest
+own_wants sharers i (a ∷ b ∷ c ∷ d ∷ e ∷ others) rest few = absurd (omega arith)
 
 not_le : (a b : ℕ) → nat_lt a b ≡ not (nat_le b a)
 not_le a b = elim (cases_lt a b) [
@@ -178,21 +178,21 @@ with_need : (t s : Bool) (g : ℕ) (space : Space) (a : Option Wanted) (n : Opti
 with_need true s g space a n e = refl
 with_need false s g space a n e = e
 
-pub scratch_is : (picture : Picture) (g : ℕ) (table : List MemRec) (group : Group) → HasBlocks picture g group → (space : Space)
-    → scratch_wanted picture g table space ≡ need_wanted g space (block_need table group space)
-scratch_is picture g table group has space =
+pub scratch_is : (map : MemoryMap) (g : ℕ) (table : List MemRec) (group : Group) → HasBlocks map g group → (space : Space)
+    → scratch_wanted map g table space ≡ need_wanted g space (block_need table group space)
+scratch_is map g table group has space =
     let b = block_in group space in let need = scratch_need table space in let align = scratch_align table space in
     ap (λ bs. group_wanted (first_block bs) g table space) (has space)
     ∙ with_need (need == 0) (serves b need align) g space (block_wanted (first_block (block_of_piece (Scratch g) (block_align b) (block_piece b))) g space need align)
     (Some (record { size = max (length (block_words b)) need; align = max (block_align b) align })) (wanted_here b g space need align)
 
-pub wants_is : (twins : ℕ → Option ℕ) (picture : Picture) (i g : ℕ) (table : List MemRec) (group : Group) → HasBlocks picture g group → IsTrue (is_table table)
-    → wanted_by twins picture i g table ≡ somes (drop 0 (wants_of twins i g table group))
-wants_is twins picture i g table group has t =
+pub wants_is : (sharers : ℕ → Option ℕ) (map : MemoryMap) (i g : ℕ) (table : List MemRec) (group : Group) → HasBlocks map g group → IsTrue (is_table table)
+    → wanted_by sharers map i g table ≡ somes (drop 0 (wants_of sharers i g table group))
+wants_is sharers map i g table group has t =
     let few = (within_limits table t).few in
-    let rest : filter_map (scratch_wanted picture g table) all_spaces
+    let rest : filter_map (scratch_wanted map g table) all_spaces
     ≡ cons_option (need_wanted g Daram (block_need table group Daram)) (cons_option (need_wanted g Saram (block_need table group Saram)) (cons_option (need_wanted g External (block_need table group External)) [])) =
-    ap (λ o. cons_option o (cons_option (scratch_wanted picture g table Saram) (cons_option (scratch_wanted picture g table External) []))) (scratch_is picture g table group has Daram)
-    ∙ ap (λ o. cons_option (need_wanted g Daram (block_need table group Daram)) (cons_option o (cons_option (scratch_wanted picture g table External) []))) (scratch_is picture g table group has Saram)
-    ∙ ap (λ o. cons_option (need_wanted g Daram (block_need table group Daram)) (cons_option (need_wanted g Saram (block_need table group Saram)) (cons_option o []))) (scratch_is picture g table group has External) in
-    ap (λ ws. own_wanted twins i 0 table ++ ws) rest ∙ sym (own_wants twins i table _ few)
+    ap (λ o. cons_option o (cons_option (scratch_wanted map g table Saram) (cons_option (scratch_wanted map g table External) []))) (scratch_is map g table group has Daram)
+    ∙ ap (λ o. cons_option (need_wanted g Daram (block_need table group Daram)) (cons_option o (cons_option (scratch_wanted map g table External) []))) (scratch_is map g table group has Saram)
+    ∙ ap (λ o. cons_option (need_wanted g Daram (block_need table group Daram)) (cons_option (need_wanted g Saram (block_need table group Saram)) (cons_option o []))) (scratch_is map g table group has External) in
+    ap (λ ws. own_wanted sharers i 0 table ++ ws) rest ∙ sym (own_wants sharers i table _ few)

@@ -1,3 +1,3 @@
-pub mod Picture
+pub mod MemoryMap
 pub mod Pieces
 pub mod Wants

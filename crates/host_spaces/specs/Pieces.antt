@@ -27,23 +27,23 @@ use Rattle.host_spaces.specs.declared.pieces.NewBlocks.{NewBlocks}
 use Rattle.host_spaces.specs.declared.pieces.Placement.{Placement}
 use Rattle.host_spaces.specs.declared.pieces.OldBlocks.{OldBlocks}
 use Rattle.host_spaces.specs.declared.spaces.Spaces.{Spaces}
-use Rattle.host_map.specs.Picture.{Picture, blocks_in, each_space}
-use Rattle.host_spaces.specs.Picture.{space_in}
+use Rattle.host_map.specs.MemoryMap.{MemoryMap, blocks_in, each_space}
+use Rattle.host_spaces.specs.MemoryMap.{space_in}
 use Rattle.host_spaces.specs.Wants.{want_at}
 
 -- the block of record k of instance i in the space, none if it is in another
 abbrev pub record_block : ℕ → ℕ → MemRec → Space → Option Span → List Placed
 record_block i k r space p = if same_space r.space space then block_of_piece (Record i k) r.align p else []
 
--- the blocks of instance i in the picture are the pieces of its records
-abbrev pub HasRecords : Picture → ℕ → List MemRec → Pieces → Pieces → Type 0
-HasRecords picture i table own shared = (k : ℕ) (space : Space) →
-    owned (Record i k) (blocks_in picture space) ≡ record_block i k (record_at table k) space (piece_of_record table own shared k)
+-- the blocks of instance i in the memory map are the pieces of its records
+abbrev pub HasRecords : MemoryMap → ℕ → List MemRec → Pieces → Pieces → Type 0
+HasRecords map i table own shared = (k : ℕ) (space : Space) →
+    owned (Record i k) (blocks_in map space) ≡ record_block i k (record_at table k) space (piece_of_record table own shared k)
 
 -- those of group g are its blocks
-abbrev pub HasBlocks : Picture → ℕ → Group → Type 0
-HasBlocks picture g group = (space : Space) →
-    owned (Scratch g) (blocks_in picture space) ≡ block_of_piece (Scratch g) (block_align (block_in group space)) (block_piece (block_in group space))
+abbrev pub HasBlocks : MemoryMap → ℕ → Group → Type 0
+HasBlocks map g group = (space : Space) →
+    owned (Scratch g) (blocks_in map space) ≡ block_of_piece (Scratch g) (block_align (block_in group space)) (block_piece (block_in group space))
 
 abbrev pub is_write_once : Attr → Bool
 is_write_once ScratchRecord = false
@@ -52,8 +52,8 @@ is_write_once WriteOnce = true
 
 -- where a piece is wanted there is one, of the space's words and of so many of them
 abbrev pub IsPieceOf : Extent → ℕ → Bool → Option Span → Type 0
-IsPieceOf home size wanted None = wanted ≡ false
-IsPieceOf home size wanted (Some p) = (wanted ≡ true) × (p.region ≡ home) × (length p.words ≡ size)
+IsPieceOf owner size wanted None = wanted ≡ false
+IsPieceOf owner size wanted (Some p) = (wanted ≡ true) × (p.region ≡ owner) × (length p.words ≡ size)
 
 -- each record that lasts has a piece of its placed size in its space: a persistent one its own, a write-once one among those that are lent
 pub record ArePiecesOf (spaces : Spaces) (table : List MemRec) (own shared : Pieces) : Type 0 where
@@ -62,21 +62,21 @@ pub record ArePiecesOf (spaces : Spaces) (table : List MemRec) (own shared : Pie
   pub write_once : (k : ℕ) → IsPieceOf (space_in spaces (record_at table k).space).region (placed_size (record_at table k).size)
       (is_write_once (record_at table k).attr) (piece_at shared k)
 
--- whether a write-once record gets a piece: where no other instance shares it, its twin
+-- whether a write-once record gets a piece: where no other instance shares it, its sharer
 abbrev pub is_placed_once : Option ℕ → Attr → Bool
 is_placed_once None a = is_write_once a
-is_placed_once (Some twin) a = false
+is_placed_once (Some sharer) a = false
 
 -- the same without the pieces of the records that another instance shares
-pub record ArePlacedPieces (spaces : Spaces) (table : List MemRec) (twins : ℕ → Option ℕ) (own shared : Pieces) : Type 0 where
+pub record ArePlacedPieces (spaces : Spaces) (table : List MemRec) (sharers : ℕ → Option ℕ) (own shared : Pieces) : Type 0 where
   pub persistent : (k : ℕ) → IsPieceOf (space_in spaces (record_at table k).space).region (placed_size (record_at table k).size)
       (is_persistent (record_at table k).attr) (piece_at own k)
   pub write_once : (k : ℕ) → IsPieceOf (space_in spaces (record_at table k).space).region (placed_size (record_at table k).size)
-      (is_placed_once (twins k) (record_at table k).attr) (piece_at shared k)
+      (is_placed_once (sharers k) (record_at table k).attr) (piece_at shared k)
 
--- write-once records alone have twins
+-- write-once records alone have sharers
 abbrev pub AreSharable : List MemRec → (ℕ → Option ℕ) → Type 0
-AreSharable table twins = (k j : ℕ) → twins k ≡ Some j → is_write_once (record_at table k).attr ≡ true
+AreSharable table sharers = (k j : ℕ) → sharers k ≡ Some j → is_write_once (record_at table k).attr ≡ true
 
 abbrev pub new_block : NewBlocks → Space → Option ScratchBlock
 new_block blocks Daram = blocks.daram
@@ -112,10 +112,10 @@ placement_of table wants made =
 
 -- where a block is needed it is there, of the space's words, its size and its alignment
 abbrev pub IsNeeded : Extent → Option Need → Option ScratchBlock → Type 0
-IsNeeded home None None = Unit {0}
-IsNeeded home None (Some b) = ⊥
-IsNeeded home (Some n) None = ⊥
-IsNeeded home (Some n) (Some b) = (b.piece.region ≡ home) × (length b.piece.words ≡ n.size) × (b.align ≡ n.align)
+IsNeeded owner None None = Unit {0}
+IsNeeded owner None (Some b) = ⊥
+IsNeeded owner (Some n) None = ⊥
+IsNeeded owner (Some n) (Some b) = (b.piece.region ≡ owner) × (length b.piece.words ≡ n.size) × (b.align ≡ n.align)
 
 -- the group's blocks with a new one, if there is one
 abbrev pub with_new : ℕ → Option ScratchBlock → List Placed → List Placed
@@ -128,6 +128,6 @@ pub record IsPoisoned (word : Option ℤ) (made : Placement) : Type 0 where
   pub shared : (k : ℕ) → ArePoison word (piece_words (piece_at made.shared k))
   pub blocks : (space : Space) → ArePoison word (block_words (new_block made.blocks space))
 
--- the picture without these pieces
-abbrev pub without_pieces : Picture → OldBlocks → Picture
-without_pieces picture pieces = each_space (λ space. without_piece (old_piece pieces space) (blocks_in picture space))
+-- the memory map without these pieces
+abbrev pub without_pieces : MemoryMap → OldBlocks → MemoryMap
+without_pieces map pieces = each_space (λ space. without_piece (old_piece pieces space) (blocks_in map space))

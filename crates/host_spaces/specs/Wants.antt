@@ -22,7 +22,7 @@ use Rattle.host_map.specs.Blocks.{owned, with_block}
 use Rattle.host_spaces.specs.declared.spaces.Spaces.{Spaces}
 use Rattle.host_map.specs.declared.parts.Wanted.{Wanted}
 use Rattle.host_spaces.specs.declared.granted.Granted.{Granted}
-use Rattle.host_spaces.specs.Picture.{space_in}
+use Rattle.host_spaces.specs.MemoryMap.{space_in}
 use Rattle.host_map.specs.Creation.{record_wanted}
 
 -- a block that can be asked for
@@ -43,8 +43,8 @@ block_need table group space = block_needed (block_in group space) (scratch_need
 
 -- what each of the four records needs, and the group in each space
 abbrev pub wants_of : (ℕ → Option ℕ) → ℕ → ℕ → List MemRec → Group → List (Option Wanted)
-wants_of twins i g table group =
-    record_wanted twins i 0 (record_at table 0) ∷ record_wanted twins i 1 (record_at table 1) ∷ record_wanted twins i 2 (record_at table 2) ∷ record_wanted twins i 3 (record_at table 3)
+wants_of sharers i g table group =
+    record_wanted sharers i 0 (record_at table 0) ∷ record_wanted sharers i 1 (record_at table 1) ∷ record_wanted sharers i 2 (record_at table 2) ∷ record_wanted sharers i 3 (record_at table 3)
     ∷ need_wanted g Daram (block_need table group Daram) ∷ need_wanted g Saram (block_need table group Saram) ∷ need_wanted g External (block_need table group External) ∷ []
 
 -- those that need something

@@ -6,21 +6,21 @@ ghost use Rattle.host_map.specs.declared.TheConstants.{SPACE_BLOCKS};
 ghost use Rattle.host_map.specs.declared.placed.Owner.{Owner};
 ghost use Rattle.host_map.specs.declared.placed.Owner.TheVariants.{Record, Scratch};
 ghost use Rattle.host_map.specs.Blocks.{owned};
-ghost use Rattle.host_spaces.specs.Picture.{AreSameSpaces, picture_of, sizes_of, space_in};
-ghost use Rattle.host_map.specs.Picture.{blocks_in};
-ghost use Rattle.host_map.specs.Creation.{all_placed, result_map, twin_at, wanted_by};
+ghost use Rattle.host_spaces.specs.MemoryMap.{AreSameSpaces, map_of, sizes_of, space_in};
+ghost use Rattle.host_map.specs.MemoryMap.{blocks_in};
+ghost use Rattle.host_map.specs.Creation.{all_placed, result_map, sharer_at, wanted_by};
 ghost use Rattle.host_spaces.specs.Pieces.{ArePlacedPieces, AreSharable, HasBlocks, HasRecords, IsNeeded, IsPoisoned, new_block, with_new};
 ghost use Rattle.host_spaces.specs.Wants.{block_need};
 
 use crate::pieces::{Placement, as_placement};
 use crate::placing::place_from;
 use crate::spaces::Spaces;
-use crate::wants::{Twins, wants};
+use crate::wants::{Sharers, wants};
 use mem_rec::{MemTab, Space};
 use scratch_group::Group;
 
 impl Spaces {
-    /// Places all blocks that a new instance `i` with this table needs: its records that aren't scratch and have no twin, in table order,
+    /// Places all blocks that a new instance `i` with this table needs: its records that aren't scratch and have no sharer, in table order,
     /// and then the blocks that its group `g` needs for it in `daram`, `saram` and `external`, while the group's old blocks still stand. Or says the
     /// space of the first block that has no place; then nothing has happened. Where there is a poison word, it fills what was placed.
     pub fn place_instance(
@@ -28,29 +28,29 @@ impl Spaces {
         i: u8,
         g: u8,
         table: &MemTab,
-        twins: &Twins,
+        sharers: &Sharers,
         old: &Group,
         poison: Option<i16>,
     ) -> Result<Placement, Space>
-        requires blocks { HasBlocks (picture_of self.old) g old.now }
-        requires twins { AreSharable table.now (twin_at twins.now) }
-        requires records { (k : ℕ) (space : Space) → owned (Record i k) (blocks_in (picture_of self.old) space) ≡ [] }
-        requires room { (space : Space) → length (blocks_in (picture_of self.old) space) + TABLE_RECORDS < SPACE_BLOCKS }
-        ensures exact { all_placed (sizes_of self.old) (picture_of self.old) (wanted_by (twin_at twins.now) (picture_of self.old) i g table.now) ≡ result_map (λ _. picture_of self.new) result }
-        ensures pieces { IfOk result (λ made. ArePlacedPieces self.old table.now (twin_at twins.now) made.own made.shared) }
-        ensures records { IfOk result (λ made. HasRecords (picture_of self.new) i table.now made.own made.shared) }
+        requires blocks { HasBlocks (map_of self.old) g old.now }
+        requires sharers { AreSharable table.now (sharer_at sharers.now) }
+        requires records { (k : ℕ) (space : Space) → owned (Record i k) (blocks_in (map_of self.old) space) ≡ [] }
+        requires room { (space : Space) → length (blocks_in (map_of self.old) space) + TABLE_RECORDS < SPACE_BLOCKS }
+        ensures exact { all_placed (sizes_of self.old) (map_of self.old) (wanted_by (sharer_at sharers.now) (map_of self.old) i g table.now) ≡ result_map (λ _. map_of self.new) result }
+        ensures pieces { IfOk result (λ made. ArePlacedPieces self.old table.now (sharer_at sharers.now) made.own made.shared) }
+        ensures records { IfOk result (λ made. HasRecords (map_of self.new) i table.now made.own made.shared) }
         ensures needed { IfOk result (λ made. (space : Space) → IsNeeded (space_in self.old space).region (block_need table.now old.now space) (new_block made.blocks space)) }
-        ensures blocks { IfOk result (λ made. (space : Space) → owned (Scratch g) (blocks_in (picture_of self.new) space)
-            ≡ with_new g (new_block made.blocks space) (owned (Scratch g) (blocks_in (picture_of self.old) space))) }
+        ensures blocks { IfOk result (λ made. (space : Space) → owned (Scratch g) (blocks_in (map_of self.new) space)
+            ≡ with_new g (new_block made.blocks space) (owned (Scratch g) (blocks_in (map_of self.old) space))) }
         ensures others { OnOk result ((o : Owner) (space : Space) → o ≢ Scratch g → ((k : ℕ) → o ≢ Record i k)
-            → owned o (blocks_in (picture_of self.new) space) ≡ owned o (blocks_in (picture_of self.old) space)) }
+            → owned o (blocks_in (map_of self.new) space) ≡ owned o (blocks_in (map_of self.old) space)) }
         ensures poison { IfOk result (IsPoisoned poison) }
         ensures refused { OnErr result (self.new ≡ self.old) }
         ensures stays { AreSameSpaces self.old self.new }
     {
         // it has four records at most
         let _records = table.records();
-        let wants = wants(self, i, g, table, twins, old);
+        let wants = wants(self, i, g, table, sharers, old);
         let granted = match place_from(self, &wants, 0, poison) {
             Ok(granted) => granted,
             Err(space) => return Err(space),

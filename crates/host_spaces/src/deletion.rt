@@ -7,8 +7,8 @@ ghost use Rattle.host_map.specs.declared.placed.Owner.TheVariants.{Record, Scrat
 ghost use Rattle.space_blocks.specs.Blocks.{Owns, block_of_piece, without_piece};
 ghost use Rattle.host_map.specs.Blocks.{disowned, owned};
 ghost use Rattle.ialg.specs.Records.{record_at};
-ghost use Rattle.host_spaces.specs.Picture.{AreSameSpaces, picture_of, space_in};
-ghost use Rattle.host_map.specs.Picture.{blocks_in, is_group's, is_instance's, without_owners};
+ghost use Rattle.host_spaces.specs.MemoryMap.{AreSameSpaces, map_of, space_in};
+ghost use Rattle.host_map.specs.MemoryMap.{blocks_in, is_group's, is_instance's, without_owners};
 ghost use Rattle.host_spaces.specs.Pieces.{ArePlacedPieces, HasRecords, old_piece, without_pieces};
 
 use crate::pieces::OldBlocks;
@@ -39,11 +39,11 @@ impl Spaces {
     /// The blocks of group `g` that these pieces are go back: those that new ones replace, or all of them with its last member.
     pub fn take_out_blocks(&mut self, g: u8, pieces: OldBlocks)
         requires regions { (space : Space) → IfSome (old_piece pieces space) (λ p. p.region ≡ (space_in self.old space).region) }
-        requires owner { (space : Space) → IfSome (old_piece pieces space) (Owns (blocks_in (picture_of self.old) space) (Scratch g)) }
-        ensures picture { picture_of self.new ≡ without_pieces (picture_of self.old) pieces }
-        ensures last { (align : Space → ℕ) → ((space : Space) → owned (Scratch g) (blocks_in (picture_of self.old) space) ≡ block_of_piece (Scratch g) (align space) (old_piece pieces space))
-            → picture_of self.new ≡ without_owners (is_group's g) (picture_of self.old) }
-        ensures others { (o : Owner) (space : Space) → o ≢ Scratch g → owned o (blocks_in (picture_of self.new) space) ≡ owned o (blocks_in (picture_of self.old) space) }
+        requires owner { (space : Space) → IfSome (old_piece pieces space) (Owns (blocks_in (map_of self.old) space) (Scratch g)) }
+        ensures map { map_of self.new ≡ without_pieces (map_of self.old) pieces }
+        ensures last { (align : Space → ℕ) → ((space : Space) → owned (Scratch g) (blocks_in (map_of self.old) space) ≡ block_of_piece (Scratch g) (align space) (old_piece pieces space))
+            → map_of self.new ≡ without_owners (is_group's g) (map_of self.old) }
+        ensures others { (o : Owner) (space : Space) → o ≢ Scratch g → owned o (blocks_in (map_of self.new) space) ≡ owned o (blocks_in (map_of self.old) space) }
         ensures stays { AreSameSpaces self.old self.new }
     {
         let OldBlocks {
@@ -58,10 +58,10 @@ impl Spaces {
 
     /// The pieces of the records of instance `i`, which has this table, go back: those that no other instance shares.
     pub fn take_out_records(&mut self, i: u8, table: &MemTab, own: Pieces, shared: Pieces)
-        requires pieces { (twins : ℕ → Option ℕ) × ArePlacedPieces self.old table.now twins own shared }
-        requires records { HasRecords (picture_of self.old) i table.now own shared }
-        ensures picture { picture_of self.new ≡ without_owners (is_instance's i) (picture_of self.old) }
-        ensures others { (o : Owner) (space : Space) → ((k : ℕ) → o ≢ Record i k) → owned o (blocks_in (picture_of self.new) space) ≡ owned o (blocks_in (picture_of self.old) space) }
+        requires pieces { (sharers : ℕ → Option ℕ) × ArePlacedPieces self.old table.now sharers own shared }
+        requires records { HasRecords (map_of self.old) i table.now own shared }
+        ensures map { map_of self.new ≡ without_owners (is_instance's i) (map_of self.old) }
+        ensures others { (o : Owner) (space : Space) → ((k : ℕ) → o ≢ Record i k) → owned o (blocks_in (map_of self.new) space) ≡ owned o (blocks_in (map_of self.old) space) }
         ensures stays { AreSameSpaces self.old self.new }
     {
         let Pieces { p0, p1, p2, p3 } = own;

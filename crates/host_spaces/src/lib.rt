@@ -19,4 +19,4 @@ pub use laws::creations;
 pub use pieces::{NewBlocks, OldBlocks, Placement};
 pub use spaces::Spaces;
 pub use start::{EmptySpaces, StartError};
-pub use wants::Twins;
+pub use wants::Sharers;

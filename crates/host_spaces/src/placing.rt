@@ -10,7 +10,7 @@ ghost use Rattle.space_blocks.specs.Blocks.{block_of};
 ghost use Rattle.host_map.specs.Blocks.{owned, ranges, with_block, without_at};
 ghost use Rattle.host_spaces.specs.declared.wants.TheConstants.{WANTS};
 ghost use Rattle.host_map.specs.declared.parts.Wanted.{Wanted};
-ghost use Rattle.host_spaces.specs.Picture.{AreSameSpaces, picture_of, sizes_of, space_in};
+ghost use Rattle.host_spaces.specs.MemoryMap.{AreSameSpaces, map_of, sizes_of, space_in};
 ghost use Rattle.host_map.specs.Creation.{all_placed, result_map};
 ghost use Rattle.host_spaces.specs.Wants.{AreApartWants, IsGranted, IsWithinLimits, count_in, somes, want_at};
 
@@ -53,7 +53,7 @@ pub(crate) fn place_from(
     requires limits { (j : ℕ) (w : Wanted) → want_at wants.now j ≡ Some w → IsWithinLimits w }
     requires apart { AreApartWants wants.now }
     requires room { (space : Space) → length (space_in spaces.old space).blocks + count_in space (drop k wants.now) ≤ SPACE_BLOCKS }
-    ensures exact { all_placed (sizes_of spaces.old) (picture_of spaces.old) (somes (drop k wants.now)) ≡ result_map (λ _. picture_of spaces.new) result }
+    ensures exact { all_placed (sizes_of spaces.old) (map_of spaces.old) (somes (drop k wants.now)) ≡ result_map (λ _. map_of spaces.new) result }
     ensures granted { IfOk result (IsGranted spaces.old spaces.new poison k wants.now) }
     ensures refused { OnErr result (spaces.new ≡ spaces.old) }
     ensures stays { AreSameSpaces spaces.old spaces.new }

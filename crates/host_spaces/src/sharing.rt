@@ -4,19 +4,19 @@ ghost use Rattle.mem_rec.specs.declared.Space.{Space};
 ghost use Rattle.host_map.specs.declared.placed.Owner.{Owner};
 ghost use Rattle.host_map.specs.declared.placed.Owner.TheVariants.{Record};
 ghost use Rattle.host_map.specs.Blocks.{owned, renamed_blocks, renaming};
-ghost use Rattle.host_spaces.specs.Picture.{AreSameSpaces, picture_of};
-ghost use Rattle.host_map.specs.Picture.{blocks_in, renamed};
-ghost use Rattle.host_map.specs.Creation.{handed_on, only, taken_over, twin_at};
+ghost use Rattle.host_spaces.specs.MemoryMap.{AreSameSpaces, map_of};
+ghost use Rattle.host_map.specs.MemoryMap.{blocks_in, renamed};
+ghost use Rattle.host_map.specs.Creation.{handed_on, only, taken_over, sharer_at};
 
 use crate::spaces::Spaces;
-use crate::wants::Twins;
+use crate::wants::Sharers;
 use host_map::Owner;
 use mem_rec::TABLE_RECORDS;
 
 impl Spaces {
     // What is the block of one owner is another owner's from now on, in each space.
     fn rename(&mut self, from: Owner, to: Owner)
-        ensures picture { picture_of self.new ≡ renamed (renaming from to) (picture_of self.old) }
+        ensures map { map_of self.new ≡ renamed (renaming from to) (map_of self.old) }
         ensures stays { AreSameSpaces self.old self.new }
     {
         self.daram.rename(from, to);
@@ -24,60 +24,60 @@ impl Spaces {
         self.external.rename(from, to);
     }
 
-    // Where instance `i` has come to share record `k` with a twin of a greater number, that block is `i`'s from now on.
-    fn take_record(&mut self, i: u8, k: u8, twin: Option<u8>)
-        ensures picture { picture_of self.new ≡ renamed (taken_over (only k twin) i) (picture_of self.old) }
+    // Where instance `i` has come to share record `k` with a sharer of a greater number, that block is `i`'s from now on.
+    fn take_record(&mut self, i: u8, k: u8, sharer: Option<u8>)
+        ensures map { map_of self.new ≡ renamed (taken_over (only k sharer) i) (map_of self.old) }
         ensures stays { AreSameSpaces self.old self.new }
     {
-        match twin {
-            Some(twin) => {
-                if i < twin {
-                    self.rename(Owner::Record(twin, k), Owner::Record(i, k));
+        match sharer {
+            Some(sharer) => {
+                if i < sharer {
+                    self.rename(Owner::Record(sharer, k), Owner::Record(i, k));
                 }
             }
             None => {}
         }
     }
 
-    // Where instance `i` shared record `k` with a twin, that block is the twin's from now on.
-    fn hand_record(&mut self, i: u8, k: u8, twin: Option<u8>)
-        ensures picture { picture_of self.new ≡ renamed (handed_on (only k twin) i) (picture_of self.old) }
+    // Where instance `i` shared record `k` with a sharer, that block is the sharer's from now on.
+    fn hand_record(&mut self, i: u8, k: u8, sharer: Option<u8>)
+        ensures map { map_of self.new ≡ renamed (handed_on (only k sharer) i) (map_of self.old) }
         ensures stays { AreSameSpaces self.old self.new }
     {
-        match twin {
-            Some(twin) => self.rename(Owner::Record(i, k), Owner::Record(twin, k)),
+        match sharer {
+            Some(sharer) => self.rename(Owner::Record(i, k), Owner::Record(sharer, k)),
             None => {}
         }
     }
 
-    /// Instance `i` has come to share the records that have a twin. The owner of a shared block is the least instance that shares it: where
-    /// `i` is less than the twin, that block is `i`'s from now on.
-    pub fn take_over(&mut self, i: u8, twins: &Twins)
-        ensures picture { picture_of self.new ≡ renamed (taken_over (twin_at twins.now) i) (picture_of self.old) }
-        ensures taken { (k twin : ℕ) (space : Space) → twin_at twins.now k ≡ Some twin → i < twin → owned (Record i k) (blocks_in (picture_of self.old) space) ≡ []
-            → owned (Record i k) (blocks_in (picture_of self.new) space) ≡ renamed_blocks (λ _. Record i k) (owned (Record twin k) (blocks_in (picture_of self.old) space)) }
-        ensures left { (k twin : ℕ) (space : Space) → twin_at twins.now k ≡ Some twin → i < twin → owned (Record twin k) (blocks_in (picture_of self.new) space) ≡ [] }
-        ensures others { (o : Owner) (space : Space) → ((k twin : ℕ) → twin_at twins.now k ≡ Some twin → i < twin → (o ≢ Record i k) × (o ≢ Record twin k))
-            → owned o (blocks_in (picture_of self.new) space) ≡ owned o (blocks_in (picture_of self.old) space) }
+    /// Instance `i` has come to share the records that have a sharer. The owner of a shared block is the least instance that shares it: where
+    /// `i` is less than the sharer, that block is `i`'s from now on.
+    pub fn take_over(&mut self, i: u8, sharers: &Sharers)
+        ensures map { map_of self.new ≡ renamed (taken_over (sharer_at sharers.now) i) (map_of self.old) }
+        ensures taken { (k sharer : ℕ) (space : Space) → sharer_at sharers.now k ≡ Some sharer → i < sharer → owned (Record i k) (blocks_in (map_of self.old) space) ≡ []
+            → owned (Record i k) (blocks_in (map_of self.new) space) ≡ renamed_blocks (λ _. Record i k) (owned (Record sharer k) (blocks_in (map_of self.old) space)) }
+        ensures left { (k sharer : ℕ) (space : Space) → sharer_at sharers.now k ≡ Some sharer → i < sharer → owned (Record sharer k) (blocks_in (map_of self.new) space) ≡ [] }
+        ensures others { (o : Owner) (space : Space) → ((k sharer : ℕ) → sharer_at sharers.now k ≡ Some sharer → i < sharer → (o ≢ Record i k) × (o ≢ Record sharer k))
+            → owned o (blocks_in (map_of self.new) space) ≡ owned o (blocks_in (map_of self.old) space) }
         ensures stays { AreSameSpaces self.old self.new }
     {
         for k in 0..TABLE_RECORDS {
-            self.take_record(i, k as u8, twins[k]);
+            self.take_record(i, k as u8, sharers[k]);
         }
     }
 
-    /// Instance `i` goes: what it shared is its twin's from now on, the least of those that are left.
-    pub fn hand_on(&mut self, i: u8, twins: &Twins)
-        ensures picture { picture_of self.new ≡ renamed (handed_on (twin_at twins.now) i) (picture_of self.old) }
-        ensures handed { (k twin : ℕ) (space : Space) → twin_at twins.now k ≡ Some twin → owned (Record twin k) (blocks_in (picture_of self.old) space) ≡ []
-            → owned (Record twin k) (blocks_in (picture_of self.new) space) ≡ renamed_blocks (λ _. Record twin k) (owned (Record i k) (blocks_in (picture_of self.old) space)) }
-        ensures left { (k twin : ℕ) (space : Space) → twin_at twins.now k ≡ Some twin → twin ≢ i → owned (Record i k) (blocks_in (picture_of self.new) space) ≡ [] }
-        ensures others { (o : Owner) (space : Space) → ((k twin : ℕ) → twin_at twins.now k ≡ Some twin → (o ≢ Record i k) × (o ≢ Record twin k))
-            → owned o (blocks_in (picture_of self.new) space) ≡ owned o (blocks_in (picture_of self.old) space) }
+    /// Instance `i` goes: what it shared is its sharer's from now on, the least of those that are left.
+    pub fn hand_on(&mut self, i: u8, sharers: &Sharers)
+        ensures map { map_of self.new ≡ renamed (handed_on (sharer_at sharers.now) i) (map_of self.old) }
+        ensures handed { (k sharer : ℕ) (space : Space) → sharer_at sharers.now k ≡ Some sharer → owned (Record sharer k) (blocks_in (map_of self.old) space) ≡ []
+            → owned (Record sharer k) (blocks_in (map_of self.new) space) ≡ renamed_blocks (λ _. Record sharer k) (owned (Record i k) (blocks_in (map_of self.old) space)) }
+        ensures left { (k sharer : ℕ) (space : Space) → sharer_at sharers.now k ≡ Some sharer → sharer ≢ i → owned (Record i k) (blocks_in (map_of self.new) space) ≡ [] }
+        ensures others { (o : Owner) (space : Space) → ((k sharer : ℕ) → sharer_at sharers.now k ≡ Some sharer → (o ≢ Record i k) × (o ≢ Record sharer k))
+            → owned o (blocks_in (map_of self.new) space) ≡ owned o (blocks_in (map_of self.old) space) }
         ensures stays { AreSameSpaces self.old self.new }
     {
         for k in 0..TABLE_RECORDS {
-            self.hand_record(i, k as u8, twins[k]);
+            self.hand_record(i, k as u8, sharers[k]);
         }
     }
 }

@@ -2,7 +2,7 @@
 ghost use Rattle.std.specs.Prelude.{◌≡◌, ◌≢◌, ℕ, ◌+◌, ◌-◌, ◌<◌, ◌≤◌, ◌^◌, [], ◌∷◌, length, min, Some, IfOk, IfErr, IfSome, IfNone, IsErrOf};
 ghost use Rattle.std.specs.Option.{option_map};
 ghost use Rattle.mem_rec.specs.declared.Space.{Space};
-ghost use Rattle.space_heap.specs.Pictures.{range_of};
+ghost use Rattle.space_heap.specs.Maps.{range_of};
 ghost use Rattle.relocate.specs.Places.{least_place, placed_size};
 ghost use Rattle.host_map.specs.declared.TheConstants.{MAP_BLOCKS, SPACE_BLOCKS};
 ghost use Rattle.host_map.specs.declared.placed.Owner.{Owner};
@@ -10,8 +10,8 @@ ghost use Rattle.space_blocks.specs.Blocks.{Owns, block_of};
 ghost use Rattle.host_map.specs.Blocks.{block_range, disowned, owned, ranges, with_block, without_at};
 ghost use Rattle.host_map.specs.Moves.{next_block, next_in};
 ghost use Rattle.space_blocks.specs.Spaces.{AreInOrder};
-ghost use Rattle.host_spaces.specs.Picture.{AreSameSpaces, copied_in, picture_of, sizes_of, space_in};
-ghost use Rattle.host_map.specs.Picture.{AreSizes, blocks_in, empty_picture, moved_in};
+ghost use Rattle.host_spaces.specs.MemoryMap.{AreSameSpaces, copied_in, map_of, sizes_of, space_in};
+ghost use Rattle.host_map.specs.MemoryMap.{AreSizes, blocks_in, empty_map, moved_in};
 ghost use Rattle.host_spaces.specs.Wants.{IsWithinLimits};
 
 use crate::start::{EmptySpaces, StartError};
@@ -34,7 +34,7 @@ impl Spaces {
     pub fn new(alloc: Global, sizes: Sizes) -> Result<Spaces, StartError>
         ensures bad_size { ¬ AreSizes sizes → IsErrOf result StartError.BadSize }
         ensures memory { AreSizes sizes → IfErr result (λ e. e ≡ StartError.Memory) }
-        ensures spaces { IfOk result (λ s. (sizes_of s ≡ sizes) × (picture_of s ≡ empty_picture) × (copied_in s ≡ 0)) }
+        ensures spaces { IfOk result (λ s. (sizes_of s ≡ sizes) × (map_of s ≡ empty_map) × (copied_in s ≡ 0)) }
     {
         EmptySpaces::new(alloc, sizes).map(Spaces::of)
     }
@@ -42,7 +42,7 @@ impl Spaces {
     /// These spaces, in which blocks are placed from now on.
     pub fn of(empty: EmptySpaces) -> Spaces
         ensures sizes { sizes_of result ≡ empty.sizes }
-        ensures picture { picture_of result ≡ empty_picture }
+        ensures map { map_of result ≡ empty_map }
         ensures copied { copied_in result ≡ 0 }
     {
         let EmptySpaces {
@@ -71,23 +71,23 @@ impl Spaces {
 
     /// The blocks of a space, in place order, while none is being replaced.
     pub fn map(&self, space: Space) -> Map
-        requires few { length (blocks_in (picture_of self.now) space) ≤ MAP_BLOCKS }
-        ensures value { result.items ≡ blocks_in (picture_of self.now) space }
+        requires few { length (blocks_in (map_of self.now) space) ≤ MAP_BLOCKS }
+        ensures value { result.items ≡ blocks_in (map_of self.now) space }
     {
         self.space(space).map()
     }
 
     /// The blocks of a space, in place order.
     pub fn blocks(&self, space: Space) -> &[Placed]
-        ensures value { result.now ≡ blocks_in (picture_of self.now) space }
-        ensures order { AreInOrder (space_in self.now space).region.size (blocks_in (picture_of self.now) space) }
+        ensures value { result.now ≡ blocks_in (map_of self.now) space }
+        ensures order { AreInOrder (space_in self.now space).region.size (blocks_in (map_of self.now) space) }
     {
         self.space(space).blocks()
     }
 
     /// The block of a space that moves next, as it stands. `None` exactly where all are packed.
     pub fn next_move(&self, space: Space) -> Option<Placed>
-        ensures value { result ≡ next_block (blocks_in (picture_of self.now) space) }
+        ensures value { result ≡ next_block (blocks_in (map_of self.now) space) }
     {
         self.space(space).next_move()
     }
@@ -95,14 +95,14 @@ impl Spaces {
     /// The next move of a space is made, of the block that this piece is. It is slid down to its packed place with its words.
     pub fn make_move(&mut self, space: Space, piece: Piece) -> Piece
         requires region { piece.region ≡ (space_in self.old space).region }
-        requires next { option_map block_range (next_block (blocks_in (picture_of self.old) space)) ≡ Some (range_of piece) }
-        ensures picture { picture_of self.new ≡ moved_in (picture_of self.old) space }
-        ensures place { option_map (λ m. m.to) (next_in (blocks_in (picture_of self.old) space)) ≡ Some result.place }
+        requires next { option_map block_range (next_block (blocks_in (map_of self.old) space)) ≡ Some (range_of piece) }
+        ensures map { map_of self.new ≡ moved_in (map_of self.old) space }
+        ensures place { option_map (λ m. m.to) (next_in (blocks_in (map_of self.old) space)) ≡ Some result.place }
         ensures words { (result.words ≡ piece.words) × (result.region ≡ piece.region) }
-        ensures owned { (owner : Owner) (align : ℕ) → owned owner (blocks_in (picture_of self.old) space) ≡ block_of owner align piece ∷ []
-            → owned owner (blocks_in (picture_of self.new) space) ≡ block_of owner align result ∷ [] }
-        ensures others { (owner o : Owner) → Owns (blocks_in (picture_of self.old) space) owner piece → o ≢ owner
-            → owned o (blocks_in (picture_of self.new) space) ≡ owned o (blocks_in (picture_of self.old) space) }
+        ensures owned { (owner : Owner) (align : ℕ) → owned owner (blocks_in (map_of self.old) space) ≡ block_of owner align piece ∷ []
+            → owned owner (blocks_in (map_of self.new) space) ≡ block_of owner align result ∷ [] }
+        ensures others { (owner o : Owner) → Owns (blocks_in (map_of self.old) space) owner piece → o ≢ owner
+            → owned o (blocks_in (map_of self.new) space) ≡ owned o (blocks_in (map_of self.old) space) }
         ensures elsewhere { (other : Space) → other ≢ space → space_in self.new other ≡ space_in self.old other }
         ensures copied { copied_in self.new ≡ min (copied_in self.old + length piece.words) (2 ^ 64 - 1) }
         ensures regions { (any : Space) → (space_in self.new any).region ≡ (space_in self.old any).region }
@@ -166,7 +166,7 @@ impl Spaces {
 
     /// The spaces go back to the allocator. All blocks were taken out.
     pub fn close(self)
-        requires none { picture_of self ≡ empty_picture }
+        requires none { map_of self ≡ empty_map }
     {
         let Spaces {
             daram,

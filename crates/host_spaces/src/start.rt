@@ -1,6 +1,6 @@
 //! How the spaces are asked for.
 ghost use Rattle.std.specs.Prelude.{◌≡◌, [], IfOk, IfErr, IsErrOf};
-ghost use Rattle.host_map.specs.Picture.{AreSizes};
+ghost use Rattle.host_map.specs.MemoryMap.{AreSizes};
 
 use host_map::Sizes;
 use relocate::is_space_size;

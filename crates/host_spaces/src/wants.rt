@@ -1,8 +1,8 @@
 //! What a new instance needs.
 ghost use Rattle.std.specs.Prelude.{◌≡◌, ℕ, Some, IfSome};
 ghost use Rattle.ialg.specs.Records.{record_at};
-ghost use Rattle.host_map.specs.Creation.{record_wanted, twin_at};
-ghost use Rattle.host_spaces.specs.Picture.{picture_of};
+ghost use Rattle.host_map.specs.Creation.{record_wanted, sharer_at};
+ghost use Rattle.host_spaces.specs.MemoryMap.{map_of};
 ghost use Rattle.host_spaces.specs.Pieces.{HasBlocks};
 ghost use Rattle.host_spaces.specs.Wants.{IsWithinLimits, block_need, need_wanted, want_at, wants_of};
 
@@ -11,15 +11,15 @@ use host_map::{Owner, Wanted};
 use mem_rec::{Attr, LEAST_ALIGNMENT, MemTab, Space, TABLE_RECORDS};
 use scratch_group::Group;
 
-/// For each record the least other instance that shares it, its twin.
-pub type Twins = [Option<u8>; TABLE_RECORDS];
+/// For each record the least other instance that shares it, its sharer.
+pub type Sharers = [Option<u8>; TABLE_RECORDS];
 
 // What a creation can need: four records and a block in each space.
 pub(crate) const WANTS: usize = 7;
 
 // What record `k` of instance `i` needs, where this other instance shares it, or none.
-pub(crate) fn wanted_record(i: u8, k: u8, table: &MemTab, twin: Option<u8>) -> Option<Wanted>
-    ensures value { result ≡ record_wanted (λ _. twin) i k (record_at table.now k) }
+pub(crate) fn wanted_record(i: u8, k: u8, table: &MemTab, sharer: Option<u8>) -> Option<Wanted>
+    ensures value { result ≡ record_wanted (λ _. sharer) i k (record_at table.now k) }
     ensures limits { IfSome result IsWithinLimits }
 {
     let records = table.records();
@@ -27,7 +27,7 @@ pub(crate) fn wanted_record(i: u8, k: u8, table: &MemTab, twin: Option<u8>) -> O
         return None;
     }
     let record = records[k as usize];
-    if record.attr == Attr::Scratch || twin.is_some() {
+    if record.attr == Attr::Scratch || sharer.is_some() {
         return None;
     }
     Some(Wanted {
@@ -46,7 +46,7 @@ pub(crate) fn wanted_block(
     old: &Group,
     space: Space,
 ) -> Option<Wanted>
-    requires blocks { HasBlocks (picture_of spaces.now) g old.now }
+    requires blocks { HasBlocks (map_of spaces.now) g old.now }
     ensures value { result ≡ need_wanted g space (block_need table.now old.now space) }
     ensures limits { IfSome result IsWithinLimits }
 {
@@ -68,18 +68,18 @@ pub(crate) fn wants(
     i: u8,
     g: u8,
     table: &MemTab,
-    twins: &Twins,
+    sharers: &Sharers,
     old: &Group,
 ) -> [Option<Wanted>; WANTS]
-    requires blocks { HasBlocks (picture_of spaces.now) g old.now }
-    ensures value { result ≡ wants_of (twin_at twins.now) i g table.now old.now }
+    requires blocks { HasBlocks (map_of spaces.now) g old.now }
+    ensures value { result ≡ wants_of (sharer_at sharers.now) i g table.now old.now }
     ensures limits { (j : ℕ) (w : Wanted) → want_at result j ≡ Some w → IsWithinLimits w }
 {
     [
-        wanted_record(i, 0, table, twins[0]),
-        wanted_record(i, 1, table, twins[1]),
-        wanted_record(i, 2, table, twins[2]),
-        wanted_record(i, 3, table, twins[3]),
+        wanted_record(i, 0, table, sharers[0]),
+        wanted_record(i, 1, table, sharers[1]),
+        wanted_record(i, 2, table, sharers[2]),
+        wanted_record(i, 3, table, sharers[3]),
         wanted_block(spaces, g, table, old, Space::Daram),
         wanted_block(spaces, g, table, old, Space::Saram),
         wanted_block(spaces, g, table, old, Space::External),

@@ -3,7 +3,7 @@ use Rattle.std.proofs.Common.{◌≡◌, ℕ, ℤ, Bool, true, false, List, [], 
 use Rattle.std.proofs.Math.Seq.{drop-append_seam}
 use Rattle.std.proofs.lemmas.Bool.{or_left}
 use Rattle.std.specs.Prelude.{not, is_some, is_none, IfSome}
-use Rattle.host_map.specs.Picture.{blocks_in}
+use Rattle.host_map.specs.MemoryMap.{blocks_in}
 use Rattle.ialg.specs.declared.refusal.Refusal.TheVariants.{Range, Missing, Command}
 use Rattle.ialg.specs.Refusals.{first_refusal}
 use Rattle.ialg.specs.History.{Ctl, with_samples, block_output}
@@ -74,7 +74,7 @@ module _ {M : Type 0} (kinds : Meaning M) (before after : State M) where
   computed (Step space answer) does lawful = with_answer (λ a. Step space a) answer after (step before space) does
   computed (Compact space answer) does lawful = with_answer (λ a. Compact space a) answer after (compact before space) does
   computed (Stat g answer) does lawful = with_answer (λ a. Stat g a) answer after (stat before g) does
-  computed (Map space answer) does lawful = told (λ a. Map space a) answer (blocks_in before.picture space) after before does.0 does.1
+  computed (Map space answer) does lawful = told (λ a. Map space a) answer (blocks_in before.map space) after before does.0 does.1
   computed (Lives i answer) does lawful = told (λ a. Lives i a) answer (is_some (before.living i)) after before does.0 does.1
   computed (Copied answer) does lawful = told (λ a. Copied a) answer before.copied after before does.0 does.1
 

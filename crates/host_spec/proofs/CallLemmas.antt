@@ -7,10 +7,10 @@ use Rattle.ialg.specs.History.{Ctl}
 use Rattle.ialg.specs.Meaning.{Meaning, Status}
 use Rattle.host_map.specs.declared.placed.Placed.{Placed}
 use Rattle.host_map.specs.Moves.{next_block}
-use Rattle.host_map.specs.Picture.{Picture, blocks_in}
-use Rattle.host_map.specs.Creation.{created_picture}
-use Rattle.host_spec.specs.State.{Living, State, twins_of, with_living}
-use Rattle.host_spec.specs.Steps.{Outcome, unless, newborn, with_room, with_memory, create, touching, controlled, control, given, without_instance, delete, release, stat, moving}
+use Rattle.host_map.specs.MemoryMap.{MemoryMap, blocks_in}
+use Rattle.host_map.specs.Creation.{created_map}
+use Rattle.host_spec.specs.State.{Living, State, sharers_of, with_living}
+use Rattle.host_spec.specs.Steps.{Outcome, unless, newborn, with_room, with_memory, create, activating, controlled, control, given, without_instance, delete, release, stat, moving}
 use Rattle.host_spec.specs.Calls.{Call, Does, subject_of}
 use Rattle.host_spec.specs.Calls.Call.{Create, Control, Process, Delete, Release, Step, Compact, Stat, Map, Lives, Copied}
 use Rattle.host_spec.specs.Laws.{OthersLive, SameHost}
@@ -38,11 +38,11 @@ module _ {M : Type 0} (i : ℕ) (before : State M) where
   other : (x : Option (Living M)) (j : ℕ) → j ≢ i → with_living before.living i x j ≡ before.living j
   other x j apart = grind arith
 
-  with_room_keeps : (x : Living M) (table : List MemRec) (placed : Result Picture Space) → Keeps i before (with_room before i x table placed).1
+  with_room_keeps : (x : Living M) (table : List MemRec) (placed : Result MemoryMap Space) → Keeps i before (with_room before i x table placed).1
   with_room_keeps x table (Err space) = kept
-  with_room_keeps x table (Ok picture) = record { host = record { sizes = refl; poison = refl }; others = other (Some x) }
+  with_room_keeps x table (Ok map) = record { host = record { sizes = refl; poison = refl }; others = other (Some x) }
 
-  touching_keeps : (x : Living M) → Keeps i before (touching before i x)
+  touching_keeps : (x : Living M) → Keeps i before (activating before i x)
   touching_keeps x = record { host = record { sizes = refl; poison = refl }; others = other (Some x) }
 
   controlled_keeps : (x : Option (Living M)) (c : Ctl) → Keeps i before (controlled before i x c)
@@ -62,7 +62,7 @@ module _ {M : Type 0} (i : ℕ) (before : State M) where
     with_memory_keeps kind g p None = kept
     with_memory_keeps kind g p (Some table) =
         let x = newborn kind g p table in
-        with_room_keeps x table (created_picture before.sizes before.picture i g table (twins_of kinds before.living x))
+        with_room_keeps x table (created_map before.sizes before.map i g table (sharers_of kinds before.living x))
 
     without_keeps : (x : Option (Living M)) → Keeps i before (without_instance kinds before i x)
     without_keeps None = kept
@@ -105,7 +105,7 @@ module _ {M : Type 0} (kinds : Meaning M) (before after : State M) where
   keeps_but (Process i block out) does = subst (Keeps i before) (sym does.outcome) (given_keeps i before (before.living i) block)
   keeps_but (Delete i answer) does = after_is (Keeps i before) answer after _ does (delete_keeps i before kinds)
   keeps_but (Release g answer) does = after_is (KeepsAll before) answer after _ does (release_keeps before g)
-  keeps_but (Step space answer) does = after_is (KeepsAll before) answer after _ does (moving_keeps before space (next_block (blocks_in before.picture space)))
+  keeps_but (Step space answer) does = after_is (KeepsAll before) answer after _ does (moving_keeps before space (next_block (blocks_in before.map space)))
   keeps_but (Compact space answer) does = after_is (KeepsAll before) answer after _ does (record { host = record { sizes = refl; poison = refl }; living = refl })
   keeps_but (Stat g answer) does = after_is (KeepsAll before) answer after _ does (stat_keeps before g)
   keeps_but (Map space answer) does = subst (KeepsAll before) (sym does.1) (all_kept before)

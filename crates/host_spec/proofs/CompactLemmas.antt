@@ -8,7 +8,7 @@ use Rattle.relocate.proofs.PackingLemmas.{words_of, size_at, packed_from-with_pl
 use Rattle.relocate.proofs.CompactionLemmas.{moves_left, words_less, packed_where_none, next_is_first}
 use Rattle.host_map.specs.declared.placed.Placed.{Placed}
 use Rattle.host_map.specs.Moves.{spots_of, next_in, next_block, block_at, block_to_move, moved_to, moved_by, moved, at_places, packed}
-use Rattle.host_map.specs.Picture.{Picture, blocks_in, with_blocks, moved_in, packed_in}
+use Rattle.host_map.specs.MemoryMap.{MemoryMap, blocks_in, with_blocks, moved_in, packed_in}
 use Rattle.host_spec.specs.State.{State}
 use Rattle.host_spec.specs.Steps.{more_copied, moving, step, compact}
 use Rattle.host_spec.specs.Laws.{IsSteps}
@@ -100,21 +100,21 @@ is_still bs e =
 
 -- ---- states
 
-same_blocks : (picture : Picture) (space : Space) → with_blocks picture space (blocks_in picture space) ≡ picture
-same_blocks picture Daram = refl
-same_blocks picture Saram = refl
-same_blocks picture External = refl
+same_blocks : (map : MemoryMap) (space : Space) → with_blocks map space (blocks_in map space) ≡ map
+same_blocks map Daram = refl
+same_blocks map Saram = refl
+same_blocks map External = refl
 
-blocks_with : (picture : Picture) (space : Space) (blocks : List Placed) → blocks_in (with_blocks picture space blocks) space ≡ blocks
-blocks_with picture Daram blocks = refl
-blocks_with picture Saram blocks = refl
-blocks_with picture External blocks = refl
+blocks_with : (map : MemoryMap) (space : Space) (blocks : List Placed) → blocks_in (with_blocks map space blocks) space ≡ blocks
+blocks_with map Daram blocks = refl
+blocks_with map Saram blocks = refl
+blocks_with map External blocks = refl
 
-with_twice : (picture : Picture) (space : Space) (first second : List Placed)
-    → with_blocks (with_blocks picture space first) space second ≡ with_blocks picture space second
-with_twice picture Daram first second = refl
-with_twice picture Saram first second = refl
-with_twice picture External first second = refl
+with_twice : (map : MemoryMap) (space : Space) (first second : List Placed)
+    → with_blocks (with_blocks map space first) space second ≡ with_blocks map space second
+with_twice map Daram first second = refl
+with_twice map Saram first second = refl
+with_twice map External first second = refl
 
 pair_is : {A B : Type 0} (a c : A) (b d : B) → a ≡ c → b ≡ d → ◌≡◌ {A = A × B} (a, b) (c, d)
 pair_is {A = A} {B = B} a c b d e f = subst (λ x. ◌≡◌ {A = A × B} (a, b) (x, d)) e (subst (λ y. ◌≡◌ {A = A × B} (a, b) (a, y)) f refl)
@@ -130,42 +130,42 @@ none_more copied words counted e = omega arith
 
 module _ {M : Type 0} (before : State M) (space : Space) where
   abbrev here : List Placed
-  here = blocks_in before.picture space
+  here = blocks_in before.map space
 
-  -- the state with this picture, and so many words copied
-  abbrev with_these : Picture → ℕ → State M
-  with_these picture copied = record before { picture = picture; copied = copied }
+  -- the state with this memory map, and so many words copied
+  abbrev with_these : MemoryMap → ℕ → State M
+  with_these map copied = record before { map = map; copied = copied }
 
-  these_are : (p q : Picture) (c d : ℕ) → p ≡ q → c ≡ d → with_these p c ≡ with_these q d
-  these_are p q c d e f = ap (λ picture. with_these picture c) e ∙ ap (λ copied. with_these q copied) f
+  these_are : (p q : MemoryMap) (c d : ℕ) → p ≡ q → c ≡ d → with_these p c ≡ with_these q d
+  these_are p q c d e f = ap (λ map. with_these map c) e ∙ ap (λ copied. with_these q copied) f
 
   compact_still : before.copied < 2 ^ 64 → IsStill here → compact before space ≡ (0, before)
   compact_still counted is =
       pair_is (unpacked_count (spots_of here)) 0 (compact before space).1 before is.count
-      (these_are (packed_in before.picture space) before.picture (more_copied before.copied (unpacked_words (spots_of here))) before.copied
-      (ap (with_blocks before.picture space) is.same ∙ same_blocks before.picture space)
+      (these_are (packed_in before.map space) before.map (more_copied before.copied (unpacked_words (spots_of here))) before.copied
+      (ap (with_blocks before.map space) is.same ∙ same_blocks before.map space)
       (none_more before.copied (unpacked_words (spots_of here)) counted is.words))
 
   -- what a step leaves
   module _ (m : Move) (is : IsMoved here m) where
     abbrev stepped : State M
-    stepped = with_these (moved_in before.picture space) (more_copied before.copied is.block.size)
+    stepped = with_these (moved_in before.map space) (more_copied before.copied is.block.size)
 
     step_is : step before space ≡ (true, stepped)
     step_is = ap (moving before space) is.there
 
-    left : blocks_in stepped.picture space ≡ moved here
-    left = blocks_with before.picture space (moved here)
+    left : blocks_in stepped.map space ≡ moved here
+    left = blocks_with before.map space (moved here)
 
     then_compact : compact before space ≡ ((compact stepped space).0 + 1, (compact stepped space).1)
     then_compact =
-        let words : unpacked_words (spots_of (blocks_in stepped.picture space)) + is.block.size ≡ unpacked_words (spots_of here) =
+        let words : unpacked_words (spots_of (blocks_in stepped.map space)) + is.block.size ≡ unpacked_words (spots_of here) =
         ap (λ bs. unpacked_words (spots_of bs) + is.block.size) left ∙ is.words in
         pair_is (unpacked_count (spots_of here)) ((compact stepped space).0 + 1) (compact before space).1 (compact stepped space).1
         (sym (ap (λ bs. unpacked_count (spots_of bs) + 1) left ∙ is.count))
-        (these_are (packed_in before.picture space) (packed_in stepped.picture space) (more_copied before.copied (unpacked_words (spots_of here))) (compact stepped space).1.copied
-        (ap (with_blocks before.picture space) (sym (ap packed left ∙ is.same)) ∙ sym (with_twice before.picture space (moved here) (packed (blocks_in stepped.picture space))))
-        (sym (more_is before.copied is.block.size (unpacked_words (spots_of (blocks_in stepped.picture space))) (unpacked_words (spots_of here)) words)))
+        (these_are (packed_in before.map space) (packed_in stepped.map space) (more_copied before.copied (unpacked_words (spots_of here))) (compact stepped space).1.copied
+        (ap (with_blocks before.map space) (sym (ap packed left ∙ is.same)) ∙ sym (with_twice before.map space (moved here) (packed (blocks_in stepped.map space))))
+        (sym (more_is before.copied is.block.size (unpacked_words (spots_of (blocks_in stepped.map space))) (unpacked_words (spots_of here)) words)))
 
     moving_steps : IsSteps before space
     moving_steps = record {

@@ -7,7 +7,7 @@ use Rattle.relocate.specs.declared.packing.Move.{Move}
 use Rattle.relocate.specs.Packing.{packed_from}
 use Rattle.host_map.specs.declared.placed.Placed.{Placed}
 use Rattle.host_map.specs.Moves.{spots_of, next_in, next_block, moved_to, moved_by, moved, at_places, packed}
-use Rattle.host_map.specs.Picture.{Picture, blocks_in, with_blocks}
+use Rattle.host_map.specs.MemoryMap.{MemoryMap, blocks_in, with_blocks}
 use Rattle.host_spec.specs.State.{State}
 use Rattle.host_spec.specs.Steps.{moving, step, compact}
 use Rattle.host_spec.specs.Laws.{unplaced_block, OnlyMoves}
@@ -29,17 +29,17 @@ same_packed : (end : ℕ) (bs : List Placed) → unplaced_blocks (at_places bs (
 same_packed end [] = refl
 same_packed end (b ∷ bs) = ap (λ others. unplaced_block b ∷ others) (same_packed (next_multiple_of end b.align + b.size) bs)
 
-same_picture : (picture : Picture) (space : Space) (blocks : List Placed) → unplaced_blocks blocks ≡ unplaced_blocks (blocks_in picture space)
-    → (other : Space) → unplaced_blocks (blocks_in (with_blocks picture space blocks) other) ≡ unplaced_blocks (blocks_in picture other)
-same_picture picture Daram blocks e Daram = e
-same_picture picture Daram blocks e Saram = refl
-same_picture picture Daram blocks e External = refl
-same_picture picture Saram blocks e Daram = refl
-same_picture picture Saram blocks e Saram = e
-same_picture picture Saram blocks e External = refl
-same_picture picture External blocks e Daram = refl
-same_picture picture External blocks e Saram = refl
-same_picture picture External blocks e External = e
+same_map : (map : MemoryMap) (space : Space) (blocks : List Placed) → unplaced_blocks blocks ≡ unplaced_blocks (blocks_in map space)
+    → (other : Space) → unplaced_blocks (blocks_in (with_blocks map space blocks) other) ≡ unplaced_blocks (blocks_in map other)
+same_map map Daram blocks e Daram = e
+same_map map Daram blocks e Saram = refl
+same_map map Daram blocks e External = refl
+same_map map Saram blocks e Daram = refl
+same_map map Saram blocks e Saram = e
+same_map map Saram blocks e External = refl
+same_map map External blocks e Daram = refl
+same_map map External blocks e Saram = refl
+same_map map External blocks e External = e
 
 module _ {M : Type 0} (before : State M) (space : Space) where
   moving_moves : (next : Option Placed) → OnlyMoves before (moving before space next).1
@@ -48,18 +48,18 @@ module _ {M : Type 0} (before : State M) (space : Space) where
     living = refl;
     activity = refl;
     blocks =
-        let blocks = blocks_in before.picture space in
-        same_picture before.picture space (moved blocks) (same_moved_by (next_in blocks) blocks);
+        let blocks = blocks_in before.map space in
+        same_map before.map space (moved blocks) (same_moved_by (next_in blocks) blocks);
   }
 
   pub step_moves : OnlyMoves before (step before space).1
-  step_moves = moving_moves (next_block (blocks_in before.picture space))
+  step_moves = moving_moves (next_block (blocks_in before.map space))
 
   pub compact_moves : OnlyMoves before (compact before space).1
   compact_moves = record {
     living = refl;
     activity = refl;
     blocks =
-        let blocks = blocks_in before.picture space in
-        same_picture before.picture space (packed blocks) (same_packed 0 blocks);
+        let blocks = blocks_in before.map space in
+        same_map before.map space (packed blocks) (same_packed 0 blocks);
   }

@@ -10,11 +10,11 @@ use Rattle.ialg.specs.Refusals.{first_refusal}
 use Rattle.ialg.specs.History.{Ctl, Control, with_samples}
 use Rattle.ialg.specs.Meaning.{Meaning, Status}
 use Rattle.mem_rec.specs.declared.TheConstants.{INSTANCES, GROUPS}
-use Rattle.host_map.specs.Picture.{Picture}
-use Rattle.host_map.specs.Creation.{created_picture}
-use Rattle.host_map.specs.Activity.{rested, with_activity}
-use Rattle.host_spec.specs.State.{State, Living, twins_of, is_instance_number, is_group_number}
-use Rattle.host_spec.specs.Steps.{Outcome, unless, newborn, with_room, with_memory, create, created, control, controlled, given, touching, processed, delete, without_instance, release, stat}
+use Rattle.host_map.specs.MemoryMap.{MemoryMap}
+use Rattle.host_map.specs.Creation.{created_map}
+use Rattle.host_map.specs.Activity.{deactivated, with_activity}
+use Rattle.host_spec.specs.State.{State, Living, sharers_of, is_instance_number, is_group_number}
+use Rattle.host_spec.specs.Steps.{Outcome, unless, newborn, with_room, with_memory, create, created, control, controlled, given, activating, processed, delete, without_instance, release, stat}
 
 is_number : (i : ℕ) → i < INSTANCES → is_instance_number i ≡ true
 is_number i lt = lt-ltb i INSTANCES lt
@@ -61,13 +61,13 @@ module _ {M : Type 0} (before : State M) where
     create_params lt small none = free None lt small none
 
     pub create_room : (table : List MemRec) (space : Space) → i < INSTANCES → g < GROUPS → before.living i ≡ None
-        → created_picture before.sizes before.picture i g table (twins_of kinds before.living (newborn kind g p table)) ≡ Err space → create kinds before i kind g p (Some table) ≡ (Err (Room space), before)
+        → created_map before.sizes before.map i g table (sharers_of kinds before.living (newborn kind g p table)) ≡ Err space → create kinds before i kind g p (Some table) ≡ (Err (Room space), before)
     create_room table space lt small none e = free (Some table) lt small none ∙ ap (with_room before i (newborn kind g p table) table) e
 
-    pub create_granted : (table : List MemRec) (picture : Picture) → i < INSTANCES → g < GROUPS → before.living i ≡ None
-        → created_picture before.sizes before.picture i g table (twins_of kinds before.living (newborn kind g p table)) ≡ Ok picture
-        → create kinds before i kind g p (Some table) ≡ (Ok tt, created before i (newborn kind g p table) table picture)
-    create_granted table picture lt small none e = free (Some table) lt small none ∙ ap (with_room before i (newborn kind g p table) table) e
+    pub create_granted : (table : List MemRec) (map : MemoryMap) → i < INSTANCES → g < GROUPS → before.living i ≡ None
+        → created_map before.sizes before.map i g table (sharers_of kinds before.living (newborn kind g p table)) ≡ Ok map
+        → create kinds before i kind g p (Some table) ≡ (Ok tt, created before i (newborn kind g p table) table map)
+    create_granted table map lt small none e = free (Some table) lt small none ∙ ap (with_room before i (newborn kind g p table) table) e
 
   -- ---- controls
 
@@ -89,18 +89,18 @@ module _ {M : Type 0} (before : State M) where
     control_command x lt there = number_controlled false lt ∙ ap (λ y. controlling true y false) there
 
     pub control_granted : (x : Living M) → i < INSTANCES → before.living i ≡ Some x
-        → control before i c true status ≡ (Ok status, touching before i (record x { history = Control c ∷ x.history }))
+        → control before i c true status ≡ (Ok status, activating before i (record x { history = Control c ∷ x.history }))
     control_granted x lt there = number_controlled true lt ∙ ap (λ y. controlling true y true) there
 
   -- ---- samples
 
   given_some : (i : ℕ) (block : List ℤ) (x : Living M) → 1 ≤ length block
-      → given before i (Some x) block ≡ touching before i (record x { history = with_samples x.history block })
+      → given before i (Some x) block ≡ activating before i (record x { history = with_samples x.history block })
   given_some i [] x some = absurd (omega arith)
   given_some i (s ∷ block) x some = refl
 
   pub process_some : (i : ℕ) (block : List ℤ) (x : Living M) → before.living i ≡ Some x → 1 ≤ length block
-      → processed before i block ≡ touching before i (record x { history = with_samples x.history block })
+      → processed before i block ≡ activating before i (record x { history = with_samples x.history block })
   process_some i block x there some = ap (λ y. given before i y block) there ∙ given_some i block x some
 
   given_none : (i : ℕ) (x : Option (Living M)) → given before i x [] ≡ before
@@ -131,7 +131,7 @@ module _ {M : Type 0} (before : State M) where
   grouped group outcome = unless (first_refusal ((not group, Range) ∷ [])) before outcome
 
   abbrev resting : ℕ → State M
-  resting g = record before { activity = with_activity before.activity g (rested (before.activity g)) }
+  resting g = record before { activity = with_activity before.activity g (deactivated (before.activity g)) }
 
   pub release_range : (g : ℕ) → GROUPS ≤ g → release before g ≡ (Err Range, before)
   release_range g le = ap (λ group. grouped group (Ok (is_some (before.activity g).active), resting g)) (no_group g le)

@@ -7,15 +7,15 @@ use Rattle.std.proofs.lemmas.Option.{none-some}
 use Rattle.relocate.proofs.RangeTests.{either}
 use Rattle.mem_rec.specs.declared.MemRec.{MemRec}
 use Rattle.mem_rec.specs.declared.Space.{Space}
-use Rattle.host_map.specs.Picture.{Picture}
-use Rattle.host_map.specs.Creation.{created_picture}
+use Rattle.host_map.specs.MemoryMap.{MemoryMap}
+use Rattle.host_map.specs.Creation.{created_map}
 use Rattle.ialg.specs.declared.refusal.Refusal.{Refusal}
 use Rattle.ialg.specs.declared.refusal.Refusal.TheVariants.{Range, Taken}
 use Rattle.ialg.specs.Refusals.{first_refusal}
 use Rattle.ialg.specs.History as history
 use Rattle.ialg.specs.History.{History, Ctl, Sample, with_samples}
 use Rattle.ialg.specs.Meaning.{Meaning, Status, outputs_of, status_of}
-use Rattle.host_spec.specs.State.{Living, State, twins_of, with_living, is_instance_number, is_group_number}
+use Rattle.host_spec.specs.State.{Living, State, sharers_of, with_living, is_instance_number, is_group_number}
 use Rattle.host_spec.specs.Choices.{IsLawful, MayGive}
 use Rattle.host_spec.specs.Steps.{Outcome, unless, newborn, create_refusal, with_room, with_memory, control_refusal, controlled, given, instance_refusal, group_refusal, without_instance}
 use Rattle.host_spec.specs.Calls.{Call, Does, Creates, Controls, Processes, refusal_of}
@@ -45,9 +45,9 @@ refused_as before None outcome refusal after stays e = ap (λ o. o.1) e ∙ stay
 refused_as before (Some other) outcome refusal after stays e = ap (λ o. o.1) e
 
 -- a creation that finds no room, or whose parameters are refused, leaves the state
-room_stays : {M : Type 0} (before : State M) (i : ℕ) (x : Living M) (table : List MemRec) (placed : Result Picture Space) (e : Refusal)
+room_stays : {M : Type 0} (before : State M) (i : ℕ) (x : Living M) (table : List MemRec) (placed : Result MemoryMap Space) (e : Refusal)
     → (with_room before i x table placed).0 ≡ Err e → (with_room before i x table placed).1 ≡ before
-room_stays before i x table (Ok picture) e is = absurd (ok_is_no_err {A = Unit {0}} tt e (Ok tt) refl is)
+room_stays before i x table (Ok map) e is = absurd (ok_is_no_err {A = Unit {0}} tt e (Ok tt) refl is)
 room_stays before i x table (Err space) e is = refl
 
 memory_stays : {M : Type 0} (kinds : Meaning M) (before : State M) (i : ℕ) (kind : M) (g : ℕ) (p : List ℤ) (table : Option (List MemRec)) (e : Refusal)
@@ -55,7 +55,7 @@ memory_stays : {M : Type 0} (kinds : Meaning M) (before : State M) (i : ℕ) (ki
 memory_stays kinds before i kind g p None e is = refl
 memory_stays kinds before i kind g p (Some table) e is =
     let x = newborn kind g p table in
-    room_stays before i x table (created_picture before.sizes before.picture i g table (twins_of kinds before.living x)) e is
+    room_stays before i x table (created_map before.sizes before.map i g table (sharers_of kinds before.living x)) e is
 
 -- a refused call leaves the state
 pub refused_call : {M : Type 0} (kinds : Meaning M) (before after : State M) (call : Call M) (refusal : Refusal) → Does kinds before call after → refusal_of call ≡ Some refusal → after ≡ before

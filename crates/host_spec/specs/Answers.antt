@@ -2,7 +2,7 @@
 use Rattle.std.specs.Prelude.{ℤ, Bool, false, IsTrue, List, [], ◌∷◌, Option, Some, None, IfSome, is_some}
 use Rattle.ialg.specs.History.{Ctl, block_output}
 use Rattle.ialg.specs.Meaning.{Meaning, Status, Done, status_of}
-use Rattle.host_map.specs.Picture.{blocks_in}
+use Rattle.host_map.specs.MemoryMap.{blocks_in}
 use Rattle.host_spec.specs.State.{Living, State}
 use Rattle.host_spec.specs.Choices.{IsLawful}
 use Rattle.host_spec.specs.Steps as steps
@@ -33,7 +33,7 @@ module _ {M : Type 0} (kinds : Meaning M) where
   answered before (Step space _) = let o = steps.step before space in (Step space o.0, o.1)
   answered before (Compact space _) = let o = steps.compact before space in (Compact space o.0, o.1)
   answered before (Stat g _) = let o = steps.stat before g in (Stat g o.0, o.1)
-  answered before (Map space _) = (Map space (blocks_in before.picture space), before)
+  answered before (Map space _) = (Map space (blocks_in before.map space), before)
   answered before (Lives i _) = (Lives i (is_some (before.living i)), before)
   answered before (Copied _) = (Copied before.copied, before)
 

@@ -6,7 +6,7 @@ use Rattle.ialg.specs.declared.refusal.Refusal.{Refusal}
 use Rattle.ialg.specs.History.{Ctl}
 use Rattle.ialg.specs.Meaning.{Meaning, Status}
 use Rattle.host_map.specs.declared.placed.Placed.{Placed}
-use Rattle.host_map.specs.Picture.{blocks_in}
+use Rattle.host_map.specs.MemoryMap.{blocks_in}
 use Rattle.host_map.specs.Activity.{Activity}
 use Rattle.host_spec.specs.State.{Living, State}
 use Rattle.host_spec.specs.Choices.{MayAsk, MayAnswer, MayGive}
@@ -57,7 +57,7 @@ module _ {M : Type 0} (kinds : Meaning M) (before : State M) where
   Does (Step space answer) after = (answer, after) ≡ steps.step before space
   Does (Compact space answer) after = (answer, after) ≡ steps.compact before space
   Does (Stat g answer) after = (answer, after) ≡ steps.stat before g
-  Does (Map space answer) after = (answer ≡ blocks_in before.picture space) × (after ≡ before)
+  Does (Map space answer) after = (answer ≡ blocks_in before.map space) × (after ≡ before)
   Does (Lives i answer) after = (answer ≡ is_some (before.living i)) × (after ≡ before)
   Does (Copied answer) after = (answer ≡ before.copied) × (after ≡ before)
 

@@ -2,7 +2,7 @@
 use Rattle.std.specs.Prelude.{◌≡◌, ◌≢◌, ℕ, ◌+◌, true, false, Option, Some, map}
 use Rattle.mem_rec.specs.declared.Space.{Space}
 use Rattle.host_map.specs.declared.placed.Placed.{Placed}
-use Rattle.host_map.specs.Picture.{blocks_in}
+use Rattle.host_map.specs.MemoryMap.{blocks_in}
 use Rattle.host_spec.specs.State.{State}
 use Rattle.host_spec.specs.Steps.{step, compact}
 use Rattle.host_spec.specs.Calls.{Call}
@@ -25,7 +25,7 @@ unplaced_block b = record b { place = 0 }
 pub record OnlyMoves {M : Type 0} (before after : State M) : Type 0 where
   pub living : after.living ≡ before.living
   pub activity : after.activity ≡ before.activity
-  pub blocks : (space : Space) → map unplaced_block (blocks_in after.picture space) ≡ map unplaced_block (blocks_in before.picture space)
+  pub blocks : (space : Space) → map unplaced_block (blocks_in after.map space) ≡ map unplaced_block (blocks_in before.map space)
 
 abbrev pub IsCreation : {M : Type 0} → Call M → Type 0
 IsCreation (Create i kind g p answer) = Unit {0}

@@ -7,9 +7,9 @@ use Rattle.mem_rec.specs.declared.MemRec.{MemRec}
 use Rattle.ialg.specs.History.{History}
 use Rattle.ialg.specs.Meaning.{Meaning}
 use Rattle.host_map.specs.declared.parts.Sizes.{Sizes}
-use Rattle.host_map.specs.Picture.{Picture, empty_picture}
-use Rattle.host_map.specs.Activity.{Activity, untouched}
-use Rattle.host_map.specs.Twins.{Asked, twin_of}
+use Rattle.host_map.specs.MemoryMap.{MemoryMap, empty_map}
+use Rattle.host_map.specs.Activity.{Activity, never_activated}
+use Rattle.host_map.specs.Sharers.{Asked, sharer_of}
 
 -- an instance, as its creation named it, the memory that its kind asked for, and what it was given since then
 pub record Living (M : Type 0) : Type 0 where
@@ -23,7 +23,7 @@ pub record State (M : Type 0) : Type 0 where
   -- the instance of each number, none where there is none
   pub living : ℕ → Option (Living M)
   -- the blocks of each space
-  pub picture : Picture
+  pub map : MemoryMap
   -- the words of each space
   pub sizes : Sizes
   -- the poison word, if there is one
@@ -36,7 +36,7 @@ pub record State (M : Type 0) : Type 0 where
 -- a host without instances
 abbrev pub new_state : {M : Type 0} → Sizes → Option ℤ → State M
 new_state sizes poison =
-    record { living = λ i. None; picture = empty_picture; sizes = sizes; poison = poison; activity = λ g. untouched; copied = 0 }
+    record { living = λ i. None; map = empty_map; sizes = sizes; poison = poison; activity = λ g. never_activated; copied = 0 }
 
 abbrev pub is_instance_number : ℕ → Bool
 is_instance_number i = nat_lt i INSTANCES
@@ -52,8 +52,8 @@ abbrev pub asked_of : {M : Type 0} → Living M → Asked M
 asked_of x = record { kind = x.kind; params = x.params; table = x.table }
 
 -- for each record of an instance the least number of another one that shares its block
-abbrev pub twins_of : {M : Type 0} → Meaning M → (ℕ → Option (Living M)) → Living M → ℕ → Option ℕ
-twins_of kinds others x k = twin_of kinds.same (λ j. option_map asked_of (others j)) (asked_of x) k
+abbrev pub sharers_of : {M : Type 0} → Meaning M → (ℕ → Option (Living M)) → Living M → ℕ → Option ℕ
+sharers_of kinds others x k = sharer_of kinds.same (λ j. option_map asked_of (others j)) (asked_of x) k
 
 abbrev pub is_of_group : {M : Type 0} → ℕ → Option (Living M) → Bool
 is_of_group g None = false

@@ -13,10 +13,10 @@ use Rattle.relocate.specs.Packing.{unpacked_count, unpacked_words}
 use Rattle.mem_rec.specs.declared.TheConstants.{INSTANCES}
 use Rattle.host_map.specs.declared.placed.Placed.{Placed}
 use Rattle.host_map.specs.Moves.{next_block, spots_of}
-use Rattle.host_map.specs.Picture.{Picture, blocks_in, moved_in, packed_in}
-use Rattle.host_map.specs.Creation.{created_picture, replaces, deleted_picture}
-use Rattle.host_map.specs.Activity.{Activity, touched, rested, quieted, with_activity}
-use Rattle.host_spec.specs.State.{Living, State, with_living, has_member, twins_of, is_instance_number, is_group_number}
+use Rattle.host_map.specs.MemoryMap.{MemoryMap, blocks_in, moved_in, packed_in}
+use Rattle.host_map.specs.Creation.{created_map, replaces, deleted_map}
+use Rattle.host_map.specs.Activity.{Activity, activated, deactivated, without_active, with_activity}
+use Rattle.host_spec.specs.State.{Living, State, with_living, has_member, sharers_of, is_instance_number, is_group_number}
 
 -- what a call that can be refused answers, and the state after it
 abbrev pub Outcome : Type 0 → Type 0 → Type 0
@@ -45,31 +45,31 @@ module _ {M : Type 0} (before : State M) where
   -- no member stays active where a block of the group is replaced
   abbrev pub activity_after_create : ℕ → List MemRec → ℕ → Activity
   activity_after_create g table =
-      if replaces before.picture g table then with_activity before.activity g (rested (before.activity g)) else before.activity
+      if replaces before.map g table then with_activity before.activity g (deactivated (before.activity g)) else before.activity
 
-  abbrev pub created : ℕ → Living M → List MemRec → Picture → State M
-  created i x table picture = record before {
+  abbrev pub created : ℕ → Living M → List MemRec → MemoryMap → State M
+  created i x table map = record before {
     living = with_living before.living i (Some x);
-    picture = picture;
+    map = map;
     activity = activity_after_create x.group table;
   }
 
-  abbrev pub with_room : ℕ → Living M → List MemRec → Result Picture Space → Outcome M (Unit {0})
+  abbrev pub with_room : ℕ → Living M → List MemRec → Result MemoryMap Space → Outcome M (Unit {0})
   with_room i x table (Err space) = (Err (Room space), before)
-  with_room i x table (Ok picture) = (Ok tt, created i x table picture)
+  with_room i x table (Ok map) = (Ok tt, created i x table map)
 
   -- ---- controls and samples
 
   -- the instance has become the active member of its group, with this instance in its place
-  abbrev pub touching : ℕ → Living M → State M
-  touching i x = record before {
+  abbrev pub activating : ℕ → Living M → State M
+  activating i x = record before {
     living = with_living before.living i (Some x);
-    activity = with_activity before.activity x.group (touched i (before.activity x.group));
+    activity = with_activity before.activity x.group (activated i (before.activity x.group));
   }
 
   abbrev pub controlled : ℕ → Option (Living M) → Ctl → State M
   controlled i None c = before
-  controlled i (Some x) c = touching i (record x { history = Control c ∷ x.history })
+  controlled i (Some x) c = activating i (record x { history = Control c ∷ x.history })
 
   abbrev pub control_refusal : ℕ → Bool → Option Refusal
   control_refusal i taken =
@@ -82,7 +82,7 @@ module _ {M : Type 0} (before : State M) where
   abbrev pub given : ℕ → Option (Living M) → List ℤ → State M
   given i None block = before
   given i (Some x) [] = before
-  given i (Some x) (s ∷ block) = touching i (record x { history = with_samples x.history (s ∷ block) })
+  given i (Some x) (s ∷ block) = activating i (record x { history = with_samples x.history (s ∷ block) })
 
   -- an empty block touches no instance
   abbrev pub processed : ℕ → List ℤ → State M
@@ -102,7 +102,7 @@ module _ {M : Type 0} (before : State M) where
   abbrev pub release : ℕ → Outcome M Bool
   release g =
       unless (group_refusal g) before
-      (Ok (is_some (before.activity g).active), record before { activity = with_activity before.activity g (rested (before.activity g)) })
+      (Ok (is_some (before.activity g).active), record before { activity = with_activity before.activity g (deactivated (before.activity g)) })
 
   abbrev pub stat : ℕ → Outcome M Activity
   stat g = unless (group_refusal g) before (Ok (before.activity g), before)
@@ -112,16 +112,16 @@ module _ {M : Type 0} (before : State M) where
   -- whether a block moved
   abbrev pub moving : Space → Option Placed → Bool × State M
   moving space None = (false, before)
-  moving space (Some b) = (true, record before { picture = moved_in before.picture space; copied = more_copied before.copied b.size })
+  moving space (Some b) = (true, record before { map = moved_in before.map space; copied = more_copied before.copied b.size })
 
   abbrev pub step : Space → Bool × State M
-  step space = moving space (next_block (blocks_in before.picture space))
+  step space = moving space (next_block (blocks_in before.map space))
 
   -- how many blocks moved
   abbrev pub compact : Space → ℕ × State M
   compact space =
-      let spots = spots_of (blocks_in before.picture space) in
-      (unpacked_count spots, record before { picture = packed_in before.picture space; copied = more_copied before.copied (unpacked_words spots) })
+      let spots = spots_of (blocks_in before.map space) in
+      (unpacked_count spots, record before { map = packed_in before.map space; copied = more_copied before.copied (unpacked_words spots) })
 
 module _ {M : Type 0} (kinds : Meaning M) (before : State M) where
   -- the kind asks for this memory, or refuses the parameters
@@ -129,7 +129,7 @@ module _ {M : Type 0} (kinds : Meaning M) (before : State M) where
   with_memory i kind g p None = (Err Params, before)
   with_memory i kind g p (Some table) =
       let x = newborn kind g p table in
-      with_room before i x table (created_picture before.sizes before.picture i g table (twins_of kinds before.living x))
+      with_room before i x table (created_map before.sizes before.map i g table (sharers_of kinds before.living x))
 
   abbrev pub create : ℕ → M → ℕ → List ℤ → Option (List MemRec) → Outcome M (Unit {0})
   create i kind g p table = unless (create_refusal before i g) before (with_memory i kind g p table)
@@ -141,8 +141,8 @@ module _ {M : Type 0} (kinds : Meaning M) (before : State M) where
       let others = with_living before.living i None in
       record before {
         living = others;
-        picture = deleted_picture (has_member others x.group) before.picture i x.group (twins_of kinds others x);
-        activity = with_activity before.activity x.group (quieted i (before.activity x.group));
+        map = deleted_map (has_member others x.group) before.map i x.group (sharers_of kinds others x);
+        activity = with_activity before.activity x.group (without_active i (before.activity x.group));
       }
 
   abbrev pub delete : ℕ → Outcome M (Unit {0})

@@ -1,7 +1,7 @@
 // SPDX-License-Identifier: Apache-2.0
 //! What a host has to do, as a machine over plain values: for each call what it may answer, and which state comes after it.
 //!
-//! A state has the living instances with their histories, the memory picture, and the active member and the count of each group. It
+//! A state has the living instances with their histories, the memory map, and the active member and the count of each group. It
 //! knows no word of a record. What an instance answers is by its kind's meaning where it is lawful, and free where it isn't.
 #![tactic(auto)]
 

@@ -6,11 +6,11 @@ ghost use Rattle.ialg.specs.declared.refusal.Refusal.TheVariants.{Range, Taken, 
 ghost use Rattle.ialg.specs.History.{Ctl, Control, with_samples};
 ghost use Rattle.ialg.specs.Meaning.{Meaning, Status};
 ghost use Rattle.mem_rec.specs.declared.TheConstants.{INSTANCES, GROUPS};
-ghost use Rattle.host_map.specs.Picture.{Picture};
-ghost use Rattle.host_map.specs.Creation.{created_picture};
-ghost use Rattle.host_map.specs.Activity.{rested, with_activity};
-ghost use Rattle.host_spec.specs.State.{State, Living, twins_of};
-ghost use Rattle.host_spec.specs.Steps.{newborn, create, created, control, touching, processed, delete, without_instance, release, stat};
+ghost use Rattle.host_map.specs.MemoryMap.{MemoryMap};
+ghost use Rattle.host_map.specs.Creation.{created_map};
+ghost use Rattle.host_map.specs.Activity.{deactivated, with_activity};
+ghost use Rattle.host_spec.specs.State.{State, Living, sharers_of};
+ghost use Rattle.host_spec.specs.Steps.{newborn, create, created, control, activating, processed, delete, without_instance, release, stat};
 
 /// The law of a creation: a number out of range is refused first, then one that is taken, then the parameters, then what finds no room. The
 /// call does nothing: its contract is the law.
@@ -22,11 +22,11 @@ pub fn creations_answer_in_order<M>()
     ensures params { (kinds : Meaning M) (before : State M) (i g : ℕ) (kind : M) (p : List ℤ)
         → i < INSTANCES → g < GROUPS → before.living i ≡ None → create kinds before i kind g p None ≡ (Err Params, before) }
     ensures room { (kinds : Meaning M) (before : State M) (i g : ℕ) (kind : M) (p : List ℤ) (table : List MemRec) (space : Space)
-        → i < INSTANCES → g < GROUPS → before.living i ≡ None → created_picture before.sizes before.picture i g table (twins_of kinds before.living (newborn kind g p table)) ≡ Err space
+        → i < INSTANCES → g < GROUPS → before.living i ≡ None → created_map before.sizes before.map i g table (sharers_of kinds before.living (newborn kind g p table)) ≡ Err space
         → create kinds before i kind g p (Some table) ≡ (Err (Room space), before) }
-    ensures granted { (kinds : Meaning M) (before : State M) (i g : ℕ) (kind : M) (p : List ℤ) (table : List MemRec) (picture : Picture)
-        → i < INSTANCES → g < GROUPS → before.living i ≡ None → created_picture before.sizes before.picture i g table (twins_of kinds before.living (newborn kind g p table)) ≡ Ok picture
-        → create kinds before i kind g p (Some table) ≡ (Ok tt, created before i (newborn kind g p table) table picture) }
+    ensures granted { (kinds : Meaning M) (before : State M) (i g : ℕ) (kind : M) (p : List ℤ) (table : List MemRec) (map : MemoryMap)
+        → i < INSTANCES → g < GROUPS → before.living i ≡ None → created_map before.sizes before.map i g table (sharers_of kinds before.living (newborn kind g p table)) ≡ Ok map
+        → create kinds before i kind g p (Some table) ≡ (Ok tt, created before i (newborn kind g p table) table map) }
 {}
 
 /// The law of a control: one that is taken makes the instance the active member of its group and stands in its history. The call does
@@ -40,14 +40,14 @@ pub fn controls_answer_in_order<M>()
         → i < INSTANCES → before.living i ≡ Some x → control before i c false status ≡ (Err Command, before) }
     ensures granted { (before : State M) (i : ℕ) (c : Ctl) (status : Status) (x : Living M)
         → i < INSTANCES → before.living i ≡ Some x
-        → control before i c true status ≡ (Ok status, touching before i (record x { history = Control c ∷ x.history })) }
+        → control before i c true status ≡ (Ok status, activating before i (record x { history = Control c ∷ x.history })) }
 {}
 
 /// The law of samples: a block that isn't empty makes the instance the active member of its group and stands in its history, and an empty one
 /// does nothing. The call does nothing.
 pub fn samples_touch<M>()
     ensures some { (before : State M) (i : ℕ) (block : List ℤ) (x : Living M) → before.living i ≡ Some x → 1 ≤ length block
-        → processed before i block ≡ touching before i (record x { history = with_samples x.history block }) }
+        → processed before i block ≡ activating before i (record x { history = with_samples x.history block }) }
     ensures none { (before : State M) (i : ℕ) → processed before i [] ≡ before }
 {}
 
@@ -63,7 +63,7 @@ pub fn deletions_answer_in_order<M>()
 pub fn groups_answer_in_order<M>()
     ensures release_range { (before : State M) (g : ℕ) → GROUPS ≤ g → release before g ≡ (Err Range, before) }
     ensures release { (before : State M) (g : ℕ) → g < GROUPS
-        → release before g ≡ (Ok (is_some (before.activity g).active), record before { activity = with_activity before.activity g (rested (before.activity g)) }) }
+        → release before g ≡ (Ok (is_some (before.activity g).active), record before { activity = with_activity before.activity g (deactivated (before.activity g)) }) }
     ensures stat_range { (before : State M) (g : ℕ) → GROUPS ≤ g → stat before g ≡ (Err Range, before) }
     ensures stat { (before : State M) (g : ℕ) → g < GROUPS → stat before g ≡ (Ok (before.activity g), before) }
 {}

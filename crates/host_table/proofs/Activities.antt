@@ -3,7 +3,7 @@ use Rattle.std.proofs.Common.{◌≡◌, ◌<◌, ℕ, ℤ, List, length, set, g
 use Rattle.std.proofs.lemmas.Bool.Decides.{eqb_tells}
 use Rattle.std.proofs.lemmas.Option.{none-some}
 use Rattle.scratch_group.specs.declared.group.Group.{Group}
-use Rattle.host_map.specs.Activity.{count_after, Activity, rested, is_active, touched, with_activity}
+use Rattle.host_map.specs.Activity.{count_after, Activity, deactivated, is_active, activated, with_activity}
 use Rattle.scratch_group.specs.Blocks.{BlocksArePoison}
 use Rattle.host_table.specs.declared.member.Member.{Member}
 use Rattle.host_table.specs.Table.{no_group, group_at, group_of, activity_at, ArePoisoned}
@@ -30,15 +30,15 @@ at_group old g a =
       | inr e ↦ absurd (e.1 refl)
     ]
 
-pub none_active_after : (old mid : ℕ → Activity) (g : ℕ) → ((k : ℕ) → mid k ≡ with_activity old g (rested (old g)) k) → (mid g).active ≡ None
-none_active_after old mid g rest = ap (λ (a : Activity). a.active) (rest g ∙ at_group old g (rested (old g)))
+pub none_active_after : (old mid : ℕ → Activity) (g : ℕ) → ((k : ℕ) → mid k ≡ with_activity old g (deactivated (old g)) k) → (mid g).active ≡ None
+none_active_after old mid g rest = ap (λ (a : Activity). a.active) (rest g ∙ at_group old g (deactivated (old g)))
 
 -- a deactivation and an activation
-pub activity_after_activation : (old mid : ℕ → Activity) (g i : ℕ) (new : Activity) → ((k : ℕ) → mid k ≡ with_activity old g (rested (old g)) k)
+pub activity_after_activation : (old mid : ℕ → Activity) (g i : ℕ) (new : Activity) → ((k : ℕ) → mid k ≡ with_activity old g (deactivated (old g)) k)
     → is_active (old g).active i ≡ false → new.active ≡ Some i → new.count ≡ count_after (mid g).count (Some i)
-    → (k : ℕ) → with_activity mid g new k ≡ with_activity old g (touched i (old g)) k
+    → (k : ℕ) → with_activity mid g new k ≡ with_activity old g (activated i (old g)) k
 activity_after_activation old mid g i new rest idle active count k =
-    let counted : (mid g).count ≡ (old g).count = ap (λ (a : Activity). a.count) (rest g ∙ at_group old g (rested (old g))) in
+    let counted : (mid g).count ≡ (old g).count = ap (λ (a : Activity). a.count) (rest g ∙ at_group old g (deactivated (old g))) in
     elim (eqb_tells k g) [
       | inl e ↦
           let is : new ≡ record { active = Some i; count = count_after (old g).count (Some i) } =

@@ -1,4 +1,4 @@
--- Which instances hold records together, and what that says of their homes.
+-- Which instances hold records together, and what that says of their owners.
 use Rattle.std.proofs.Common.{◌≡◌, ◌≢◌, ℕ, zero, suc, ◌<◌, List, [], ◌∷◌, length, take, Option, Some, None, set, get_or-set_same, get_or-set_other, inl, inr, refl, sym, ◌∙◌, ap, subst}
 use Rattle.std.proofs.lemmas.Bool.Decides.{eqb_tells}
 use Rattle.std.proofs.lemmas.Option.{none-some}
@@ -11,14 +11,14 @@ use Rattle.record_loans.specs.Pieces.{piece_at, piece_words}
 use Rattle.lifecycle.specs.States.{SameInstance, SameOnce}
 use Rattle.record_loans.proofs.PieceLemmas.{same_pieces}
 use Rattle.host_table.specs.declared.member.Member.{Member}
-use Rattle.host_shared.specs.declared.shelves.Stand.{Stand}
-use Rattle.host_shared.specs.declared.shelves.Stand.TheVariants.{Here, With}
-use Rattle.host_shared.specs.declared.shelves.Shelf.{Shelf}
-use Rattle.host_shared.specs.Shelves.{stand_at, no_shelf, shelf_at, home_by, home_of}
-use Rattle.host_shared.specs.Homes.{IsPieceHere, AllHaveHomes, IsSameStand, SameShelves}
-use Rattle.host_table.specs.Table.{slot_at, instance_of, unbased, AreAlike, IsHolder, AreHeld, AreBare}
+use Rattle.host_shared.specs.declared.locations.Location.{Location}
+use Rattle.host_shared.specs.declared.locations.Location.TheVariants.{Here, At}
+use Rattle.host_shared.specs.declared.locations.Locations.{Locations}
+use Rattle.host_shared.specs.Locations.{location_at, no_locations, locations_at, owner_by, owner_of}
+use Rattle.host_shared.specs.Owners.{IsPieceHere, AllHaveOwners, IsSameLocation, SameLocations}
+use Rattle.host_table.specs.Table.{slot_at, instance_of, unbased, AreAlike, IsSharer, AreHeld, AreBare}
 use Rattle.host_table.specs.Frames.{SameMember, IsSameMember}
-use Rattle.host_shared.proofs.Lent.{four_stands, no_stand}
+use Rattle.host_shared.proofs.Lent.{four_locations, no_location}
 
 -- the same instance, that may go by other bases
 pub same_member : {M : Type 0} (m : Member M) → SameMember m m
@@ -34,12 +34,12 @@ member_stays m g inst of_group same = record { group = sym of_group; kind = same
 pub in_group : {M : Type 0} (m : Member M) (g : ℕ) (inst : Inst M) → m.group ≡ g → SameMember m (record { group = m.group; inst = inst }) → SameMember m (record { group = g; inst = inst })
 in_group m g inst of_group same = record { group = sym of_group; kind = same.kind; params = same.params; table = same.table; own = same.own }
 
-pub members_beside : {M : Type 0} (slots : List (Option (Member M))) (i : ℕ) (m n : Member M) → slot_at slots i ≡ Some m → i < length slots → SameMember m n
-    → (j : ℕ) → IsSameMember (slot_at slots j) (slot_at (set slots i (Some n)) j)
-members_beside slots i m n at inside same j =
+pub members_beside : {M : Type 0} (instances : List (Option (Member M))) (i : ℕ) (m n : Member M) → slot_at instances i ≡ Some m → i < length instances → SameMember m n
+    → (j : ℕ) → IsSameMember (slot_at instances j) (slot_at (set instances i (Some n)) j)
+members_beside instances i m n at inside same j =
     elim (eqb_tells j i) [
-      | inl e ↦ rw (e.1, get_or-set_same slots i (Some n) None inside, at) same
-      | inr e ↦ rw (get_or-set_other slots i j (Some n) None e.1) (same_members_slot (slot_at slots j))
+      | inl e ↦ rw (e.1, get_or-set_same instances i (Some n) None inside, at) same
+      | inr e ↦ rw (get_or-set_other instances i j (Some n) None e.1) (same_members_slot (slot_at instances j))
     ]
 
 -- records are alike in either direction, and in turn
@@ -65,28 +65,28 @@ same_shape rs rs' k same = sym (record_unplaced rs' k) ∙ ap (λ (ts : List Mem
 
 -- write-once words that stay
 pub once_unplaced : (rs rs' : List MemRec) (a b : Pieces) → unplaced rs' ≡ unplaced rs → SameOnce rs' a b → SameOnce rs a b
-once_unplaced rs rs' a b same once k attr =
+once_unplaced rs rs' a b same sharing k attr =
     let shape = same_shape rs rs' k same in
     subst (λ n. take n (piece_words (piece_at b k)) ≡ take n (piece_words (piece_at a k))) (ap (λ (r : MemRec). r.size) shape)
-    (once k (ap (λ (r : MemRec). r.attr) shape ∙ attr))
+    (sharing k (ap (λ (r : MemRec). r.attr) shape ∙ attr))
 
 -- the same instance for whoever holds records with it: it may go by other bases, and have other pieces for its own records
-pub record SameHolder {M : Type 0} (m n : Member M) : Type 0 where
+pub record SameSharer {M : Type 0} (m n : Member M) : Type 0 where
   pub kind : (instance_of n.inst).kind ≡ (instance_of m.inst).kind
   pub params : (instance_of n.inst).params ≡ (instance_of m.inst).params
   pub table : unplaced (instance_of n.inst).table ≡ unplaced (instance_of m.inst).table
 
-abbrev pub IsSameHolder : {M : Type 0} → Option (Member M) → Option (Member M) → Type 0
-IsSameHolder None new = new ≡ None
-IsSameHolder (Some m) None = ⊥
-IsSameHolder (Some m) (Some n) = SameHolder m n
+abbrev pub IsSameSharer : {M : Type 0} → Option (Member M) → Option (Member M) → Type 0
+IsSameSharer None new = new ≡ None
+IsSameSharer (Some m) None = ⊥
+IsSameSharer (Some m) (Some n) = SameSharer m n
 
-pub holder_of_member : {M : Type 0} (a b : Option (Member M)) → IsSameMember a b → IsSameHolder a b
-holder_of_member None b same = same
-holder_of_member (Some m) None same = absurd same
-holder_of_member (Some m) (Some n) same = record { kind = same.kind; params = same.params; table = same.table }
+pub sharer_of_member : {M : Type 0} (a b : Option (Member M)) → IsSameMember a b → IsSameSharer a b
+sharer_of_member None b same = same
+sharer_of_member (Some m) None same = absurd same
+sharer_of_member (Some m) (Some n) same = record { kind = same.kind; params = same.params; table = same.table }
 
-pub alike_stays : {M : Type 0} (k : ℕ) (a b : Member M) (m n : Member M) → SameHolder a m → SameHolder b n → AreAlike k (instance_of a.inst) (instance_of b.inst) → AreAlike k (instance_of m.inst) (instance_of n.inst)
+pub alike_stays : {M : Type 0} (k : ℕ) (a b : Member M) (m n : Member M) → SameSharer a m → SameSharer b n → AreAlike k (instance_of a.inst) (instance_of b.inst) → AreAlike k (instance_of m.inst) (instance_of n.inst)
 alike_stays k a b m n s t e =
     let first = same_shape (instance_of a.inst).table (instance_of m.inst).table k s.table in
     let second = same_shape (instance_of b.inst).table (instance_of n.inst).table k t.table in
@@ -97,87 +97,87 @@ alike_stays k a b m n s t e =
       shape = second ∙ e.shape ∙ sym first;
     }
 
-pub holder_stays : {M : Type 0} (k : ℕ) (a b a' b' : Option (Member M)) (s s' : Stand) → IsSameHolder a a' → IsSameHolder b b' → (IsPieceHere s → IsPieceHere s') → IsHolder k a b s → IsHolder k a' b' s'
-holder_stays k None b a' b' s s' e f here h = absurd h
-holder_stays k (Some a) None a' b' s s' e f here h = absurd h
-holder_stays k (Some a) (Some b) None b' s s' e f here h = absurd e
-holder_stays k (Some a) (Some b) (Some m) None s s' e f here h = absurd f
-holder_stays k (Some a) (Some b) (Some m) (Some n) s s' e f here h = (alike_stays k a b m n e f h.0, here h.1)
+pub sharer_stays : {M : Type 0} (k : ℕ) (a b a' b' : Option (Member M)) (s s' : Location) → IsSameSharer a a' → IsSameSharer b b' → (IsPieceHere s → IsPieceHere s') → IsSharer k a b s → IsSharer k a' b' s'
+sharer_stays k None b a' b' s s' e f here h = absurd h
+sharer_stays k (Some a) None a' b' s s' e f here h = absurd h
+sharer_stays k (Some a) (Some b) None b' s s' e f here h = absurd e
+sharer_stays k (Some a) (Some b) (Some m) None s s' e f here h = absurd f
+sharer_stays k (Some a) (Some b) (Some m) (Some n) s s' e f here h = (alike_stays k a b m n e f h.0, here h.1)
 
--- the home of a record that is held has its piece
-pub held_piece : {M : Type 0} (k : ℕ) (a b : Option (Member M)) (s : Stand) → IsHolder k a b s → IsPieceHere s
+-- the owner of a record that is held has its piece
+pub held_piece : {M : Type 0} (k : ℕ) (a b : Option (Member M)) (s : Location) → IsSharer k a b s → IsPieceHere s
 held_piece k None b s h = absurd h
 held_piece k (Some a) None s h = absurd h
 held_piece k (Some a) (Some b) s h = h.1
 
-pub homes_of_held : {M : Type 0} (slots : List (Option (Member M))) (once : List Shelf) → AreHeld slots once → AllHaveHomes once
-homes_of_held slots once held i k home with_home = held_piece k (slot_at slots i) (slot_at slots home) (stand_at (shelf_at once home) k) (held i k home with_home)
+pub owners_of_held : {M : Type 0} (instances : List (Option (Member M))) (sharing : List Locations) → AreHeld instances sharing → AllHaveOwners sharing
+owners_of_held instances sharing held i k owner with_owner = held_piece k (slot_at instances i) (slot_at instances owner) (location_at (locations_at sharing owner) k) (held i k owner with_owner)
 
 -- stands that stay
-piece_here_stays : (s s' : Stand) → IsSameStand s s' → IsPieceHere s → IsPieceHere s'
-piece_here_stays (With h) s' same here = let e : With h ≡ Here (Some here.0) = here.1 in cc
-piece_here_stays (Here p) (With h) same here = absurd same
+piece_here_stays : (s s' : Location) → IsSameLocation s s' → IsPieceHere s → IsPieceHere s'
+piece_here_stays (At h) s' same here = let e : At h ≡ Here (Some here.0) = here.1 in cc
+piece_here_stays (Here p) (At h) same here = absurd same
 piece_here_stays (Here None) (Here q) same here = let e : Here None ≡ Here (Some here.0) = here.1 in cc
 piece_here_stays (Here (Some p)) (Here None) same here = absurd same
 piece_here_stays (Here (Some p)) (Here (Some q)) same here = (q, refl)
 
-pub with_before : (s s' : Stand) (home : ℕ) → IsSameStand s s' → s' ≡ With home → s ≡ With home
-with_before (Here p) (Here q) home same is = cc
-with_before (Here p) (With h) home same is = absurd same
-with_before (With h) s' home same is = sym same ∙ is
+pub with_before : (s s' : Location) (owner : ℕ) → IsSameLocation s s' → s' ≡ At owner → s ≡ At owner
+with_before (Here p) (Here q) owner same is = cc
+with_before (Here p) (At h) owner same is = absurd same
+with_before (At h) s' owner same is = sym same ∙ is
 
-none_before : {M : Type 0} (a b : Option (Member M)) → IsSameHolder a b → b ≡ None → a ≡ None
+none_before : {M : Type 0} (a b : Option (Member M)) → IsSameSharer a b → b ≡ None → a ≡ None
 none_before None b same none = refl
 none_before (Some m) None same none = absurd same
 none_before (Some m) (Some n) same none = absurd (none-some n (sym none))
 
-none_after : (s' : Stand) → IsSameStand (Here None) s' → s' ≡ Here None
+none_after : (s' : Location) → IsSameLocation (Here None) s' → s' ≡ Here None
 none_after (Here q) same = ap Here same
-none_after (With h) same = absurd same
+none_after (At h) same = absurd same
 
--- for instances that are the same for holders
-module _ {M : Type 0} (slots slots' : List (Option (Member M))) (once once' : List Shelf) (same : (j : ℕ) → IsSameHolder (slot_at slots j) (slot_at slots' j)) (stands : SameShelves once once') where
-  pub held_beside : AreHeld slots once → AreHeld slots' once'
-  held_beside held i k home is =
-      holder_stays k _ _ _ _ _ _ (same i) (same home) (piece_here_stays _ _ (stands home k)) (held i k home (with_before _ _ home (stands i k) is))
+-- for instances that are the same for sharers
+module _ {M : Type 0} (instances instances' : List (Option (Member M))) (sharing sharing' : List Locations) (same : (j : ℕ) → IsSameSharer (slot_at instances j) (slot_at instances' j)) (stands : SameLocations sharing sharing') where
+  pub held_beside : AreHeld instances sharing → AreHeld instances' sharing'
+  held_beside held i k owner is =
+      sharer_stays k _ _ _ _ _ _ (same i) (same owner) (piece_here_stays _ _ (stands owner k)) (held i k owner (with_before _ _ owner (stands i k) is))
 
-  pub bare_beside : AreBare slots once → AreBare slots' once'
+  pub bare_beside : AreBare instances sharing → AreBare instances' sharing'
   bare_beside bare i none =
-      four_stands (shelf_at once' i) no_shelf
-      (λ k. subst (λ (x : Stand). x ≡ stand_at no_shelf k) (sym (none_after (stand_at (shelf_at once' i) k)
-      (subst (λ (x : Stand). IsSameStand x (stand_at (shelf_at once' i) k)) (ap (λ (s : Shelf). stand_at s k) (bare i (none_before (slot_at slots i) (slot_at slots' i) (same i) none)) ∙ no_stand k) (stands i k))))
-      (sym (no_stand k)))
+      four_locations (locations_at sharing' i) no_locations
+      (λ k. subst (λ (x : Location). x ≡ location_at no_locations k) (sym (none_after (location_at (locations_at sharing' i) k)
+      (subst (λ (x : Location). IsSameLocation x (location_at (locations_at sharing' i) k)) (ap (λ (s : Locations). location_at s k) (bare i (none_before (slot_at instances i) (slot_at instances' i) (same i) none)) ∙ no_location k) (stands i k))))
+      (sym (no_location k)))
 
 -- and for those that are the same but for bases
-module _ {M : Type 0} (slots slots' : List (Option (Member M))) (once once' : List Shelf) (same : (j : ℕ) → IsSameMember (slot_at slots j) (slot_at slots' j)) (stands : SameShelves once once') where
-  pub held_stays : AreHeld slots once → AreHeld slots' once'
-  held_stays = held_beside slots slots' once once' (λ j. holder_of_member (slot_at slots j) (slot_at slots' j) (same j)) stands
+module _ {M : Type 0} (instances instances' : List (Option (Member M))) (sharing sharing' : List Locations) (same : (j : ℕ) → IsSameMember (slot_at instances j) (slot_at instances' j)) (stands : SameLocations sharing sharing') where
+  pub held_stays : AreHeld instances sharing → AreHeld instances' sharing'
+  held_stays = held_beside instances instances' sharing sharing' (λ j. sharer_of_member (slot_at instances j) (slot_at instances' j) (same j)) stands
 
-  pub bare_stays : AreBare slots once → AreBare slots' once'
-  bare_stays = bare_beside slots slots' once once' (λ j. holder_of_member (slot_at slots j) (slot_at slots' j) (same j)) stands
+  pub bare_stays : AreBare instances sharing → AreBare instances' sharing'
+  bare_stays = bare_beside instances instances' sharing sharing' (λ j. sharer_of_member (slot_at instances j) (slot_at instances' j) (same j)) stands
 
-pub alike_both : {M : Type 0} (k : ℕ) (m n : Member M) (home : Option (Member M)) (s : Stand) → IsHolder k (Some m) home s → IsHolder k (Some n) home s → AreAlike k (instance_of m.inst) (instance_of n.inst)
+pub alike_both : {M : Type 0} (k : ℕ) (m n : Member M) (owner : Option (Member M)) (s : Location) → IsSharer k (Some m) owner s → IsSharer k (Some n) owner s → AreAlike k (instance_of m.inst) (instance_of n.inst)
 alike_both k m n None s first second = absurd first
 alike_both k m n (Some a) s first second = alike_then k (instance_of m.inst) (instance_of a.inst) (instance_of n.inst) first.0 (alike_back k (instance_of n.inst) (instance_of a.inst) second.0)
 
--- what a record's home says of both
-module _ {M : Type 0} (slots : List (Option (Member M))) (once : List Shelf) (held : AreHeld slots once) where
-  alike_by : (i j k : ℕ) (m n : Member M) (s t : Stand) → slot_at slots i ≡ Some m → slot_at slots j ≡ Some n → stand_at (shelf_at once i) k ≡ s → stand_at (shelf_at once j) k ≡ t
-      → j ≢ i → home_by j t ≡ home_by i s → AreAlike k (instance_of m.inst) (instance_of n.inst)
-  alike_by i j k m n (Here p) (Here q) at_i at_j is_i is_j apart home = absurd (apart home)
-  alike_by i j k m n (Here p) (With h) at_i at_j is_i is_j apart home =
-      let e : slot_at slots h ≡ Some m = ap (slot_at slots) home ∙ at_i in
-      let both : IsHolder k (Some n) (Some m) (stand_at (shelf_at once h) k) = rw (at_j, e) at (held j k h is_j) in
+-- what a record's owner says of both
+module _ {M : Type 0} (instances : List (Option (Member M))) (sharing : List Locations) (held : AreHeld instances sharing) where
+  alike_by : (i j k : ℕ) (m n : Member M) (s t : Location) → slot_at instances i ≡ Some m → slot_at instances j ≡ Some n → location_at (locations_at sharing i) k ≡ s → location_at (locations_at sharing j) k ≡ t
+      → j ≢ i → owner_by j t ≡ owner_by i s → AreAlike k (instance_of m.inst) (instance_of n.inst)
+  alike_by i j k m n (Here p) (Here q) at_i at_j is_i is_j apart owner = absurd (apart owner)
+  alike_by i j k m n (Here p) (At h) at_i at_j is_i is_j apart owner =
+      let e : slot_at instances h ≡ Some m = ap (slot_at instances) owner ∙ at_i in
+      let both : IsSharer k (Some n) (Some m) (location_at (locations_at sharing h) k) = rw (at_j, e) at (held j k h is_j) in
       alike_back k (instance_of n.inst) (instance_of m.inst) both.0
-  alike_by i j k m n (With g) (Here q) at_i at_j is_i is_j apart home =
-      let e : slot_at slots g ≡ Some n = ap (slot_at slots) (sym home) ∙ at_j in
-      let both : IsHolder k (Some m) (Some n) (stand_at (shelf_at once g) k) = rw (at_i, e) at (held i k g is_i) in
+  alike_by i j k m n (At g) (Here q) at_i at_j is_i is_j apart owner =
+      let e : slot_at instances g ≡ Some n = ap (slot_at instances) (sym owner) ∙ at_j in
+      let both : IsSharer k (Some m) (Some n) (location_at (locations_at sharing g) k) = rw (at_i, e) at (held i k g is_i) in
       both.0
-  alike_by i j k m n (With g) (With h) at_i at_j is_i is_j apart home =
-      let first : IsHolder k (Some m) (slot_at slots g) (stand_at (shelf_at once g) k) = rw at_i at (held i k g is_i) in
-      let second : IsHolder k (Some n) (slot_at slots g) (stand_at (shelf_at once g) k) = rw (at_j, home) at (held j k h is_j) in
-      alike_both k m n (slot_at slots g) (stand_at (shelf_at once g) k) first second
+  alike_by i j k m n (At g) (At h) at_i at_j is_i is_j apart owner =
+      let first : IsSharer k (Some m) (slot_at instances g) (location_at (locations_at sharing g) k) = rw at_i at (held i k g is_i) in
+      let second : IsSharer k (Some n) (slot_at instances g) (location_at (locations_at sharing g) k) = rw (at_j, owner) at (held j k h is_j) in
+      alike_both k m n (slot_at instances g) (location_at (locations_at sharing g) k) first second
 
-  -- instances with one home of a record are alike in it
-  pub alike_at : (i j k : ℕ) (m n : Member M) → slot_at slots i ≡ Some m → slot_at slots j ≡ Some n → j ≢ i → home_of once j k ≡ home_of once i k → AreAlike k (instance_of m.inst) (instance_of n.inst)
-  alike_at i j k m n at_i at_j apart home = alike_by i j k m n (stand_at (shelf_at once i) k) (stand_at (shelf_at once j) k) at_i at_j refl refl apart home
+  -- instances with one owner of a record are alike in it
+  pub alike_at : (i j k : ℕ) (m n : Member M) → slot_at instances i ≡ Some m → slot_at instances j ≡ Some n → j ≢ i → owner_of sharing j k ≡ owner_of sharing i k → AreAlike k (instance_of m.inst) (instance_of n.inst)
+  alike_at i j k m n at_i at_j apart owner = alike_by i j k m n (location_at (locations_at sharing i) k) (location_at (locations_at sharing j) k) at_i at_j refl refl apart owner

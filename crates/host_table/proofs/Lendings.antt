@@ -1,4 +1,4 @@
--- An instance is lent the pieces on its shelf, or none where it has no write-once record.
+-- An instance is lent the pieces on its locations, or none where it has no write-once record.
 use Rattle.std.proofs.Common.{◌≡◌, ℕ, ℤ, zero, suc, List, Option, refl, ◌∙◌}
 use Rattle.mem_rec.specs.declared.MemRec.{MemRec}
 use Rattle.mem_rec.specs.declared.Attr.TheVariants.{WriteOnce}
@@ -7,27 +7,26 @@ use Rattle.record_loans.specs.declared.pieces.Pieces.{Pieces}
 use Rattle.record_loans.specs.Pieces.{piece_at, SamePieces, IsInSpace}
 use Rattle.record_loans.proofs.PieceLemmas.{same_pieces}
 use Rattle.scratch_group.specs.declared.group.Group.{Group}
-use Rattle.ialg.specs.Meaning.{Meaning}
 use Rattle.ialg.specs.History.{History, with_samples}
+use Rattle.ialg.specs.Laws.{Laws}
 use Rattle.lifecycle.specs.declared.instance.Instance.{Instance}
-use Rattle.lifecycle.specs.States.{Relation, Fits, SameOnce, IdleKeeps, ActiveKeeps}
-use Rattle.host_shared.specs.declared.shelves.Shelf.{Shelf}
-use Rattle.host_shared.specs.Shelves.{once_at, no_pieces}
-use Rattle.host_shared.specs.Homes.{with_seen, HasHomes}
-use Rattle.host_shared.proofs.Homes.{lent_here}
+use Rattle.lifecycle.specs.States.{Fits, SameOnce, IdleKeeps, ActiveKeeps}
+use Rattle.host_shared.specs.declared.locations.Locations.{Locations}
+use Rattle.host_shared.specs.Locations.{shared_at, no_pieces}
+use Rattle.host_shared.specs.Owners.{with_pieces_of, HasOwners}
+use Rattle.host_shared.proofs.Owners.{lent_here}
 use Rattle.host_shared.proofs.Lent.{put_back}
 use Rattle.host_shared.proofs.Stands.{four_pieces}
-use Rattle.host_table.specs.Steps.{Laws}
 use Rattle.host_table.specs.Turns.{Deactivated, ActivatedAndRan, Ran}
 use Rattle.host_table.proofs.Sights.{active_written, idle_written}
 
--- the pieces were taken off the shelf, and put back
-module _ (i : ℕ) (once once' once'' : List Shelf) (homes : HasHomes once i) (p : Pieces) (taken : once' ≡ with_seen once i no_pieces) (put : once'' ≡ with_seen once' i p) where
-  pub seen_back : once_at once'' i ≡ p
-  seen_back = rw (put_back once i homes once' once'' p taken put) (lent_here once i homes p)
+-- the pieces were taken off the locations, and put back
+module _ (i : ℕ) (sharing sharing' sharing'' : List Locations) (owners : HasOwners sharing i) (p : Pieces) (taken : sharing' ≡ with_pieces_of sharing i no_pieces) (put : sharing'' ≡ with_pieces_of sharing' i p) where
+  pub seen_back : shared_at sharing'' i ≡ p
+  seen_back = rw (put_back sharing i owners sharing' sharing'' p taken put) (lent_here sharing i owners p)
 
-  pub shelf_back : once'' ≡ with_seen once i (once_at once'' i)
-  shelf_back = rw seen_back (put_back once i homes once' once'' p taken put)
+  pub locations_back : sharing'' ≡ with_pieces_of sharing i (shared_at sharing'' i)
+  locations_back = rw seen_back (put_back sharing i owners sharing' sharing'' p taken put)
 
 pub none_back : (p : Pieces) → SamePieces no_pieces p → p ≡ no_pieces
 none_back p same = four_pieces p no_pieces same.p0 same.p1 same.p2 same.p3
@@ -50,14 +49,14 @@ module _ (rs : List MemRec) (none : (k : ℕ) → (record_at rs k).attr ≡ Writ
     spaces = record { own_space = fits.spaces.own_space; shared_space = none_in_space; block_space = fits.spaces.block_space };
   }
 
-  pub idle_any : {M : Type 0} (meaning : Meaning M) (idle_keeps : Relation M) (s : Instance M) (w : Option ℤ) (a b : Pieces) (h : History) → s.table ≡ rs → IdleKeeps meaning idle_keeps s w a h → IdleKeeps meaning idle_keeps s w b h
-  idle_any meaning idle_keeps s w a b h table keeps lawful = rw (idle_written s.table s.own a b (rw table (any_pieces a b))) (keeps lawful)
+  pub idle_any : {M : Type 0} (laws : Laws M) (s : Instance M) (w : Option ℤ) (a b : Pieces) (h : History) → s.table ≡ rs → IdleKeeps laws s w a h → IdleKeeps laws s w b h
+  idle_any laws s w a b h table keeps lawful = rw (idle_written s.table s.own a b (rw table (any_pieces a b))) (keeps lawful)
 
-  pub active_any : {M : Type 0} (meaning : Meaning M) (active_keeps : Relation M) (s : Instance M) (w : Option ℤ) (a b : Pieces) (g : Group) (h : History) → s.table ≡ rs
-      → ActiveKeeps meaning active_keeps s w a g h → ActiveKeeps meaning active_keeps s w b g h
-  active_any meaning active_keeps s w a b g h table keeps lawful = rw (active_written s.table s.own a b g (rw table (any_pieces a b))) (keeps lawful)
+  pub active_any : {M : Type 0} (laws : Laws M) (s : Instance M) (w : Option ℤ) (a b : Pieces) (g : Group) (h : History) → s.table ≡ rs
+      → ActiveKeeps laws s w a g h → ActiveKeeps laws s w b g h
+  active_any laws s w a b g h table keeps lawful = rw (active_written s.table s.own a b g (rw table (any_pieces a b))) (keeps lawful)
 
-  -- a call that was lent no shelf
+  -- a call that was lent no locations
   pub deactivated_any : {M : Type 0} (laws : Laws M) (poison : Option ℤ) (s s' : Instance M) (a a' b : Pieces) (g g' : Group) → s.table ≡ rs → Deactivated laws poison s s' a a' g g' → Deactivated laws poison s s' b b g g'
   deactivated_any laws poison s s' a a' b g g' table did = record {
     same = did.same;
@@ -67,7 +66,7 @@ module _ (rs : List MemRec) (none : (k : ℕ) → (record_at rs k).attr ≡ Writ
     active = did.active;
     activations = did.activations;
     poisoned = did.poisoned;
-    keeps = λ w h before. idle_any laws.meaning laws.idle_keeps s' w a' b h (did.same.table ∙ table) (did.keeps w h (active_any laws.meaning laws.active_keeps s w b a g h table before));
+    keeps = λ w h before. idle_any laws s' w a' b h (did.same.table ∙ table) (did.keeps w h (active_any laws s w b a g h table before));
   }
 
   pub activated_any : {M : Type 0} (laws : Laws M) (i : ℕ) (input out : List ℤ) (s s' : Instance M) (a a' b : Pieces) (g g' : Group) → s.table ≡ rs → ActivatedAndRan laws i input out s s' a a' g g' → ActivatedAndRan laws i input out s s' b b g g'
@@ -79,8 +78,8 @@ module _ (rs : List MemRec) (none : (k : ℕ) → (record_at rs k).attr ≡ Writ
     active = did.active;
     activations = did.activations;
     bounded = did.bounded;
-    keeps = λ w h poisoned before. active_any laws.meaning laws.active_keeps s' w a' b g' (with_samples h input) (did.same.table ∙ table) (did.keeps w h poisoned (idle_any laws.meaning laws.idle_keeps s w b a h table before));
-    output = λ w h lawful poisoned before. did.output w h lawful poisoned (idle_any laws.meaning laws.idle_keeps s w b a h table before);
+    keeps = λ w h poisoned before. active_any laws s' w a' b g' (with_samples h input) (did.same.table ∙ table) (did.keeps w h poisoned (idle_any laws s w b a h table before));
+    output = λ w h lawful poisoned before. did.output w h lawful poisoned (idle_any laws s w b a h table before);
   }
 
   pub ran_any : {M : Type 0} (laws : Laws M) (input out : List ℤ) (s s' : Instance M) (a a' b : Pieces) (g g' : Group) → s.table ≡ rs → Ran laws input out s s' a a' g g' → Ran laws input out s s' b b g g'
@@ -90,6 +89,6 @@ module _ (rs : List MemRec) (none : (k : ℕ) → (record_at rs k).attr ≡ Writ
     written = λ k attr. refl;
     group = did.group;
     bounded = did.bounded;
-    keeps = λ w h before. active_any laws.meaning laws.active_keeps s' w a' b g' (with_samples h input) (did.same.table ∙ table) (did.keeps w h (active_any laws.meaning laws.active_keeps s w b a g h table before));
-    output = λ w h lawful before. did.output w h lawful (active_any laws.meaning laws.active_keeps s w b a g h table before);
+    keeps = λ w h before. active_any laws s' w a' b g' (with_samples h input) (did.same.table ∙ table) (did.keeps w h (active_any laws s w b a g h table before));
+    output = λ w h lawful before. did.output w h lawful (active_any laws s w b a g h table before);
   }

@@ -3,6 +3,7 @@ use Rattle.std.proofs.Common.{◌≡◌, ℕ, ℤ, inl, inr, true, List, Option,
 use Rattle.std.proofs.lemmas.Bool.Decides.{eqb_tells}
 use Rattle.mem_rec.specs.declared.Space.{Space}
 use Rattle.ialg.specs.History.{History}
+use Rattle.ialg.specs.Laws.{Laws}
 use Rattle.record_loans.specs.declared.pieces.Pieces.{Pieces}
 use Rattle.record_loans.specs.Pieces.{SamePieces}
 use Rattle.record_loans.specs.Blocks.{IsSameBlock}
@@ -12,29 +13,29 @@ use Rattle.lifecycle.specs.declared.instance.Inst.{Inst}
 use Rattle.lifecycle.specs.declared.instance.Inst.TheVariants.{Running}
 use Rattle.lifecycle.specs.declared.active.Active.{Active}
 use Rattle.lifecycle.specs.States.{SameInstance, SameOnce}
-use Rattle.host_shared.specs.declared.shelves.Shelf.{Shelf}
-use Rattle.host_shared.specs.Shelves.{once_at}
-use Rattle.host_shared.specs.Homes.{with_seen}
+use Rattle.host_shared.specs.declared.locations.Locations.{Locations}
+use Rattle.host_shared.specs.Locations.{shared_at}
+use Rattle.host_shared.specs.Owners.{with_pieces_of}
 use Rattle.host_table.specs.declared.member.Member.{Member}
 use Rattle.host_table.specs.Table.{slot_at, group_at, instance_of, group_of, active_in, slot_active_in, EachIsHoused, TablesOk, ArePoisoned, activity_at}
-use Rattle.host_map.specs.Activity.{Activity, is_active, touched, with_activity}
+use Rattle.host_map.specs.Activity.{Activity, is_active, activated, with_activity}
 use Rattle.host_table.specs.Keeps.{InstKeeps, with_history}
 use Rattle.host_table.specs.View.{View}
-use Rattle.host_table.specs.Steps.{Laws, Stays, Steps, AreKept, unchanged}
+use Rattle.host_table.specs.Steps.{Stays, Steps, AreKept, unchanged}
 use Rattle.host_table.proofs.Activities.{activity_stays}
 use Rattle.host_table.proofs.Changes.{tables_then, tables_after_change, ok_after_change, poisoned_after_change, activity_after_change, keeps_after_step, keeps_after_change}
 
 -- the tables of these lists
-abbrev pub tables : {M : Type 0} → List (Option (Member M)) → List Shelf → List Group → View M
-tables slots once groups = record { slots = slots; once = once; groups = groups }
+abbrev pub tables : {M : Type 0} → List (Option (Member M)) → List Locations → List Group → View M
+tables instances sharing groups = record { instances = instances; sharing = sharing; groups = groups }
 
 -- what holds of the tables holds of the fields that the code opened
-pub ok_in : {M : Type 0} {slots : List (Option (Member M))} {once : List Shelf} {groups : List Group} {t : View M} → tables slots once groups ≡ t → TablesOk t.slots t.once t.groups → TablesOk slots once groups
-ok_in {M = M} is ok = subst (λ (x : View M). TablesOk x.slots x.once x.groups) (sym is) ok
+pub ok_in : {M : Type 0} {instances : List (Option (Member M))} {sharing : List Locations} {groups : List Group} {t : View M} → tables instances sharing groups ≡ t → TablesOk t.instances t.sharing t.groups → TablesOk instances sharing groups
+ok_in {M = M} is ok = subst (λ (x : View M). TablesOk x.instances x.sharing x.groups) (sym is) ok
 
 -- with lists that are equal
-pub steps_to : {M : Type 0} {slots slots' : List (Option (Member M))} {once once' : List Shelf} {groups : List Group} {laws : Laws M} {w : Option ℤ} {old : View M} {activities : ℕ → Activity} {goes : (ℕ → History) → ℕ → History}
-    → slots ≡ slots' → once ≡ once' → Steps laws w old (tables slots' once' groups) activities goes → Steps laws w old (tables slots once groups) activities goes
+pub steps_to : {M : Type 0} {instances instances' : List (Option (Member M))} {sharing sharing' : List Locations} {groups : List Group} {laws : Laws M} {w : Option ℤ} {old : View M} {activities : ℕ → Activity} {goes : (ℕ → History) → ℕ → History}
+    → instances ≡ instances' → sharing ≡ sharing' → Steps laws w old (tables instances' sharing' groups) activities goes → Steps laws w old (tables instances sharing groups) activities goes
 steps_to same seen steps = rw (same, seen) steps
 
 -- two calls in turn
@@ -53,48 +54,48 @@ pub steps_told : {M : Type 0} {laws : Laws M} {w : Option ℤ} {a b : View M} {f
     → ((k : ℕ) → first k ≡ second k) → Steps laws w a b first goes → Steps laws w a b second goes
 steps_told told steps = record { ok = steps.ok; poisoned = steps.poisoned; same = steps.same; activity = λ k. steps.activity k ∙ told k; keeps = steps.keeps }
 
--- one instance and its group changed, and its pieces were put back at their homes
-pub record Change {M : Type 0} (slots : List (Option (Member M))) (once : List Shelf) (groups : List Group) (i g : ℕ) (m : Member M) (inst : Inst M) (o : Pieces) (y : Group) : Type 0 where
-  pub ok : TablesOk slots once groups
-  pub in_slot : slot_at slots i ≡ Some m
+-- one instance and its group changed, and its pieces were put back at their owners
+pub record Change {M : Type 0} (instances : List (Option (Member M))) (sharing : List Locations) (groups : List Group) (i g : ℕ) (m : Member M) (inst : Inst M) (o : Pieces) (y : Group) : Type 0 where
+  pub ok : TablesOk instances sharing groups
+  pub in_slot : slot_at instances i ≡ Some m
   pub of_group : m.group ≡ g
   pub alone : (j : ℕ) → (group_at groups g).active ≡ Some j → j ≡ i
   pub now : y.active ≡ active_in i inst
   pub same : SameInstance (instance_of m.inst) (instance_of inst)
-  pub pieces : SamePieces (once_at once i) o
-  pub written : SameOnce (instance_of m.inst).table (once_at once i) o
+  pub pieces : SamePieces (shared_at sharing i) o
+  pub written : SameOnce (instance_of m.inst).table (shared_at sharing i) o
   pub blocks : (space : Space) → IsSameBlock (block_in (group_at groups g) space) (block_in y space)
 
-module _ {M : Type 0} {slots : List (Option (Member M))} {once : List Shelf} {groups : List Group} {i g : ℕ} {m : Member M} {inst : Inst M} {o : Pieces} {y : Group}
-    (c : Change slots once groups i g m inst o y)
+module _ {M : Type 0} {instances : List (Option (Member M))} {sharing : List Locations} {groups : List Group} {i g : ℕ} {m : Member M} {inst : Inst M} {o : Pieces} {y : Group}
+    (c : Change instances sharing groups i g m inst o y)
     {laws : Laws M} {w : Option ℤ} (poisoned : ArePoisoned w groups) (resting : y.active ≡ None → BlocksArePoison w y) {activities : ℕ → Activity}
     (told : (k : ℕ) → with_activity (activity_at groups) g (record { active = y.active; count = y.activations }) k ≡ activities k) where
   -- whatever becomes of the histories
   stepped : (goes : (ℕ → History) → ℕ → History)
-      → ((histories : ℕ → History) → AreKept laws w (tables slots once groups) histories → AreKept laws w (tables (set slots i (Some (record { group = g; inst = inst }))) (with_seen once i o) (set groups g y)) (goes histories))
-      → Steps laws w (tables slots once groups) (tables (set slots i (Some (record { group = g; inst = inst }))) (with_seen once i o) (set groups g y)) activities goes
+      → ((histories : ℕ → History) → AreKept laws w (tables instances sharing groups) histories → AreKept laws w (tables (set instances i (Some (record { group = g; inst = inst }))) (with_pieces_of sharing i o) (set groups g y)) (goes histories))
+      → Steps laws w (tables instances sharing groups) (tables (set instances i (Some (record { group = g; inst = inst }))) (with_pieces_of sharing i o) (set groups g y)) activities goes
   stepped goes keeps = record {
-    ok = ok_after_change slots once groups i g m inst o y c.ok c.in_slot c.of_group c.alone c.now c.same c.pieces c.written c.blocks;
-    poisoned = poisoned_after_change EachIsHoused slots once groups i g m inst o y c.ok c.in_slot c.of_group c.alone c.now w poisoned resting;
-    same = tables_after_change slots once groups i g m inst o y c.ok c.in_slot c.of_group c.alone c.now c.same c.pieces c.written c.blocks;
-    activity = λ k. activity_after_change EachIsHoused slots once groups i g m inst o y c.ok c.in_slot c.of_group c.alone c.now k ∙ told k;
+    ok = ok_after_change instances sharing groups i g m inst o y c.ok c.in_slot c.of_group c.alone c.now c.same c.pieces c.written c.blocks;
+    poisoned = poisoned_after_change EachIsHoused instances sharing groups i g m inst o y c.ok c.in_slot c.of_group c.alone c.now w poisoned resting;
+    same = tables_after_change instances sharing groups i g m inst o y c.ok c.in_slot c.of_group c.alone c.now c.same c.pieces c.written c.blocks;
+    activity = λ k. activity_after_change EachIsHoused instances sharing groups i g m inst o y c.ok c.in_slot c.of_group c.alone c.now k ∙ told k;
     keeps = keeps;
   }
 
   -- its state alone
-  pub steps_after_change : ((histories : ℕ → History) → InstKeeps laws.meaning laws.idle_keeps laws.active_keeps w m.inst (once_at once i) (group_at groups g) (histories i) → InstKeeps laws.meaning laws.idle_keeps laws.active_keeps w inst o y (histories i))
-      → Steps laws w (tables slots once groups) (tables (set slots i (Some (record { group = g; inst = inst }))) (with_seen once i o) (set groups g y)) activities unchanged
+  pub steps_after_change : ((histories : ℕ → History) → InstKeeps laws w m.inst (shared_at sharing i) (group_at groups g) (histories i) → InstKeeps laws w inst o y (histories i))
+      → Steps laws w (tables instances sharing groups) (tables (set instances i (Some (record { group = g; inst = inst }))) (with_pieces_of sharing i o) (set groups g y)) activities unchanged
   steps_after_change step =
       stepped unchanged
-      (λ histories kept. keeps_after_change EachIsHoused slots once groups i g m inst o y c.ok c.in_slot c.of_group c.alone c.now c.pieces c.written laws.meaning laws.idle_keeps laws.active_keeps w histories (step histories) kept)
+      (λ histories kept. keeps_after_change EachIsHoused instances sharing groups i g m inst o y c.ok c.in_slot c.of_group c.alone c.now c.pieces c.written laws w histories (step histories) kept)
 
   -- it went on by one step
   pub steps_after_step : (h : (ℕ → History) → History)
-      → ((histories : ℕ → History) → InstKeeps laws.meaning laws.idle_keeps laws.active_keeps w m.inst (once_at once i) (group_at groups g) (histories i) → InstKeeps laws.meaning laws.idle_keeps laws.active_keeps w inst o y (h histories))
-      → Steps laws w (tables slots once groups) (tables (set slots i (Some (record { group = g; inst = inst }))) (with_seen once i o) (set groups g y)) activities (λ histories. with_history histories i (h histories))
+      → ((histories : ℕ → History) → InstKeeps laws w m.inst (shared_at sharing i) (group_at groups g) (histories i) → InstKeeps laws w inst o y (h histories))
+      → Steps laws w (tables instances sharing groups) (tables (set instances i (Some (record { group = g; inst = inst }))) (with_pieces_of sharing i o) (set groups g y)) activities (λ histories. with_history histories i (h histories))
   steps_after_step h step =
       stepped (λ histories. with_history histories i (h histories))
-      (λ histories kept. keeps_after_step EachIsHoused slots once groups i g m inst o y c.ok c.in_slot c.of_group c.alone c.now c.pieces c.written laws.meaning laws.idle_keeps laws.active_keeps w histories (h histories) (step histories) kept)
+      (λ histories kept. keeps_after_step EachIsHoused instances sharing groups i g m inst o y c.ok c.in_slot c.of_group c.alone c.now c.pieces c.written laws w histories (h histories) (step histories) kept)
 
 -- an active instance is active in its group
 pub running_there : {M : Type 0} (x : Option (Member M)) (g : ℕ) (s : Active M) → x ≡ Some (record { group = g; inst = Running s }) → slot_active_in x ≡ Some (group_of x)
@@ -108,13 +109,13 @@ is_active_there a i is =
     ]
 
 -- an active instance that is activated
-pub touched_stays : (all : ℕ → Activity) (g i : ℕ) → (all g).active ≡ Some i → (k : ℕ) → all k ≡ with_activity all g (touched i (all g)) k
+pub touched_stays : (all : ℕ → Activity) (g i : ℕ) → (all g).active ≡ Some i → (k : ℕ) → all k ≡ with_activity all g (activated i (all g)) k
 touched_stays all g i active k = rw (is_active_there (all g).active i active) (sym (activity_stays all g (all g) refl refl k))
 
 pub stays_of : {M : Type 0} {laws : Laws M} {w : Option ℤ} {a b : View M} {activities : ℕ → Activity} {goes : (ℕ → History) → ℕ → History} → Steps laws w a b activities goes → Stays w a b
 stays_of steps = record { ok = steps.ok; poisoned = steps.poisoned; same = steps.same }
 
 -- where a slot was set between two calls, and the tables were opened then
-pub steps_beside : {M : Type 0} {laws : Laws M} {w : Option ℤ} {old q : View M} {activities : ℕ → Activity} {goes : (ℕ → History) → ℕ → History} {slots slots' : List (Option (Member M))} {once : List Shelf} {groups : List Group}
-    → tables slots once groups ≡ record q { slots = slots' } → Steps laws w old q activities goes → Steps laws w old (tables q.slots once groups) activities goes
-steps_beside {M = M} {q = q} is steps = rw (ap (λ (v : View M). v.once) is, ap (λ (v : View M). v.groups) is) steps
+pub steps_beside : {M : Type 0} {laws : Laws M} {w : Option ℤ} {old q : View M} {activities : ℕ → Activity} {goes : (ℕ → History) → ℕ → History} {instances instances' : List (Option (Member M))} {sharing : List Locations} {groups : List Group}
+    → tables instances sharing groups ≡ record q { instances = instances' } → Steps laws w old q activities goes → Steps laws w old (tables q.instances sharing groups) activities goes
+steps_beside {M = M} {q = q} is steps = rw (ap (λ (v : View M). v.sharing) is, ap (λ (v : View M). v.groups) is) steps

@@ -11,10 +11,10 @@ use Rattle.lifecycle.specs.declared.instance.Inst.TheVariants.{Idling, Running}
 use Rattle.lifecycle.specs.States.{SameInstance, SameOnce}
 use Rattle.ialg.specs.Records.{unplaced}
 use Rattle.host_table.specs.declared.member.Member.{Member}
-use Rattle.host_shared.specs.declared.shelves.Shelf.{Shelf}
-use Rattle.host_shared.specs.Homes.{SameShelves}
+use Rattle.host_shared.specs.declared.locations.Locations.{Locations}
+use Rattle.host_shared.specs.Owners.{SameLocations}
 use Rattle.host_table.specs.Table.{slot_at, group_at, instance_of}
-use Rattle.host_shared.specs.Shelves.{once_at}
+use Rattle.host_shared.specs.Locations.{shared_at}
 
 -- the same instance in the same group, in either state, at the same places
 abbrev pub SameSlot : {M : Type 0} → Option (Member M) → Option (Member M) → Type 0
@@ -23,19 +23,19 @@ SameSlot (Some m) None = ⊥
 SameSlot (Some m) (Some n) = (n.group ≡ m.group) × SameInstance (instance_of m.inst) (instance_of n.inst)
 
 -- the same instances and blocks, all at the same places
-pub record SameTables {M : Type 0} (slots : List (Option (Member M))) (once : List Shelf) (groups : List Group)
-    (slots' : List (Option (Member M))) (once' : List Shelf) (groups' : List Group) : Type 0 where
-  pub slot : (i : ℕ) → SameSlot (slot_at slots i) (slot_at slots' i)
-  pub pieces : (i : ℕ) → SamePieces (once_at once i) (once_at once' i)
-  pub stands : SameShelves once once'
+pub record SameTables {M : Type 0} (instances : List (Option (Member M))) (sharing : List Locations) (groups : List Group)
+    (instances' : List (Option (Member M))) (sharing' : List Locations) (groups' : List Group) : Type 0 where
+  pub slot : (i : ℕ) → SameSlot (slot_at instances i) (slot_at instances' i)
+  pub pieces : (i : ℕ) → SamePieces (shared_at sharing i) (shared_at sharing' i)
+  pub stands : SameLocations sharing sharing'
   -- no write-once record has other words
-  pub written : (i : ℕ) (m : Member M) → slot_at slots i ≡ Some m → SameOnce (instance_of m.inst).table (once_at once i) (once_at once' i)
+  pub written : (i : ℕ) (m : Member M) → slot_at instances i ≡ Some m → SameOnce (instance_of m.inst).table (shared_at sharing i) (shared_at sharing' i)
   pub blocks : (g : ℕ) (space : Space) → IsSameBlock (block_in (group_at groups g) space) (block_in (group_at groups' g) space)
 
 -- all other instances are as they were, and see the same pieces, whose words may differ
-pub record OthersStay {M : Type 0} (i : ℕ) (slots : List (Option (Member M))) (once : List Shelf) (slots' : List (Option (Member M))) (once' : List Shelf) : Type 0 where
-  pub slot : (j : ℕ) → j ≢ i → slot_at slots' j ≡ slot_at slots j
-  pub pieces : (j : ℕ) → j ≢ i → SamePieces (once_at once j) (once_at once' j)
+pub record OthersStay {M : Type 0} (i : ℕ) (instances : List (Option (Member M))) (sharing : List Locations) (instances' : List (Option (Member M))) (sharing' : List Locations) : Type 0 where
+  pub slot : (j : ℕ) → j ≢ i → slot_at instances' j ≡ slot_at instances j
+  pub pieces : (j : ℕ) → j ≢ i → SamePieces (shared_at sharing j) (shared_at sharing' j)
 
 -- an idle one
 abbrev pub IsIdle : {M : Type 0} → Instance M → Inst M → Type 0
@@ -48,10 +48,10 @@ IsStarted g s None = ⊥
 IsStarted g s (Some m) = (m.group ≡ g) × IsIdle s m.inst
 
 -- all other instances and the blocks are the same, all at the same places
-pub record OthersSame {M : Type 0} (i : ℕ) (slots : List (Option (Member M))) (once : List Shelf) (groups : List Group)
-    (slots' : List (Option (Member M))) (once' : List Shelf) (groups' : List Group) : Type 0 where
-  pub slot : (j : ℕ) → j ≢ i → SameSlot (slot_at slots j) (slot_at slots' j)
-  pub pieces : (j : ℕ) → j ≢ i → SamePieces (once_at once j) (once_at once' j)
+pub record OthersSame {M : Type 0} (i : ℕ) (instances : List (Option (Member M))) (sharing : List Locations) (groups : List Group)
+    (instances' : List (Option (Member M))) (sharing' : List Locations) (groups' : List Group) : Type 0 where
+  pub slot : (j : ℕ) → j ≢ i → SameSlot (slot_at instances j) (slot_at instances' j)
+  pub pieces : (j : ℕ) → j ≢ i → SamePieces (shared_at sharing j) (shared_at sharing' j)
   pub blocks : (g : ℕ) (space : Space) → IsSameBlock (block_in (group_at groups g) space) (block_in (group_at groups' g) space)
 
 -- a group without an active member is as it was
@@ -72,9 +72,9 @@ IsSameMember (Some m) None = ⊥
 IsSameMember (Some m) (Some n) = SameMember m n
 
 -- the same instances and blocks, all at the same places, that may go by other bases
-pub record SameMembers {M : Type 0} (slots : List (Option (Member M))) (once : List Shelf) (groups : List Group)
-    (slots' : List (Option (Member M))) (once' : List Shelf) (groups' : List Group) : Type 0 where
-  pub slot : (i : ℕ) → IsSameMember (slot_at slots i) (slot_at slots' i)
-  pub pieces : (i : ℕ) → SamePieces (once_at once i) (once_at once' i)
-  pub stands : SameShelves once once'
+pub record SameMembers {M : Type 0} (instances : List (Option (Member M))) (sharing : List Locations) (groups : List Group)
+    (instances' : List (Option (Member M))) (sharing' : List Locations) (groups' : List Group) : Type 0 where
+  pub slot : (i : ℕ) → IsSameMember (slot_at instances i) (slot_at instances' i)
+  pub pieces : (i : ℕ) → SamePieces (shared_at sharing i) (shared_at sharing' i)
+  pub stands : SameLocations sharing sharing'
   pub blocks : (g : ℕ) (space : Space) → IsSameBlock (block_in (group_at groups g) space) (block_in (group_at groups' g) space)

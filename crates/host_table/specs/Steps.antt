@@ -1,8 +1,9 @@
 -- What a call of the tables does.
 use Rattle.std.specs.Prelude.{ℕ, ℤ, ◌≡◌, ◌≢◌, ◌++◌, ◌∷◌, List, length, Option, Some, slice_set}
-use Rattle.ialg.specs.Meaning.{Meaning, Status}
+use Rattle.ialg.specs.Meaning.{Status}
 use Rattle.ialg.specs.History.{History, Ctl, Control, with_samples}
-use Rattle.lifecycle.specs.States.{Relation, IsLawful, all_outputs, status_after}
+use Rattle.ialg.specs.Laws.{Laws}
+use Rattle.lifecycle.specs.States.{IsLawful, all_outputs, status_after}
 use Rattle.host_table.specs.declared.member.Member.{Member}
 use Rattle.host_table.specs.Table.{slot_at, instance_of, activity_at, TablesOk, ArePoisoned}
 use Rattle.host_map.specs.Activity.{Activity}
@@ -10,43 +11,34 @@ use Rattle.host_table.specs.Keeps.{Keeps, with_history}
 use Rattle.host_table.specs.Frames.{SameMembers, SameTables}
 use Rattle.host_table.specs.View.{View}
 
--- what the kinds mean, and what an idle and an active instance of one keeps
-pub record Laws (M : Type 0) : Type 1 where
-  pub meaning : Meaning M
-  pub idle_keeps : Relation M
-  pub active_keeps : Relation M
-
-abbrev pub laws : {M : Type 0} → Meaning M → Relation M → Relation M → Laws M
-laws meaning idle_keeps active_keeps = record { meaning = meaning; idle_keeps = idle_keeps; active_keeps = active_keeps }
-
 -- what holds of the tables between two calls
 abbrev pub AreConsistent : {M : Type 0} → View M → Type 0
-AreConsistent t = TablesOk t.slots t.once t.groups
+AreConsistent t = TablesOk t.instances t.sharing t.groups
 
 -- what holds of the tables between two calls, in a host of this poison word or of none
 pub record Ready {M : Type 0} (w : Option ℤ) (t : View M) : Type 0 where
-  pub ok : TablesOk t.slots t.once t.groups
+  pub ok : TablesOk t.instances t.sharing t.groups
   pub poisoned : ArePoisoned w t.groups
 
 -- each instance keeps its history
 abbrev pub AreKept : {M : Type 0} → Laws M → Option ℤ → View M → (ℕ → History) → Type 0
-AreKept laws w t histories = Keeps laws.meaning laws.idle_keeps laws.active_keeps w t.slots t.once t.groups histories
+AreKept laws w t histories = Keeps laws w t.instances t.sharing t.groups histories
 
 -- the same instances and blocks, all at the same places
 pub record Stays {M : Type 0} (w : Option ℤ) (old new : View M) : Type 0 where
-  pub ok : TablesOk new.slots new.once new.groups
+  pub ok : TablesOk new.instances new.sharing new.groups
   pub poisoned : ArePoisoned w new.groups
-  pub same : SameTables old.slots old.once old.groups new.slots new.once new.groups
+  pub same : SameTables old.instances old.sharing old.groups new.instances new.sharing new.groups
 
 -- the same instances and blocks, all at the same places, that may go by other bases
 abbrev pub MembersStay : {M : Type 0} → View M → View M → Type 0
-MembersStay old new = SameMembers old.slots old.once old.groups new.slots new.once new.groups
+MembersStay old new = SameMembers old.instances old.sharing old.groups new.instances new.sharing new.groups
 
 -- and the groups have these activities, and each instance's history went on so
 pub record Steps {M : Type 0} (laws : Laws M) (w : Option ℤ) (old new : View M) (activities : ℕ → Activity) (goes : (ℕ → History) → ℕ → History) : Type 0 where
-  pub ok : TablesOk new.slots new.once new.groups
+  pub ok : TablesOk new.instances new.sharing new.groups
   pub poisoned : ArePoisoned w new.groups
-  pub same : SameTables old.slots old.once old.groups new.slots new.once new.groups
+  pub same : SameTables old.instances old.sharing old.groups new.instances new.sharing new.groups
   pub activity : (k : ℕ) → activity_at new.groups k ≡ activities k
   pub keeps : (histories : ℕ → History) → AreKept laws w old histories → AreKept laws w new (goes histories)
 
@@ -65,19 +57,19 @@ controlled i c histories = with_history histories i (Control c ∷ histories i)
 -- what a lawful instance gives out for samples
 abbrev pub GivesOut : {M : Type 0} → Laws M → Option ℤ → View M → ℕ → List ℤ → List ℤ → Type 0
 GivesOut {M = M} laws w t i input out = (histories : ℕ → History) → AreKept laws w t histories
-    → (m : Member M) → slot_at t.slots i ≡ Some m → IsLawful laws.meaning (instance_of m.inst) w
+    → (m : Member M) → slot_at t.instances i ≡ Some m → IsLawful laws.meaning (instance_of m.inst) w
     → all_outputs laws.meaning (instance_of m.inst) (with_samples (histories i) input)
     ≡ all_outputs laws.meaning (instance_of m.inst) (histories i) ++ out
 
 -- what a lawful instance answers to a control
 abbrev pub AnswersTo : {M : Type 0} → Laws M → Option ℤ → View M → ℕ → Ctl → Status → Type 0
-AnswersTo {M = M} laws w t i c answer = (histories : ℕ → History) (m : Member M) → slot_at t.slots i ≡ Some m
+AnswersTo {M = M} laws w t i c answer = (histories : ℕ → History) (m : Member M) → slot_at t.instances i ≡ Some m
     → IsLawful laws.meaning (instance_of m.inst) w → AreKept laws w t histories
     → answer ≡ status_after laws.meaning (instance_of m.inst) (histories i) c
 
 -- slot i has this in it, and no other one changed
 pub record IsPut {M : Type 0} (i : ℕ) (x : Option (Member M)) (old new : View M) : Type 0 where
-  pub is : new ≡ record old { slots = slice_set old.slots i x }
-  pub length : length new.slots ≡ length old.slots
-  pub there : slot_at new.slots i ≡ x
-  pub others : (j : ℕ) → j ≢ i → slot_at new.slots j ≡ slot_at old.slots j
+  pub is : new ≡ record old { instances = slice_set old.instances i x }
+  pub length : length new.instances ≡ length old.instances
+  pub there : slot_at new.instances i ≡ x
+  pub others : (j : ℕ) → j ≢ i → slot_at new.instances j ≡ slot_at old.instances j

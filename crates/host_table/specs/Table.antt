@@ -5,7 +5,7 @@ use Rattle.mem_rec.specs.declared.Attr.TheVariants.{WriteOnce}
 use Rattle.ialg.specs.Records.{record_at}
 use Rattle.record_loans.specs.declared.pieces.Pieces.{Pieces}
 use Rattle.scratch_group.specs.declared.group.Group.{Group}
-use Rattle.host_map.specs.Activity.{Activity, quieted, touched, with_activity}
+use Rattle.host_map.specs.Activity.{Activity, without_active, activated, with_activity}
 use Rattle.scratch_group.specs.Blocks.{BlocksArePoison}
 use Rattle.scratch_group.specs.Words.{placed}
 use Rattle.lifecycle.specs.declared.instance.Instance.{Instance}
@@ -15,15 +15,15 @@ use Rattle.lifecycle.specs.States.{Fits}
 use Rattle.lifecycle.specs.Moves.{HasRoom}
 use Rattle.mem_rec.specs.declared.TheConstants.{INSTANCES, GROUPS}
 use Rattle.host_table.specs.declared.member.Member.{Member}
-use Rattle.host_shared.specs.declared.shelves.Stand.{Stand}
-use Rattle.host_shared.specs.declared.shelves.Stand.TheVariants.{With}
-use Rattle.host_shared.specs.declared.shelves.Shelf.{Shelf}
-use Rattle.host_shared.specs.Shelves.{stand_at, no_shelf, shelf_at, once_at, no_pieces}
-use Rattle.host_shared.specs.Homes.{IsPieceHere}
+use Rattle.host_shared.specs.declared.locations.Location.{Location}
+use Rattle.host_shared.specs.declared.locations.Location.TheVariants.{At}
+use Rattle.host_shared.specs.declared.locations.Locations.{Locations}
+use Rattle.host_shared.specs.Locations.{location_at, no_locations, locations_at, shared_at, no_pieces}
+use Rattle.host_shared.specs.Owners.{IsPieceHere}
 
 -- what stands in a slot, none past the end
 abbrev pub slot_at : {M : Type 0} → List (Option (Member M)) → ℕ → Option (Member M)
-slot_at slots i = slice_index_or slots i None
+slot_at instances i = slice_index_or instances i None
 
 abbrev pub no_group : Group
 no_group = record { daram = None; saram = None; external = None; active = None; activations = 0 }
@@ -75,47 +75,47 @@ pub record AreAlike {M : Type 0} (k : ℕ) (a b : Instance M) : Type 0 where
   pub once : (record_at a.table k).attr ≡ WriteOnce
   pub shape : unbased (record_at b.table k) ≡ unbased (record_at a.table k)
 
--- both slots have instances, which are alike in record k, and its piece stands with the second
-abbrev pub IsHolder : {M : Type 0} → ℕ → Option (Member M) → Option (Member M) → Stand → Type 0
-IsHolder k None home s = ⊥
-IsHolder k (Some m) None s = ⊥
-IsHolder k (Some m) (Some n) s = AreAlike k (instance_of m.inst) (instance_of n.inst) × IsPieceHere s
+-- both slots have instances, which are alike in record k, and the second owns its piece
+abbrev pub IsSharer : {M : Type 0} → ℕ → Option (Member M) → Option (Member M) → Location → Type 0
+IsSharer k None owner s = ⊥
+IsSharer k (Some m) None s = ⊥
+IsSharer k (Some m) (Some n) s = AreAlike k (instance_of m.inst) (instance_of n.inst) × IsPieceHere s
 
--- a record stands with another instance only where both hold it
-abbrev pub AreHeld : {M : Type 0} → List (Option (Member M)) → List Shelf → Type 0
-AreHeld slots once = (i k home : ℕ) → stand_at (shelf_at once i) k ≡ With home → IsHolder k (slot_at slots i) (slot_at slots home) (stand_at (shelf_at once home) k)
+-- a location names an owner only where both share the record
+abbrev pub AreHeld : {M : Type 0} → List (Option (Member M)) → List Locations → Type 0
+AreHeld instances sharing = (i k owner : ℕ) → location_at (locations_at sharing i) k ≡ At owner → IsSharer k (slot_at instances i) (slot_at instances owner) (location_at (locations_at sharing owner) k)
 
--- the shelf of an empty slot is empty
-abbrev pub AreBare : {M : Type 0} → List (Option (Member M)) → List Shelf → Type 0
-AreBare slots once = (i : ℕ) → slot_at slots i ≡ None → shelf_at once i ≡ no_shelf
+-- an empty slot has no locations
+abbrev pub AreBare : {M : Type 0} → List (Option (Member M)) → List Locations → Type 0
+AreBare instances sharing = (i : ℕ) → slot_at instances i ≡ None → locations_at sharing i ≡ no_locations
 
 -- what holds of the tables, where this holds of each instance with its write-once pieces and its group
-pub record Tables {M : Type 0} (holds : ℕ → Member M → Pieces → Group → Type 0) (slots : List (Option (Member M))) (once : List Shelf) (groups : List Group) : Type 0 where
-  pub slot_count : length slots ≡ INSTANCES
-  pub once_count : length once ≡ INSTANCES
+pub record Tables {M : Type 0} (holds : ℕ → Member M → Pieces → Group → Type 0) (instances : List (Option (Member M))) (sharing : List Locations) (groups : List Group) : Type 0 where
+  pub slot_count : length instances ≡ INSTANCES
+  pub sharing_count : length sharing ≡ INSTANCES
   pub group_count : length groups ≡ GROUPS
-  pub held : AreHeld slots once
-  pub bare : AreBare slots once
-  pub group_range : (i : ℕ) (m : Member M) → slot_at slots i ≡ Some m → m.group < GROUPS
-  pub housed : (i : ℕ) (m : Member M) → slot_at slots i ≡ Some m → holds i m (once_at once i) (group_at groups m.group)
-  pub active_there : (g i : ℕ) → g < GROUPS → (group_at groups g).active ≡ Some i → slot_active_in (slot_at slots i) ≡ Some g
-  pub active_known : (g i : ℕ) → slot_active_in (slot_at slots i) ≡ Some g → (group_at groups g).active ≡ Some i
+  pub held : AreHeld instances sharing
+  pub bare : AreBare instances sharing
+  pub group_range : (i : ℕ) (m : Member M) → slot_at instances i ≡ Some m → m.group < GROUPS
+  pub housed : (i : ℕ) (m : Member M) → slot_at instances i ≡ Some m → holds i m (shared_at sharing i) (group_at groups m.group)
+  pub active_there : (g i : ℕ) → g < GROUPS → (group_at groups g).active ≡ Some i → slot_active_in (slot_at instances i) ≡ Some g
+  pub active_known : (g i : ℕ) → slot_active_in (slot_at instances i) ≡ Some g → (group_at groups g).active ≡ Some i
 
 -- each instance is housed
 abbrev pub EachIsHoused : {M : Type 0} → ℕ → Member M → Pieces → Group → Type 0
 EachIsHoused i m o y = IsHoused (instance_of m.inst) o y
 
 -- what holds of the tables between two calls
-abbrev pub TablesOk : {M : Type 0} → List (Option (Member M)) → List Shelf → List Group → Type 0
-TablesOk slots once groups = Tables EachIsHoused slots once groups
+abbrev pub TablesOk : {M : Type 0} → List (Option (Member M)) → List Locations → List Group → Type 0
+TablesOk instances sharing groups = Tables EachIsHoused instances sharing groups
 
 -- a block of group g was replaced or moved, and so far its members below n were told
 pub record IsTold {M : Type 0} (g n i : ℕ) (m : Member M) (o : Pieces) (y : Group) : Type 0 where
   pub told : (m.group ≢ g) ⊎ (i < n) → IsHoused (instance_of m.inst) o y
   pub waits : m.group ≡ g → HasRoom (instance_of m.inst) o y
 
-abbrev pub TablesTold : {M : Type 0} → ℕ → ℕ → List (Option (Member M)) → List Shelf → List Group → Type 0
-TablesTold g n slots once groups = Tables (IsTold g n) slots once groups
+abbrev pub TablesTold : {M : Type 0} → ℕ → ℕ → List (Option (Member M)) → List Locations → List Group → Type 0
+TablesTold g n instances sharing groups = Tables (IsTold g n) instances sharing groups
 
 -- where no member is active, the blocks hold the host's poison word
 abbrev pub ArePoisoned : Option ℤ → List Group → Type 0
@@ -125,13 +125,13 @@ abbrev pub activity_at : List Group → ℕ → Activity
 activity_at groups g = record { active = (group_at groups g).active; count = (group_at groups g).activations }
 
 -- the activities after instance i was touched
-abbrev pub touched_by : {M : Type 0} → List (Option (Member M)) → List Group → ℕ → ℕ → Activity
-touched_by slots groups i =
-    let g = group_of (slot_at slots i) in
-    with_activity (activity_at groups) g (touched i (activity_at groups g))
+abbrev pub activated_by : {M : Type 0} → List (Option (Member M)) → List Group → ℕ → ℕ → Activity
+activated_by instances groups i =
+    let g = group_of (slot_at instances i) in
+    with_activity (activity_at groups) g (activated i (activity_at groups g))
 
 -- the activities after instance i was deactivated, where it was active
-abbrev pub quieted_by : {M : Type 0} → List (Option (Member M)) → List Group → ℕ → ℕ → Activity
-quieted_by slots groups i =
-    let g = group_of (slot_at slots i) in
-    with_activity (activity_at groups) g (quieted i (activity_at groups g))
+abbrev pub deactivated_by : {M : Type 0} → List (Option (Member M)) → List Group → ℕ → ℕ → Activity
+deactivated_by instances groups i =
+    let g = group_of (slot_at instances i) in
+    with_activity (activity_at groups) g (without_active i (activity_at groups g))

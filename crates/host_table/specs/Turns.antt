@@ -2,6 +2,7 @@
 use Rattle.std.specs.Prelude.{ℕ, ℤ, ◌≡◌, ◌++◌, ◌<◌, ◌≤◌, List, length, Option, Some, None}
 use Rattle.mem_rec.specs.declared.Space.{Space}
 use Rattle.ialg.specs.History.{History, with_samples}
+use Rattle.ialg.specs.Laws.{Laws}
 use Rattle.record_loans.specs.declared.pieces.Pieces.{Pieces}
 use Rattle.record_loans.specs.Pieces.{SamePieces}
 use Rattle.record_loans.specs.Blocks.{IsSameBlock}
@@ -10,16 +11,15 @@ use Rattle.scratch_group.specs.Blocks.{block_in, BlocksArePoison, SameGroup}
 use Rattle.host_map.specs.Activity.{count_after}
 use Rattle.lifecycle.specs.declared.instance.Instance.{Instance}
 use Rattle.lifecycle.specs.States.{Fits, SameInstance, SameOnce, IsLawful, IdleKeeps, ActiveKeeps, all_outputs}
-use Rattle.host_shared.specs.declared.shelves.Shelf.{Shelf}
-use Rattle.host_shared.specs.Shelves.{once_at}
-use Rattle.host_shared.specs.Homes.{HasHomes}
-use Rattle.host_table.specs.Steps.{Laws}
+use Rattle.host_shared.specs.declared.locations.Locations.{Locations}
+use Rattle.host_shared.specs.Locations.{shared_at}
+use Rattle.host_shared.specs.Owners.{HasOwners}
 
--- the instance of this number has a shelf and homes for its records, which fit
-pub record CanBeLent {M : Type 0} (s : Instance M) (once : List Shelf) (i : ℕ) (g : Group) : Type 0 where
-  pub number : i < length once
-  pub homes : HasHomes once i
-  pub fits : Fits s.table s.own (once_at once i) g
+-- the instance of this number has a locations and owners for its records, which fit
+pub record CanBeLent {M : Type 0} (s : Instance M) (sharing : List Locations) (i : ℕ) (g : Group) : Type 0 where
+  pub number : i < length sharing
+  pub owners : HasOwners sharing i
+  pub fits : Fits s.table s.own (shared_at sharing i) g
 
 -- an active instance was deactivated
 pub record Deactivated {M : Type 0} (laws : Laws M) (poison : Option ℤ) (old new : Instance M) (shared shared' : Pieces) (g g' : Group) : Type 0 where
@@ -30,7 +30,7 @@ pub record Deactivated {M : Type 0} (laws : Laws M) (poison : Option ℤ) (old n
   pub active : g'.active ≡ None
   pub activations : g'.activations ≡ g.activations
   pub poisoned : BlocksArePoison poison g'
-  pub keeps : (w : Option ℤ) (h : History) → ActiveKeeps laws.meaning laws.active_keeps old w shared g h → IdleKeeps laws.meaning laws.idle_keeps new w shared' h
+  pub keeps : (w : Option ℤ) (h : History) → ActiveKeeps laws old w shared g h → IdleKeeps laws new w shared' h
 
 -- an idle one was activated
 pub record Activated {M : Type 0} (laws : Laws M) (i : ℕ) (old new : Instance M) (shared shared' : Pieces) (g g' : Group) : Type 0 where
@@ -40,7 +40,7 @@ pub record Activated {M : Type 0} (laws : Laws M) (i : ℕ) (old new : Instance 
   pub blocks : (space : Space) → IsSameBlock (block_in g space) (block_in g' space)
   pub active : g'.active ≡ Some i
   pub activations : g'.activations ≡ count_after g.activations (Some i)
-  pub keeps : (w : Option ℤ) (h : History) → BlocksArePoison w g → IdleKeeps laws.meaning laws.idle_keeps old w shared h → ActiveKeeps laws.meaning laws.active_keeps new w shared' g' h
+  pub keeps : (w : Option ℤ) (h : History) → BlocksArePoison w g → IdleKeeps laws old w shared h → ActiveKeeps laws new w shared' g' h
 
 -- an idle one was activated, and was given samples
 pub record ActivatedAndRan {M : Type 0} (laws : Laws M) (i : ℕ) (input out : List ℤ) (old new : Instance M) (shared shared' : Pieces) (g g' : Group) : Type 0 where
@@ -51,9 +51,9 @@ pub record ActivatedAndRan {M : Type 0} (laws : Laws M) (i : ℕ) (input out : L
   pub active : g'.active ≡ Some i
   pub activations : g'.activations ≡ count_after g.activations (Some i)
   pub bounded : length out ≤ length input
-  pub keeps : (w : Option ℤ) (h : History) → BlocksArePoison w g → IdleKeeps laws.meaning laws.idle_keeps old w shared h
-      → ActiveKeeps laws.meaning laws.active_keeps new w shared' g' (with_samples h input)
-  pub output : (w : Option ℤ) (h : History) → IsLawful laws.meaning old w → BlocksArePoison w g → IdleKeeps laws.meaning laws.idle_keeps old w shared h
+  pub keeps : (w : Option ℤ) (h : History) → BlocksArePoison w g → IdleKeeps laws old w shared h
+      → ActiveKeeps laws new w shared' g' (with_samples h input)
+  pub output : (w : Option ℤ) (h : History) → IsLawful laws.meaning old w → BlocksArePoison w g → IdleKeeps laws old w shared h
       → all_outputs laws.meaning old (with_samples h input) ≡ all_outputs laws.meaning old h ++ out
 
 -- an active one was given samples
@@ -63,6 +63,6 @@ pub record Ran {M : Type 0} (laws : Laws M) (input out : List ℤ) (old new : In
   pub written : SameOnce old.table shared shared'
   pub group : SameGroup g g'
   pub bounded : length out ≤ length input
-  pub keeps : (w : Option ℤ) (h : History) → ActiveKeeps laws.meaning laws.active_keeps old w shared g h → ActiveKeeps laws.meaning laws.active_keeps new w shared' g' (with_samples h input)
-  pub output : (w : Option ℤ) (h : History) → IsLawful laws.meaning old w → ActiveKeeps laws.meaning laws.active_keeps old w shared g h
+  pub keeps : (w : Option ℤ) (h : History) → ActiveKeeps laws old w shared g h → ActiveKeeps laws new w shared' g' (with_samples h input)
+  pub output : (w : Option ℤ) (h : History) → IsLawful laws.meaning old w → ActiveKeeps laws old w shared g h
       → all_outputs laws.meaning old (with_samples h input) ≡ all_outputs laws.meaning old h ++ out

@@ -3,74 +3,74 @@ ghost use Rattle.std.specs.Prelude.{◌≡◌, ◌≤◌, ◌++◌, ◌∷◌, �
 ghost use Rattle.ialg.specs.History.{History};
 ghost use Rattle.ialg.specs.Views.{control_of, answer_of};
 ghost use Rattle.lifecycle.specs.States.{Fits, IsLawful, Accepts, status_after};
-ghost use Rattle.host_table.specs.Table.{slot_at, group_of, slot_active_in, instance_of, activity_at, touched_by, ArePoisoned};
-ghost use Rattle.host_map.specs.Activity.{with_activity, woken};
-ghost use Rattle.host_table.specs.Steps.{laws, Ready, AreKept, Stays, Steps, given, controlled, GivesOut, AnswersTo, AreConsistent};
+ghost use Rattle.host_table.specs.Table.{slot_at, group_of, slot_active_in, instance_of, activity_at, activated_by, ArePoisoned};
+ghost use Rattle.host_map.specs.Activity.{with_activity, newly_active};
+ghost use Rattle.host_table.specs.Steps.{Ready, AreKept, Stays, Steps, given, controlled, GivesOut, AnswersTo, AreConsistent};
 ghost use Rattle.host_table.specs.Turns.{CanBeLent, ActivatedAndRan, Ran};
-ghost use Rattle.host_shared.specs.Shelves.{once_at};
-ghost use Rattle.host_shared.specs.Homes.{with_seen};
+ghost use Rattle.host_shared.specs.Locations.{shared_at};
+ghost use Rattle.host_shared.specs.Owners.{with_pieces_of};
 ghost use Rattle.host_table.specs.declared.member.Member.{Member};
 
 use crate::member::{idle_in, make_active};
 use crate::tables::Tables;
-use host_shared::{Shelf, end_absent, put_seen, take_seen};
+use host_shared::{Locations, borrow_pieces, end_absent, give_back_pieces};
 use ialg::{BLOCK_SAMPLES, Block, Ctl, Ialg, Status};
 use lifecycle::{Active, Idle, Inst};
 use record_loans::Pieces;
 use scratch_group::{Group, is_filter};
 
-/// Gives the active member of a group a block of samples, with its write-once records off the shelf.
+/// Gives the active member of a group a block of samples, with its write-once records borrowed from their owners.
 #[inline(never)]
-fn run_shelved<M: Ialg>(
+fn run_sharing<M: Ialg>(
     active: &mut Active<M>,
-    once: &mut Vec<Shelf>,
+    sharing: &mut Vec<Locations>,
     i: u8,
     group: &mut Group,
     input: &[i16],
     out: &mut Block,
 )
-    requires lent { CanBeLent active.old.instance once.old.items i group.old }
+    requires lent { CanBeLent active.old.instance sharing.old.items i group.old }
     requires empty { out.old.items ≡ [] }
     requires some { 1 ≤ length input.now }
     requires within { length input.now ≤ BLOCK_SAMPLES }
-    ensures seen { once.new.items ≡ with_seen once.old.items i (once_at once.new.items i) }
-    ensures did { Ran (laws M.meaning M.idle_keeps M.active_keeps) input.now out.new.items active.old.instance active.new.instance (once_at once.old.items i) (once_at once.new.items i) group.old group.new }
+    ensures seen { sharing.new.items ≡ with_pieces_of sharing.old.items i (shared_at sharing.new.items i) }
+    ensures did { Ran M.law input.now out.new.items active.old.instance active.new.instance (shared_at sharing.old.items i) (shared_at sharing.new.items i) group.old group.new }
 {
-    let mut shared = take_seen(once, i as usize);
+    let mut shared = borrow_pieces(sharing, i as usize);
     active.run(&mut shared, group, input, out);
-    put_seen(once, i as usize, shared);
+    give_back_pieces(sharing, i as usize, shared);
 }
 
-/// Gives the active member of a group a block of samples, as [`run_shelved`] does. The shelf of a filter, which has no write-once record, isn't
-/// looked at.
+/// Gives the active member of a group a block of samples, as [`run_sharing`] does. A filter has no write-once record,
+/// so nothing is borrowed for it.
 fn run_member<M: Ialg>(
     active: &mut Active<M>,
-    once: &mut Vec<Shelf>,
+    sharing: &mut Vec<Locations>,
     i: u8,
     group: &mut Group,
     input: &[i16],
     out: &mut Block,
 )
-    requires lent { CanBeLent active.old.instance once.old.items i group.old }
+    requires lent { CanBeLent active.old.instance sharing.old.items i group.old }
     requires empty { out.old.items ≡ [] }
     requires some { 1 ≤ length input.now }
     requires within { length input.now ≤ BLOCK_SAMPLES }
-    ensures seen { once.new.items ≡ with_seen once.old.items i (once_at once.new.items i) }
-    ensures did { Ran (laws M.meaning M.idle_keeps M.active_keeps) input.now out.new.items active.old.instance active.new.instance (once_at once.old.items i) (once_at once.new.items i) group.old group.new }
+    ensures seen { sharing.new.items ≡ with_pieces_of sharing.old.items i (shared_at sharing.new.items i) }
+    ensures did { Ran M.law input.now out.new.items active.old.instance active.new.instance (shared_at sharing.old.items i) (shared_at sharing.new.items i) group.old group.new }
 {
     if is_filter(&active.instance.table) {
         let mut none = Pieces::none();
         active.run(&mut none, group, input, out);
         end_absent(none);
     } else {
-        run_shelved(active, once, i, group, input, out);
+        run_sharing(active, sharing, i, group, input, out);
     }
 }
 
-/// Activates the member of this number, where it stands, of a group that has no active member, and gives it a block of samples:
+/// Activates the member of this number, in place, of a group that has no active member, and gives it a block of samples:
 /// its records are lent once for both.
 ///
-/// It is inlined, so that where no record is lent off a shelf none of what would be lent is made.
+/// Inlined, so that for an instance without write-once records the compiler drops the empty `Pieces`.
 #[inline(always)]
 fn activate_and_run_lent<M: Ialg>(
     idle: &mut Idle<M>,
@@ -84,79 +84,79 @@ fn activate_and_run_lent<M: Ialg>(
     requires empty { out.old.items ≡ [] }
     requires some { 1 ≤ length input.now }
     requires within { length input.now ≤ BLOCK_SAMPLES }
-    ensures { ActivatedAndRan (laws M.meaning M.idle_keeps M.active_keeps) i input.now out.new.items idle.old.instance idle.new.instance shared.old shared.new group.old group.new }
+    ensures { ActivatedAndRan M.law i input.now out.new.items idle.old.instance idle.new.instance shared.old shared.new group.old group.new }
 {
     idle.activate_and_run(shared, group, input, out);
     group.set_active(Some(i));
 }
 
-/// Activates the member of this number, where it stands, and gives it a block of samples, as `activate_and_run_lent` does, with its write-once records
-/// off the shelf.
+/// Activates the member of this number, in place, and gives it a block of samples, as `activate_and_run_lent` does, with its write-once
+/// records borrowed from their owners.
 #[inline(never)]
-fn activate_and_run_shelved<M: Ialg>(
+fn activate_and_run_sharing<M: Ialg>(
     idle: &mut Idle<M>,
-    once: &mut Vec<Shelf>,
+    sharing: &mut Vec<Locations>,
     i: u8,
     group: &mut Group,
     input: &[i16],
     out: &mut Block,
 )
-    requires lent { CanBeLent idle.old.instance once.old.items i group.old }
+    requires lent { CanBeLent idle.old.instance sharing.old.items i group.old }
     requires empty { out.old.items ≡ [] }
     requires some { 1 ≤ length input.now }
     requires within { length input.now ≤ BLOCK_SAMPLES }
-    ensures seen { once.new.items ≡ with_seen once.old.items i (once_at once.new.items i) }
-    ensures did { ActivatedAndRan (laws M.meaning M.idle_keeps M.active_keeps) i input.now out.new.items idle.old.instance idle.new.instance (once_at once.old.items i) (once_at once.new.items i) group.old group.new }
+    ensures seen { sharing.new.items ≡ with_pieces_of sharing.old.items i (shared_at sharing.new.items i) }
+    ensures did { ActivatedAndRan M.law i input.now out.new.items idle.old.instance idle.new.instance (shared_at sharing.old.items i) (shared_at sharing.new.items i) group.old group.new }
 {
-    let mut shared = take_seen(once, i as usize);
+    let mut shared = borrow_pieces(sharing, i as usize);
     activate_and_run_lent(idle, &mut shared, group, i, input, out);
-    put_seen(once, i as usize, shared);
+    give_back_pieces(sharing, i as usize, shared);
 }
 
-/// Activates the member of this number, where it stands, and gives it a block of samples, as [`activate_and_run_shelved`] does. The shelf of a filter,
-/// which has no write-once record, isn't looked at.
+/// Activates the member of this number, in place, and gives it a block of samples, as [`activate_and_run_sharing`] does. A filter has no
+/// write-once record, so nothing is borrowed for it.
 fn activate_and_run_member<M: Ialg>(
     idle: &mut Idle<M>,
-    once: &mut Vec<Shelf>,
+    sharing: &mut Vec<Locations>,
     i: u8,
     group: &mut Group,
     input: &[i16],
     out: &mut Block,
 )
-    requires lent { CanBeLent idle.old.instance once.old.items i group.old }
+    requires lent { CanBeLent idle.old.instance sharing.old.items i group.old }
     requires empty { out.old.items ≡ [] }
     requires some { 1 ≤ length input.now }
     requires within { length input.now ≤ BLOCK_SAMPLES }
-    ensures seen { once.new.items ≡ with_seen once.old.items i (once_at once.new.items i) }
-    ensures did { ActivatedAndRan (laws M.meaning M.idle_keeps M.active_keeps) i input.now out.new.items idle.old.instance idle.new.instance (once_at once.old.items i) (once_at once.new.items i) group.old group.new }
+    ensures seen { sharing.new.items ≡ with_pieces_of sharing.old.items i (shared_at sharing.new.items i) }
+    ensures did { ActivatedAndRan M.law i input.now out.new.items idle.old.instance idle.new.instance (shared_at sharing.old.items i) (shared_at sharing.new.items i) group.old group.new }
 {
     if is_filter(&idle.instance.table) {
         let mut none = Pieces::none();
         activate_and_run_lent(idle, &mut none, group, i, input, out);
         end_absent(none);
     } else {
-        activate_and_run_shelved(idle, once, i, group, input, out);
+        activate_and_run_sharing(idle, sharing, i, group, input, out);
     }
 }
 
 impl<M: Ialg> Tables<M> {
     /// Gives the active instance a block of samples.
     fn run(&mut self, i: u8, input: &[i16], out: &mut Block)
-        requires active { slot_active_in (slot_at self.old.slots i) ≡ Some (group_of (slot_at self.old.slots i)) }
+        requires active { slot_active_in (slot_at self.old.instances i) ≡ Some (group_of (slot_at self.old.instances i)) }
         requires ok { AreConsistent self.old }
         requires empty { out.old.items ≡ [] }
         requires some { 1 ≤ length input.now }
         requires within { length input.now ≤ BLOCK_SAMPLES }
-        ensures step { (w : Option ℤ) → ArePoisoned w self.old.groups → Steps (laws M.meaning M.idle_keeps M.active_keeps) w self.old self.new (activity_at self.old.groups) (given i input.now) }
+        ensures step { (w : Option ℤ) → ArePoisoned w self.old.groups → Steps M.law w self.old self.new (activity_at self.old.groups) (given i input.now) }
         ensures bounded { length out.new.items ≤ length input.now }
-        ensures output { (w : Option ℤ) → GivesOut (laws M.meaning M.idle_keeps M.active_keeps) w self.old i input.now out.new.items }
+        ensures output { (w : Option ℤ) → GivesOut M.law w self.old i input.now out.new.items }
     {
-        match &mut self.slots[i as usize] {
+        match &mut self.instances[i as usize] {
             Some(member) => {
                 let group = &mut self.groups[member.group as usize];
                 match &mut member.inst {
                     Inst::Running(active) => {
-                        run_member(active, &mut self.once, i, group, input, out);
+                        run_member(active, &mut self.sharing, i, group, input, out);
                     }
                     Inst::Idling(_) => unreachable!(),
                 }
@@ -167,31 +167,31 @@ impl<M: Ialg> Tables<M> {
 
     /// Activates the instance, whose group has no active member, and gives it a block of samples.
     fn activate_and_run(&mut self, i: u8, g: u8, input: &[i16], out: &mut Block)
-        requires living { IsSome (slot_at self.old.slots i) }
-        requires group { g ≡ group_of (slot_at self.old.slots i) }
-        requires idle { slot_active_in (slot_at self.old.slots i) ≡ None }
+        requires living { IsSome (slot_at self.old.instances i) }
+        requires group { g ≡ group_of (slot_at self.old.instances i) }
+        requires idle { slot_active_in (slot_at self.old.instances i) ≡ None }
         requires resting { (activity_at self.old.groups g).active ≡ None }
         requires ok { AreConsistent self.old }
         requires empty { out.old.items ≡ [] }
         requires some { 1 ≤ length input.now }
         requires within { length input.now ≤ BLOCK_SAMPLES }
         ensures step { (w : Option ℤ) → ArePoisoned w self.old.groups
-            → Steps (laws M.meaning M.idle_keeps M.active_keeps) w self.old self.new (with_activity (activity_at self.old.groups) g (woken i (activity_at self.old.groups g))) (given i input.now) }
+            → Steps M.law w self.old self.new (with_activity (activity_at self.old.groups) g (newly_active i (activity_at self.old.groups g))) (given i input.now) }
         ensures bounded { length out.new.items ≤ length input.now }
-        ensures output { (w : Option ℤ) → ArePoisoned w self.old.groups → GivesOut (laws M.meaning M.idle_keeps M.active_keeps) w self.old i input.now out.new.items }
+        ensures output { (w : Option ℤ) → ArePoisoned w self.old.groups → GivesOut M.law w self.old i input.now out.new.items }
     {
-        match &mut self.slots[i as usize] {
+        match &mut self.instances[i as usize] {
             Some(member) => match &mut member.inst {
                 Inst::Idling(idle) => {
                     activate_and_run_member(
                         idle,
-                        &mut self.once,
+                        &mut self.sharing,
                         i,
                         &mut self.groups[g as usize],
                         input,
                         out,
                     );
-                    make_active(&mut self.slots, i);
+                    make_active(&mut self.instances, i);
                 }
                 Inst::Running(_) => unreachable!(),
             },
@@ -201,24 +201,24 @@ impl<M: Ialg> Tables<M> {
 
     /// Gives the active instance a control that it accepts.
     fn control_active(&mut self, i: u8, c: &Ctl) -> Status
-        requires active { slot_active_in (slot_at self.old.slots i) ≡ Some (group_of (slot_at self.old.slots i)) }
+        requires active { slot_active_in (slot_at self.old.instances i) ≡ Some (group_of (slot_at self.old.instances i)) }
         requires ok { AreConsistent self.old }
-        ensures step { (w : Option ℤ) (m : Member M) → slot_at self.old.slots i ≡ Some m → ArePoisoned w self.old.groups
-            → (IsLawful M.meaning (instance_of m.inst) w → Accepts M.meaning (instance_of m.inst) (control_of c.now))
-            → Steps (laws M.meaning M.idle_keeps M.active_keeps) w self.old self.new (activity_at self.old.groups) (controlled i (control_of c.now)) }
-        ensures status { (w : Option ℤ) (histories : ℕ → History) (m : Member M) → slot_at self.old.slots i ≡ Some m
-            → IsLawful M.meaning (instance_of m.inst) w → Accepts M.meaning (instance_of m.inst) (control_of c.now)
-            → AreKept (laws M.meaning M.idle_keeps M.active_keeps) w self.old histories
-            → answer_of result ≡ status_after M.meaning (instance_of m.inst) (histories i) (control_of c.now) }
+        ensures step { (w : Option ℤ) (m : Member M) → slot_at self.old.instances i ≡ Some m → ArePoisoned w self.old.groups
+            → (IsLawful M.law.meaning (instance_of m.inst) w → Accepts M.law.meaning (instance_of m.inst) (control_of c.now))
+            → Steps M.law w self.old self.new (activity_at self.old.groups) (controlled i (control_of c.now)) }
+        ensures status { (w : Option ℤ) (histories : ℕ → History) (m : Member M) → slot_at self.old.instances i ≡ Some m
+            → IsLawful M.law.meaning (instance_of m.inst) w → Accepts M.law.meaning (instance_of m.inst) (control_of c.now)
+            → AreKept M.law w self.old histories
+            → answer_of result ≡ status_after M.law.meaning (instance_of m.inst) (histories i) (control_of c.now) }
     {
-        match &mut self.slots[i as usize] {
+        match &mut self.instances[i as usize] {
             Some(member) => {
                 let group = &mut self.groups[member.group as usize];
                 match &mut member.inst {
                     Inst::Running(active) => {
-                        let mut shared = take_seen(&mut self.once, i as usize);
+                        let mut shared = borrow_pieces(&mut self.sharing, i as usize);
                         let status = active.control(&mut shared, group, c);
-                        put_seen(&mut self.once, i as usize, shared);
+                        give_back_pieces(&mut self.sharing, i as usize, shared);
                         status
                     }
                     Inst::Idling(_) => unreachable!(),
@@ -230,11 +230,11 @@ impl<M: Ialg> Tables<M> {
 
     /// Whether the instance takes the control.
     fn accepts(&self, i: u8, c: &Ctl) -> bool
-        requires living { IsSome (slot_at self.now.slots i) }
-        ensures { (w : Option ℤ) (m : Member M) → slot_at self.now.slots i ≡ Some m → IsLawful M.meaning (instance_of m.inst) w
-            → result ≡ M.meaning.accepts (instance_of m.inst).kind (instance_of m.inst).params.items (control_of c.now) }
+        requires living { IsSome (slot_at self.now.instances i) }
+        ensures { (w : Option ℤ) (m : Member M) → slot_at self.now.instances i ≡ Some m → IsLawful M.law.meaning (instance_of m.inst) w
+            → result ≡ M.law.meaning.accepts (instance_of m.inst).kind (instance_of m.inst).params.items (control_of c.now) }
     {
-        match &self.slots[i as usize] {
+        match &self.instances[i as usize] {
             Some(member) => match &member.inst {
                 Inst::Idling(idle) => idle.accepts(c),
                 Inst::Running(active) => active.accepts(c),
@@ -246,33 +246,33 @@ impl<M: Ialg> Tables<M> {
     /// Gives the instance a block of samples. It is activated first, unless it is active; another active member of its group is
     /// deactivated before.
     pub fn process(&mut self, poison: Option<i16>, i: u8, input: &[i16], out: &mut Block)
-        requires living { IsSome (slot_at self.old.slots i) }
+        requires living { IsSome (slot_at self.old.instances i) }
         requires ready { Ready poison self.old }
         requires empty { out.old.items ≡ [] }
         requires some { 1 ≤ length input.now }
         requires within { length input.now ≤ BLOCK_SAMPLES }
-        ensures step { Steps (laws M.meaning M.idle_keeps M.active_keeps) poison self.old self.new (touched_by self.old.slots self.old.groups i) (given i input.now) }
+        ensures step { Steps M.law poison self.old self.new (activated_by self.old.instances self.old.groups i) (given i input.now) }
         ensures bounded { length out.new.items ≤ length input.now }
-        ensures output { GivesOut (laws M.meaning M.idle_keeps M.active_keeps) poison self.old i input.now out.new.items }
+        ensures output { GivesOut M.law poison self.old i input.now out.new.items }
     {
-        let Some(g) = idle_in(&self.slots, i) else {
+        let Some(g) = idle_in(&self.instances, i) else {
             self.run(i, input, out);
             return;
         };
-        let _rested = self.deactivate_in(poison, g);
+        let _deactivated = self.deactivate_in(poison, g);
         self.activate_and_run(i, g, input, out);
     }
 
     /// Gives the instance a control, activated as for a block. None where its kind doesn't take the control: then nothing has happened.
     pub fn control(&mut self, poison: Option<i16>, i: u8, c: &Ctl) -> Option<Status>
-        requires living { IsSome (slot_at self.old.slots i) }
+        requires living { IsSome (slot_at self.old.instances i) }
         requires ready { Ready poison self.old }
         ensures stays { Stays poison self.old self.new }
-        ensures taken { (m : Member M) → slot_at self.old.slots i ≡ Some m → IsLawful M.meaning (instance_of m.inst) poison
-            → is_some result ≡ M.meaning.accepts (instance_of m.inst).kind (instance_of m.inst).params.items (control_of c.now) }
+        ensures taken { (m : Member M) → slot_at self.old.instances i ≡ Some m → IsLawful M.law.meaning (instance_of m.inst) poison
+            → is_some result ≡ M.law.meaning.accepts (instance_of m.inst).kind (instance_of m.inst).params.items (control_of c.now) }
         ensures refused { IfNone result (self.new ≡ self.old) }
-        ensures step { OnSome result (Steps (laws M.meaning M.idle_keeps M.active_keeps) poison self.old self.new (touched_by self.old.slots self.old.groups i) (controlled i (control_of c.now))) }
-        ensures status { IfSome result (λ answer. AnswersTo (laws M.meaning M.idle_keeps M.active_keeps) poison self.old i (control_of c.now) (answer_of answer)) }
+        ensures step { OnSome result (Steps M.law poison self.old self.new (activated_by self.old.instances self.old.groups i) (controlled i (control_of c.now))) }
+        ensures status { IfSome result (λ answer. AnswersTo M.law poison self.old i (control_of c.now) (answer_of answer)) }
     {
         if !self.accepts(i, c) {
             return None;

@@ -19,7 +19,7 @@ fn as_idle<M: Ialg>(inst: Inst<M>, _nothing: ()) -> (Inst<M>, ())
     ensures { result.0 ≡ Idling (record { instance = instance_of inst }) }
 {
     match inst {
-        Inst::Running(active) => (Inst::Idling(active.idled()), ()),
+        Inst::Running(active) => (Inst::Idling(active.into_idle()), ()),
         Inst::Idling(idle) => (Inst::Idling(idle), ()),
     }
 }
@@ -29,43 +29,43 @@ fn as_active<M: Ialg>(inst: Inst<M>, _nothing: ()) -> (Inst<M>, ())
     ensures { result.0 ≡ Running (record { instance = instance_of inst }) }
 {
     match inst {
-        Inst::Idling(idle) => (Inst::Running(idle.woken()), ()),
+        Inst::Idling(idle) => (Inst::Running(idle.into_active()), ()),
         Inst::Running(active) => (Inst::Running(active), ()),
     }
 }
 
-/// Lets the instance of a slot stand in it as an idle one. No word of it is copied.
-pub(crate) fn make_idle<M: Ialg>(slots: &mut Vec<Option<Member<M>>>, i: u8)
-    requires { IsSome (slot_at slots.old.items i) }
-    ensures { (m : Member M) → slot_at slots.old.items i ≡ Some m
-        → slots.new.items ≡ slice_set slots.old.items i (Some (record m { inst = Idling (record { instance = instance_of m.inst }) })) }
+/// Makes the instance of a slot idle in place, without copying it.
+pub(crate) fn make_idle<M: Ialg>(instances: &mut Vec<Option<Member<M>>>, i: u8)
+    requires { IsSome (slot_at instances.old.items i) }
+    ensures { (m : Member M) → slot_at instances.old.items i ≡ Some m
+        → instances.new.items ≡ slice_set instances.old.items i (Some (record m { inst = Idling (record { instance = instance_of m.inst }) })) }
 {
-    match &mut slots[i as usize] {
+    match &mut instances[i as usize] {
         Some(member) => replace_with(&mut member.inst, (), as_idle),
         None => unreachable!(),
     }
 }
 
-/// Lets the instance of a slot stand in it as an active one. No word of it is copied.
-pub(crate) fn make_active<M: Ialg>(slots: &mut Vec<Option<Member<M>>>, i: u8)
-    requires { IsSome (slot_at slots.old.items i) }
-    ensures { (m : Member M) → slot_at slots.old.items i ≡ Some m
-        → slots.new.items ≡ slice_set slots.old.items i (Some (record m { inst = Running (record { instance = instance_of m.inst }) })) }
+/// Makes the instance of a slot active in place, without copying it.
+pub(crate) fn make_active<M: Ialg>(instances: &mut Vec<Option<Member<M>>>, i: u8)
+    requires { IsSome (slot_at instances.old.items i) }
+    ensures { (m : Member M) → slot_at instances.old.items i ≡ Some m
+        → instances.new.items ≡ slice_set instances.old.items i (Some (record m { inst = Running (record { instance = instance_of m.inst }) })) }
 {
-    match &mut slots[i as usize] {
+    match &mut instances[i as usize] {
         Some(member) => replace_with(&mut member.inst, (), as_active),
         None => unreachable!(),
     }
 }
 
 /// The group of an idle instance, or None where the instance is active.
-pub(crate) fn idle_in<M: Ialg>(slots: &Vec<Option<Member<M>>>, i: u8) -> Option<u8>
-    requires { IsSome (slot_at slots.now.items i) }
-    ensures active { IfNone result (slot_active_in (slot_at slots.now.items i) ≡ Some (group_of (slot_at slots.now.items i))) }
-    ensures group { IfSome result (λ g. g ≡ group_of (slot_at slots.now.items i)) }
-    ensures idle { OnSome result (slot_active_in (slot_at slots.now.items i) ≡ None) }
+pub(crate) fn idle_in<M: Ialg>(instances: &Vec<Option<Member<M>>>, i: u8) -> Option<u8>
+    requires { IsSome (slot_at instances.now.items i) }
+    ensures active { IfNone result (slot_active_in (slot_at instances.now.items i) ≡ Some (group_of (slot_at instances.now.items i))) }
+    ensures group { IfSome result (λ g. g ≡ group_of (slot_at instances.now.items i)) }
+    ensures idle { OnSome result (slot_active_in (slot_at instances.now.items i) ≡ None) }
 {
-    match &slots[i as usize] {
+    match &instances[i as usize] {
         Some(member) => match &member.inst {
             Inst::Idling(_) => Some(member.group),
             Inst::Running(_) => None,
@@ -75,11 +75,11 @@ pub(crate) fn idle_in<M: Ialg>(slots: &Vec<Option<Member<M>>>, i: u8) -> Option<
 }
 
 /// The group of an active instance, or None where the instance is idle.
-pub(crate) fn active_group<M: Ialg>(slots: &Vec<Option<Member<M>>>, i: u8) -> Option<u8>
-    requires { IsSome (slot_at slots.now.items i) }
-    ensures { result ≡ slot_active_in (slot_at slots.now.items i) }
+pub(crate) fn active_group<M: Ialg>(instances: &Vec<Option<Member<M>>>, i: u8) -> Option<u8>
+    requires { IsSome (slot_at instances.now.items i) }
+    ensures { result ≡ slot_active_in (slot_at instances.now.items i) }
 {
-    match &slots[i as usize] {
+    match &instances[i as usize] {
         Some(member) => match &member.inst {
             Inst::Idling(_) => None,
             Inst::Running(_) => Some(member.group),

@@ -4,16 +4,16 @@ ghost use Rattle.host_table.specs.Table.{slot_at};
 ghost use Rattle.host_table.specs.Steps.{IsPut};
 
 use crate::member::Member;
-use host_shared::Shelf;
+use host_shared::Locations;
 use ialg::Ialg;
 use scratch_group::Group;
 use std::marker::Model;
 use std::mem;
 
-/// The tables of a host: a slot for each instance number, the shelves of the instances' write-once records, and the groups.
+/// The tables of a host: the instances by their numbers, where their write-once records are, and the groups.
 pub struct Tables<M> {
-    pub slots: Vec<Option<Member<M>>>,
-    pub once: Vec<Shelf>,
+    pub instances: Vec<Option<Member<M>>>,
+    pub sharing: Vec<Locations>,
     pub groups: Vec<Group>,
 }
 
@@ -22,15 +22,15 @@ impl<M> Model for Tables<M> {
 
     ghost Value = { View M };
 
-    ghost view = { λ t. record { slots = t.slots.items; once = t.once.items; groups = t.groups.items } };
+    ghost view = { λ t. record { instances = t.instances.items; sharing = t.sharing.items; groups = t.groups.items } };
 }
 
 impl<M: Ialg> Tables<M> {
     /// Whether an instance has the number.
     pub fn lives(&self, i: u8) -> bool
-        ensures { result ≡ is_some (slot_at self.now.slots i) }
+        ensures { result ≡ is_some (slot_at self.now.instances i) }
     {
-        match self.slots.get(i as usize) {
+        match self.instances.get(i as usize) {
             Some(Some(_)) => true,
             _ => false,
         }
@@ -38,11 +38,11 @@ impl<M: Ialg> Tables<M> {
 
     /// Takes the instance out of its slot.
     pub fn take_out(&mut self, i: u8) -> Member<M>
-        requires { IsSome (slot_at self.old.slots i) }
-        ensures member { slot_at self.old.slots i ≡ Some result }
+        requires { IsSome (slot_at self.old.instances i) }
+        ensures member { slot_at self.old.instances i ≡ Some result }
         ensures emptied { IsPut i None self.old self.new }
     {
-        match mem::replace(&mut self.slots[i as usize], None) {
+        match mem::replace(&mut self.instances[i as usize], None) {
             Some(member) => member,
             None => unreachable!(),
         }
@@ -50,11 +50,11 @@ impl<M: Ialg> Tables<M> {
 
     /// Puts an instance into an empty slot.
     pub fn put_in(&mut self, i: u8, member: Member<M>)
-        requires room { i < length self.old.slots }
-        requires empty { slot_at self.old.slots i ≡ None }
+        requires room { i < length self.old.instances }
+        requires empty { slot_at self.old.instances i ≡ None }
         ensures filled { IsPut i (Some member) self.old self.new }
     {
-        match mem::replace(&mut self.slots[i as usize], Some(member)) {
+        match mem::replace(&mut self.instances[i as usize], Some(member)) {
             Some(_) => unreachable!(),
             None => {}
         }

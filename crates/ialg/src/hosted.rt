@@ -25,11 +25,11 @@ const KEPT: usize = 1;
 const RUNNING: usize = 2;
 
 impl<K: Filter> Ialg for K {
-    ghost meaning = { meaning_of K.filter };
-
-    ghost idle_keeps = { λ _ p rs wss h. IsIdle K.KIND (K.filter.memory p) (K.rests p h) rs wss };
-
-    ghost active_keeps = { λ _ p rs wss h. IsActive K.KIND (K.filter.memory p) (K.runs p h) rs wss };
+    ghost law = { record {
+      meaning = meaning_of K.filter;
+      idle_keeps = λ _ p rs wss h. IsIdle K.KIND (K.filter.memory p) (K.rests p h) rs wss;
+      active_keeps = λ _ p rs wss h. IsActive K.KIND (K.filter.memory p) (K.runs p h) rs wss;
+    } };
 
     fn alg_num_alloc(&self) -> usize {
         FILTER_RECORDS
@@ -254,5 +254,5 @@ fn get<K: Filter>(mem: &Lent<'_>) -> Words
 /// The law that filters keep IALG's laws for all parameters, refused ones too, in a host of any poison word and in one
 /// of none. The call does nothing: its contract is the law.
 pub fn filters_are_lawful<K: Filter>()
-    ensures { (kind : K) (p : List ℤ) (w : Option ℤ) → IsTrue (⟦<K as Ialg>⟧.meaning.lawful kind p w) }
+    ensures { (kind : K) (p : List ℤ) (w : Option ℤ) → IsTrue (⟦<K as Ialg>⟧.law.meaning.lawful kind p w) }
 {}

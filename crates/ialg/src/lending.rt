@@ -22,30 +22,36 @@ pub trait Step<O> {
         ensures done { done self.now mem.old.table.now mem.old.writable (lent_words mem.old) (lent_words mem.new) out.old out.new };
 }
 
+/// A step, the table by which records are lent for it, and whether write-once records are lent for writing.
+#[derive(Drop)]
+pub struct Lending<'a, S> {
+    pub step: &'a S,
+    pub table: &'a MemTab,
+    pub writable: bool,
+}
+
 /// Performs the step with these records: those of the table, an empty slice for each that isn't lent. Where nothing
 /// write-once is lent for writing, each write-once record has the same words after it, whatever the step is.
 pub fn lend<O, S: Step<O>>(
-    step: &S,
-    table: &MemTab,
-    writable: bool,
+    lending: &Lending<'_, S>,
     r0: &mut [i16],
     r1: &mut [i16],
     r2: &mut [i16],
     r3: &mut [i16],
     out: &mut O,
 )
-    requires { S.can step.now out.old }
-    ensures done { S.done step.now table.now writable (r0.old ∷ r1.old ∷ r2.old ∷ r3.old ∷ []) (r0.new ∷ r1.new ∷ r2.new ∷ r3.new ∷ []) out.old out.new }
-    ensures once { (k : ℕ) → (record_at table.now k).attr ≡ WriteOnce → writable ≡ false
+    requires { S.can lending.now.step.now out.old }
+    ensures done { S.done lending.now.step.now lending.now.table.now lending.now.writable (r0.old ∷ r1.old ∷ r2.old ∷ r3.old ∷ []) (r0.new ∷ r1.new ∷ r2.new ∷ r3.new ∷ []) out.old out.new }
+    ensures once { (k : ℕ) → (record_at lending.now.table.now k).attr ≡ WriteOnce → lending.now.writable ≡ false
         → words_of (r0.new ∷ r1.new ∷ r2.new ∷ r3.new ∷ []) k ≡ words_of (r0.old ∷ r1.old ∷ r2.old ∷ r3.old ∷ []) k }
 {
     let mut mem = Lent {
-        table,
-        writable,
+        table: lending.table,
+        writable: lending.writable,
         r0,
         r1,
         r2,
         r3,
     };
-    step.perform(&mut mem, out);
+    lending.step.perform(&mut mem, out);
 }

@@ -35,11 +35,11 @@ impl<A: Named, B: Named> Named for Or<A, B> {
 }
 
 impl<A: Ialg, B: Ialg> Ialg for Or<A, B> {
-    ghost meaning = { either_means A.meaning B.meaning };
-
-    ghost idle_keeps = { either_keeps A.idle_keeps B.idle_keeps };
-
-    ghost active_keeps = { either_keeps A.active_keeps B.active_keeps };
+    ghost law = { record {
+      meaning = either_means A.law.meaning B.law.meaning;
+      idle_keeps = either_keeps A.law.idle_keeps B.law.idle_keeps;
+      active_keeps = either_keeps A.law.active_keeps B.law.active_keeps;
+    } };
 
     fn alg_num_alloc(&self) -> usize {
         match self {
@@ -133,7 +133,7 @@ impl<A: Ialg, B: Ialg> Ialg for Or<A, B> {
 /// The law that a set of two sets keeps IALG's laws where both keep them, for all parameters and in each host. The call does nothing:
 /// its contract is the law.
 pub fn both_are_lawful<A: Ialg, B: Ialg>()
-    ensures { ((a : A) (p : List ℤ) (w : Option ℤ) → IsTrue (A.meaning.lawful a p w))
-        → ((b : B) (p : List ℤ) (w : Option ℤ) → IsTrue (B.meaning.lawful b p w))
-        → (kind : Or A B) (p : List ℤ) (w : Option ℤ) → IsTrue (⟦<Or<A, B> as Ialg>⟧.meaning.lawful kind p w) }
+    ensures { ((a : A) (p : List ℤ) (w : Option ℤ) → IsTrue (A.law.meaning.lawful a p w))
+        → ((b : B) (p : List ℤ) (w : Option ℤ) → IsTrue (B.law.meaning.lawful b p w))
+        → (kind : Or A B) (p : List ℤ) (w : Option ℤ) → IsTrue (⟦<Or<A, B> as Ialg>⟧.law.meaning.lawful kind p w) }
 {}

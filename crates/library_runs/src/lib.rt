@@ -7,8 +7,8 @@
 
 ghost use Rattle.library_runs.specs.Served.{ServedCallsGoByHistories};
 
+use gateway_kinds::{GatewayKind, gateway_kinds_are_lawful};
 use run_theorem::{births_go_by_their_histories, calls_run_on_the_host};
-use voice_set::{Voice, voices_are_lawful};
 
 /// The law of runs: where channels kept a state, and each call of a list was served, one after another, the calls are a run of the
 /// specification from that state; and each instance, from its creation on, gives and answers what its algorithm means for what it was
@@ -16,7 +16,7 @@ use voice_set::{Voice, voices_are_lawful};
 pub fn served_calls_go_by_histories()
     ensures { ServedCallsGoByHistories }
 {
-    calls_run_on_the_host::<Voice>();
-    births_go_by_their_histories::<Voice>();
-    voices_are_lawful();
+    calls_run_on_the_host::<GatewayKind>();
+    births_go_by_their_histories::<GatewayKind>();
+    gateway_kinds_are_lawful();
 }

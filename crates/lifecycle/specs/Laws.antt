@@ -3,62 +3,62 @@ use Rattle.std.specs.Prelude.{ℕ, ℤ, ◌≡◌, Bool, true, false, IsTrue, Li
 use Rattle.mem_rec.specs.declared.MemRec.{MemRec}
 use Rattle.mem_rec.specs.declared.Attr.TheVariants.{WriteOnce}
 use Rattle.ialg.specs.History.{History, Ctl, Control, with_samples}
-use Rattle.ialg.specs.Meaning.{Meaning, Status, outputs_of, status_of}
+use Rattle.ialg.specs.Meaning.{Status, outputs_of, status_of}
 use Rattle.ialg.specs.Records.{record_at, words_of, AllLent, LastingLent, lasting, unplaced, AreNew, ScratchIsPoison}
-use Rattle.lifecycle.specs.States.{Relation}
+use Rattle.ialg.specs.Laws.{Laws}
 
 -- of any kind: the words of the write-once records, where these aren't lent for writing
 abbrev pub StaysOnce : List MemRec → Bool → List (List ℤ) → List (List ℤ) → Type 0
 StaysOnce rs writable old new = (k : ℕ) → (record_at rs k).attr ≡ WriteOnce → writable ≡ false → words_of new k ≡ words_of old k
 
 -- the start
-abbrev pub Started : {M : Type 0} → Meaning M → Relation M → M → List ℤ → List MemRec → Bool → List (List ℤ) → List (List ℤ) → Type 0
-Started meaning idle_keeps kind p rs writable old new = (w : Option ℤ) → IsTrue (meaning.lawful kind p w)
-    → meaning.table kind p ≡ Some (unplaced rs) → LastingLent rs old → writable ≡ true → AreNew w (meaning.fill kind p) rs old
-    → idle_keeps kind p rs (lasting rs new) []
+abbrev pub Started : {M : Type 0} → Laws M → M → List ℤ → List MemRec → Bool → List (List ℤ) → List (List ℤ) → Type 0
+Started laws kind p rs writable old new = (w : Option ℤ) → IsTrue (laws.meaning.lawful kind p w)
+    → laws.meaning.table kind p ≡ Some (unplaced rs) → LastingLent rs old → writable ≡ true → AreNew w (laws.meaning.fill kind p) rs old
+    → laws.idle_keeps kind p rs (lasting rs new) []
 
 -- the activation
-abbrev pub Woken : {M : Type 0} → Meaning M → Relation M → Relation M → M → List MemRec → Bool → List (List ℤ) → List (List ℤ) → Type 0
-Woken meaning idle_keeps active_keeps kind rs writable old new = (p : List ℤ) (w : Option ℤ) (h : History) → IsTrue (meaning.lawful kind p w)
+abbrev pub Activated : {M : Type 0} → Laws M → M → List MemRec → Bool → List (List ℤ) → List (List ℤ) → Type 0
+Activated laws kind rs writable old new = (p : List ℤ) (w : Option ℤ) (h : History) → IsTrue (laws.meaning.lawful kind p w)
     → writable ≡ false → AllLent rs old → ScratchIsPoison w rs old
-    → idle_keeps kind p rs (lasting rs old) h → active_keeps kind p rs new h
+    → laws.idle_keeps kind p rs (lasting rs old) h → laws.active_keeps kind p rs new h
 
 -- a block of samples, and what it gave
-abbrev pub HasRun : {M : Type 0} → Meaning M → Relation M → M → List ℤ → List MemRec → Bool → List (List ℤ) → List (List ℤ) → List ℤ → Type 0
-HasRun meaning active_keeps kind input rs writable old new out = (p : List ℤ) (w : Option ℤ) (h : History) → IsTrue (meaning.lawful kind p w)
-    → writable ≡ false → AllLent rs old → active_keeps kind p rs old h
-    → active_keeps kind p rs new (with_samples h input)
-    × (outputs_of meaning kind p (with_samples h input) ≡ outputs_of meaning kind p h ++ out)
+abbrev pub HasRun : {M : Type 0} → Laws M → M → List ℤ → List MemRec → Bool → List (List ℤ) → List (List ℤ) → List ℤ → Type 0
+HasRun laws kind input rs writable old new out = (p : List ℤ) (w : Option ℤ) (h : History) → IsTrue (laws.meaning.lawful kind p w)
+    → writable ≡ false → AllLent rs old → laws.active_keeps kind p rs old h
+    → laws.active_keeps kind p rs new (with_samples h input)
+    × (outputs_of laws.meaning kind p (with_samples h input) ≡ outputs_of laws.meaning kind p h ++ out)
 
 -- the activation, and then a block of samples, and what it gave
-abbrev pub WokenAndRun : {M : Type 0} → Meaning M → Relation M → Relation M → M → List ℤ → List MemRec → Bool → List (List ℤ) → List (List ℤ) → List ℤ → Type 0
-WokenAndRun meaning idle_keeps active_keeps kind input rs writable old new out = (p : List ℤ) (w : Option ℤ) (h : History) → IsTrue (meaning.lawful kind p w)
+abbrev pub ActivatedAndRan : {M : Type 0} → Laws M → M → List ℤ → List MemRec → Bool → List (List ℤ) → List (List ℤ) → List ℤ → Type 0
+ActivatedAndRan laws kind input rs writable old new out = (p : List ℤ) (w : Option ℤ) (h : History) → IsTrue (laws.meaning.lawful kind p w)
     → writable ≡ false → AllLent rs old → ScratchIsPoison w rs old
-    → idle_keeps kind p rs (lasting rs old) h
-    → active_keeps kind p rs new (with_samples h input)
-    × (outputs_of meaning kind p (with_samples h input) ≡ outputs_of meaning kind p h ++ out)
+    → laws.idle_keeps kind p rs (lasting rs old) h
+    → laws.active_keeps kind p rs new (with_samples h input)
+    × (outputs_of laws.meaning kind p (with_samples h input) ≡ outputs_of laws.meaning kind p h ++ out)
 
 -- a control, and its answer
-abbrev pub Controlled : {M : Type 0} → Meaning M → Relation M → M → Ctl → List MemRec → Bool → List (List ℤ) → List (List ℤ) → Status → Type 0
-Controlled meaning active_keeps kind c rs writable old new answer = (p : List ℤ) (w : Option ℤ) (h : History) → IsTrue (meaning.lawful kind p w)
-    → IsTrue (meaning.accepts kind p c) → writable ≡ false → AllLent rs old → active_keeps kind p rs old h
-    → active_keeps kind p rs new (Control c ∷ h) × (answer ≡ status_of meaning kind p h c)
+abbrev pub Controlled : {M : Type 0} → Laws M → M → Ctl → List MemRec → Bool → List (List ℤ) → List (List ℤ) → Status → Type 0
+Controlled laws kind c rs writable old new answer = (p : List ℤ) (w : Option ℤ) (h : History) → IsTrue (laws.meaning.lawful kind p w)
+    → IsTrue (laws.meaning.accepts kind p c) → writable ≡ false → AllLent rs old → laws.active_keeps kind p rs old h
+    → laws.active_keeps kind p rs new (Control c ∷ h) × (answer ≡ status_of laws.meaning kind p h c)
 
 -- the deactivation
-abbrev pub Rested : {M : Type 0} → Meaning M → Relation M → Relation M → M → List MemRec → Bool → List (List ℤ) → List (List ℤ) → Type 0
-Rested meaning idle_keeps active_keeps kind rs writable old new = (p : List ℤ) (w : Option ℤ) (h : History) → IsTrue (meaning.lawful kind p w)
-    → writable ≡ false → AllLent rs old → active_keeps kind p rs old h → idle_keeps kind p rs (lasting rs new) h
+abbrev pub Deactivated : {M : Type 0} → Laws M → M → List MemRec → Bool → List (List ℤ) → List (List ℤ) → Type 0
+Deactivated laws kind rs writable old new = (p : List ℤ) (w : Option ℤ) (h : History) → IsTrue (laws.meaning.lawful kind p w)
+    → writable ≡ false → AllLent rs old → laws.active_keeps kind p rs old h → laws.idle_keeps kind p rs (lasting rs new) h
 
 -- a move, idle and active, where `before` is the table with the old bases
-pub record Moved {M : Type 0} (meaning : Meaning M) (idle_keeps active_keeps : Relation M) (kind : M) (rs : List MemRec) (writable : Bool) (old new : List (List ℤ)) : Type 0 where
-  pub idle : (p : List ℤ) (w : Option ℤ) (h : History) (before : List MemRec) → IsTrue (meaning.lawful kind p w)
+pub record Moved {M : Type 0} (laws : Laws M) (kind : M) (rs : List MemRec) (writable : Bool) (old new : List (List ℤ)) : Type 0 where
+  pub idle : (p : List ℤ) (w : Option ℤ) (h : History) (before : List MemRec) → IsTrue (laws.meaning.lawful kind p w)
       → unplaced before ≡ unplaced rs → writable ≡ false → LastingLent rs old
-      → idle_keeps kind p before (lasting rs old) h → idle_keeps kind p rs (lasting rs new) h
-  pub active : (p : List ℤ) (w : Option ℤ) (h : History) (before : List MemRec) → IsTrue (meaning.lawful kind p w)
+      → laws.idle_keeps kind p before (lasting rs old) h → laws.idle_keeps kind p rs (lasting rs new) h
+  pub active : (p : List ℤ) (w : Option ℤ) (h : History) (before : List MemRec) → IsTrue (laws.meaning.lawful kind p w)
       → unplaced before ≡ unplaced rs → writable ≡ false → AllLent rs old
-      → active_keeps kind p before old h → active_keeps kind p rs new h
+      → laws.active_keeps kind p before old h → laws.active_keeps kind p rs new h
 
 -- the records that the kind answers at the end
-abbrev pub Freed : {M : Type 0} → Meaning M → Relation M → M → List MemRec → Bool → List (List ℤ) → List MemRec → Type 0
-Freed meaning idle_keeps kind rs writable words answer = (p : List ℤ) (w : Option ℤ) (h : History) → IsTrue (meaning.lawful kind p w)
-    → writable ≡ false → LastingLent rs words → idle_keeps kind p rs (lasting rs words) h → answer ≡ rs
+abbrev pub Freed : {M : Type 0} → Laws M → M → List MemRec → Bool → List (List ℤ) → List MemRec → Type 0
+Freed laws kind rs writable words answer = (p : List ℤ) (w : Option ℤ) (h : History) → IsTrue (laws.meaning.lawful kind p w)
+    → writable ≡ false → LastingLent rs words → laws.idle_keeps kind p rs (lasting rs words) h → answer ≡ rs

@@ -5,15 +5,12 @@ use Rattle.mem_rec.specs.declared.Attr.TheVariants.{WriteOnce}
 use Rattle.ialg.specs.History.{History, Ctl}
 use Rattle.ialg.specs.Meaning.{Meaning, Status, outputs_of, status_of}
 use Rattle.ialg.specs.Records.{record_at, AllLent}
+use Rattle.ialg.specs.Laws.{Laws}
 use Rattle.scratch_group.specs.declared.group.Group.{Group}
 use Rattle.record_loans.specs.declared.pieces.Pieces.{Pieces}
 use Rattle.record_loans.specs.Pieces.{piece_at, piece_words, SamePieces}
 use Rattle.scratch_group.specs.Words.{active_words, idle_words, InSpaces}
 use Rattle.lifecycle.specs.declared.instance.Instance.{Instance}
-
--- whether words keep a history, by the kind, its parameters and its table
-abbrev pub Relation : Type 0 → Type 1
-Relation M = M → List ℤ → List MemRec → List (List ℤ) → History → Type 0
 
 -- the records have their words in these pieces and blocks, and no two begin at one place
 pub record Fits (rs : List MemRec) (own shared : Pieces) (g : Group) : Type 0 where
@@ -49,11 +46,11 @@ abbrev pub status_after : {M : Type 0} → Meaning M → Instance M → History 
 status_after meaning s h c = status_of meaning s.kind s.params.items h c
 
 -- an idle instance keeps a history by its own pieces and those of its write-once records. An unlawful one owes nothing
-abbrev pub IdleKeeps : {M : Type 0} → Meaning M → Relation M → Instance M → Option ℤ → Pieces → History → Type 0
-IdleKeeps meaning idle_keeps s w shared h = IsLawful meaning s w
-    → idle_keeps s.kind s.params.items s.table (idle_words s.table s.own shared) h
+abbrev pub IdleKeeps : {M : Type 0} → Laws M → Instance M → Option ℤ → Pieces → History → Type 0
+IdleKeeps laws s w shared h = IsLawful laws.meaning s w
+    → laws.idle_keeps s.kind s.params.items s.table (idle_words s.table s.own shared) h
 
 -- an active one by these and its group's blocks
-abbrev pub ActiveKeeps : {M : Type 0} → Meaning M → Relation M → Instance M → Option ℤ → Pieces → Group → History → Type 0
-ActiveKeeps meaning active_keeps s w shared g h = IsLawful meaning s w
-    → active_keeps s.kind s.params.items s.table (active_words s.table s.own shared g) h
+abbrev pub ActiveKeeps : {M : Type 0} → Laws M → Instance M → Option ℤ → Pieces → Group → History → Type 0
+ActiveKeeps laws s w shared g h = IsLawful laws.meaning s w
+    → laws.active_keeps s.kind s.params.items s.table (active_words s.table s.own shared g) h

@@ -35,12 +35,12 @@ impl<M: Ialg> Active<M> {
         ensures group { SameGroup group.old group.new }
         ensures fits { Fits self.new.instance.table self.new.instance.own shared.new group.new }
         ensures bounded { length out.new.items ≤ length input.now }
-        ensures keeps { (w : Option ℤ) (h : History) → ActiveKeeps M.meaning M.active_keeps self.old.instance w shared.old group.old h
-            → ActiveKeeps M.meaning M.active_keeps self.new.instance w shared.new group.new (with_samples h input.now) }
-        ensures output { (w : Option ℤ) (h : History) → IsLawful M.meaning self.old.instance w
-            → ActiveKeeps M.meaning M.active_keeps self.old.instance w shared.old group.old h
-            → all_outputs M.meaning self.old.instance (with_samples h input.now)
-            ≡ all_outputs M.meaning self.old.instance h ++ out.new.items }
+        ensures keeps { (w : Option ℤ) (h : History) → ActiveKeeps M.law self.old.instance w shared.old group.old h
+            → ActiveKeeps M.law self.new.instance w shared.new group.new (with_samples h input.now) }
+        ensures output { (w : Option ℤ) (h : History) → IsLawful M.law.meaning self.old.instance w
+            → ActiveKeeps M.law self.old.instance w shared.old group.old h
+            → all_outputs M.law.meaning self.old.instance (with_samples h input.now)
+            ≡ all_outputs M.law.meaning self.old.instance h ++ out.new.items }
     {
         let kind = self.instance.kind;
         let step = Process { kind, input };
@@ -55,8 +55,8 @@ impl<M: Ialg> Active<M> {
 
     /// Whether the instance takes the control.
     pub fn accepts(&self, c: &Ctl) -> bool
-        ensures { (w : Option ℤ) → IsLawful M.meaning self.now.instance w
-            → result ≡ M.meaning.accepts self.now.instance.kind self.now.instance.params.items (control_of c.now) }
+        ensures { (w : Option ℤ) → IsLawful M.law.meaning self.now.instance w
+            → result ≡ M.law.meaning.accepts self.now.instance.kind self.now.instance.params.items (control_of c.now) }
     {
         self.instance.kind.accepts(&self.instance.params, c)
     }
@@ -69,13 +69,13 @@ impl<M: Ialg> Active<M> {
         ensures once { SameOnce self.old.instance.table shared.old shared.new }
         ensures group { SameGroup group.old group.new }
         ensures fits { Fits self.new.instance.table self.new.instance.own shared.new group.new }
-        ensures keeps { (w : Option ℤ) (h : History) → Accepts M.meaning self.old.instance (control_of c.now)
-            → ActiveKeeps M.meaning M.active_keeps self.old.instance w shared.old group.old h
-            → ActiveKeeps M.meaning M.active_keeps self.new.instance w shared.new group.new (Control (control_of c.now) ∷ h) }
-        ensures status { (w : Option ℤ) (h : History) → IsLawful M.meaning self.old.instance w
-            → Accepts M.meaning self.old.instance (control_of c.now)
-            → ActiveKeeps M.meaning M.active_keeps self.old.instance w shared.old group.old h
-            → answer_of result ≡ status_after M.meaning self.old.instance h (control_of c.now) }
+        ensures keeps { (w : Option ℤ) (h : History) → Accepts M.law.meaning self.old.instance (control_of c.now)
+            → ActiveKeeps M.law self.old.instance w shared.old group.old h
+            → ActiveKeeps M.law self.new.instance w shared.new group.new (Control (control_of c.now) ∷ h) }
+        ensures status { (w : Option ℤ) (h : History) → IsLawful M.law.meaning self.old.instance w
+            → Accepts M.law.meaning self.old.instance (control_of c.now)
+            → ActiveKeeps M.law self.old.instance w shared.old group.old h
+            → answer_of result ≡ status_after M.law.meaning self.old.instance h (control_of c.now) }
     {
         let kind = self.instance.kind;
         let mut answer = Status::Done;
@@ -89,7 +89,7 @@ impl<M: Ialg> Active<M> {
         answer
     }
 
-    /// Saves what has to last of the scratch records, which are lent to the instance no longer: [`idled`](Active::idled) has to follow.
+    /// Saves what has to last of the scratch records, which are lent to the instance no longer: [`into_idle`](Active::into_idle) has to follow.
     #[inline(always)]
     pub fn deactivate(&mut self, shared: &mut Pieces, group: &mut Group)
         requires fits { Fits self.old.instance.table self.old.instance.own shared.old group.old }
@@ -98,8 +98,8 @@ impl<M: Ialg> Active<M> {
         ensures once { SameOnce self.old.instance.table shared.old shared.new }
         ensures group { SameGroup group.old group.new }
         ensures fits { Fits self.new.instance.table self.new.instance.own shared.new group.new }
-        ensures keeps { (w : Option ℤ) (h : History) → ActiveKeeps M.meaning M.active_keeps self.old.instance w shared.old group.old h
-            → IdleKeeps M.meaning M.idle_keeps self.new.instance w shared.new h }
+        ensures keeps { (w : Option ℤ) (h : History) → ActiveKeeps M.law self.old.instance w shared.old group.old h
+            → IdleKeeps M.law self.new.instance w shared.new h }
     {
         let kind = self.instance.kind;
         group.lend(
@@ -112,7 +112,7 @@ impl<M: Ialg> Active<M> {
     }
 
     /// The instance as an idle one, once it is [deactivated](Active::deactivate).
-    pub fn idled(self) -> Idle<M>
+    pub fn into_idle(self) -> Idle<M>
         ensures { result.instance ≡ self.instance }
     {
         let Active { instance } = self;
@@ -120,19 +120,19 @@ impl<M: Ialg> Active<M> {
     }
 
     /// Deactivates the instance: its scratch records are lent to it no longer.
-    pub fn rest(self, shared: &mut Pieces, group: &mut Group) -> Idle<M>
+    pub fn deactivated(self, shared: &mut Pieces, group: &mut Group) -> Idle<M>
         requires fits { Fits self.instance.table self.instance.own shared.old group.old }
         ensures same { SameInstance self.instance result.instance }
         ensures shared { SamePieces shared.old shared.new }
         ensures once { SameOnce self.instance.table shared.old shared.new }
         ensures group { SameGroup group.old group.new }
         ensures fits { Fits result.instance.table result.instance.own shared.new group.new }
-        ensures keeps { (w : Option ℤ) (h : History) → ActiveKeeps M.meaning M.active_keeps self.instance w shared.old group.old h
-            → IdleKeeps M.meaning M.idle_keeps result.instance w shared.new h }
+        ensures keeps { (w : Option ℤ) (h : History) → ActiveKeeps M.law self.instance w shared.old group.old h
+            → IdleKeeps M.law result.instance w shared.new h }
     {
         let mut active = self;
         active.deactivate(shared, group);
-        active.idled()
+        active.into_idle()
     }
 
     /// Takes out the piece of record `k`, to be moved: [`moved`](Active::moved) has to follow.
@@ -153,8 +153,8 @@ impl<M: Ialg> Active<M> {
         ensures once { SameOnce self.new.instance.table shared.old shared.new }
         ensures group { SameGroup group.old group.new }
         ensures fits { Fits self.new.instance.table self.new.instance.own shared.new group.new }
-        ensures keeps { (w : Option ℤ) (h : History) → ActiveKeeps M.meaning M.active_keeps (with_back self.old.instance back) w shared.old group.old h
-            → ActiveKeeps M.meaning M.active_keeps self.new.instance w shared.new group.new h }
+        ensures keeps { (w : Option ℤ) (h : History) → ActiveKeeps M.law (with_back self.old.instance back) w shared.old group.old h
+            → ActiveKeeps M.law self.new.instance w shared.new group.new h }
     {
         restore(&mut self.instance.own, back);
         self.instance.table = placed(&self.instance.table, &self.instance.own, shared, group);

@@ -38,9 +38,9 @@ impl<M: Ialg> Idle<M> {
         ensures same { SameInstance (settled (record { kind = kind; params = params; table = table; own = own }) shared.old group.now) result.instance }
         ensures shared { SamePieces shared.old shared.new }
         ensures fits { Fits result.instance.table result.instance.own shared.new group.now }
-        ensures keeps { (w : Option ℤ) → M.meaning.table kind params.items ≡ Some (unplaced table)
-            → AreNew w (M.meaning.fill kind params.items) table (idle_words table own shared.old)
-            → IdleKeeps M.meaning M.idle_keeps result.instance w shared.new [] }
+        ensures keeps { (w : Option ℤ) → M.law.meaning.table kind params.items ≡ Some (unplaced table)
+            → AreNew w (M.law.meaning.fill kind params.items) table (idle_words table own shared.old)
+            → IdleKeeps M.law result.instance w shared.new [] }
     {
         let table = placed(&table, &own, shared, group);
         let mut own = own;
@@ -59,7 +59,7 @@ impl<M: Ialg> Idle<M> {
         }
     }
 
-    /// Prepares the scratch records, which are lent to the instance from now on: [`woken`](Idle::woken) has to follow.
+    /// Prepares the scratch records, which are lent to the instance from now on: [`into_active`](Idle::into_active) has to follow.
     pub fn activate(&mut self, shared: &mut Pieces, group: &mut Group)
         requires fits { Fits self.old.instance.table self.old.instance.own shared.old group.old }
         ensures same { SameInstance self.old.instance self.new.instance }
@@ -68,8 +68,8 @@ impl<M: Ialg> Idle<M> {
         ensures group { SameGroup group.old group.new }
         ensures fits { Fits self.new.instance.table self.new.instance.own shared.new group.new }
         ensures keeps { (w : Option ℤ) (h : History) → BlocksArePoison w group.old
-            → IdleKeeps M.meaning M.idle_keeps self.old.instance w shared.old h
-            → ActiveKeeps M.meaning M.active_keeps self.new.instance w shared.new group.new h }
+            → IdleKeeps M.law self.old.instance w shared.old h
+            → ActiveKeeps M.law self.new.instance w shared.new group.new h }
     {
         let kind = self.instance.kind;
         group.lend(
@@ -82,7 +82,7 @@ impl<M: Ialg> Idle<M> {
     }
 
     /// Prepares the scratch records, as [`activate`](Idle::activate) does, gives the instance a block of samples, and puts what they
-    /// give into `out`. The records are lent once for both. [`woken`](Idle::woken) has to follow.
+    /// give into `out`. The records are lent once for both. [`into_active`](Idle::into_active) has to follow.
     #[inline(always)]
     pub fn activate_and_run(
         &mut self,
@@ -102,12 +102,12 @@ impl<M: Ialg> Idle<M> {
         ensures fits { Fits self.new.instance.table self.new.instance.own shared.new group.new }
         ensures bounded { length out.new.items ≤ length input.now }
         ensures keeps { (w : Option ℤ) (h : History) → BlocksArePoison w group.old
-            → IdleKeeps M.meaning M.idle_keeps self.old.instance w shared.old h
-            → ActiveKeeps M.meaning M.active_keeps self.new.instance w shared.new group.new (with_samples h input.now) }
-        ensures output { (w : Option ℤ) (h : History) → IsLawful M.meaning self.old.instance w → BlocksArePoison w group.old
-            → IdleKeeps M.meaning M.idle_keeps self.old.instance w shared.old h
-            → all_outputs M.meaning self.old.instance (with_samples h input.now)
-            ≡ all_outputs M.meaning self.old.instance h ++ out.new.items }
+            → IdleKeeps M.law self.old.instance w shared.old h
+            → ActiveKeeps M.law self.new.instance w shared.new group.new (with_samples h input.now) }
+        ensures output { (w : Option ℤ) (h : History) → IsLawful M.law.meaning self.old.instance w → BlocksArePoison w group.old
+            → IdleKeeps M.law self.old.instance w shared.old h
+            → all_outputs M.law.meaning self.old.instance (with_samples h input.now)
+            ≡ all_outputs M.law.meaning self.old.instance h ++ out.new.items }
     {
         let kind = self.instance.kind;
         group.lend(
@@ -120,7 +120,7 @@ impl<M: Ialg> Idle<M> {
     }
 
     /// The instance as an active one, once it is [activated](Idle::activate).
-    pub fn woken(self) -> Active<M>
+    pub fn into_active(self) -> Active<M>
         ensures { result.instance ≡ self.instance }
     {
         let Idle { instance } = self;
@@ -128,7 +128,7 @@ impl<M: Ialg> Idle<M> {
     }
 
     /// Activates the instance: its scratch records are lent to it from now on.
-    pub fn wake(self, shared: &mut Pieces, group: &mut Group) -> Active<M>
+    pub fn activated(self, shared: &mut Pieces, group: &mut Group) -> Active<M>
         requires fits { Fits self.instance.table self.instance.own shared.old group.old }
         ensures same { SameInstance self.instance result.instance }
         ensures shared { SamePieces shared.old shared.new }
@@ -136,18 +136,18 @@ impl<M: Ialg> Idle<M> {
         ensures group { SameGroup group.old group.new }
         ensures fits { Fits result.instance.table result.instance.own shared.new group.new }
         ensures keeps { (w : Option ℤ) (h : History) → BlocksArePoison w group.old
-            → IdleKeeps M.meaning M.idle_keeps self.instance w shared.old h
-            → ActiveKeeps M.meaning M.active_keeps result.instance w shared.new group.new h }
+            → IdleKeeps M.law self.instance w shared.old h
+            → ActiveKeeps M.law result.instance w shared.new group.new h }
     {
         let mut idle = self;
         idle.activate(shared, group);
-        idle.woken()
+        idle.into_active()
     }
 
     /// Whether the instance takes the control.
     pub fn accepts(&self, c: &Ctl) -> bool
-        ensures { (w : Option ℤ) → IsLawful M.meaning self.now.instance w
-            → result ≡ M.meaning.accepts self.now.instance.kind self.now.instance.params.items (control_of c.now) }
+        ensures { (w : Option ℤ) → IsLawful M.law.meaning self.now.instance w
+            → result ≡ M.law.meaning.accepts self.now.instance.kind self.now.instance.params.items (control_of c.now) }
     {
         self.instance.kind.accepts(&self.instance.params, c)
     }
@@ -159,10 +159,10 @@ impl<M: Ialg> Idle<M> {
         ensures shared { SamePieces shared.old shared.new }
         ensures once { SameOnce self.old.instance.table shared.old shared.new }
         ensures fits { Fits self.new.instance.table self.new.instance.own shared.new group.now }
-        ensures keeps { (w : Option ℤ) (h : History) → IdleKeeps M.meaning M.idle_keeps self.old.instance w shared.old h
-            → IdleKeeps M.meaning M.idle_keeps self.new.instance w shared.new h }
-        ensures table { (w : Option ℤ) (h : History) → IsLawful M.meaning self.old.instance w
-            → IdleKeeps M.meaning M.idle_keeps self.old.instance w shared.old h → result ≡ self.old.instance.table }
+        ensures keeps { (w : Option ℤ) (h : History) → IdleKeeps M.law self.old.instance w shared.old h
+            → IdleKeeps M.law self.new.instance w shared.new h }
+        ensures table { (w : Option ℤ) (h : History) → IsLawful M.law.meaning self.old.instance w
+            → IdleKeeps M.law self.old.instance w shared.old h → result ≡ self.old.instance.table }
     {
         let kind = self.instance.kind;
         let mut told = self.instance.table.copied();
@@ -208,8 +208,8 @@ impl<M: Ialg> Idle<M> {
         ensures shared { SamePieces shared.old shared.new }
         ensures once { SameOnce self.new.instance.table shared.old shared.new }
         ensures fits { Fits self.new.instance.table self.new.instance.own shared.new group.now }
-        ensures keeps { (w : Option ℤ) (h : History) → IdleKeeps M.meaning M.idle_keeps (with_back self.old.instance back) w shared.old h
-            → IdleKeeps M.meaning M.idle_keeps self.new.instance w shared.new h }
+        ensures keeps { (w : Option ℤ) (h : History) → IdleKeeps M.law (with_back self.old.instance back) w shared.old h
+            → IdleKeeps M.law self.new.instance w shared.new h }
     {
         restore(&mut self.instance.own, back);
         self.instance.table = placed(&self.instance.table, &self.instance.own, shared, group);

@@ -2,7 +2,7 @@
 ghost use Rattle.std.specs.Prelude.{◌≡◌, ℕ, ℤ, ◌≤◌, Bool, List, [], length};
 ghost use Rattle.ialg.specs.declared.TheConstants.{BLOCK_SAMPLES};
 ghost use Rattle.ialg.specs.Views.{control_of, answer_of};
-ghost use Rattle.lifecycle.specs.Laws.{StaysOnce, Started, Woken, HasRun, WokenAndRun, Controlled, Rested, Moved, Freed};
+ghost use Rattle.lifecycle.specs.Laws.{StaysOnce, Started, Activated, HasRun, ActivatedAndRan, Controlled, Deactivated, Moved, Freed};
 
 use ialg::{Block, Ctl, Ialg, Lent, Params, Status, Step};
 use mem_rec::MemTab;
@@ -17,7 +17,7 @@ pub(crate) struct Init<'a, M> {
 impl<M: Ialg> Step<()> for Init<'_, M> {
     ghost can = { λ s o. Unit {0} };
 
-    ghost done = { λ s rs writable old new o n. Started M.meaning M.idle_keeps s.kind s.params.now.items rs writable old new };
+    ghost done = { λ s rs writable old new o n. Started M.law s.kind s.params.now.items rs writable old new };
 
     fn perform(&self, mem: &mut Lent<'_>, _out: &mut ()) {
         let table = mem.table();
@@ -34,7 +34,7 @@ pub(crate) struct Activate<M> {
 impl<M: Ialg> Step<()> for Activate<M> {
     ghost can = { λ s o. Unit {0} };
 
-    ghost done = { λ s rs writable old new o n. StaysOnce rs writable old new × Woken M.meaning M.idle_keeps M.active_keeps s.kind rs writable old new };
+    ghost done = { λ s rs writable old new o n. StaysOnce rs writable old new × Activated M.law s.kind rs writable old new };
 
     fn perform(&self, mem: &mut Lent<'_>, _out: &mut ()) {
         self.kind.alg_activate(mem);
@@ -51,7 +51,7 @@ pub(crate) struct Process<'a, M> {
 impl<M: Ialg> Step<Block> for Process<'_, M> {
     ghost can = { λ s o. (o.items ≡ []) × (1 ≤ length s.input.now) × (length s.input.now ≤ BLOCK_SAMPLES) };
 
-    ghost done = { λ s rs writable old new o n. StaysOnce rs writable old new × HasRun M.meaning M.active_keeps s.kind s.input.now rs writable old new n.items × (length n.items ≤ length s.input.now) };
+    ghost done = { λ s rs writable old new o n. StaysOnce rs writable old new × HasRun M.law s.kind s.input.now rs writable old new n.items × (length n.items ≤ length s.input.now) };
 
     fn perform(&self, mem: &mut Lent<'_>, out: &mut Block) {
         self.kind.process(mem, self.input, out);
@@ -68,7 +68,7 @@ pub(crate) struct ActivateAndProcess<'a, M> {
 impl<M: Ialg> Step<Block> for ActivateAndProcess<'_, M> {
     ghost can = { λ s o. (o.items ≡ []) × (1 ≤ length s.input.now) × (length s.input.now ≤ BLOCK_SAMPLES) };
 
-    ghost done = { λ s rs writable old new o n. StaysOnce rs writable old new × WokenAndRun M.meaning M.idle_keeps M.active_keeps s.kind s.input.now rs writable old new n.items × (length n.items ≤ length s.input.now) };
+    ghost done = { λ s rs writable old new o n. StaysOnce rs writable old new × ActivatedAndRan M.law s.kind s.input.now rs writable old new n.items × (length n.items ≤ length s.input.now) };
 
     fn perform(&self, mem: &mut Lent<'_>, out: &mut Block) {
         let kind = &self.kind;
@@ -87,7 +87,7 @@ pub(crate) struct Command<'a, M> {
 impl<M: Ialg> Step<Status> for Command<'_, M> {
     ghost can = { λ s o. Unit {0} };
 
-    ghost done = { λ s rs writable old new o n. StaysOnce rs writable old new × Controlled M.meaning M.active_keeps s.kind (control_of s.control.now) rs writable old new (answer_of n) };
+    ghost done = { λ s rs writable old new o n. StaysOnce rs writable old new × Controlled M.law s.kind (control_of s.control.now) rs writable old new (answer_of n) };
 
     fn perform(&self, mem: &mut Lent<'_>, out: &mut Status) {
         *out = self.kind.alg_control(mem, self.control);
@@ -103,7 +103,7 @@ pub(crate) struct Deactivate<M> {
 impl<M: Ialg> Step<()> for Deactivate<M> {
     ghost can = { λ s o. Unit {0} };
 
-    ghost done = { λ s rs writable old new o n. StaysOnce rs writable old new × Rested M.meaning M.idle_keeps M.active_keeps s.kind rs writable old new };
+    ghost done = { λ s rs writable old new o n. StaysOnce rs writable old new × Deactivated M.law s.kind rs writable old new };
 
     fn perform(&self, mem: &mut Lent<'_>, _out: &mut ()) {
         self.kind.alg_deactivate(mem);
@@ -119,7 +119,7 @@ pub(crate) struct Move<M> {
 impl<M: Ialg> Step<()> for Move<M> {
     ghost can = { λ s o. Unit {0} };
 
-    ghost done = { λ s rs writable old new o n. StaysOnce rs writable old new × Moved M.meaning M.idle_keeps M.active_keeps s.kind rs writable old new };
+    ghost done = { λ s rs writable old new o n. StaysOnce rs writable old new × Moved M.law s.kind rs writable old new };
 
     fn perform(&self, mem: &mut Lent<'_>, _out: &mut ()) {
         let table = mem.table();
@@ -136,7 +136,7 @@ pub(crate) struct Free<M> {
 impl<M: Ialg> Step<MemTab> for Free<M> {
     ghost can = { λ s o. Unit {0} };
 
-    ghost done = { λ s rs writable old new o n. (new ≡ old) × Freed M.meaning M.idle_keeps s.kind rs writable old n };
+    ghost done = { λ s rs writable old new o n. (new ≡ old) × Freed M.law s.kind rs writable old n };
 
     fn perform(&self, mem: &mut Lent<'_>, out: &mut MemTab) {
         *out = self.kind.alg_free(mem);

@@ -1,8 +1,13 @@
 //! The reasons of refusals.
+ghost use Rattle.std.specs.Prelude.{◌≡◌, false, IfSome};
+ghost use Rattle.line_reasons.specs.Ranges.{is_in};
+
 use crate::numbers::Range;
 use crate::shown::Shown;
 use crate::verbs::Verb;
+use ialg::PARAMETER_WORDS;
 use std::fmt::{self, Display, Formatter};
+use voice_script::{LINE_OCTETS, MEMBERS, Words};
 
 /// Why a line was refused.
 #[derive(Clone, Copy)]
@@ -22,28 +27,21 @@ struct Outside<'a> {
     word: &'a [u8],
 }
 
+/// How long a line may be.
+fn write_length<W: fmt::Write>(f: &mut Formatter<W>) -> fmt::Result {
+    write!(f, "a line has at most {LINE_OCTETS} bytes")
+}
+
 impl<'a> Reason<'a> {
     /// The word at this place of the line, from 0.
     fn word(&self, place: usize) -> Option<&'a [u8]> {
-        let line = match self.line.split_last() {
-            Some((b'\r', rest)) => rest,
-            _ => self.line,
-        };
-        let mut left = place;
-        for word in line.split(|octet| *octet == b' ' || *octet == b'\t') {
-            if word.is_empty() {
-                continue;
-            }
-            if left == 0 {
-                return Some(word);
-            }
-            left -= 1;
-        }
-        None
+        Words::of(self.line).nth(place)
     }
 
     /// The first number of the line that is out of its range.
-    fn outside(&self, verb: Verb) -> Option<Outside<'a>> {
+    fn outside(&self, verb: Verb) -> Option<Outside<'a>>
+        ensures { IfSome result (λ number. is_in number.range number.word.now ≡ false) }
+    {
         for place in 1..self.line.len() {
             let word = self.word(place)?;
             if let Some(range) = verb.range_at(place, self.channels)
@@ -66,8 +64,8 @@ impl<'a> Reason<'a> {
                 range.most,
                 Shown(word)
             ),
-            None if verb == Verb::Chain => f.write_str("a channel has at most 8 members"),
-            None => f.write_str("there are at most 72 W"),
+            None if verb == Verb::Chain => write!(f, "a channel has at most {MEMBERS} members"),
+            None => write!(f, "there are at most {PARAMETER_WORDS} W"),
         }
     }
 
@@ -79,7 +77,7 @@ impl<'a> Reason<'a> {
     ) -> fmt::Result {
         let is_of_channel = matches!(verb, Verb::Chain | Verb::Unchain | Verb::Feed);
         f.write_str(match self.refusal {
-            1 => "a line has at most 1024 bytes",
+            1 => return write_length(f),
             2 => return write!(f, "it is written {form}"),
             3 => return self.write_range(verb, f),
             4 if is_of_channel => "the channel has members already",
@@ -103,7 +101,7 @@ impl Display for Reason<'_> {
         let first = self.word(0).unwrap_or(&[]);
         match Verb::of(first) {
             Some((verb, form)) => self.write_of_verb(verb, form, f),
-            None if self.refusal == 1 => f.write_str("a line has at most 1024 bytes"),
+            None if self.refusal == 1 => write_length(f),
             None => write!(f, "no command is called {}", Shown(first)),
         }
     }

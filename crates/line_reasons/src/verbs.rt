@@ -49,11 +49,7 @@ impl Verb {
 
     /// What the word at this place of the command, behind its first, is: none where it isn't a number. A channel is one of so many.
     pub(crate) fn range_at(self, place: usize, channels: u8) -> Option<Range> {
-        let channel = Range {
-            name: "C",
-            least: 0,
-            most: i64::from(channels) - 1,
-        };
+        let channel = Range::of_channels(channels);
         match (self, place) {
             (Verb::Create | Verb::Control | Verb::Delete, 1) => Some(INSTANCE),
             (Verb::Create, 2) | (Verb::Control, 2) => None,

@@ -1,7 +1,8 @@
 -- What is served where the machine is a function.
-use Rattle.std.specs.Prelude.{◌≡◌, ℕ, List, [], ◌∷◌, length, take, true, nat_lt, if◌then◌else◌}
+use Rattle.std.specs.Prelude.{◌≡◌, ℕ, List, [], ◌∷◌, length, drop, take, false, nat_lt, if◌then◌else◌}
+use Rattle.ialg.specs.declared.refusal.Refusal.TheVariants.{Long, Short}
 use Rattle.voice_script.specs.declared.limits.TheConstants.{LINE_OCTETS}
-use Rattle.line_spec.specs.Served.{Asked, Nothing, Tell, Feed, Machine, Run, Answer, long_text, short_text, replies, gives, at_state, octets_left, after_reading, then_answer}
+use Rattle.line_spec.specs.Served.{Asked, Nothing, Tell, Feed, Machine, Run, Answer, Output, Replied, refuses, replies, at_state, octets_left, with_left, then_answer}
 
 -- what a machine does with lines, by its state
 pub record Computed (S : Type 0) : Type 0 where
@@ -13,17 +14,22 @@ pub record Computed (S : Type 0) : Type 0 where
   pub told : S → (channel : ℕ) → (octets : List ℕ) → List ℕ
   pub fed : S → (channel : ℕ) → (octets : List ℕ) → S
 
+-- what is read is gone
+abbrev pub after_reading : {S : Type 0} → Run S → ℕ → ℕ → Run S
+after_reading run channel count = with_left run channel (drop count (octets_left run channel))
+
 module _ {S : Type 0} (machine : Computed S) where
   abbrev pub fed_answer : Run S → ℕ → List ℕ → Answer S
-  fed_answer run channel octets =
-      gives (at_state run (machine.fed run.state channel octets)) channel
-      (machine.output run.state channel octets) (machine.told run.state channel octets)
+  fed_answer run channel octets = record {
+    run = at_state run (machine.fed run.state channel octets);
+    written = Output channel (machine.output run.state channel octets) ∷ Replied (machine.told run.state channel octets) false ∷ [];
+  }
 
   -- too few octets are used up
   abbrev pub feed_answer : Run S → ℕ → ℕ → Answer S
   feed_answer run channel count =
       if nat_lt (length (octets_left run channel)) count
-      then replies (after_reading run channel count) short_text true
+      then refuses (after_reading run channel count) Short
       else fed_answer (after_reading run channel count) channel (take count (octets_left run channel))
 
   abbrev pub asked_answer : Run S → Asked → Answer S
@@ -34,7 +40,7 @@ module _ {S : Type 0} (machine : Computed S) where
   -- a long line asks for nothing
   unfoldable pub line_answer : Run S → List ℕ → Answer S
   line_answer run line =
-      if nat_lt LINE_OCTETS (length line) then replies run long_text true
+      if nat_lt LINE_OCTETS (length line) then refuses run Long
       else asked_answer (at_state run (machine.after run.state line)) (machine.asked run.state line)
 
   -- the lines, one after the other

@@ -1,6 +1,7 @@
 -- What may be served for a script's lines and the octets of the inputs, by what a machine may do with a line.
-use Rattle.std.specs.Prelude.{ℕ, ◌≡◌, ◌≤◌, ◌<◌, ◌-◌, Bool, true, false, List, [], ◌∷◌, ◌++◌, map, filter, length, drop, take, Option, Some, None, ◌==◌, slice_index_or, slice_set}
+use Rattle.std.specs.Prelude.{ℕ, ◌≡◌, ◌≤◌, ◌<◌, ◌-◌, Bool, true, false, List, [], ◌∷◌, ◌++◌, map, filter, length, take, Option, Some, None, ◌==◌, slice_index_or, slice_set}
 use Rattle.std.specs.List.{flat_map, count_by}
+use Rattle.ialg.specs.declared.refusal.Refusal.{Refusal}
 use Rattle.ialg.specs.declared.refusal.Refusal.TheVariants.{Long, Short}
 use Rattle.voice_script.specs.declared.limits.TheConstants.{LINE_OCTETS}
 use Rattle.voice_script.specs.Script.{lines_of}
@@ -36,18 +37,12 @@ pub record Answer (S : Type 0) : Type 0 where
   pub run : Run S
   pub written : List Written
 
-abbrev pub long_text : List ℕ
-long_text = reply_text (No Long)
-
-abbrev pub short_text : List ℕ
-short_text = reply_text (No Short)
-
 module _ {S : Type 0} where
   abbrev pub replies : Run S → List ℕ → Bool → Answer S
   replies run text refused = record { run = run; written = Replied text refused ∷ [] }
 
-  abbrev pub gives : Run S → ℕ → (output told : List ℕ) → Answer S
-  gives run channel output told = record { run = run; written = Output channel output ∷ Replied told false ∷ [] }
+  abbrev pub refuses : Run S → Refusal → Answer S
+  refuses run refusal = replies run (reply_text (No refusal)) true
 
   abbrev pub at_state : Run S → S → Run S
   at_state run state = record run { state = state }
@@ -55,10 +50,8 @@ module _ {S : Type 0} where
   abbrev pub octets_left : Run S → ℕ → List ℕ
   octets_left run channel = slice_index_or run.inputs channel []
 
-  -- what is read is gone
-  abbrev pub after_reading : Run S → ℕ → ℕ → Run S
-  after_reading run channel count =
-      record run { inputs = slice_set run.inputs channel (drop count (octets_left run channel)) }
+  abbrev pub with_left : Run S → ℕ → List ℕ → Run S
+  with_left run channel left = record run { inputs = slice_set run.inputs channel left }
 
   abbrev pub then_answer : List Written → Answer S → Answer S
   then_answer written answer = record { run = answer.run; written = written ++ answer.written }
@@ -70,12 +63,17 @@ module _ {S : Type 0} (machine : Machine S) where
     pub told : List ℕ
     pub state : S
     pub taken : machine.Gives run.state channel octets output told state
-    pub answered : answer ≡ gives (at_state run state) channel output told
+    pub answered : answer ≡ record { run = at_state run state; written = Output channel output ∷ Replied told false ∷ [] }
 
-  -- too few octets are used up
+-- where these inputs are honest: of the others nothing is known
+module _ {S : Type 0} (machine : Machine S) (honest : ℕ → Bool) where
+  -- for a feed an input gives octets, an honest one those that are left from the first on, and has others left. Too few are used up
   pub record FeedAnswer (run : Run S) (channel count : ℕ) (answer : Answer S) : Type 0 where
-    pub short : length (octets_left run channel) < count → answer ≡ replies (after_reading run channel count) short_text true
-    pub whole : count ≤ length (octets_left run channel) → FedAnswer (after_reading run channel count) channel (take count (octets_left run channel)) answer
+    pub octets : List ℕ
+    pub left : List ℕ
+    pub first : honest channel ≡ true → octets_left run channel ≡ octets ++ left
+    pub short : length octets < count → (honest channel ≡ true → left ≡ []) × (answer ≡ refuses (with_left run channel left) Short)
+    pub whole : count ≤ length octets → (length octets ≡ count) × FedAnswer machine (with_left run channel left) channel octets answer
 
   abbrev pub AskedAnswer : Run S → Asked → Answer S → Type 0
   AskedAnswer run Nothing answer = answer ≡ record { run = run; written = [] }
@@ -91,7 +89,7 @@ module _ {S : Type 0} (machine : Machine S) where
 
   -- a long line asks for nothing
   pub record LineAnswer (run : Run S) (line : List ℕ) (answer : Answer S) : Type 0 where
-    pub long : LINE_OCTETS < length line → answer ≡ replies run long_text true
+    pub long : LINE_OCTETS < length line → answer ≡ refuses run Long
     pub fits : length line ≤ LINE_OCTETS → ServedAnswer run line answer
 
   -- the lines, one after the other

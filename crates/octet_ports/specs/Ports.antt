@@ -73,8 +73,9 @@ pub record GivesWithin (most : ℕ) (old new : Source) : Type 0 where
   pub few : length octets ≤ most
   pub gives : Gives octets old new
 
--- an honest input ended before so many octets came
+-- the input gave these octets, fewer than so many, and then an honest one was at its end
 pub record EndsWithin (count : ℕ) (old new : Source) : Type 0 where
-  pub stays : old.honest ≡ true → new.honest ≡ true
-  pub few : old.honest ≡ true → length old.coming < count
+  pub octets : List ℕ
+  pub few : length octets < count
+  pub gives : Gives octets old new
   pub at_end : IsAtEnd new

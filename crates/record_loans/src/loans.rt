@@ -7,26 +7,23 @@ ghost use Rattle.record_loans.specs.Loans.{held, lent_by, LentFits};
 
 use crate::block::ScratchBlock;
 use crate::pieces::Pieces;
-use crate::plan::{Cut, FilterSizes, Plan, Source};
-use ialg::{Step, lend};
-use mem_rec::MemTab;
+use crate::plan::{FilterSizes, Plan, Source};
+use ialg::{Lending, Step, lend};
 use space_raw::Piece;
 use std::mem;
 
 /// Performs the step with the records that the plan cuts out of an instance's own pieces and those that are lent to it. A record
 /// that lies in a block isn't among them.
 pub fn lend_without_blocks<O, S: Step<O>>(
-    step: &S,
-    table: &MemTab,
-    writable: bool,
+    loan: &Lending<'_, S>,
     plan: &Plan,
     own: &mut Pieces,
     shared: &mut Pieces,
     out: &mut O,
 )
-    requires can { S.can step.now out.old }
+    requires can { S.can loan.now.step.now out.old }
     requires fit { LentFits plan.now own.old shared.old None None None }
-    ensures done { S.done step.now table.now writable (lent_by plan.now own.old shared.old None None None) (lent_by plan.now own.new shared.new None None None) out.old out.new }
+    ensures done { S.done loan.now.step.now loan.now.table.now loan.now.writable (lent_by plan.now own.old shared.old None None None) (lent_by plan.now own.new shared.new None None None) out.old out.new }
     ensures own { SamePieces own.old own.new }
     ensures shared { SamePieces shared.old shared.new }
 {
@@ -34,9 +31,7 @@ pub fn lend_without_blocks<O, S: Step<O>>(
     let mut saram = None;
     let mut external = None;
     lend_with_blocks(
-        step,
-        table,
-        writable,
+        loan,
         plan,
         own,
         shared,
@@ -62,9 +57,7 @@ fn end_absent(block: Option<ScratchBlock>)
 /// Performs the step with the records that the plan cuts out of an instance's own pieces, those that are lent to it, and the
 /// blocks of its group.
 pub fn lend_with_blocks<O, S: Step<O>>(
-    step: &S,
-    table: &MemTab,
-    writable: bool,
+    loan: &Lending<'_, S>,
     plan: &Plan,
     own: &mut Pieces,
     shared: &mut Pieces,
@@ -73,9 +66,9 @@ pub fn lend_with_blocks<O, S: Step<O>>(
     external: &mut Option<ScratchBlock>,
     out: &mut O,
 )
-    requires can { S.can step.now out.old }
+    requires can { S.can loan.now.step.now out.old }
     requires fit { LentFits plan.now own.old shared.old daram.old saram.old external.old }
-    ensures done { S.done step.now table.now writable
+    ensures done { S.done loan.now.step.now loan.now.table.now loan.now.writable
         (lent_by plan.now own.old shared.old daram.old saram.old external.old)
         (lent_by plan.now own.new shared.new daram.new saram.new external.new) out.old out.new }
     ensures own { SamePieces own.old own.new }
@@ -85,9 +78,7 @@ pub fn lend_with_blocks<O, S: Step<O>>(
     ensures external { IsSameBlock external.old external.new }
 {
     swap_shared(plan, own, shared);
-    lend_daram(
-        step, table, writable, plan, own, daram, saram, external, out,
-    );
+    lend_daram(loan, plan, own, daram, saram, external, out);
     swap_shared(plan, own, shared);
 }
 
@@ -122,18 +113,16 @@ fn swap_where(source: Source, own: &mut Option<Piece>, shared: &mut Option<Piece
 #[inline(always)]
 #[tactic(auto, using(crate::proofs::Parts::front_read))]
 pub fn lend_filter<O, S: Step<O>>(
-    step: &S,
-    table: &MemTab,
-    writable: bool,
+    loan: &Lending<'_, S>,
     sizes: FilterSizes,
     own: &mut Pieces,
     daram: &mut Option<ScratchBlock>,
     out: &mut O,
 )
-    requires can { S.can step.now out.old }
+    requires can { S.can loan.now.step.now out.old }
     requires some { 1 ≤ sizes.object × 1 ≤ sizes.kept × 1 ≤ sizes.running }
     requires fit { FilterFits sizes (length (piece_words own.old.p0)) (length (piece_words own.old.p1)) (length (block_words daram.old)) }
-    ensures done { S.done step.now table.now writable
+    ensures done { S.done loan.now.step.now loan.now.table.now loan.now.writable
         (filter_words sizes (piece_words own.old.p0) (piece_words own.old.p1) (block_words daram.old))
         (filter_words sizes (piece_words own.new.p0) (piece_words own.new.p1) (block_words daram.new)) out.old out.new }
     ensures own { SamePieces own.old own.new }
@@ -146,7 +135,7 @@ pub fn lend_filter<O, S: Step<O>>(
                     let (object, _rest) = object.words_mut().split_at_mut(sizes.object);
                     let (kept, _rest) = kept.words_mut().split_at_mut(sizes.kept);
                     let (running, _rest) = block.piece.words_mut().split_at_mut(sizes.running);
-                    lend(step, table, writable, object, kept, running, &mut [], out);
+                    lend(loan, object, kept, running, &mut [], out);
                 }
                 None => unreachable!(),
             },
@@ -159,9 +148,7 @@ pub fn lend_filter<O, S: Step<O>>(
 /// Cuts record 0 out of its piece, and the others.
 #[tactic(auto, using(crate::proofs::Parts::front_read))]
 fn cut_object<O, S: Step<O>>(
-    step: &S,
-    table: &MemTab,
-    writable: bool,
+    loan: &Lending<'_, S>,
     plan: &Plan,
     own: &mut Pieces,
     daram: &mut [i16],
@@ -169,9 +156,9 @@ fn cut_object<O, S: Step<O>>(
     external: &mut [i16],
     out: &mut O,
 )
-    requires can { S.can step.now out.old }
+    requires can { S.can loan.now.step.now out.old }
     requires fit { PlanFits plan.now (length (piece_words own.old.p0)) (length (piece_words own.old.p1)) (length (piece_words own.old.p2)) (length (piece_words own.old.p3)) (length daram.old) (length saram.old) (length external.old) }
-    ensures done { S.done step.now table.now writable
+    ensures done { S.done loan.now.step.now loan.now.table.now loan.now.writable
         (plan_words plan.now (piece_words own.old.p0) (piece_words own.old.p1) (piece_words own.old.p2) (piece_words own.old.p3) daram.old saram.old external.old)
         (plan_words plan.now (piece_words own.new.p0) (piece_words own.new.p1) (piece_words own.new.p2) (piece_words own.new.p3) daram.new saram.new external.new) out.old out.new }
     ensures own { SamePieces own.old own.new }
@@ -180,12 +167,8 @@ fn cut_object<O, S: Step<O>>(
         Some(piece) => {
             let (object, _rest) = piece.words_mut().split_at_mut(plan.object);
             cut_first(
-                step,
-                table,
-                writable,
-                plan.first,
-                plan.second,
-                plan.third,
+                loan,
+                plan,
                 &mut own.p1,
                 &mut own.p2,
                 &mut own.p3,
@@ -197,12 +180,8 @@ fn cut_object<O, S: Step<O>>(
             );
         }
         None => cut_first(
-            step,
-            table,
-            writable,
-            plan.first,
-            plan.second,
-            plan.third,
+            loan,
+            plan,
             &mut own.p1,
             &mut own.p2,
             &mut own.p3,
@@ -218,9 +197,7 @@ fn cut_object<O, S: Step<O>>(
 /// Lends the block in `external`.
 #[inline(always)]
 fn lend_external<O, S: Step<O>>(
-    step: &S,
-    table: &MemTab,
-    writable: bool,
+    loan: &Lending<'_, S>,
     plan: &Plan,
     own: &mut Pieces,
     daram: &mut [i16],
@@ -228,36 +205,24 @@ fn lend_external<O, S: Step<O>>(
     external: &mut Option<ScratchBlock>,
     out: &mut O,
 )
-    requires can { S.can step.now out.old }
+    requires can { S.can loan.now.step.now out.old }
     requires fit { PlanFits plan.now (length (piece_words own.old.p0)) (length (piece_words own.old.p1)) (length (piece_words own.old.p2)) (length (piece_words own.old.p3)) (length daram.old) (length saram.old) (length (block_words external.old)) }
-    ensures done { S.done step.now table.now writable
+    ensures done { S.done loan.now.step.now loan.now.table.now loan.now.writable
         (plan_words plan.now (piece_words own.old.p0) (piece_words own.old.p1) (piece_words own.old.p2) (piece_words own.old.p3) daram.old saram.old (block_words external.old))
         (plan_words plan.now (piece_words own.new.p0) (piece_words own.new.p1) (piece_words own.new.p2) (piece_words own.new.p3) daram.new saram.new (block_words external.new)) out.old out.new }
     ensures own { SamePieces own.old own.new }
     ensures external { IsSameBlock external.old external.new }
 {
     match external {
-        Some(block) => cut_object(
-            step,
-            table,
-            writable,
-            plan,
-            own,
-            daram,
-            saram,
-            block.piece.words_mut(),
-            out,
-        ),
-        None => cut_object(step, table, writable, plan, own, daram, saram, &mut [], out),
+        Some(block) => cut_object(loan, plan, own, daram, saram, block.piece.words_mut(), out),
+        None => cut_object(loan, plan, own, daram, saram, &mut [], out),
     }
 }
 
 /// Lends the block in `saram`.
 #[inline(always)]
 fn lend_saram<O, S: Step<O>>(
-    step: &S,
-    table: &MemTab,
-    writable: bool,
+    loan: &Lending<'_, S>,
     plan: &Plan,
     own: &mut Pieces,
     daram: &mut [i16],
@@ -265,9 +230,9 @@ fn lend_saram<O, S: Step<O>>(
     external: &mut Option<ScratchBlock>,
     out: &mut O,
 )
-    requires can { S.can step.now out.old }
+    requires can { S.can loan.now.step.now out.old }
     requires fit { PlanFits plan.now (length (piece_words own.old.p0)) (length (piece_words own.old.p1)) (length (piece_words own.old.p2)) (length (piece_words own.old.p3)) (length daram.old) (length (block_words saram.old)) (length (block_words external.old)) }
-    ensures done { S.done step.now table.now writable
+    ensures done { S.done loan.now.step.now loan.now.table.now loan.now.writable
         (plan_words plan.now (piece_words own.old.p0) (piece_words own.old.p1) (piece_words own.old.p2) (piece_words own.old.p3) daram.old (block_words saram.old) (block_words external.old))
         (plan_words plan.now (piece_words own.new.p0) (piece_words own.new.p1) (piece_words own.new.p2) (piece_words own.new.p3) daram.new (block_words saram.new) (block_words external.new)) out.old out.new }
     ensures own { SamePieces own.old own.new }
@@ -276,9 +241,7 @@ fn lend_saram<O, S: Step<O>>(
 {
     match saram {
         Some(block) => lend_external(
-            step,
-            table,
-            writable,
+            loan,
             plan,
             own,
             daram,
@@ -286,26 +249,14 @@ fn lend_saram<O, S: Step<O>>(
             external,
             out,
         ),
-        None => lend_external(
-            step,
-            table,
-            writable,
-            plan,
-            own,
-            daram,
-            &mut [],
-            external,
-            out,
-        ),
+        None => lend_external(loan, plan, own, daram, &mut [], external, out),
     }
 }
 
 /// Lends the block in `daram`.
 #[inline(always)]
 fn lend_daram<O, S: Step<O>>(
-    step: &S,
-    table: &MemTab,
-    writable: bool,
+    loan: &Lending<'_, S>,
     plan: &Plan,
     own: &mut Pieces,
     daram: &mut Option<ScratchBlock>,
@@ -313,9 +264,9 @@ fn lend_daram<O, S: Step<O>>(
     external: &mut Option<ScratchBlock>,
     out: &mut O,
 )
-    requires can { S.can step.now out.old }
+    requires can { S.can loan.now.step.now out.old }
     requires fit { PlanFits plan.now (length (piece_words own.old.p0)) (length (piece_words own.old.p1)) (length (piece_words own.old.p2)) (length (piece_words own.old.p3)) (length (block_words daram.old)) (length (block_words saram.old)) (length (block_words external.old)) }
-    ensures done { S.done step.now table.now writable
+    ensures done { S.done loan.now.step.now loan.now.table.now loan.now.writable
         (plan_words plan.now (piece_words own.old.p0) (piece_words own.old.p1) (piece_words own.old.p2) (piece_words own.old.p3) (block_words daram.old) (block_words saram.old) (block_words external.old))
         (plan_words plan.now (piece_words own.new.p0) (piece_words own.new.p1) (piece_words own.new.p2) (piece_words own.new.p3) (block_words daram.new) (block_words saram.new) (block_words external.new)) out.old out.new }
     ensures own { SamePieces own.old own.new }
@@ -325,9 +276,7 @@ fn lend_daram<O, S: Step<O>>(
 {
     match daram {
         Some(block) => lend_saram(
-            step,
-            table,
-            writable,
+            loan,
             plan,
             own,
             block.piece.words_mut(),
@@ -335,29 +284,15 @@ fn lend_daram<O, S: Step<O>>(
             external,
             out,
         ),
-        None => lend_saram(
-            step,
-            table,
-            writable,
-            plan,
-            own,
-            &mut [],
-            saram,
-            external,
-            out,
-        ),
+        None => lend_saram(loan, plan, own, &mut [], saram, external, out),
     }
 }
 
 /// Cuts record 1, and those after it.
 #[tactic(auto, using(crate::proofs::Parts::part_read, crate::proofs::Parts::part_left, crate::proofs::Parts::front_read))]
 fn cut_first<O, S: Step<O>>(
-    step: &S,
-    table: &MemTab,
-    writable: bool,
-    c1: Cut,
-    c2: Cut,
-    c3: Cut,
+    loan: &Lending<'_, S>,
+    plan: &Plan,
     p1: &mut Option<Piece>,
     p2: &mut Option<Piece>,
     p3: &mut Option<Piece>,
@@ -367,74 +302,38 @@ fn cut_first<O, S: Step<O>>(
     r0: &mut [i16],
     out: &mut O,
 )
-    requires can { S.can step.now out.old }
-    requires fit { CutsFit (c1 ∷ c2 ∷ c3 ∷ []) (length (piece_words p1.old) ∷ length (piece_words p2.old) ∷ length (piece_words p3.old) ∷ []) (length daram.old) (length saram.old) (length external.old) }
-    ensures done { S.done step.now table.now writable
-        (r0.old ∷ cut_words (c1 ∷ c2 ∷ c3 ∷ []) (piece_words p1.old ∷ piece_words p2.old ∷ piece_words p3.old ∷ []) daram.old saram.old external.old)
-        (r0.new ∷ cut_words (c1 ∷ c2 ∷ c3 ∷ []) (piece_words p1.new ∷ piece_words p2.new ∷ piece_words p3.new ∷ []) daram.new saram.new external.new) out.old out.new }
+    requires can { S.can loan.now.step.now out.old }
+    requires fit { CutsFit (plan.now.first ∷ plan.now.second ∷ plan.now.third ∷ []) (length (piece_words p1.old) ∷ length (piece_words p2.old) ∷ length (piece_words p3.old) ∷ []) (length daram.old) (length saram.old) (length external.old) }
+    ensures done { S.done loan.now.step.now loan.now.table.now loan.now.writable
+        (r0.old ∷ cut_words (plan.now.first ∷ plan.now.second ∷ plan.now.third ∷ []) (piece_words p1.old ∷ piece_words p2.old ∷ piece_words p3.old ∷ []) daram.old saram.old external.old)
+        (r0.new ∷ cut_words (plan.now.first ∷ plan.now.second ∷ plan.now.third ∷ []) (piece_words p1.new ∷ piece_words p2.new ∷ piece_words p3.new ∷ []) daram.new saram.new external.new) out.old out.new }
     ensures p1 { IsSamePiece p1.old p1.new }
     ensures p2 { IsSamePiece p2.old p2.new }
     ensures p3 { IsSamePiece p3.old p3.new }
 {
-    match c1.source {
-        Source::Absent => cut_second(
-            step,
-            table,
-            writable,
-            c2,
-            c3,
-            p2,
-            p3,
-            daram,
-            saram,
-            external,
-            r0,
-            &mut [],
-            out,
-        ),
+    match plan.first.source {
+        Source::Absent => cut_second(loan, plan, p2, p3, daram, saram, external, r0, &mut [], out),
         Source::Own | Source::Shared => match p1 {
             Some(piece) => {
-                let (r1, _rest) = piece.words_mut().split_at_mut(c1.size);
-                cut_second(
-                    step, table, writable, c2, c3, p2, p3, daram, saram, external, r0, r1, out,
-                );
+                let (r1, _rest) = piece.words_mut().split_at_mut(plan.first.size);
+                cut_second(loan, plan, p2, p3, daram, saram, external, r0, r1, out);
             }
-            None => cut_second(
-                step,
-                table,
-                writable,
-                c2,
-                c3,
-                p2,
-                p3,
-                daram,
-                saram,
-                external,
-                r0,
-                &mut [],
-                out,
-            ),
+            None => cut_second(loan, plan, p2, p3, daram, saram, external, r0, &mut [], out),
         },
         Source::InDaram => {
-            let (_gap, rest) = daram.split_at_mut(c1.gap);
-            let (r1, left) = rest.split_at_mut(c1.size);
-            cut_second(
-                step, table, writable, c2, c3, p2, p3, left, saram, external, r0, r1, out,
-            );
+            let (_gap, rest) = daram.split_at_mut(plan.first.gap);
+            let (r1, left) = rest.split_at_mut(plan.first.size);
+            cut_second(loan, plan, p2, p3, left, saram, external, r0, r1, out);
         }
         Source::InSaram => {
-            let (_gap, rest) = saram.split_at_mut(c1.gap);
-            let (r1, left) = rest.split_at_mut(c1.size);
-            cut_second(
-                step, table, writable, c2, c3, p2, p3, daram, left, external, r0, r1, out,
-            );
+            let (_gap, rest) = saram.split_at_mut(plan.first.gap);
+            let (r1, left) = rest.split_at_mut(plan.first.size);
+            cut_second(loan, plan, p2, p3, daram, left, external, r0, r1, out);
         }
         Source::InExternal => {
-            let (_gap, rest) = external.split_at_mut(c1.gap);
-            let (r1, left) = rest.split_at_mut(c1.size);
-            cut_second(
-                step, table, writable, c2, c3, p2, p3, daram, saram, left, r0, r1, out,
-            );
+            let (_gap, rest) = external.split_at_mut(plan.first.gap);
+            let (r1, left) = rest.split_at_mut(plan.first.size);
+            cut_second(loan, plan, p2, p3, daram, saram, left, r0, r1, out);
         }
     }
 }
@@ -442,11 +341,8 @@ fn cut_first<O, S: Step<O>>(
 /// Cuts record 2, and those after it.
 #[tactic(auto, using(crate::proofs::Parts::part_read, crate::proofs::Parts::part_left, crate::proofs::Parts::front_read))]
 fn cut_second<O, S: Step<O>>(
-    step: &S,
-    table: &MemTab,
-    writable: bool,
-    c2: Cut,
-    c3: Cut,
+    loan: &Lending<'_, S>,
+    plan: &Plan,
     p2: &mut Option<Piece>,
     p3: &mut Option<Piece>,
     daram: &mut [i16],
@@ -456,71 +352,37 @@ fn cut_second<O, S: Step<O>>(
     r1: &mut [i16],
     out: &mut O,
 )
-    requires can { S.can step.now out.old }
-    requires fit { CutsFit (c2 ∷ c3 ∷ []) (length (piece_words p2.old) ∷ length (piece_words p3.old) ∷ []) (length daram.old) (length saram.old) (length external.old) }
-    ensures done { S.done step.now table.now writable
-        (r0.old ∷ r1.old ∷ cut_words (c2 ∷ c3 ∷ []) (piece_words p2.old ∷ piece_words p3.old ∷ []) daram.old saram.old external.old)
-        (r0.new ∷ r1.new ∷ cut_words (c2 ∷ c3 ∷ []) (piece_words p2.new ∷ piece_words p3.new ∷ []) daram.new saram.new external.new) out.old out.new }
+    requires can { S.can loan.now.step.now out.old }
+    requires fit { CutsFit (plan.now.second ∷ plan.now.third ∷ []) (length (piece_words p2.old) ∷ length (piece_words p3.old) ∷ []) (length daram.old) (length saram.old) (length external.old) }
+    ensures done { S.done loan.now.step.now loan.now.table.now loan.now.writable
+        (r0.old ∷ r1.old ∷ cut_words (plan.now.second ∷ plan.now.third ∷ []) (piece_words p2.old ∷ piece_words p3.old ∷ []) daram.old saram.old external.old)
+        (r0.new ∷ r1.new ∷ cut_words (plan.now.second ∷ plan.now.third ∷ []) (piece_words p2.new ∷ piece_words p3.new ∷ []) daram.new saram.new external.new) out.old out.new }
     ensures p2 { IsSamePiece p2.old p2.new }
     ensures p3 { IsSamePiece p3.old p3.new }
 {
-    match c2.source {
-        Source::Absent => cut_third(
-            step,
-            table,
-            writable,
-            c3,
-            p3,
-            daram,
-            saram,
-            external,
-            r0,
-            r1,
-            &mut [],
-            out,
-        ),
+    match plan.second.source {
+        Source::Absent => cut_third(loan, plan, p3, daram, saram, external, r0, r1, &mut [], out),
         Source::Own | Source::Shared => match p2 {
             Some(piece) => {
-                let (r2, _rest) = piece.words_mut().split_at_mut(c2.size);
-                cut_third(
-                    step, table, writable, c3, p3, daram, saram, external, r0, r1, r2, out,
-                );
+                let (r2, _rest) = piece.words_mut().split_at_mut(plan.second.size);
+                cut_third(loan, plan, p3, daram, saram, external, r0, r1, r2, out);
             }
-            None => cut_third(
-                step,
-                table,
-                writable,
-                c3,
-                p3,
-                daram,
-                saram,
-                external,
-                r0,
-                r1,
-                &mut [],
-                out,
-            ),
+            None => cut_third(loan, plan, p3, daram, saram, external, r0, r1, &mut [], out),
         },
         Source::InDaram => {
-            let (_gap, rest) = daram.split_at_mut(c2.gap);
-            let (r2, left) = rest.split_at_mut(c2.size);
-            cut_third(
-                step, table, writable, c3, p3, left, saram, external, r0, r1, r2, out,
-            );
+            let (_gap, rest) = daram.split_at_mut(plan.second.gap);
+            let (r2, left) = rest.split_at_mut(plan.second.size);
+            cut_third(loan, plan, p3, left, saram, external, r0, r1, r2, out);
         }
         Source::InSaram => {
-            let (_gap, rest) = saram.split_at_mut(c2.gap);
-            let (r2, left) = rest.split_at_mut(c2.size);
-            cut_third(
-                step, table, writable, c3, p3, daram, left, external, r0, r1, r2, out,
-            );
+            let (_gap, rest) = saram.split_at_mut(plan.second.gap);
+            let (r2, left) = rest.split_at_mut(plan.second.size);
+            cut_third(loan, plan, p3, daram, left, external, r0, r1, r2, out);
         }
         Source::InExternal => {
-            let (_gap, rest) = external.split_at_mut(c2.gap);
-            let (r2, left) = rest.split_at_mut(c2.size);
-            cut_third(
-                step, table, writable, c3, p3, daram, saram, left, r0, r1, r2, out,
-            );
+            let (_gap, rest) = external.split_at_mut(plan.second.gap);
+            let (r2, left) = rest.split_at_mut(plan.second.size);
+            cut_third(loan, plan, p3, daram, saram, left, r0, r1, r2, out);
         }
     }
 }
@@ -528,10 +390,8 @@ fn cut_second<O, S: Step<O>>(
 /// Cuts record 3, and performs the step.
 #[tactic(auto, using(crate::proofs::Parts::part_read, crate::proofs::Parts::part_left, crate::proofs::Parts::front_read))]
 fn cut_third<O, S: Step<O>>(
-    step: &S,
-    table: &MemTab,
-    writable: bool,
-    c3: Cut,
+    loan: &Lending<'_, S>,
+    plan: &Plan,
     p3: &mut Option<Piece>,
     daram: &mut [i16],
     saram: &mut [i16],
@@ -541,36 +401,36 @@ fn cut_third<O, S: Step<O>>(
     r2: &mut [i16],
     out: &mut O,
 )
-    requires can { S.can step.now out.old }
-    requires fit { CutsFit (c3 ∷ []) (length (piece_words p3.old) ∷ []) (length daram.old) (length saram.old) (length external.old) }
-    ensures done { S.done step.now table.now writable
-        (r0.old ∷ r1.old ∷ r2.old ∷ cut_words (c3 ∷ []) (piece_words p3.old ∷ []) daram.old saram.old external.old)
-        (r0.new ∷ r1.new ∷ r2.new ∷ cut_words (c3 ∷ []) (piece_words p3.new ∷ []) daram.new saram.new external.new) out.old out.new }
+    requires can { S.can loan.now.step.now out.old }
+    requires fit { CutsFit (plan.now.third ∷ []) (length (piece_words p3.old) ∷ []) (length daram.old) (length saram.old) (length external.old) }
+    ensures done { S.done loan.now.step.now loan.now.table.now loan.now.writable
+        (r0.old ∷ r1.old ∷ r2.old ∷ cut_words (plan.now.third ∷ []) (piece_words p3.old ∷ []) daram.old saram.old external.old)
+        (r0.new ∷ r1.new ∷ r2.new ∷ cut_words (plan.now.third ∷ []) (piece_words p3.new ∷ []) daram.new saram.new external.new) out.old out.new }
     ensures p3 { IsSamePiece p3.old p3.new }
 {
-    match c3.source {
-        Source::Absent => lend(step, table, writable, r0, r1, r2, &mut [], out),
+    match plan.third.source {
+        Source::Absent => lend(loan, r0, r1, r2, &mut [], out),
         Source::Own | Source::Shared => match p3 {
             Some(piece) => {
-                let (r3, _rest) = piece.words_mut().split_at_mut(c3.size);
-                lend(step, table, writable, r0, r1, r2, r3, out);
+                let (r3, _rest) = piece.words_mut().split_at_mut(plan.third.size);
+                lend(loan, r0, r1, r2, r3, out);
             }
-            None => lend(step, table, writable, r0, r1, r2, &mut [], out),
+            None => lend(loan, r0, r1, r2, &mut [], out),
         },
         Source::InDaram => {
-            let (_gap, rest) = daram.split_at_mut(c3.gap);
-            let (r3, _rest) = rest.split_at_mut(c3.size);
-            lend(step, table, writable, r0, r1, r2, r3, out);
+            let (_gap, rest) = daram.split_at_mut(plan.third.gap);
+            let (r3, _rest) = rest.split_at_mut(plan.third.size);
+            lend(loan, r0, r1, r2, r3, out);
         }
         Source::InSaram => {
-            let (_gap, rest) = saram.split_at_mut(c3.gap);
-            let (r3, _rest) = rest.split_at_mut(c3.size);
-            lend(step, table, writable, r0, r1, r2, r3, out);
+            let (_gap, rest) = saram.split_at_mut(plan.third.gap);
+            let (r3, _rest) = rest.split_at_mut(plan.third.size);
+            lend(loan, r0, r1, r2, r3, out);
         }
         Source::InExternal => {
-            let (_gap, rest) = external.split_at_mut(c3.gap);
-            let (r3, _rest) = rest.split_at_mut(c3.size);
-            lend(step, table, writable, r0, r1, r2, r3, out);
+            let (_gap, rest) = external.split_at_mut(plan.third.gap);
+            let (r3, _rest) = rest.split_at_mut(plan.third.size);
+            lend(loan, r0, r1, r2, r3, out);
         }
     }
 }

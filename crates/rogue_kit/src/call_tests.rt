@@ -5,7 +5,7 @@ use crate::Mixed;
 use crate::rogues::{
     KEPT, KEPT_WORDS, OBJECT, SCRATCH, SCRATCH_ALIGNMENT, SCRATCH_WORDS, record_of,
 };
-use ialg::{Block, Ctl, Ialg, Lent, Named, Params, Step, lend};
+use ialg::{Block, Ctl, Ialg, Lending, Lent, Named, Params, Step, lend};
 use mem_rec::{Attr, LEAST_ALIGNMENT, MemRec, MemTab, Space};
 use std::process::Abort;
 use voice_set::Voice;
@@ -109,9 +109,11 @@ fn after<R: Abort>(rt: &R, kind: Mixed, call: Call) -> (Memory, Block) {
     let mut memory = BEFORE;
     let mut out = Block::new();
     lend(
-        &Called { kind, call },
-        &table,
-        call == Call::Init,
+        &Lending {
+            step: &Called { kind, call },
+            table: &table,
+            writable: call == Call::Init,
+        },
         &mut memory.object,
         &mut memory.kept,
         &mut memory.scratch,
@@ -190,9 +192,11 @@ fn goes_by<R: Abort>(rt: &R, called: Called, space: Space, base: u16) -> bool {
     let mut words = [5; 4];
     let mut out = Block::new();
     lend(
-        &called,
-        &table,
-        called.call == Call::Init,
+        &Lending {
+            step: &called,
+            table: &table,
+            writable: called.call == Call::Init,
+        },
         &mut memory.object,
         &mut memory.kept,
         &mut memory.scratch,
@@ -258,9 +262,11 @@ fn a_forger_alone_says_untrue_records(rt: HostRuntime) {
         let mut memory = BEFORE;
         let mut untrue = false;
         lend(
-            &Freed { kind },
-            &table,
-            false,
+            &Lending {
+                step: &Freed { kind },
+                table: &table,
+                writable: false,
+            },
             &mut memory.object,
             &mut memory.kept,
             &mut [],

@@ -58,11 +58,11 @@ impl Named for Mixed {
 }
 
 impl Ialg for Mixed {
-    ghost meaning = { mixed_meaning };
-
-    ghost idle_keeps = { IsIdle };
-
-    ghost active_keeps = { IsActive };
+    ghost law = { record {
+      meaning = mixed_meaning;
+      idle_keeps = IsIdle;
+      active_keeps = IsActive;
+    } };
 
     fn alg_num_alloc(&self) -> usize {
         match self {

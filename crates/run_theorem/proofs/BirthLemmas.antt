@@ -9,9 +9,9 @@ use Rattle.ialg.specs.declared.refusal.Refusal.TheVariants.{Range, Taken, Missin
 use Rattle.ialg.specs.Refusals.{first_refusal}
 use Rattle.ialg.specs.History.{Ctl}
 use Rattle.ialg.specs.Meaning.{Meaning, Status, status_of}
-use Rattle.host_map.specs.Picture.{Picture}
-use Rattle.host_map.specs.Creation.{created_picture}
-use Rattle.host_spec.specs.State.{Living, State, twins_of, with_living, is_instance_number, is_group_number}
+use Rattle.host_map.specs.MemoryMap.{MemoryMap}
+use Rattle.host_map.specs.Creation.{created_map}
+use Rattle.host_spec.specs.State.{Living, State, sharers_of, with_living, is_instance_number, is_group_number}
 use Rattle.host_spec.specs.Steps.{Outcome, unless, newborn, with_room, with_memory, create_refusal, controlled}
 use Rattle.host_spec.specs.Calls.{Call, Leads, Creates, Controls}
 use Rattle.host_spec.specs.Calls.Call.{Create, Control}
@@ -55,10 +55,10 @@ module _ {M : Type 0} (kinds : Meaning M) where
   its : (living : ℕ → Option (Living M)) (i : ℕ) (x : Option (Living M)) → with_living living i x i ≡ x
   its living i x = ap (λ b. if b then x else living i) (eq-eqb i i refl)
 
-  placed_lives : (before after : State M) (i : ℕ) (x : Living M) (done : Unit {0}) (table : List MemRec) (placed : Result Picture Space)
+  placed_lives : (before after : State M) (i : ℕ) (x : Living M) (done : Unit {0}) (table : List MemRec) (placed : Result MemoryMap Space)
       → (Ok done, after) ≡ with_room before i x table placed → after.living i ≡ Some x
   placed_lives before after i x done table (Err space) e = absurd (err_is_no_ok _ done (ap (λ o. o.0) (sym e)))
-  placed_lives before after i x done table (Ok picture) e = ap (λ o. o.1.living i) e ∙ its before.living i (Some x)
+  placed_lives before after i x done table (Ok map) e = ap (λ o. o.1.living i) e ∙ its before.living i (Some x)
 
   -- it lives with the memory that its kind asked for
   pub record LivesWith (after : State M) (i : ℕ) (kind : M) (g : ℕ) (p : List ℤ) (table : Option (List MemRec)) : Type 0 where
@@ -74,7 +74,7 @@ module _ {M : Type 0} (kinds : Meaning M) where
         record {
           records = records;
           asked = refl;
-          lives = placed_lives before after i x done records (created_picture before.sizes before.picture i g records (twins_of kinds before.living x)) e;
+          lives = placed_lives before after i x done records (created_map before.sizes before.map i g records (sharers_of kinds before.living x)) e;
         }
 
     born_lives : (does : Creates kinds before i kind g p (Ok tt) after) → LivesWith after i kind g p does.table

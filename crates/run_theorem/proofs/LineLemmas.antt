@@ -2,7 +2,7 @@
 use Rattle.std.proofs.Common.{◌≡◌, ◌≤◌, ◌<◌, ◌⊎◌, ◌+◌, ◌*◌, ◌/◌, ◌%◌, ℕ, ℤ, zero, suc, Bool, true, false, List, [], ◌∷◌, ◌++◌, pos, map, filter, length, take, drop, Option, Some, None, Result, Ok, Err, inl, inr, refl, ap, sym, ◌∙◌, subst, append-nil, append_assoc, take-append-drop, length-append, arith, get_or, set}
 use Rattle.std.specs.Prelude.{◌==◌, if◌then◌else◌}
 use Rattle.std.specs.Int.{w16, cast_signed, cast_unsigned}
-use Rattle.std.proofs.lemmas.List.{map-append, get_or-set_other, length-map, length-take-le}
+use Rattle.std.proofs.lemmas.List.{map-append, get_or-set_other, length-map, length-take-le, take_all}
 use Rattle.std.proofs.lemmas.List.Elements.{filter-append}
 use Rattle.std.proofs.lemmas.Grind.{flat_map-append}
 use Rattle.std.proofs.lemmas.Bool.Decides.{eqb_tells}
@@ -10,6 +10,7 @@ use Rattle.std.proofs.Math.Seq.{drop-append_seam, drop-nil, take-append_seam}
 use Rattle.relocate.proofs.RangeTests.{either, true_or_false}
 use Rattle.ialg.specs.Meaning.{Meaning, Status}
 use Rattle.ialg.specs.declared.refusal.Refusal.{Refusal}
+use Rattle.ialg.specs.declared.refusal.Refusal.TheVariants.{Long, Short}
 use Rattle.channel_spec.specs.Channels.{Channels}
 use Rattle.channel_spec.specs.Steps.{unless, channel_refusal}
 use Rattle.channel_spec.specs.Calls as calls
@@ -24,11 +25,11 @@ use Rattle.line_spec.specs.declared.width.Width.{Width}
 use Rattle.line_spec.specs.declared.width.Width.TheVariants as carried
 use Rattle.line_spec.specs.Widths.{Widths, octet_count}
 use Rattle.line_spec.specs.Served as served
-use Rattle.line_spec.specs.Served.{Answer, Asked, AskedAnswer, FeedAnswer, FedAnswer, LineAnswer, LinesAnswer, Octet, Output, Replied, Run, ServedAnswer, Written, at_state, after_reading, held_by, octets_left, order_of, refusals, replies, same_port, tells, then_answer}
+use Rattle.line_spec.specs.Served.{Answer, Asked, AskedAnswer, FeedAnswer, FedAnswer, LineAnswer, LinesAnswer, Octet, Output, Replied, Run, ServedAnswer, Written, at_state, with_left, held_by, octets_left, order_of, refusals, replies, same_port, tells, then_answer}
 use Rattle.console_spec.specs.Samples.{octets_at, octets_of, samples_at, samples_of}
 use Rattle.console_spec.specs.Console.{Calls, CommandAsks, LineAsks, console_machine, feed_asked, status_reply, told_by}
 use Rattle.run_theorem.specs.HostRuns.{Leads}
-use Rattle.run_theorem.specs.Lines.{ALineMakes, AreCalls, CommandMakes, IsSame, IsSameBut, Left, LineMakes, LinesMake, Makes, fed_out, output_in, samples_left as left}
+use Rattle.run_theorem.specs.Lines.{ALineMakes, AreCalls, CommandMakes, IsFed, IsSame, IsSameBut, Left, LineMakes, LinesMake, Makes, fed_out, output_in, samples_left as left}
 
 -- ---- octets
 
@@ -169,25 +170,33 @@ parts_at width n octets enough =
       ap (drop n) whole ∙ ap (λ k. drop k (first ++ rest)) (sym counted) ∙ drop-append_seam first rest,
     )
 
-drop_all : (n : ℕ) (xs : List ℕ) → length xs ≤ n → drop n xs ≡ []
-drop_all n [] le = drop-nil n
-drop_all zero (x ∷ xs) le = absurd (omega arith)
-drop_all (suc n) (x ∷ xs) le = drop_all n xs (omega arith)
-
 -- what was set is there, or nothing was there
 set_there : (all : List (List ℕ)) (i n : ℕ) → get_or (set all i (drop n (get_or all i []))) i [] ≡ drop n (get_or all i [])
 set_there [] i n = sym (drop-nil n)
 set_there (xs ∷ all) zero n = refl
 set_there (xs ∷ all) (suc i) n = set_there all i n
 
+-- what was left of an input and isn't taken is left on it
+left_there : (all : List (List ℕ)) (i : ℕ) (octets rest : List ℕ) → get_or all i [] ≡ octets ++ rest → get_or (set all i rest) i [] ≡ rest
+left_there all i octets rest e =
+    let is : rest ≡ drop (length octets) (get_or all i []) = sym (ap (drop (length octets)) e ∙ drop-append_seam octets rest) in
+    ap (λ xs. get_or (set all i xs) i []) is ∙ set_there all i (length octets) ∙ sym is
+
 -- the samples on one input are these, and all others are the same
-same_but : (c : ℕ) (rest : List ℤ) (before after : Left) → after c ≡ rest → ((d : ℕ) → (d ≡ c → ⊥) → after d ≡ before d) → IsSameBut c rest before after
-same_but c rest before after its others d =
+same_but : (honest : ℕ → Bool) (c : ℕ) (rest : List ℤ) (before after : Left) → (honest c ≡ true → after c ≡ rest) → ((d : ℕ) → (d ≡ c → ⊥) → after d ≡ before d)
+    → IsSameBut honest c rest before after
+same_but honest c rest before after its others d h =
     either (eqb_tells d c)
-    (λ same. ap after same.1 ∙ its ∙ sym (ap (λ b. if b then rest else before d) same.0))
+    (λ same. ap after same.1 ∙ its (subst (λ k. honest k ≡ true) same.1 h) ∙ sym (ap (λ b. if b then rest else before d) same.0))
     (λ apart. others d apart.1 ∙ sym (ap (λ b. if b then rest else before d) apart.0))
 
 -- ---- replies
+
+abbrev short_text : List ℕ
+short_text = reply_text (replies_told.No Short)
+
+abbrev long_text : List ℕ
+long_text = reply_text (replies_told.No Long)
 
 -- what is told of a refused call is a refusal
 abbrev Tells : {A M : Type 0} → (A → Call M) → (A → Reply) → Type 0
@@ -252,10 +261,10 @@ module _ {M : Type 0} (kinds : Meaning M) (widths : Widths) where
     outputs = λ c. held_nothing c ∙ no_octets (widths.output c) ∙ ap (octets_at (widths.output c)) (sym (append-nil (output_in c call) ∙ quiet c));
   }
 
-  short : (run : Run (Channels M)) (channel count : ℕ) → Serves run (after_reading run channel count) [] []
-  short run channel count = record { lead = refl; outputs = λ c. held_nothing c ∙ no_octets (widths.output c) }
+  short : (run : Run (Channels M)) (channel : ℕ) (rest : List ℕ) → Serves run (with_left run channel rest) [] []
+  short run channel rest = record { lead = refl; outputs = λ c. held_nothing c ∙ no_octets (widths.output c) }
 
-  module _ (named : List ℕ → Option M) where
+  module _ (named : List ℕ → Option M) (honest : ℕ → Bool) where
     abbrev machine : served.Machine (Channels M)
     machine = console_machine kinds named widths
 
@@ -267,11 +276,11 @@ module _ {M : Type 0} (kinds : Meaning M) (widths : Widths) where
     samples_for channel octets = samples_at (widths.input channel) octets
 
     -- a feed that isn't short
-    fed : (run : Run (Channels M)) (channel n : ℕ) (answer : Answer (Channels M))
-        → (f : FedAnswer machine (after_reading run channel (octets_for channel n)) channel (take (octets_for channel n) (octets_left run channel)) answer)
-        → Serves run answer.run answer.written (calls.Feed channel (samples_for channel (take (octets_for channel n) (octets_left run channel))) f.taken.out ∷ [])
-    fed run channel n answer f =
-        let block = samples_for channel (take (octets_for channel n) (octets_left run channel)) in
+    fed : (run : Run (Channels M)) (channel : ℕ) (octets rest : List ℕ) (answer : Answer (Channels M))
+        → (f : FedAnswer machine (with_left run channel rest) channel octets answer)
+        → Serves run answer.run answer.written (calls.Feed channel (samples_for channel octets) f.taken.out ∷ [])
+    fed run channel octets rest answer f =
+        let block = samples_for channel octets in
         let call : Call M = calls.Feed channel block f.taken.out in
         record {
           lead = (f.state, f.taken.does, ap (λ a. a.run.state) f.answered);
@@ -299,25 +308,25 @@ module _ {M : Type 0} (kinds : Meaning M) (widths : Widths) where
     Leaves = (before after : Channels M) (call : Call M) (refusal : Refusal) → Does kinds before call after → refusal_of call ≡ Some refusal → after ≡ before
 
     -- nothing is called, and a reply is told or none
-    silent : (Made : Left → List (Call M) → Left → Type 0) → ((before after : Left) → IsSame before after → Made before [] after) → (run : Run (Channels M)) (state : Channels M) (asked : Asked) (answer : Answer (Channels M))
-        → state ≡ run.state → AskedAnswer machine (at_state run state) asked answer
+    silent : (Made : Left → List (Call M) → Left → Type 0) → ((before after : Left) → IsSame honest before after → Made before [] after) → (run : Run (Channels M)) (state : Channels M) (asked : Asked) (answer : Answer (Channels M))
+        → state ≡ run.state → AskedAnswer machine honest (at_state run state) asked answer
         → (asked ≡ served.Nothing) ⊎ ((reply : Reply) × (asked ≡ tells reply)) → Did Made run answer
     silent Made none run state asked answer same answered (inl e) =
-        let is : answer ≡ record { run = at_state run state; written = [] } = subst (λ a. AskedAnswer machine (at_state run state) a answer) e answered in
+        let is : answer ≡ record { run = at_state run state; written = [] } = subst (λ a. AskedAnswer machine honest (at_state run state) a answer) e answered in
         let here : at_state run state ≡ run = ap (λ s. at_state run s) same in
         record {
           made = [];
-          asked = none (left widths run) (left widths answer.run) (λ c. ap (λ (a : Answer (Channels M)). left widths a.run c) is);
+          asked = none (left widths run) (left widths answer.run) (λ c h. ap (λ (a : Answer (Channels M)). left widths a.run c) is);
           serves = subst (λ (a : Answer (Channels M)). Serves run a.run a.written []) (sym (is ∙ ap (λ r. record { run = r; written = [] }) here)) (nothing run);
           refused = λ le. ap (λ a. a.run.state) is ∙ same;
         }
     silent Made none run state asked answer same answered (inr told) =
         let reply = told.0 in
-        let is : answer ≡ replies (at_state run state) (reply_text reply) (is_refusal reply) = subst (λ a. AskedAnswer machine (at_state run state) a answer) told.1 answered in
+        let is : answer ≡ replies (at_state run state) (reply_text reply) (is_refusal reply) = subst (λ a. AskedAnswer machine honest (at_state run state) a answer) told.1 answered in
         let here : at_state run state ≡ run = ap (λ s. at_state run s) same in
         record {
           made = [];
-          asked = none (left widths run) (left widths answer.run) (λ c. ap (λ (a : Answer (Channels M)). left widths a.run c) is);
+          asked = none (left widths run) (left widths answer.run) (λ c h. ap (λ (a : Answer (Channels M)). left widths a.run c) is);
           serves = subst (λ (a : Answer (Channels M)). Serves run a.run a.written []) (sym (is ∙ ap (λ r. replies r (reply_text reply) (is_refusal reply)) here)) (replied run (reply_text reply) (is_refusal reply));
           refused = λ le. ap (λ a. a.run.state) is ∙ same;
         }
@@ -325,12 +334,12 @@ module _ {M : Type 0} (kinds : Meaning M) (widths : Widths) where
     module _ (leaves : Leaves) (run : Run (Channels M)) (state : Channels M) (asked : Asked) (answer : Answer (Channels M)) where
       -- one call, and its answer is told
       made_by : {A : Type 0} (call : A → Call M) (reply : A → Reply) → ((a : A) → IsQuiet (call a)) → Tells call reply
-          → (a : A) → Does kinds run.state (call a) state → asked ≡ tells (reply a) → AskedAnswer machine (at_state run state) asked answer → Did (Makes call) run answer
+          → (a : A) → Does kinds run.state (call a) state → asked ≡ tells (reply a) → AskedAnswer machine honest (at_state run state) asked answer → Did (Makes honest call) run answer
       made_by call reply quiet tells_so a does e answered =
-          let is : answer ≡ replies (at_state run state) (reply_text (reply a)) (is_refusal (reply a)) = subst (λ b. AskedAnswer machine (at_state run state) b answer) e answered in
+          let is : answer ≡ replies (at_state run state) (reply_text (reply a)) (is_refusal (reply a)) = subst (λ b. AskedAnswer machine honest (at_state run state) b answer) e answered in
           record {
             made = call a ∷ [];
-            asked = (a, refl, λ c. ap (λ (b : Answer (Channels M)). left widths b.run c) is);
+            asked = (a, refl, λ c h. ap (λ (b : Answer (Channels M)). left widths b.run c) is);
             serves = subst (λ (b : Answer (Channels M)). Serves run b.run b.written (call a ∷ [])) (sym is)
                 (and_then run (at_state run state) (at_state run state) [] (Replied (reply_text (reply a)) (is_refusal (reply a)) ∷ []) (call a ∷ []) []
                 (called run state (call a) does (quiet a)) (replied (at_state run state) (reply_text (reply a)) (is_refusal (reply a))));
@@ -340,89 +349,102 @@ module _ {M : Type 0} (kinds : Meaning M) (widths : Widths) where
           }
 
       by_call : {A : Type 0} (call : A → Call M) (reply : A → Reply) → ((a : A) → IsQuiet (call a)) → Tells call reply
-          → Calls kinds call (λ a. tells (reply a)) run.state asked state → AskedAnswer machine (at_state run state) asked answer → Did (Makes call) run answer
+          → Calls kinds call (λ a. tells (reply a)) run.state asked state → AskedAnswer machine honest (at_state run state) asked answer → Did (Makes honest call) run answer
       by_call call reply quiet tells_so c answered = made_by call reply quiet tells_so c.answer c.does c.asks answered
 
       by_told : {A : Type 0} (call : Result A Refusal → Call M) (reply : A → Reply) → ((a : A) → is_refusal (reply a) ≡ true → ⊥)
           → ((a : Result A Refusal) → IsQuiet (call a)) → ((refusal : Refusal) → refusal_of (call (Err refusal)) ≡ Some refusal)
-          → Calls kinds call (λ a. tells (told_by reply a)) run.state asked state → AskedAnswer machine (at_state run state) asked answer → Did (Makes call) run answer
+          → Calls kinds call (λ a. tells (told_by reply a)) run.state asked state → AskedAnswer machine honest (at_state run state) asked answer → Did (Makes honest call) run answer
       by_told call reply never quiet same does a = by_call call (told_by reply) quiet (tells_by call reply never same) does a
 
       by_done : (call : Result (Unit {0}) Refusal → Call M) → ((a : Result (Unit {0}) Refusal) → IsQuiet (call a)) → ((refusal : Refusal) → refusal_of (call (Err refusal)) ≡ Some refusal)
-          → Calls kinds call (λ a. tells (told_by (λ _. replies_told.Done) a)) run.state asked state → AskedAnswer machine (at_state run state) asked answer → Did (Makes call) run answer
+          → Calls kinds call (λ a. tells (told_by (λ _. replies_told.Done) a)) run.state asked state → AskedAnswer machine honest (at_state run state) asked answer → Did (Makes honest call) run answer
       by_done call quiet same does a = by_told call (λ _. replies_told.Done) (λ b e. no_refusal e) quiet same does a
 
       by_status : (call : Result Status Refusal → Call M) → ((a : Result Status Refusal) → IsQuiet (call a)) → ((refusal : Refusal) → refusal_of (call (Err refusal)) ≡ Some refusal)
-          → Calls kinds call (λ a. tells (told_by status_reply a)) run.state asked state → AskedAnswer machine (at_state run state) asked answer → Did (Makes call) run answer
+          → Calls kinds call (λ a. tells (told_by status_reply a)) run.state asked state → AskedAnswer machine honest (at_state run state) asked answer → Did (Makes honest call) run answer
       by_status call quiet same does a = by_told call status_reply never_status quiet same does a
 
       ready_told : (c : ℕ) (r : Refusal) → Does kinds run.state (calls.Ready c (Err r)) state → asked ≡ tells (replies_told.No r)
-          → AskedAnswer machine (at_state run state) asked answer → Did (Makes (λ (b : Refusal). calls.Ready c (Err b))) run answer
+          → AskedAnswer machine honest (at_state run state) asked answer → Did (Makes honest (λ (b : Refusal). calls.Ready c (Err b))) run answer
       ready_told c r does e answered = made_by (λ (b : Refusal). calls.Ready c (Err b)) (λ b. replies_told.No b) (λ b k. refl) (λ b e'. (b, refl)) r does e answered
 
       -- a feed
-      by_feed : (c n : ℕ) → Calls kinds (λ a. calls.Ready c a) (feed_asked (widths.input c) c n) run.state asked state → AskedAnswer machine (at_state run state) asked answer
-          → Did (CommandMakes (script.Feed c n)) run answer
+      by_feed : (c n : ℕ) → Calls kinds (λ a. calls.Ready c a) (feed_asked (widths.input c) c n) run.state asked state → AskedAnswer machine honest (at_state run state) asked answer
+          → Did (CommandMakes honest (script.Feed c n)) run answer
       by_feed c n does answered = by_answer does.answer does.does does.asks
         where
-          or_more : Did (Makes (λ (a : Refusal). calls.Ready c (Err a))) run answer → Did (CommandMakes (script.Feed c n)) run answer
+          or_more : Did (Makes honest (λ (a : Refusal). calls.Ready c (Err a))) run answer → Did (CommandMakes honest (script.Feed c n)) run answer
           or_more did = record { made = did.made; asked = inl did.asked; serves = did.serves; refused = did.refused }
 
-          by_answer : (a : Result (Unit {0}) Refusal) → Does kinds run.state (calls.Ready c a) state → asked ≡ feed_asked (widths.input c) c n a → Did (CommandMakes (script.Feed c n)) run answer
+          by_answer : (a : Result (Unit {0}) Refusal) → Does kinds run.state (calls.Ready c a) state → asked ≡ feed_asked (widths.input c) c n a → Did (CommandMakes honest (script.Feed c n)) run answer
           by_answer (Err refusal) does e = or_more (ready_told c refusal does e answered)
           by_answer (Ok answer_done) does e =
               let ready = at_state run state in
               let call : Call M = calls.Ready c (Ok answer_done) in
               let first = called run state call does (λ k. refl) in
               let stays : state ≡ run.state = ready_stays (channel_refusal run.state c) does in
-              let feed : FeedAnswer machine ready c (octets_for c n) answer =
-              subst (λ b. AskedAnswer machine ready b answer) e answered in
-              either (less_or_not (length (octets_left ready c)) (octets_for c n))
+              let feed : FeedAnswer machine honest ready c (octets_for c n) answer =
+              subst (λ b. AskedAnswer machine honest ready b answer) e answered in
+              let left_is : honest c ≡ true → octets_left (with_left ready c feed.left) c ≡ feed.left =
+              λ h. left_there ready.inputs c feed.octets feed.left (feed.first h) in
+              either (less_or_not (length feed.octets) (octets_for c n))
               (λ less.
-              let is = feed.short less in
+              let told = feed.short less in
+              let is = told.1 in
               record {
                 made = call ∷ [];
                 asked = inr (inl (record {
-                  few = fewer_at (widths.input c) n (octets_left ready c) less;
-                  none = same_but c [] (left widths run) (left widths answer.run)
-                      (ap (λ (b : Answer (Channels M)). left widths b.run c) is
-                      ∙ ap (samples_at (widths.input c)) (set_there ready.inputs c (octets_for c n) ∙ drop_all (octets_for c n) (octets_left ready c) (omega (arith, less))) ∙ no_samples (widths.input c))
+                  few = λ h.
+                      let all : octets_left ready c ≡ feed.octets = feed.first h ∙ ap (λ rest. feed.octets ++ rest) (told.0 h) ∙ append-nil feed.octets in
+                      fewer_at (widths.input c) n (octets_left ready c) (subst (λ xs. length xs < octets_for c n) (sym all) less);
+                  none = same_but honest c [] (left widths run) (left widths answer.run)
+                      (λ h. ap (λ (b : Answer (Channels M)). left widths b.run c) is ∙ ap (samples_at (widths.input c)) (left_is h ∙ told.0 h) ∙ no_samples (widths.input c))
                       (λ d ne. ap (λ (b : Answer (Channels M)). left widths b.run d) is ∙ ap (samples_at (widths.input d)) (get_or-set_other ready.inputs c d _ [] ne));
                   calls = refl;
                 }));
                 serves = subst (λ (b : Answer (Channels M)). Serves run b.run b.written (call ∷ [])) (sym is)
-                    (and_then run ready (after_reading ready c (octets_for c n)) [] (Replied served.short_text true ∷ []) (call ∷ []) [] first
-                    (and_then ready (after_reading ready c (octets_for c n)) (after_reading ready c (octets_for c n)) [] (Replied served.short_text true ∷ []) [] []
-                    (short ready c (octets_for c n)) (replied (after_reading ready c (octets_for c n)) served.short_text true)));
+                    (and_then run ready (with_left ready c feed.left) [] (Replied short_text true ∷ []) (call ∷ []) [] first
+                    (and_then ready (with_left ready c feed.left) (with_left ready c feed.left) [] (Replied short_text true ∷ []) [] []
+                    (short ready c feed.left) (replied (with_left ready c feed.left) short_text true)));
                 refused = λ le. ap (λ b. b.run.state) is ∙ stays;
               })
               (λ enough.
-              let f = feed.whole enough in
-              let block = samples_for c (take (octets_for c n) (octets_left ready c)) in
-              let parts = parts_at (widths.input c) n (octets_left ready c) enough in
+              let whole = feed.whole enough in
+              let f = whole.1 in
+              let taken : honest c ≡ true → take (octets_for c n) (octets_left ready c) ≡ feed.octets =
+              λ h. ap (take (octets_for c n)) (feed.first h) ∙ ap (λ k. take k (feed.octets ++ feed.left)) (sym whole.0) ∙ take-append_seam feed.octets feed.left in
+              let dropped : honest c ≡ true → drop (octets_for c n) (octets_left ready c) ≡ feed.left =
+              λ h. ap (drop (octets_for c n)) (feed.first h) ∙ ap (λ k. drop k (feed.octets ++ feed.left)) (sym whole.0) ∙ drop-append_seam feed.octets feed.left in
+              let parts = λ (h : honest c ≡ true). parts_at (widths.input c) n (octets_left ready c) (all_there feed.octets feed.left (octets_left ready c) (feed.first h) whole.0) in
               record {
-                made = call ∷ calls.Feed c block f.taken.out ∷ [];
+                made = call ∷ calls.Feed c (samples_for c feed.octets) f.taken.out ∷ [];
                 asked = inr (inr (record {
-                  enough = parts.0;
-                  others = same_but c (drop n (left widths run c)) (left widths run) (left widths answer.run)
-                      (ap (λ (b : Answer (Channels M)). left widths b.run c) f.answered ∙ ap (samples_at (widths.input c)) (set_there ready.inputs c (octets_for c n)) ∙ sym parts.2)
+                  block = samples_for c feed.octets;
+                  counted = count_at (widths.input c) n feed.octets whole.0;
+                  first = λ h. (parts h).1 ∙ ap (samples_at (widths.input c)) (taken h);
+                  others = same_but honest c (drop n (left widths run c)) (left widths run) (left widths answer.run)
+                      (λ h. ap (λ (b : Answer (Channels M)). left widths b.run c) f.answered ∙ ap (samples_at (widths.input c)) (left_is h ∙ sym (dropped h)) ∙ sym (parts h).2)
                       (λ d ne. ap (λ (b : Answer (Channels M)). left widths b.run d) f.answered ∙ ap (samples_at (widths.input d)) (get_or-set_other ready.inputs c d _ [] ne));
                   out = f.taken.out;
-                  calls = ap (λ xs. call ∷ calls.Feed c xs f.taken.out ∷ []) (sym parts.1);
+                  calls = refl;
                 }));
-                serves = and_then run ready answer.run [] answer.written (call ∷ []) (calls.Feed c block f.taken.out ∷ []) first (fed ready c n answer f);
+                serves = and_then run ready answer.run [] answer.written (call ∷ []) (calls.Feed c (samples_for c feed.octets) f.taken.out ∷ []) first (fed ready c feed.octets feed.left answer f);
                 refused = λ le. refusals_of_feed c f.output f.told (subst (λ (b : Answer (Channels M)). 1 ≤ refusals b.written) f.answered le);
               })
             where
               less_or_not : (m k : ℕ) → (m < k) ⊎ (k ≤ m)
               less_or_not m k = grind arith
 
+              all_there : {k : ℕ} (xs ys zs : List ℕ) → zs ≡ xs ++ ys → length xs ≡ k → k ≤ length zs
+              all_there xs ys zs e l = omega (arith, l, ap (λ all. length all) e ∙ length-append xs ys)
+
               ready_stays : {a : Unit {0}} (r : Option Refusal) → (Ok a, state) ≡ unless r run.state (Ok (tt {0}), run.state) → state ≡ run.state
               ready_stays None e = ap (λ o. o.1) e
               ready_stays (Some refusal) e = ap (λ o. o.1) e
 
-      by_command : (command : Command M) → CommandAsks kinds widths command run.state asked state → AskedAnswer machine (at_state run state) asked answer
-          → Did (CommandMakes command) run answer
+      by_command : (command : Command M) → CommandAsks kinds widths command run.state asked state → AskedAnswer machine honest (at_state run state) asked answer
+          → Did (CommandMakes honest command) run answer
       by_command (script.Create i kind g words) does a = by_done _ (λ b c. refl) (λ r. refl) does a
       by_command (script.Set i words) does a = by_status _ (λ b c. refl) (λ r. refl) does a
       by_command (script.Reset i) does a = by_status _ (λ b c. refl) (λ r. refl) does a
@@ -437,21 +459,21 @@ module _ {M : Type 0} (kinds : Meaning M) (widths : Widths) where
       by_command (script.Map space) does a = by_call _ replies_told.Map (λ b c. refl) (λ b e. no_refusal e) does a
       by_command (script.Stat g) does a = by_told _ (λ b. replies_told.Stat b.active b.count) (λ b e. no_refusal e) (λ b c. refl) (λ r. refl) does a
 
-      by_line : (line : Result (Option (Command M)) Refusal) → LineAsks kinds widths line run.state asked state → AskedAnswer machine (at_state run state) asked answer
-          → Did (LineMakes line) run answer
+      by_line : (line : Result (Option (Command M)) Refusal) → LineAsks kinds widths line run.state asked state → AskedAnswer machine honest (at_state run state) asked answer
+          → Did (LineMakes honest line) run answer
       by_line (Ok (Some command)) does a = by_command command does a
-      by_line (Ok None) does a = silent (LineMakes (Ok None)) (λ before after same. (refl, same)) run state asked answer does.1 a (inl does.0)
-      by_line (Err refusal) does a = silent (LineMakes (Err refusal)) (λ before after same. (refl, same)) run state asked answer does.1 a (inr (replies_told.No refusal, does.0))
+      by_line (Ok None) does a = silent (LineMakes honest (Ok None)) (λ before after same. (refl, same)) run state asked answer does.1 a (inl does.0)
+      by_line (Err refusal) does a = silent (LineMakes honest (Err refusal)) (λ before after same. (refl, same)) run state asked answer does.1 a (inr (replies_told.No refusal, does.0))
 
-    pub one_did : Leaves → (run : Run (Channels M)) (line : List ℕ) (answer : Answer (Channels M)) → LineAnswer machine run line answer → Did (ALineMakes named line) run answer
+    pub one_did : Leaves → (run : Run (Channels M)) (line : List ℕ) (answer : Answer (Channels M)) → LineAnswer machine honest run line answer → Did (ALineMakes honest named line) run answer
     one_did leaves run line answer a =
         either (long_or_not LINE_OCTETS (length line))
         (λ long.
         let is = a.long long in
         record {
           made = [];
-          asked = record { long = λ more. (refl, λ c. ap (λ (b : Answer (Channels M)). left widths b.run c) is); fits = λ le. absurd (omega arith) };
-          serves = subst (λ (b : Answer (Channels M)). Serves run b.run b.written []) (sym is) (replied run served.long_text true);
+          asked = record { long = λ more. (refl, λ c h. ap (λ (b : Answer (Channels M)). left widths b.run c) is); fits = λ le. absurd (omega arith) };
+          serves = subst (λ (b : Answer (Channels M)). Serves run b.run b.written []) (sym is) (replied run long_text true);
           refused = λ le. ap (λ b. b.run.state) is;
         })
         (λ fits.
@@ -464,20 +486,20 @@ module _ {M : Type 0} (kinds : Meaning M) (widths : Widths) where
 
     -- ---- all lines
 
-    pub all_did : Leaves → (lines : List (List ℕ)) (run : Run (Channels M)) (answer : Answer (Channels M)) → LinesAnswer machine run lines answer
-        → (made : List (Call M)) × LinesMake named lines (left widths run) made (left widths answer.run) × Serves run answer.run answer.written made
-    all_did leaves [] run answer e = ([], (refl, λ c. ap (λ (b : Answer (Channels M)). left widths b.run c) e), subst (λ (b : Answer (Channels M)). Serves run b.run b.written []) (sym e) (nothing run))
+    pub all_did : Leaves → (lines : List (List ℕ)) (run : Run (Channels M)) (answer : Answer (Channels M)) → LinesAnswer machine honest run lines answer
+        → (made : List (Call M)) × LinesMake honest named lines (left widths run) made (left widths answer.run) × Serves run answer.run answer.written made
+    all_did leaves [] run answer e = ([], (refl, λ c h. ap (λ (b : Answer (Channels M)). left widths b.run c) e), subst (λ (b : Answer (Channels M)). Serves run b.run b.written []) (sym e) (nothing run))
     all_did leaves (line ∷ lines) run answer a =
         let first = one_did leaves run line a.0 a.1 in
         let rest = all_did leaves lines a.0.run a.2 a.3 in (
           first.made ++ rest.0,
-          (left widths a.0.run, first.made, rest.0, first.asked, subst (λ (b : Answer (Channels M)). LinesMake named lines (left widths a.0.run) rest.0 (left widths b.run)) (sym a.4) rest.1, refl),
+          (left widths a.0.run, first.made, rest.0, first.asked, subst (λ (b : Answer (Channels M)). LinesMake honest named lines (left widths a.0.run) rest.0 (left widths b.run)) (sym a.4) rest.1, refl),
           subst (λ (b : Answer (Channels M)). Serves run b.run b.written (first.made ++ rest.0)) (sym a.4)
               (and_then run a.0.run a.2.run a.0.written a.2.written first.made rest.0 first.serves rest.2),
         )
 
-    pub are_calls : Leaves → (lines : List (List ℕ)) (run : Run (Channels M)) (answer : Answer (Channels M)) → LinesAnswer machine run lines answer
-        → (made : List (Call M)) × AreCalls kinds named widths run lines answer made
+    pub are_calls : Leaves → (lines : List (List ℕ)) (run : Run (Channels M)) (answer : Answer (Channels M)) → LinesAnswer machine honest run lines answer
+        → (made : List (Call M)) × AreCalls kinds named widths honest run lines answer made
     are_calls leaves lines run answer a =
         let did = all_did leaves lines run answer a in
         (did.0, record { lead = did.2.lead; commands = did.1; outputs = did.2.outputs })
@@ -486,17 +508,17 @@ module _ {M : Type 0} (kinds : Meaning M) (widths : Widths) where
 
     pub record DidFirst (first more : List (List ℕ)) (run : Run (Channels M)) (answer : Answer (Channels M)) : Type 0 where
       pub so_far : Answer (Channels M)
-      pub served : LinesAnswer machine run first so_far
+      pub served : LinesAnswer machine honest run first so_far
       pub later : List Written
       pub written : answer.written ≡ so_far.written ++ later
       pub made : List (Call M)
-      pub commands : LinesMake named first (left widths run) made (left widths so_far.run)
+      pub commands : LinesMake honest named first (left widths run) made (left widths so_far.run)
       pub serves : Serves run so_far.run so_far.written made
       pub made_later : List (Call M)
       pub serves_later : Serves so_far.run answer.run later made_later
-      pub all_commands : LinesMake named (first ++ more) (left widths run) (made ++ made_later) (left widths answer.run)
+      pub all_commands : LinesMake honest named (first ++ more) (left widths run) (made ++ made_later) (left widths answer.run)
 
-    pub did_first : Leaves → (first more : List (List ℕ)) (run : Run (Channels M)) (answer : Answer (Channels M)) → LinesAnswer machine run (first ++ more) answer
+    pub did_first : Leaves → (first more : List (List ℕ)) (run : Run (Channels M)) (answer : Answer (Channels M)) → LinesAnswer machine honest run (first ++ more) answer
         → DidFirst first more run answer
     did_first leaves [] more run answer a =
         let did = all_did leaves more run answer a in
@@ -506,7 +528,7 @@ module _ {M : Type 0} (kinds : Meaning M) (widths : Widths) where
           later = answer.written;
           written = refl;
           made = [];
-          commands = (refl, λ c. refl);
+          commands = (refl, λ c h. refl);
           serves = nothing run;
           made_later = did.0;
           serves_later = did.2;
@@ -530,7 +552,31 @@ module _ {M : Type 0} (kinds : Meaning M) (widths : Widths) where
             one.made,
             rest.made ++ rest.made_later,
             one.asked,
-            subst (λ (b : Answer (Channels M)). LinesMake named (first ++ more) (left widths a.0.run) (rest.made ++ rest.made_later) (left widths b.run)) (sym a.4) rest.all_commands,
+            subst (λ (b : Answer (Channels M)). LinesMake honest named (first ++ more) (left widths a.0.run) (rest.made ++ rest.made_later) (left widths b.run)) (sym a.4) rest.all_commands,
             append_assoc one.made rest.made rest.made_later,
           );
         }
+
+-- ---- a feed whose input is honest
+
+enough : (n : ℕ) (xs : List ℤ) → length (take n xs) ≡ n → n ≤ length xs
+enough n xs e =
+    either (fewer_or_not (length xs) n)
+    (λ fewer. let all : length (take n xs) ≡ length xs = ap (λ ys. length ys) (take_all n xs (omega (arith, fewer))) in absurd (omega (arith, fewer, all, e)))
+    (λ there. there)
+  where
+    fewer_or_not : (m k : ℕ) → (m < k) ⊎ (k ≤ m)
+    fewer_or_not m k = grind arith
+
+module _ {M : Type 0} (honest : ℕ → Bool) (c n : ℕ) (before after : Left) (made : List (Call M)) (is : honest c ≡ true) (taken : IsFed honest c n before made after) where
+  pub has_enough : n ≤ length (before c)
+  has_enough = enough n (before c) (ap (λ xs. length xs) (taken.first is) ∙ taken.counted)
+
+  pub takes_next : (out : List ℤ) × (made ≡ calls.Ready c (Ok tt) ∷ calls.Feed c (take n (before c)) out ∷ [])
+  takes_next = (taken.out, taken.calls ∙ ap (λ block. calls.Ready c (Ok tt) ∷ calls.Feed c block taken.out ∷ []) (sym (taken.first is)))
+
+  pub leaves_others : after c ≡ drop n (before c)
+  leaves_others =
+      either (eqb_tells c c)
+      (λ same. taken.others c is ∙ ap (λ b. if b then drop n (before c) else before c) same.0)
+      (λ apart. absurd (apart.1 refl))

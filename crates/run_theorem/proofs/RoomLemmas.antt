@@ -17,9 +17,9 @@ use Rattle.mem_rec.specs.declared.TheConstants.{INSTANCES, GROUPS}
 use Rattle.host_map.specs.Blocks.{ranges}
 use Rattle.host_map.specs.declared.parts.Sizes.{Sizes}
 use Rattle.host_map.specs.declared.parts.Wanted.{Wanted}
-use Rattle.host_map.specs.Picture.{Picture, blocks_in, place_in, put_block, renamed, words_in}
-use Rattle.host_map.specs.Creation.{all_placed, created_picture, goes_on, result_map, taken_over, wanted_by, without_replaced}
-use Rattle.host_spec.specs.State.{Living, State, twins_of, is_group_number, is_instance_number}
+use Rattle.host_map.specs.MemoryMap.{MemoryMap, blocks_in, place_in, put_block, renamed, words_in}
+use Rattle.host_map.specs.Creation.{all_placed, created_map, goes_on, result_map, taken_over, wanted_by, without_replaced}
+use Rattle.host_spec.specs.State.{Living, State, sharers_of, is_group_number, is_instance_number}
 use Rattle.host_spec.specs.Choices.{tells_memory}
 use Rattle.host_spec.specs.Steps as steps
 use Rattle.host_spec.specs.Steps.{create, newborn, with_memory, with_room}
@@ -85,29 +85,29 @@ err_same : {A E : Type 0} (r s : E) → ◌≡◌ {A = Result A E} (Err r) (Err 
 err_same r s e = cc
 
 module _ (sizes : Sizes) (space : Space) where
-  abbrev put : Picture → Wanted → ℕ → Picture
-  put picture w place = put_block picture w.space (record { owner = w.owner; place = place; size = w.size; align = w.align })
+  abbrev put : MemoryMap → Wanted → ℕ → MemoryMap
+  put map w place = put_block map w.space (record { owner = w.owner; place = place; size = w.size; align = w.align })
 
   abbrev PlacesShort : List Wanted → Type 0
-  PlacesShort ws = (picture : Picture) → all_placed sizes picture ws ≡ Err space → FallsShort sizes picture ws space
+  PlacesShort ws = (map : MemoryMap) → all_placed sizes map ws ≡ Err space → FallsShort sizes map ws space
 
-  one_short : (w : Wanted) (ws : List Wanted) (picture : Picture) → PlacesShort ws → (o : Option ℕ) → place_in sizes picture w.space w.size w.align ≡ o
-      → goes_on o w (λ b. all_placed sizes (put_block picture w.space b) ws) ≡ Err space → FallsShort sizes picture (w ∷ ws) space
-  one_short w ws picture more None none e =
-      inl (nowhere (words_in sizes w.space) (ranges (blocks_in picture w.space)) w.size w.align none, err_same w.space space e)
-  one_short w ws picture more (Some place) there e = inr (place, there, more (put picture w place) e)
+  one_short : (w : Wanted) (ws : List Wanted) (map : MemoryMap) → PlacesShort ws → (o : Option ℕ) → place_in sizes map w.space w.size w.align ≡ o
+      → goes_on o w (λ b. all_placed sizes (put_block map w.space b) ws) ≡ Err space → FallsShort sizes map (w ∷ ws) space
+  one_short w ws map more None none e =
+      inl (nowhere (words_in sizes w.space) (ranges (blocks_in map w.space)) w.size w.align none, err_same w.space space e)
+  one_short w ws map more (Some place) there e = inr (place, there, more (put map w place) e)
 
   falls : (ws : List Wanted) → PlacesShort ws
-  falls [] picture e = absurd (ok_is_no_err picture space e)
-  falls (w ∷ ws) picture e = one_short w ws picture (falls ws) (place_in sizes picture w.space w.size w.align) refl e
+  falls [] map e = absurd (ok_is_no_err map space e)
+  falls (w ∷ ws) map e = one_short w ws map (falls ws) (place_in sizes map w.space w.size w.align) refl e
 
-  unplaced : (ws : List Wanted) (picture : Picture) → FallsShort sizes picture ws space → all_placed sizes picture ws ≡ Err space
-  unplaced [] picture short = absurd short
-  unplaced (w ∷ ws) picture (inl none) =
-      ap (λ o. goes_on o w (λ b. all_placed sizes (put_block picture w.space b) ws)) (no_least (words_in sizes w.space) (ranges (blocks_in picture w.space)) w.size w.align none.0)
+  unplaced : (ws : List Wanted) (map : MemoryMap) → FallsShort sizes map ws space → all_placed sizes map ws ≡ Err space
+  unplaced [] map short = absurd short
+  unplaced (w ∷ ws) map (inl none) =
+      ap (λ o. goes_on o w (λ b. all_placed sizes (put_block map w.space b) ws)) (no_least (words_in sizes w.space) (ranges (blocks_in map w.space)) w.size w.align none.0)
       ∙ ap Err none.1
-  unplaced (w ∷ ws) picture (inr later) =
-      ap (λ o. goes_on o w (λ b. all_placed sizes (put_block picture w.space b) ws)) later.1 ∙ unplaced ws (put picture w later.0) later.2
+  unplaced (w ∷ ws) map (inr later) =
+      ap (λ o. goes_on o w (λ b. all_placed sizes (put_block map w.space b) ws)) later.1 ∙ unplaced ws (put map w later.0) later.2
 
   mapped : {A B : Type 0} (f : A → B) (r : Result A Space) → result_map f r ≡ Err space → r ≡ Err space
   mapped f (Ok a) e = absurd (ok_is_no_err (f a) space e)
@@ -138,7 +138,7 @@ module _ {M : Type 0} (kinds : Meaning M) (before after : State M) (i : ℕ) (ki
   pub record Unmet (table : Option (List MemRec)) : Type 0 where
     pub records : List MemRec
     pub asked : table ≡ Some records
-    pub short : created_picture before.sizes before.picture i g records (twins_of kinds before.living (newborn kind g p records)) ≡ Err space
+    pub short : created_map before.sizes before.map i g records (sharers_of kinds before.living (newborn kind g p records)) ≡ Err space
 
   unmet : (table : Option (List MemRec)) → (Err (Room space), after) ≡ with_memory kinds before i kind g p table → Unmet table
   unmet None e = absurd (no_params (ap (λ o. o.0) e))
@@ -147,12 +147,12 @@ module _ {M : Type 0} (kinds : Meaning M) (before after : State M) (i : ℕ) (ki
       record {
         records = records;
         asked = refl;
-        short = no_picture_of x records (created_picture before.sizes before.picture i g records (twins_of kinds before.living x)) e;
+        short = no_map_of x records (created_map before.sizes before.map i g records (sharers_of kinds before.living x)) e;
       }
     where
-      no_picture_of : (x : Living M) (records : List MemRec) (placed : Result Picture Space) → (Err (Room space), after) ≡ with_room before i x records placed → placed ≡ Err space
-      no_picture_of x records (Ok picture) e = absurd (not_ok tt (ap (λ o. o.0) e))
-      no_picture_of x records (Err other) e = ap Err (same_space other (room_is (Room other) (ap (λ o. o.0) e)))
+      no_map_of : (x : Living M) (records : List MemRec) (placed : Result MemoryMap Space) → (Err (Room space), after) ≡ with_room before i x records placed → placed ≡ Err space
+      no_map_of x records (Ok map) e = absurd (not_ok tt (ap (λ o. o.0) e))
+      no_map_of x records (Err other) e = ap Err (same_space other (room_is (Room other) (ap (λ o. o.0) e)))
 
   pub record Wants (numbers taken : Bool) (table : Option (List MemRec)) : Type 0 where
     pub in_range : numbers ≡ true
@@ -184,17 +184,17 @@ module _ {M : Type 0} (kinds : Meaning M) (before after : State M) (i g : ℕ) (
         table = w.unmet.records;
         asked = sym (does.asked.told known) ∙ w.unmet.asked;
         short =
-            let twins = twins_of kinds before.living (newborn kind g p w.unmet.records) in
-            falls before.sizes space (wanted_by twins before.picture i g w.unmet.records) before.picture
-            (mapped before.sizes space (λ placed. renamed (taken_over twins i) (without_replaced before.picture g w.unmet.records placed))
-            (all_placed before.sizes before.picture (wanted_by twins before.picture i g w.unmet.records)) w.unmet.short);
+            let sharers = sharers_of kinds before.living (newborn kind g p w.unmet.records) in
+            falls before.sizes space (wanted_by sharers before.map i g w.unmet.records) before.map
+            (mapped before.sizes space (λ placed. renamed (taken_over sharers i) (without_replaced before.map g w.unmet.records placed))
+            (all_placed before.sizes before.map (wanted_by sharers before.map i g w.unmet.records)) w.unmet.short);
       }
 
   refused : LacksRoom kinds before i kind g p space → answer ≡ Err (Room space)
   refused l =
-      let twins = twins_of kinds before.living (newborn kind g p l.table) in
-      let short = ap (result_map (λ placed. renamed (taken_over twins i) (without_replaced before.picture g l.table placed)))
-      (unplaced before.sizes space (wanted_by twins before.picture i g l.table) before.picture l.short) in
+      let sharers = sharers_of kinds before.living (newborn kind g p l.table) in
+      let short = ap (result_map (λ placed. renamed (taken_over sharers i) (without_replaced before.map g l.table placed)))
+      (unplaced before.sizes space (wanted_by sharers before.map i g l.table) before.map l.short) in
       ap (λ o. o.0) (does.outcome ∙ ap (λ t. create kinds before i kind g p t) (does.asked.told known ∙ l.asked)
       ∙ create_room before kinds i g kind p l.table space l.number l.group l.absent short)
 

@@ -1,5 +1,5 @@
 -- The headline, of a run of a console over a list of lines.
-use Rattle.std.specs.Prelude.{ℕ, ℤ, ◌≡◌, ◌≤◌, ◌↔◌, IsTrue, List, ◌++◌, Option, Some, Result, Err}
+use Rattle.std.specs.Prelude.{ℕ, ℤ, ◌≡◌, ◌≤◌, ◌↔◌, Bool, IsTrue, List, ◌++◌, Option, Some, Result, Err}
 use Rattle.mem_rec.specs.declared.Space.{Space}
 use Rattle.ialg.specs.declared.refusal.Refusal.{Refusal}
 use Rattle.ialg.specs.declared.refusal.Refusal.TheVariants.{Room}
@@ -31,14 +31,16 @@ pub record Refuses {M : Type 0} (kinds : Meaning M) (named : List ℕ → Option
   -- and a refused command changes no instance, channel or place: no call that is refused,
   pub nothing : (before after : Channels M) (call : Call M) (refusal : Refusal) → Does kinds before call after → refusal_of call ≡ Some refusal → after ≡ before
   -- and no line
-  pub no_line : (run : Run (Channels M)) (line : List ℕ) (answer : Answer (Channels M)) → LineAnswer (console_machine kinds named widths) run line answer
+  pub no_line : (honest : ℕ → Bool) (run : Run (Channels M)) (line : List ℕ) (answer : Answer (Channels M)) → LineAnswer (console_machine kinds named widths) honest run line answer
       → 1 ≤ refusals answer.written → answer.run.state ≡ run.state
 
--- by the answer to the lines of a script, over ports of these widths, from a host of these sizes and this poison word
-pub record Headline {M : Type 0} (kinds : Meaning M) (named : List ℕ → Option M) (widths : Widths) (sizes : Sizes) (poison : Option ℤ) (lines octets : List (List ℕ)) (answer : Answer (Channels M)) : Type 0 where
-  -- over any list of commands: the calls of channels that they make, which take samples from the inputs, and what those ask of the host
+-- by the answer to the lines of a script, over ports of these widths of which these inputs are honest, from a host of these sizes and this poison
+-- word
+pub record Headline {M : Type 0} (kinds : Meaning M) (named : List ℕ → Option M) (widths : Widths) (sizes : Sizes) (poison : Option ℤ) (lines octets : List (List ℕ)) (honest : ℕ → Bool) (answer : Answer (Channels M)) : Type 0 where
+  -- over any list of commands: the calls of channels that they make, which take samples from the inputs, those of an honest one in their order,
+  -- and what those calls ask of the host
   pub calls : List (Call M)
-  pub commands : LinesMake named lines (samples_left widths (start {M = M} sizes poison octets)) calls (samples_left widths answer.run)
+  pub commands : LinesMake honest named lines (samples_left widths (start {M = M} sizes poison octets)) calls (samples_left widths answer.run)
   pub asked : List (host_calls.Call M)
   pub runs : RunsOnHost kinds (start sizes poison octets).state calls asked answer.run.state
   -- each living instance's output is its difference equation applied to its own granted controls and samples since its creation, whatever
@@ -52,11 +54,11 @@ pub record Headline {M : Type 0} (kinds : Meaning M) (named : List ℕ → Optio
 
 -- up to a line: the headline holds of the first lines by themselves. Their calls are the first ones of all calls, and what was written for
 -- them is the first of all that was written
-pub record GoesOn {M : Type 0} (kinds : Meaning M) (named : List ℕ → Option M) (widths : Widths) (sizes : Sizes) (poison : Option ℤ) (first more octets : List (List ℕ)) (answer : Answer (Channels M)) : Type 0 where
+pub record GoesOn {M : Type 0} (kinds : Meaning M) (named : List ℕ → Option M) (widths : Widths) (sizes : Sizes) (poison : Option ℤ) (first more octets : List (List ℕ)) (honest : ℕ → Bool) (answer : Answer (Channels M)) : Type 0 where
   pub so_far : Answer (Channels M)
-  pub served : LinesAnswer (console_machine kinds named widths) (start sizes poison octets) first so_far
-  pub says : Headline kinds named widths sizes poison first octets so_far
-  pub all : Headline kinds named widths sizes poison (first ++ more) octets answer
+  pub served : LinesAnswer (console_machine kinds named widths) honest (start sizes poison octets) first so_far
+  pub says : Headline kinds named widths sizes poison first octets honest so_far
+  pub all : Headline kinds named widths sizes poison (first ++ more) octets honest answer
   pub later_calls : List (Call M)
   pub calls : all.calls ≡ says.calls ++ later_calls
   pub later_asked : List (host_calls.Call M)

@@ -1,5 +1,5 @@
 -- Lines of a console as calls of channels.
-use Rattle.std.specs.Prelude.{ℕ, ℤ, ◌≡◌, ◌⊎◌, ◌<◌, ◌≤◌, ◌==◌, List, [], ◌∷◌, ◌++◌, length, drop, take, Option, Some, Result, Ok, Err, if◌then◌else◌}
+use Rattle.std.specs.Prelude.{ℕ, ℤ, ◌≡◌, ◌⊎◌, ◌<◌, ◌≤◌, ◌==◌, Bool, true, List, [], ◌∷◌, ◌++◌, length, drop, take, Option, Some, Result, Ok, Err, if◌then◌else◌}
 use Rattle.std.specs.List.{flat_map}
 use Rattle.ialg.specs.declared.refusal.Refusal.{Refusal}
 use Rattle.ialg.specs.Meaning.{Meaning}
@@ -21,12 +21,13 @@ use Rattle.run_theorem.specs.HostRuns.{Leads}
 abbrev pub Left : Type 0
 Left = ℕ → List ℤ
 
-abbrev pub IsSame : Left → Left → Type 0
-IsSame left after = (c : ℕ) → after c ≡ left c
+-- the same samples are left on each honest input
+abbrev pub IsSame : (ℕ → Bool) → Left → Left → Type 0
+IsSame honest left after = (c : ℕ) → honest c ≡ true → after c ≡ left c
 
 -- the same, but with these samples on input c
-abbrev pub IsSameBut : ℕ → List ℤ → Left → Left → Type 0
-IsSameBut c rest left after = (d : ℕ) → after d ≡ (if d == c then rest else left d)
+abbrev pub IsSameBut : (ℕ → Bool) → ℕ → List ℤ → Left → Left → Type 0
+IsSameBut honest c rest left after = (d : ℕ) → honest d ≡ true → after d ≡ (if d == c then rest else left d)
 
 -- the samples that are left on the inputs of a run, by the widths of their ports
 abbrev pub samples_left : {M : Type 0} → Widths → Run (Channels M) → Left
@@ -44,23 +45,27 @@ module _ {M : Type 0} (c : ℕ) where
 
 -- ---- commands
 
-module _ {M : Type 0} where
+-- where these inputs are honest
+module _ {M : Type 0} (honest : ℕ → Bool) where
   -- one call was made, and got some answer. No sample was taken
   abbrev pub Makes : {A : Type 0} → (A → Call M) → Left → List (Call M) → Left → Type 0
-  Makes {A} call left made after = (answer : A) × (made ≡ call answer ∷ []) × IsSame left after
+  Makes {A} call left made after = (answer : A) × (made ≡ call answer ∷ []) × IsSame honest left after
 
-  -- a feed is short: its channel is ready, but fewer samples are left than it asks for, and none afterwards
+  -- a feed is short: its channel is ready, but fewer samples are left on an honest input than it asks for, and none afterwards
   pub record IsShort (c n : ℕ) (left : Left) (made : List (Call M)) (after : Left) : Type 0 where
-    pub few : length (left c) < n
-    pub none : IsSameBut c [] left after
+    pub few : honest c ≡ true → length (left c) < n
+    pub none : IsSameBut honest c [] left after
     pub calls : made ≡ calls.Ready c (Ok tt) ∷ []
 
-  -- a feed is fed: its channel is ready, the first samples that are left are its block, as many as it asks for, and the others are left
+  -- a feed is fed: its channel is ready, and its block has as many samples as it asks for: of an honest input the first that are left, and
+  -- the others are left
   pub record IsFed (c n : ℕ) (left : Left) (made : List (Call M)) (after : Left) : Type 0 where
-    pub enough : n ≤ length (left c)
-    pub others : IsSameBut c (drop n (left c)) left after
+    pub block : List ℤ
+    pub counted : length block ≡ n
+    pub first : honest c ≡ true → take n (left c) ≡ block
+    pub others : IsSameBut honest c (drop n (left c)) left after
     pub out : List ℤ
-    pub calls : made ≡ calls.Ready c (Ok tt) ∷ calls.Feed c (take n (left c)) out ∷ []
+    pub calls : made ≡ calls.Ready c (Ok tt) ∷ calls.Feed c block out ∷ []
 
   -- a feed is refused, short or fed. Every other command makes its one call
   abbrev pub CommandMakes : Command M → Left → List (Call M) → Left → Type 0
@@ -70,7 +75,7 @@ module _ {M : Type 0} where
 
   -- no call
   abbrev pub MakesNone : Left → List (Call M) → Left → Type 0
-  MakesNone left made after = (made ≡ []) × IsSame left after
+  MakesNone left made after = (made ≡ []) × IsSame honest left after
 
   -- a line that is blank or not in the grammar makes no call
   abbrev pub LineMakes : Result (Option (Command M)) Refusal → Left → List (Call M) → Left → Type 0
@@ -88,8 +93,9 @@ module _ {M : Type 0} where
   LinesMake named (line ∷ lines) left made after =
       (between : Left) × (first rest : List (Call M)) × ALineMakes named line left first between × LinesMake named lines between rest after × (made ≡ first ++ rest)
 
--- these calls were made for the lines: what a channel's feeds were given was taken from its input, and what they gave was written on it
-pub record AreCalls {M : Type 0} (kinds : Meaning M) (named : List ℕ → Option M) (widths : Widths) (run : Run (Channels M)) (lines : List (List ℕ)) (answer : Answer (Channels M)) (made : List (Call M)) : Type 0 where
+-- these calls were made for the lines: what a channel's feeds were given was taken from its input, where that is honest, and what they gave was
+-- written on it
+pub record AreCalls {M : Type 0} (kinds : Meaning M) (named : List ℕ → Option M) (widths : Widths) (honest : ℕ → Bool) (run : Run (Channels M)) (lines : List (List ℕ)) (answer : Answer (Channels M)) (made : List (Call M)) : Type 0 where
   pub lead : Leads kinds run.state made answer.run.state
-  pub commands : LinesMake named lines (samples_left widths run) made (samples_left widths answer.run)
+  pub commands : LinesMake honest named lines (samples_left widths run) made (samples_left widths answer.run)
   pub outputs : (c : ℕ) → held_by (Some c) (order_of answer.written) ≡ octets_at (widths.output c) (fed_out c made)

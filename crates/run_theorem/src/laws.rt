@@ -1,5 +1,5 @@
 //! The laws of whole runs.
-ghost use Rattle.std.specs.Prelude.{◌≡◌, ◌≤◌, ◌↔◌, ℕ, ℤ, [], IsTrue, List, None, Option, Some, Result, Err};
+ghost use Rattle.std.specs.Prelude.{◌≡◌, ◌≤◌, ◌↔◌, ◌∷◌, ℕ, ℤ, Bool, true, [], IsTrue, List, None, Option, Some, Result, Ok, Err, drop, length, take};
 ghost use Rattle.mem_rec.specs.declared.Space.{Space};
 ghost use Rattle.ialg.specs.declared.refusal.Refusal.{Refusal};
 ghost use Rattle.ialg.specs.declared.refusal.Refusal.TheVariants.{Room};
@@ -11,12 +11,13 @@ ghost use Rattle.host_spec.specs.Calls.Call.{Create, Process};
 ghost use Rattle.host_spec.specs.Runs.{history_of_run, outputs_in, statuses_in};
 ghost use Rattle.channel_spec.specs.Channels.{Channels};
 ghost use Rattle.channel_spec.specs.Calls.{Call, Does, refusal_of};
+ghost use Rattle.channel_spec.specs.Calls.Call.{Feed, Ready};
 ghost use Rattle.line_spec.specs.Served.{Answer, LineAnswer, LinesAnswer, Run, refusals};
 ghost use Rattle.line_spec.specs.Widths.{Widths};
 ghost use Rattle.console_spec.specs.Console.{console_machine};
 ghost use Rattle.run_theorem.specs.HostRuns.{AsHostCalls, Leads, RunsOnHost};
 ghost use Rattle.run_theorem.specs.Births.{Born, GoesByItsHistory};
-ghost use Rattle.run_theorem.specs.Lines.{AreCalls};
+ghost use Rattle.run_theorem.specs.Lines.{AreCalls, IsFed, Left};
 ghost use Rattle.run_theorem.specs.Room.{IsCreation, LacksRoom};
 
 /// The law that a run of calls of channels is a run of calls of their host: so the life of an instance in channels is a life in the
@@ -51,19 +52,29 @@ pub fn births_agree<M>()
 {}
 
 /// The law that what a console does with lines is a run of calls of its channels, which the lines' commands make: a feed is refused, or
-/// short, or given the first samples that are left of its channel's input; and what feeds give is the channel's output. The call does nothing.
+/// short, or given as many samples as it asks for, the first that are left of its channel's input where that is honest; and what feeds give is the
+/// channel's output. The call does nothing.
 pub fn lines_are_calls<M>()
-    ensures { (kinds : Meaning M) (named : List ℕ → Option M) (widths : Widths) (run : Run (Channels M)) (lines : List (List ℕ)) (answer : Answer (Channels M))
-        → LinesAnswer (console_machine kinds named widths) run lines answer → (made : List (Call M)) × AreCalls kinds named widths run lines answer made }
+    ensures { (kinds : Meaning M) (named : List ℕ → Option M) (widths : Widths) (honest : ℕ → Bool) (run : Run (Channels M)) (lines : List (List ℕ)) (answer : Answer (Channels M))
+        → LinesAnswer (console_machine kinds named widths) honest run lines answer → (made : List (Call M)) × AreCalls kinds named widths honest run lines answer made }
 {
     channel_spec::refused_calls_change_nothing::<M>();
 }
 
+/// The law that a feed which isn't short takes just the samples that are next on its channel's input, where that is honest, whatever the other
+/// inputs are. The call does nothing.
+pub fn honest_feeds_take_what_is_next<M>()
+    ensures enough { (honest : ℕ → Bool) (c n : ℕ) (left after : Left) (made : List (Call M)) → honest c ≡ true → IsFed honest c n left made after → n ≤ length (left c) }
+    ensures block { (honest : ℕ → Bool) (c n : ℕ) (left after : Left) (made : List (Call M)) → honest c ≡ true → IsFed honest c n left made after
+        → (out : List ℤ) × (made ≡ Ready c (Ok tt) ∷ Feed c (take n (left c)) out ∷ []) }
+    ensures others { (honest : ℕ → Bool) (c n : ℕ) (left after : Left) (made : List (Call M)) → honest c ≡ true → IsFed honest c n left made after → after c ≡ drop n (left c) }
+{}
+
 /// The law that a refused line leaves all instances, channels and places as they were. A feed that is refused as short uses up what is left
 /// of its input. The call does nothing.
 pub fn refused_lines_change_nothing<M>()
-    ensures { (kinds : Meaning M) (named : List ℕ → Option M) (widths : Widths) (run : Run (Channels M)) (line : List ℕ) (answer : Answer (Channels M))
-        → LineAnswer (console_machine kinds named widths) run line answer → 1 ≤ refusals answer.written → answer.run.state ≡ run.state }
+    ensures { (kinds : Meaning M) (named : List ℕ → Option M) (widths : Widths) (honest : ℕ → Bool) (run : Run (Channels M)) (line : List ℕ) (answer : Answer (Channels M))
+        → LineAnswer (console_machine kinds named widths) honest run line answer → 1 ≤ refusals answer.written → answer.run.state ≡ run.state }
 {
     channel_spec::refused_calls_change_nothing::<M>();
 }

@@ -1,5 +1,5 @@
 //! The headline.
-ghost use Rattle.std.specs.Prelude.{◌≡◌, ◌++◌, ℕ, ℤ, [], IsTrue, List, Option};
+ghost use Rattle.std.specs.Prelude.{◌≡◌, ◌++◌, ℕ, ℤ, Bool, [], IsTrue, List, Option};
 ghost use Rattle.ialg.specs.Meaning.{Meaning};
 ghost use Rattle.host_map.specs.declared.parts.Sizes.{Sizes};
 ghost use Rattle.host_spec.specs.Calls.{Call};
@@ -18,19 +18,23 @@ use crate::laws::{creations_alone_lack_room, refused_lines_change_nothing};
 /// instances did, even ones that break IALG's laws; only creation is refused for space, exactly where no place is free, and a refused
 /// command changes no instance, channel or place. A feed that is refused as short uses up what is left of its input.
 ///
+/// What a feed is given are the first samples that are left of its channel's input, where that input is honest, whatever the others are. Of one that isn't
+/// each feed may be given any samples, or be refused as short.
+///
 /// So it is of each instance that was ever created, as long as it lived, and up to each line: the first lines have the headline by
 /// themselves (`first`).
 ///
 /// And of two runs: instances of one kind and the same parameters that were given the same since their creation give and answer the
 /// same, whatever else differs. The call does nothing: its contract is the law.
 pub fn headline<M>()
-    ensures run { (kinds : Meaning M) (named : List ℕ → Option M) (widths : Widths) (sizes : Sizes) (poison : Option ℤ) (lines inputs : List (List ℕ)) (answer : Answer (Channels M))
-        → LinesAnswer (console_machine kinds named widths) (start sizes poison inputs) lines answer → Headline kinds named widths sizes poison lines inputs answer }
-    ensures first { (kinds : Meaning M) (named : List ℕ → Option M) (widths : Widths) (sizes : Sizes) (poison : Option ℤ) (first more inputs : List (List ℕ)) (answer : Answer (Channels M))
-        → LinesAnswer (console_machine kinds named widths) (start sizes poison inputs) (first ++ more) answer → GoesOn kinds named widths sizes poison first more inputs answer }
+    ensures run { (kinds : Meaning M) (named : List ℕ → Option M) (widths : Widths) (sizes : Sizes) (poison : Option ℤ) (lines inputs : List (List ℕ)) (honest : ℕ → Bool) (answer : Answer (Channels M))
+        → LinesAnswer (console_machine kinds named widths) honest (start sizes poison inputs) lines answer → Headline kinds named widths sizes poison lines inputs honest answer }
+    ensures first { (kinds : Meaning M) (named : List ℕ → Option M) (widths : Widths) (sizes : Sizes) (poison : Option ℤ) (first more inputs : List (List ℕ)) (honest : ℕ → Bool) (answer : Answer (Channels M))
+        → LinesAnswer (console_machine kinds named widths) honest (start sizes poison inputs) (first ++ more) answer → GoesOn kinds named widths sizes poison first more inputs honest answer }
     ensures two { (kinds : Meaning M) (named : List ℕ → Option M) (widths other_widths : Widths) (sizes other_sizes : Sizes) (poison other_poison : Option ℤ)
-        (lines inputs other_lines other_inputs : List (List ℕ)) (answer other : Answer (Channels M))
-        (one : Headline kinds named widths sizes poison lines inputs answer) (two : Headline kinds named other_widths other_sizes other_poison other_lines other_inputs other)
+        (lines inputs other_lines other_inputs : List (List ℕ)) (honest other_honest : ℕ → Bool) (answer other : Answer (Channels M))
+        (one : Headline kinds named widths sizes poison lines inputs honest answer)
+        (two : Headline kinds named other_widths other_sizes other_poison other_lines other_inputs other_honest other)
         (i j g h : ℕ) (kind : M) (p : List ℤ) (later since : List (Call M))
         → IsTrue (kinds.lawful kind p poison) → Born i kind g p one.asked later
         → IsTrue (kinds.lawful kind p other_poison) → Born j kind h p two.asked since

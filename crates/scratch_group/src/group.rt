@@ -9,7 +9,7 @@ ghost use Rattle.scratch_group.specs.Words.{active_words, HasWords};
 
 use crate::plan::{active_plan, filter_sizes};
 use host_map::Stat;
-use ialg::Step;
+use ialg::{Lending, Step};
 use mem_rec::{Layout, MemTab, Space, scratch_layout};
 use record_loans::{Pieces, ScratchBlock, lend_filter, lend_with_blocks};
 use space_raw::Piece;
@@ -197,33 +197,36 @@ impl Group {
         ensures shared { SamePieces shared.old shared.new }
         ensures group { SameGroup self.old self.new }
     {
+        let loan = Lending {
+            step,
+            table,
+            writable: false,
+        };
         match filter_sizes(table) {
-            Some(sizes) => lend_filter(step, table, false, sizes, own, &mut self.daram, out),
-            None => self.lend_by_plan(step, table, own, shared, out),
+            Some(sizes) => lend_filter(&loan, sizes, own, &mut self.daram, out),
+            None => self.lend_by_plan(&loan, own, shared, out),
         }
     }
 
     /// Performs the step as [`lend`](Group::lend) does, whatever the table.
     fn lend_by_plan<O, S: Step<O>>(
         &mut self,
-        step: &S,
-        table: &MemTab,
+        loan: &Lending<'_, S>,
         own: &mut Pieces,
         shared: &mut Pieces,
         out: &mut O,
     )
-        requires can { S.can step.now out.old }
-        requires sizes { HasWords table.now own.old shared.old self.old }
-        ensures done { S.done step.now table.now false (active_words table.now own.old shared.old self.old) (active_words table.now own.new shared.new self.new) out.old out.new }
+        requires can { S.can loan.now.step.now out.old }
+        requires sizes { HasWords loan.now.table.now own.old shared.old self.old }
+        ensures done { S.done loan.now.step.now loan.now.table.now loan.now.writable
+            (active_words loan.now.table.now own.old shared.old self.old) (active_words loan.now.table.now own.new shared.new self.new) out.old out.new }
         ensures own { SamePieces own.old own.new }
         ensures shared { SamePieces shared.old shared.new }
         ensures group { SameGroup self.old self.new }
     {
-        let plan = active_plan(table);
+        let plan = active_plan(loan.table);
         lend_with_blocks(
-            step,
-            table,
-            false,
+            loan,
             &plan,
             own,
             shared,

@@ -4,7 +4,7 @@ ghost use Rattle.record_loans.specs.Pieces.{SamePieces};
 ghost use Rattle.scratch_group.specs.Words.{idle_words, HasPieces};
 
 use crate::plan::idle_plan;
-use ialg::Step;
+use ialg::{Lending, Step};
 use mem_rec::MemTab;
 use record_loans::{Pieces, lend_without_blocks};
 
@@ -25,5 +25,10 @@ pub fn lend_lasting<O, S: Step<O>>(
     ensures shared { SamePieces shared.old shared.new }
 {
     let plan = idle_plan(table);
-    lend_without_blocks(step, table, writable, &plan, own, shared, out);
+    let loan = Lending {
+        step,
+        table,
+        writable,
+    };
+    lend_without_blocks(&loan, &plan, own, shared, out);
 }

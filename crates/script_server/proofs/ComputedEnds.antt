@@ -1,10 +1,11 @@
 -- Where a machine does no more than a computed one, a run by it ended as it does by that one.
 use Rattle.std.proofs.Common.{◌≡◌, ℕ, List, ◌++◌, ap, refl, subst, sym, ◌∙◌}
 use Rattle.octet_ports.specs.Ports.{Source}
-use Rattle.line_spec.specs.Served.{Machine, Run, Answer, Feed, LineAnswer, order_of}
-use Rattle.line_spec.specs.Computed.{Computed, IsComputed, machine_of, line_answer, lines_answer}
-use Rattle.line_spec.proofs.ComputedLemmas.{standing_run, standing_answer, line_is, lines_are, own_line, own_lines}
-use Rattle.script_server.specs.Runs.{Devices, EndsByRead, EndsByWrite, ServedFirst, ServedUpTo, Stops, InScript, AtLimit, InFeed, Writes}
+use Rattle.voice_script.specs.Script.{lines_of}
+use Rattle.line_spec.specs.Served.{Machine, Run, Feed, LineAnswer, order_of, refusals}
+use Rattle.line_spec.specs.Computed.{Computed, IsComputed, machine_of}
+use Rattle.line_spec.proofs.ComputedLemmas.{standing_run, line_stands, lines_stand}
+use Rattle.script_server.specs.Runs.{Devices, EndsByRead, EndsByWrite, EndsWell, ServedAll, ServedFirst, ServedUpTo, Stops, InScript, AtLimit, InFeed, Writes, honest_at}
 
 module _ {S T : Type 0} (machine : Machine S) (computed : Computed T) (standing : T → S) (is : IsComputed machine computed standing) (start : Run T) where
   abbrev own : Machine T
@@ -13,30 +14,25 @@ module _ {S T : Type 0} (machine : Machine S) (computed : Computed T) (standing 
   abbrev at : Run T → Run S
   at run = standing_run standing run
 
-  abbrev shown : Answer T → Answer S
-  shown answer = standing_answer standing answer
-
   served_first : (old new : Devices) → ServedFirst machine (at start) old new → ServedFirst own start old new
   served_first old new s =
-      let whole = lines_answer computed start s.whole in
-      let last = line_answer computed whole.run s.last in
-      let all : s.answer ≡ shown whole = lines_are machine computed standing is s.whole start s.answer s.is_answer in
-      let cut : s.cut ≡ shown last =
-      line_is machine computed standing is whole.run s.last s.cut (subst (λ r. LineAnswer machine r s.last s.cut) (ap (λ o. o.run) all) s.is_cut) in
+      let all = lines_stand machine computed standing is (honest_at old.inputs) s.whole start s.answer s.is_answer in
+      let cut = line_stands machine computed standing is (honest_at old.inputs) all.0.run s.last s.cut
+      (subst (λ r. LineAnswer machine (honest_at old.inputs) r s.last s.cut) (ap (λ o. o.run) all.2) s.is_cut) in
       record {
         whole = s.whole;
         last = s.last;
         more = s.more;
         are_first = s.are_first;
-        answer = whole;
-        is_answer = own_lines computed s.whole start;
-        cut = last;
-        is_cut = own_line computed whole.run s.last;
-        inputs = ap (λ o. o.run.inputs) (sym cut) ∙ s.inputs;
+        answer = all.0;
+        is_answer = all.1;
+        cut = cut.0;
+        is_cut = cut.1;
+        inputs = ap (λ o. o.run.inputs) (sym cut.2) ∙ s.inputs;
         first = s.first;
         later = s.later;
-        is_first = ap (λ o. order_of o.written) (sym cut) ∙ s.is_first;
-        writes = subst (λ o. Writes (order_of o.written ++ s.first) old.outputs new.outputs old.replies new.replies) all s.writes;
+        is_first = ap (λ o. order_of o.written) (sym cut.2) ∙ s.is_first;
+        writes = subst (λ o. Writes (order_of o.written ++ s.first) old.outputs new.outputs old.replies new.replies) all.2 s.writes;
       }
 
   stops : (script new_script : Source) (lines : List (List ℕ)) (state : T) (there : S) (sources new_sources : List Source) → there ≡ standing state
@@ -49,31 +45,49 @@ module _ {S T : Type 0} (machine : Machine S) (computed : Computed T) (standing 
 
   served_up_to : (old new : Devices) → ServedUpTo machine (at start) old new → ServedUpTo own start old new
   served_up_to old new s =
-      let all = lines_answer computed start s.lines in
-      let same : s.answer ≡ shown all = lines_are machine computed standing is s.lines start s.answer s.is_answer in
+      let all = lines_stand machine computed standing is (honest_at old.inputs) s.lines start s.answer s.is_answer in
       record {
         lines = s.lines;
         no_feeds = s.no_feeds;
         are_ended = s.are_ended;
-        answer = all;
-        is_answer = own_lines computed s.lines start;
+        answer = all.0;
+        is_answer = all.1;
         sources = s.sources;
-        inputs = ap (λ o. o.run.inputs) (sym same) ∙ s.inputs;
-        stops = stops old.script new.script s.lines all.run.state s.answer.run.state s.sources new.inputs (ap (λ o. o.run.state) same) s.stops;
-        writes = subst (λ o. Writes (order_of o.written) old.outputs new.outputs old.replies new.replies) same s.writes;
+        inputs = ap (λ o. o.run.inputs) (sym all.2) ∙ s.inputs;
+        stops = stops old.script new.script s.lines all.0.run.state s.answer.run.state s.sources new.inputs (ap (λ o. o.run.state) all.2) s.stops;
+        writes = subst (λ o. Writes (order_of o.written) old.outputs new.outputs old.replies new.replies) all.2 s.writes;
       }
+
+  served_all : (refused : ℕ) (old new : Devices) → ServedAll machine (at start) refused old new → ServedAll own start refused old new
+  served_all refused old new s =
+      let all = lines_stand machine computed standing is (honest_at old.inputs) (lines_of old.script.coming) start s.answer s.is_answer in
+      record {
+        at_end = s.at_end;
+        answer = all.0;
+        is_answer = all.1;
+        inputs = ap (λ o. o.run.inputs) (sym all.2) ∙ s.inputs;
+        writes = subst (λ o. Writes (order_of o.written) old.outputs new.outputs old.replies new.replies) all.2 s.writes;
+        counted = ap (λ o. refusals o.written) (sym all.2) ∙ s.counted;
+      }
+
+  pub well : (refused : ℕ) (old new : Devices) → EndsWell machine (at start) refused old new → EndsWell own start refused old new
+  well refused old new ends = record {
+    serves = record {
+      script = ends.serves.script;
+      ready = ends.serves.ready;
+      served = λ script. served_all refused old new (ends.serves.served script);
+    };
+    outputs_passed = ends.outputs_passed;
+    replies_passed = ends.replies_passed;
+  }
 
   pub by_write : (old new : Devices) → EndsByWrite machine (at start) old new → EndsByWrite own start old new
   by_write old new ends = record {
     failed = ends.failed;
     passed = ends.passed;
     order = ends.order;
-    served = λ script inputs. served_first old new (ends.served script inputs);
+    served = λ script. served_first old new (ends.served script);
   }
 
   pub by_read : (old new : Devices) → EndsByRead machine (at start) old new → EndsByRead own start old new
-  by_read old new ends = record {
-    failed = ends.failed;
-    passed = ends.passed;
-    served = λ inputs. served_up_to old new (ends.served inputs);
-  }
+  by_read old new ends = record { failed = ends.failed; passed = ends.passed; served = served_up_to old new ends.served }

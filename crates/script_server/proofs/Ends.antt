@@ -11,7 +11,7 @@ use Rattle.octet_ports.specs.declared.reader.LineFault.TheVariants.{Port, Limit}
 use Rattle.octet_ports.proofs.Ports.{gives_more}
 use Rattle.octet_ports.specs.Lines.{ended, IsNoFeed}
 use Rattle.line_spec.specs.Served.{Machine, Run, LineAnswer, then_answer, order_of}
-use Rattle.script_server.specs.Runs.{Devices, IsHonest, HasFailedIn, GoesOn, ServedAll, ServedFirst, ServedUpTo, InScript, AtLimit, InFeed, Writes, run_of}
+use Rattle.script_server.specs.Runs.{Devices, IsHonest, HasFailedIn, GoesOn, honest_at, ServedAll, ServedFirst, ServedUpTo, InScript, AtLimit, InFeed, Writes, run_of}
 use Rattle.script_server.specs.LineRuns.{IsServed, IsCut, IsUnfed}
 use Rattle.script_server.proofs.SoFar.{Consumes, ServedSoFar}
 use Rattle.voice_script.specs.declared.limits.TheConstants.{LINE_OCTETS}
@@ -24,14 +24,14 @@ pub gives_ahead : (octets ahead : List ℕ) (a b : Source) → Gives octets a (b
 gives_ahead octets ahead a b g = record { stays = g.stays; given = λ honest. g.given honest ∙ sym (append_assoc octets ahead b.coming) }
 
 module _ {S : Type 0} (m : Machine S) (start : Run S) where
-  pub served_more : {keeps new_keeps : S → Type 0} {refused new_refused left new_left : ℕ} {is_refused : Bool} {script a b : Source} {sources new_sources : List Source}
+  pub served_more : {honest : ℕ → Bool} {keeps new_keeps : S → Type 0} {refused new_refused left new_left : ℕ} {is_refused : Bool} {script a b : Source} {sources new_sources : List Source}
       {outputs mid_outputs new_outputs : List Sink} {replies mid_replies new_replies : Sink} {text : List ℕ} {long : Bool}
-      → (served : ServedSoFar m keeps start refused left script a sources outputs mid_outputs replies mid_replies)
+      → (served : ServedSoFar m keeps honest start refused left script a sources outputs mid_outputs replies mid_replies)
       → (came : LineCame LINE_OCTETS text long false left new_left a b)
-      → IsServed new_keeps (LineAnswer m (run_of served.answer.run.state sources) came.octets) is_refused new_sources mid_outputs new_outputs mid_replies new_replies
+      → IsServed new_keeps honest (LineAnswer m honest (run_of served.answer.run.state sources) came.octets) is_refused new_sources mid_outputs new_outputs mid_replies new_replies
       → new_refused ≡ refused + (if is_refused then 1 else 0)
-      → ServedSoFar m new_keeps start new_refused new_left script b new_sources outputs new_outputs replies new_replies
-  served_more {new_keeps = new_keeps} {left = left} {new_left = new_left} {sources = sources} served came line count =
+      → ServedSoFar m new_keeps honest start new_refused new_left script b new_sources outputs new_outputs replies new_replies
+  served_more {honest = honest} {new_keeps = new_keeps} {left = left} {new_left = new_left} {sources = sources} served came line count =
       let lines = served.lines in
       let octets = came.octets in
       record {
@@ -44,9 +44,9 @@ module _ {S : Type 0} (m : Machine S) (start : Run S) where
             let l : length (flat_map ended lines ++ (octets ++ 10 ∷ [])) ≡ length (flat_map ended lines) + length (octets ++ 10 ∷ []) = length-append (flat_map ended lines) (octets ++ 10 ∷ []) in
             rw (ended_more lines octets) (omega arith);
         answer = then_answer served.answer.written line.answer;
-        is_answer = push_answer m lines start served.answer served.is_answer (answer_there m served.answer sources served.inputs line.is_answer);
+        is_answer = push_answer m honest lines start served.answer served.is_answer (answer_there m honest served.answer sources served.inputs line.is_answer);
         kept = line.kept;
-        honest = line.honest;
+        still = line.still;
         inputs = line.inputs;
         writes = rw (order_of-append served.answer.written line.answer.written) (writes_more served.writes line.writes);
         counted = rw (refusals-append served.answer.written line.answer.written, served.counted, line.counted) (sym count);
@@ -55,9 +55,9 @@ module _ {S : Type 0} (m : Machine S) (start : Run S) where
   pub served_all : {keeps new_keeps : S → Type 0} {refused new_refused left new_left : ℕ} {is_refused : Bool} {a : Source} {sources : List Source}
       {mid_outputs : List Sink} {mid_replies : Sink} {text : List ℕ} {long : Bool} (old new : Devices)
       → IsHonest old.script
-      → (served : ServedSoFar m keeps start refused left old.script a sources old.outputs mid_outputs old.replies mid_replies)
+      → (served : ServedSoFar m keeps (honest_at old.inputs) start refused left old.script a sources old.outputs mid_outputs old.replies mid_replies)
       → (came : LineCame LINE_OCTETS text long true left new_left a new.script)
-      → IsServed new_keeps (LineAnswer m (run_of served.answer.run.state sources) came.octets) is_refused new.inputs mid_outputs new.outputs mid_replies new.replies
+      → IsServed new_keeps (honest_at old.inputs) (LineAnswer m (honest_at old.inputs) (run_of served.answer.run.state sources) came.octets) is_refused new.inputs mid_outputs new.outputs mid_replies new.replies
       → new_refused ≡ refused + (if is_refused then 1 else 0)
       → ServedAll m start new_refused old new
   served_all {a = a} {sources = sources} old new h served came line count =
@@ -67,7 +67,7 @@ module _ {S : Type 0} (m : Machine S) (start : Run S) where
       record {
         at_end = came.at_end refl (came.gives.stays (served.gives.stays h));
         answer = then_answer served.answer.written line.answer;
-        is_answer = rw all (push_answer m lines start served.answer served.is_answer (answer_there m served.answer sources served.inputs line.is_answer));
+        is_answer = rw all (push_answer m (honest_at old.inputs) lines start served.answer served.is_answer (answer_there m (honest_at old.inputs) served.answer sources served.inputs line.is_answer));
         inputs = line.inputs;
         writes = rw (order_of-append served.answer.written line.answer.written) (writes_more served.writes line.writes);
         counted = rw (refusals-append served.answer.written line.answer.written, served.counted, line.counted) (sym count);
@@ -76,9 +76,9 @@ module _ {S : Type 0} (m : Machine S) (start : Run S) where
   pub script_cut : {keeps : S → Type 0} {refused left new_left : ℕ} {a b : Source} {sources : List Source}
       {mid_outputs : List Sink} {mid_replies : Sink} {text : List ℕ} {long last : Bool} (old new : Devices)
       → IsHonest old.script
-      → (served : ServedSoFar m keeps start refused left old.script a sources old.outputs mid_outputs old.replies mid_replies)
+      → (served : ServedSoFar m keeps (honest_at old.inputs) start refused left old.script a sources old.outputs mid_outputs old.replies mid_replies)
       → (came : LineCame LINE_OCTETS text long last left new_left a b)
-      → IsCut (LineAnswer m (run_of served.answer.run.state sources) came.octets) new.inputs mid_outputs new.outputs mid_replies new.replies
+      → IsCut (LineAnswer m (honest_at old.inputs) (run_of served.answer.run.state sources) came.octets) new.inputs mid_outputs new.outputs mid_replies new.replies
       → ServedFirst m start old new
   script_cut {a = a} {b = b} {sources = sources} {last = last} old new h served came cut =
       let lines = served.lines in
@@ -92,7 +92,7 @@ module _ {S : Type 0} (m : Machine S) (start : Run S) where
         answer = served.answer;
         is_answer = served.is_answer;
         cut = cut.answer;
-        is_cut = answer_there m served.answer sources served.inputs cut.is_answer;
+        is_cut = answer_there m (honest_at old.inputs) served.answer sources served.inputs cut.is_answer;
         inputs = cut.inputs;
         first = cut.writes.first;
         later = cut.writes.later;
@@ -101,7 +101,7 @@ module _ {S : Type 0} (m : Machine S) (start : Run S) where
       }
 
   pub stops_in_script : {keeps : S → Type 0} {refused left : ℕ} {a : Source} (old new : Devices)
-      → ServedSoFar m keeps start refused left old.script a new.inputs old.outputs new.outputs old.replies new.replies
+      → ServedSoFar m keeps (honest_at old.inputs) start refused left old.script a new.inputs old.outputs new.outputs old.replies new.replies
       → (fault : LineFault) → LineFails fault left a new.script
       → ServedUpTo m start old new
   stops_in_script old new served Port f = record {
@@ -135,7 +135,7 @@ module _ {S : Type 0} (m : Machine S) (start : Run S) where
 
   pub stops_in_feed : {keeps : S → Type 0} {refused left new_left : ℕ} {a : Source} {sources : List Source}
       {mid_outputs : List Sink} {mid_replies : Sink} {text : List ℕ} {long last : Bool} (old new : Devices) (ahead : List ℕ)
-      → (served : ServedSoFar m keeps start refused left old.script a sources old.outputs mid_outputs old.replies mid_replies)
+      → (served : ServedSoFar m keeps (honest_at old.inputs) start refused left old.script a sources old.outputs mid_outputs old.replies mid_replies)
       → (came : LineCame LINE_OCTETS text long last left new_left a (behind ahead new.script))
       → (last ≡ true → ahead ≡ []) → length ahead ≤ BUFFER_OCTETS
       → IsUnfed m served.answer.run.state came.octets sources new.inputs mid_outputs new.outputs mid_replies new.replies
@@ -173,7 +173,7 @@ module _ {S : Type 0} (m : Machine S) (start : Run S) where
   pub all_is_first : {refused : ℕ} {old new : Devices} → ServedAll m start refused old new → ServedFirst m start old new
   all_is_first {old = old} all =
       let split = last_line_of old.script.coming in
-      let parts = last_answer m split.0 start (rw split.2 at all.is_answer) in
+      let parts = last_answer m (honest_at old.inputs) split.0 start (rw split.2 at all.is_answer) in
       record {
         whole = split.0;
         last = split.1;

@@ -6,3 +6,4 @@ pub mod Scripts
 pub mod SoFar
 pub mod Steps
 pub mod Writes
+pub mod Honest

@@ -13,6 +13,7 @@ use Rattle.octet_ports.specs.Lines.{IsNoFeed, ending, ended}
 use Rattle.line_spec.specs.Served.{Machine, Run, Answer, Written, LineAnswer, LinesAnswer, then_answer, order_of, refusals, ended_lines}
 use Rattle.voice_script.specs.Script.{lines_of}
 use Rattle.script_server.specs.Runs.{IsHonest, run_of}
+use Rattle.script_server.specs.LineRuns.{AreHonest}
 use Rattle.script_server.proofs.SoFar.{ServedSoFar, Consumes}
 use Rattle.voice_script.specs.declared.limits.TheConstants.{LINE_OCTETS}
 use Rattle.script_server.specs.declared.limits.TheConstants.{SCRIPT_OCTETS}
@@ -20,13 +21,13 @@ use Rattle.script_server.proofs.Writes.{writes_none}
 
 -- ---- answers
 
-module _ {S : Type 0} (m : Machine S) where
+module _ {S : Type 0} (m : Machine S) (honest : ℕ → Bool) where
   -- what answers lines, and then what answers one more
-  pub push_answer : (lines : List (List ℕ)) (run : Run S) (answer : Answer S) {line : List ℕ} {last : Answer S} → LinesAnswer m run lines answer → LineAnswer m answer.run line last
-      → LinesAnswer m run (lines ++ line ∷ []) (then_answer answer.written last)
+  pub push_answer : (lines : List (List ℕ)) (run : Run S) (answer : Answer S) {line : List ℕ} {last : Answer S} → LinesAnswer m honest run lines answer → LineAnswer m honest answer.run line last
+      → LinesAnswer m honest run (lines ++ line ∷ []) (then_answer answer.written last)
   push_answer [] run answer {line} {last} is_answer is_last = (
     last,
-    subst (λ (a : Answer S). LineAnswer m a.run line last) is_answer is_last,
+    subst (λ (a : Answer S). LineAnswer m honest a.run line last) is_answer is_last,
     record { run = last.run; written = [] },
     refl,
     ap (λ (a : Answer S). then_answer a.written last) is_answer ∙ ap (λ w. record { run = last.run; written = w }) (sym (append-nil last.written)),
@@ -37,13 +38,13 @@ module _ {S : Type 0} (m : Machine S) where
         begun,
         is_answer.1,
         then_answer rest.written last,
-        push_answer lines begun.run rest is_answer.3 (subst (λ (a : Answer S). LineAnswer m a.run line last) is_answer.4 is_last),
+        push_answer lines begun.run rest is_answer.3 (subst (λ (a : Answer S). LineAnswer m honest a.run line last) is_answer.4 is_last),
         ap (λ (a : Answer S). then_answer a.written last) is_answer.4 ∙ ap (λ w. record { run = last.run; written = w }) (append_assoc begun.written rest.written last.written),
       )
 
   -- what answers the last of lines
-  pub last_answer : (lines : List (List ℕ)) (run : Run S) {line : List ℕ} {all : Answer S} → LinesAnswer m run (lines ++ line ∷ []) all
-      → (answer : Answer S) × LinesAnswer m run lines answer × (last : Answer S) × LineAnswer m answer.run line last × (all ≡ then_answer answer.written last)
+  pub last_answer : (lines : List (List ℕ)) (run : Run S) {line : List ℕ} {all : Answer S} → LinesAnswer m honest run (lines ++ line ∷ []) all
+      → (answer : Answer S) × LinesAnswer m honest run lines answer × (last : Answer S) × LineAnswer m honest answer.run line last × (all ≡ then_answer answer.written last)
   last_answer [] run is_answer =
       let last : Answer S = is_answer.0 in (
         record { run = run; written = [] },
@@ -64,9 +65,9 @@ module _ {S : Type 0} (m : Machine S) where
 
   -- after an answer with these inputs left, a line is answered
   pub answer_there : (answer : Answer S) (sources : List Source) {line : List ℕ} {last : Answer S} → answer.run.inputs ≡ map (λ s. s.coming) sources
-      → LineAnswer m (run_of answer.run.state sources) line last → LineAnswer m answer.run line last
+      → LineAnswer m honest (run_of answer.run.state sources) line last → LineAnswer m honest answer.run line last
   answer_there answer sources {line} {last} e is_last =
-      subst (λ (r : Run S). LineAnswer m r line last) (ap (λ i. record { state = answer.run.state; inputs = i }) (sym e)) is_last
+      subst (λ (r : Run S). LineAnswer m honest r line last) (ap (λ i. record { state = answer.run.state; inputs = i }) (sym e)) is_last
 
 pub refusals-append : (xs ys : List Written) → refusals (xs ++ ys) ≡ refusals xs + refusals ys
 unfolding refusals
@@ -93,10 +94,10 @@ lines_of_ended (line ∷ lines) rest n =
 
 -- ---- a run's lines
 
-pub served_none : {S : Type 0} (m : Machine S) (keeps : S → Type 0) (state : S) (script : Source) (sources : List Source) (outputs : List Sink) (replies : Sink)
-    → keeps state → All IsHonest sources → ServedSoFar m keeps (run_of state sources) 0 SCRIPT_OCTETS script script sources outputs outputs replies replies
+pub served_none : {S : Type 0} (m : Machine S) (keeps : S → Type 0) (honest : ℕ → Bool) (state : S) (script : Source) (sources : List Source) (outputs : List Sink) (replies : Sink)
+    → keeps state → AreHonest honest sources → ServedSoFar m keeps honest (run_of state sources) 0 SCRIPT_OCTETS script script sources outputs outputs replies replies
 unfolding order_of refusals
-served_none m keeps state script sources outputs replies k h = record {
+served_none m keeps honest state script sources outputs replies k h = record {
   lines = [];
   no_feeds = All-nil (λ line. All IsNoFeed line);
   gives = gives_none script;
@@ -104,7 +105,7 @@ served_none m keeps state script sources outputs replies k h = record {
   answer = record { run = run_of state sources; written = [] };
   is_answer = refl;
   kept = k;
-  honest = h;
+  still = h;
   inputs = refl;
   writes = writes_none outputs replies;
   counted = refl;

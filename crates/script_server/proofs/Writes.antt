@@ -4,11 +4,19 @@ use Rattle.std.proofs.lemmas.List.{map-append, take-append-drop, get_or-take, ge
 use Rattle.std.proofs.lemmas.List.Elements.{filter-append, All-get_or}
 use Rattle.std.proofs.lemmas.Grind.{common_steps, flat_map-append}
 use Rattle.std.proofs.lemmas.Bool.Decides.{nat_tests}
+use Rattle.ialg.specs.declared.refusal.Refusal.TheVariants.{Long, Short}
+use Rattle.voice_script.specs.Replies.{No, reply_text}
 use Rattle.octet_ports.specs.Ports.{Sink, Holds, Waits, Takes, TakesFirst, HasPassedAll}
 use Rattle.octet_ports.proofs.Ports.{holds_none, holds_more, waits_none, waits_more}
 use Rattle.line_spec.specs.Served.{Octet, Written, Output, Replied, held_by, order_of, same_port, octets_written}
 use Rattle.script_server.specs.Runs.{StepsAt, Writes, AllWait, InAscendingOrder, no_sink}
 use Rattle.script_server.specs.LineRuns.{WritesFirst}
+
+abbrev pub short_text : List ℕ
+short_text = reply_text (No Short)
+
+abbrev pub long_text : List ℕ
+long_text = reply_text (No Long)
 
 pub held_by-append : (port : Option ℕ) (xs ys : List Octet) → held_by port (xs ++ ys) ≡ held_by port xs ++ held_by port ys
 unfolding held_by

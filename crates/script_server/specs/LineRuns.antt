@@ -1,9 +1,13 @@
 -- For private clauses alone: what a line did to the ports.
-use Rattle.std.specs.Prelude.{◌≡◌, ℕ, ◌≤◌, Bool, List, [], ◌++◌, map, length, All, if◌then◌else◌}
+use Rattle.std.specs.Prelude.{◌≡◌, ℕ, ◌<◌, ◌≤◌, Bool, true, List, [], ◌++◌, map, length, slice_index_or, if◌then◌else◌}
 use Rattle.octet_ports.specs.Ports.{Source, Sink}
 use Rattle.line_spec.specs.Served.{Machine, Answer, Octet, order_of, refusals, Feed}
 use Rattle.script_server.specs.Runs.{IsHonest, Writes, StepsAt, FailsWithin, no_source}
 use Rattle.voice_script.specs.declared.limits.TheConstants.{LINE_OCTETS}
+
+-- those of the inputs that are said to be honest are
+abbrev pub AreHonest : (ℕ → Bool) → List Source → Type 0
+AreHonest honest sources = (channel : ℕ) → channel < length sources → honest channel ≡ true → IsHonest (slice_index_or sources channel no_source)
 
 -- the ports together hold the first of these more, in their one order
 pub record WritesFirst (order : List Octet) (outputs new_outputs : List Sink) (replies new_replies : Sink) : Type 0 where
@@ -13,12 +17,12 @@ pub record WritesFirst (order : List Octet) (outputs new_outputs : List Sink) (r
   pub writes : Writes first outputs new_outputs replies new_replies
 
 -- such an answer was given whole
-pub record IsServed {S : Type 0} (keeps : S → Type 0) (MayAnswer : Answer S → Type 0) (refused : Bool)
+pub record IsServed {S : Type 0} (keeps : S → Type 0) (honest : ℕ → Bool) (MayAnswer : Answer S → Type 0) (refused : Bool)
     (sources : List Source) (outputs new_outputs : List Sink) (replies new_replies : Sink) : Type 0 where
   pub answer : Answer S
   pub is_answer : MayAnswer answer
   pub kept : keeps answer.run.state
-  pub honest : All IsHonest sources
+  pub still : AreHonest honest sources
   pub inputs : answer.run.inputs ≡ map (λ s. s.coming) sources
   pub writes : Writes (order_of answer.written) outputs new_outputs replies new_replies
   pub counted : refusals answer.written ≡ (if refused then 1 else 0)

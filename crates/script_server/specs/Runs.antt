@@ -72,6 +72,10 @@ InAscendingOrder outputs new_outputs = (lower higher : ℕ) → lower < higher �
 abbrev pub octets_to_come : List Source → List (List ℕ)
 octets_to_come sources = map (λ s. s.coming) sources
 
+-- whether the input of this number is honest. Of one that isn't there all is known: nothing comes
+abbrev pub honest_at : List Source → ℕ → Bool
+honest_at sources channel = slice_index_or (map (λ s. s.honest) sources) channel true
+
 -- a machine in this state, with what these inputs have to come
 abbrev pub run_of : {S : Type 0} → S → List Source → Run S
 run_of state sources = record { state = state; inputs = octets_to_come sources }
@@ -106,11 +110,11 @@ GoesOn script = IsHonest script → SCRIPT_OCTETS < length script.coming
 -- ---- how a run ended
 
 module _ {S : Type 0} (machine : Machine S) (start : Run S) where
-  -- all of an honest script was served, between honest ports: by an answer that the machine may give
+  -- all of an honest script was served: by an answer that the machine may give, to what honest inputs had to come and others gave
   pub record ServedAll (refused : ℕ) (old new : Devices) : Type 0 where
     pub at_end : new.script.coming ≡ []
     pub answer : Answer S
-    pub is_answer : LinesAnswer machine start (lines_of old.script.coming) answer
+    pub is_answer : LinesAnswer machine (honest_at old.inputs) start (lines_of old.script.coming) answer
     pub inputs : answer.run.inputs ≡ octets_to_come new.inputs
     pub writes : Writes (order_of answer.written) old.outputs new.outputs old.replies new.replies
     pub counted : refusals answer.written ≡ refused
@@ -118,7 +122,7 @@ module _ {S : Type 0} (machine : Machine S) (start : Run S) where
   pub record ServesAll (refused : ℕ) (old new : Devices) : Type 0 where
     pub script : IsReadyIn new.script
     pub ready : AreReady new.inputs new.outputs new.replies
-    pub served : IsHonest old.script → All IsHonest old.inputs → ServedAll refused old new
+    pub served : IsHonest old.script → ServedAll refused old new
 
   -- all was served, no port has failed, and each honest one has passed all on
   pub record EndsWell (refused : ℕ) (old new : Devices) : Type 0 where
@@ -126,16 +130,16 @@ module _ {S : Type 0} (machine : Machine S) (start : Run S) where
     pub outputs_passed : All HasPassedAll new.outputs
     pub replies_passed : HasPassedAll new.replies
 
-  -- the first lines of an honest script were served, between honest ports: whole, but for a last part of the last one's answer
+  -- the first lines of an honest script were served: whole, but for a last part of the last one's answer
   pub record ServedFirst (old new : Devices) : Type 0 where
     pub whole : List (List ℕ)
     pub last : List ℕ
     pub more : List (List ℕ)
     pub are_first : lines_of old.script.coming ≡ whole ++ last ∷ more
     pub answer : Answer S
-    pub is_answer : LinesAnswer machine start whole answer
+    pub is_answer : LinesAnswer machine (honest_at old.inputs) start whole answer
     pub cut : Answer S
-    pub is_cut : LineAnswer machine answer.run last cut
+    pub is_cut : LineAnswer machine (honest_at old.inputs) answer.run last cut
     pub inputs : cut.run.inputs ≡ octets_to_come new.inputs
     pub first : List Octet
     pub later : List Octet
@@ -147,7 +151,7 @@ module _ {S : Type 0} (machine : Machine S) (start : Run S) where
     pub failed : Any HasFailedOut new.outputs ⊎ HasFailedOut new.replies
     pub passed : Waits old.replies new.replies ⊎ All HasPassedAll new.outputs
     pub order : InAscendingOrder old.outputs new.outputs
-    pub served : IsHonest old.script → All IsHonest old.inputs → ServedFirst old new
+    pub served : IsHonest old.script → ServedFirst old new
 
   -- why no more lines were read than these, which led to this state, and what was read of the inputs
   pub data Stops (script new_script : Source) (lines : List (List ℕ)) (state : S) (sources new_sources : List Source) : Type 0 where
@@ -164,14 +168,14 @@ module _ {S : Type 0} (machine : Machine S) (start : Run S) where
         → Gives ((flat_map ended lines ++ (line ++ ending last)) ++ ahead) script new_script → length ahead ≤ BUFFER_OCTETS → (last ≡ true → (ahead ≡ []) × IsAtEnd new_script)
         → StepsAt (FailsWithin count) channel no_source sources new_sources → Stops script new_script lines state sources new_sources
 
-  -- exactly these lines were served, from honest inputs
+  -- exactly these lines were served
   pub record ServedUpTo (old new : Devices) : Type 0 where
     pub lines : List (List ℕ)
     pub no_feeds : All (λ line. All IsNoFeed line) lines
     -- with any part of a line that may follow them, they are the lines that ended
     pub are_ended : (rest : List ℕ) → All IsNoFeed rest → ended_lines (flat_map ended lines ++ rest) ≡ lines
     pub answer : Answer S
-    pub is_answer : LinesAnswer machine start lines answer
+    pub is_answer : LinesAnswer machine (honest_at old.inputs) start lines answer
     -- the inputs after these lines
     pub sources : List Source
     pub inputs : answer.run.inputs ≡ octets_to_come sources
@@ -182,4 +186,4 @@ module _ {S : Type 0} (machine : Machine S) (start : Run S) where
   pub record EndsByRead (old new : Devices) : Type 0 where
     pub failed : HasFailedIn new.script ⊎ (Any HasFailedIn new.inputs ⊎ GoesOn old.script)
     pub passed : AllWait old.outputs new.outputs old.replies new.replies
-    pub served : All IsHonest old.inputs → ServedUpTo old new
+    pub served : ServedUpTo old new

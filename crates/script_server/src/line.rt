@@ -1,5 +1,5 @@
 //! Serves one line.
-ghost use Rattle.std.specs.Prelude.{◌≡◌, ◌<◌, ◌≤◌, ◌⊎◌, List, ℕ, [], true, false, map, length, Ok, All, Any, IfOk, IsOk, IsErrOf};
+ghost use Rattle.std.specs.Prelude.{◌≡◌, ◌<◌, ◌≤◌, ◌⊎◌, Bool, List, ℕ, [], true, false, map, length, Ok, All, Any, IfOk, IsOk, IsErrOf};
 ghost use Rattle.std.specs.Result.{is_err};
 ghost use Rattle.octet_ports.specs.Ports.{Sink, Gives, Holds, Takes, TakesFirst, HasPassedAll, EndsWithin};
 ghost use Rattle.octet_ports.specs.Lines.{IsLine};
@@ -8,8 +8,8 @@ ghost use Rattle.line_spec.specs.Served.{FeedAnswer, LineAnswer};
 ghost use Rattle.line_spec.specs.Widths.{octet_count};
 ghost use Rattle.voice_script.specs.Replies.{reply_text};
 ghost use Rattle.voice_script.specs.ReplyViews.{reply_of};
-ghost use Rattle.script_server.specs.Runs.{StepsAt, no_source, no_sink, IsHonest, IsReadyIn, IsReadyOut, HasFailedIn, HasFailedOut, AreReady, Writes, AllWait, FailsWithin, run_of, InAscendingOrder};
-ghost use Rattle.script_server.specs.LineRuns.{IsServed, IsCut, IsUnfed};
+ghost use Rattle.script_server.specs.Runs.{StepsAt, no_source, no_sink, IsReadyIn, IsReadyOut, HasFailedIn, HasFailedOut, AreReady, Writes, AllWait, FailsWithin, run_of, InAscendingOrder};
+ghost use Rattle.script_server.specs.LineRuns.{AreHonest, IsServed, IsCut, IsUnfed};
 
 use crate::serving::PortsFault;
 use host_map::Map;
@@ -111,11 +111,11 @@ fn serve_feed<T: LineMachine, I: PortIn, O: PortOut, P: PortOut>(
     ensures read { IsErrOf result PortsFault.Read → Any HasFailedIn (map I.source inputs.new.items) }
     ensures write { IsErrOf result PortsFault.Write → Any HasFailedOut (map O.sink outputs.new.items) ⊎ HasFailedOut (P.sink replies.new) }
     ensures waits { AllWait (map O.sink outputs.old.items) (map O.sink outputs.new.items) (P.sink replies.old) (P.sink replies.new) }
-    ensures served { IfOk result (λ refused. (s : T.State) → T.keeps machine.old s → All IsHonest (map I.source inputs.old.items)
-        → IsServed (T.keeps machine.new) (FeedAnswer (T.machine (T.widths machine.old)) (run_of s (map I.source inputs.old.items)) channel (octet_count ((T.widths machine.old).input channel) samples.number)) refused
+    ensures served { IfOk result (λ refused. (s : T.State) (honest : ℕ → Bool) → T.keeps machine.old s → AreHonest honest (map I.source inputs.old.items)
+        → IsServed (T.keeps machine.new) honest (FeedAnswer (T.machine (T.widths machine.old)) honest (run_of s (map I.source inputs.old.items)) channel (octet_count ((T.widths machine.old).input channel) samples.number)) refused
         (map I.source inputs.new.items) (map O.sink outputs.old.items) (map O.sink outputs.new.items) (P.sink replies.old) (P.sink replies.new)) }
-    ensures cut { IsErrOf result PortsFault.Write → (s : T.State) → T.keeps machine.old s → All IsHonest (map I.source inputs.old.items)
-        → IsCut (FeedAnswer (T.machine (T.widths machine.old)) (run_of s (map I.source inputs.old.items)) channel (octet_count ((T.widths machine.old).input channel) samples.number))
+    ensures cut { IsErrOf result PortsFault.Write → (s : T.State) (honest : ℕ → Bool) → T.keeps machine.old s → AreHonest honest (map I.source inputs.old.items)
+        → IsCut (FeedAnswer (T.machine (T.widths machine.old)) honest (run_of s (map I.source inputs.old.items)) channel (octet_count ((T.widths machine.old).input channel) samples.number))
         (map I.source inputs.new.items) (map O.sink outputs.old.items) (map O.sink outputs.new.items) (P.sink replies.old) (P.sink replies.new) }
     ensures unread { IsErrOf result PortsFault.Read → StepsAt (FailsWithin (octet_count ((T.widths machine.old).input channel) samples.number)) channel no_source (map I.source inputs.old.items) (map I.source inputs.new.items) }
     ensures unfed { IsErrOf result PortsFault.Read → Writes [] (map O.sink outputs.old.items) (map O.sink outputs.new.items) (P.sink replies.old) (P.sink replies.new) }
@@ -166,11 +166,11 @@ pub(crate) fn serve_line<T: LineMachine, I: PortIn, O: PortOut, P: PortOut>(
     ensures read { IsErrOf result PortsFault.Read → Any HasFailedIn (map I.source inputs.new.items) }
     ensures write { IsErrOf result PortsFault.Write → Any HasFailedOut (map O.sink outputs.new.items) ⊎ HasFailedOut (P.sink replies.new) }
     ensures waits { AllWait (map O.sink outputs.old.items) (map O.sink outputs.new.items) (P.sink replies.old) (P.sink replies.new) }
-    ensures served { IfOk result (λ refused. (octets : List ℕ) (s : T.State) → IsLine LINE_OCTETS line.now long octets → T.keeps machine.old s → All IsHonest (map I.source inputs.old.items)
-        → IsServed (T.keeps machine.new) (LineAnswer (T.machine (T.widths machine.old)) (run_of s (map I.source inputs.old.items)) octets) refused
+    ensures served { IfOk result (λ refused. (octets : List ℕ) (s : T.State) (honest : ℕ → Bool) → IsLine LINE_OCTETS line.now long octets → T.keeps machine.old s → AreHonest honest (map I.source inputs.old.items)
+        → IsServed (T.keeps machine.new) honest (LineAnswer (T.machine (T.widths machine.old)) honest (run_of s (map I.source inputs.old.items)) octets) refused
         (map I.source inputs.new.items) (map O.sink outputs.old.items) (map O.sink outputs.new.items) (P.sink replies.old) (P.sink replies.new)) }
-    ensures cut { IsErrOf result PortsFault.Write → (octets : List ℕ) (s : T.State) → IsLine LINE_OCTETS line.now long octets → T.keeps machine.old s → All IsHonest (map I.source inputs.old.items)
-        → IsCut (LineAnswer (T.machine (T.widths machine.old)) (run_of s (map I.source inputs.old.items)) octets)
+    ensures cut { IsErrOf result PortsFault.Write → (octets : List ℕ) (s : T.State) (honest : ℕ → Bool) → IsLine LINE_OCTETS line.now long octets → T.keeps machine.old s → AreHonest honest (map I.source inputs.old.items)
+        → IsCut (LineAnswer (T.machine (T.widths machine.old)) honest (run_of s (map I.source inputs.old.items)) octets)
         (map I.source inputs.new.items) (map O.sink outputs.old.items) (map O.sink outputs.new.items) (P.sink replies.old) (P.sink replies.new) }
     ensures unfed { IsErrOf result PortsFault.Read → (octets : List ℕ) (s : T.State) → IsLine LINE_OCTETS line.now long octets → T.keeps machine.old s
         → IsUnfed (T.machine (T.widths machine.old)) s octets (map I.source inputs.old.items) (map I.source inputs.new.items)

@@ -7,7 +7,7 @@ use Rattle.std.proofs.lemmas.Map.Steps.{length-le_from_distinct_below}
 use Rattle.mem_rec.specs.declared.TheConstants.{TABLE_RECORDS, INSTANCES}
 use Rattle.space_raw.specs.Span.{Apart, Span}
 use Rattle.relocate.specs.Places.{Range, end_of, meets}
-use Rattle.space_heap.specs.Pictures.{AreBlocks, range_of}
+use Rattle.space_heap.specs.Maps.{AreBlocks, range_of}
 use Rattle.relocate.proofs.RangeTests.{both_false, clash, meet_if, meet_sym, true_or_false}
 use Rattle.host_map.specs.declared.TheConstants.{MAP_BLOCKS}
 use Rattle.host_map.specs.declared.placed.Owner.{Owner}

@@ -5,7 +5,7 @@ use Rattle.std.specs.List.{list_any}
 use Rattle.std.proofs.Math.Nat.{mul-mod_left}
 use Rattle.std.proofs.lemmas.Bool.{cases_lt}
 use Rattle.relocate.specs.Places.{Range, end_of, is_free, least_place, meets}
-use Rattle.space_heap.specs.Pictures.{AreBlocks}
+use Rattle.space_heap.specs.Maps.{AreBlocks}
 use Rattle.relocate.proofs.RangeTests.{both_false, clash, either, meet_if, meet_sym, true_or_false}
 use Rattle.relocate.specs.Spots.{AreSpotsFrom, IsSpot}
 use Rattle.relocate.proofs.PackingLemmas.{from_lower}

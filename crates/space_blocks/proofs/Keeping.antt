@@ -5,8 +5,8 @@ use Rattle.std.proofs.Math.Seq.{drop-cons}
 use Rattle.space_raw.specs.Span.{Extent, Span}
 use Rattle.std.specs.List.{list_any}
 use Rattle.relocate.specs.Places.{Range, meets, IsAlignment, IsSpaceSize}
-use Rattle.space_heap.specs.Pictures.{AreBlocks, HeapState, Holds, IsBlock, range_of}
-use Rattle.space_heap.proofs.PictureLemmas.{block_out}
+use Rattle.space_heap.specs.Maps.{AreBlocks, HeapState, Holds, IsBlock, range_of}
+use Rattle.space_heap.proofs.MapLemmas.{block_out}
 use Rattle.relocate.specs.Spots.{AreSpots}
 use Rattle.host_map.specs.declared.placed.Owner.{Owner}
 use Rattle.host_map.specs.declared.placed.Placed.{Placed}

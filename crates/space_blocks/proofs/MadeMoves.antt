@@ -4,7 +4,7 @@ use Rattle.std.specs.Option.{option_map}
 use Rattle.std.proofs.lemmas.List.Elements.{Contains-get_or}
 use Rattle.space_raw.specs.Span.{Span}
 use Rattle.relocate.specs.Places.{Range, lower_place, IsAlignment}
-use Rattle.space_heap.specs.Pictures.{HeapState, Holds, IsBlock, range_of}
+use Rattle.space_heap.specs.Maps.{HeapState, Holds, IsBlock, range_of}
 use Rattle.relocate.specs.declared.packing.Move.{Move}
 use Rattle.host_map.specs.declared.placed.Owner.{Owner}
 use Rattle.host_map.specs.declared.placed.Owner.TheVariants.{Record}

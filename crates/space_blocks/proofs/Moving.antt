@@ -7,7 +7,7 @@ use Rattle.std.proofs.lemmas.Bool.{eqb-true}
 use Rattle.std.proofs.lemmas.List.{length-map, map-append}
 use Rattle.space_raw.specs.Span.{Extent, Span}
 use Rattle.relocate.specs.Places.{lower_place, IsAlignment, IsSpaceSize}
-use Rattle.space_heap.specs.Pictures.{HeapState, Holds, range_of}
+use Rattle.space_heap.specs.Maps.{HeapState, Holds, range_of}
 use Rattle.relocate.proofs.RangeTests.{when_not}
 use Rattle.relocate.specs.declared.packing.Move.{Move}
 use Rattle.relocate.specs.Spots.{AreSpots, ranges_of}

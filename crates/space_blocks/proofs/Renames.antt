@@ -2,7 +2,7 @@
 use Rattle.std.proofs.Common.{◌≡◌, ◌≢◌, ◌⊎◌, inl, inr, ℕ, zero, suc, ◌<◌, Bool, true, false, if◌then◌else◌, List, [], ◌∷◌, length, get_or, Contains, refl, sym, ap, subst, ◌∙◌, arith}
 use Rattle.relocate.proofs.RangeTests.{true_or_false, when_not}
 use Rattle.relocate.specs.Places.{Range}
-use Rattle.space_heap.specs.Pictures.{HeapState, Holds}
+use Rattle.space_heap.specs.Maps.{HeapState, Holds}
 use Rattle.relocate.specs.declared.packing.Spot.{Spot}
 use Rattle.relocate.specs.Spots.{AreSpots}
 use Rattle.host_map.specs.declared.placed.Owner.{Owner}

@@ -1,7 +1,7 @@
 -- A space and its blocks.
 use Rattle.std.specs.Prelude.{ℕ, ◌<◌, ◌^◌, List}
 use Rattle.space_raw.specs.Span.{Extent}
-use Rattle.space_heap.specs.Pictures.{AreBlocks, HeapState, Holds}
+use Rattle.space_heap.specs.Maps.{AreBlocks, HeapState, Holds}
 use Rattle.relocate.specs.Places.{IsSpaceSize}
 use Rattle.relocate.specs.Spots.{AreSpots}
 use Rattle.host_map.specs.declared.placed.Placed.{Placed}

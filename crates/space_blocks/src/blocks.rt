@@ -2,7 +2,7 @@
 ghost use Rattle.std.specs.Prelude.{◌≡◌, ◌≢◌, ℕ, ◌+◌, ◌-◌, ◌<◌, ◌≤◌, ◌^◌, [], ◌∷◌, length, min, Some, Contains, slice_index_or, IfOk, IfErr, IfSome, IfNone, IsErrOf};
 ghost use Rattle.std.specs.Option.{option_map};
 ghost use Rattle.relocate.specs.Places.{least_place, placed_size, IsAlignment, IsSpaceSize};
-ghost use Rattle.space_heap.specs.Pictures.{range_of};
+ghost use Rattle.space_heap.specs.Maps.{range_of};
 ghost use Rattle.relocate.specs.declared.limits.TheConstants.{GREATEST_NEED};
 ghost use Rattle.host_map.specs.declared.TheConstants.{MAP_BLOCKS, SPACE_BLOCKS};
 ghost use Rattle.host_map.specs.declared.placed.Owner.{Owner};

@@ -2,7 +2,7 @@
 ghost use Rattle.std.specs.Prelude.{◌≡◌, ◌≢◌, ◌+◌, ◌≤◌, ◌<◌, ℕ, [], List, length};
 ghost use Rattle.mem_rec.specs.declared.TheConstants.{TABLE_RECORDS, INSTANCES};
 ghost use Rattle.space_raw.specs.Span.{Apart, Span};
-ghost use Rattle.space_heap.specs.Pictures.{AreBlocks};
+ghost use Rattle.space_heap.specs.Maps.{AreBlocks};
 ghost use Rattle.host_map.specs.declared.TheConstants.{MAP_BLOCKS};
 ghost use Rattle.host_map.specs.declared.placed.Owner.{Owner};
 ghost use Rattle.host_map.specs.declared.placed.Owner.TheVariants.{Record};

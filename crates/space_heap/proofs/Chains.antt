@@ -3,7 +3,7 @@ use Rattle.std.proofs.Common.{◌≡◌, ℕ, ◌+◌, ◌-◌, ◌%◌, ◌<◌
 use Rattle.std.proofs.lemmas.Bool.{cases_lt, lt-ltb, ltb-true}
 use Rattle.std.specs.Prelude.{nat_lt}
 use Rattle.relocate.specs.Places.{Range, covers, end_of, is_covered}
-use Rattle.space_heap.specs.Pictures.{IsBlock}
+use Rattle.space_heap.specs.Maps.{IsBlock}
 use Rattle.space_heap.specs.Holes.{Chain, between}
 use Rattle.relocate.proofs.RangeTests.{either, one_true, when_not, is_in}
 

@@ -5,11 +5,11 @@ use Rattle.std.proofs.lemmas.Bool.{cases_lt}
 use Rattle.std.proofs.lemmas.List.Sums.{sum_by-cons}
 use Rattle.std.specs.List.{range_with_len}
 use Rattle.relocate.specs.Places.{Range, end_of, covers, is_covered}
-use Rattle.space_heap.specs.Pictures.{AreBlocks, free_beside}
+use Rattle.space_heap.specs.Maps.{AreBlocks, free_beside}
 use Rattle.space_heap.specs.Holes.{in_rest, AreParts}
 use Rattle.relocate.proofs.RangeTests.{either, true_or_false, clash, is_in, in_range}
 use Rattle.space_heap.proofs.Words.{marks}
-use Rattle.space_heap.proofs.PictureLemmas.{uncovered}
+use Rattle.space_heap.proofs.MapLemmas.{uncovered}
 
 -- how many of n numbers pass
 Count : (ℕ → Bool) → ℕ → ℕ → ℕ

@@ -7,7 +7,7 @@ use Rattle.std.specs.Prelude.{ℤ}
 use Rattle.space_heap.specs.declared.find.Fit.{Fit}
 use Rattle.space_heap.specs.declared.find.Found.{Found}
 use Rattle.relocate.specs.Places.{Range, covers, end_of, is_covered}
-use Rattle.space_heap.specs.Pictures.{IsBlock}
+use Rattle.space_heap.specs.Maps.{IsBlock}
 use Rattle.space_heap.specs.Holes.{AreHoles, Chain, HasHoles, IsBack, IsCarved, IsFound, IsFreeFrom, IsFromOn, IsFront, IsLink, between, first_place, hole_end, hole_range, in_rest, last_place}
 use Rattle.relocate.proofs.RangeTests.{either, clash, when_not, left_true, right_true, is_in, in_range}
 use Rattle.space_heap.proofs.Chains.{around, between_chain, chain_append, chain_parts, covered_append, none_between, or_false_right, to_higher}

@@ -6,5 +6,5 @@ pub mod Ends
 pub mod Mends
 pub mod Returns
 pub mod Counts
-pub mod PictureLemmas
+pub mod MapLemmas
 pub mod PlaceLemmas

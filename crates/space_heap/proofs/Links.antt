@@ -3,7 +3,7 @@ use Rattle.std.proofs.Common.{◌≡◌, ℕ, ◌+◌, ◌-◌, ◌<◌, ◌≤�
 use Rattle.std.specs.Prelude.{ℤ}
 use Rattle.space_heap.specs.declared.hole.Hole.{Hole}
 use Rattle.relocate.specs.Places.{Range, end_of}
-use Rattle.space_heap.specs.Pictures.{IsBlock}
+use Rattle.space_heap.specs.Maps.{IsBlock}
 use Rattle.space_heap.specs.Holes.{free_word, in_rest, link, IsLink, IsHole, IsWritten, IsSameBut, Rewrites, first_place, last_place, AreWritten, Chain, AreHoles, IsRelinked}
 use Rattle.relocate.proofs.RangeTests.{either}
 use Rattle.space_heap.proofs.Chains.{chain_low, chain_append, around}

@@ -7,7 +7,7 @@ use Rattle.space_raw.proofs.Slots.{without_long}
 use Rattle.space_heap.specs.declared.hole.Hole.{Hole}
 use Rattle.space_heap.specs.declared.find.Fit.{Fit}
 use Rattle.relocate.specs.Places.{Range, covers, end_of, is_covered, IsSpaceSize}
-use Rattle.space_heap.specs.Pictures.{IsBlock}
+use Rattle.space_heap.specs.Maps.{IsBlock}
 use Rattle.space_heap.specs.Holes.{AreParts, AreWritten, Chain, IsCarved, IsFit, IsLink, IsRelinked, Rewrites, between, first_place, hole_end, hole_range, in_rest, last_place, free_word}
 use Rattle.relocate.proofs.RangeTests.{either, true_or_false, clash, when_not, one_true, left_true, right_true, or_false, false_left, same_test, is_in, in_range}
 use Rattle.space_heap.proofs.Words.{carved_outside, carved_within, is_run}

@@ -6,10 +6,10 @@ use Rattle.std.specs.Prelude.{find, fold, nat_le, if◌then◌else◌}
 use Rattle.std.specs.List.{list_any, range_with_len}
 use Rattle.std.specs.Int.{next_multiple_of}
 use Rattle.relocate.specs.Places.{Range, end_of, covers, is_covered, meets, is_free, least_place, free_from, lower_place}
-use Rattle.space_heap.specs.Pictures.{AreBlocks, IsBlock}
+use Rattle.space_heap.specs.Maps.{AreBlocks, IsBlock}
 use Rattle.space_heap.specs.Holes.{IsLeastPlace as IsLeastInHoles, HasNoPlace as HasNoneInHoles, IsFreeFrom}
 use Rattle.relocate.proofs.RangeTests.{either, clash, when_not, both_true, and_true, both_false, one_true, not_false, not_true, is_in, in_range, covered_between}
-use Rattle.space_heap.proofs.PictureLemmas.{Agree, uncovered, no_meeting, block_out}
+use Rattle.space_heap.proofs.MapLemmas.{Agree, uncovered, no_meeting, block_out}
 
 module _ (test : ℕ → Bool) (align : ℕ) where
   -- the first of n multiples that passes

@@ -7,7 +7,7 @@ use Rattle.space_raw.proofs.Slots.{with_long}
 use Rattle.space_heap.specs.declared.holes.Front.{Front}
 use Rattle.space_heap.specs.declared.holes.Back.{Back}
 use Rattle.relocate.specs.Places.{Range, covers, end_of, is_covered, IsSpaceSize}
-use Rattle.space_heap.specs.Pictures.{IsBlock}
+use Rattle.space_heap.specs.Maps.{IsBlock}
 use Rattle.space_heap.specs.Holes.{AreHoles, AreParts, AreWritten, Chain, HasHoles, IsBack, IsFromOn, IsFront, IsLink, IsRelinked, IsTaken, LeadsTo, Rewrites, between, first_place, in_rest, last_place, free_word}
 use Rattle.relocate.proofs.RangeTests.{either, true_or_false, clash, one_true, left_true, right_true, false_left, same_test, is_in, in_range}
 use Rattle.space_heap.proofs.Words.{in_length, written_outside, written_there}

@@ -10,7 +10,7 @@ use Rattle.space_heap.specs.declared.find.Fit.{Fit}
 use Rattle.space_heap.specs.declared.holes.Front.{Front}
 use Rattle.space_heap.specs.declared.holes.Back.{Back}
 use Rattle.relocate.specs.Places.{Range, covers, end_of, is_covered, IsSpaceSize}
-use Rattle.space_heap.specs.Pictures.{IsBlock}
+use Rattle.space_heap.specs.Maps.{IsBlock}
 
 -- the word at place k, if no piece has it
 abbrev pub free_word : List (Option ℤ) → ℕ → Option ℤ
@@ -93,7 +93,7 @@ HasHoles words first = (holes : List Range) × AreHoles words first holes
 
 -- what a heap keeps of its fields
 pub record IsHeap (region : Extent) (rest : Scattered) (size : ℕ) (first : Option ℕ) (free : ℕ) : Type 0 where
-  pub home : rest.region ≡ region
+  pub owner : rest.region ≡ region
   pub same_size : size ≡ region.size
   pub long : length rest.slots ≡ region.size
   pub holes : HasHoles rest.slots first

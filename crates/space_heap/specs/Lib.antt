@@ -1,2 +1,2 @@
-pub mod Pictures
+pub mod Maps
 pub mod Holes

@@ -3,7 +3,7 @@ ghost use Rattle.std.specs.Prelude.{◌≡◌, ◌==◌, ◌+◌, ◌/◌, ◌<�
 ghost use Rattle.std.specs.Option.{option_map};
 ghost use Rattle.space_raw.specs.Span.{IsWhole};
 ghost use Rattle.relocate.specs.Places.{Range, least_place, lower_place, placed_size, IsAlignment, IsSpaceSize};
-ghost use Rattle.space_heap.specs.Pictures.{Holds, IsBlock, range_of};
+ghost use Rattle.space_heap.specs.Maps.{Holds, IsBlock, range_of};
 
 #[cfg(test)]
 mod tests;
@@ -41,7 +41,7 @@ pub struct Heap<A: Allocator = Global> {
 
 impl<A: Allocator> Model for Heap<A> {
     ghost use Rattle.std.specs.Prelude.{is_some, map};
-    ghost use Rattle.space_heap.specs.Pictures.{HeapState};
+    ghost use Rattle.space_heap.specs.Maps.{HeapState};
     ghost use Rattle.space_heap.specs.Holes.{IsHeap};
 
     ghost Value = { HeapState };

@@ -3,7 +3,7 @@ ghost use Rattle.std.specs.Prelude.{◌≡◌, ◌+◌, ◌-◌, ◌%◌, ◌<�
 ghost use Rattle.std.specs.Int.{next_multiple_of};
 ghost use Rattle.space_raw.specs.Slots.{IsRun};
 ghost use Rattle.relocate.specs.Places.{Range, IsAlignment, IsSpaceSize};
-ghost use Rattle.space_heap.specs.Pictures.{IsBlock, range_of};
+ghost use Rattle.space_heap.specs.Maps.{IsBlock, range_of};
 ghost use Rattle.space_heap.specs.Holes.{AreParts, AreWritten, HasHoles, IsBack, IsCarved, IsFit, IsFreeFrom, IsFromOn, IsFront, IsLink, IsRelinked, IsTaken, LeadsTo, Rewrites, between, first_place, hole_end, in_rest, last_place};
 
 use crate::find::{Fit, Found, last_before};

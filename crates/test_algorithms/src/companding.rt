@@ -5,8 +5,8 @@ ghost use Rattle.ialg.specs.Loans.{SameLoans};
 
 use alg_g711::{G711, Law, decode, encode};
 use ialg::{
-    BLOCK_SAMPLES, Block, Ctl, Ialg, Lent, PARAMETER_WORDS, Params, Status, Step, Words, copied,
-    lend,
+    BLOCK_SAMPLES, Block, Ctl, Ialg, Lending, Lent, PARAMETER_WORDS, Params, Status, Step, Words,
+    copied, lend,
 };
 use mem_rec::{Attr, MemRec, MemTab, Space};
 use std::process::Abort;
@@ -82,9 +82,11 @@ fn perform(call: Call<'_>, table: &MemTab, object: &mut [i16], samples: &mut [i1
     };
     let writable = matches!(call, Call::Start(_));
     lend(
-        &call,
-        table,
-        writable,
+        &Lending {
+            step: &call,
+            table,
+            writable,
+        },
         object,
         samples,
         &mut [],

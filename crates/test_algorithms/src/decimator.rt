@@ -5,8 +5,8 @@ ghost use Rattle.ialg.specs.Loans.{SameLoans};
 
 use alg_fir::{Decim, Fir, decim_is_lawful};
 use ialg::{
-    BLOCK_SAMPLES, Block, Ctl, Filter, Ialg, Lent, PARAMETER_WORDS, Params, Status, Step, Words,
-    copied, lend,
+    BLOCK_SAMPLES, Block, Ctl, Filter, Ialg, Lending, Lent, PARAMETER_WORDS, Params, Status, Step,
+    Words, copied, lend,
 };
 use mem_rec::{Attr, MemRec, MemTab, Space};
 use std::process::Abort;
@@ -138,9 +138,11 @@ impl<const KEPT: usize, const CONSTANTS: usize, const RING: usize> Instance<KEPT
         self.ring.fill(POISON);
         let writable = matches!(call, Call::Start(_));
         lend(
-            &call,
-            &self.table,
-            writable,
+            &Lending {
+                step: &call,
+                table: &self.table,
+                writable,
+            },
             &mut self.object,
             &mut self.kept,
             &mut self.constants,

@@ -1,13 +1,16 @@
 //! Runs over tapes and over devices that fail, and a caller that is proved from the contracts alone.
-ghost use Rattle.std.specs.Prelude.{◌≡◌, ◌<◌, ◌∷◌, [], None, Some, IfOk};
+ghost use Rattle.std.specs.Prelude.{◌≡◌, ◌<◌, ◌≤◌, ◌∷◌, [], None, Some, All, IfOk, false, length, map};
 ghost use Rattle.line_spec.specs.Served.{held_by, order_of, refusals};
 ghost use Rattle.line_spec.specs.Widths.{widths_of};
 ghost use Rattle.console_spec.specs.Answers.{served};
+ghost use Rattle.host_spec.specs.Answers.{AreLawful};
+ghost use Rattle.script_server.specs.Runs.{AreReady, IsHonest, known_of};
+ghost use Rattle.dsp_console.specs.Lawful.{ServesLawfully};
 ghost use Rattle.voice_set.specs.Voices.{voice_meaning, voice_named};
 ghost use Rattle.test_console.specs.declared.engine.TheConstants.{FULL};
 
 use arrayvec::ArrayVec;
-use dsp_console::{Config, Fault, Sizes, Summary, outcome, run, run_memory};
+use dsp_console::{CHANNELS, Config, Fault, Sizes, Summary, outcome, run, run_memory};
 use octet_ports::{PortIn, PortOut, Reading, TapeIn, TapeOut, Writing};
 use std::alloc::{AllocError, Global};
 use std::process::Abort;
@@ -791,6 +794,28 @@ struct Served {
     refused: u64,
 }
 
+// A run, of which the clause on lawful kinds and honest ports is all that its caller needs.
+fn run_lawfully<S: PortIn, I: PortIn, O: PortOut, P: PortOut>(
+    alloc: Global,
+    config: Config,
+    script: &mut S,
+    inputs: &mut Vec<I>,
+    outputs: &mut Vec<O>,
+    replies: &mut P,
+) -> Result<Summary, Fault>
+    requires script { (S.source script.old).failed ≡ false }
+    requires some { 1 ≤ length inputs.old.items }
+    requires few { length inputs.old.items ≤ CHANNELS }
+    requires pairs { length outputs.old.items ≡ length inputs.old.items }
+    requires ready { AreReady (map I.source inputs.old.items) (map O.sink outputs.old.items) (P.sink replies.old) }
+    ensures { AreLawful voice_meaning config.poison → IsHonest (S.source script.old) → All IsHonest (map I.source inputs.old.items)
+        → IfOk result (λ summary. ServesLawfully voice_meaning voice_named (widths_of config.in8 config.out8) config.sizes summary.refused
+        (known_of S.source I.source O.sink P.sink script.old inputs.old.items outputs.old.items replies.old)
+        (known_of S.source I.source O.sink P.sink script.new inputs.new.items outputs.new.items replies.new)) }
+{
+    run::<Voice, S, I, O, P>(alloc, config, script, inputs, outputs, replies)
+}
+
 // Devices over memory: from the contracts alone the vectors hold what is served for the octets.
 fn serve_octets(alloc: Global, script: &[u8], input: &[u8]) -> Result<Served, Fault>
     ensures output { IfOk result (λ run. run.output.items ≡ held_by (Some 0) (order_of (served voice_meaning voice_named (widths_of 0 0) FULL script.now (input.now ∷ [])).written)) }
@@ -812,7 +837,7 @@ fn serve_octets(alloc: Global, script: &[u8], input: &[u8]) -> Result<Served, Fa
         in8: 0,
         out8: 0,
     };
-    let summary = run::<Voice, _, _, _, _>(
+    let summary = run_lawfully(
         alloc,
         config,
         &mut lines,

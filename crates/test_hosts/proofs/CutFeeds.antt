@@ -1,26 +1,25 @@
 -- Two blocks given to a channel are as good as one.
 use Rattle.std.proofs.Common.{◌≡◌, ℕ, ℤ, false, List, ◌++◌, sym}
-use Rattle.ialg.specs.Meaning.{Meaning}
-use Rattle.lifecycle.specs.States.{Relation}
 use Rattle.channel_spec.specs.Channels.{Channels, members_at, has_repeat}
 use Rattle.channel_spec.specs.Calls.{Feeds}
 use Rattle.channel_spec.specs.Calls.Call.{Feed}
 use Rattle.channel_spec.specs.Cuts.{AreAlike, MembersAreLawful}
 use Rattle.voice_channel.specs.Channels.{ChannelsState, Keeps, Serves}
+use Rattle.ialg.specs.Laws.{Laws}
 
-module _ {M : Type 0} (meaning : Meaning M) (idle_keeps active_keeps : Relation M) where
+module _ {M : Type 0} (laws : Laws M) where
   -- the law of cuts, for two blocks
   abbrev pub CutsDontShow : Type 0
   CutsDontShow =
       (before between after whole : Channels M) (c : ℕ) (xs ys first second out : List ℤ)
-      → MembersAreLawful meaning before c → has_repeat (members_at before.chained c) ≡ false
-      → Feeds meaning before c xs first between → Feeds meaning between c ys second after → Feeds meaning before c (xs ++ ys) out whole
+      → MembersAreLawful laws.meaning before c → has_repeat (members_at before.chained c) ≡ false
+      → Feeds laws.meaning before c xs first between → Feeds laws.meaning between c ys second after → Feeds laws.meaning before c (xs ++ ys) out whole
       → (out ≡ first ++ second) × AreAlike after whole
 
   pub as_one : CutsDontShow → (c : ℕ) (xs ys early late : List ℤ) (old between new : ChannelsState M)
-      → Serves meaning idle_keeps active_keeps (Feed c xs early) old between → Serves meaning idle_keeps active_keeps (Feed c ys late) between new
-      → (before after : Channels M) (out : List ℤ) → Keeps meaning idle_keeps active_keeps old before
-      → MembersAreLawful meaning before c → Feeds meaning before c (xs ++ ys) out after → early ++ late ≡ out
+      → Serves laws (Feed c xs early) old between → Serves laws (Feed c ys late) between new
+      → (before after : Channels M) (out : List ℤ) → Keeps laws old before
+      → MembersAreLawful laws.meaning before c → Feeds laws.meaning before c (xs ++ ys) out after → early ++ late ≡ out
   as_one law c xs ys early late old between new first second before after out keeps lawful whole =
       let one = first before keeps in
       let two = second one.0 one.2 in

@@ -26,9 +26,9 @@ pub fn feed_in_two<M: Ialg>(
     requires second_within { length second.now ≤ BLOCK_SAMPLES }
     requires early_empty { early.old.items ≡ [] }
     requires late_empty { late.old.items ≡ [] }
-    ensures both { ServesBoth M.meaning M.idle_keeps M.active_keeps c first.now early.new.items second.now late.new.items channels.old channels.new }
-    ensures joined { (before after : State M) (out : List ℤ) → Keeps M.meaning M.idle_keeps M.active_keeps channels.old before
-        → MembersAreLawful M.meaning before c → Feeds M.meaning before c (first.now ++ second.now) out after
+    ensures both { ServesBoth M.law c first.now early.new.items second.now late.new.items channels.old channels.new }
+    ensures joined { (before after : State M) (out : List ℤ) → Keeps M.law channels.old before
+        → MembersAreLawful M.law.meaning before c → Feeds M.law.meaning before c (first.now ++ second.now) out after
         → early.new.items ++ late.new.items ≡ out }
 {
     cuts_do_not_show::<M>();

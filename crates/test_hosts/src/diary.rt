@@ -36,11 +36,11 @@ const DIARY_WORDS: u32 = PARAMETER_WORDS as u32;
 pub struct Diary;
 
 impl Ialg for Diary {
-    ghost meaning = { diary_meaning };
-
-    ghost idle_keeps = { λ _ p rs wss h. ⊥ };
-
-    ghost active_keeps = { λ _ p rs wss h. ⊥ };
+    ghost law = { record {
+      meaning = diary_meaning;
+      idle_keeps = λ _ p rs wss h. ⊥;
+      active_keeps = λ _ p rs wss h. ⊥;
+    } };
 
     fn alg_num_alloc(&self) -> usize {
         TABLE_RECORDS

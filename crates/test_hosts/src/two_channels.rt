@@ -37,11 +37,11 @@ pub fn feed_both<M: Ialg>(
     requires second { 1 ≤ length second.now }
     requires joined { first.now ++ second.now ≡ whole.now }
     requires within { length whole.now ≤ BLOCK_SAMPLES }
-    ensures both { ServesBoth M.meaning M.idle_keeps M.active_keeps c first.now result.early.items second.now result.late.items one.old one.new }
-    ensures other { Serves M.meaning M.idle_keeps M.active_keeps (Feed d whole.now result.whole.items) other.old other.new }
-    ensures agree { (before other_before : State M) → Keeps M.meaning M.idle_keeps M.active_keeps one.old before
-        → Keeps M.meaning M.idle_keeps M.active_keeps other.old other_before
-        → MembersAreLawful M.meaning before c → MembersAreLawful M.meaning other_before d → MembersAgree before c other_before d
+    ensures both { ServesBoth M.law c first.now result.early.items second.now result.late.items one.old one.new }
+    ensures other { Serves M.law (Feed d whole.now result.whole.items) other.old other.new }
+    ensures agree { (before other_before : State M) → Keeps M.law one.old before
+        → Keeps M.law other.old other_before
+        → MembersAreLawful M.law.meaning before c → MembersAreLawful M.law.meaning other_before d → MembersAgree before c other_before d
         → result.early.items ++ result.late.items ≡ result.whole.items }
 {
     channels_agree::<M>();

@@ -33,8 +33,8 @@ asleep p rs wss h keeps =
       primed = at 2 ∙ keeps.primed;
     }
 
-pub awake : (p : List ℤ) (rs : List MemRec) (wss : List (List ℤ)) (h : History) → KeepsWords p rs (lasting rs wss) h → KeepsWords p rs wss h
-awake p rs wss h keeps =
+pub active : (p : List ℤ) (rs : List MemRec) (wss : List (List ℤ)) (h : History) → KeepsWords p rs (lasting rs wss) h → KeepsWords p rs wss h
+active p rs wss h keeps =
     let at = lasting_at rs primed_records keeps.object.on_table wss in
     record {
       two = keeps.two;
@@ -98,9 +98,9 @@ pub overwritten : (p new : List ℤ) → length new ≡ length p → take (lengt
 overwritten p new size first = sym (take-length new) ∙ ap (λ n. take n new) size ∙ first
 
 -- the words that last go by what the records are, and not by where they stand
-pub awake_by : (p : List ℤ) (before rs : List MemRec) (wss : List (List ℤ)) (h : History) → unplaced before ≡ unplaced rs
+pub active_by : (p : List ℤ) (before rs : List MemRec) (wss : List (List ℤ)) (h : History) → unplaced before ≡ unplaced rs
     → KeepsWords p before (lasting rs wss) h → KeepsWords p before wss h
-awake_by p before rs wss h same keeps =
+active_by p before rs wss h same keeps =
     let on_table = keeps.object.on_table in
     let records : unplaced rs ≡ primed_records = sym same ∙ on_table in
     let at = lasting_at rs primed_records records wss in

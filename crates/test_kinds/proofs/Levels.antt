@@ -22,9 +22,9 @@ asleep p rs wss h keeps = record {
 }
 
 -- also by a table with other bases
-pub awake_by : (p : List ℤ) (before rs : List MemRec) (wss : List (List ℤ)) (h : History) → unplaced before ≡ unplaced rs
+pub active_by : (p : List ℤ) (before rs : List MemRec) (wss : List (List ℤ)) (h : History) → unplaced before ≡ unplaced rs
     → HoldsLevels p before (lasting rs wss) h → HoldsLevels p before wss h
-awake_by p before rs wss h same keeps =
+active_by p before rs wss h same keeps =
     let on_table = keeps.object.on_table in
     let records : unplaced rs ≡ slicer_records = sym same ∙ on_table in
     let attr = λ (k : ℕ). attr_of rs slicer_records records k ∙ sym (attr_of before slicer_records on_table k) in

@@ -57,6 +57,6 @@ pub record KeepsWords (p : List ℤ) (rs : List MemRec) (wss : List (List ℤ)) 
   pub primed : words_of wss PRIMED ≡ take 1 p
 
 -- the scratch word of an active instance is the poison word too
-pub record KeepsAwake (p : List ℤ) (rs : List MemRec) (wss : List (List ℤ)) (h : History) : Type 0 where
+pub record KeepsActive (p : List ℤ) (rs : List MemRec) (wss : List (List ℤ)) (h : History) : Type 0 where
   pub idle : KeepsWords p rs wss h
   pub scratch : words_of wss SCRATCH ≡ take 1 p

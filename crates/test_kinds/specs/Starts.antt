@@ -5,8 +5,8 @@ use Rattle.mem_rec.specs.Records.{with_base}
 use Rattle.ialg.specs.Records.{lasting}
 use Rattle.test_kinds.specs.declared.TheConstants.{ONCE, ONCE_BASE}
 use Rattle.test_kinds.specs.declared.starts.Held.{Held}
-use Rattle.test_kinds.specs.declared.starts.Awake.{Awake}
-use Rattle.test_kinds.specs.Primed.{primed_records, KeepsWords, KeepsAwake}
+use Rattle.test_kinds.specs.declared.starts.Active.{Active}
+use Rattle.test_kinds.specs.Primed.{primed_records, KeepsWords, KeepsActive}
 
 -- the two records of `external` begin apart
 abbrev pub placed_records : List MemRec
@@ -21,9 +21,9 @@ abbrev pub HasStarted : ℤ → ℤ → Held → Type 0
 HasStarted poison once held = KeepsWords (poison ∷ once ∷ []) placed_records (lasting placed_records (held_words held)) []
 
 -- the words of each record while it is active
-abbrev pub awake_words : Awake → List (List ℤ)
-awake_words awake = awake.held.object ∷ awake.held.once ∷ awake.held.primed ∷ awake.scratch ∷ []
+abbrev pub active_words : Active → List (List ℤ)
+active_words active = active.held.object ∷ active.held.once ∷ active.held.primed ∷ active.scratch ∷ []
 
 -- the words keep the empty history of an active instance
-abbrev pub IsAwake : ℤ → ℤ → Awake → Type 0
-IsAwake poison once awake = KeepsAwake (poison ∷ once ∷ []) placed_records (awake_words awake) []
+abbrev pub IsActive : ℤ → ℤ → Active → Type 0
+IsActive poison once active = KeepsActive (poison ∷ once ∷ []) placed_records (active_words active) []

@@ -3,10 +3,10 @@
 ghost use Rattle.std.specs.Prelude.{⊤};
 
 use crate::{
-    Awake, Held, ONCE_BASE, PRIMED_RECORDS, Primed, give_sample, start_in_poison, start_with_fill,
-    wake_in_poison,
+    Active, Held, ONCE_BASE, PRIMED_RECORDS, Primed, activate_in_poison, give_sample,
+    start_in_poison, start_with_fill,
 };
-use ialg::{Block, Ctl, Ialg, Lent, PARAMETER_WORDS, Status, Step, Words, copied, lend};
+use ialg::{Block, Ctl, Ialg, Lending, Lent, PARAMETER_WORDS, Status, Step, Words, copied, lend};
 use mem_rec::{Attr, MemTab, Space};
 use std::process::Abort;
 
@@ -66,19 +66,19 @@ impl Step<Given> for MoveAndAsk {
 fn starts_leave_the_words(rt: HostRuntime) {
     assert_eq!(rt; start_in_poison(POISON, 7), Some(STARTED));
     assert_eq!(rt; start_with_fill(POISON, 7), Some(STARTED));
-    let awake = Awake {
+    let active = Active {
         held: STARTED,
         scratch: [POISON],
     };
-    assert_eq!(rt; wake_in_poison(POISON, 7), Some(awake));
+    assert_eq!(rt; activate_in_poison(POISON, 7), Some(active));
 }
 
 #[test]
 fn moved_and_asked(rt: HostRuntime) {
-    let Awake {
+    let Active {
         mut held,
         mut scratch,
-    } = wake_in_poison(POISON, 7).expect(&rt, "a start");
+    } = activate_in_poison(POISON, 7).expect(&rt, "a start");
     let there = table(&rt, 64, 32);
     let mut given = Given {
         sampled: Status::Words(words(&rt, &[])),
@@ -86,9 +86,11 @@ fn moved_and_asked(rt: HostRuntime) {
         freed: None,
     };
     lend(
-        &MoveAndAsk,
-        &there,
-        false,
+        &Lending {
+            step: &MoveAndAsk,
+            table: &there,
+            writable: false,
+        },
         &mut held.object,
         &mut held.once,
         &mut held.primed,

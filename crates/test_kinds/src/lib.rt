@@ -2,7 +2,7 @@
 //! Kinds for tests: instances that meet the premises of laws which no hosted kind needs.
 //!
 //! [`Primed`] is lawful in a host of one poison word alone. [`start_in_poison`] and [`start_with_fill`] start it, and
-//! [`wake_in_poison`] activates it, by the laws of IALG, so that what these laws ask of new records and of scratch words is
+//! [`activate_in_poison`] activates it, by the laws of IALG, so that what these laws ask of new records and of scratch words is
 //! met by words that there are. [`give_sample`] gives it a sample by the law of one entry.
 //! [`Slicer`] has scratch records of two alignments in two spaces. [`Trial`] is one of the hosted kinds, or one that keeps no law and writes over all
 //! that it may.
@@ -19,7 +19,7 @@ use ialg::OBJECT_WORDS;
 pub use primed::Primed;
 pub use scribbler::Trial;
 pub use slicer::Slicer;
-pub use starts::{Awake, Held, give_sample, start_in_poison, start_with_fill, wake_in_poison};
+pub use starts::{Active, Held, activate_in_poison, give_sample, start_in_poison, start_with_fill};
 
 /// The kind word of a primed instance's object.
 pub const PRIMED_KIND: i16 = 9;

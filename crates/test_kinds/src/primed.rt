@@ -6,7 +6,7 @@ ghost use Rattle.ialg.specs.declared.TheConstants.{BLOCK_SAMPLES, PARAMETER_WORD
 ghost use Rattle.ialg.specs.History.{History};
 ghost use Rattle.ialg.specs.Records.{AllLent};
 ghost use Rattle.ialg.specs.Loans.{lent_words};
-ghost use Rattle.test_kinds.specs.Primed.{KeepsWords, KeepsAwake, primed_meaning, primed_records};
+ghost use Rattle.test_kinds.specs.Primed.{KeepsWords, KeepsActive, primed_meaning, primed_records};
 
 use crate::{ONCE, PRIMED, PRIMED_KIND, PRIMED_PARAMETERS, PRIMED_RECORDS, SCRATCH};
 use ialg::{
@@ -24,11 +24,11 @@ use mem_rec::{Attr, LEAST_ALIGNMENT, MemRec, MemTab, Space};
 pub struct Primed;
 
 impl Ialg for Primed {
-    ghost meaning = { primed_meaning };
-
-    ghost idle_keeps = { λ _ p rs wss h. KeepsWords p rs wss h };
-
-    ghost active_keeps = { λ _ p rs wss h. KeepsAwake p rs wss h };
+    ghost law = { record {
+      meaning = primed_meaning;
+      idle_keeps = λ _ p rs wss h. KeepsWords p rs wss h;
+      active_keeps = λ _ p rs wss h. KeepsActive p rs wss h;
+    } };
 
     fn alg_num_alloc(&self) -> usize {
         PRIMED_RECORDS
@@ -126,7 +126,7 @@ pub(crate) fn read(samples: &[i16])
 /// The scratch word, the word that was never written, and the one that was written once.
 fn kept_words(mem: &Lent<'_>) -> Words
     ensures { (p : List ℤ) (h : History) → AllLent mem.now.table.now (lent_words mem.now)
-        → KeepsAwake p mem.now.table.now (lent_words mem.now) h → result.items ≡ take 1 p ++ p }
+        → KeepsActive p mem.now.table.now (lent_words mem.now) h → result.items ≡ take 1 p ++ p }
 {
     let Some(once) = mem.read_named(Space::External, ONCE) else {
         return Words::new();

@@ -25,11 +25,11 @@ pub enum Trial {
 }
 
 impl Ialg for Trial {
-    ghost meaning = { trial_meaning };
-
-    ghost idle_keeps = { IsIdle };
-
-    ghost active_keeps = { IsActive };
+    ghost law = { record {
+      meaning = trial_meaning;
+      idle_keeps = IsIdle;
+      active_keeps = IsActive;
+    } };
 
     fn alg_num_alloc(&self) -> usize {
         match self {

@@ -30,15 +30,15 @@ use mem_rec::{Attr, LEAST_ALIGNMENT, MemRec, MemTab, Space};
 pub struct Slicer;
 
 impl Ialg for Slicer {
-    ghost meaning = { slicer_meaning };
-
     ghost same = { λ a b e i. a };
 
     ghost compared = { λ a b i. true };
 
-    ghost idle_keeps = { λ _ p rs wss h. HoldsLevels p rs wss h };
-
-    ghost active_keeps = { λ _ p rs wss h. SpreadsLevels p rs wss h };
+    ghost law = { record {
+      meaning = slicer_meaning;
+      idle_keeps = λ _ p rs wss h. HoldsLevels p rs wss h;
+      active_keeps = λ _ p rs wss h. SpreadsLevels p rs wss h;
+    } };
 
     fn alg_num_alloc(&self) -> usize {
         SLICER_RECORDS

@@ -5,11 +5,13 @@ ghost use Rattle.ialg.specs.Records.{lasting, HoldFill, AllLent, AreNew, Lasting
 ghost use Rattle.ialg.specs.Meaning.{Done};
 ghost use Rattle.ialg.specs.Views.{answer_of};
 ghost use Rattle.ialg.specs.Loans.{lent_words, SameLoans};
-ghost use Rattle.test_kinds.specs.Primed.{is_primed, primed_fill, primed_records, KeepsWords, KeepsAwake};
-ghost use Rattle.test_kinds.specs.Starts.{placed_records, held_words, HasStarted, IsAwake};
+ghost use Rattle.test_kinds.specs.Primed.{is_primed, primed_fill, primed_records, KeepsWords, KeepsActive};
+ghost use Rattle.test_kinds.specs.Starts.{placed_records, held_words, HasStarted, IsActive};
 
 use crate::{ONCE, ONCE_BASE, Primed};
-use ialg::{Block, Entry, Ialg, Lent, OBJECT_WORDS, Params, Status, Step, copied, give, lend};
+use ialg::{
+    Block, Entry, Ialg, Lending, Lent, OBJECT_WORDS, Params, Status, Step, copied, give, lend,
+};
 use mem_rec::MemTab;
 
 /// The words of an instance's records that last.
@@ -22,7 +24,7 @@ pub struct Held {
 
 /// The words of an active instance's records.
 #[derive(Clone, Copy, PartialEq, Eq, Debug)]
-pub struct Awake {
+pub struct Active {
     pub held: Held,
     pub scratch: [i16; 1],
 }
@@ -67,9 +69,11 @@ fn started(poison: i16, once: i16, new: Held) -> Option<Held>
         mut primed,
     } = new;
     lend(
-        &Start { p: &p },
-        &table,
-        true,
+        &Lending {
+            step: &Start { p: &p },
+            table: &table,
+            writable: true,
+        },
         &mut object,
         &mut once,
         &mut primed,
@@ -119,17 +123,17 @@ impl Step<()> for Start<'_> {
 }
 
 /// Starts an instance in a host of the poison word `poison`, and activates it over a scratch word that is the poison word.
-pub fn wake_in_poison(poison: i16, once: i16) -> Option<Awake>
-    ensures { MatchOption result ⊥ (λ awake. IsAwake poison once awake) }
+pub fn activate_in_poison(poison: i16, once: i16) -> Option<Active>
+    ensures { MatchOption result ⊥ (λ active. IsActive poison once active) }
 {
     let held = start_in_poison(poison, once)?;
     awoken(poison, once, held)
 }
 
 /// Activates a started instance.
-fn awoken(poison: i16, once: i16, held: Held) -> Option<Awake>
+fn awoken(poison: i16, once: i16, held: Held) -> Option<Active>
     requires { HasStarted poison once held }
-    ensures { MatchOption result ⊥ (λ awake. IsAwake poison once awake) }
+    ensures { MatchOption result ⊥ (λ active. IsActive poison once active) }
 {
     let table = placed_table(&copied(&[poison, once]))?;
     let Held {
@@ -139,16 +143,18 @@ fn awoken(poison: i16, once: i16, held: Held) -> Option<Awake>
     } = held;
     let mut scratch = [poison];
     lend(
-        &Wake,
-        &table,
-        false,
+        &Lending {
+            step: &Activate,
+            table: &table,
+            writable: false,
+        },
         &mut object,
         &mut once,
         &mut primed,
         &mut scratch,
         &mut (),
     );
-    Some(Awake {
+    Some(Active {
         held: Held {
             object,
             once,
@@ -160,9 +166,9 @@ fn awoken(poison: i16, once: i16, held: Held) -> Option<Awake>
 
 /// The activation of an instance.
 #[derive(Clone, Copy)]
-struct Wake;
+struct Activate;
 
-impl Step<()> for Wake {
+impl Step<()> for Activate {
     ghost can = { λ _ _. ⊤ };
 
     ghost done = { λ _ table writable old new _ _. (p : List ℤ) (w : Option ℤ) (h : History) → IsTrue (is_primed p w)
@@ -170,7 +176,7 @@ impl Step<()> for Wake {
         → AllLent table old
         → ScratchIsPoison w table old
         → KeepsWords p table (lasting table old) h
-        → KeepsAwake p table new h };
+        → KeepsActive p table new h };
 
     fn perform(&self, mem: &mut Lent<'_>, _out: &mut ()) {
         Primed.alg_activate(mem);
@@ -184,8 +190,8 @@ pub fn give_sample(mem: &mut Lent<'_>, sample: i16, out: &mut Block) -> Status
     ensures law { (p : List ℤ) (w : Option ℤ) (h : History) → IsTrue (is_primed p w)
         → mem.old.writable ≡ false
         → AllLent mem.old.table.now (lent_words mem.old)
-        → KeepsAwake p mem.old.table.now (lent_words mem.old) h
-        → KeepsAwake p mem.old.table.now (lent_words mem.new) (Sample sample ∷ h)
+        → KeepsActive p mem.old.table.now (lent_words mem.old) h
+        → KeepsActive p mem.old.table.now (lent_words mem.new) (Sample sample ∷ h)
         × (out.new.items ≡ [])
         × (answer_of result ≡ Done) }
 {

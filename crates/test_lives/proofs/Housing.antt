@@ -21,7 +21,7 @@ use Rattle.scratch_group.specs.Words.{placed, HasPieces}
 use Rattle.lifecycle.specs.Rooms.{NoNeed, AreSeparate, piece_of_record}
 use Rattle.lifecycle.specs.States.{Fits}
 use Rattle.lifecycle.proofs.Places.{there_is_room}
-use Rattle.test_lives.specs.Homes.{two_taps, no_pieces, IsHome, IsReady}
+use Rattle.test_lives.specs.Owners.{two_taps, no_pieces, IsPieceThere, IsReady}
 
 none_needed : (t : Bool) (x : Need) → t ≡ true → (if t then None else Some x) ≡ None
 none_needed true x h = refl
@@ -36,7 +36,7 @@ block_serves b need align h a = none_needed _ _ (large_enough need align (length
 pub first : (n : ℕ) (xs : List ℤ) → n ≤ length xs → length (take n xs) ≡ n
 first n xs h = omega (arith, length-take n xs)
 
-module _ (o q : Span) (b : ScratchBlock) (active : Option ℕ) (activations : ℕ) (ho : IsHome 4 o) (hq : IsHome 4 q) (hb : IsHome 1028 b.piece) (fine : b.align ≡ 16) where
+module _ (o q : Span) (b : ScratchBlock) (active : Option ℕ) (activations : ℕ) (ho : IsPieceThere 4 o) (hq : IsPieceThere 4 q) (hb : IsPieceThere 1028 b.piece) (fine : b.align ≡ 16) where
   abbrev own : Pieces
   own = record { p0 = Some o; p1 = Some q; p2 = None; p3 = None }
 
@@ -97,8 +97,8 @@ module _ (o q : Span) (b : ScratchBlock) (active : Option ℕ) (activations : �
       (record { own_space = own_in; shared_space = none_in; block_space = block_in_space })
 
 -- the group's parts are known
-any_group : (o q : Span) (d s e : Option ScratchBlock) (active : Option ℕ) (activations : ℕ) → IsHome 4 o → IsHome 4 q
-    → MatchOption d ⊥ (λ b. IsHome 1028 b.piece × (b.align ≡ 16)) → s ≡ None → e ≡ None
+any_group : (o q : Span) (d s e : Option ScratchBlock) (active : Option ℕ) (activations : ℕ) → IsPieceThere 4 o → IsPieceThere 4 q
+    → MatchOption d ⊥ (λ b. IsPieceThere 1028 b.piece × (b.align ≡ 16)) → s ≡ None → e ≡ None
     → Fits (placed two_taps (record { p0 = Some o; p1 = Some q; p2 = None; p3 = None }) no_pieces (record { daram = d; saram = s; external = e; active = active; activations = activations }))
     (record { p0 = Some o; p1 = Some q; p2 = None; p3 = None }) no_pieces (record { daram = d; saram = s; external = e; active = active; activations = activations })
 any_group o q None s e active activations ho hq hb es ee = absurd hb
@@ -106,7 +106,7 @@ any_group o q (Some b) None None active activations ho hq hb es ee = there_fits 
 any_group o q (Some b) (Some s) e active activations ho hq hb es ee = cc
 any_group o q (Some b) None (Some e) active activations ho hq hb es ee = cc
 
-pub filter_fits : (rs : List MemRec) (shared : Pieces) (o q : Span) (g : Group) → rs ≡ two_taps → shared ≡ no_pieces → IsHome 4 o → IsHome 4 q → IsReady g
+pub filter_fits : (rs : List MemRec) (shared : Pieces) (o q : Span) (g : Group) → rs ≡ two_taps → shared ≡ no_pieces → IsPieceThere 4 o → IsPieceThere 4 q → IsReady g
     → Fits (placed rs (record { p0 = Some o; p1 = Some q; p2 = None; p3 = None }) shared g) (record { p0 = Some o; p1 = Some q; p2 = None; p3 = None }) shared g
 filter_fits rs shared o q g er es ho hq ready =
     subst (λ (ts : List MemRec). Fits (placed ts (record { p0 = Some o; p1 = Some q; p2 = None; p3 = None }) shared g) (record { p0 = Some o; p1 = Some q; p2 = None; p3 = None }) shared g) (sym er)
@@ -160,8 +160,8 @@ same_group_then a b c e f = record {
 
 -- whole regions, and the group that has one for a block
 
-pub home : (n : ℕ) (p : Span) (r : Extent) → n ≤ RECORD_WORDS → r.size ≡ n → (p.region ≡ r) × IsWhole p → IsHome n p
-home n p r few size whole =
+pub owner : (n : ℕ) (p : Span) (r : Extent) → n ≤ RECORD_WORDS → r.size ≡ n → (p.region ≡ r) × IsWhole p → IsPieceThere n p
+owner n p r few size whole =
     let same = ap (λ (x : Extent). x.size) whole.0 ∙ size in
     record { words = whole.1.1 ∙ same; region = rw same few }
 
@@ -171,10 +171,10 @@ saram_is_not_daram h = cc
 pub external_is_not_daram : External ≡ Daram → ⊥
 external_is_not_daram h = cc
 
-pub ready_group : (g0 g1 : Group) (p : Span) → ((space : Space) → block_in g0 space ≡ None) → g1.daram ≡ Some (record { piece = p; align = 16 }) → SameBut Daram g0 g1 → IsHome 1028 p
+pub ready_group : (g0 g1 : Group) (p : Span) → ((space : Space) → block_in g0 space ≡ None) → g1.daram ≡ Some (record { piece = p; align = 16 }) → SameBut Daram g0 g1 → IsPieceThere 1028 p
     → IsReady g1
 ready_group g0 g1 p none e same h = record {
-  daram = subst (λ (b : Option ScratchBlock). MatchOption b ⊥ (λ x. IsHome 1028 x.piece × (x.align ≡ 16))) (sym e) (h, refl);
+  daram = subst (λ (b : Option ScratchBlock). MatchOption b ⊥ (λ x. IsPieceThere 1028 x.piece × (x.align ≡ 16))) (sym e) (h, refl);
   saram = same.others Saram saram_is_not_daram ∙ none Saram;
   external = same.others External external_is_not_daram ∙ none External;
 }

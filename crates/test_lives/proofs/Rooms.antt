@@ -19,7 +19,7 @@ use Rattle.lifecycle.specs.Rooms.{NoNeed, AreSeparate, piece_of_record}
 use Rattle.lifecycle.specs.States.{Fits}
 use Rattle.lifecycle.proofs.Frames.{fits_by_places}
 use Rattle.lifecycle.proofs.Places.{there_is_room}
-use Rattle.test_lives.specs.Homes.{IsHome}
+use Rattle.test_lives.specs.Owners.{IsPieceThere}
 use Rattle.test_lives.proofs.Housing.{block_serves, first, none_stays, saram_is_not_daram, external_is_not_daram}
 use Rattle.test_kinds.specs.Slicer.{slicer_records}
 
@@ -37,8 +37,8 @@ records_granted p r two e =
     let is : r ≡ slicer_records = cc in
     ap unplaced is
 
-module _ (o l : Span) (low high : ScratchBlock) (active : Option ℕ) (activations : ℕ) (ho : IsHome 4 o) (hl : IsHome 2 l) (behind : o.place + 4 ≤ l.place)
-    (hlow : IsHome 8 low.piece) (fine_low : low.align ≡ 4) (hhigh : IsHome 4 high.piece) (fine_high : high.align ≡ 64) where
+module _ (o l : Span) (low high : ScratchBlock) (active : Option ℕ) (activations : ℕ) (ho : IsPieceThere 4 o) (hl : IsPieceThere 2 l) (behind : o.place + 4 ≤ l.place)
+    (hlow : IsPieceThere 8 low.piece) (fine_low : low.align ≡ 4) (hhigh : IsPieceThere 4 high.piece) (fine_high : high.align ≡ 64) where
   abbrev own : Pieces
   own = record { p0 = Some o; p1 = None; p2 = None; p3 = None }
 
@@ -111,9 +111,9 @@ module _ (o l : Span) (low high : ScratchBlock) (active : Option ℕ) (activatio
 
 -- a block of so many words at such an alignment
 abbrev IsBlock : ℕ → ℕ → Option ScratchBlock → Type 0
-IsBlock n align b = MatchOption b ⊥ (λ x. IsHome n x.piece × (x.align ≡ align))
+IsBlock n align b = MatchOption b ⊥ (λ x. IsPieceThere n x.piece × (x.align ≡ align))
 
-any_group : (o l : Span) (d s e : Option ScratchBlock) (active : Option ℕ) (activations : ℕ) → IsHome 4 o → IsHome 2 l → o.place + 4 ≤ l.place
+any_group : (o l : Span) (d s e : Option ScratchBlock) (active : Option ℕ) (activations : ℕ) → IsPieceThere 4 o → IsPieceThere 2 l → o.place + 4 ≤ l.place
     → IsBlock 8 4 d → IsBlock 4 64 s → e ≡ None
     → Fits (placed slicer_records (record { p0 = Some o; p1 = None; p2 = None; p3 = None }) (record { p0 = None; p1 = Some l; p2 = None; p3 = None }) (record { daram = d; saram = s; external = e; active = active; activations = activations }))
     (record { p0 = Some o; p1 = None; p2 = None; p3 = None }) (record { p0 = None; p1 = Some l; p2 = None; p3 = None }) (record { daram = d; saram = s; external = e; active = active; activations = activations })
@@ -122,7 +122,7 @@ any_group o l (Some d) None e active activations ho hl behind hd hs he = absurd 
 any_group o l (Some d) (Some s) (Some b) active activations ho hl behind hd hs he = cc
 any_group o l (Some d) (Some s) None active activations ho hl behind hd hs he = there_fits o l d s active activations ho hl behind hd.0 hd.1 hs.0 hs.1
 
-is_block : (n align : ℕ) (b : Option ScratchBlock) (p : Span) → b ≡ Some (record { piece = p; align = align }) → IsHome n p → IsBlock n align b
+is_block : (n align : ℕ) (b : Option ScratchBlock) (p : Span) → b ≡ Some (record { piece = p; align = align }) → IsPieceThere n p → IsBlock n align b
 is_block n align b p e h = subst (λ (x : Option ScratchBlock). IsBlock n align x) (sym e) (h, refl)
 
 -- both blocks were placed
@@ -132,9 +132,9 @@ placed_daram g1 g2 b e same = same.others Daram daram_is_not_saram ∙ e
 pub no_external : (g0 g1 g2 : Group) → ((space : Space) → block_in g0 space ≡ None) → SameBut Daram g0 g1 → SameBut Saram g1 g2 → g2.external ≡ None
 no_external g0 g1 g2 none first second = second.others External external_is_not_saram ∙ first.others External external_is_not_daram ∙ none External
 
-pub slicer_fits : (rs : List MemRec) (o l low high : Span) (g0 g1 g2 : Group) → unplaced rs ≡ slicer_records → IsHome 4 o → IsHome 2 l → o.place + 4 ≤ l.place
+pub slicer_fits : (rs : List MemRec) (o l low high : Span) (g0 g1 g2 : Group) → unplaced rs ≡ slicer_records → IsPieceThere 4 o → IsPieceThere 2 l → o.place + 4 ≤ l.place
     → ((space : Space) → block_in g0 space ≡ None) → g1.daram ≡ Some (record { piece = low; align = 4 }) → SameBut Daram g0 g1
-    → g2.saram ≡ Some (record { piece = high; align = 64 }) → SameBut Saram g1 g2 → IsHome 8 low → IsHome 4 high
+    → g2.saram ≡ Some (record { piece = high; align = 64 }) → SameBut Saram g1 g2 → IsPieceThere 8 low → IsPieceThere 4 high
     → Fits (placed rs (record { p0 = Some o; p1 = None; p2 = None; p3 = None }) (record { p0 = None; p1 = Some l; p2 = None; p3 = None }) g2)
     (record { p0 = Some o; p1 = None; p2 = None; p3 = None }) (record { p0 = None; p1 = Some l; p2 = None; p3 = None }) g2
 slicer_fits rs o l low high g0 g1 g2 table ho hl behind none ed first_same es second_same hlow hhigh =
@@ -154,5 +154,5 @@ pub piece_left : (g3 g4 : Group) → SameBut Daram g3 g4 → block_piece g4.sara
 piece_left g3 g4 same = ap block_piece (same.others Saram saram_is_not_daram)
 
 -- a piece of a region of that size
-pub home_part : (n size : ℕ) (r : Extent) (s : Span) → r.size ≡ size → size ≤ RECORD_WORDS → s.region ≡ r → length s.words ≡ n → IsHome n s
-home_part n size r s e few same words = record { words = words; region = rw (same, e) few }
+pub owner_part : (n size : ℕ) (r : Extent) (s : Span) → r.size ≡ size → size ≤ RECORD_WORDS → s.region ≡ r → length s.words ≡ n → IsPieceThere n s
+owner_part n size r s e few same words = record { words = words; region = rw (same, e) few }

@@ -19,17 +19,17 @@ use Rattle.lifecycle.specs.declared.instance.Instance.{Instance}
 use Rattle.lifecycle.specs.Moves.{settled, HasRoom}
 use Rattle.lifecycle.specs.States.{Fits, SameInstance}
 use Rattle.lifecycle.proofs.Frames.{fits_by_places}
-use Rattle.test_lives.specs.Homes.{two_taps, no_pieces, IsHome, IsReady, IsAt, Stands}
+use Rattle.test_lives.specs.Owners.{two_taps, no_pieces, IsPieceThere, IsReady, IsAt, Stands}
 use Rattle.test_lives.proofs.Housing.{filter_fits, none_stays, saram_is_not_daram, external_is_not_daram}
 
-home_at : (r : Extent) (place n size : ℕ) (s : Span) → r.size ≡ size → size ≤ RECORD_WORDS → IsAt r place n (Some s) → IsHome n s
-home_at r place n size s e few at = record { words = at.2; region = rw (at.0, e) few }
+owner_at : (r : Extent) (place n size : ℕ) (s : Span) → r.size ≡ size → size ≤ RECORD_WORDS → IsAt r place n (Some s) → IsPieceThere n s
+owner_at r place n size s e few at = record { words = at.2; region = rw (at.0, e) few }
 
 ready_at : (r : Extent) (place : ℕ) (g : Group) (b : Option ScratchBlock) → g.daram ≡ b → r.size ≡ 1044 → IsAt r place 1028 (block_piece b) → block_align b ≡ 16
     → g.saram ≡ None → g.external ≡ None → IsReady g
 ready_at r place g None e size at align saram external = absurd at
 ready_at r place g (Some b) e size at align saram external = record {
-  daram = subst (λ (x : Option ScratchBlock). MatchOption x ⊥ (λ y. IsHome 1028 y.piece × (y.align ≡ 16))) (sym e) (home_at r place 1028 1044 b.piece size (lit≤ tt) at, align);
+  daram = subst (λ (x : Option ScratchBlock). MatchOption x ⊥ (λ y. IsPieceThere 1028 y.piece × (y.align ≡ 16))) (sym e) (owner_at r place 1028 1044 b.piece size (lit≤ tt) at, align);
   saram = saram;
   external = external;
 }
@@ -42,9 +42,9 @@ room_at rs (Some o) None p2 p3 shared g saram external kept table size_e size_s 
 room_at rs (Some o) (Some q) (Some p) p3 shared g saram external kept table size_e size_s ho hq e2 e3 es ready = cc
 room_at rs (Some o) (Some q) None (Some p) shared g saram external kept table size_e size_s ho hq e2 e3 es ready = cc
 room_at rs (Some o) (Some q) None None shared g saram external kept table size_e size_s ho hq e2 e3 es ready =
-    let home_o = home_at external 0 4 4 o size_e (lit≤ tt) ho in
-    let home_q = home_at saram kept 4 8 q size_s (lit≤ tt) hq in
-    fits_by_places two_taps rs (record { p0 = Some o; p1 = Some q; p2 = None; p3 = None }) shared g table (filter_fits two_taps shared o q g refl es home_o home_q ready)
+    let owner_o = owner_at external 0 4 4 o size_e (lit≤ tt) ho in
+    let owner_q = owner_at saram kept 4 8 q size_s (lit≤ tt) hq in
+    fits_by_places two_taps rs (record { p0 = Some o; p1 = Some q; p2 = None; p3 = None }) shared g table (filter_fits two_taps shared o q g refl es owner_o owner_q ready)
 
 pub has_room : {M : Type 0} {daram saram external : Extent} {block kept : ℕ} {s : Instance M} {shared : Pieces} {g : Group}
     → Stands daram saram external block kept s shared g → HasRoom s shared g
@@ -222,9 +222,9 @@ stands_first daram saram external block kept s shared shared' g g' whole_d size_
   no_external = same.others External external_is_not_daram ∙ absent External;
 }
 
-pub home_behind : (all s : Span) → IsWhole all → all.region.size ≡ 1044
-    → (s.region ≡ all.region) × (s.place ≡ all.place + 16) × (s.words ≡ drop 16 all.words) → IsHome 1028 s
-home_behind all s whole size cut = home_at all.region 16 1028 1044 s size (lit≤ tt) (right_part 16 1028 all s whole (sym size) cut)
+pub owner_behind : (all s : Span) → IsWhole all → all.region.size ≡ 1044
+    → (s.region ≡ all.region) × (s.place ≡ all.place + 16) × (s.words ≡ drop 16 all.words) → IsPieceThere 1028 s
+owner_behind all s whole size cut = owner_at all.region 16 1028 1044 s size (lit≤ tt) (right_part 16 1028 all s whole (sym size) cut)
 
 -- the regions by other names
 pub in_regions : {M : Type 0} {daram saram external : Extent} {block kept : ℕ} {s : Instance M} {shared : Pieces} {g : Group} (d s' e : Extent)

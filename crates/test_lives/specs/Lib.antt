@@ -1,1 +1,1 @@
-pub mod Homes
+pub mod Owners

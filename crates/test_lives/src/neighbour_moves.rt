@@ -6,7 +6,7 @@ ghost use Rattle.mem_rec.specs.declared.Space.TheVariants.{Daram};
 ghost use Rattle.record_loans.specs.Blocks.{block_align, block_piece, block_words};
 ghost use Rattle.scratch_group.specs.Blocks.{block_in, SameBut};
 ghost use Rattle.lifecycle.specs.States.{Fits};
-ghost use Rattle.test_lives.specs.Homes.{IsAt, Stands, no_pieces};
+ghost use Rattle.test_lives.specs.Owners.{IsAt, Stands, no_pieces};
 
 use crate::neighbour_tests::{both, end, filter, give, nothing};
 use alg_fir::Fir;
@@ -128,22 +128,22 @@ fn an_active_member_is_moved(rt: HostRuntime) {
     let mut group = Group::new();
     let mut none = Pieces::none();
     let (member, hole, space) = settled(&rt, all, low, object, &mut none, &mut group);
-    let mut awake = member.wake(&mut none, &mut group);
+    let mut active = member.activated(&mut none, &mut group);
     let mut out = Block::new();
-    awake.run(&mut none, &mut group, &[2], &mut out);
+    active.run(&mut none, &mut group, &[2], &mut out);
     assert_eq!(rt; out.as_slice(), [1i16].as_slice());
 
     let hole = shift(&rt, &mut group, hole);
-    awake.moved(None, &mut none, &mut group);
-    assert_eq!(rt; base(&awake.instance.table, 2), Some(0));
-    let kept = awake.detach(1);
+    active.moved(None, &mut none, &mut group);
+    assert_eq!(rt; base(&active.instance.table, 2), Some(0));
+    let kept = active.detach(1);
     let (kept, space) = Piece::slide(space, kept);
-    awake.moved(Some((1, kept)), &mut none, &mut group);
-    assert_eq!(rt; base(&awake.instance.table, 1), Some(0));
+    active.moved(Some((1, kept)), &mut none, &mut group);
+    assert_eq!(rt; base(&active.instance.table, 1), Some(0));
     let mut out = Block::new();
-    awake.run(&mut none, &mut group, &[4], &mut out);
+    active.run(&mut none, &mut group, &[4], &mut out);
     assert_eq!(rt; out.as_slice(), [3i16].as_slice());
-    let member = awake.rest(&mut none, &mut group);
+    let member = active.deactivated(&mut none, &mut group);
     close(
         &rt, daram, saram, external, member, none, group, hole, space,
     );

@@ -5,7 +5,7 @@ ghost use Rattle.ialg.specs.Records.{unplaced};
 ghost use Rattle.record_loans.specs.Pieces.{IsSamePiece, SamePieces};
 ghost use Rattle.scratch_group.specs.Blocks.{SameGroup};
 ghost use Rattle.lifecycle.specs.States.{Fits, SameInstance};
-ghost use Rattle.test_lives.specs.Homes.{IsHome, IsReady, no_pieces, two_taps};
+ghost use Rattle.test_lives.specs.Owners.{IsPieceThere, IsReady, no_pieces, two_taps};
 
 use crate::feed;
 use alg_fir::Fir;
@@ -40,8 +40,8 @@ pub(crate) fn filter(
     none: &mut Pieces,
     group: &Group,
 ) -> Idle<Fir>
-    requires object { IsHome 4 object }
-    requires kept { IsHome 4 kept }
+    requires object { IsPieceThere 4 object }
+    requires kept { IsPieceThere 4 kept }
     requires none { none.old ≡ no_pieces }
     requires ready { IsReady group.now }
     ensures object { IsSamePiece (Some object) result.instance.own.p0 }
@@ -75,9 +75,9 @@ fn control<M: Ialg>(
     ensures group { SameGroup group.old group.new }
     ensures fits { Fits result.0.instance.table result.0.instance.own none.new group.new }
 {
-    let mut awake = member.wake(none, group);
-    let status = awake.control(none, group, c);
-    (awake.rest(none, group), status)
+    let mut active = member.activated(none, group);
+    let status = active.control(none, group, c);
+    (active.deactivated(none, group), status)
 }
 
 /// What the member gives for these samples. The group's blocks are overwritten afterwards.

@@ -27,16 +27,16 @@ pub fn feed<M: Ialg>(
     ensures group { SameGroup group.old group.new }
     ensures fits { Fits result.instance.table result.instance.own shared.new group.new }
     ensures keeps { (w : Option ℤ) (h : History) → BlocksArePoison w group.old
-        → IdleKeeps M.meaning M.idle_keeps member.instance w shared.old h
-        → IdleKeeps M.meaning M.idle_keeps result.instance w shared.new (with_samples h input.now) }
-    ensures output { (w : Option ℤ) (h : History) → BlocksArePoison w group.old → IsLawful M.meaning member.instance w
-        → IdleKeeps M.meaning M.idle_keeps member.instance w shared.old h
-        → all_outputs M.meaning member.instance (with_samples h input.now)
-        ≡ all_outputs M.meaning member.instance h ++ out.new.items }
+        → IdleKeeps M.law member.instance w shared.old h
+        → IdleKeeps M.law result.instance w shared.new (with_samples h input.now) }
+    ensures output { (w : Option ℤ) (h : History) → BlocksArePoison w group.old → IsLawful M.law.meaning member.instance w
+        → IdleKeeps M.law member.instance w shared.old h
+        → all_outputs M.law.meaning member.instance (with_samples h input.now)
+        ≡ all_outputs M.law.meaning member.instance h ++ out.new.items }
 {
-    let mut awake = member.wake(shared, group);
-    awake.run(shared, group, input, out);
-    awake.rest(shared, group)
+    let mut active = member.activated(shared, group);
+    active.run(shared, group, input, out);
+    active.deactivated(shared, group)
 }
 
 /// The first instance is given two blocks, and between them the second is given one, in a host of no poison word. What each gives are
@@ -59,14 +59,14 @@ pub fn interleave<M: Ialg, N: Ialg>(
     requires empty { (out.old.items ≡ []) × (other.old.items ≡ []) × (more.old.items ≡ []) }
     requires some { (1 ≤ length before.now) × (1 ≤ length between.now) × (1 ≤ length after.now) }
     requires within { (length before.now ≤ BLOCK_SAMPLES) × (length between.now ≤ BLOCK_SAMPLES) × (length after.now ≤ BLOCK_SAMPLES) }
-    ensures output { (h : History) → IsLawful M.meaning first.instance None
-        → IdleKeeps M.meaning M.idle_keeps first.instance None shared.old h
-        → all_outputs M.meaning first.instance (with_samples (with_samples h before.now) after.now)
-        ≡ (all_outputs M.meaning first.instance h ++ out.new.items) ++ more.new.items }
-    ensures output_between { (h : History) → IsLawful N.meaning second.instance None
-        → IdleKeeps N.meaning N.idle_keeps second.instance None others.old h
-        → all_outputs N.meaning second.instance (with_samples h between.now)
-        ≡ all_outputs N.meaning second.instance h ++ other.new.items }
+    ensures output { (h : History) → IsLawful M.law.meaning first.instance None
+        → IdleKeeps M.law first.instance None shared.old h
+        → all_outputs M.law.meaning first.instance (with_samples (with_samples h before.now) after.now)
+        ≡ (all_outputs M.law.meaning first.instance h ++ out.new.items) ++ more.new.items }
+    ensures output_between { (h : History) → IsLawful N.law.meaning second.instance None
+        → IdleKeeps N.law second.instance None others.old h
+        → all_outputs N.law.meaning second.instance (with_samples h between.now)
+        ≡ all_outputs N.law.meaning second.instance h ++ other.new.items }
 {
     let first = feed(first, shared, group, before, out);
     let second = feed(second, others, group, between, other);

@@ -46,8 +46,8 @@ pub fn live(
     ensures fits { Fits result.0.instance.table result.0.instance.own shared.new group.new }
 {
     let member = Idle::init(Slicer, levels, table, own, shared, group);
-    let mut awake = member.wake(shared, group);
-    awake.run(shared, group, input, out);
-    let status = awake.control(shared, group, &Ctl::Get);
-    (awake.rest(shared, group), status)
+    let mut active = member.activated(shared, group);
+    active.run(shared, group, input, out);
+    let status = active.control(shared, group, &Ctl::Get);
+    (active.deactivated(shared, group), status)
 }

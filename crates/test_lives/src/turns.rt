@@ -5,7 +5,7 @@ ghost use Rattle.ialg.specs.History.{History, with_samples};
 ghost use Rattle.lifecycle.specs.States.{IsLawful, all_outputs};
 ghost use Rattle.host_table.specs.declared.member.Member.{Member};
 ghost use Rattle.host_table.specs.Table.{slot_at, instance_of};
-ghost use Rattle.host_table.specs.Steps.{laws, Ready, Stays, AreKept};
+ghost use Rattle.host_table.specs.Steps.{Ready, Stays, AreKept};
 
 use host_table::Tables;
 use ialg::{BLOCK_SAMPLES, Block, Ialg};
@@ -24,7 +24,7 @@ pub fn take_turns<M: Ialg>(
     other: &mut Block,
     more: &mut Block,
 )
-    requires living { IsSome (slot_at tables.old.slots first) × IsSome (slot_at tables.old.slots second) }
+    requires living { IsSome (slot_at tables.old.instances first) × IsSome (slot_at tables.old.instances second) }
     requires apart { first ≢ second }
     requires ready { Ready poison tables.old }
     requires empty { (out.old.items ≡ []) × (other.old.items ≡ []) × (more.old.items ≡ []) }
@@ -32,10 +32,10 @@ pub fn take_turns<M: Ialg>(
     requires within { (length before.now ≤ BLOCK_SAMPLES) × (length between.now ≤ BLOCK_SAMPLES) × (length after.now ≤ BLOCK_SAMPLES) }
     ensures stays { Stays poison tables.old tables.new }
     ensures output { (histories : ℕ → History) (m : Member M)
-        → AreKept (laws M.meaning M.idle_keeps M.active_keeps) poison tables.old histories
-        → slot_at tables.old.slots first ≡ Some m → IsLawful M.meaning (instance_of m.inst) poison
-        → all_outputs M.meaning (instance_of m.inst) (with_samples (with_samples (histories first) before.now) after.now)
-        ≡ (all_outputs M.meaning (instance_of m.inst) (histories first) ++ out.new.items) ++ more.new.items }
+        → AreKept M.law poison tables.old histories
+        → slot_at tables.old.instances first ≡ Some m → IsLawful M.law.meaning (instance_of m.inst) poison
+        → all_outputs M.law.meaning (instance_of m.inst) (with_samples (with_samples (histories first) before.now) after.now)
+        ≡ (all_outputs M.law.meaning (instance_of m.inst) (histories first) ++ out.new.items) ++ more.new.items }
 {
     tables.process(poison, first, before, out);
     tables.process(poison, second, between, other);

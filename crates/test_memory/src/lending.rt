@@ -3,7 +3,8 @@ ghost use Rattle.std.specs.Prelude.{⊤};
 ghost use Rattle.ialg.specs.Loans.{SameLoans};
 
 use ialg::{
-    BLOCK_SAMPLES, Block, Lent, OBJECT_WORDS, PARAMETER_WORDS, Record, Refusal, Step, Words, lend,
+    BLOCK_SAMPLES, Block, Lending, Lent, OBJECT_WORDS, PARAMETER_WORDS, Record, Refusal, Step,
+    Words, lend,
 };
 use mem_rec::{Attr, MemRec, MemTab, Space};
 
@@ -100,9 +101,11 @@ fn records_are_found_by_their_bases(rt: HostRuntime) {
         let (mut object, mut once, mut scratch) = ([0; 4], [5, 6], [0; 3]);
         let mut found = Findings::default();
         lend(
-            &Probe,
-            &table,
-            writable,
+            &Lending {
+                step: &Probe,
+                table: &table,
+                writable,
+            },
             &mut object,
             &mut once,
             &mut scratch,

@@ -1,5 +1,5 @@
 -- The worked row, line by line.
-use Rattle.std.proofs.Common.{◌≡◌, ℕ, ℤ, pos, List, [], ◌∷◌, ◌++◌, length, Option, Some, Result, Ok, Err, IfOk, refl, ap, ◌∙◌, subst, arith}
+use Rattle.std.proofs.Common.{◌≡◌, ℕ, ℤ, pos, Bool, true, List, [], ◌∷◌, ◌++◌, length, Option, Some, Result, Ok, Err, IfOk, refl, ap, ◌∙◌, subst, arith}
 use Rattle.std.specs.Prelude.{codes, slice_index_or, unwrap_or}
 use Rattle.alg_fir.specs.Equation.{fir_output}
 use Rattle.ialg.specs.History.{History, Sample, outputs_by}
@@ -11,6 +11,7 @@ use Rattle.channel_spec.specs.Steps.{on_host}
 use Rattle.line_spec.specs.Served.{Answer}
 use Rattle.console_spec.specs.Samples.{octets_of}
 use Rattle.script_server.specs.Runs.{Devices, no_sink}
+use Rattle.script_server.proofs.Honest.{all_honest}
 use Rattle.run_theorem.specs.HostRuns.{RunsOnHost}
 use Rattle.run_theorem.specs.Births.{Born}
 use Rattle.run_theorem.specs.Headline.{Headline}
@@ -55,13 +56,13 @@ row_lines =
 pub are_lines : lines_of row_script ≡ row_lines
 are_lines = refl
 
-abbrev table : List MemRec
+abbrev pub table : List MemRec
 table = unwrap_or (voice_meaning.table Fir mean) []
 
-abbrev group_block : ℕ → ℕ → Placed
+abbrev pub group_block : ℕ → ℕ → Placed
 group_block g place = record { owner = Scratch g; place = place; size = 1028; align = 16 }
 
-abbrev record_block : ℕ → ℕ → ℕ → Placed
+abbrev pub record_block : ℕ → ℕ → ℕ → Placed
 record_block i k place = record { owner = Record i k; place = place; size = 4; align = 4 }
 
 module _ (poison : Option ℤ) (lawful : AreLawful voice_meaning poison) where
@@ -72,7 +73,7 @@ module _ (poison : Option ℤ) (lawful : AreLawful voice_meaning poison) where
   s1 = record s0 {
     host = record s0.host {
       living = with_living s0.host.living 2 (Some (newborn Fir 1 mean table));
-      picture = record { daram = group_block 1 0 ∷ []; saram = record_block 2 1 0 ∷ []; external = record_block 2 0 0 ∷ [] };
+      map = record { daram = group_block 1 0 ∷ []; saram = record_block 2 1 0 ∷ []; external = record_block 2 0 0 ∷ [] };
     };
   }
 
@@ -80,7 +81,7 @@ module _ (poison : Option ℤ) (lawful : AreLawful voice_meaning poison) where
   s2 = record s1 {
     host = record s1.host {
       living = with_living s1.host.living 0 (Some (newborn Fir 0 mean table));
-      picture = record {
+      map = record {
         daram = group_block 1 0 ∷ group_block 0 1040 ∷ [];
         saram = record_block 2 1 0 ∷ record_block 0 1 4 ∷ [];
         external = record_block 2 0 0 ∷ record_block 0 0 4 ∷ [];
@@ -92,7 +93,7 @@ module _ (poison : Option ℤ) (lawful : AreLawful voice_meaning poison) where
   s3 = record s2 {
     host = record s2.host {
       living = with_living s2.host.living 1 (Some (newborn Fir 0 mean table));
-      picture = record {
+      map = record {
         daram = group_block 1 0 ∷ group_block 0 1040 ∷ [];
         saram = record_block 2 1 0 ∷ record_block 0 1 4 ∷ record_block 1 1 8 ∷ [];
         external = record_block 2 0 0 ∷ record_block 0 0 4 ∷ record_block 1 0 8 ∷ [];
@@ -130,36 +131,36 @@ module _ (poison : Option ℤ) (lawful : AreLawful voice_meaning poison) where
   abbrev left_0 : ℕ → List ℤ
   left_0 = samples_left words (start {M = Voice} row_sizes poison row_inputs)
 
-  pub row_made : Holds voice_meaning voice_named row_lines left_0 s0 Made
-  row_made =
-      told voice_meaning voice_named (λ a. OfHost (host_calls.Create 2 Fir 1 mean a)) (Ok tt) s1 (host_calls.Create 2 Fir 1 mean (Ok tt) ∷ [])
+  pub row_made : (honest : ℕ → Bool) (all : (c : ℕ) → honest c ≡ true) → Holds voice_meaning voice_named honest (λ c. true) (λ c follows. all c) row_lines left_0 s0 Made
+  row_made honest all =
+      told voice_meaning voice_named honest (λ c. true) (λ c follows. all c) (λ a. OfHost (host_calls.Create 2 Fir 1 mean a)) (Ok tt) s1 (host_calls.Create 2 Fir 1 mean (Ok tt) ∷ [])
       lawful refl (λ left after made m. m) (λ a. refl) (λ asked e. e)
-      (told voice_meaning voice_named (λ a. OfHost (host_calls.Create 0 Fir 0 mean a)) (Ok tt) s2 (host_calls.Create 0 Fir 0 mean (Ok tt) ∷ [])
+      (told voice_meaning voice_named honest (λ c. true) (λ c follows. all c) (λ a. OfHost (host_calls.Create 0 Fir 0 mean a)) (Ok tt) s2 (host_calls.Create 0 Fir 0 mean (Ok tt) ∷ [])
       lawful refl (λ left after made m. m) (λ a. refl) (λ asked e. e)
-      (told voice_meaning voice_named (λ a. OfHost (host_calls.Create 1 Fir 0 mean a)) (Ok tt) s3 (host_calls.Create 1 Fir 0 mean (Ok tt) ∷ [])
+      (told voice_meaning voice_named honest (λ c. true) (λ c follows. all c) (λ a. OfHost (host_calls.Create 1 Fir 0 mean a)) (Ok tt) s3 (host_calls.Create 1 Fir 0 mean (Ok tt) ∷ [])
       lawful refl (λ left after made m. m) (λ a. refl) (λ asked e. e)
-      (told voice_meaning voice_named (λ a. calls.Chain 0 (0 ∷ []) a) (Ok tt) s4 [] lawful refl (λ left after made m. m) (λ a. refl) (λ asked e. e)
-      (told voice_meaning voice_named (λ a. calls.Chain 1 (1 ∷ []) a) (Ok tt) s5 [] lawful refl (λ left after made m. m) (λ a. refl) (λ asked e. e)
-      (fed voice_meaning voice_named s5 _ 0 0 2 (pos 2) (pos 4 ∷ []) (pos 6 ∷ []) refl refl refl refl refl (λ left after made m. m) (λ one.
-      fed voice_meaning voice_named s6 _ 1 1 1 (pos 10) [] [] refl refl refl refl refl (λ left after made m. m) (λ two.
-      told voice_meaning voice_named (λ a. calls.Remove 2 a) (Ok tt) s8 (host_calls.Delete 2 (Ok tt) ∷ []) lawful refl (λ left after made m. m) (λ a. refl) (λ asked e. e)
-      (told voice_meaning voice_named (λ a. OfHost (host_calls.Compact Daram a)) 1 s9 (host_calls.Compact Daram 1 ∷ []) lawful refl (λ left after made m. m) (λ a. refl) (λ asked e. e)
-      (fed voice_meaning voice_named s9 _ 0 0 1 (pos 6) [] [] refl refl refl refl refl (λ left after made m. m) (λ three.
-      told voice_meaning voice_named (λ a. calls.Unchain 0 a) (Ok tt) s11 [] lawful refl (λ left after made m. m) (λ a. refl) (λ asked e. e)
-      (told voice_meaning voice_named (λ a. calls.Remove 0 a) (Ok tt) s12 (host_calls.Delete 0 (Ok tt) ∷ []) lawful refl (λ left after made m. m) (λ a. refl) (λ asked e. e)
-      (ended voice_meaning voice_named (record { one = one; two = two; three = three; asked_is = refl; given = refl })))))))))))))
+      (told voice_meaning voice_named honest (λ c. true) (λ c follows. all c) (λ a. calls.Chain 0 (0 ∷ []) a) (Ok tt) s4 [] lawful refl (λ left after made m. m) (λ a. refl) (λ asked e. e)
+      (told voice_meaning voice_named honest (λ c. true) (λ c follows. all c) (λ a. calls.Chain 1 (1 ∷ []) a) (Ok tt) s5 [] lawful refl (λ left after made m. m) (λ a. refl) (λ asked e. e)
+      (fed voice_meaning voice_named honest (λ c. true) (λ c follows. all c) s5 0 0 refl refl _ 2 (pos 2) (pos 4 ∷ []) (pos 6 ∷ []) refl refl refl refl (λ left after made m. m) (λ one.
+      fed voice_meaning voice_named honest (λ c. true) (λ c follows. all c) s6 1 1 refl refl _ 1 (pos 10) [] [] refl refl refl refl (λ left after made m. m) (λ two.
+      told voice_meaning voice_named honest (λ c. true) (λ c follows. all c) (λ a. calls.Remove 2 a) (Ok tt) s8 (host_calls.Delete 2 (Ok tt) ∷ []) lawful refl (λ left after made m. m) (λ a. refl) (λ asked e. e)
+      (told voice_meaning voice_named honest (λ c. true) (λ c follows. all c) (λ a. OfHost (host_calls.Compact Daram a)) 1 s9 (host_calls.Compact Daram 1 ∷ []) lawful refl (λ left after made m. m) (λ a. refl) (λ asked e. e)
+      (fed voice_meaning voice_named honest (λ c. true) (λ c follows. all c) s9 0 0 refl refl _ 1 (pos 6) [] [] refl refl refl refl (λ left after made m. m) (λ three.
+      told voice_meaning voice_named honest (λ c. true) (λ c follows. all c) (λ a. calls.Unchain 0 a) (Ok tt) s11 [] lawful refl (λ left after made m. m) (λ a. refl) (λ asked e. e)
+      (told voice_meaning voice_named honest (λ c. true) (λ c follows. all c) (λ a. calls.Remove 0 a) (Ok tt) s12 (host_calls.Delete 0 (Ok tt) ∷ []) lawful refl (λ left after made m. m) (λ a. refl) (λ asked e. e)
+      (ended voice_meaning voice_named honest (λ c. true) (λ c follows. all c) (record { one = one; two = two; three = three; asked_is = refl; given = refl })))))))))))))
 
   -- what `fir` gives, by its equation
-  abbrev FirGives : Type 0
+  abbrev pub FirGives : Type 0
   FirGives = (p : List ℤ) (h : History) → outputs_of voice_meaning Fir p h ≡ outputs_by (λ t. fir_output p t ∷ []) h
 
-  pub first_gave : FirGives → {lines inputs : List (List ℕ)} {answer : Answer (Channels Voice)} (says : Headline voice_meaning voice_named words row_sizes poison lines inputs answer)
-      → lines ≡ row_lines → inputs ≡ row_inputs → FirstGave says
-  first_gave fir {inputs = inputs} {answer = answer} says same same_inputs =
+  pub first_gave : FirGives → {lines inputs : List (List ℕ)} {honest : ℕ → Bool} {answer : Answer (Channels Voice)}
+      (says : Headline voice_meaning voice_named words row_sizes poison lines inputs honest answer) → ((c : ℕ) → honest c ≡ true) → lines ≡ row_lines → inputs ≡ row_inputs → FirstGave says
+  first_gave fir {inputs = inputs} {honest = honest} {answer = answer} says all same same_inputs =
       let made : Made says.calls says.asked =
-      row_made.always (samples_left words (start {M = Voice} row_sizes poison inputs)) (samples_left words answer.run) says.calls says.asked answer.run.state
-      (λ c. ap (λ xs. samples_left words (start {M = Voice} row_sizes poison xs) c) same_inputs)
-      (subst (λ ls. LinesMake voice_named ls (samples_left words (start {M = Voice} row_sizes poison inputs)) says.calls (samples_left words answer.run)) same says.commands)
+      (row_made honest all).always (samples_left words (start {M = Voice} row_sizes poison inputs)) (samples_left words answer.run) says.calls says.asked answer.run.state
+      (λ c follows. ap (λ xs. samples_left words (start {M = Voice} row_sizes poison xs) c) same_inputs)
+      (subst (λ ls. LinesMake honest voice_named ls (samples_left words (start {M = Voice} row_sizes poison inputs)) says.calls (samples_left words answer.run)) same says.commands)
       (subst (λ xs. RunsOnHost voice_meaning (start {M = Voice} row_sizes poison xs).state says.calls says.asked answer.run.state) same_inputs says.runs) in
       let born : Born 0 Fir 0 mean says.asked (life made.one made.two made.three) = record {
         earlier = host_calls.Create 2 Fir 1 mean (Ok tt) ∷ [];
@@ -175,7 +176,7 @@ module _ (poison : Option ℤ) (lawful : AreLawful voice_meaning poison) where
       → IfOk result (λ summary. RunHeadline voice_meaning voice_named words row_sizes poison summary.refused old new)
       → IfOk result (λ summary. RowGave poison summary.refused old new)
   row_gave fir (Ok summary) old new can two run =
-      let first = first_gave fir run.says (ap lines_of can.script ∙ are_lines) can.inputs in
+      let first = first_gave fir run.says (all_honest old.inputs can.honest) (ap lines_of can.script ∙ are_lines) can.inputs in
       record {
         run = run;
         first = first;

@@ -1,3 +1,4 @@
 pub mod TwoRuns
 pub mod Row
 pub mod Rooms
+pub mod Beside

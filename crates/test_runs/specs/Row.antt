@@ -1,5 +1,5 @@
 -- A worked row of the headline: a script of a few lines, and what its first filter gave.
-use Rattle.std.specs.Prelude.{◌≡◌, ℕ, ℤ, pos, List, [], ◌∷◌, Option, Some, Ok, All, slice_index_or}
+use Rattle.std.specs.Prelude.{◌≡◌, ℕ, ℤ, pos, Bool, List, [], ◌∷◌, Option, Some, Ok, All, slice_index_or}
 use Rattle.mem_rec.specs.declared.Space.TheVariants.{Daram}
 use Rattle.ialg.specs.History.{Sample}
 use Rattle.octet_ports.specs.Ports.{Holds}
@@ -41,7 +41,8 @@ life one two three =
     ∷ Process 0 (pos 6 ∷ []) three ∷ []
 
 -- what the headline alone says of instance 0, which is deleted before the run ends
-pub record FirstGave {poison : Option ℤ} {lines inputs : List (List ℕ)} {answer : Answer (Channels Voice)} (says : Headline voice_meaning voice_named words row_sizes poison lines inputs answer) : Type 0 where
+pub record FirstGave {poison : Option ℤ} {lines inputs : List (List ℕ)} {honest : ℕ → Bool} {answer : Answer (Channels Voice)}
+    (says : Headline voice_meaning voice_named words row_sizes poison lines inputs honest answer) : Type 0 where
   pub one : List ℤ
   pub two : List ℤ
   pub three : List ℤ

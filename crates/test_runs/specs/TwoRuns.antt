@@ -1,16 +1,16 @@
 -- Two runs of the engine, and what they have in common.
-use Rattle.std.specs.Prelude.{ℕ, ℤ, ◌≡◌, ◌+◌, ◌≤◌, ◌⊎◌, ◌↔◌, List, [], ◌∷◌, ◌++◌, Option, Result, All, IfOk, IsErrOf, IsTrue, length}
+use Rattle.std.specs.Prelude.{ℕ, ℤ, ◌≡◌, ◌+◌, ◌≤◌, ◌⊎◌, ◌↔◌, List, [], ◌∷◌, ◌++◌, Option, Result, IfOk, IsErrOf, IsTrue, length}
 use Rattle.ialg.specs.declared.refusal.Refusal.{Refusal}
 use Rattle.ialg.specs.History.{Ctl}
 use Rattle.ialg.specs.Meaning.{Meaning, Status}
 use Rattle.octet_ports.specs.Ports.{GivesWithin}
 use Rattle.host_map.specs.declared.parts.Sizes.{Sizes}
-use Rattle.host_map.specs.Picture.{AreSizes}
+use Rattle.host_map.specs.MemoryMap.{AreSizes}
 use Rattle.host_spec.specs.Calls.{Call, refusal_in}
 use Rattle.host_spec.specs.Calls.Call.{Control}
 use Rattle.host_spec.specs.Runs.{history_of_run, outputs_in, statuses_in}
 use Rattle.script_server.specs.declared.limits.TheConstants.{SCRIPT_OCTETS}
-use Rattle.script_server.specs.Runs.{AreReady, Devices, EndsByRead, EndsByWrite, EndsWell, IsHonest, IsReadyIn, octets_to_come}
+use Rattle.script_server.specs.Runs.{AreReady, Devices, EndsByRead, EndsByWrite, EndsWell, IsReadyIn, octets_to_come}
 use Rattle.voice_channel.specs.declared.TheConstants.{CHANNELS}
 use Rattle.line_spec.specs.Widths.{Widths}
 use Rattle.console_spec.specs.Console.{console_machine, start}
@@ -27,11 +27,6 @@ pub record CanRun (devices : Devices) : Type 0 where
   pub few : length devices.inputs ≤ CHANNELS
   pub pairs : length devices.outputs ≡ length devices.inputs
   pub ready : AreReady devices.inputs devices.outputs devices.replies
-
--- what is read is honest
-pub record IsReadHonestly (devices : Devices) : Type 0 where
-  pub script : IsHonest devices.script
-  pub inputs : All IsHonest devices.inputs
 
 -- a run over ports of these widths from a host of these sizes and this poison word ended so, as the engine's runs do
 pub record RunEnds {M : Type 0} (kinds : Meaning M) (named : List ℕ → Option M) (widths : Widths) (sizes : Sizes) (poison : Option ℤ) (old new : Devices) (result : Result Summary Fault) : Type 0 where

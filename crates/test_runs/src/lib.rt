@@ -5,6 +5,9 @@
 
 #[cfg(test)]
 mod agreement;
+mod beside;
+#[cfg(test)]
+mod beside_tests;
 #[cfg(test)]
 mod faults;
 #[cfg(test)]
@@ -15,6 +18,7 @@ mod row;
 mod scripts;
 mod two_runs;
 
+pub use beside::run_beside;
 pub use rooms::room_rows;
 pub use row::run_row;
 pub use two_runs::{Ports, run_both};

@@ -9,7 +9,7 @@ use Rattle.ialg.specs.declared.refusal.Refusal.{Refusal}
 use Rattle.ialg.specs.declared.refusal.Refusal.TheVariants.{Range, Missing, Busy}
 use Rattle.ialg.specs.Refusals.{first_refusal}
 use Rattle.ialg.specs.Meaning.{Meaning}
-use Rattle.lifecycle.specs.States.{Relation}
+use Rattle.ialg.specs.Laws.{Laws}
 use Rattle.host_table.specs.declared.member.Member.{Member}
 use Rattle.host_spec.specs.State.{Living, State, is_instance_number}
 use Rattle.host_spec.specs.Steps as steps
@@ -52,28 +52,28 @@ some_alike None (Some x) is = absurd is
 some_alike (Some m) None is = absurd is
 some_alike (Some m) (Some x) is = refl
 
-module _ {M : Type 0} (meaning : Meaning M) (idle_keeps active_keeps : Relation M) where
-  pub lives_alike : (host : HostState M) (state : State M) → hosts.Keeps meaning idle_keeps active_keeps host state → (i : ℕ) → lives state i ≡ hosts.lives host i
+module _ {M : Type 0} (laws : Laws M) where
+  pub lives_alike : (host : HostState M) (state : State M) → hosts.Keeps laws host state → (i : ℕ) → lives state i ≡ hosts.lives host i
   lives_alike host state keeps i = some_alike _ (state.living i) (keeps.kept.tables.living i)
 
-  pub all_live_alike : (host : HostState M) (state : State M) → hosts.Keeps meaning idle_keeps active_keeps host state
+  pub all_live_alike : (host : HostState M) (state : State M) → hosts.Keeps laws host state
       → (is : List ℕ) → all_live state is ≡ list_all (hosts.lives host) is
   all_live_alike host state keeps is = all_alike (lives state) (hosts.lives host) (lives_alike host state keeps) is
 
 -- ---- members
 
-module _ {M : Type 0} (meaning : Meaning M) (idle_keeps active_keeps : Relation M) (law : HoldsOn meaning) where
+module _ {M : Type 0} (laws : Laws M) (law : HoldsOn laws.meaning) where
   -- a channel was given members, and the host is as it was
   pub given : (call : Call M) (c : ℕ) (is : List ℕ) (old new : ChannelsState M) → new.host ≡ old.host → new.chained ≡ set old.chained c is
-      → ((before : Channels M) → before.chained ≡ old.chained → hosts.Keeps meaning idle_keeps active_keeps old.host before.host
-      → Does meaning before call (with_members before c is))
-      → Serves meaning idle_keeps active_keeps call old new
+      → ((before : Channels M) → before.chained ≡ old.chained → hosts.Keeps laws old.host before.host
+      → Does laws.meaning before call (with_members before c is))
+      → Serves laws call old new
   given call c is old new host chained does = λ before keeps.
       let did = does before keeps.chained keeps.host in (
         with_members before c is,
         did,
         record {
-          host = subst (λ h. hosts.Keeps meaning idle_keeps active_keeps h before.host) (sym host) keeps.host;
+          host = subst (λ h. hosts.Keeps laws h before.host) (sym host) keeps.host;
           chained = ap (λ x. set x c is) keeps.chained ∙ sym chained;
           held = law before (with_members before c is) call did keeps.held;
         },
@@ -115,16 +115,16 @@ module _ {M : Type 0} (before : Channels M) where
       ∙ ap (λ m. of_tests true m (is_in_channel before.chained i)) (none_of (before.host.living i) living)
       ∙ ap (of_tests true false) busy)
 
-module _ {M : Type 0} (meaning : Meaning M) (idle_keeps active_keeps : Relation M) (law : HoldsOn meaning) where
+module _ {M : Type 0} (laws : Laws M) (law : HoldsOn laws.meaning) where
   pub removed : (i : ℕ) (answer : Result (Unit {0}) Refusal) (old new : HostState M) (chained : List (List ℕ)) (seen : ChannelsState M)
       → record { host = old; chained = chained } ≡ seen → is_in_channel seen.chained i ≡ false
-      → hosts.Serves meaning idle_keeps active_keeps (Delete i answer) old new
-      → Serves meaning idle_keeps active_keeps (Remove i answer) seen (record { host = new; chained = chained })
+      → hosts.Serves laws (Delete i answer) old new
+      → Serves laws (Remove i answer) seen (record { host = new; chained = chained })
   removed i answer old new chained seen e free serves =
-      subst (λ s. Serves meaning idle_keeps active_keeps (Remove i answer) s (record { host = new; chained = chained })) e
+      subst (λ s. Serves laws (Remove i answer) s (record { host = new; chained = chained })) e
       (λ before keeps.
       let did = serves before.host keeps.host in
       let after : Channels M = record before { host = did.0 } in
       let none : is_in_channel before.chained i ≡ false = ap (λ x. is_in_channel x i) keeps.chained ∙ ap (λ s. is_in_channel s.chained i) e ∙ free in
-      let does : Does meaning before (Remove i answer) after = ap (λ o. (o.0, on_host before o.1)) did.1 ∙ sym (free_delete before meaning i none) in
+      let does : Does laws.meaning before (Remove i answer) after = ap (λ o. (o.0, on_host before o.1)) did.1 ∙ sym (free_delete before laws.meaning i none) in
       (after, does, record { host = did.2; chained = keeps.chained; held = law before after (Remove i answer) does keeps.held }))

@@ -7,8 +7,7 @@ use Rattle.std.proofs.lemmas.Bool.{lt-ltb, false≢true, and_from}
 use Rattle.relocate.proofs.RangeTests.{both_true, left_true, right_true}
 use Rattle.ialg.specs.declared.refusal.Refusal.TheVariants.{Range, Missing}
 use Rattle.ialg.specs.Refusals.{first_refusal}
-use Rattle.ialg.specs.Meaning.{Meaning}
-use Rattle.lifecycle.specs.States.{Relation}
+use Rattle.ialg.specs.Laws.{Laws}
 use Rattle.host_spec.specs.State.{State}
 use Rattle.host_spec.specs.Calls.Call.{Process}
 use Rattle.alg_host.specs.Hosts.{HostState}
@@ -48,73 +47,73 @@ ready_of before c some =
     (lt-ltb c (length before.chained) (number_of before.chained c some))
     ∙ ap (λ b. first_refusal ((not true, Range) ∷ (not b, Missing) ∷ [])) some
 
-module _ {M : Type 0} (meaning : Meaning M) (idle_keeps active_keeps : Relation M) where
+module _ {M : Type 0} (laws : Laws M) where
   -- ---- members
 
   -- one member took the block
   pub ran : (i : ℕ) (block given : List ℤ) (old new : HostState M) → 1 ≤ length block
-      → hosts.Serves meaning idle_keeps active_keeps (Process i block given) old new
-      → PassesThrough meaning idle_keeps active_keeps (i ∷ []) block given old new
+      → hosts.Serves laws (Process i block given) old new
+      → PassesThrough laws (i ∷ []) block given old new
   ran i [] given old new some serves = absurd (not-suc-le-zero some)
   ran i (s ∷ block) given old new some serves = λ before keeps live.
       let did = serves before keeps in
       (did.0, (given, did.0, did.1, (refl, refl)), did.2)
 
   -- an empty block passes through nobody
-  nothing : (is : List ℕ) (before after : State M) (out : List ℤ) → Passes meaning before is [] out after → (out ≡ []) × (after ≡ before)
+  nothing : (is : List ℕ) (before after : State M) (out : List ℤ) → Passes laws.meaning before is [] out after → (out ≡ []) × (after ≡ before)
   nothing [] before after out passes = passes
   nothing (i ∷ is) before after out passes = passes
 
   nobody : (i : ℕ) (is : List ℕ) (before after end : State M) (given out : List ℤ)
-      → (given ≡ []) × (after ≡ before) → Passes meaning after is given out end → Passes meaning before (i ∷ is) [] out end
+      → (given ≡ []) × (after ≡ before) → Passes laws.meaning after is given out end → Passes laws.meaning before (i ∷ is) [] out end
   nobody i is before after end given out same passes =
-      let empty = subst (λ b. Passes meaning after is b out end) same.0 passes in
+      let empty = subst (λ b. Passes laws.meaning after is b out end) same.0 passes in
       subst (λ s. (out ≡ []) × (end ≡ s)) same.1 (nothing is after end out empty)
 
   then_those : (i : ℕ) (is : List ℕ) (before between end : State M) (block given out : List ℤ)
-      → Passes meaning before (i ∷ []) block given between → Passes meaning between is given out end → Passes meaning before (i ∷ is) block out end
+      → Passes laws.meaning before (i ∷ []) block given between → Passes laws.meaning between is given out end → Passes laws.meaning before (i ∷ is) block out end
   then_those i is before between end [] given out one further = nobody i is before between end given out one further
   then_those i is before between end (s ∷ block) given out one further =
-      let from_it = subst (λ g. Passes meaning between is g out end) one.3.0 further in
-      (one.0, one.1, one.2, subst (λ b. Passes meaning b is one.0 out end) one.3.1 from_it)
+      let from_it = subst (λ g. Passes laws.meaning between is g out end) one.3.0 further in
+      (one.0, one.1, one.2, subst (λ b. Passes laws.meaning b is one.0 out end) one.3.1 from_it)
 
   -- what one member gave passed through those behind it
   passes_on : (i : ℕ) (is : List ℕ) (block given out : List ℤ) (old between new : HostState M)
-      → PassesThrough meaning idle_keeps active_keeps (i ∷ []) block given old between
-      → PassesThrough meaning idle_keeps active_keeps is given out between new
-      → PassesThrough meaning idle_keeps active_keeps (i ∷ is) block out old new
+      → PassesThrough laws (i ∷ []) block given old between
+      → PassesThrough laws is given out between new
+      → PassesThrough laws (i ∷ is) block out old new
   passes_on i is block given out old between new one further = λ before keeps live.
       let both = both_true (lives before i) (all_live before is) live in
       let did = one before keeps (and_from (lives before i) true both.0 refl) in
-      let still = passes_live meaning (i ∷ []) before did.0 block given did.1 in
+      let still = passes_live laws.meaning (i ∷ []) before did.0 block given did.1 in
       let end = further did.0 did.2 (all_more (lives before) (lives did.0) still is both.1) in
       (end.0, then_those i is before did.0 end.0 block given out did.1 end.1, end.2)
 
   -- the same, where the first of the members took what it read in the block
   pub first_of_them : (i : ℕ) (members is : List ℕ) (block read given out : List ℤ) (old between new : HostState M) → members ≡ i ∷ is → read ≡ block
-      → PassesThrough meaning idle_keeps active_keeps (i ∷ []) read given old between
-      → PassesThrough meaning idle_keeps active_keeps is given out between new
-      → PassesThrough meaning idle_keeps active_keeps members block out old new
+      → PassesThrough laws (i ∷ []) read given old between
+      → PassesThrough laws is given out between new
+      → PassesThrough laws members block out old new
   first_of_them i members is block read given out old between new those same one further =
-      subst (λ js. PassesThrough meaning idle_keeps active_keeps js block out old new) (sym those)
+      subst (λ js. PassesThrough laws js block out old new) (sym those)
       (passes_on i is block given out old between new
-      (subst (λ b. PassesThrough meaning idle_keeps active_keeps (i ∷ []) b given old between) same one) further)
+      (subst (λ b. PassesThrough laws (i ∷ []) b given old between) same one) further)
 
   -- ---- a channel
 
-  module _ (law : HoldsOn meaning) where
+  module _ (law : HoldsOn laws.meaning) where
     pub fed : (c : ℕ) (block out : List ℤ) (old new : ChannelsState M) → is_chained (members_at old.chained c) ≡ true → new.chained ≡ old.chained
-        → PassesThrough meaning idle_keeps active_keeps (members_at old.chained c) block out old.host new.host
-        → Serves meaning idle_keeps active_keeps (Feed c block out) old new
+        → PassesThrough laws (members_at old.chained c) block out old.host new.host
+        → Serves laws (Feed c block out) old new
     fed c block out old new some same through = λ before keeps.
         let its : members_at before.chained c ≡ members_at old.chained c = ap (λ x. members_at x c) keeps.chained in
         let live = subst (λ is. all_live before.host is ≡ true) its
         (all_named (lives before.host) (members_at before.chained c) (keeps.held.live c)) in
         let end = through before.host keeps.host live in
         let after : Channels M = on_host before end.0 in
-        let does : Feeds meaning before c block out after = record {
+        let does : Feeds laws.meaning before c block out after = record {
           ready = ready_of before c (ap is_chained its ∙ some);
-          passes = subst (λ is. Passes meaning before.host is block out end.0) (sym its) end.1;
+          passes = subst (λ is. Passes laws.meaning before.host is block out end.0) (sym its) end.1;
           chained = refl;
         } in
         (after, does, record { host = end.2; chained = keeps.chained ∙ sym same; held = law before after (Feed c block out) does keeps.held })

@@ -1,13 +1,12 @@
 -- What channels are, and when they keep a state of the machine.
 use Rattle.std.specs.Prelude.{ℕ, ℤ, ◌≡◌, true, List}
-use Rattle.ialg.specs.Meaning.{Meaning}
-use Rattle.lifecycle.specs.States.{Relation}
 use Rattle.alg_host.specs.Hosts.{HostState}
 use Rattle.alg_host.specs.Hosts as hosts
 use Rattle.host_spec.specs.State.{State}
 use Rattle.channel_spec.specs.Channels.{Channels, all_live}
 use Rattle.channel_spec.specs.Calls.{Call, Does, Passes}
 use Rattle.channel_spec.specs.Laws.{AreHeld}
+use Rattle.ialg.specs.Laws.{Laws}
 
 -- a host, and the members of each channel; one that isn't chained has none
 pub record ChannelsState (M : Type 0) : Type 0 where
@@ -15,18 +14,18 @@ pub record ChannelsState (M : Type 0) : Type 0 where
   pub chained : List (List ℕ)
 
 -- the channels keep a state: the host does, the channels have its members, and these live, each in one channel
-pub record Keeps {M : Type 0} (meaning : Meaning M) (idle_keeps active_keeps : Relation M) (channels : ChannelsState M) (state : Channels M) : Type 0 where
-  pub host : hosts.Keeps meaning idle_keeps active_keeps channels.host state.host
+pub record Keeps {M : Type 0} (laws : Laws M) (channels : ChannelsState M) (state : Channels M) : Type 0 where
+  pub host : hosts.Keeps laws channels.host state.host
   pub chained : state.chained ≡ channels.chained
   pub held : AreHeld state
 
 -- whatever state the channels kept, the call was answered as the machine may answer it there, and they keep a state that comes after it
-abbrev pub Serves : {M : Type 0} → Meaning M → Relation M → Relation M → Call M → ChannelsState M → ChannelsState M → Type 0
-Serves {M} meaning idle_keeps active_keeps call old new = (before : Channels M) → Keeps meaning idle_keeps active_keeps old before
-    → (after : Channels M) × Does meaning before call after × Keeps meaning idle_keeps active_keeps new after
+abbrev pub Serves : {M : Type 0} → Laws M → Call M → ChannelsState M → ChannelsState M → Type 0
+Serves {M} laws call old new = (before : Channels M) → Keeps laws old before
+    → (after : Channels M) × Does laws.meaning before call after × Keeps laws new after
 
 -- whatever state the host kept in which the members live, the block passed through them, and the host keeps what comes after it
-abbrev pub PassesThrough : {M : Type 0} → Meaning M → Relation M → Relation M → List ℕ → (block out : List ℤ) → (old new : HostState M) → Type 0
-PassesThrough {M} meaning idle_keeps active_keeps members block out old new = (before : State M)
-    → hosts.Keeps meaning idle_keeps active_keeps old before → all_live before members ≡ true
-    → (after : State M) × Passes meaning before members block out after × hosts.Keeps meaning idle_keeps active_keeps new after
+abbrev pub PassesThrough : {M : Type 0} → Laws M → List ℕ → (block out : List ℤ) → (old new : HostState M) → Type 0
+PassesThrough {M} laws members block out old new = (before : State M)
+    → hosts.Keeps laws old before → all_live before members ≡ true
+    → (after : State M) × Passes laws.meaning before members block out after × hosts.Keeps laws new after

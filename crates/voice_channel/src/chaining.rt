@@ -79,7 +79,7 @@ impl<M: Ialg> Channels<M> {
         requires most { length members.now ≤ MEMBERS }
         ensures refused { OnErr result (self.new ≡ self.old) }
         ensures count { length self.new.chained ≡ length self.old.chained }
-        ensures machine { Serves M.meaning M.idle_keeps M.active_keeps (Chain c members.now result) self.old self.new }
+        ensures machine { Serves M.law (Chain c members.now result) self.old self.new }
     {
         members_live_in_one_channel::<M>();
         if let Some(refusal) = self.chaining_refusal(c, members) {
@@ -98,7 +98,7 @@ impl<M: Ialg> Channels<M> {
     pub fn unchain(&mut self, c: u8) -> Result<(), Refusal>
         ensures refused { OnErr result (self.new ≡ self.old) }
         ensures count { length self.new.chained ≡ length self.old.chained }
-        ensures machine { Serves M.meaning M.idle_keeps M.active_keeps (Unchain c result) self.old self.new }
+        ensures machine { Serves M.law (Unchain c result) self.old self.new }
     {
         members_live_in_one_channel::<M>();
         if let Some(refusal) = self.refusal(c) {
@@ -116,7 +116,7 @@ impl<M: Ialg> Channels<M> {
     pub fn delete(&mut self, i: u8) -> Result<(), Refusal>
         ensures refused { OnErr result (self.new ≡ self.old) }
         ensures chained { self.new.chained ≡ self.old.chained }
-        ensures machine { Serves M.meaning M.idle_keeps M.active_keeps (Remove i result) self.old self.new }
+        ensures machine { Serves M.law (Remove i result) self.old self.new }
     {
         members_live_in_one_channel::<M>();
         if i as usize >= INSTANCES {

@@ -49,8 +49,8 @@ impl<M: Ialg> Channels<M> {
         requires empty { (i : ℕ) → lives host i ≡ false }
         ensures host { result.host ≡ host }
         ensures unchained { result.chained ≡ replicate count [] }
-        ensures keeps { (state : State M) → hosts.Keeps M.meaning M.idle_keeps M.active_keeps host state
-            → Keeps M.meaning M.idle_keeps M.active_keeps result (record { host = state; chained = replicate count [] }) }
+        ensures keeps { (state : State M) → hosts.Keeps M.law host state
+            → Keeps M.law result (record { host = state; chained = replicate count [] }) }
     {
         members_live_in_one_channel::<M>();
         Channels {

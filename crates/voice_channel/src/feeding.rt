@@ -58,7 +58,7 @@ fn empty(block: &mut Block)
 fn run<M: Ialg>(host: &mut Host<M>, member: u8, block: &[i16], given: &mut Block)
     requires within { length block.now ≤ BLOCK_SAMPLES }
     ensures bounded { length given.new.items ≤ length block.now }
-    ensures passes { PassesThrough M.meaning M.idle_keeps M.active_keeps (member ∷ []) block.now given.new.items host.old host.new }
+    ensures passes { PassesThrough M.law (member ∷ []) block.now given.new.items host.old host.new }
 {
     empty(given);
     // Members live in every state that the channels keep, so the second is always so.
@@ -78,7 +78,7 @@ fn pass_on<M: Ialg>(
     out: &mut Block,
 )
     ensures bounded { length out.new.items ≤ length from.old.items }
-    ensures passes { PassesThrough M.meaning M.idle_keeps M.active_keeps (member ∷ further.now) from.old.items out.new.items host.old host.new }
+    ensures passes { PassesThrough M.law (member ∷ further.now) from.old.items out.new.items host.old host.new }
 {
     let Some((next, behind)) = further.split_first() else {
         run(host, member, from, out);
@@ -98,7 +98,7 @@ fn pass<M: Ialg>(
 )
     requires within { length block.now ≤ BLOCK_SAMPLES }
     ensures bounded { length out.new.items ≤ length block.now }
-    ensures passes { PassesThrough M.meaning M.idle_keeps M.active_keeps members.now block.now out.new.items host.old host.new }
+    ensures passes { PassesThrough M.law members.now block.now out.new.items host.old host.new }
 {
     let Some((member, further)) = members.split_first() else {
         empty(out);
@@ -129,7 +129,7 @@ impl<M: Ialg> Channels<M> {
         requires within { length input.now ≤ BLOCK_SAMPLES }
         ensures chained { self.new.chained ≡ self.old.chained }
         ensures bounded { length out.new.items ≤ length input.now }
-        ensures machine { Serves M.meaning M.idle_keeps M.active_keeps (Feed c input.now out.new.items) self.old self.new }
+        ensures machine { Serves M.law (Feed c input.now out.new.items) self.old self.new }
     {
         members_live_in_one_channel::<M>();
         pass(

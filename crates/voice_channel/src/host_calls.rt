@@ -23,7 +23,7 @@ impl<M: Ialg> Channels<M> {
     pub fn create(&mut self, i: u8, kind: M, group: u8, p: &Params) -> Result<(), Refusal>
         ensures refused { OnErr result (self.new ≡ self.old) }
         ensures chained { self.new.chained ≡ self.old.chained }
-        ensures machine { Serves M.meaning M.idle_keeps M.active_keeps (OfHost (Create i kind group p.now.items result)) self.old self.new }
+        ensures machine { Serves M.law (OfHost (Create i kind group p.now.items result)) self.old self.new }
     {
         members_live_in_one_channel::<M>();
         self.host.create(i, kind, group, p)
@@ -37,7 +37,7 @@ impl<M: Ialg> Channels<M> {
     pub fn control(&mut self, i: u8, c: &Ctl) -> Result<Status, Refusal>
         ensures refused { OnErr result (self.new ≡ self.old) }
         ensures chained { self.new.chained ≡ self.old.chained }
-        ensures machine { Serves M.meaning M.idle_keeps M.active_keeps (OfHost (Control i (control_of c.now) (told result))) self.old self.new }
+        ensures machine { Serves M.law (OfHost (Control i (control_of c.now) (told result))) self.old self.new }
     {
         members_live_in_one_channel::<M>();
         self.host.control(i, c)
@@ -51,7 +51,7 @@ impl<M: Ialg> Channels<M> {
     pub fn release(&mut self, group: u8) -> Result<bool, Refusal>
         ensures refused { OnErr result (self.new ≡ self.old) }
         ensures chained { self.new.chained ≡ self.old.chained }
-        ensures machine { Serves M.meaning M.idle_keeps M.active_keeps (OfHost (Release group result)) self.old self.new }
+        ensures machine { Serves M.law (OfHost (Release group result)) self.old self.new }
     {
         members_live_in_one_channel::<M>();
         self.host.release(group)
@@ -60,7 +60,7 @@ impl<M: Ialg> Channels<M> {
     /// Moves the first block of the space that can be moved down, and says whether one moved.
     pub fn step(&mut self, space: Space) -> bool
         ensures chained { self.new.chained ≡ self.old.chained }
-        ensures machine { Serves M.meaning M.idle_keeps M.active_keeps (OfHost (Step space result)) self.old self.new }
+        ensures machine { Serves M.law (OfHost (Step space result)) self.old self.new }
     {
         members_live_in_one_channel::<M>();
         self.host.step(space)
@@ -69,7 +69,7 @@ impl<M: Ialg> Channels<M> {
     /// Steps until no block of the space moves, and says how many blocks moved.
     pub fn compact(&mut self, space: Space) -> u32
         ensures chained { self.new.chained ≡ self.old.chained }
-        ensures machine { Serves M.meaning M.idle_keeps M.active_keeps (OfHost (Compact space result)) self.old self.new }
+        ensures machine { Serves M.law (OfHost (Compact space result)) self.old self.new }
     {
         members_live_in_one_channel::<M>();
         self.host.compact(space)
@@ -81,7 +81,7 @@ impl<M: Ialg> Channels<M> {
     ///
     /// `Range` where the number is past the last group's.
     pub fn stat(&self, group: u8) -> Result<Stat, Refusal>
-        ensures machine { Serves M.meaning M.idle_keeps M.active_keeps (OfHost (StatCall group (stat_told result))) self.now self.now }
+        ensures machine { Serves M.law (OfHost (StatCall group (stat_told result))) self.now self.now }
     {
         members_live_in_one_channel::<M>();
         self.host.stat(group)
@@ -89,7 +89,7 @@ impl<M: Ialg> Channels<M> {
 
     /// The blocks of the space in place order.
     pub fn map(&self, space: Space) -> Map
-        ensures machine { Serves M.meaning M.idle_keeps M.active_keeps (OfHost (MapCall space result.items)) self.now self.now }
+        ensures machine { Serves M.law (OfHost (MapCall space result.items)) self.now self.now }
     {
         members_live_in_one_channel::<M>();
         self.host.map(space)
@@ -97,7 +97,7 @@ impl<M: Ialg> Channels<M> {
 
     /// The words that moves have copied. It stays at the greatest `u64`.
     pub fn copied(&self) -> u64
-        ensures machine { Serves M.meaning M.idle_keeps M.active_keeps (OfHost (Copied result)) self.now self.now }
+        ensures machine { Serves M.law (OfHost (Copied result)) self.now self.now }
     {
         members_live_in_one_channel::<M>();
         self.host.copied()

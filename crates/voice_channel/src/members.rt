@@ -44,7 +44,7 @@ impl<M: Ialg> Channels<M> {
     pub fn ready(&self, c: u8) -> Result<(), Refusal>
         ensures there { IsOk result → c < length self.now.chained }
         ensures able { IsOk result → is_chained (members_at self.now.chained c) ≡ true }
-        ensures machine { Serves M.meaning M.idle_keeps M.active_keeps (Ready c result) self.now self.now }
+        ensures machine { Serves M.law (Ready c result) self.now self.now }
     {
         answered::<M>(self.refusal(c))
     }

@@ -22,7 +22,7 @@ impl<M: Ialg> Console<M> {
     pub(crate) fn create<'a>(&mut self, i: u8, kind: M, group: u8, parameters: &Params) -> Reply<'a>
         ensures channels { channels_of self.new ≡ channels_of self.old }
         ensures widths { self.new.widths ≡ self.old.widths }
-        ensures asks { Serves M.meaning M.idle_keeps M.active_keeps (CommandAsks M.meaning (port_widths_of self.old) (script.Create i kind group parameters.now.items)) (tells (reply_of result)) self.old self.new }
+        ensures asks { Serves M.law (CommandAsks M.law.meaning (port_widths_of self.old) (script.Create i kind group parameters.now.items)) (tells (reply_of result)) self.old self.new }
     {
         tell_done(self.channels.create(i, kind, group, parameters))
     }
@@ -31,7 +31,7 @@ impl<M: Ialg> Console<M> {
     pub(crate) fn control<'a>(&mut self, i: u8, control: &Ctl, room: &'a mut Words) -> Reply<'a>
         ensures channels { channels_of self.new ≡ channels_of self.old }
         ensures widths { self.new.widths ≡ self.old.widths }
-        ensures asks { Serves M.meaning M.idle_keeps M.active_keeps (Calls M.meaning (λ a. OfHost (Control i (control_of control.now) a)) (λ a. tells (told_by status_reply a))) (tells (reply_of result)) self.old self.new }
+        ensures asks { Serves M.law (Calls M.law.meaning (λ a. OfHost (Control i (control_of control.now) a)) (λ a. tells (told_by status_reply a))) (tells (reply_of result)) self.old self.new }
     {
         tell_status(self.channels.control(i, control), room)
     }
@@ -39,7 +39,7 @@ impl<M: Ialg> Console<M> {
     pub(crate) fn delete<'a>(&mut self, i: u8) -> Reply<'a>
         ensures channels { channels_of self.new ≡ channels_of self.old }
         ensures widths { self.new.widths ≡ self.old.widths }
-        ensures asks { Serves M.meaning M.idle_keeps M.active_keeps (CommandAsks M.meaning (port_widths_of self.old) (script.Delete i)) (tells (reply_of result)) self.old self.new }
+        ensures asks { Serves M.law (CommandAsks M.law.meaning (port_widths_of self.old) (script.Delete i)) (tells (reply_of result)) self.old self.new }
     {
         tell_done(self.channels.delete(i))
     }
@@ -47,7 +47,7 @@ impl<M: Ialg> Console<M> {
     pub(crate) fn chain<'a>(&mut self, c: u8, members: &Members) -> Reply<'a>
         ensures channels { channels_of self.new ≡ channels_of self.old }
         ensures widths { self.new.widths ≡ self.old.widths }
-        ensures asks { Serves M.meaning M.idle_keeps M.active_keeps (CommandAsks M.meaning (port_widths_of self.old) (script.Chain c members.now.numbers.items)) (tells (reply_of result)) self.old self.new }
+        ensures asks { Serves M.law (CommandAsks M.law.meaning (port_widths_of self.old) (script.Chain c members.now.numbers.items)) (tells (reply_of result)) self.old self.new }
     {
         tell_done(self.channels.chain(c, members.as_slice()))
     }
@@ -55,7 +55,7 @@ impl<M: Ialg> Console<M> {
     pub(crate) fn unchain<'a>(&mut self, c: u8) -> Reply<'a>
         ensures channels { channels_of self.new ≡ channels_of self.old }
         ensures widths { self.new.widths ≡ self.old.widths }
-        ensures asks { Serves M.meaning M.idle_keeps M.active_keeps (CommandAsks M.meaning (port_widths_of self.old) (script.Unchain c)) (tells (reply_of result)) self.old self.new }
+        ensures asks { Serves M.law (CommandAsks M.law.meaning (port_widths_of self.old) (script.Unchain c)) (tells (reply_of result)) self.old self.new }
     {
         tell_done(self.channels.unchain(c))
     }
@@ -63,7 +63,7 @@ impl<M: Ialg> Console<M> {
     /// Asks for a feed's samples, where the channel is ready.
     pub(crate) fn feed_asked<'a>(&self, c: u8, samples: FeedSamples) -> Ask<'a>
         ensures ready { AskIsReady TakesFeeds channels_of self.now result }
-        ensures asks { Serves M.meaning M.idle_keeps M.active_keeps (CommandAsks M.meaning (port_widths_of self.now) (script.Feed c samples.number)) (asked_of (port_widths_of self.now) result) self.now self.now }
+        ensures asks { Serves M.law (CommandAsks M.law.meaning (port_widths_of self.now) (script.Feed c samples.number)) (asked_of (port_widths_of self.now) result) self.now self.now }
     {
         match self.channels.ready(c) {
             Ok(()) => Ask::Feed {
@@ -77,7 +77,7 @@ impl<M: Ialg> Console<M> {
     pub(crate) fn compact<'a>(&mut self, space: Space) -> Reply<'a>
         ensures channels { channels_of self.new ≡ channels_of self.old }
         ensures widths { self.new.widths ≡ self.old.widths }
-        ensures asks { Serves M.meaning M.idle_keeps M.active_keeps (CommandAsks M.meaning (port_widths_of self.old) (script.Compact space)) (tells (reply_of result)) self.old self.new }
+        ensures asks { Serves M.law (CommandAsks M.law.meaning (port_widths_of self.old) (script.Compact space)) (tells (reply_of result)) self.old self.new }
     {
         Reply::Count(self.channels.compact(space))
     }
@@ -85,7 +85,7 @@ impl<M: Ialg> Console<M> {
     pub(crate) fn step<'a>(&mut self, space: Space) -> Reply<'a>
         ensures channels { channels_of self.new ≡ channels_of self.old }
         ensures widths { self.new.widths ≡ self.old.widths }
-        ensures asks { Serves M.meaning M.idle_keeps M.active_keeps (CommandAsks M.meaning (port_widths_of self.old) (script.Step space)) (tells (reply_of result)) self.old self.new }
+        ensures asks { Serves M.law (CommandAsks M.law.meaning (port_widths_of self.old) (script.Step space)) (tells (reply_of result)) self.old self.new }
     {
         Reply::Flag(self.channels.step(space))
     }
@@ -93,21 +93,21 @@ impl<M: Ialg> Console<M> {
     pub(crate) fn release<'a>(&mut self, group: u8) -> Reply<'a>
         ensures channels { channels_of self.new ≡ channels_of self.old }
         ensures widths { self.new.widths ≡ self.old.widths }
-        ensures asks { Serves M.meaning M.idle_keeps M.active_keeps (CommandAsks M.meaning (port_widths_of self.old) (script.Release group)) (tells (reply_of result)) self.old self.new }
+        ensures asks { Serves M.law (CommandAsks M.law.meaning (port_widths_of self.old) (script.Release group)) (tells (reply_of result)) self.old self.new }
     {
         tell_flag(self.channels.release(group))
     }
 
     /// Puts the blocks of the space in place of what the map held.
     pub(crate) fn map<'a>(&self, space: Space, map: &'a mut Map) -> Reply<'a>
-        ensures asks { Serves M.meaning M.idle_keeps M.active_keeps (CommandAsks M.meaning (port_widths_of self.now) (script.Map space)) (tells (reply_of result)) self.now self.now }
+        ensures asks { Serves M.law (CommandAsks M.law.meaning (port_widths_of self.now) (script.Map space)) (tells (reply_of result)) self.now self.now }
     {
         *map = self.channels.map(space);
         Reply::Map(map)
     }
 
     pub(crate) fn stat<'a>(&self, group: u8) -> Reply<'a>
-        ensures asks { Serves M.meaning M.idle_keeps M.active_keeps (CommandAsks M.meaning (port_widths_of self.now) (script.Stat group)) (tells (reply_of result)) self.now self.now }
+        ensures asks { Serves M.law (CommandAsks M.law.meaning (port_widths_of self.now) (script.Stat group)) (tells (reply_of result)) self.now self.now }
     {
         tell_stat(self.channels.stat(group))
     }

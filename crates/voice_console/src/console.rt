@@ -27,8 +27,8 @@ impl<M: Ialg> Console<M> {
         ensures host { result.channels.host ≡ host }
         ensures count { channels_of result ≡ count }
         ensures widths { result.widths ≡ widths }
-        ensures keeps { (state : State M) → hosts.Keeps M.meaning M.idle_keeps M.active_keeps host state
-            → Keeps M.meaning M.idle_keeps M.active_keeps result (record { host = state; chained = replicate count [] }) }
+        ensures keeps { (state : State M) → hosts.Keeps M.law host state
+            → Keeps M.law result (record { host = state; chained = replicate count [] }) }
     {
         Console {
             channels: Channels::new(host, count),

@@ -27,7 +27,7 @@ fn pass<M: Ialg>(
     requires ready { is_chained (members_at channels.old.chained channel) ≡ true }
     requires whole { length octets.now ≡ octet_count width samples.number }
     ensures chained { channels.new.chained ≡ channels.old.chained }
-    ensures machine { Serves M.meaning M.idle_keeps M.active_keeps (Feed channel (samples_at width octets.now) given.new.items) channels.old channels.new }
+    ensures machine { Serves M.law (Feed channel (samples_at width octets.now) given.new.items) channels.old channels.new }
 {
     let block = &mut input[..usize::from(samples.number())];
     read_samples(width, octets, block);
@@ -41,9 +41,9 @@ impl<M: Ialg + Named> LineMachine for Console<M> {
 
     ghost State = { Channels M };
 
-    ghost machine = { console_machine M.meaning M.named };
+    ghost machine = { console_machine M.law.meaning M.named };
 
-    ghost keeps = { Keeps M.meaning M.idle_keeps M.active_keeps };
+    ghost keeps = { Keeps M.law };
 
     ghost channels = { channels_of };
 

@@ -23,7 +23,7 @@ impl<M: Ialg> Console<M> {
         ensures channels { channels_of self.new ≡ channels_of self.old }
         ensures widths { self.new.widths ≡ self.old.widths }
         ensures ready { AskIsReady TakesFeeds channels_of self.new result }
-        ensures asks { Serves M.meaning M.idle_keeps M.active_keeps (CommandAsks M.meaning (port_widths_of self.old) (command_of command.entry)) (asked_of (port_widths_of self.old) result) self.old self.new }
+        ensures asks { Serves M.law (CommandAsks M.law.meaning (port_widths_of self.old) (command_of command.entry)) (asked_of (port_widths_of self.old) result) self.old self.new }
     {
         match command {
             Command::Create {

@@ -8,7 +8,7 @@ ghost use Rattle.voice_script.specs.RowViews.{row_of};
 use crate::members::Members;
 use crate::numbers::Number;
 use crate::samples::FeedSamples;
-use crate::words::{Words, without_return};
+use crate::words::Words;
 use ialg::{Named, Params, Refusal};
 use mem_rec::Space;
 
@@ -235,7 +235,7 @@ pub fn parse<'a, M: Named + Copy>(
 ) -> Result<Option<Command<'a, M>>, Refusal>
     ensures { line_of result ≡ parsed M.named line.now }
 {
-    let mut words = Words::of(without_return(line));
+    let mut words = Words::of(line);
     let Some(name) = words.next() else {
         return Ok(None);
     };

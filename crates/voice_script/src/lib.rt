@@ -13,8 +13,10 @@ mod samples;
 mod words;
 
 pub use commands::{Command, parse};
-pub use limits::{FEED_SAMPLES, LINE_OCTETS, MEMBERS, REPLY_OCTETS};
+pub use limits::{FEED_SAMPLES, GREATEST_MAGNITUDE, LINE_OCTETS, MEMBERS, REPLY_OCTETS};
 pub use members::Members;
+pub use numbers::value_of;
 pub use replies::{Reply, ReplyText, reply_text, write_reply};
 pub use rows::grammar_rows;
 pub use samples::FeedSamples;
+pub use words::Words;

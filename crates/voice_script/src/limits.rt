@@ -24,7 +24,7 @@ pub(crate) const WORD_OCTETS: usize = 12;
 pub(crate) const ENTRY_OCTETS: usize = 32;
 
 /// No number is told from others beyond this magnitude, which no range reaches.
-pub(crate) const GREATEST_MAGNITUDE: u32 = 100_000;
+pub const GREATEST_MAGNITUDE: u32 = 100_000;
 
 /// A feed takes as many samples as a block has, at most.
 pub const FEED_SAMPLES: u16 = BLOCK_SAMPLES as u16;

@@ -25,8 +25,8 @@ fn magnitude(digits: &[u8]) -> Option<u32>
     Some(value)
 }
 
-/// The value of an optional minus and one or more digits, as far as the greatest magnitude. None for everything else.
-fn value_of(word: &[u8]) -> Option<i32>
+/// The value of an optional minus and one or more digits, as far as [`GREATEST_MAGNITUDE`]. None for everything else.
+pub fn value_of(word: &[u8]) -> Option<i32>
     ensures { MatchOption result (is_number word.now ≡ false)
         (λ value. (is_number word.now ≡ true) × Limits (value_of word.now) value) }
 {

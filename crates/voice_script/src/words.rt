@@ -5,7 +5,7 @@ ghost use Rattle.voice_script.specs.Script.{without_return, is_blank};
 ghost use Rattle.voice_script.specs.Readings.{IsNoBlank, PartsAtBlank, to_come};
 
 /// The line less one carriage return at its end.
-pub(crate) fn without_return(line: &[u8]) -> &[u8]
+fn without_return(line: &[u8]) -> &[u8]
     ensures { result.now ≡ without_return line.now }
 {
     let Some((last, text)) = line.split_last() else {
@@ -32,18 +32,20 @@ fn split_at_blank(line: &[u8]) -> Option<(&[u8], &[u8])>
     None
 }
 
-/// The words of a line that are still to come.
+/// The words of a line that are still to come: what stands between its blanks, which are spaces and tabs.
 #[derive(Drop)]
-pub(crate) struct Words<'a> {
+pub struct Words<'a> {
     line: &'a [u8],
 }
 
 impl<'a> Words<'a> {
-    /// The words of this line.
-    pub(crate) fn of(line: &'a [u8]) -> Words<'a>
-        ensures { result.line.now ≡ line.now }
+    /// The words of this line, of which one carriage return at its end is no part.
+    pub fn of(line: &'a [u8]) -> Words<'a>
+        ensures { result.line.now ≡ without_return line.now }
     {
-        Words { line }
+        Words {
+            line: without_return(line),
+        }
     }
 }
 

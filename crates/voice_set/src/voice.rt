@@ -49,11 +49,11 @@ impl Named for Voice {
 }
 
 impl Ialg for Voice {
-    ghost meaning = { voice_meaning };
-
-    ghost idle_keeps = { IsIdle };
-
-    ghost active_keeps = { IsActive };
+    ghost law = { record {
+      meaning = voice_meaning;
+      idle_keeps = IsIdle;
+      active_keeps = IsActive;
+    } };
 
     fn alg_num_alloc(&self) -> usize {
         match self {

@@ -129,7 +129,9 @@ def serve(given: argparse.Namespace) -> int:
         raise RokdaumError(f"a line has more than 1,024 bytes: {longest[0][:60]}..")
     if getattr(given, "plot", None):
         from .. import plot
+        from ..design import Tones
 
+        assert not isinstance(made, Tones)  # `tone` has no --plot
         plot.save(plot.response(made), given.plot)
     print("\n".join(lines))
     sys.stdout.flush()

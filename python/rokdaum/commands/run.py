@@ -154,7 +154,7 @@ def serve(given: argparse.Namespace) -> int:
             progress.clear()
         teller.count()
     sys.stdout.flush()
-    if given.history:
+    if given.history and result.history:
         part = given.history.with_name(f".{given.history.name}.{os.getpid()}.part")
         part.write_text(result.history.to_json() + "\n", encoding="utf-8")
         os.replace(part, given.history)

@@ -1,7 +1,7 @@
 //! That nothing is kept of a heap's holes beside the free words: a heap is these six fields.
 ghost use Rattle.std.specs.Prelude.{◌≡◌, [], ◌∷◌};
 ghost use Rattle.space_raw.specs.Span.{IsWhole};
-ghost use Rattle.space_heap.specs.Pictures.{Holds};
+ghost use Rattle.space_heap.specs.Maps.{Holds};
 
 use super::{Heap, HeapError};
 use space_raw::{Piece, Region, Rest};

@@ -7,7 +7,7 @@ pub loop-k-init : goal.loop-k-init
 loop-k-init g c = record {
   same = refl;
   count = refl;
-  served = served_none g.M.Ialg.meaning g.M.Ialg.idle_keeps g.M.Ialg.active_keeps c.args.host.now;
+  served = served_none g.M.Ialg.law c.args.host.now;
 }
 
 pub loop-k-preserved : goal.loop-k-preserved
@@ -20,8 +20,8 @@ loop-k-preserved g c =
     record {
       same = same;
       count = as_many c.args.requests.now _ same;
-      served = subst (λ cs. AreServed g.M.Ialg.meaning g.M.Ialg.idle_keeps g.M.Ialg.active_keeps cs c.args.host.now c.make.new.host) (sym (made_next requests k made_now lt))
-          (served_more g.M.Ialg.meaning g.M.Ialg.idle_keeps g.M.Ialg.active_keeps _ _ _ _ _ c.loop-k.invariant.served c.make.ensures.served);
+      served = subst (λ cs. AreServed g.M.Ialg.law cs c.args.host.now c.make.new.host) (sym (made_next requests k made_now lt))
+          (served_more g.M.Ialg.law _ _ _ _ _ c.loop-k.invariant.served c.make.ensures.served);
     }
 
 pub returns-clause-same : goal.returns-clause-same
@@ -30,14 +30,14 @@ returns-clause-same g c = c.loop-k.invariant.same
 pub returns-clause-served : goal.returns-clause-served
 returns-clause-served g c =
     let few : length c.loop-k.requests ≤ c.loop-k.k = omega (arith, c.loop-k.invariant.count) in
-    subst (λ rs. AreServed g.M.Ialg.meaning g.M.Ialg.idle_keeps g.M.Ialg.active_keeps (all_made rs) c.args.host.now c.loop-k.host) (take_all c.loop-k.requests c.loop-k.k few)
+    subst (λ rs. AreServed g.M.Ialg.law (all_made rs) c.args.host.now c.loop-k.host) (take_all c.loop-k.requests c.loop-k.k few)
     c.loop-k.invariant.served
 
 pub returns-clause-grows : goal.returns-clause-grows
 returns-clause-grows g c before keeps i x born lawful spared =
     let few : length c.loop-k.requests ≤ c.loop-k.k = omega (arith, c.loop-k.invariant.count) in
-    let served = subst (λ rs. AreServed g.M.Ialg.meaning g.M.Ialg.idle_keeps g.M.Ialg.active_keeps (all_made rs) c.args.host.now c.loop-k.host) (take_all c.loop-k.requests c.loop-k.k few)
+    let served = subst (λ rs. AreServed g.M.Ialg.law (all_made rs) c.args.host.now c.loop-k.host) (take_all c.loop-k.requests c.loop-k.k few)
     c.loop-k.invariant.served in
     let did = served before keeps in
-    c.lives_go_by_their_histories.ensures.grows g.M.Ialg.meaning i x (all_made c.loop-k.requests)
+    c.lives_go_by_their_histories.ensures.grows g.M.Ialg.law.meaning i x (all_made c.loop-k.requests)
     (record { before = before; after = did.0; born = born; lawful = lawful; spared = spared; leads = did.1 })

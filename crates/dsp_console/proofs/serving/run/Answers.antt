@@ -1,45 +1,50 @@
 use Rattle.std.proofs.Common.{◌∙◌, ap, map}
 use Rattle.line_spec.specs.Widths.{widths_in, widths_of}
 use Rattle.dsp_console.proofs.HeadlineLemmas.{says_headline}
-use Rattle.dsp_console.proofs.LawfulLemmas.{lawfully_by_read, lawfully_by_write, serve_lawfully}
+use Rattle.dsp_console.proofs.LawfulLemmas.{lawfully, lawfully_by_read, lawfully_by_write, serve_lawfully}
 use Rattle.dsp_console.proofs.StartLemmas.{as_many, by_read, by_write, kept, well}
 use Rattle.dsp_console.proofs.serving.run.Goals as goal
 
 pub serve_console-served-requires-clause-kept : goal.serve_console-served-requires-clause-kept
 serve_console-served-requires-clause-kept g c =
-    kept g.M.Ialg.meaning g.M.Ialg.idle_keeps g.M.Ialg.active_keeps c.new-console.result c.in-Ok.host c.args.config.sizes c.args.config.poison (map g.I.PortIn.source c.args.inputs.now.items) c.new-console.ensures.host c.in-Ok.ensures.host c.len.result
+    kept g.M.Ialg.law c.new-console.result c.in-Ok.host c.args.config.sizes c.args.config.poison (map g.I.PortIn.source c.args.inputs.now.items) c.new-console.ensures.host c.in-Ok.ensures.host c.len.result
     (as_many c.args.inputs.now.items g.I.PortIn.source c.len.result (c.len.ensures ∙ c.args.inputs.now.ok.0))
     c.new-console.ensures.keeps
 
 pub returns-clause-ok : goal.returns-clause-ok
 returns-clause-ok g c =
-    well g.M.Ialg.meaning g.M.Ialg.idle_keeps g.M.Ialg.active_keeps c.new-console.result c.in-Ok.host c.args.config.sizes c.args.config.poison (map g.I.PortIn.source c.args.inputs.now.items) c.new-console.ensures.host c.in-Ok.ensures.host _ (widths_of c.args.config.in8 c.args.config.out8) (ap widths_in c.new-console.ensures.widths ∙ c.of_masks-widths.ensures) _ _ _ c.serve_console-served.ensures.ok
+    well g.M.Ialg.law c.new-console.result c.in-Ok.host c.args.config.sizes c.args.config.poison (map g.I.PortIn.source c.args.inputs.now.items) c.new-console.ensures.host c.in-Ok.ensures.host _ (widths_of c.args.config.in8 c.args.config.out8) (ap widths_in c.new-console.ensures.widths ∙ c.of_masks-widths.ensures) _ _ _ c.serve_console-served.ensures.ok
 
 pub returns-clause-read : goal.returns-clause-read
 returns-clause-read g c =
-    by_read g.M.Ialg.meaning g.M.Ialg.idle_keeps g.M.Ialg.active_keeps c.new-console.result c.in-Ok.host c.args.config.sizes c.args.config.poison (map g.I.PortIn.source c.args.inputs.now.items) c.new-console.ensures.host c.in-Ok.ensures.host _ (widths_of c.args.config.in8 c.args.config.out8) (ap widths_in c.new-console.ensures.widths ∙ c.of_masks-widths.ensures) _ _ _ c.serve_console-served.ensures.read
+    by_read g.M.Ialg.law c.new-console.result c.in-Ok.host c.args.config.sizes c.args.config.poison (map g.I.PortIn.source c.args.inputs.now.items) c.new-console.ensures.host c.in-Ok.ensures.host _ (widths_of c.args.config.in8 c.args.config.out8) (ap widths_in c.new-console.ensures.widths ∙ c.of_masks-widths.ensures) _ _ _ c.serve_console-served.ensures.read
 
 pub returns-clause-write : goal.returns-clause-write
 returns-clause-write g c =
-    by_write g.M.Ialg.meaning g.M.Ialg.idle_keeps g.M.Ialg.active_keeps c.new-console.result c.in-Ok.host c.args.config.sizes c.args.config.poison (map g.I.PortIn.source c.args.inputs.now.items) c.new-console.ensures.host c.in-Ok.ensures.host _ (widths_of c.args.config.in8 c.args.config.out8) (ap widths_in c.new-console.ensures.widths ∙ c.of_masks-widths.ensures) _ _ _ c.serve_console-served.ensures.write
+    by_write g.M.Ialg.law c.new-console.result c.in-Ok.host c.args.config.sizes c.args.config.poison (map g.I.PortIn.source c.args.inputs.now.items) c.new-console.ensures.host c.in-Ok.ensures.host _ (widths_of c.args.config.in8 c.args.config.out8) (ap widths_in c.new-console.ensures.widths ∙ c.of_masks-widths.ensures) _ _ _ c.serve_console-served.ensures.write
 
 pub returns-clause-lawful : goal.returns-clause-lawful
 returns-clause-lawful g c = λ lawful script inputs.
-    serve_lawfully g.M.Ialg.meaning g.M.Named.named (widths_of c.args.config.in8 c.args.config.out8) c.args.config.sizes c.args.config.poison _ _ _ c.lawful_consoles_serve_one_answer.ensures.script lawful script inputs
-    (well g.M.Ialg.meaning g.M.Ialg.idle_keeps g.M.Ialg.active_keeps c.new-console.result c.in-Ok.host c.args.config.sizes c.args.config.poison (map g.I.PortIn.source c.args.inputs.now.items) c.new-console.ensures.host c.in-Ok.ensures.host _ (widths_of c.args.config.in8 c.args.config.out8) (ap widths_in c.new-console.ensures.widths ∙ c.of_masks-widths.ensures) _ _ _ c.serve_console-served.ensures.ok)
+    serve_lawfully g.M.Ialg.law.meaning g.M.Named.named (widths_of c.args.config.in8 c.args.config.out8) c.args.config.sizes c.args.config.poison _ _ _ c.lawful_consoles_serve_one_answer.ensures.script lawful script inputs
+    (well g.M.Ialg.law c.new-console.result c.in-Ok.host c.args.config.sizes c.args.config.poison (map g.I.PortIn.source c.args.inputs.now.items) c.new-console.ensures.host c.in-Ok.ensures.host _ (widths_of c.args.config.in8 c.args.config.out8) (ap widths_in c.new-console.ensures.widths ∙ c.of_masks-widths.ensures) _ _ _ c.serve_console-served.ensures.ok)
+
+pub returns-clause-lawful_ok : goal.returns-clause-lawful_ok
+returns-clause-lawful_ok g c = λ lawful.
+    lawfully g.M.Ialg.law.meaning g.M.Named.named (widths_of c.args.config.in8 c.args.config.out8) c.args.config.sizes c.args.config.poison _ _ (c.lawful_consoles_serve_one_answer.ensures.computed g.M.Ialg.law.meaning g.M.Named.named (widths_of c.args.config.in8 c.args.config.out8) c.args.config.poison lawful) _
+    (well g.M.Ialg.law c.new-console.result c.in-Ok.host c.args.config.sizes c.args.config.poison (map g.I.PortIn.source c.args.inputs.now.items) c.new-console.ensures.host c.in-Ok.ensures.host _ (widths_of c.args.config.in8 c.args.config.out8) (ap widths_in c.new-console.ensures.widths ∙ c.of_masks-widths.ensures) _ _ _ c.serve_console-served.ensures.ok)
 
 pub returns-clause-lawful_read : goal.returns-clause-lawful_read
 returns-clause-lawful_read g c = λ lawful fault.
-    lawfully_by_read g.M.Ialg.meaning g.M.Named.named (widths_of c.args.config.in8 c.args.config.out8) c.args.config.sizes c.args.config.poison _ _ (c.lawful_consoles_serve_one_answer.ensures.computed g.M.Ialg.meaning g.M.Named.named (widths_of c.args.config.in8 c.args.config.out8) c.args.config.poison lawful)
-    (by_read g.M.Ialg.meaning g.M.Ialg.idle_keeps g.M.Ialg.active_keeps c.new-console.result c.in-Ok.host c.args.config.sizes c.args.config.poison (map g.I.PortIn.source c.args.inputs.now.items) c.new-console.ensures.host c.in-Ok.ensures.host _ (widths_of c.args.config.in8 c.args.config.out8) (ap widths_in c.new-console.ensures.widths ∙ c.of_masks-widths.ensures) _ _ _ c.serve_console-served.ensures.read fault)
+    lawfully_by_read g.M.Ialg.law.meaning g.M.Named.named (widths_of c.args.config.in8 c.args.config.out8) c.args.config.sizes c.args.config.poison _ _ (c.lawful_consoles_serve_one_answer.ensures.computed g.M.Ialg.law.meaning g.M.Named.named (widths_of c.args.config.in8 c.args.config.out8) c.args.config.poison lawful)
+    (by_read g.M.Ialg.law c.new-console.result c.in-Ok.host c.args.config.sizes c.args.config.poison (map g.I.PortIn.source c.args.inputs.now.items) c.new-console.ensures.host c.in-Ok.ensures.host _ (widths_of c.args.config.in8 c.args.config.out8) (ap widths_in c.new-console.ensures.widths ∙ c.of_masks-widths.ensures) _ _ _ c.serve_console-served.ensures.read fault)
 
 pub returns-clause-lawful_write : goal.returns-clause-lawful_write
 returns-clause-lawful_write g c = λ lawful fault.
-    lawfully_by_write g.M.Ialg.meaning g.M.Named.named (widths_of c.args.config.in8 c.args.config.out8) c.args.config.sizes c.args.config.poison _ _ (c.lawful_consoles_serve_one_answer.ensures.computed g.M.Ialg.meaning g.M.Named.named (widths_of c.args.config.in8 c.args.config.out8) c.args.config.poison lawful)
-    (by_write g.M.Ialg.meaning g.M.Ialg.idle_keeps g.M.Ialg.active_keeps c.new-console.result c.in-Ok.host c.args.config.sizes c.args.config.poison (map g.I.PortIn.source c.args.inputs.now.items) c.new-console.ensures.host c.in-Ok.ensures.host _ (widths_of c.args.config.in8 c.args.config.out8) (ap widths_in c.new-console.ensures.widths ∙ c.of_masks-widths.ensures) _ _ _ c.serve_console-served.ensures.write fault)
+    lawfully_by_write g.M.Ialg.law.meaning g.M.Named.named (widths_of c.args.config.in8 c.args.config.out8) c.args.config.sizes c.args.config.poison _ _ (c.lawful_consoles_serve_one_answer.ensures.computed g.M.Ialg.law.meaning g.M.Named.named (widths_of c.args.config.in8 c.args.config.out8) c.args.config.poison lawful)
+    (by_write g.M.Ialg.law c.new-console.result c.in-Ok.host c.args.config.sizes c.args.config.poison (map g.I.PortIn.source c.args.inputs.now.items) c.new-console.ensures.host c.in-Ok.ensures.host _ (widths_of c.args.config.in8 c.args.config.out8) (ap widths_in c.new-console.ensures.widths ∙ c.of_masks-widths.ensures) _ _ _ c.serve_console-served.ensures.write fault)
 
 pub returns-clause-headline : goal.returns-clause-headline
-returns-clause-headline g c = λ script inputs.
-    says_headline g.M.Ialg.meaning g.M.Named.named (widths_of c.args.config.in8 c.args.config.out8) c.args.config.sizes c.args.config.poison _ _ _
-    (λ refused old new. c.headline.ensures.ok (widths_of c.args.config.in8 c.args.config.out8) c.args.config.sizes c.args.config.poison refused old new) script inputs
-    (well g.M.Ialg.meaning g.M.Ialg.idle_keeps g.M.Ialg.active_keeps c.new-console.result c.in-Ok.host c.args.config.sizes c.args.config.poison (map g.I.PortIn.source c.args.inputs.now.items) c.new-console.ensures.host c.in-Ok.ensures.host _ (widths_of c.args.config.in8 c.args.config.out8) (ap widths_in c.new-console.ensures.widths ∙ c.of_masks-widths.ensures) _ _ _ c.serve_console-served.ensures.ok)
+returns-clause-headline g c = λ script.
+    says_headline g.M.Ialg.law.meaning g.M.Named.named (widths_of c.args.config.in8 c.args.config.out8) c.args.config.sizes c.args.config.poison _ _ _
+    (λ refused old new. c.headline.ensures.ok (widths_of c.args.config.in8 c.args.config.out8) c.args.config.sizes c.args.config.poison refused old new) script
+    (well g.M.Ialg.law c.new-console.result c.in-Ok.host c.args.config.sizes c.args.config.poison (map g.I.PortIn.source c.args.inputs.now.items) c.new-console.ensures.host c.in-Ok.ensures.host _ (widths_of c.args.config.in8 c.args.config.out8) (ap widths_in c.new-console.ensures.widths ∙ c.of_masks-widths.ensures) _ _ _ c.serve_console-served.ensures.ok)

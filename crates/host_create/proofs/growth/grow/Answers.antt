@@ -1,16 +1,16 @@
 use Rattle.std.proofs.Common.{◌≡◌, ◌⊎◌, inl, inr, false, None, sym, ap, ◌∙◌}
-use Rattle.host_map.specs.Picture.{blocks_in}
-use Rattle.host_spaces.specs.Picture.{picture_of, space_in}
+use Rattle.host_map.specs.MemoryMap.{blocks_in}
+use Rattle.host_spaces.specs.MemoryMap.{map_of, space_in}
 use Rattle.host_spaces.specs.Pieces.{new_block, with_new}
 use Rattle.host_table.specs.Table.{group_at}
 use Rattle.scratch_group.specs.Blocks.{block_in}
 use Rattle.host_moves.proofs.Seen.{words_seen}
-use Rattle.host_moves.proofs.Homes.{alike_same, need_alike}
+use Rattle.host_moves.proofs.Owners.{alike_same, need_alike}
 use Rattle.host_moves.proofs.Rooms.{either}
 use Rattle.host_create.specs.Blocks.{replaced_in}
 use Rattle.host_create.proofs.Grown.{grown_stays, placed_stays}
 use Rattle.host_table.proofs.Activities.{poisoned_stays}
-use Rattle.host_create.proofs.Told.{Renewed, need_new, ok_now, owner_of, poisoned_now, region_of, replaced_at, stands, told_now, without_replaced_pieces, words_now}
+use Rattle.host_create.proofs.Told.{Renewed, need_new, ok_now, poisoned_now, region_of, replaced_at, replaced_owner, stands, told_now, without_replaced_pieces, words_now}
 use Rattle.host_create.proofs.growth.grow.Goals as goal
 
 pub take_out_blocks-requires-clause-regions : goal.take_out_blocks-requires-clause-regions
@@ -22,12 +22,12 @@ take_out_blocks-requires-clause-regions g c space =
 pub take_out_blocks-requires-clause-owner : goal.take_out_blocks-requires-clause-owner
 take_out_blocks-requires-clause-owner g c space =
     let placed = placed_stays c.args.g c.args.blocks _ _ _ _ _ _ c.args.spaces.now (rw (← c.tables-2.view_is) at c.rest_where.ensures.same) c.requires.placed in
-    owner_of c.args.g (blocks_in (picture_of c.args.spaces.now) space) (new_block c.args.blocks space) (block_in (group_at c.tables-2.inside.groups.items c.args.g) space) _
+    replaced_owner c.args.g (blocks_in (map_of c.args.spaces.now) space) (new_block c.args.blocks space) (block_in (group_at c.tables-2.inside.groups.items c.args.g) space) _
     (c.put_new_blocks-old.ensures.old space) (placed.placed space ∙ ap (with_new c.args.g (new_block c.args.blocks space)) (placed.standing.blocks c.args.g space))
 
 pub tell_where-requires-clause-told : goal.tell_where-requires-clause-told
 tell_where-requires-clause-told g c replaced =
-    let renewed : Renewed c.args.g c.args.blocks c.tables-2.inside.slots.items c.tables-2.inside.once.items c.tables-2.inside.groups.items c.put_new_blocks-old.new.groups.items c.args.spaces.now c.take_out_blocks.new.self = record {
+    let renewed : Renewed c.args.g c.args.blocks c.tables-2.inside.instances.items c.tables-2.inside.sharing.items c.tables-2.inside.groups.items c.put_new_blocks-old.new.groups.items c.args.spaces.now c.take_out_blocks.new.self = record {
       old = c.put_new_blocks-old.result;
       placed = placed_stays c.args.g c.args.blocks _ _ _ _ _ _ c.args.spaces.now (rw (← c.tables-2.view_is) at c.rest_where.ensures.same) c.requires.placed;
       ordered = c.in_order.ensures;
@@ -37,7 +37,7 @@ tell_where-requires-clause-told g c replaced =
       same = c.put_new_blocks-old.ensures.others;
       activity = c.put_new_blocks-old.ensures.activity;
       count = c.put_new_blocks-old.ensures.length;
-      picture = c.take_out_blocks.ensures.picture;
+      map = c.take_out_blocks.ensures.map;
       others = c.take_out_blocks.ensures.others;
       regions = c.take_out_blocks.ensures.stays;
     } in
@@ -45,7 +45,7 @@ tell_where-requires-clause-told g c replaced =
 
 pub tell_where-requires-clause-ok : goal.tell_where-requires-clause-ok
 tell_where-requires-clause-ok g c none =
-    let renewed : Renewed c.args.g c.args.blocks c.tables-2.inside.slots.items c.tables-2.inside.once.items c.tables-2.inside.groups.items c.put_new_blocks-old.new.groups.items c.args.spaces.now c.take_out_blocks.new.self = record {
+    let renewed : Renewed c.args.g c.args.blocks c.tables-2.inside.instances.items c.tables-2.inside.sharing.items c.tables-2.inside.groups.items c.put_new_blocks-old.new.groups.items c.args.spaces.now c.take_out_blocks.new.self = record {
       old = c.put_new_blocks-old.result;
       placed = placed_stays c.args.g c.args.blocks _ _ _ _ _ _ c.args.spaces.now (rw (← c.tables-2.view_is) at c.rest_where.ensures.same) c.requires.placed;
       ordered = c.in_order.ensures;
@@ -55,7 +55,7 @@ tell_where-requires-clause-ok g c none =
       same = c.put_new_blocks-old.ensures.others;
       activity = c.put_new_blocks-old.ensures.activity;
       count = c.put_new_blocks-old.ensures.length;
-      picture = c.take_out_blocks.ensures.picture;
+      map = c.take_out_blocks.ensures.map;
       others = c.take_out_blocks.ensures.others;
       regions = c.take_out_blocks.ensures.stays;
     } in
@@ -64,7 +64,7 @@ tell_where-requires-clause-ok g c none =
 
 pub returns-clause-poisoned : goal.returns-clause-poisoned
 returns-clause-poisoned g c =
-    let renewed : Renewed c.args.g c.args.blocks c.tables-2.inside.slots.items c.tables-2.inside.once.items c.tables-2.inside.groups.items c.put_new_blocks-old.new.groups.items c.args.spaces.now c.take_out_blocks.new.self = record {
+    let renewed : Renewed c.args.g c.args.blocks c.tables-2.inside.instances.items c.tables-2.inside.sharing.items c.tables-2.inside.groups.items c.put_new_blocks-old.new.groups.items c.args.spaces.now c.take_out_blocks.new.self = record {
       old = c.put_new_blocks-old.result;
       placed = placed_stays c.args.g c.args.blocks _ _ _ _ _ _ c.args.spaces.now (rw (← c.tables-2.view_is) at c.rest_where.ensures.same) c.requires.placed;
       ordered = c.in_order.ensures;
@@ -74,7 +74,7 @@ returns-clause-poisoned g c =
       same = c.put_new_blocks-old.ensures.others;
       activity = c.put_new_blocks-old.ensures.activity;
       count = c.put_new_blocks-old.ensures.length;
-      picture = c.take_out_blocks.ensures.picture;
+      map = c.take_out_blocks.ensures.map;
       others = c.take_out_blocks.ensures.others;
       regions = c.take_out_blocks.ensures.stays;
     } in
@@ -82,7 +82,7 @@ returns-clause-poisoned g c =
 
 pub returns-clause-grown : goal.returns-clause-grown
 returns-clause-grown g c =
-    let renewed : Renewed c.args.g c.args.blocks c.tables-2.inside.slots.items c.tables-2.inside.once.items c.tables-2.inside.groups.items c.put_new_blocks-old.new.groups.items c.args.spaces.now c.take_out_blocks.new.self = record {
+    let renewed : Renewed c.args.g c.args.blocks c.tables-2.inside.instances.items c.tables-2.inside.sharing.items c.tables-2.inside.groups.items c.put_new_blocks-old.new.groups.items c.args.spaces.now c.take_out_blocks.new.self = record {
       old = c.put_new_blocks-old.result;
       placed = placed_stays c.args.g c.args.blocks _ _ _ _ _ _ c.args.spaces.now (rw (← c.tables-2.view_is) at c.rest_where.ensures.same) c.requires.placed;
       ordered = c.in_order.ensures;
@@ -92,7 +92,7 @@ returns-clause-grown g c =
       same = c.put_new_blocks-old.ensures.others;
       activity = c.put_new_blocks-old.ensures.activity;
       count = c.put_new_blocks-old.ensures.length;
-      picture = c.take_out_blocks.ensures.picture;
+      map = c.take_out_blocks.ensures.map;
       others = c.take_out_blocks.ensures.others;
       regions = c.take_out_blocks.ensures.stays;
     } in
@@ -104,15 +104,15 @@ returns-clause-need g c rs needed =
     (need_new rs c.args.blocks (group_at c.args.tables.now.groups c.args.g) (group_at c.tables-2.inside.groups.items c.args.g) (group_at c.put_new_blocks-old.new.groups.items c.args.g)
     (λ space. (space_in c.args.spaces.now space).region) ((rw (← c.tables-2.view_is) at c.rest_where.ensures.same).blocks c.args.g) c.put_new_blocks-old.ensures.new needed)
 
-pub returns-clause-picture : goal.returns-clause-picture
-returns-clause-picture g c =
-    c.take_out_blocks.ensures.picture
-    ∙ without_replaced_pieces (picture_of c.args.spaces.now) c.args.blocks (group_at c.args.tables.now.groups c.args.g) (group_at c.tables-2.inside.groups.items c.args.g)
+pub returns-clause-map : goal.returns-clause-map
+returns-clause-map g c =
+    c.take_out_blocks.ensures.map
+    ∙ without_replaced_pieces (map_of c.args.spaces.now) c.args.blocks (group_at c.args.tables.now.groups c.args.g) (group_at c.tables-2.inside.groups.items c.args.g)
     c.put_new_blocks-old.result ((rw (← c.tables-2.view_is) at c.rest_where.ensures.same).blocks c.args.g) c.put_new_blocks-old.ensures.old
 
 pub returns-clause-keeps : goal.returns-clause-keeps
 returns-clause-keeps g c histories before =
-    let renewed : Renewed c.args.g c.args.blocks c.tables-2.inside.slots.items c.tables-2.inside.once.items c.tables-2.inside.groups.items c.put_new_blocks-old.new.groups.items c.args.spaces.now c.take_out_blocks.new.self = record {
+    let renewed : Renewed c.args.g c.args.blocks c.tables-2.inside.instances.items c.tables-2.inside.sharing.items c.tables-2.inside.groups.items c.put_new_blocks-old.new.groups.items c.args.spaces.now c.take_out_blocks.new.self = record {
       old = c.put_new_blocks-old.result;
       placed = placed_stays c.args.g c.args.blocks _ _ _ _ _ _ c.args.spaces.now (rw (← c.tables-2.view_is) at c.rest_where.ensures.same) c.requires.placed;
       ordered = c.in_order.ensures;
@@ -122,7 +122,7 @@ returns-clause-keeps g c histories before =
       same = c.put_new_blocks-old.ensures.others;
       activity = c.put_new_blocks-old.ensures.activity;
       count = c.put_new_blocks-old.ensures.length;
-      picture = c.take_out_blocks.ensures.picture;
+      map = c.take_out_blocks.ensures.map;
       others = c.take_out_blocks.ensures.others;
       regions = c.take_out_blocks.ensures.stays;
     } in
@@ -132,5 +132,5 @@ returns-clause-keeps g c histories before =
       | inr none ↦ inl (replaced_at c.args.blocks (group_at c.args.tables.now.groups c.args.g) (group_at c.tables-2.inside.groups.items c.args.g) ((rw (← c.tables-2.view_is) at c.rest_where.ensures.same).blocks c.args.g) ∙ sym (let replaced_is : c.replaces_in-replaced.result ≡ replaced_in c.args.blocks (group_at c.args.tables.now.groups c.args.g) = rw (← c.tables.view_is) c.replaces_in-replaced.ensures in replaced_is) ∙ none)
     ] in
     c.tell_where.ensures.keeps c.args.poison histories
-    (words_seen g.M.Ialg.meaning g.M.Ialg.idle_keeps g.M.Ialg.active_keeps c.args.poison histories _ _ _ _ _ _ (rw (← c.tables-2.view_is) at c.rest_where.ensures.ok)
+    (words_seen g.M.Ialg.law c.args.poison histories _ _ _ _ _ _ (rw (← c.tables-2.view_is) at c.rest_where.ensures.ok)
     (words_now c.args.g c.args.blocks _ _ _ _ c.args.spaces.now c.take_out_blocks.new.self renewed (rw (← c.tables-2.view_is) at c.rest_where.ensures.ok) unseen) ((rw (← c.tables-2.view_is) at c.rest_where.ensures.keeps) histories before))

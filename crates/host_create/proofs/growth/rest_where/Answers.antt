@@ -1,4 +1,4 @@
-use Rattle.host_moves.proofs.Homes.{members_of_same}
+use Rattle.host_moves.proofs.Owners.{members_of_same}
 use Rattle.host_create.proofs.growth.rest_where.Goals as goal
 
 pub returns-then-replaced-clause-same : goal.returns-then-replaced-clause-same

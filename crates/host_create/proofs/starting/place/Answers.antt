@@ -1,7 +1,7 @@
 use Rattle.std.proofs.Common.{sym, subst}
 use Rattle.mem_rec.specs.declared.Space.{Space}
 use Rattle.scratch_group.specs.declared.group.Group.{Group}
-use Rattle.host_spaces.specs.Picture.{space_in}
+use Rattle.host_spaces.specs.MemoryMap.{space_in}
 use Rattle.host_spaces.specs.Pieces.{IsNeeded, new_block}
 use Rattle.host_spaces.specs.Wants.{block_need}
 use Rattle.host_table.proofs.Changes.{read_group}

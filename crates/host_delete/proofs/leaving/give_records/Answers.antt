@@ -1,32 +1,32 @@
 use Rattle.std.proofs.Common.{◌≡◌, ◌<◌, ℕ, length, ◌∙◌, ap, arith}
 use Rattle.host_table.proofs.Changes.{slot_in}
-use Rattle.host_table.proofs.Held.{homes_of_held}
-use Rattle.host_map.specs.Creation.{handed_on, twin_at}
-use Rattle.host_shared.specs.Holders.{next_holder}
-use Rattle.host_map.specs.Picture.{is_instance's, renamed, without_owners}
-use Rattle.host_spaces.specs.Picture.{picture_of}
+use Rattle.host_table.proofs.Held.{owners_of_held}
+use Rattle.host_map.specs.Creation.{handed_on, sharer_at}
+use Rattle.host_shared.specs.Sharing.{next_sharer}
+use Rattle.host_map.specs.MemoryMap.{is_instance's, renamed, without_owners}
+use Rattle.host_spaces.specs.MemoryMap.{map_of}
 use Rattle.std.specs.Prelude.{Option}
 use Rattle.host_delete.proofs.Ended.{handed_same, stay_then}
-use Rattle.host_delete.proofs.Records.{Going, member_of, records_back, pieces_back, stand_beside, same_beside}
+use Rattle.host_delete.proofs.Records.{Going, member_of, records_back, pieces_back, location_beside, same_beside}
 use Rattle.host_delete.proofs.leaving.give_records.Goals as goal
 
-pub next_holders-next-requires-clause-number : goal.next_holders-next-requires-clause-number
-next_holders-next-requires-clause-number g c =
-    let its = member_of c.args.tables.now.slots c.args.i c.requires.living in
-    let inside : c.args.i < length c.args.tables.now.slots = slot_in c.args.tables.now.slots c.args.i its.0 its.1 in
+pub next_sharers-next-requires-clause-number : goal.next_sharers-next-requires-clause-number
+next_sharers-next-requires-clause-number g c =
+    let its = member_of c.args.tables.now.instances c.args.i c.requires.living in
+    let inside : c.args.i < length c.args.tables.now.instances = slot_in c.args.tables.now.instances c.args.i its.0 its.1 in
     omega (arith, inside, c.requires.ok.slot_count)
 
-pub next_holders-next-requires-clause-held : goal.next_holders-next-requires-clause-held
-next_holders-next-requires-clause-held g c k j = homes_of_held _ _ (rw (← c.tables.view_is) at c.requires.ok).held j k c.args.i
+pub next_sharers-next-requires-clause-held : goal.next_sharers-next-requires-clause-held
+next_sharers-next-requires-clause-held g c k j = owners_of_held _ _ (rw (← c.tables.view_is) at c.requires.ok).held j k c.args.i
 
 pub take_out_records-requires-clause-pieces : goal.take_out_records-requires-clause-pieces
 take_out_records-requires-clause-pieces g c =
-    let its = member_of c.args.tables.now.slots c.args.i c.requires.living in
-    let going : Going c.args.i c.args.tables.now.slots c.args.tables.now.once c.args.tables.now.groups c.args.spaces.now c.hand_on.new.self = record {
-      next = (λ k. twin_at c.next_holders-next.result k);
+    let its = member_of c.args.tables.now.instances c.args.i c.requires.living in
+    let going : Going c.args.i c.args.tables.now.instances c.args.tables.now.sharing c.args.tables.now.groups c.args.spaces.now c.hand_on.new.self = record {
+      next = (λ k. sharer_at c.next_sharers-next.result k);
       standing = c.requires.standing;
       held = c.requires.ok.held;
-      is_next = rw (← c.tables.view_is) c.next_holders-next.ensures;
+      is_next = rw (← c.tables.view_is) c.next_sharers-next.ensures;
       others = c.hand_on.ensures.others;
       handed = c.hand_on.ensures.handed;
       left = c.hand_on.ensures.left;
@@ -37,12 +37,12 @@ take_out_records-requires-clause-pieces g c =
 
 pub take_out_records-requires-clause-records : goal.take_out_records-requires-clause-records
 take_out_records-requires-clause-records g c =
-    let its = member_of c.args.tables.now.slots c.args.i c.requires.living in
-    let going : Going c.args.i c.args.tables.now.slots c.args.tables.now.once c.args.tables.now.groups c.args.spaces.now c.hand_on.new.self = record {
-      next = (λ k. twin_at c.next_holders-next.result k);
+    let its = member_of c.args.tables.now.instances c.args.i c.requires.living in
+    let going : Going c.args.i c.args.tables.now.instances c.args.tables.now.sharing c.args.tables.now.groups c.args.spaces.now c.hand_on.new.self = record {
+      next = (λ k. sharer_at c.next_sharers-next.result k);
       standing = c.requires.standing;
       held = c.requires.ok.held;
-      is_next = rw (← c.tables.view_is) c.next_holders-next.ensures;
+      is_next = rw (← c.tables.view_is) c.next_sharers-next.ensures;
       others = c.hand_on.ensures.others;
       handed = c.hand_on.ensures.handed;
       left = c.hand_on.ensures.left;
@@ -53,33 +53,33 @@ take_out_records-requires-clause-records g c =
 
 pub returns-clause-standing : goal.returns-clause-standing
 returns-clause-standing g c =
-    let going : Going c.args.i c.args.tables.now.slots c.args.tables.now.once c.args.tables.now.groups c.args.spaces.now c.hand_on.new.self = record {
-      next = (λ k. twin_at c.next_holders-next.result k);
+    let going : Going c.args.i c.args.tables.now.instances c.args.tables.now.sharing c.args.tables.now.groups c.args.spaces.now c.hand_on.new.self = record {
+      next = (λ k. sharer_at c.next_sharers-next.result k);
       standing = c.requires.standing;
       held = c.requires.ok.held;
-      is_next = rw (← c.tables.view_is) c.next_holders-next.ensures;
+      is_next = rw (← c.tables.view_is) c.next_sharers-next.ensures;
       others = c.hand_on.ensures.others;
       handed = c.hand_on.ensures.handed;
       left = c.hand_on.ensures.left;
       stays = c.hand_on.ensures.stays;
     } in
-    stand_beside c.args.i _ _ _ _ _ _ c.args.spaces.now c.hand_on.new.self c.take_out_records.new.self going c.end-own.ensures.others c.end-own.ensures.gone c.end-own.ensures.none c.end-own.ensures.handed
+    location_beside c.args.i _ _ _ _ _ _ c.args.spaces.now c.hand_on.new.self c.take_out_records.new.self going c.end-own.ensures.others c.end-own.ensures.gone c.end-own.ensures.none c.end-own.ensures.handed
     (c.end-own.ensures.least c.requires.standing.least) (c.end-own.ensures.together c.requires.standing.together)
-    c.take_out_records.ensures.picture c.take_out_records.ensures.others c.take_out_records.ensures.stays
+    c.take_out_records.ensures.map c.take_out_records.ensures.others c.take_out_records.ensures.stays
 
 pub returns-clause-others : goal.returns-clause-others
 returns-clause-others g c = same_beside c.args.i _ _ _ _ _ _ c.end-own.ensures.others
 
-pub returns-clause-picture : goal.returns-clause-picture
-returns-clause-picture g c =
-    let its = member_of c.args.tables.now.slots c.args.i c.requires.living in
-    let next_is : (k : ℕ) → twin_at c.next_holders-next.result k ≡ next_holder c.args.tables.now.once c.args.i k = rw (← c.tables.view_is) c.next_holders-next.ensures in
-    let same : ◌≡◌ {A = ℕ → Option ℕ} (λ k. twin_at c.next_holders-next.result k) (λ k. next_holder c.args.tables.now.once c.args.i k) = λ t k. next_is k t in
-    c.take_out_records.ensures.picture
-    ∙ ap (without_owners (is_instance's c.args.i)) (c.hand_on.ensures.picture
-    ∙ ap (λ (next : ℕ → Option ℕ). renamed (handed_on next c.args.i) (picture_of c.args.spaces.now)) same
-    ∙ handed_same g.M.Ialg.meaning.same c.args.i c.args.tables.now.slots c.end-own.new.tables.slots c.args.tables.now.once c.args.tables.now.groups c.args.spaces.now c.requires.standing its.0 its.1
-    (λ k home. c.end-own.ensures.next c.requires.standing.least c.requires.standing.together k its.0 its.1 home))
+pub returns-clause-map : goal.returns-clause-map
+returns-clause-map g c =
+    let its = member_of c.args.tables.now.instances c.args.i c.requires.living in
+    let next_is : (k : ℕ) → sharer_at c.next_sharers-next.result k ≡ next_sharer c.args.tables.now.sharing c.args.i k = rw (← c.tables.view_is) c.next_sharers-next.ensures in
+    let same : ◌≡◌ {A = ℕ → Option ℕ} (λ k. sharer_at c.next_sharers-next.result k) (λ k. next_sharer c.args.tables.now.sharing c.args.i k) = λ t k. next_is k t in
+    c.take_out_records.ensures.map
+    ∙ ap (without_owners (is_instance's c.args.i)) (c.hand_on.ensures.map
+    ∙ ap (λ (next : ℕ → Option ℕ). renamed (handed_on next c.args.i) (map_of c.args.spaces.now)) same
+    ∙ handed_same g.M.Ialg.law.meaning.same c.args.i c.args.tables.now.instances c.end-own.new.tables.instances c.args.tables.now.sharing c.args.tables.now.groups c.args.spaces.now c.requires.standing its.0 its.1
+    (λ k owner. c.end-own.ensures.next c.requires.standing.least c.requires.standing.together k its.0 its.1 owner))
 
 pub returns-clause-spaces : goal.returns-clause-spaces
 returns-clause-spaces g c = stay_then _ _ _ c.hand_on.ensures.stays c.take_out_records.ensures.stays

@@ -3,23 +3,23 @@ use Rattle.std.proofs.Math.Facts.{to_z-of_z}
 use Rattle.host_library.specs.declared.machine.Machine.{Machine}
 use Rattle.host_library.specs.Calls.{Serves}
 use Rattle.host_library.proofs.There.{same_there}
-use Rattle.voice_set.specs.declared.voice.Voice.{Voice}
+use Rattle.gateway_kinds.specs.Kinds.{Kind}
 use Rattle.channel_spec.specs.Calls.Call.{OfHost}
 use Rattle.host_spec.specs.Calls.Call.{Create}
 use Rattle.host_library.proofs.calls.rokdaum_proved_create.Goals as goal
 
 pub returns-clause-machine : goal.returns-clause-machine
-returns-clause-machine c m voice opened is numbered fits =
+returns-clause-machine c m k opened is numbered fits =
     let after : Machine = record { channels = c.create-answer.new.self; given = c.deref_mut.result.now.given } in
-    let kind : c.in-Some.kind ≡ voice = same_there (sym c.voice_by.ensures ∙ c.in-Some.is) numbered in
+    let kind : c.in-Some.kind ≡ k = same_there (sym c.kind_by.ensures ∙ c.in-Some.is) numbered in
     record {
       answer = c.create-answer.result;
       after = after;
       coded = to_z-of_z {w = w32} (record { sfits = c.code.type_inv }) ∙ c.code.ensures;
       told = c.tell_space.ensures;
       kept = c.put.ensures.machine;
-      serves = subst (λ (n : Machine). Serves (OfHost (Create c.args.i voice c.args.group c.args.parameters.now c.create-answer.result)) n after)
+      serves = subst (λ (n : Machine). Serves (OfHost (Create c.args.i k c.args.group c.args.parameters.now c.create-answer.result)) n after)
           (c.deref_mut.ensures.value ∙ same_there c.take-machine.ensures.machine is)
-          (subst (λ (x : Voice × List ℤ). Serves (OfHost (Create c.args.i x.0 c.args.group x.1 c.create-answer.result)) c.deref_mut.result.now after)
+          (subst (λ (x : Kind × List ℤ). Serves (OfHost (Create c.args.i x.0 c.args.group x.1 c.create-answer.result)) c.deref_mut.result.now after)
           (λ j. (kind j, c.copied-parameters.ensures j)) c.create-answer.ensures.machine);
     }

@@ -3,7 +3,7 @@ use Rattle.mem_rec.specs.declared.Space.{Space}
 use Rattle.scratch_group.specs.Blocks.{block_in}
 use Rattle.mem_rec.specs.declared.TheConstants.{GROUPS}
 use Rattle.host_table.specs.Table.{group_at, activity_at}
-use Rattle.host_map.specs.Activity.{untouched}
+use Rattle.host_map.specs.Activity.{never_activated}
 use Rattle.host_life.proofs.tables.empty_groups.Given as goal
 
 abbrev pub invariant-loop : goal.invariant-loop
@@ -11,5 +11,5 @@ invariant-loop g l = record {
   count : length l.groups.items ≡ l.counter;
   room : GROUPS ≤ vec_capacity l.groups;
   blocks : (k : ℕ) (space : Space) → block_in (group_at l.groups.items k) space ≡ None;
-  activity : (k : ℕ) → activity_at l.groups.items k ≡ untouched;
+  activity : (k : ℕ) → activity_at l.groups.items k ≡ never_activated;
 }

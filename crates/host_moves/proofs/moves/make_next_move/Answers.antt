@@ -1,7 +1,7 @@
 use Rattle.std.proofs.Common.{sym, ap, ◌∙◌, arith}
 use Rattle.std.proofs.lemmas.Option.{same_Some}
 use Rattle.host_map.specs.declared.placed.Placed.{Placed}
-use Rattle.host_table.proofs.Changes.{slot_in, homes_of_slot}
+use Rattle.host_table.proofs.Changes.{slot_in, owners_of_slot}
 use Rattle.host_moves.proofs.Nexts.{next_record}
 use Rattle.host_moves.proofs.BlockMoves.{record_number, own_there, group_number}
 use Rattle.host_moves.proofs.moves.make_next_move.Goals as goal
@@ -9,23 +9,23 @@ use Rattle.host_moves.proofs.moves.make_next_move.Goals as goal
 pub sees-requires-clause-number : goal.sees-requires-clause-number
 sees-requires-clause-number g c =
     let its = next_record _ _ _ c.args.spaces.now c.args.space c.in-Record.i c.in-Record.k (rw (← c.tables.view_is) at c.requires.standing) (c.in-Some.block, (sym c.next_move.ensures.value ∙ c.in-Some.is, c.in-Record.is)) in
-    let inside = slot_in c.tables.inside.slots.items c.in-Record.i its.member its.there in
-    omega (arith, inside, (rw (← c.tables.view_is) at c.requires.ok).slot_count, (rw (← c.tables.view_is) at c.requires.ok).once_count)
+    let inside = slot_in c.tables.inside.instances.items c.in-Record.i its.member its.there in
+    omega (arith, inside, (rw (← c.tables.view_is) at c.requires.ok).slot_count, (rw (← c.tables.view_is) at c.requires.ok).sharing_count)
 
 pub sees-requires-clause-record : goal.sees-requires-clause-record
 sees-requires-clause-record g c =
-    record_number c.tables.inside.slots.items c.tables.inside.once.items c.args.spaces.now c.args.space c.in-Record.i c.in-Record.k
+    record_number c.tables.inside.instances.items c.tables.inside.sharing.items c.args.spaces.now c.args.space c.in-Record.i c.in-Record.k
     (next_record _ _ _ c.args.spaces.now c.args.space c.in-Record.i c.in-Record.k (rw (← c.tables.view_is) at c.requires.standing) (c.in-Some.block, (sym c.next_move.ensures.value ∙ c.in-Some.is, c.in-Record.is)))
 
-pub sees-requires-clause-homes : goal.sees-requires-clause-homes
-sees-requires-clause-homes g c =
+pub sees-requires-clause-owners : goal.sees-requires-clause-owners
+sees-requires-clause-owners g c =
     let its = next_record _ _ _ c.args.spaces.now c.args.space c.in-Record.i c.in-Record.k (rw (← c.tables.view_is) at c.requires.standing) (c.in-Some.block, (sym c.next_move.ensures.value ∙ c.in-Some.is, c.in-Record.is)) in
-    homes_of_slot _ _ _ (rw (← c.tables.view_is) at c.requires.ok) c.in-Record.i its.member its.there
+    owners_of_slot _ _ _ (rw (← c.tables.view_is) at c.requires.ok) c.in-Record.i its.member its.there
 
 pub move_own-requires-clause-own : goal.move_own-requires-clause-own
 move_own-requires-clause-own g c =
     rw (← c.tables.view_is)
-    (own_there c.tables.inside.slots.items c.tables.inside.once.items c.args.spaces.now c.args.space c.in-Record.i c.in-Record.k
+    (own_there c.tables.inside.instances.items c.tables.inside.sharing.items c.args.spaces.now c.args.space c.in-Record.i c.in-Record.k
     (next_record _ _ _ c.args.spaces.now c.args.space c.in-Record.i c.in-Record.k (rw (← c.tables.view_is) at c.requires.standing) (c.in-Some.block, (sym c.next_move.ensures.value ∙ c.in-Some.is, c.in-Record.is)))
     (sym c.sees.ensures ∙ c.if-sees.false))
 

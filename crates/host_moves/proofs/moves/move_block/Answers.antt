@@ -1,8 +1,8 @@
 use Rattle.std.proofs.Common.{sym, ◌∙◌, arith}
-use Rattle.host_map.specs.Picture.{blocks_in}
-use Rattle.host_spaces.specs.Picture.{picture_of}
+use Rattle.host_map.specs.MemoryMap.{blocks_in}
+use Rattle.host_spaces.specs.MemoryMap.{map_of}
 use Rattle.host_moves.proofs.Seen.{words_seen}
-use Rattle.host_moves.proofs.Homes.{standing_stays}
+use Rattle.host_moves.proofs.Owners.{standing_stays}
 use Rattle.host_moves.proofs.OwnMoves.{kind_itself, then_same, same_sizes, words_copied}
 use Rattle.host_moves.proofs.BlockMoves.{block_there, next_is, range_is, region_is, stands, words_now, inactive_words, told_now}
 use Rattle.host_moves.proofs.moves.move_block.Goals as goal
@@ -18,8 +18,8 @@ pub make_move-moved-requires-clause-next : goal.make_move-moved-requires-clause-
 make_move-moved-requires-clause-next g c =
     range_is _ _ _ _ _ c.args.g c.args.align (rw (← c.tables.view_is) at c.requires.ok) (rw (← c.tables.view_is) at c.requires.standing) c.requires.next c.requires.align _ (sym c.take_block.ensures.old ∙ c.in-Some.is)
 
-pub tell_members-requires-clause-told : goal.tell_members-requires-clause-told
-tell_members-requires-clause-told g c =
+pub call_moved_in_group-requires-clause-told : goal.call_moved_in_group-requires-clause-told
+call_moved_in_group-requires-clause-told g c =
     told_now _ _ _ _ _ c.args.g c.args.align (rw (← c.tables.view_is) at c.requires.ok) (rw (← c.tables.view_is) at c.requires.standing) c.requires.next c.requires.align _ (sym c.take_block.ensures.old ∙ c.in-Some.is)
     c.make_move-moved.result _ _ _ c.make_move-moved.ensures.owned c.make_move-moved.ensures.others c.make_move-moved.ensures.elsewhere c.make_move-moved.ensures.regions
     c.make_move-moved.ensures.words.0 c.make_move-moved.ensures.words.1 c.take_block.ensures.others c.put_block-old.ensures.others c.put_block-old.ensures.new
@@ -32,7 +32,7 @@ unreachable-requires g c =
 pub returns : goal.returns
 returns g c =
     rw (← c.tables.view_is)
-    (let stand = stands _ _ _ _ _ c.args.g c.args.align (rw (← c.tables.view_is) at c.requires.ok) (rw (← c.tables.view_is) at c.requires.standing) c.requires.next c.requires.align _ (sym c.take_block.ensures.old ∙ c.in-Some.is)
+    (let location = stands _ _ _ _ _ c.args.g c.args.align (rw (← c.tables.view_is) at c.requires.ok) (rw (← c.tables.view_is) at c.requires.standing) c.requires.next c.requires.align _ (sym c.take_block.ensures.old ∙ c.in-Some.is)
     c.make_move-moved.result _ _ _ c.make_move-moved.ensures.owned c.make_move-moved.ensures.others c.make_move-moved.ensures.elsewhere c.make_move-moved.ensures.regions
     c.make_move-moved.ensures.words.0 c.make_move-moved.ensures.words.1 c.take_block.ensures.others c.put_block-old.ensures.others c.put_block-old.ensures.new in
     let words = words_now _ _ _ _ _ c.args.g c.args.align (rw (← c.tables.view_is) at c.requires.ok) (rw (← c.tables.view_is) at c.requires.standing) c.requires.next c.requires.align _ (sym c.take_block.ensures.old ∙ c.in-Some.is)
@@ -41,16 +41,16 @@ returns g c =
     let resting = inactive_words _ _ _ _ _ c.args.g c.args.align (rw (← c.tables.view_is) at c.requires.ok) (rw (← c.tables.view_is) at c.requires.standing) c.requires.next c.requires.align _ (sym c.take_block.ensures.old ∙ c.in-Some.is)
     c.make_move-moved.result _ _ _ c.make_move-moved.ensures.owned c.make_move-moved.ensures.others c.make_move-moved.ensures.elsewhere c.make_move-moved.ensures.regions
     c.make_move-moved.ensures.words.0 c.make_move-moved.ensures.words.1 c.take_block.ensures.others c.put_block-old.ensures.others c.put_block-old.ensures.new
-    _ (λ k. c.put_block-old.ensures.activity k ∙ c.take_block.ensures.activity k) c.tell_members.ensures.inactive in
+    _ (λ k. c.put_block-old.ensures.activity k ∙ c.take_block.ensures.activity k) c.call_moved_in_group.ensures.inactive in
     record {
-      ok = c.tell_members.ensures.ok;
-      standing = standing_stays _ _ _ _ _ _ _ c.tell_members.ensures.same stand;
+      ok = c.call_moved_in_group.ensures.ok;
+      standing = standing_stays _ _ _ _ _ _ _ c.call_moved_in_group.ensures.same location;
       words = resting;
-      same = then_same _ _ _ _ _ _ _ (λ j. kind_itself _) c.tell_members.ensures.same;
-      activity = λ k. c.tell_members.ensures.activity k ∙ c.put_block-old.ensures.activity k ∙ c.take_block.ensures.activity k;
-      picture = c.make_move-moved.ensures.picture;
+      same = then_same _ _ _ _ _ _ _ (λ j. kind_itself _) c.call_moved_in_group.ensures.same;
+      activity = λ k. c.call_moved_in_group.ensures.activity k ∙ c.put_block-old.ensures.activity k ∙ c.take_block.ensures.activity k;
+      map = c.make_move-moved.ensures.map;
       sizes = same_sizes _ _ c.make_move-moved.ensures.regions;
-      copied = words_copied (blocks_in (picture_of c.args.spaces.now) c.args.space) _ _ _ _ c.in-Some.piece
+      copied = words_copied (blocks_in (map_of c.args.spaces.now) c.args.space) _ _ _ _ c.in-Some.piece
           (next_is _ _ _ _ _ c.args.g c.args.align (rw (← c.tables.view_is) at c.requires.ok) (rw (← c.tables.view_is) at c.requires.standing) c.requires.next c.requires.align _ (sym c.take_block.ensures.old ∙ c.in-Some.is)) c.make_move-moved.ensures.copied;
-      keeps = λ w histories before. c.tell_members.ensures.keeps w histories (words_seen g.M.Ialg.meaning g.M.Ialg.idle_keeps g.M.Ialg.active_keeps w histories _ _ _ _ _ _ (rw (← c.tables.view_is) at c.requires.ok) words before);
+      keeps = λ w histories before. c.call_moved_in_group.ensures.keeps w histories (words_seen g.M.Ialg.law w histories _ _ _ _ _ _ (rw (← c.tables.view_is) at c.requires.ok) words before);
     })

@@ -1,7 +1,7 @@
-use Rattle.host_map.specs.Picture.{blocks_in}
-use Rattle.host_spaces.specs.Picture.{picture_of}
+use Rattle.host_map.specs.MemoryMap.{blocks_in}
+use Rattle.host_spaces.specs.MemoryMap.{map_of}
 use Rattle.host_moves.proofs.Seen.{words_seen, words_at_rest}
-use Rattle.host_moves.proofs.Homes.{standing_stays}
+use Rattle.host_moves.proofs.Owners.{standing_stays}
 use Rattle.host_moves.proofs.OwnMoves.{next_is, region_is, range_is, living_away, can_come_back, told_others, tables_away, room_back, stands_back, kinds_back, words_back, then_same, same_sizes, words_copied}
 use Rattle.host_moves.proofs.moves.move_own.Goals as goal
 
@@ -52,8 +52,8 @@ returns g c =
       words = words_at_rest _ _ c.tell.ensures.inactive;
       same = then_same _ _ _ _ _ _ _ kinds same;
       activity = c.tell.ensures.activity;
-      picture = c.make_move-moved.ensures.picture;
+      map = c.make_move-moved.ensures.map;
       sizes = same_sizes _ _ c.make_move-moved.ensures.regions;
-      copied = words_copied (blocks_in (picture_of c.args.spaces.now) c.args.space) _ _ _ _ c.take_own-piece.result (next_is _ _ _ _ _ c.args.i c.args.k _ (rw (← c.tables.view_is) at c.requires.ok) (rw (← c.tables.view_is) at c.requires.standing) c.requires.next c.take_own-piece.ensures.piece) c.make_move-moved.ensures.copied;
-      keeps = λ w histories before. keeps w histories (words_seen g.M.Ialg.meaning g.M.Ialg.idle_keeps g.M.Ialg.active_keeps w histories _ _ _ _ _ _ (rw (← c.tables.view_is) at c.requires.ok) words before);
+      copied = words_copied (blocks_in (map_of c.args.spaces.now) c.args.space) _ _ _ _ c.take_own-piece.result (next_is _ _ _ _ _ c.args.i c.args.k _ (rw (← c.tables.view_is) at c.requires.ok) (rw (← c.tables.view_is) at c.requires.standing) c.requires.next c.take_own-piece.ensures.piece) c.make_move-moved.ensures.copied;
+      keeps = λ w histories before. keeps w histories (words_seen g.M.Ialg.law w histories _ _ _ _ _ _ (rw (← c.tables.view_is) at c.requires.ok) words before);
     })

@@ -8,53 +8,53 @@ use Rattle.lifecycle.specs.declared.instance.Inst.TheVariants.{Idling, Running}
 use Rattle.lifecycle.specs.Moves.{with_back}
 use Rattle.lifecycle.specs.States.{SameOnce}
 use Rattle.mem_rec.specs.declared.TheConstants.{GROUPS}
-use Rattle.host_shared.specs.Homes.{HasHomes}
+use Rattle.host_shared.specs.Owners.{HasOwners}
 use Rattle.host_table.specs.Table.{slot_at, group_at, no_group, instance_of, slot_active_in, activity_at, IsHoused}
-use Rattle.host_shared.specs.Shelves.{once_at}
+use Rattle.host_shared.specs.Locations.{shared_at}
 use Rattle.host_table.specs.Frames.{SameMember}
 use Rattle.host_table.proofs.Housing.{same_blocks, settled_stays, settled_at}
-use Rattle.host_shared.proofs.Homes.{lent_here}
+use Rattle.host_shared.proofs.Owners.{lent_here}
 use Rattle.host_shared.proofs.Lent.{put_back}
 use Rattle.host_table.proofs.Held.{once_unplaced}
-use Rattle.host_table.proofs.Changes.{homes_in, read_ok_slot, read_ok_group}
+use Rattle.host_table.proofs.Changes.{owners_in, read_ok_slot, read_ok_group}
 use Rattle.host_table.proofs.Activities.{activity_stays, group_change, inactive_beside}
 use Rattle.host_life.proofs.Told.{told_member}
 use Rattle.host_moves.proofs.Owns.{member_back}
 use Rattle.host_moves.proofs.Tells.{ok_of_idle, waiting_of_idle, same_of_idle, keeps_of_idle, ok_of_active, waiting_of_active, same_of_active, keeps_of_active}
 use Rattle.host_moves.proofs.told.tell.Goals as goal
-use Rattle.host_moves.proofs.told.tell.Goals.{After-put_seen, After-put_seen-in-Running}
+use Rattle.host_moves.proofs.told.tell.Goals.{After-give_back_pieces, After-give_back_pieces-in-Running}
 use Rattle.host_moves.proofs.told.tell.Given.{Over}
 
 pub moved-requires-clause-fits : goal.moved-requires-clause-fits
 moved-requires-clause-fits g c =
     let at = read_ok_slot _ _ _ (rw (← c.tables.view_is) at c.requires.there) c.args.i c.requires.number _ c.index_mut.ensures.value ∙ c.in-Some.is in
-    let once_is = sym c.take_seen-shared.ensures.pieces in
+    let once_is = sym c.borrow_pieces-shared.ensures.pieces in
     let group_is = read_ok_group _ _ _ (rw (← c.tables.view_is) at c.requires.there) c.in-Some.member.group ((rw (← c.tables.view_is) at c.requires.there).group_range c.args.i _ at) _ c.index.ensures in
     rw (c.in-Idling.is, once_is, group_is) at ((rw (← c.tables.view_is) at c.requires.room) _ at)
 
 pub moved-requires-in-Running-clause-fits : goal.moved-requires-in-Running-clause-fits
 moved-requires-in-Running-clause-fits g c =
     let at = read_ok_slot _ _ _ (rw (← c.tables.view_is) at c.requires.there) c.args.i c.requires.number _ c.index_mut.ensures.value ∙ c.in-Some.is in
-    let once_is = sym c.take_seen-shared-in-Running.ensures.pieces in
+    let once_is = sym c.borrow_pieces-shared-in-Running.ensures.pieces in
     let group_is = read_ok_group _ _ _ (rw (← c.tables.view_is) at c.requires.there) c.in-Some.member.group ((rw (← c.tables.view_is) at c.requires.there).group_range c.args.i _ at) _ c.index_mut-in-Running.ensures.value in
     rw (c.in-Running.is, once_is, group_is) at ((rw (← c.tables.view_is) at c.requires.room) _ at)
 
-pub take_seen-shared-requires-clause-homes : goal.take_seen-shared-requires-clause-homes
-take_seen-shared-requires-clause-homes g c = homes_in _ _ _ (rw (← c.tables.view_is) at c.requires.there) c.args.i c.requires.number
+pub borrow_pieces-shared-requires-clause-owners : goal.borrow_pieces-shared-requires-clause-owners
+borrow_pieces-shared-requires-clause-owners g c = owners_in _ _ _ (rw (← c.tables.view_is) at c.requires.there) c.args.i c.requires.number
 
-pub take_seen-shared-requires-in-Running-clause-homes : goal.take_seen-shared-requires-in-Running-clause-homes
-take_seen-shared-requires-in-Running-clause-homes g c = homes_in _ _ _ (rw (← c.tables.view_is) at c.requires.there) c.args.i c.requires.number
+pub borrow_pieces-shared-requires-in-Running-clause-owners : goal.borrow_pieces-shared-requires-in-Running-clause-owners
+borrow_pieces-shared-requires-in-Running-clause-owners g c = owners_in _ _ _ (rw (← c.tables.view_is) at c.requires.there) c.args.i c.requires.number
 
 -- an idle instance
-module _ (g : Over) (c : After-put_seen g) where
-  idle_in_slot : slot_at c.tables.inside.slots.items c.args.i ≡ Some c.in-Some.member
+module _ (g : Over) (c : After-give_back_pieces g) where
+  idle_in_slot : slot_at c.tables.inside.instances.items c.args.i ≡ Some c.in-Some.member
   idle_in_slot = read_ok_slot _ _ _ (rw (← c.tables.view_is) at c.requires.there) c.args.i c.requires.number _ c.index_mut.ensures.value ∙ c.in-Some.is
 
-  idle_once_is : once_at c.tables.inside.once.items c.args.i ≡ c.take_seen-shared.result
-  idle_once_is = sym c.take_seen-shared.ensures.pieces
+  idle_once_is : shared_at c.tables.inside.sharing.items c.args.i ≡ c.borrow_pieces-shared.result
+  idle_once_is = sym c.borrow_pieces-shared.ensures.pieces
 
-  idle_homes : HasHomes c.tables.inside.once.items c.args.i
-  idle_homes = homes_in _ _ _ (rw (← c.tables.view_is) at c.requires.there) c.args.i c.requires.number
+  idle_owners : HasOwners c.tables.inside.sharing.items c.args.i
+  idle_owners = owners_in _ _ _ (rw (← c.tables.view_is) at c.requires.there) c.args.i c.requires.number
 
   idle_range : c.in-Some.member.group < GROUPS
   idle_range = (rw (← c.tables.view_is) at c.requires.there).group_range c.args.i _ idle_in_slot
@@ -67,12 +67,12 @@ module _ (g : Over) (c : After-put_seen g) where
 
   idle_same : SameMember (member_back c.args.back c.in-Some.member) (record { group = c.in-Some.member.group; inst = Idling c.moved.new.self })
   idle_same =
-      told_member (member_back c.args.back c.in-Some.member) (Idling c.moved.new.self) c.take_seen-shared.result c.index.result.now (rw c.in-Idling.is c.moved.ensures.same)
+      told_member (member_back c.args.back c.in-Some.member) (Idling c.moved.new.self) c.borrow_pieces-shared.result c.index.result.now (rw c.in-Idling.is c.moved.ensures.same)
 
-  idle_pieces : SamePieces (once_at c.tables.inside.once.items c.args.i) c.moved.new.shared
+  idle_pieces : SamePieces (shared_at c.tables.inside.sharing.items c.args.i) c.moved.new.shared
   idle_pieces = rw idle_once_is c.moved.ensures.shared
 
-  idle_written : SameOnce (instance_of (member_back c.args.back c.in-Some.member).inst).table (once_at c.tables.inside.once.items c.args.i) c.moved.new.shared
+  idle_written : SameOnce (instance_of (member_back c.args.back c.in-Some.member).inst).table (shared_at c.tables.inside.sharing.items c.args.i) c.moved.new.shared
   idle_written = once_unplaced _ c.moved.new.self.instance.table _ _ idle_same.table (rw idle_once_is c.moved.ensures.once)
 
   idle_housed : IsHoused c.moved.new.self.instance c.moved.new.shared (group_at c.tables.inside.groups.items c.in-Some.member.group)
@@ -85,7 +85,7 @@ pub returns-in-Idling-clause-ok : goal.returns-in-Idling-clause-ok
 returns-in-Idling-clause-ok g c =
     rw (← c.tables.view_is)
     (λ before.
-    rw (put_back _ _ (idle_homes g c) _ _ c.moved.new.shared c.take_seen-shared.ensures.left c.put_seen.ensures)
+    rw (put_back _ _ (idle_owners g c) _ _ c.moved.new.shared c.borrow_pieces-shared.ensures.left c.give_back_pieces.ensures)
     (ok_of_idle _ _ _ c.args.i c.in-Some.member c.args.back (rw (← c.tables.view_is) at c.requires.there) (idle_in_slot g c) c.requires.number (record { group = c.in-Some.member.group; inst = Idling c.moved.new.self }) _ (idle_was g c) refl
     (idle_same g c) (idle_pieces g c) (idle_written g c) (idle_range g c) (idle_housed g c) before))
 
@@ -93,14 +93,14 @@ pub returns-in-Idling-clause-waiting : goal.returns-in-Idling-clause-waiting
 returns-in-Idling-clause-waiting g c =
     rw (← c.tables.view_is)
     (λ waits before.
-    rw (put_back _ _ (idle_homes g c) _ _ c.moved.new.shared c.take_seen-shared.ensures.left c.put_seen.ensures)
+    rw (put_back _ _ (idle_owners g c) _ _ c.moved.new.shared c.borrow_pieces-shared.ensures.left c.give_back_pieces.ensures)
     (waiting_of_idle _ _ _ c.args.i c.in-Some.member c.args.back (rw (← c.tables.view_is) at c.requires.there) (idle_in_slot g c) c.requires.number (record { group = c.in-Some.member.group; inst = Idling c.moved.new.self }) _ (idle_was g c) refl
     (idle_same g c) (idle_pieces g c) (idle_written g c) (idle_range g c) (idle_housed g c) waits before))
 
 pub returns-in-Idling-clause-same : goal.returns-in-Idling-clause-same
 returns-in-Idling-clause-same g c =
     rw (← c.tables.view_is)
-    (rw (put_back _ _ (idle_homes g c) _ _ c.moved.new.shared c.take_seen-shared.ensures.left c.put_seen.ensures)
+    (rw (put_back _ _ (idle_owners g c) _ _ c.moved.new.shared c.borrow_pieces-shared.ensures.left c.give_back_pieces.ensures)
     (same_of_idle _ _ _ c.args.i c.in-Some.member c.args.back (rw (← c.tables.view_is) at c.requires.there) (idle_in_slot g c) c.requires.number (record { group = c.in-Some.member.group; inst = Idling c.moved.new.self }) _ (idle_was g c) refl
     (idle_same g c) (idle_pieces g c) (idle_written g c)))
 
@@ -108,22 +108,22 @@ pub returns-in-Idling-clause-keeps : goal.returns-in-Idling-clause-keeps
 returns-in-Idling-clause-keeps g c =
     rw (← c.tables.view_is)
     (λ w histories keeps.
-    rw (put_back _ _ (idle_homes g c) _ _ c.moved.new.shared c.take_seen-shared.ensures.left c.put_seen.ensures)
+    rw (put_back _ _ (idle_owners g c) _ _ c.moved.new.shared c.borrow_pieces-shared.ensures.left c.give_back_pieces.ensures)
     (keeps_of_idle _ _ _ c.args.i c.in-Some.member c.args.back (rw (← c.tables.view_is) at c.requires.there) (idle_in_slot g c) c.requires.number (record { group = c.in-Some.member.group; inst = Idling c.moved.new.self }) _ (idle_was g c) refl
     (idle_same g c) (idle_pieces g c) (idle_written g c)
-    g.M.Ialg.meaning g.M.Ialg.idle_keeps g.M.Ialg.active_keeps w histories
+    g.M.Ialg.law w histories
     (λ before. c.moved.ensures.keeps w (histories c.args.i) (rw (idle_once_is g c, c.in-Idling.is) at before)) keeps))
 
 -- an active instance
-module _ (g : Over) (c : After-put_seen-in-Running g) where
-  active_in_slot : slot_at c.tables.inside.slots.items c.args.i ≡ Some c.in-Some.member
+module _ (g : Over) (c : After-give_back_pieces-in-Running g) where
+  active_in_slot : slot_at c.tables.inside.instances.items c.args.i ≡ Some c.in-Some.member
   active_in_slot = read_ok_slot _ _ _ (rw (← c.tables.view_is) at c.requires.there) c.args.i c.requires.number _ c.index_mut.ensures.value ∙ c.in-Some.is
 
-  active_once_is : once_at c.tables.inside.once.items c.args.i ≡ c.take_seen-shared-in-Running.result
-  active_once_is = sym c.take_seen-shared-in-Running.ensures.pieces
+  active_once_is : shared_at c.tables.inside.sharing.items c.args.i ≡ c.borrow_pieces-shared-in-Running.result
+  active_once_is = sym c.borrow_pieces-shared-in-Running.ensures.pieces
 
-  active_homes : HasHomes c.tables.inside.once.items c.args.i
-  active_homes = homes_in _ _ _ (rw (← c.tables.view_is) at c.requires.there) c.args.i c.requires.number
+  active_owners : HasOwners c.tables.inside.sharing.items c.args.i
+  active_owners = owners_in _ _ _ (rw (← c.tables.view_is) at c.requires.there) c.args.i c.requires.number
 
   active_range : c.in-Some.member.group < GROUPS
   active_range = (rw (← c.tables.view_is) at c.requires.there).group_range c.args.i _ active_in_slot
@@ -142,12 +142,12 @@ module _ (g : Over) (c : After-put_seen-in-Running g) where
 
   active_same : SameMember (member_back c.args.back c.in-Some.member) (record { group = c.in-Some.member.group; inst = Running c.moved-in-Running.new.self })
   active_same =
-      told_member (member_back c.args.back c.in-Some.member) (Running c.moved-in-Running.new.self) c.take_seen-shared-in-Running.result c.index_mut-in-Running.result.now (rw c.in-Running.is c.moved-in-Running.ensures.same)
+      told_member (member_back c.args.back c.in-Some.member) (Running c.moved-in-Running.new.self) c.borrow_pieces-shared-in-Running.result c.index_mut-in-Running.result.now (rw c.in-Running.is c.moved-in-Running.ensures.same)
 
-  active_pieces : SamePieces (once_at c.tables.inside.once.items c.args.i) c.moved-in-Running.new.shared
+  active_pieces : SamePieces (shared_at c.tables.inside.sharing.items c.args.i) c.moved-in-Running.new.shared
   active_pieces = rw active_once_is c.moved-in-Running.ensures.shared
 
-  active_written : SameOnce (instance_of (member_back c.args.back c.in-Some.member).inst).table (once_at c.tables.inside.once.items c.args.i) c.moved-in-Running.new.shared
+  active_written : SameOnce (instance_of (member_back c.args.back c.in-Some.member).inst).table (shared_at c.tables.inside.sharing.items c.args.i) c.moved-in-Running.new.shared
   active_written = once_unplaced _ c.moved-in-Running.new.self.instance.table _ _ active_same.table (rw active_once_is c.moved-in-Running.ensures.once)
 
   active_blocks : (space : Space) → IsSameBlock (block_in (group_at c.tables.inside.groups.items c.in-Some.member.group) space) (block_in c.moved-in-Running.new.group space)
@@ -164,10 +164,10 @@ pub returns-in-Running-clause-ok : goal.returns-in-Running-clause-ok
 returns-in-Running-clause-ok g c =
     rw (← c.tables.view_is)
     (λ before.
-    rw (put_back _ _ (active_homes g c) _ _ c.moved-in-Running.new.shared c.take_seen-shared-in-Running.ensures.left c.put_seen-in-Running.ensures)
+    rw (put_back _ _ (active_owners g c) _ _ c.moved-in-Running.new.shared c.borrow_pieces-shared-in-Running.ensures.left c.give_back_pieces-in-Running.ensures)
     (ok_of_active _ _ _ c.args.i c.in-Some.member c.args.back (rw (← c.tables.view_is) at c.requires.there) (active_in_slot g c) c.requires.number (Running c.moved-in-Running.new.self) _ _ (active_alone g c) (active_now g c) (active_same g c) (active_pieces g c) (active_written g c) (active_blocks g c)
     (rw (
-      lent_here c.tables.inside.once.items c.args.i (active_homes g c) c.moved-in-Running.new.shared,
+      lent_here c.tables.inside.sharing.items c.args.i (active_owners g c) c.moved-in-Running.new.shared,
       get_or-set_same c.tables.inside.groups.items c.in-Some.member.group c.moved-in-Running.new.group no_group (omega (arith, (active_range g c), (rw (← c.tables.view_is) at c.requires.there).group_count)),
     ) (active_housed g c)) before))
 
@@ -175,10 +175,10 @@ pub returns-in-Running-clause-waiting : goal.returns-in-Running-clause-waiting
 returns-in-Running-clause-waiting g c =
     rw (← c.tables.view_is)
     (λ waits before.
-    rw (put_back _ _ (active_homes g c) _ _ c.moved-in-Running.new.shared c.take_seen-shared-in-Running.ensures.left c.put_seen-in-Running.ensures)
+    rw (put_back _ _ (active_owners g c) _ _ c.moved-in-Running.new.shared c.borrow_pieces-shared-in-Running.ensures.left c.give_back_pieces-in-Running.ensures)
     (waiting_of_active _ _ _ c.args.i c.in-Some.member c.args.back (rw (← c.tables.view_is) at c.requires.there) (active_in_slot g c) c.requires.number (Running c.moved-in-Running.new.self) _ _ (active_alone g c) (active_now g c) (active_same g c) (active_pieces g c) (active_written g c) (active_blocks g c)
     (rw (
-      lent_here c.tables.inside.once.items c.args.i (active_homes g c) c.moved-in-Running.new.shared,
+      lent_here c.tables.inside.sharing.items c.args.i (active_owners g c) c.moved-in-Running.new.shared,
       get_or-set_same c.tables.inside.groups.items c.in-Some.member.group c.moved-in-Running.new.group no_group (omega (arith, (active_range g c), (rw (← c.tables.view_is) at c.requires.there).group_count)),
     ) (active_housed g c)) waits before))
 
@@ -191,7 +191,7 @@ returns-in-Running-clause-inactive g c =
 pub returns-in-Running-clause-same : goal.returns-in-Running-clause-same
 returns-in-Running-clause-same g c =
     rw (← c.tables.view_is)
-    (rw (put_back _ _ (active_homes g c) _ _ c.moved-in-Running.new.shared c.take_seen-shared-in-Running.ensures.left c.put_seen-in-Running.ensures)
+    (rw (put_back _ _ (active_owners g c) _ _ c.moved-in-Running.new.shared c.borrow_pieces-shared-in-Running.ensures.left c.give_back_pieces-in-Running.ensures)
     (same_of_active _ _ _ c.args.i c.in-Some.member c.args.back (rw (← c.tables.view_is) at c.requires.there) (active_in_slot g c) c.requires.number (Running c.moved-in-Running.new.self) _ _ (active_alone g c) (active_now g c) (active_same g c) (active_pieces g c) (active_written g c) (active_blocks g c)))
 
 pub returns-in-Running-clause-activity : goal.returns-in-Running-clause-activity
@@ -205,7 +205,7 @@ pub returns-in-Running-clause-keeps : goal.returns-in-Running-clause-keeps
 returns-in-Running-clause-keeps g c =
     rw (← c.tables.view_is)
     (λ w histories keeps.
-    rw (put_back _ _ (active_homes g c) _ _ c.moved-in-Running.new.shared c.take_seen-shared-in-Running.ensures.left c.put_seen-in-Running.ensures)
+    rw (put_back _ _ (active_owners g c) _ _ c.moved-in-Running.new.shared c.borrow_pieces-shared-in-Running.ensures.left c.give_back_pieces-in-Running.ensures)
     (keeps_of_active _ _ _ c.args.i c.in-Some.member c.args.back (rw (← c.tables.view_is) at c.requires.there) (active_in_slot g c) c.requires.number (Running c.moved-in-Running.new.self) _ _ (active_alone g c) (active_now g c) (active_same g c) (active_pieces g c) (active_written g c) (active_blocks g c)
-    g.M.Ialg.meaning g.M.Ialg.idle_keeps g.M.Ialg.active_keeps w histories
+    g.M.Ialg.law w histories
     (λ before. c.moved-in-Running.ensures.keeps w (histories c.args.i) (rw (active_once_is g c, active_group_is g c, c.in-Running.is) at before)) keeps))

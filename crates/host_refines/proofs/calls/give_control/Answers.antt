@@ -9,23 +9,23 @@ pub returns-in-Some-clause-machine : goal.returns-in-Some-clause-machine
 returns-in-Some-clause-machine g c =
     let did = c.in-Some.ensures in
     let lt : c.args.i < 64 = omega arith in
-    let living : IsSome (slot_at c.args.tables.now.slots c.args.i) = search rules in
+    let living : IsSome (slot_at c.args.tables.now.instances c.args.i) = search rules in
     λ before e kept.
-    control_given g.M.Ialg.meaning g.M.Ialg.idle_keeps g.M.Ialg.active_keeps c.args.tables.now.slots c.args.tables.now.once c.args.tables.now.groups
-    c.control.new.self.slots c.control.new.self.once c.control.new.self.groups before c.args.i c.args.poison
+    control_given g.M.Ialg.law c.args.tables.now.instances c.args.tables.now.sharing c.args.tables.now.groups
+    c.control.new.self.instances c.control.new.self.sharing c.control.new.self.groups before c.args.i c.args.poison
     (control_of c.args.c.now) (answer_of c.in-Some.status) e kept living lt did.taken did.status did.step.same did.step.activity did.step.keeps
 
 pub returns-in-None-clause-machine : goal.returns-in-None-clause-machine
 returns-in-None-clause-machine g c =
     let did = c.in-None.ensures in
     let lt : c.args.i < 64 = omega arith in
-    let living : IsSome (slot_at c.args.tables.now.slots c.args.i) = search rules in
+    let living : IsSome (slot_at c.args.tables.now.instances c.args.i) = search rules in
     λ before e kept. (
       before,
-      control_refused g.M.Ialg.meaning g.M.Ialg.idle_keeps g.M.Ialg.active_keeps c.args.tables.now.slots c.args.tables.now.once c.args.tables.now.groups
-          c.control.new.self.slots c.control.new.self.once c.control.new.self.groups before c.args.i c.args.poison
+      control_refused g.M.Ialg.law c.args.tables.now.instances c.args.tables.now.sharing c.args.tables.now.groups
+          c.control.new.self.instances c.control.new.self.sharing c.control.new.self.groups before c.args.i c.args.poison
           (control_of c.args.c.now) e kept living lt did.taken,
-      same_kept g.M.Ialg.meaning g.M.Ialg.idle_keeps g.M.Ialg.active_keeps c.args.tables.now.slots c.args.tables.now.once c.args.tables.now.groups
-          c.control.new.self.slots c.control.new.self.once c.control.new.self.groups before c.args.i
-          (ap (λ v. v.slots) did.refused) (ap (λ v. v.once) did.refused) (ap (λ v. v.groups) did.refused) kept,
+      same_kept g.M.Ialg.law c.args.tables.now.instances c.args.tables.now.sharing c.args.tables.now.groups
+          c.control.new.self.instances c.control.new.self.sharing c.control.new.self.groups before c.args.i
+          (ap (λ v. v.instances) did.refused) (ap (λ v. v.sharing) did.refused) (ap (λ v. v.groups) did.refused) kept,
     )

@@ -3,7 +3,7 @@ use Rattle.std.proofs.Common.{◌≤◌, ◌+◌, ℤ, suc, length, drop, Option
 use Rattle.mem_rec.specs.declared.Space.{Space}
 use Rattle.host_map.specs.declared.TheConstants.{SPACE_BLOCKS}
 use Rattle.host_spaces.specs.declared.granted.Granted.{Granted}
-use Rattle.host_spaces.specs.Picture.{picture_of, sizes_of, space_in}
+use Rattle.host_spaces.specs.MemoryMap.{map_of, sizes_of, space_in}
 use Rattle.host_map.specs.Creation.{all_placed}
 use Rattle.host_spaces.specs.Wants.{IsGranted, count_in, somes}
 use Rattle.host_spaces.proofs.OnePlaced.{IsOne, after_some, at_none, exact_one, granted_next, granted_skip, if_ok, its_owner, room_next, taken_back}
@@ -69,9 +69,9 @@ returns-in-Ok-clause-exact g c =
       stays = told.stays;
     } in
     let is = at_none wants k _ (Some w) c.if-k-wants.false c.in-Some.is in
-    ap (all_placed (sizes_of old) (picture_of old)) (after_some wants k w c.if-k-wants.false is)
+    ap (all_placed (sizes_of old) (map_of old)) (after_some wants k w c.if-k-wants.false is)
     ∙ exact_one old mid w p one (c.requires.limits k w is) (somes (drop (suc k) wants))
-    ∙ ap (λ n. all_placed (sizes_of mid) (picture_of mid) (somes (drop n wants))) (sym (add-one k))
+    ∙ ap (λ n. all_placed (sizes_of mid) (map_of mid) (somes (drop n wants))) (sym (add-one k))
     ∙ c.in-Ok.ensures.exact
 
 pub returns-in-Ok-clause-granted : goal.returns-in-Ok-clause-granted
@@ -108,9 +108,9 @@ returns-in-Err-clause-exact g c =
       stays = told.stays;
     } in
     let is = at_none wants k _ (Some w) c.if-k-wants.false c.in-Some.is in
-    ap (all_placed (sizes_of old) (picture_of old)) (after_some wants k w c.if-k-wants.false is)
+    ap (all_placed (sizes_of old) (map_of old)) (after_some wants k w c.if-k-wants.false is)
     ∙ exact_one old mid w p one (c.requires.limits k w is) (somes (drop (suc k) wants))
-    ∙ ap (λ n. all_placed (sizes_of mid) (picture_of mid) (somes (drop n wants))) (sym (add-one k))
+    ∙ ap (λ n. all_placed (sizes_of mid) (map_of mid) (somes (drop n wants))) (sym (add-one k))
     ∙ c.in-Err.ensures.exact
 
 pub returns-in-Err-clause-refused : goal.returns-in-Err-clause-refused

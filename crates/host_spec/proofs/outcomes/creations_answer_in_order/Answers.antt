@@ -14,4 +14,4 @@ pub returns-clause-room : goal.returns-clause-room
 returns-clause-room g c = λ kinds before i g kind p table space lt small none e. create_room before kinds i g kind p table space lt small none e
 
 pub returns-clause-granted : goal.returns-clause-granted
-returns-clause-granted g c = λ kinds before i g kind p table picture lt small none e. create_granted before kinds i g kind p table picture lt small none e
+returns-clause-granted g c = λ kinds before i g kind p table map lt small none e. create_granted before kinds i g kind p table map lt small none e

@@ -10,7 +10,7 @@ pub returns-in-Err-clause-unfed : goal.returns-in-Err-clause-unfed
 returns-in-Err-clause-unfed g c = λ is. writes_none _ _
 
 pub returns-in-Ok-tell-clause-served : goal.returns-in-Ok-tell-clause-served
-returns-in-Ok-tell-clause-served g c = λ s k h.
+returns-in-Ok-tell-clause-served g c = λ s honest k h.
     let number = c.from-c.ensures in
     let there = there_in g.I.PortIn.source c.args.inputs.now.items c.requires.one c.requires.channel.there in
     let answer : c.read_from.result ≡ Ok false = cc in
@@ -18,11 +18,11 @@ returns-in-Ok-tell-clause-served g c = λ s k h.
     let long : length c.read_from.new.octets ≡ c.octets_of-octets.result = grind (arith, common_steps, c.read_from.auto.octets) in
     let count = long ∙ asked in
     let same = c.read_from.auto.octets in
-    served_short (g.T.LineMachine.machine (g.T.LineMachine.widths c.args.machine.now)) s (g.T.LineMachine.keeps c.args.machine.now) _ k there h
+    served_short (g.T.LineMachine.machine (g.T.LineMachine.widths c.args.machine.now)) honest s (g.T.LineMachine.keeps c.args.machine.now) _ k there h
     (rw (number, sym same ∙ count) at (c.read_from.ensures.short answer)) (c.in-Ok-tell.ensures.ok refl)
 
 pub returns-in-Err-tell-clause-cut : goal.returns-in-Err-tell-clause-cut
-returns-in-Err-tell-clause-cut g c = λ is s k h.
+returns-in-Err-tell-clause-cut g c = λ is s honest k h.
     let number = c.from-c.ensures in
     let there = there_in g.I.PortIn.source c.args.inputs.now.items c.requires.one c.requires.channel.there in
     let answer : c.read_from.result ≡ Ok false = cc in
@@ -30,10 +30,10 @@ returns-in-Err-tell-clause-cut g c = λ is s k h.
     let long : length c.read_from.new.octets ≡ c.octets_of-octets.result = grind (arith, common_steps, c.read_from.auto.octets) in
     let count = long ∙ asked in
     let same = c.read_from.auto.octets in
-    cut_short (g.T.LineMachine.machine (g.T.LineMachine.widths c.args.machine.now)) s _ there h (rw (number, sym same ∙ count) at (c.read_from.ensures.short answer)) (c.in-Err-tell.ensures.fault refl)
+    cut_short (g.T.LineMachine.machine (g.T.LineMachine.widths c.args.machine.now)) honest s _ there h (rw (number, sym same ∙ count) at (c.read_from.ensures.short answer)) (c.in-Err-tell.ensures.fault refl)
 
 pub returns-then-is_err-clause-cut : goal.returns-then-is_err-clause-cut
-returns-then-is_err-clause-cut g c = λ is s k h.
+returns-then-is_err-clause-cut g c = λ is s honest k h.
     let number = c.from-c.ensures in
     let there = there_in g.I.PortIn.source c.args.inputs.now.items c.requires.one c.requires.channel.there in
     let pairs = same_length g.O.PortOut.sink g.I.PortIn.source c.args.outputs.now.items c.args.inputs.now.items c.requires.pairs c.requires.one in
@@ -43,11 +43,11 @@ returns-then-is_err-clause-cut g c = λ is s k h.
     let count = long ∙ asked in
     let taken : c.octets_of.result ≡ octet_count ((g.T.LineMachine.widths c.args.machine.now).output c.args.channel) c.feed-count.result = rw c.output_width-output_width.ensures at c.octets_of.ensures.count in
     let given = c.feed-count.ensures.gives s k in
-    cut_output (g.T.LineMachine.machine (g.T.LineMachine.widths c.args.machine.now)) s _ there pairs h count (rw number at (c.read_from.ensures.filled answer)) (given_first (g.T.LineMachine.machine (g.T.LineMachine.widths c.args.machine.now)) s _ count given.1)
+    cut_output (g.T.LineMachine.machine (g.T.LineMachine.widths c.args.machine.now)) honest s _ there pairs h count (rw number at (c.read_from.ensures.filled answer)) (given_first (g.T.LineMachine.machine (g.T.LineMachine.widths c.args.machine.now)) s _ count given.1)
     (rw (number, taken) at (c.write_to.ensures.fault (sym c.is_err.ensures.value ∙ c.if-is_err.true)))
 
 pub returns-in-Ok-tell-2-clause-served : goal.returns-in-Ok-tell-2-clause-served
-returns-in-Ok-tell-2-clause-served g c = λ s k h.
+returns-in-Ok-tell-2-clause-served g c = λ s honest k h.
     let number = c.from-c.ensures in
     let there = there_in g.I.PortIn.source c.args.inputs.now.items c.requires.one c.requires.channel.there in
     let pairs = same_length g.O.PortOut.sink g.I.PortIn.source c.args.outputs.now.items c.args.inputs.now.items c.requires.pairs c.requires.one in
@@ -57,12 +57,12 @@ returns-in-Ok-tell-2-clause-served g c = λ s k h.
     let count = long ∙ asked in
     let taken : c.octets_of.result ≡ octet_count ((g.T.LineMachine.widths c.args.machine.now).output c.args.channel) c.feed-count.result = rw c.output_width-output_width.ensures at c.octets_of.ensures.count in
     let given = c.feed-count.ensures.gives s k in
-    served_whole (g.T.LineMachine.machine (g.T.LineMachine.widths c.args.machine.now)) s (g.T.LineMachine.keeps c.feed-count.new.self) given.2 there pairs h count
+    served_whole (g.T.LineMachine.machine (g.T.LineMachine.widths c.args.machine.now)) honest s (g.T.LineMachine.keeps c.feed-count.new.self) given.2 there pairs h count
     (rw number at (c.read_from.ensures.filled answer)) (given_first (g.T.LineMachine.machine (g.T.LineMachine.widths c.args.machine.now)) s _ count given.1)
     (rw (number, taken) at (c.write_to.ensures.ok c.if-is_err.ensures.negation)) (c.in-Ok-tell-2.ensures.ok refl)
 
 pub returns-in-Err-tell-2-clause-cut : goal.returns-in-Err-tell-2-clause-cut
-returns-in-Err-tell-2-clause-cut g c = λ is s k h.
+returns-in-Err-tell-2-clause-cut g c = λ is s honest k h.
     let number = c.from-c.ensures in
     let there = there_in g.I.PortIn.source c.args.inputs.now.items c.requires.one c.requires.channel.there in
     let pairs = same_length g.O.PortOut.sink g.I.PortIn.source c.args.outputs.now.items c.args.inputs.now.items c.requires.pairs c.requires.one in
@@ -72,7 +72,7 @@ returns-in-Err-tell-2-clause-cut g c = λ is s k h.
     let count = long ∙ asked in
     let taken : c.octets_of.result ≡ octet_count ((g.T.LineMachine.widths c.args.machine.now).output c.args.channel) c.feed-count.result = rw c.output_width-output_width.ensures at c.octets_of.ensures.count in
     let given = c.feed-count.ensures.gives s k in
-    cut_told (g.T.LineMachine.machine (g.T.LineMachine.widths c.args.machine.now)) s there pairs h count (rw number at (c.read_from.ensures.filled answer)) (given_first (g.T.LineMachine.machine (g.T.LineMachine.widths c.args.machine.now)) s _ count given.1) (rw (number, taken) at (c.write_to.ensures.ok c.if-is_err.ensures.negation)) (c.in-Err-tell-2.ensures.fault refl)
+    cut_told (g.T.LineMachine.machine (g.T.LineMachine.widths c.args.machine.now)) honest s there pairs h count (rw number at (c.read_from.ensures.filled answer)) (given_first (g.T.LineMachine.machine (g.T.LineMachine.widths c.args.machine.now)) s _ count given.1) (rw (number, taken) at (c.write_to.ensures.ok c.if-is_err.ensures.negation)) (c.in-Err-tell-2.ensures.fault refl)
 
 pub returns-in-Err-clause-unread : goal.returns-in-Err-clause-unread
 returns-in-Err-clause-unread g c = λ is.

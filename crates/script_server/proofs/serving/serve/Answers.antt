@@ -15,7 +15,7 @@ returns-then-is_err-clause-write g c = λ is.
       failed = inl (c.flush_outputs.ensures.failed (sym c.is_err.ensures.value ∙ c.if-is_err.true));
       passed = inl c.serve_script.ensures.waits.reply;
       order = ordered;
-      served = λ honest h. all_is_first m start (all_passed_on m start (c.in-Ok.ensures.ok.served honest h) outputs_hold);
+      served = λ honest. all_is_first m start (all_passed_on m start (c.in-Ok.ensures.ok.served honest) outputs_hold);
     }
 
 -- the replies' flush failed
@@ -28,7 +28,7 @@ returns-then-is_err-2-clause-write g c = λ is.
       failed = inr (c.flush.ensures.failed ∙ sym c.is_err-2.ensures.value ∙ c.if-is_err-2.true);
       passed = inr (c.flush_outputs.ensures.passed c.if-is_err.ensures.negation);
       order = order_after _ c.serve_script.ensures.waits c.flush_outputs.ensures.order;
-      served = λ honest h. all_is_first m start (all_passed_on m start (c.in-Ok.ensures.ok.served honest h) all_hold);
+      served = λ honest. all_is_first m start (all_passed_on m start (c.in-Ok.ensures.ok.served honest) all_hold);
     }
 
 pub returns-clause-ok : goal.returns-clause-ok
@@ -47,7 +47,7 @@ returns-clause-ok g c =
           outs = c.flush_outputs.ensures.ready outputs_passed_on;
           reply = c.flush.ensures.failed ∙ sym c.is_err-2.ensures.value ∙ c.if-is_err-2.false;
         };
-        served = λ honest h. all_passed_on m start (serves.served honest h) both_hold;
+        served = λ honest. all_passed_on m start (serves.served honest) both_hold;
       };
       outputs_passed = c.flush_outputs.ensures.passed outputs_passed_on;
       replies_passed = c.flush.ensures.all replies_passed_on;

@@ -1,9 +1,11 @@
-use Rattle.std.proofs.Common.{rules, ◌≡◌, arith, ◌+◌, ◌∙◌, refl, ap, Err, ◌≤◌, length, ◌++◌, ◌∷◌, [], if◌then◌else◌, inl, inr}
+use Rattle.std.proofs.Common.{rules, ◌≡◌, arith, ◌+◌, ◌∙◌, refl, ap, Err, ◌≤◌, length, ◌++◌, ◌∷◌, [], map, if◌then◌else◌, inl, inr}
 use Rattle.std.proofs.lemmas.Grind.{common_steps}
 use Rattle.octet_ports.proofs.Ports.{gives_none}
 use Rattle.script_server.proofs.Scripts.{served_none, consumes_more}
+use Rattle.script_server.proofs.Honest.{honest_first}
 use Rattle.script_server.proofs.Writes.{wait_none, wait_more, order_waits}
 use Rattle.script_server.proofs.Ends.{served_more, served_all, script_cut, stops_in_script, stops_in_feed, why_failed, consumes_within, consumes_then}
+use Rattle.script_server.specs.Runs.{honest_at}
 use Rattle.script_server.specs.declared.serving.PortsFault.TheVariants.{Read, Write}
 use Rattle.script_server.proofs.serving.serve_script.Goals as goal
 use Rattle.script_server.proofs.serving.serve_script.Goals.{then-is_refused, else-is_refused}
@@ -18,14 +20,16 @@ lines-init g c = record {
   few = search rules;
   came = rw (c.new-reader.ensures.none, c.new-reader.ensures.left) (record { octets = []; gives = gives_none (g.S.PortIn.source c.args.script.now); used = refl });
   waits = wait_none _ _;
-  served = λ h. rw (c.new-reader.ensures.none, c.new-reader.ensures.left) (served_none (g.T.LineMachine.machine (g.T.LineMachine.widths c.args.machine.now)) (g.T.LineMachine.keeps c.args.machine.now) g.state _ _ _ _ (search rules) h);
+  served = rw (c.new-reader.ensures.none, c.new-reader.ensures.left)
+      (served_none (g.T.LineMachine.machine (g.T.LineMachine.widths c.args.machine.now)) (g.T.LineMachine.keeps c.args.machine.now) (honest_at (map g.I.PortIn.source c.args.inputs.now.items)) g.state _ _ _ _
+      (search rules) (honest_first (map g.I.PortIn.source c.args.inputs.now.items)));
 }
 
 pub returns-in-Err-clause-read : goal.returns-in-Err-clause-read
 returns-in-Err-clause-read g c = λ is. record {
   failed = why_failed _ c.in-Err.field-0 c.lines.invariant.came c.in-Err.ensures.err;
   passed = c.lines.invariant.waits;
-  served = λ h. stops_in_script (g.T.LineMachine.machine (g.T.LineMachine.widths c.args.machine.now)) _ _ _ (c.lines.invariant.served h) c.in-Err.field-0 c.in-Err.ensures.err;
+  served = stops_in_script (g.T.LineMachine.machine (g.T.LineMachine.widths c.args.machine.now)) _ _ _ c.lines.invariant.served c.in-Err.field-0 c.in-Err.ensures.err;
 }
 
 pub returns-in-Err-serve_line-clause-write : goal.returns-in-Err-serve_line-clause-write
@@ -36,9 +40,9 @@ returns-in-Err-serve_line-clause-write g c = λ is.
       failed = c.in-Err-serve_line.ensures.write (ap Err e);
       passed = inl (wait_more c.lines.invariant.waits c.in-Err-serve_line.ensures.waits).reply;
       order = order_waits (wait_more c.lines.invariant.waits c.in-Err-serve_line.ensures.waits);
-      served = λ honest h. let served = c.lines.invariant.served h in
+      served = λ honest. let served = c.lines.invariant.served in
           script_cut (g.T.LineMachine.machine (g.T.LineMachine.widths c.args.machine.now)) _ _ _ honest served came
-          (rw c.lines.invariant.widths at (c.in-Err-serve_line.ensures.cut (ap Err e) came.octets _ (rw (c.as_slice.ensures.value) came.line) served.kept served.honest));
+          (rw c.lines.invariant.widths at (c.in-Err-serve_line.ensures.cut (ap Err e) came.octets _ _ (rw (c.as_slice.ensures.value) came.line) served.kept served.still));
     }
 
 pub returns-in-Err-serve_line-clause-read : goal.returns-in-Err-serve_line-clause-read
@@ -48,7 +52,7 @@ returns-in-Err-serve_line-clause-read g c = λ is.
     record {
       failed = inr (inl (c.in-Err-serve_line.ensures.read (ap Err e)));
       passed = wait_more c.lines.invariant.waits c.in-Err-serve_line.ensures.waits;
-      served = λ h. let served = c.lines.invariant.served h in
+      served = let served = c.lines.invariant.served in
           stops_in_feed (g.T.LineMachine.machine (g.T.LineMachine.widths c.args.machine.now)) _ _ _ c.read_line.new.self.octets served came c.in-Ok.ensures.last c.in-Ok.ensures.few
           (rw c.lines.invariant.widths at (c.in-Err-serve_line.ensures.unfed (ap Err e) came.octets _ (rw (c.as_slice.ensures.value) came.line) served.kept));
     }
@@ -61,9 +65,9 @@ returns-then-line-clause-ok g c =
     record {
       script = search rules;
       ready = search rules;
-      served = λ honest h. let served = c.lines.invariant.served h in
+      served = λ honest. let served = c.lines.invariant.served in
           served_all (g.T.LineMachine.machine (g.T.LineMachine.widths c.args.machine.now)) _ _ _ honest served came
-          (rw c.lines.invariant.widths at (c.in-Ok-serve_line.ensures.served came.octets _ (rw (c.as_slice.ensures.value) came.line) served.kept served.honest)) count;
+          (rw c.lines.invariant.widths at (c.in-Ok-serve_line.ensures.served came.octets _ _ (rw (c.as_slice.ensures.value) came.line) served.kept served.still)) count;
     }
 
 pub lines-preserved : goal.lines-preserved
@@ -83,9 +87,9 @@ lines-preserved g c =
       few = let f = c.lines.invariant.few in grind (arith, common_steps);
       came = consumes_more c.lines.invariant.came came;
       waits = wait_more c.lines.invariant.waits c.in-Ok-serve_line.ensures.waits;
-      served = λ h. let served = c.lines.invariant.served h in
+      served = let served = c.lines.invariant.served in
           served_more (g.T.LineMachine.machine (g.T.LineMachine.widths c.args.machine.now)) _ served came
-          (rw c.lines.invariant.widths at (c.in-Ok-serve_line.ensures.served came.octets _ (rw (c.as_slice.ensures.value) came.line) served.kept served.honest)) count;
+          (rw c.lines.invariant.widths at (c.in-Ok-serve_line.ensures.served came.octets _ _ (rw (c.as_slice.ensures.value) came.line) served.kept served.still)) count;
     }
 
 pub returns-in-Err-clause-few : goal.returns-in-Err-clause-few

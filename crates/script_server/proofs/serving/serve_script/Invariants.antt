@@ -1,6 +1,6 @@
-use Rattle.std.proofs.Common.{◌≡◌, ◌+◌, ◌≤◌, false, length, map, All}
+use Rattle.std.proofs.Common.{◌≡◌, ◌+◌, ◌≤◌, false, length, map}
 use Rattle.octet_ports.specs.Lines.{behind}
-use Rattle.script_server.specs.Runs.{AreReady, AllWait, IsHonest, run_of}
+use Rattle.script_server.specs.Runs.{AreReady, AllWait, honest_at, run_of}
 use Rattle.script_server.proofs.SoFar.{ServedSoFar, Consumes}
 use Rattle.script_server.specs.declared.limits.TheConstants.{SCRIPT_OCTETS}
 use Rattle.script_server.proofs.serving.serve_script.Given as goal
@@ -15,8 +15,8 @@ invariant-lines g l = record {
   few : l.refused + l.reader.left ≤ SCRIPT_OCTETS;
   came : Consumes l.reader.left (g.S.PortIn.source l.initial.script) (behind l.reader.octets (g.S.PortIn.source l.script));
   waits : AllWait (map g.O.PortOut.sink l.initial.outputs.items) (map g.O.PortOut.sink l.outputs.items) (g.P.PortOut.sink l.initial.replies) (g.P.PortOut.sink l.replies);
-  served : All IsHonest (map g.I.PortIn.source l.initial.inputs.items)
-      → ServedSoFar (g.T.LineMachine.machine (g.T.LineMachine.widths l.initial.machine)) (g.T.LineMachine.keeps l.machine) (run_of g.state (map g.I.PortIn.source l.initial.inputs.items)) l.refused l.reader.left
+  served : ServedSoFar (g.T.LineMachine.machine (g.T.LineMachine.widths l.initial.machine)) (g.T.LineMachine.keeps l.machine)
+      (honest_at (map g.I.PortIn.source l.initial.inputs.items)) (run_of g.state (map g.I.PortIn.source l.initial.inputs.items)) l.refused l.reader.left
       (g.S.PortIn.source l.initial.script) (behind l.reader.octets (g.S.PortIn.source l.script)) (map g.I.PortIn.source l.inputs.items)
       (map g.O.PortOut.sink l.initial.outputs.items) (map g.O.PortOut.sink l.outputs.items) (g.P.PortOut.sink l.initial.replies) (g.P.PortOut.sink l.replies);
 }

@@ -3,7 +3,7 @@ use Rattle.std.proofs.Common.{◌≡◌, ℕ, ◌%◌, sym, subst, ap, ◌∙◌
 use Rattle.space_raw.specs.Span.{Span}
 use Rattle.space_raw.proofs.Slots.{run_long}
 use Rattle.relocate.specs.Places.{Range, IsSpaceSize}
-use Rattle.space_heap.specs.Pictures.{range_of}
+use Rattle.space_heap.specs.Maps.{range_of}
 use Rattle.space_heap.specs.Holes.{AreParts, in_rest}
 use Rattle.space_heap.proofs.Mends.{inside, most, can_carve, units, next_link, cut_long, still_free, two_long, behind_link, two_free, start_link, before_there, new_long, block_parts, carved_holes}
 use Rattle.space_heap.proofs.holes.carve.Goals as goal

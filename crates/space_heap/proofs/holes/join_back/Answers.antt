@@ -21,8 +21,8 @@ module _ (slots : List (Option ℤ)) (next : Option ℕ) (end : ℕ) (right : Li
   here : first_hole.place ≡ end
   here = head.here
 
-  touching : (g : Hole) (to : ℕ) → g ≡ first_hole → to ≡ hole_end g → IsBack slots right end (record { to = to; behind = g.next })
-  touching g to same e =
+  activating : (g : Hole) (to : ℕ) → g ≡ first_hole → to ≡ hole_end g → IsBack slots right end (record { to = to; behind = g.next })
+  activating g to same e =
       subst (λ (k : ℕ). IsBack slots right end (record { to = k; behind = g.next })) (sym e)
       (subst (λ (h : Hole). IsBack slots right end (record { to = hole_end h; behind = h.next })) (sym same) (back_touching slots leads.0 leads.1 right leads.2 end head))
 
@@ -46,7 +46,7 @@ pub returns-then-eq : goal.returns-then-eq
 returns-then-eq c = λ right leads.
     let slots = c.args.rest.now.slots in let is = is_next c.args.next c.args.end (sym c.eq.ensures ∙ c.if-eq.true) in
     let read = its slots c.args.next c.args.end right leads is in
-    touching slots c.args.next c.args.end right leads is c.read-hole.result c.end.result
+    activating slots c.args.next c.args.end right leads is c.read-hole.result c.end.result
     (c.read-hole.ensures.hole (first_hole slots c.args.next c.args.end right leads is) (here slots c.args.next c.args.end right leads is) read.0 read.1) c.end.ensures
 
 pub returns-else-eq : goal.returns-else-eq

@@ -2,7 +2,7 @@
 use Rattle.std.proofs.Common.{◌≡◌, ◌%◌, ◌<◌, length, false, subst, sym, ap, ◌∙◌, arith}
 use Rattle.space_raw.specs.Slots.{IsAway}
 use Rattle.space_raw.specs.Span.{Scattered, Span}
-use Rattle.space_heap.specs.Pictures.{IsBlock, range_of}
+use Rattle.space_heap.specs.Maps.{IsBlock, range_of}
 use Rattle.space_heap.specs.Holes.{IsTaken, in_rest}
 use Rattle.space_heap.proofs.Words.{away_within}
 use Rattle.space_heap.proofs.holes.put_back.Goals as goal

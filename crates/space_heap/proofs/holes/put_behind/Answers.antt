@@ -4,7 +4,7 @@ use Rattle.std.specs.Prelude.{ℤ}
 use Rattle.space_heap.specs.declared.holes.Front.{Front}
 use Rattle.space_heap.specs.declared.holes.Back.{Back}
 use Rattle.relocate.specs.Places.{Range, end_of}
-use Rattle.space_heap.specs.Pictures.{IsBlock, range_of}
+use Rattle.space_heap.specs.Maps.{IsBlock, range_of}
 use Rattle.space_heap.specs.Holes.{IsBack, IsFromOn, IsFront, IsTaken, LeadsTo}
 use Rattle.space_heap.proofs.Returns.{leads, from_end, next_link, order_joined, joined_there, start_link, before_there, new_long, block_parts, given_holes}
 use Rattle.space_heap.proofs.holes.put_behind.Goals as goal

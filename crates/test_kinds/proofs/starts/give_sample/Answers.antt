@@ -7,10 +7,10 @@ use Rattle.test_kinds.proofs.Kept.{silent}
 use Rattle.test_kinds.proofs.starts.give_sample.Goals as goal
 
 pub returns-clause-law : goal.returns-clause-law
-returns-clause-law c p w h lawful closed lent awake =
+returns-clause-law c p w h lawful closed lent active =
     let x = c.args.sample in
     let fits : SFits w16 x = search rules in
     let same : to_z w16 (of_z w16 x) ≡ x = to_z-of_z w16 x fits in
-    let given = rw same at (c.give.ensures.law p w h lawful refl closed lent awake) in
+    let given = rw same at (c.give.ensures.law p w h lawful refl closed lent active) in
     let out = c.give.new.out.items in
     (given.0, sym (ap (λ o. o ++ out) (silent h)) ∙ sym given.1 ∙ silent (Sample x ∷ h), given.2)

@@ -1,12 +1,12 @@
 use Rattle.std.proofs.Common.{sym}
 use Rattle.test_lives.proofs.Housing.{ready_group}
-use Rattle.test_lives.proofs.Standing.{home_behind, left_part, stands_first}
+use Rattle.test_lives.proofs.Standing.{owner_behind, left_part, stands_first}
 use Rattle.test_lives.proofs.neighbour_moves.settled.Goals as goal
 
 pub filter-member-requires-clause-ready : goal.filter-member-requires-clause-ready
 filter-member-requires-clause-ready g c =
     ready_group c.args.group.now c.replace.new.self c.split-hole.result.1 c.requires.group c.replace.ensures.new c.replace.ensures.others
-    (home_behind c.args.daram c.split-hole.result.1 c.requires.daram.0 c.requires.daram.1 c.split-hole.ensures.right)
+    (owner_behind c.args.daram c.split-hole.result.1 c.requires.daram.0 c.requires.daram.1 c.split-hole.ensures.right)
 
 pub returns-clause-stands : goal.returns-clause-stands
 returns-clause-stands g c =

@@ -1,46 +1,46 @@
 use Rattle.std.proofs.Common.{◌∙◌, ap, sym, lit≤}
 use Rattle.record_loans.specs.declared.pieces.Pieces.{Pieces}
 use Rattle.lifecycle.proofs.Frames.{fits_beside}
-use Rattle.test_lives.proofs.Housing.{home, ready_group, all_gone, same_group_then, same_then, same_block_span, same_piece_span, still_whole}
+use Rattle.test_lives.proofs.Housing.{owner, ready_group, all_gone, same_group_then, same_then, same_block_span, same_piece_span, still_whole}
 use Rattle.test_lives.proofs.neighbour_tests.members_take_turns.Goals as goal
 
 pub filter-first-requires-clause-object : goal.filter-first-requires-clause-object
 filter-first-requires-clause-object g c =
     let whole = rw c.expect-external.ensures at c.make-2.ensures.whole in
     let size = rw c.expect-external.ensures at c.make-2.ensures.region in
-    home 4 c.expect-external.result.1 c.expect-external.result.0 (lit≤ tt) size whole
+    owner 4 c.expect-external.result.1 c.expect-external.result.0 (lit≤ tt) size whole
 
 pub filter-first-requires-clause-kept : goal.filter-first-requires-clause-kept
 filter-first-requires-clause-kept g c =
     let whole = rw c.expect-saram.ensures at c.make-3.ensures.whole in
     let size = rw c.expect-saram.ensures at c.make-3.ensures.region in
-    home 4 c.expect-saram.result.1 c.expect-saram.result.0 (lit≤ tt) size whole
+    owner 4 c.expect-saram.result.1 c.expect-saram.result.0 (lit≤ tt) size whole
 
 pub filter-first-requires-clause-ready : goal.filter-first-requires-clause-ready
 filter-first-requires-clause-ready g c =
     let whole = rw c.expect-daram.ensures at c.make.ensures.whole in
     let size = rw c.expect-daram.ensures at c.make.ensures.region in
     ready_group c.new-group.result c.replace.new.self c.expect-daram.result.1 c.new-group.ensures.blocks c.replace.ensures.new c.replace.ensures.others
-    (home 1028 c.expect-daram.result.1 c.expect-daram.result.0 (lit≤ tt) size whole)
+    (owner 1028 c.expect-daram.result.1 c.expect-daram.result.0 (lit≤ tt) size whole)
 
 pub filter-second-requires-clause-object : goal.filter-second-requires-clause-object
 filter-second-requires-clause-object g c =
     let whole = rw c.expect-other_external.ensures at c.make-4.ensures.whole in
     let size = rw c.expect-other_external.ensures at c.make-4.ensures.region in
-    home 4 c.expect-other_external.result.1 c.expect-other_external.result.0 (lit≤ tt) size whole
+    owner 4 c.expect-other_external.result.1 c.expect-other_external.result.0 (lit≤ tt) size whole
 
 pub filter-second-requires-clause-kept : goal.filter-second-requires-clause-kept
 filter-second-requires-clause-kept g c =
     let whole = rw c.expect-other_saram.ensures at c.make-5.ensures.whole in
     let size = rw c.expect-other_saram.ensures at c.make-5.ensures.region in
-    home 4 c.expect-other_saram.result.1 c.expect-other_saram.result.0 (lit≤ tt) size whole
+    owner 4 c.expect-other_saram.result.1 c.expect-other_saram.result.0 (lit≤ tt) size whole
 
 pub filter-second-requires-clause-ready : goal.filter-second-requires-clause-ready
 filter-second-requires-clause-ready g c =
     let whole = rw c.expect-daram.ensures at c.make.ensures.whole in
     let size = rw c.expect-daram.ensures at c.make.ensures.region in
     ready_group c.new-group.result c.replace.new.self c.expect-daram.result.1 c.new-group.ensures.blocks c.replace.ensures.new c.replace.ensures.others
-    (home 1028 c.expect-daram.result.1 c.expect-daram.result.0 (lit≤ tt) size whole)
+    (owner 1028 c.expect-daram.result.1 c.expect-daram.result.0 (lit≤ tt) size whole)
 
 pub give-second-requires-clause-fits : goal.give-second-requires-clause-fits
 give-second-requires-clause-fits g c =
@@ -58,7 +58,7 @@ end-requires g c =
     let whole = rw c.expect-daram.ensures at c.make.ensures.whole in
     let size = rw c.expect-daram.ensures at c.make.ensures.region in
     let ready = ready_group c.new-group.result c.replace.new.self c.expect-daram.result.1 c.new-group.ensures.blocks c.replace.ensures.new c.replace.ensures.others
-    (home 1028 c.expect-daram.result.1 c.expect-daram.result.0 (lit≤ tt) size whole) in
+    (owner 1028 c.expect-daram.result.1 c.expect-daram.result.0 (lit≤ tt) size whole) in
     all_gone c.replace.new.self c.give-second-2.new.group c.remove.new.self ready (same_group_then c.replace.new.self c.give-first-2.new.group c.give-second-2.new.group (same_group_then c.replace.new.self c.control-first.new.group c.give-first-2.new.group (same_group_then c.replace.new.self c.give-second.new.group c.control-first.new.group (same_group_then c.replace.new.self c.give-first.new.group c.give-second.new.group c.give-first.ensures.group c.give-second.ensures.group) c.control-first.ensures.group) c.give-first-2.ensures.group) c.give-second-2.ensures.group) c.remove.ensures.others c.remove.ensures.new
 
 pub close-requires-clause-region : goal.close-requires-clause-region

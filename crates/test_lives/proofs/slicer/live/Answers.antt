@@ -8,36 +8,36 @@ use Rattle.test_lives.proofs.slicer.live.Goals as goal
 pub returns-clause-output : goal.returns-clause-output
 returns-clause-output c =
     let idle = c.init-member.ensures.keeps None (granted c.args.levels.items c.args.table c.requires.levels c.requires.table) (λ k. inl tt) in
-    let awake = c.wake-awake.ensures.keeps None [] (λ space. tt) idle in
-    let params = c.wake-awake.ensures.same.params ∙ c.init-member.ensures.same.params in
-    first_outputs c.wake-awake.result.instance.params.items c.args.levels.items c.args.input.now c.run.new.out.items (ap (λ p. p.items) params) (c.run.ensures.output None [] refl awake)
+    let active = c.activated-active.ensures.keeps None [] (λ space. tt) idle in
+    let params = c.activated-active.ensures.same.params ∙ c.init-member.ensures.same.params in
+    first_outputs c.activated-active.result.instance.params.items c.args.levels.items c.args.input.now c.run.new.out.items (ap (λ p. p.items) params) (c.run.ensures.output None [] refl active)
 
 pub returns-clause-answer : goal.returns-clause-answer
 returns-clause-answer c =
     let idle = c.init-member.ensures.keeps None (granted c.args.levels.items c.args.table c.requires.levels c.requires.table) (λ k. inl tt) in
-    let awake = c.wake-awake.ensures.keeps None [] (λ space. tt) idle in
-    let ran = c.run.ensures.keeps None [] awake in
-    let params = c.run.ensures.same.params ∙ c.wake-awake.ensures.same.params ∙ c.init-member.ensures.same.params in
+    let active = c.activated-active.ensures.keeps None [] (λ space. tt) idle in
+    let ran = c.run.ensures.keeps None [] active in
+    let params = c.run.ensures.same.params ∙ c.activated-active.ensures.same.params ∙ c.init-member.ensures.same.params in
     c.control-status.ensures.status None (with_samples [] c.args.input.now) refl refl ran ∙ ap (λ p. Words p.items) params
 
 pub returns-clause-once : goal.returns-clause-once
 returns-clause-once c =
     let idle = c.init-member.ensures.keeps None (granted c.args.levels.items c.args.table c.requires.levels c.requires.table) (λ k. inl tt) in
-    let awake = c.wake-awake.ensures.keeps None [] (λ space. tt) idle in
-    let ran = c.run.ensures.keeps None [] awake in
+    let active = c.activated-active.ensures.keeps None [] (λ space. tt) idle in
+    let ran = c.run.ensures.keeps None [] active in
     let asked = c.control-status.ensures.keeps None (with_samples [] c.args.input.now) refl ran in
-    let rested = c.rest.ensures.keeps None (Control Get ∷ with_samples [] c.args.input.now) asked refl in
-    let params = c.rest.ensures.same.params ∙ c.control-status.ensures.same.params ∙ c.run.ensures.same.params ∙ c.wake-awake.ensures.same.params ∙ c.init-member.ensures.same.params in
-    levels_kept c.rest.result.instance.params.items c.rest.result.instance.table c.rest.result.instance.own c.rest.new.shared (Control Get ∷ with_samples [] c.args.input.now) rested ∙ ap (λ p. p.items) params
+    let rested = c.deactivated.ensures.keeps None (Control Get ∷ with_samples [] c.args.input.now) asked refl in
+    let params = c.deactivated.ensures.same.params ∙ c.control-status.ensures.same.params ∙ c.run.ensures.same.params ∙ c.activated-active.ensures.same.params ∙ c.init-member.ensures.same.params in
+    levels_kept c.deactivated.result.instance.params.items c.deactivated.result.instance.table c.deactivated.result.instance.own c.deactivated.new.shared (Control Get ∷ with_samples [] c.args.input.now) rested ∙ ap (λ p. p.items) params
 
 pub returns-clause-own : goal.returns-clause-own
 returns-clause-own c =
-    same_pieces_then _ _ _ c.init-member.ensures.same.own (same_pieces_then _ _ _ c.wake-awake.ensures.same.own (same_pieces_then _ _ _ c.run.ensures.same.own (same_pieces_then _ _ _ c.control-status.ensures.same.own c.rest.ensures.same.own)))
+    same_pieces_then _ _ _ c.init-member.ensures.same.own (same_pieces_then _ _ _ c.activated-active.ensures.same.own (same_pieces_then _ _ _ c.run.ensures.same.own (same_pieces_then _ _ _ c.control-status.ensures.same.own c.deactivated.ensures.same.own)))
 
 pub returns-clause-shared : goal.returns-clause-shared
 returns-clause-shared c =
-    same_pieces_then _ _ _ c.init-member.ensures.shared (same_pieces_then _ _ _ c.wake-awake.ensures.shared (same_pieces_then _ _ _ c.run.ensures.shared (same_pieces_then _ _ _ c.control-status.ensures.shared c.rest.ensures.shared)))
+    same_pieces_then _ _ _ c.init-member.ensures.shared (same_pieces_then _ _ _ c.activated-active.ensures.shared (same_pieces_then _ _ _ c.run.ensures.shared (same_pieces_then _ _ _ c.control-status.ensures.shared c.deactivated.ensures.shared)))
 
 pub returns-clause-group : goal.returns-clause-group
 returns-clause-group c =
-    same_group_then _ _ _ c.wake-awake.ensures.group (same_group_then _ _ _ c.run.ensures.group (same_group_then _ _ _ c.control-status.ensures.group c.rest.ensures.group))
+    same_group_then _ _ _ c.activated-active.ensures.group (same_group_then _ _ _ c.run.ensures.group (same_group_then _ _ _ c.control-status.ensures.group c.deactivated.ensures.group))

@@ -1,6 +1,6 @@
 use Rattle.std.proofs.Common.{◌≡◌, length, sym, ap, ◌∙◌, lit≤, arith, length-take, length-drop}
-use Rattle.test_lives.proofs.Housing.{home, same_block_span, still_whole}
-use Rattle.test_lives.proofs.Rooms.{slicer_fits, home_part, all_gone, no_external, piece_left, placed_daram}
+use Rattle.test_lives.proofs.Housing.{owner, same_block_span, still_whole}
+use Rattle.test_lives.proofs.Rooms.{slicer_fits, owner_part, all_gone, no_external, piece_left, placed_daram}
 use Rattle.test_lives.proofs.slicer_tests.a_slicer_lives.Goals as goal
 
 pub live-member-requires-clause-room : goal.live-member-requires-clause-room
@@ -15,11 +15,11 @@ live-member-requires-clause-room g c =
     let long : length all.words ≡ 6 = whole_e.1.1 ∙ ap (λ x. x.size) whole_e.0 ∙ size_e in
     let left = c.split-object.ensures.left in
     let right = c.split-object.ensures.right in
-    let object = home_part 4 6 c.expect-external.result.0 c.split-object.result.0 size_e (lit≤ tt) (left.0 ∙ whole_e.0) (ap length left.2 ∙ omega (arith, length-take 4 all.words, long)) in
-    let levels = home_part 2 6 c.expect-external.result.0 c.split-object.result.1 size_e (lit≤ tt) (right.0 ∙ whole_e.0) (ap length right.2 ∙ omega (arith, length-drop 4 all.words, long)) in
+    let object = owner_part 4 6 c.expect-external.result.0 c.split-object.result.0 size_e (lit≤ tt) (left.0 ∙ whole_e.0) (ap length left.2 ∙ omega (arith, length-take 4 all.words, long)) in
+    let levels = owner_part 2 6 c.expect-external.result.0 c.split-object.result.1 size_e (lit≤ tt) (right.0 ∙ whole_e.0) (ap length right.2 ∙ omega (arith, length-drop 4 all.words, long)) in
     slicer_fits c.table-table.result c.split-object.result.0 c.split-object.result.1 c.expect-daram.result.1 c.expect-saram.result.1 c.new-group.result c.replace.new.self c.replace-2.new.self
     c.table-table.ensures object levels (omega (arith, left.1, right.1)) c.new-group.ensures.blocks c.replace.ensures.new c.replace.ensures.others c.replace-2.ensures.new c.replace-2.ensures.others
-    (home 8 c.expect-daram.result.1 c.expect-daram.result.0 (lit≤ tt) size_d whole_d) (home 4 c.expect-saram.result.1 c.expect-saram.result.0 (lit≤ tt) size_s whole_s)
+    (owner 8 c.expect-daram.result.1 c.expect-daram.result.0 (lit≤ tt) size_d whole_d) (owner 4 c.expect-saram.result.1 c.expect-saram.result.0 (lit≤ tt) size_s whole_s)
 
 pub end-requires : goal.end-requires
 end-requires g c =

@@ -24,5 +24,5 @@ returns-clause-output g c histories m keeps at lawful =
     let same = later.1.1 in
     let still : twice c.args.first ≡ given =
     history_there once c.args.second c.args.first (with_samples (once c.args.second) c.args.between.now) c.requires.apart ∙ history_here histories c.args.first given in
-    let last = c.process-3.ensures.output twice kept later.0 later.1.0 (lawful_after g.M.Ialg.meaning _ _ c.args.poison same lawful) in
+    let last = c.process-3.ensures.output twice kept later.0 later.1.0 (lawful_after g.M.Ialg.law.meaning _ _ c.args.poison same lawful) in
     (rw (same.kind, same.params, still) at last) ∙ ap (λ (xs : List ℤ). xs ++ c.process-3.new.out.items) (c.process.ensures.output histories keeps m at lawful)

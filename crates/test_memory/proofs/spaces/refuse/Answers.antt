@@ -1,5 +1,5 @@
-use Rattle.host_spaces.proofs.Renaming.{no_twins}
+use Rattle.host_spaces.proofs.Renaming.{no_sharers}
 use Rattle.test_memory.proofs.spaces.refuse.Goals as goal
 
-pub place_instance-refused-requires-clause-twins : goal.place_instance-refused-requires-clause-twins
-place_instance-refused-requires-clause-twins g c = no_twins c.table-table.result
+pub place_instance-refused-requires-clause-sharers : goal.place_instance-refused-requires-clause-sharers
+place_instance-refused-requires-clause-sharers g c = no_sharers c.table-table.result

@@ -25,13 +25,13 @@ returns-clause-other g c = record {
 
 pub returns-clause-agree : goal.returns-clause-agree
 returns-clause-agree g c = λ one two.
-    both _ _ _ c.run-ended.result c.run-other_ended.result (c.run-ended.ensures.headline one.script one.inputs) (c.run-other_ended.ensures.headline two.script two.inputs)
+    both _ _ _ c.run-ended.result c.run-other_ended.result (c.run-ended.ensures.headline one) (c.run-other_ended.ensures.headline two)
     (λ summary other_summary first second. record {
       one = first;
       two = second;
-      agree = c.headline.ensures.two (widths_of c.args.config.in8 c.args.config.out8) (widths_of c.args.other_config.in8 c.args.other_config.out8) _ _ _ _ _ _ _ _ _ _ first.says second.says;
+      agree = c.headline.ensures.two (widths_of c.args.config.in8 c.args.config.out8) (widths_of c.args.other_config.in8 c.args.other_config.out8) _ _ _ _ _ _ _ _ _ _ _ _ first.says second.says;
       granted = λ i j g' h kind p later since lawful born lawful' born' control before rest answer at other_before other_rest other_answer other_at.
-          refused_alike g.M.Ialg.meaning kind p _ _ control answer other_answer
+          refused_alike g.M.Ialg.law.meaning kind p _ _ control answer other_answer
           ((first.says.each i kind g' p later lawful born).controls before rest control answer at)
           ((second.says.each j kind h p since lawful' born').controls other_before other_rest control other_answer other_at);
     })

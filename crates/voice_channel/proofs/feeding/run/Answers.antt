@@ -5,5 +5,5 @@ use Rattle.voice_channel.proofs.feeding.run.Goals as goal
 pub returns-then-living-clause-passes : goal.returns-then-living-clause-passes
 returns-then-living-clause-passes g c =
     let some : 1 ≤ length c.args.block.now = grind arith in
-    ran g.M.Ialg.meaning g.M.Ialg.idle_keeps g.M.Ialg.active_keeps c.args.member c.args.block.now c.process.new.out.items c.args.host.now c.process.new.self
+    ran g.M.Ialg.law c.args.member c.args.block.now c.process.new.out.items c.args.host.now c.process.new.self
     some c.process.ensures.machine

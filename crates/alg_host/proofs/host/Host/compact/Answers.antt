@@ -13,7 +13,7 @@ invariant_of-self g c = record {
 pub returns : goal.returns
 returns g c = record {
   machine = λ before keeps.
-      let kept = subst (λ h. Keeps g.M.Ialg.meaning g.M.Ialg.idle_keeps g.M.Ialg.active_keeps h before) (sym c.self.view_is) keeps in
+      let kept = subst (λ h. Keeps g.M.Ialg.law h before) (sym c.self.view_is) keeps in
       let did = c.compact.ensures.machine before kept.kept in
       ((compact before c.args.space).1, did.0, record { kept = did.1; poison = kept.poison });
 }

@@ -1,6 +1,7 @@
 use Rattle.std.proofs.Common.{◌∙◌, sym, subst}
 use Rattle.ialg.specs.Views.{control_of}
 use Rattle.host_refines.specs.Kept.{told}
+use Rattle.host_moves.proofs.Places.{places_stay}
 use Rattle.alg_host.specs.Hosts.{Keeps}
 use Rattle.alg_host.proofs.Served.{controls_stay, still_kept}
 use Rattle.alg_host.proofs.host.Host.control.Goals as goal
@@ -8,21 +9,19 @@ use Rattle.alg_host.proofs.host.Host.control.Goals as goal
 pub invariant_of-self : goal.invariant_of-self
 invariant_of-self g c = record {
   ok = c.give_control.ensures.stays.ok;
-  standing = c.places_stay.ensures _ _ _ _ _ _ _ c.give_control.ensures.stays.same c.self.invariant.standing;
+  standing = places_stay c.self.inside.tables c.give_control.new.tables c.self.inside.spaces c.give_control.ensures.stays.same c.self.invariant.standing;
   poisoned = c.give_control.ensures.stays.poisoned;
 }
 
 pub returns-clause-machine : goal.returns-clause-machine
 returns-clause-machine g c = λ before keeps.
-    let kept = subst (λ h. Keeps g.M.Ialg.meaning g.M.Ialg.idle_keeps g.M.Ialg.active_keeps h before) (sym c.self.view_is) keeps in
+    let kept = subst (λ h. Keeps g.M.Ialg.law h before) (sym c.self.view_is) keeps in
     let did = c.give_control.ensures.machine before kept.poison kept.kept.tables in
-    let same = controls_stay g.M.Ialg.meaning before did.0 c.args.i (control_of c.args.c.now) (told c.give_control.result) did.1 in (
+    let same = controls_stay g.M.Ialg.law.meaning before did.0 c.args.i (control_of c.args.c.now) (told c.give_control.result) did.1 in (
       did.0,
       did.1,
       record {
-        kept = still_kept g.M.Ialg.meaning g.M.Ialg.idle_keeps g.M.Ialg.active_keeps c.self.inside.tables.slots c.give_control.new.tables.slots
-            c.self.inside.tables.once c.give_control.new.tables.once c.self.inside.tables.groups c.give_control.new.tables.groups c.self.inside.spaces
-            before did.0 kept.kept same did.2;
+        kept = still_kept g.M.Ialg.law c.self.inside.tables c.give_control.new.tables c.self.inside.spaces before did.0 kept.kept same did.2;
         poison = same.poison ∙ kept.poison;
       },
     )

@@ -8,12 +8,12 @@ returns-clause-refused g c = on_refusal c.create.result _ _ (λ e. rw (e.0, e.1)
 
 pub returns-clause-machine : goal.returns-clause-machine
 returns-clause-machine g c = λ before keeps.
-    let kept = subst (λ h. Keeps g.M.Ialg.meaning g.M.Ialg.idle_keeps g.M.Ialg.active_keeps h before) (sym c.self.view_is) keeps in
+    let kept = subst (λ h. Keeps g.M.Ialg.law h before) (sym c.self.view_is) keeps in
     let did = c.create.ensures.machine before kept.poison kept.kept in (
       did.0,
       did.1,
       record {
         kept = did.2;
-        poison = creates_poison g.M.Ialg.meaning before did.0 c.args.i c.args.kind c.args.group c.args.p.now.items c.create.result did.1 ∙ kept.poison;
+        poison = creates_poison g.M.Ialg.law.meaning before did.0 c.args.i c.args.kind c.args.group c.args.p.now.items c.create.result did.1 ∙ kept.poison;
       },
     )

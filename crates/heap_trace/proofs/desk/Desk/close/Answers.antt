@@ -2,8 +2,8 @@
 use Rattle.std.proofs.Common.{◌++◌, [], ◌∷◌, List, sym, subst, ap, ◌∙◌}
 use Rattle.std.proofs.lemmas.List.{append-nil}
 use Rattle.space_raw.specs.Span.{Span, Extent}
-use Rattle.space_heap.specs.Pictures.{Holds, range_of}
-use Rattle.space_heap.proofs.PictureLemmas.{block_out}
+use Rattle.space_heap.specs.Maps.{Holds, range_of}
+use Rattle.space_heap.proofs.MapLemmas.{block_out}
 use Rattle.heap_trace.specs.Held.{AreOf}
 use Rattle.heap_trace.proofs.HeldLemmas.{ranges, ranges_around, of_around}
 use Rattle.heap_trace.proofs.desk.Desk.close.Goals as goal

@@ -1,6 +1,6 @@
 -- The blocks that are left are those that are taken.
 use Rattle.std.proofs.Common.{map, vec_len}
-use Rattle.space_heap.specs.Pictures.{Holds, range_of}
+use Rattle.space_heap.specs.Maps.{Holds, range_of}
 use Rattle.heap_trace.specs.Held.{AreOf}
 use Rattle.heap_trace.proofs.desk.Desk.close.Given as goal
 

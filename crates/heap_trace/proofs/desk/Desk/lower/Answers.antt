@@ -1,7 +1,7 @@
 -- The i-th block is held at its new place.
 use Rattle.std.proofs.Common.{◌≡◌, ◌<◌, ◌++◌, ◌∷◌, List, suc, take, drop, length, sym, subst, ap, arith, ◌∙◌}
 use Rattle.space_raw.specs.Span.{Span, Extent}
-use Rattle.space_heap.specs.Pictures.{Holds}
+use Rattle.space_heap.specs.Maps.{Holds}
 use Rattle.heap_trace.specs.Held.{AreOf}
 use Rattle.heap_trace.proofs.HeldLemmas.{ranges, ranges_around, of_around, of_with, around, put_back_in, as_held, is_block}
 use Rattle.heap_trace.proofs.desk.Desk.lower.Goals as goal

@@ -2,7 +2,7 @@
 use Rattle.std.proofs.Common.{◌++◌, [], List, sym, subst, ap, arith, ◌∙◌}
 use Rattle.std.proofs.lemmas.List.{append-nil}
 use Rattle.space_raw.specs.Span.{Span, Extent}
-use Rattle.space_heap.specs.Pictures.{Holds}
+use Rattle.space_heap.specs.Maps.{Holds}
 use Rattle.heap_trace.specs.Held.{AreOf}
 use Rattle.heap_trace.proofs.HeldLemmas.{ranges, ranges_around, of_with}
 use Rattle.heap_trace.proofs.desk.Desk.take.Goals as goal

@@ -1,13 +1,13 @@
 -- The records below the number have their owners.
 use Rattle.std.proofs.Common.{◌≡◌}
-use Rattle.host_spaces.specs.Picture.{AreSameSpaces, picture_of}
-use Rattle.host_map.specs.Picture.{renamed}
-use Rattle.host_map.specs.Creation.{handed_on, twin_at}
+use Rattle.host_spaces.specs.MemoryMap.{AreSameSpaces, map_of}
+use Rattle.host_map.specs.MemoryMap.{renamed}
+use Rattle.host_map.specs.Creation.{handed_on, sharer_at}
 use Rattle.host_spaces.proofs.Renaming.{upto}
 use Rattle.host_spaces.proofs.spaces.Spaces.hand_on.Given as goal
 
 abbrev pub invariant-loop-k : goal.invariant-loop-k
 invariant-loop-k l = record {
-  picture : picture_of l.self ≡ renamed (handed_on (upto l.k (twin_at l.twins)) l.i) (picture_of l.initial.self);
+  map : map_of l.self ≡ renamed (handed_on (upto l.k (sharer_at l.sharers)) l.i) (map_of l.initial.self);
   stays : AreSameSpaces l.initial.self l.self;
 }

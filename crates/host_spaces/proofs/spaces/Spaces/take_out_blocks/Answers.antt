@@ -6,9 +6,9 @@ use Rattle.host_map.specs.declared.placed.Owner.TheVariants.{Scratch}
 use Rattle.space_blocks.specs.Blocks.{Owns}
 use Rattle.host_map.specs.Blocks.{owned}
 use Rattle.space_blocks.specs.Spaces.{SpaceState}
-use Rattle.host_spaces.specs.Picture.{space_in}
+use Rattle.host_spaces.specs.MemoryMap.{space_in}
 use Rattle.host_spaces.proofs.Leaving.{group_left, group_others, if_some, pieces_left}
-use Rattle.host_spaces.proofs.Pictures.{daram_external, daram_saram, saram_external}
+use Rattle.host_spaces.proofs.Maps.{daram_external, daram_saram, saram_external}
 use Rattle.host_spaces.proofs.spaces.Spaces.take_out_blocks.Goals as goal
 use Rattle.host_spaces.proofs.spaces.Spaces.take_out_blocks.Goals.{After-give_back-3}
 
@@ -42,8 +42,8 @@ give_back-requires-3-clause-owner c =
     (if_some c.args.pieces.external (Owns (space_in c.args.self.now External).blocks (Scratch c.args.g)) (λ p. (owner : Owner) × Owns (space_in c.args.self.now External).blocks owner p)
     (λ p it. (Scratch c.args.g, it)) (c.requires.owner External))
 
-pub returns-clause-picture : goal.returns-clause-picture
-returns-clause-picture c =
+pub returns-clause-map : goal.returns-clause-map
+returns-clause-map c =
     pieces_left c.args.self.now c.give_back.new.self c.give_back-2.new.self c.give_back-3.new.self c.args.pieces
     c.give_back.ensures.blocks c.give_back.ensures.elsewhere c.give_back-2.ensures.blocks c.give_back-2.ensures.elsewhere c.give_back-3.ensures.blocks c.give_back-3.ensures.elsewhere
 

@@ -7,8 +7,8 @@ use Rattle.record_loans.specs.Pieces.{piece_at}
 use Rattle.space_raw.specs.Span.{Extent}
 use Rattle.host_map.specs.declared.placed.Owner.TheVariants.{Record}
 use Rattle.host_map.specs.Blocks.{disowned}
-use Rattle.host_spaces.specs.Picture.{space_in}
-use Rattle.host_spaces.proofs.Leaving.{its_block, its_home, not_both, one_gone, others_left, owner_there, picture_left, placed_in, record_apart, still_there}
+use Rattle.host_spaces.specs.MemoryMap.{space_in}
+use Rattle.host_spaces.proofs.Leaving.{its_block, its_owner, not_both, one_gone, others_left, owner_there, map_left, placed_in, record_apart, still_there}
 use Rattle.host_spaces.proofs.spaces.Spaces.take_out_records.Goals as goal
 
 pub either_piece-requires : goal.either_piece-requires
@@ -21,7 +21,7 @@ either_piece-requires c =
 pub give_back-requires-clause-region : goal.give_back-requires-clause-region
 give_back-requires-clause-region c =
     let old = c.args.self.now in let i = c.args.i in let table = c.args.table.now in let own = c.args.own in let shared = c.args.shared in
-    its_home old i table own shared c.requires.pieces c.requires.records 0 c.space_of.result c.space_of.ensures c.either_piece.result c.either_piece.ensures
+    its_owner old i table own shared c.requires.pieces c.requires.records 0 c.space_of.result c.space_of.ensures c.either_piece.result c.either_piece.ensures
 
 pub give_back-requires-clause-owner : goal.give_back-requires-clause-owner
 give_back-requires-clause-owner c =
@@ -39,7 +39,7 @@ either_piece-requires-2 c =
 pub give_back-requires-2-clause-region : goal.give_back-requires-2-clause-region
 give_back-requires-2-clause-region c =
     let old = c.args.self.now in let i = c.args.i in let table = c.args.table.now in let own = c.args.own in let shared = c.args.shared in
-    subst (λ (x : Extent). IfSome c.either_piece-2.result (λ p. p.region ≡ x)) (sym ((c.give_back.ensures.stays c.space_of-2.result).region)) (its_home old i table own shared c.requires.pieces c.requires.records 1 c.space_of-2.result c.space_of-2.ensures c.either_piece-2.result c.either_piece-2.ensures)
+    subst (λ (x : Extent). IfSome c.either_piece-2.result (λ p. p.region ≡ x)) (sym ((c.give_back.ensures.stays c.space_of-2.result).region)) (its_owner old i table own shared c.requires.pieces c.requires.records 1 c.space_of-2.result c.space_of-2.ensures c.either_piece-2.result c.either_piece-2.ensures)
 
 pub give_back-requires-2-clause-owner : goal.give_back-requires-2-clause-owner
 give_back-requires-2-clause-owner c =
@@ -60,7 +60,7 @@ either_piece-requires-3 c =
 pub give_back-requires-3-clause-region : goal.give_back-requires-3-clause-region
 give_back-requires-3-clause-region c =
     let old = c.args.self.now in let i = c.args.i in let table = c.args.table.now in let own = c.args.own in let shared = c.args.shared in
-    subst (λ (x : Extent). IfSome c.either_piece-3.result (λ p. p.region ≡ x)) (sym ((c.give_back-2.ensures.stays c.space_of-3.result).region ∙ (c.give_back.ensures.stays c.space_of-3.result).region)) (its_home old i table own shared c.requires.pieces c.requires.records 2 c.space_of-3.result c.space_of-3.ensures c.either_piece-3.result c.either_piece-3.ensures)
+    subst (λ (x : Extent). IfSome c.either_piece-3.result (λ p. p.region ≡ x)) (sym ((c.give_back-2.ensures.stays c.space_of-3.result).region ∙ (c.give_back.ensures.stays c.space_of-3.result).region)) (its_owner old i table own shared c.requires.pieces c.requires.records 2 c.space_of-3.result c.space_of-3.ensures c.either_piece-3.result c.either_piece-3.ensures)
 
 pub give_back-requires-3-clause-owner : goal.give_back-requires-3-clause-owner
 give_back-requires-3-clause-owner c =
@@ -85,7 +85,7 @@ either_piece-requires-4 c =
 pub give_back-requires-4-clause-region : goal.give_back-requires-4-clause-region
 give_back-requires-4-clause-region c =
     let old = c.args.self.now in let i = c.args.i in let table = c.args.table.now in let own = c.args.own in let shared = c.args.shared in
-    subst (λ (x : Extent). IfSome c.either_piece-4.result (λ p. p.region ≡ x)) (sym ((c.give_back-3.ensures.stays c.space_of-4.result).region ∙ (c.give_back-2.ensures.stays c.space_of-4.result).region ∙ (c.give_back.ensures.stays c.space_of-4.result).region)) (its_home old i table own shared c.requires.pieces c.requires.records 3 c.space_of-4.result c.space_of-4.ensures c.either_piece-4.result c.either_piece-4.ensures)
+    subst (λ (x : Extent). IfSome c.either_piece-4.result (λ p. p.region ≡ x)) (sym ((c.give_back-3.ensures.stays c.space_of-4.result).region ∙ (c.give_back-2.ensures.stays c.space_of-4.result).region ∙ (c.give_back.ensures.stays c.space_of-4.result).region)) (its_owner old i table own shared c.requires.pieces c.requires.records 3 c.space_of-4.result c.space_of-4.ensures c.either_piece-4.result c.either_piece-4.ensures)
 
 pub give_back-requires-4-clause-owner : goal.give_back-requires-4-clause-owner
 give_back-requires-4-clause-owner c =
@@ -105,8 +105,8 @@ give_back-requires-4-clause-owner c =
     let i3_3 = still_there c.give_back-2.new.self c.give_back-3.new.self (Record i 3) (Record i 2) (placed_in (Record i 3) c.space_of-4.result (record_at c.args.table.now 3).align c.either_piece-4.result) (record_apart i 3 2 refl) gone2 i3_2 in
     owner_there (Record i 3) c.space_of-4.result (record_at c.args.table.now 3).align c.give_back-3.new.self c.either_piece-4.result i3_3
 
-pub returns-clause-picture : goal.returns-clause-picture
-returns-clause-picture c =
+pub returns-clause-map : goal.returns-clause-map
+returns-clause-map c =
     let old = c.args.self.now in let i = c.args.i in let table = c.args.table.now in let own = c.args.own in let shared = c.args.shared in
     let i0_0 = its_block old i table own shared c.requires.pieces c.requires.records 0 c.space_of.result c.space_of.ensures c.either_piece.result c.either_piece.ensures in
     let gone0 = one_gone (Record i 0) c.space_of.result (record_at c.args.table.now 0).align c.args.self.now c.either_piece.result i0_0 c.give_back.new.self c.give_back.ensures.only c.give_back.ensures.elsewhere in
@@ -124,7 +124,7 @@ returns-clause-picture c =
     let gone3 = one_gone (Record i 3) c.space_of-4.result (record_at c.args.table.now 3).align c.give_back-3.new.self c.either_piece-4.result i3_3 c.give_back-4.new.self c.give_back-4.ensures.only c.give_back-4.ensures.elsewhere in
     let all : (any : Space) → (space_in c.give_back-4.new.self any).blocks ≡ disowned (Record i 3) (disowned (Record i 2) (disowned (Record i 1) (disowned (Record i 0) (space_in old any).blocks))) =
     λ any. gone3 any ∙ ap (disowned (Record i 3)) (gone2 any ∙ ap (disowned (Record i 2)) (gone1 any ∙ ap (disowned (Record i 1)) (gone0 any))) in
-    picture_left old c.give_back-4.new.self i table own shared c.requires.records all
+    map_left old c.give_back-4.new.self i table own shared c.requires.records all
 
 pub returns-clause-others : goal.returns-clause-others
 returns-clause-others c =

@@ -13,8 +13,8 @@ returns-clause-step g c =
     let later = later_member _ _ before.0 before.1 (c.activate.ensures.step.same.slot c.args.i) in
     let same = later.1.1 in
     let yes : c.accepts.result ≡ true = search rules in
-    let accepts : IsLawful g.M.Ialg.meaning (instance_of later.0.inst) c.args.poison → Accepts g.M.Ialg.meaning (instance_of later.0.inst) (control_of c.args.c.now) =
-    λ lawful. rw (same.kind, same.params) (sym (c.accepts.ensures c.args.poison before.0 before.1 (lawful_before g.M.Ialg.meaning _ _ c.args.poison same lawful)) ∙ yes) in
+    let accepts : IsLawful g.M.Ialg.law.meaning (instance_of later.0.inst) c.args.poison → Accepts g.M.Ialg.law.meaning (instance_of later.0.inst) (control_of c.args.c.now) =
+    λ lawful. rw (same.kind, same.params) (sym (c.accepts.ensures c.args.poison before.0 before.1 (lawful_before g.M.Ialg.law.meaning _ _ c.args.poison same lawful)) ∙ yes) in
     steps_told c.activate.ensures.step.activity
     (steps_then c.activate.ensures.step (c.control_active.ensures.step c.args.poison later.0 later.1.0 c.activate.ensures.step.poisoned accepts))
 
@@ -23,10 +23,10 @@ returns-clause-status g c histories m at lawful keeps =
     let later = later_member _ _ m at (c.activate.ensures.step.same.slot c.args.i) in
     let same = later.1.1 in
     let yes : c.accepts.result ≡ true = search rules in
-    let accepts : Accepts g.M.Ialg.meaning (instance_of later.0.inst) (control_of c.args.c.now) =
+    let accepts : Accepts g.M.Ialg.law.meaning (instance_of later.0.inst) (control_of c.args.c.now) =
     rw (same.kind, same.params) (sym (c.accepts.ensures c.args.poison m at lawful) ∙ yes) in
     rw (same.kind, same.params) at
-    (c.control_active.ensures.status c.args.poison histories later.0 later.1.0 (lawful_after g.M.Ialg.meaning _ _ c.args.poison same lawful) accepts (c.activate.ensures.step.keeps histories keeps))
+    (c.control_active.ensures.status c.args.poison histories later.0 later.1.0 (lawful_after g.M.Ialg.law.meaning _ _ c.args.poison same lawful) accepts (c.activate.ensures.step.keeps histories keeps))
 
 pub returns-clause-stays : goal.returns-clause-stays
 returns-clause-stays g c = stays_of (returns-clause-step g c)

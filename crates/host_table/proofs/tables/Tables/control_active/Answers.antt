@@ -1,39 +1,39 @@
 use Rattle.std.proofs.Common.{◌≡◌, ℕ, Some, sym, ◌∙◌, refl, ap}
 use Rattle.std.proofs.lemmas.Option.{same_Some, none-some}
 use Rattle.lifecycle.specs.declared.instance.Inst.TheVariants.{Running}
-use Rattle.host_shared.specs.Homes.{HasHomes}
+use Rattle.host_shared.specs.Owners.{HasOwners}
 use Rattle.host_table.specs.Table.{slot_at, group_at, activity_at}
-use Rattle.host_shared.specs.Shelves.{once_at}
+use Rattle.host_shared.specs.Locations.{shared_at}
 use Rattle.host_table.proofs.Housing.{same_blocks, lawful_before}
 use Rattle.host_shared.proofs.Lent.{put_back}
-use Rattle.host_table.proofs.Changes.{homes_of_slot, read_slot, read_ok_group, known_active, kept_in_slot, fits_in_slot}
+use Rattle.host_table.proofs.Changes.{owners_of_slot, read_slot, read_ok_group, known_active, kept_in_slot, fits_in_slot}
 use Rattle.host_table.proofs.Activities.{activity_stays}
 use Rattle.host_table.proofs.Stepping.{Change, ok_in, steps_to, steps_after_step}
 use Rattle.host_table.proofs.tables.Tables.control_active.Goals as goal
-use Rattle.host_table.proofs.tables.Tables.control_active.Goals.{After-put_seen}
+use Rattle.host_table.proofs.tables.Tables.control_active.Goals.{After-give_back_pieces}
 use Rattle.host_table.proofs.tables.Tables.control_active.Given.{Over}
 
-pub take_seen-shared-requires-clause-homes : goal.take_seen-shared-requires-clause-homes
-take_seen-shared-requires-clause-homes g c =
-    homes_of_slot _ _ _ (ok_in c.self.view_is c.requires.ok) _ _ (read_slot c.self.inside.slots.items c.args.i _ (rw (← c.self.view_is) at c.requires.active) _ c.index_mut.ensures.value ∙ c.in-Some.is)
+pub borrow_pieces-shared-requires-clause-owners : goal.borrow_pieces-shared-requires-clause-owners
+borrow_pieces-shared-requires-clause-owners g c =
+    owners_of_slot _ _ _ (ok_in c.self.view_is c.requires.ok) _ _ (read_slot c.self.inside.instances.items c.args.i _ (rw (← c.self.view_is) at c.requires.active) _ c.index_mut.ensures.value ∙ c.in-Some.is)
 
 pub control-status-requires : goal.control-status-requires
 control-status-requires g c =
-    let in_slot = read_slot c.self.inside.slots.items c.args.i _ (rw (← c.self.view_is) at c.requires.active) _ c.index_mut.ensures.value ∙ c.in-Some.is in
-    let once_is = sym c.take_seen-shared.ensures.pieces in
+    let in_slot = read_slot c.self.inside.instances.items c.args.i _ (rw (← c.self.view_is) at c.requires.active) _ c.index_mut.ensures.value ∙ c.in-Some.is in
+    let once_is = sym c.borrow_pieces-shared.ensures.pieces in
     let group_is = read_ok_group _ _ _ (ok_in c.self.view_is c.requires.ok) _ ((ok_in c.self.view_is c.requires.ok).group_range c.args.i _ in_slot) _ c.index_mut-group.ensures.value in
     record { fits = fits_in_slot _ _ _ _ _ _ _ _ _ (ok_in c.self.view_is c.requires.ok) in_slot c.in-Running.is refl once_is group_is }
 
 -- the instance is the active member of its group
-module _ (g : Over) (c : After-put_seen g) where
-  in_slot : slot_at c.self.inside.slots.items c.args.i ≡ Some c.in-Some.member
-  in_slot = read_slot c.self.inside.slots.items c.args.i _ (rw (← c.self.view_is) at c.requires.active) _ c.index_mut.ensures.value ∙ c.in-Some.is
+module _ (g : Over) (c : After-give_back_pieces g) where
+  in_slot : slot_at c.self.inside.instances.items c.args.i ≡ Some c.in-Some.member
+  in_slot = read_slot c.self.inside.instances.items c.args.i _ (rw (← c.self.view_is) at c.requires.active) _ c.index_mut.ensures.value ∙ c.in-Some.is
 
-  homes : HasHomes c.self.inside.once.items c.args.i
-  homes = homes_of_slot _ _ _ (ok_in c.self.view_is c.requires.ok) _ _ in_slot
+  owners : HasOwners c.self.inside.sharing.items c.args.i
+  owners = owners_of_slot _ _ _ (ok_in c.self.view_is c.requires.ok) _ _ in_slot
 
-  once_is : once_at c.self.inside.once.items c.args.i ≡ c.take_seen-shared.result
-  once_is = sym c.take_seen-shared.ensures.pieces
+  once_is : shared_at c.self.inside.sharing.items c.args.i ≡ c.borrow_pieces-shared.result
+  once_is = sym c.borrow_pieces-shared.ensures.pieces
 
   group_is : group_at c.self.inside.groups.items c.in-Some.member.group ≡ c.index_mut-group.result.now
   group_is = read_ok_group _ _ _ (ok_in c.self.view_is c.requires.ok) _ ((ok_in c.self.view_is c.requires.ok).group_range c.args.i _ in_slot) _ c.index_mut-group.ensures.value
@@ -47,7 +47,7 @@ module _ (g : Over) (c : After-put_seen g) where
   now : c.control-status.new.group.active ≡ Some c.args.i
   now = c.control-status.ensures.group.active ∙ rw group_is at known
 
-  change : Change c.self.inside.slots.items c.self.inside.once.items c.self.inside.groups.items c.args.i c.in-Some.member.group c.in-Some.member (Running c.control-status.new.self) c.control-status.new.shared c.control-status.new.group
+  change : Change c.self.inside.instances.items c.self.inside.sharing.items c.self.inside.groups.items c.args.i c.in-Some.member.group c.in-Some.member (Running c.control-status.new.self) c.control-status.new.shared c.control-status.new.group
   change = record {
     ok = (ok_in c.self.view_is c.requires.ok);
     in_slot = in_slot;
@@ -65,16 +65,16 @@ returns-clause-step g c w m at poisoned accepts =
     let is : c.in-Some.member ≡ m = same_Some _ _ (sym (in_slot g c) ∙ (rw (← c.self.view_is) at at)) in
     let inst : m.inst ≡ Running c.in-Running.active = ap (λ q. q.inst) (sym is) ∙ c.in-Running.is in
     rw (← c.self.view_is)
-    (steps_to refl (put_back _ _ (homes g c) _ _ c.control-status.new.shared c.take_seen-shared.ensures.left c.put_seen.ensures)
+    (steps_to refl (put_back _ _ (owners g c) _ _ c.control-status.new.shared c.borrow_pieces-shared.ensures.left c.give_back_pieces.ensures)
     (steps_after_step (change g c) (rw (← c.self.view_is) at poisoned) (λ e. absurd (none-some _ (sym e ∙ now g c)))
     (activity_stays (activity_at c.self.inside.groups.items) c.in-Some.member.group _ (now g c ∙ sym (known g c)) (rw (group_is g c) c.control-status.ensures.group.activations))
     _ (λ histories before lawful.
     let s = c.in-Running.active.instance in
-    c.control-status.ensures.keeps w (histories c.args.i) (rw inst at accepts (lawful_before g.M.Ialg.meaning s _ w c.control-status.ensures.same lawful)) (rw (once_is g c, group_is g c, c.in-Running.is) at before) lawful)))
+    c.control-status.ensures.keeps w (histories c.args.i) (rw inst at accepts (lawful_before g.M.Ialg.law.meaning s _ w c.control-status.ensures.same lawful)) (rw (once_is g c, group_is g c, c.in-Running.is) at before) lawful)))
 
 pub returns-clause-status : goal.returns-clause-status
 returns-clause-status g c w histories m at lawful accepts keeps =
     let is : c.in-Some.member ≡ m = same_Some _ _ (sym (in_slot g c) ∙ (rw (← c.self.view_is) at at)) in
     let inst : m.inst ≡ Running c.in-Running.active = ap (λ q. q.inst) (sym is) ∙ c.in-Running.is in
-    let kept = kept_in_slot _ _ _ _ _ _ _ _ (in_slot g c) c.in-Running.is (once_is g c) (group_is g c) g.M.Ialg.meaning g.M.Ialg.idle_keeps g.M.Ialg.active_keeps w histories (rw (← c.self.view_is) at keeps) in
+    let kept = kept_in_slot _ _ _ _ _ _ _ _ (in_slot g c) c.in-Running.is (once_is g c) (group_is g c) g.M.Ialg.law w histories (rw (← c.self.view_is) at keeps) in
     rw inst (c.control-status.ensures.status w (histories c.args.i) (rw inst at lawful) (rw inst at accepts) kept)

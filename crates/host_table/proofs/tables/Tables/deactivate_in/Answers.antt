@@ -3,9 +3,9 @@ use Rattle.std.proofs.lemmas.List.{get_or-set_same}
 use Rattle.std.proofs.lemmas.Option.{same_Some, none-some}
 use Rattle.lifecycle.specs.declared.instance.Inst.TheVariants.{Idling, Running}
 use Rattle.host_table.specs.Table.{slot_at, group_at, slot_active_in, instance_of, activity_at}
-use Rattle.host_map.specs.Activity.{rested}
-use Rattle.host_shared.specs.Shelves.{once_at}
-use Rattle.host_table.proofs.Changes.{homes_of_slot, read_ok_group, read_active, read_alone, read_slot, once_inside, active_inside, turned, fits_in_slot}
+use Rattle.host_map.specs.Activity.{deactivated}
+use Rattle.host_shared.specs.Locations.{shared_at}
+use Rattle.host_table.proofs.Changes.{owners_of_slot, read_ok_group, read_active, read_alone, read_slot, once_inside, active_inside, turned, fits_in_slot}
 use Rattle.host_table.proofs.Activities.{same_activity}
 use Rattle.host_table.proofs.Stepping.{Change, ok_in, steps_to, steps_after_change}
 use Rattle.host_table.proofs.tables.Tables.deactivate_in.Goals as goal
@@ -15,32 +15,32 @@ use Rattle.host_table.proofs.tables.Tables.deactivate_in.Given.{Over}
 pub index_mut-requires : goal.index_mut-requires
 index_mut-requires g c =
     let there = read_active _ _ _ (ok_in c.self.view_is c.requires.ready.ok) _ _ c.requires.range _ c.index.ensures (sym c.active.ensures ∙ c.in-Some.is) in
-    let inside : c.in-Some.i < length c.self.inside.slots.items = active_inside c.self.inside.slots.items c.in-Some.i c.args.g there in
+    let inside : c.in-Some.i < length c.self.inside.instances.items = active_inside c.self.inside.instances.items c.in-Some.i c.args.g there in
     search (inside, rules)
 
 pub unreachable-requires-in-None : goal.unreachable-requires-in-None
 unreachable-requires-in-None g c =
     let there = read_active _ _ _ (ok_in c.self.view_is c.requires.ready.ok) _ _ c.requires.range _ c.index.ensures (sym c.active.ensures ∙ c.in-Some.is) in
-    let empty = read_slot c.self.inside.slots.items c.in-Some.i c.args.g there _ c.index_mut.ensures.value ∙ c.in-None.is in
+    let empty = read_slot c.self.inside.instances.items c.in-Some.i c.args.g there _ c.index_mut.ensures.value ∙ c.in-None.is in
     none-some _ (rw empty at there)
 
 pub unreachable-requires : goal.unreachable-requires
 unreachable-requires g c =
     let there = read_active _ _ _ (ok_in c.self.view_is c.requires.ready.ok) _ _ c.requires.range _ c.index.ensures (sym c.active.ensures ∙ c.in-Some.is) in
-    let in_slot = read_slot c.self.inside.slots.items c.in-Some.i c.args.g there _ c.index_mut.ensures.value ∙ c.in-Some-index_mut.is in
+    let in_slot = read_slot c.self.inside.instances.items c.in-Some.i c.args.g there _ c.index_mut.ensures.value ∙ c.in-Some-index_mut.is in
     none-some _ (rw (in_slot, c.in-Idling.is) at there)
 
 pub deactivate_member-requires : goal.deactivate_member-requires
 deactivate_member-requires g c =
     let ok = (ok_in c.self.view_is c.requires.ready.ok) in
     let there = read_active _ _ _ ok _ _ c.requires.range _ c.index.ensures (sym c.active.ensures ∙ c.in-Some.is) in
-    let in_slot = read_slot c.self.inside.slots.items c.in-Some.i c.args.g there _ c.index_mut.ensures.value ∙ c.in-Some-index_mut.is in
+    let in_slot = read_slot c.self.inside.instances.items c.in-Some.i c.args.g there _ c.index_mut.ensures.value ∙ c.in-Some-index_mut.is in
     let group : c.in-Some-index_mut.member.group ≡ c.args.g = same_Some _ _ (rw (in_slot, c.in-Running.is) at there) in
     let group_is = read_ok_group _ _ _ ok _ c.requires.range _ c.index_mut-in-Running.ensures.value in
     record {
       lent = record {
         number = once_inside _ _ _ ok c.in-Some.i _ in_slot;
-        homes = homes_of_slot _ _ _ ok _ _ in_slot;
+        owners = owners_of_slot _ _ _ ok _ _ in_slot;
         fits = fits_in_slot _ _ _ _ _ _ _ _ _ ok in_slot c.in-Running.is group refl group_is;
       };
     }
@@ -48,15 +48,15 @@ deactivate_member-requires g c =
 pub make_idle-requires : goal.make_idle-requires
 make_idle-requires g c =
     let there = read_active _ _ _ (ok_in c.self.view_is c.requires.ready.ok) _ _ c.requires.range _ c.index.ensures (sym c.active.ensures ∙ c.in-Some.is) in
-    rw (get_or-set_same c.self.inside.slots.items c.in-Some.i (Some (record c.in-Some-index_mut.member { inst = Running c.deactivate_member.new.active })) None (active_inside c.self.inside.slots.items c.in-Some.i c.args.g there)) (search rules)
+    rw (get_or-set_same c.self.inside.instances.items c.in-Some.i (Some (record c.in-Some-index_mut.member { inst = Running c.deactivate_member.new.active })) None (active_inside c.self.inside.instances.items c.in-Some.i c.args.g there)) (search rules)
 
 -- the active member stands in its slot, and is active there
 module _ (g : Over) (c : After-make_idle g) where
-  there : slot_active_in (slot_at c.self.inside.slots.items c.in-Some.i) ≡ Some c.args.g
+  there : slot_active_in (slot_at c.self.inside.instances.items c.in-Some.i) ≡ Some c.args.g
   there = read_active _ _ _ (ok_in c.self.view_is c.requires.ready.ok) _ _ c.requires.range _ c.index.ensures (sym c.active.ensures ∙ c.in-Some.is)
 
-  in_slot : slot_at c.self.inside.slots.items c.in-Some.i ≡ Some c.in-Some-index_mut.member
-  in_slot = read_slot c.self.inside.slots.items c.in-Some.i c.args.g there _ c.index_mut.ensures.value ∙ c.in-Some-index_mut.is
+  in_slot : slot_at c.self.inside.instances.items c.in-Some.i ≡ Some c.in-Some-index_mut.member
+  in_slot = read_slot c.self.inside.instances.items c.in-Some.i c.args.g there _ c.index_mut.ensures.value ∙ c.in-Some-index_mut.is
 
   of_group : c.in-Some-index_mut.member.group ≡ c.args.g
   of_group = same_Some _ _ (rw (in_slot, c.in-Running.is) at there)
@@ -67,13 +67,13 @@ module _ (g : Over) (c : After-make_idle g) where
   group_is : group_at c.self.inside.groups.items c.args.g ≡ c.index_mut-in-Running.result.now
   group_is = read_ok_group _ _ _ (ok_in c.self.view_is c.requires.ready.ok) _ c.requires.range _ c.index_mut-in-Running.ensures.value
 
-  slots : c.make_idle.new.slots.items ≡ set c.self.inside.slots.items c.in-Some.i (Some (record { group = c.args.g; inst = Idling (record { instance = c.deactivate_member.new.active.instance }) }))
-  slots =
+  instances : c.make_idle.new.instances.items ≡ set c.self.inside.instances.items c.in-Some.i (Some (record { group = c.args.g; inst = Idling (record { instance = c.deactivate_member.new.active.instance }) }))
+  instances =
       rw (← of_group)
-      (turned c.self.inside.slots.items c.in-Some.i (record { group = c.in-Some-index_mut.member.group; inst = Running c.deactivate_member.new.active })
-      (λ q. record q { inst = Idling (record { instance = instance_of q.inst }) }) c.make_idle.new.slots.items (active_inside c.self.inside.slots.items c.in-Some.i c.args.g there) c.make_idle.ensures)
+      (turned c.self.inside.instances.items c.in-Some.i (record { group = c.in-Some-index_mut.member.group; inst = Running c.deactivate_member.new.active })
+      (λ q. record q { inst = Idling (record { instance = instance_of q.inst }) }) c.make_idle.new.instances.items (active_inside c.self.inside.instances.items c.in-Some.i c.args.g there) c.make_idle.ensures)
 
-  change : Change c.self.inside.slots.items c.self.inside.once.items c.self.inside.groups.items c.in-Some.i c.args.g c.in-Some-index_mut.member (Idling (record { instance = c.deactivate_member.new.active.instance })) (once_at c.deactivate_member.new.once.items c.in-Some.i) c.deactivate_member.new.group
+  change : Change c.self.inside.instances.items c.self.inside.sharing.items c.self.inside.groups.items c.in-Some.i c.args.g c.in-Some-index_mut.member (Idling (record { instance = c.deactivate_member.new.active.instance })) (shared_at c.deactivate_member.new.sharing.items c.in-Some.i) c.deactivate_member.new.group
   change = record {
     ok = (ok_in c.self.view_is c.requires.ready.ok);
     in_slot = in_slot;
@@ -89,7 +89,7 @@ module _ (g : Over) (c : After-make_idle g) where
 pub returns-clause-step : goal.returns-clause-step
 returns-clause-step g c =
     rw (← c.self.view_is)
-    (steps_to (slots g c) c.deactivate_member.ensures.seen
+    (steps_to (instances g c) c.deactivate_member.ensures.seen
     (steps_after_change (change g c) (rw (← c.self.view_is) at c.requires.ready.poisoned) (λ e. c.deactivate_member.ensures.did.poisoned)
-    (same_activity (activity_at c.self.inside.groups.items) c.args.g _ (rested (activity_at c.self.inside.groups.items c.args.g)) c.deactivate_member.ensures.did.active (rw (group_is g c) c.deactivate_member.ensures.did.activations))
+    (same_activity (activity_at c.self.inside.groups.items) c.args.g _ (deactivated (activity_at c.self.inside.groups.items c.args.g)) c.deactivate_member.ensures.did.active (rw (group_is g c) c.deactivate_member.ensures.did.activations))
     (λ histories before. c.deactivate_member.ensures.did.keeps c.args.poison (histories c.in-Some.i) (rw (group_is g c, c.in-Running.is) at before))))

@@ -2,9 +2,9 @@ use Rattle.std.proofs.Common.{◌≡◌, ℕ, Some, sym, ◌∙◌, refl, ap}
 use Rattle.std.proofs.lemmas.Option.{same_Some, none-some}
 use Rattle.lifecycle.specs.declared.instance.Inst.TheVariants.{Running}
 use Rattle.host_table.specs.Table.{slot_at, group_at, activity_at}
-use Rattle.host_shared.specs.Shelves.{once_at}
+use Rattle.host_shared.specs.Locations.{shared_at}
 use Rattle.host_table.proofs.Housing.{same_blocks}
-use Rattle.host_table.proofs.Changes.{once_inside, homes_of_slot, read_slot, read_ok_group, known_active, kept_in_slot, fits_in_slot}
+use Rattle.host_table.proofs.Changes.{once_inside, owners_of_slot, read_slot, read_ok_group, known_active, kept_in_slot, fits_in_slot}
 use Rattle.host_table.proofs.Activities.{activity_stays}
 use Rattle.host_table.proofs.Stepping.{Change, ok_in, steps_to, steps_after_step}
 use Rattle.host_table.proofs.tables.Tables.run.Goals as goal
@@ -14,18 +14,18 @@ use Rattle.host_table.proofs.tables.Tables.run.Given.{Over}
 pub run_member-requires-clause-lent : goal.run_member-requires-clause-lent
 run_member-requires-clause-lent g c =
     let ok = (ok_in c.self.view_is c.requires.ok) in
-    let in_slot = read_slot c.self.inside.slots.items c.args.i _ (rw (← c.self.view_is) at c.requires.active) _ c.index_mut.ensures.value ∙ c.in-Some.is in
+    let in_slot = read_slot c.self.inside.instances.items c.args.i _ (rw (← c.self.view_is) at c.requires.active) _ c.index_mut.ensures.value ∙ c.in-Some.is in
     let group_is = read_ok_group _ _ _ ok _ (ok.group_range c.args.i _ in_slot) _ c.index_mut-group.ensures.value in
     record {
       number = once_inside _ _ _ ok c.args.i _ in_slot;
-      homes = homes_of_slot _ _ _ ok _ _ in_slot;
+      owners = owners_of_slot _ _ _ ok _ _ in_slot;
       fits = fits_in_slot _ _ _ _ _ _ _ _ _ ok in_slot c.in-Running.is refl refl group_is;
     }
 
 -- the instance is the active member of its group
 module _ (g : Over) (c : After-self-in-Running-1 g) where
-  in_slot : slot_at c.self.inside.slots.items c.args.i ≡ Some c.in-Some.member
-  in_slot = read_slot c.self.inside.slots.items c.args.i _ (rw (← c.self.view_is) at c.requires.active) _ c.index_mut.ensures.value ∙ c.in-Some.is
+  in_slot : slot_at c.self.inside.instances.items c.args.i ≡ Some c.in-Some.member
+  in_slot = read_slot c.self.inside.instances.items c.args.i _ (rw (← c.self.view_is) at c.requires.active) _ c.index_mut.ensures.value ∙ c.in-Some.is
 
   group_is : group_at c.self.inside.groups.items c.in-Some.member.group ≡ c.index_mut-group.result.now
   group_is = read_ok_group _ _ _ (ok_in c.self.view_is c.requires.ok) _ ((ok_in c.self.view_is c.requires.ok).group_range c.args.i _ in_slot) _ c.index_mut-group.ensures.value
@@ -39,7 +39,7 @@ module _ (g : Over) (c : After-self-in-Running-1 g) where
   now : c.run_member.new.group.active ≡ Some c.args.i
   now = c.run_member.ensures.did.group.active ∙ rw group_is at known
 
-  change : Change c.self.inside.slots.items c.self.inside.once.items c.self.inside.groups.items c.args.i c.in-Some.member.group c.in-Some.member (Running c.run_member.new.active) (once_at c.run_member.new.once.items c.args.i) c.run_member.new.group
+  change : Change c.self.inside.instances.items c.self.inside.sharing.items c.self.inside.groups.items c.args.i c.in-Some.member.group c.in-Some.member (Running c.run_member.new.active) (shared_at c.run_member.new.sharing.items c.args.i) c.run_member.new.group
   change = record {
     ok = (ok_in c.self.view_is c.requires.ok);
     in_slot = in_slot;
@@ -64,5 +64,5 @@ pub returns-clause-output : goal.returns-clause-output
 returns-clause-output g c w histories keeps m at lawful =
     let is : c.in-Some.member ≡ m = same_Some _ _ (sym (in_slot g c) ∙ (rw (← c.self.view_is) at at)) in
     let inst : m.inst ≡ Running c.in-Running.active = ap (λ q. q.inst) (sym is) ∙ c.in-Running.is in
-    let kept = kept_in_slot _ _ _ _ _ _ _ _ (in_slot g c) c.in-Running.is refl (group_is g c) g.M.Ialg.meaning g.M.Ialg.idle_keeps g.M.Ialg.active_keeps w histories (rw (← c.self.view_is) at keeps) in
+    let kept = kept_in_slot _ _ _ _ _ _ _ _ (in_slot g c) c.in-Running.is refl (group_is g c) g.M.Ialg.law w histories (rw (← c.self.view_is) at keeps) in
     rw inst (c.run_member.ensures.did.output w (histories c.args.i) (rw inst at lawful) kept)

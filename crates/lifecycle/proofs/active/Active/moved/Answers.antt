@@ -23,9 +23,9 @@ pub returns-clause-keeps : goal.returns-clause-keeps
 returns-clause-keeps g c w h keeps lawful =
     let fits = fits_settled c.args.self.now.instance.table c.placed-self.result c.restore.new.own _ c.args.shared.now c.args.group.now c.restore.ensures c.placed-self.ensures c.requires.fits in
     let same = unplaced-placed c.args.self.now.instance.table c.placed-self.result c.restore.new.own c.args.shared.now c.args.group.now c.placed-self.ensures in
-    active_moved g.M.Ialg.meaning g.M.Ialg.idle_keeps g.M.Ialg.active_keeps c.args.self.now.instance.kind c.placed-self.result c.args.self.now.instance.table c.restore.new.own c.lend.new.own c.args.shared.now c.lend.new.shared c.args.group.now c.lend.new.self
+    active_moved g.M.Ialg.law c.args.self.now.instance.kind c.placed-self.result c.args.self.now.instance.table c.restore.new.own c.lend.new.own c.args.shared.now c.lend.new.shared c.args.group.now c.lend.new.self
     same fits c.lend.ensures.done.1 c.args.self.now.instance.params.items w h lawful
-    (subst (λ (o : Pieces). g.M.Ialg.active_keeps c.args.self.now.instance.kind c.args.self.now.instance.params.items c.args.self.now.instance.table (active_words c.args.self.now.instance.table o c.args.shared.now c.args.group.now) h) (sym c.restore.ensures) (keeps lawful))
+    (subst (λ (o : Pieces). g.M.Ialg.law.active_keeps c.args.self.now.instance.kind c.args.self.now.instance.params.items c.args.self.now.instance.table (active_words c.args.self.now.instance.table o c.args.shared.now c.args.group.now) h) (sym c.restore.ensures) (keeps lawful))
 
 pub returns-clause-once : goal.returns-clause-once
 returns-clause-once g c = once_active c.placed-self.result c.restore.new.own c.lend.new.own c.args.shared.now c.lend.new.shared c.args.group.now c.lend.new.self c.lend.ensures.done.0

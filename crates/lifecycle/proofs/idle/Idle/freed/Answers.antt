@@ -14,7 +14,7 @@ returns-clause-fits g c = fits_stay _ _ _ _ _ _ _ c.lend_lasting.ensures.own c.l
 
 pub returns-clause-table : goal.returns-clause-table
 returns-clause-table g c w h lawful keeps =
-    freed g.M.Ialg.meaning g.M.Ialg.idle_keeps g.M.Ialg.active_keeps c.args.self.now.instance.kind c.args.self.now.instance.table c.args.self.now.instance.own c.args.shared.now c.args.group.now c.lend_lasting.new.out
+    freed g.M.Ialg.law c.args.self.now.instance.kind c.args.self.now.instance.table c.args.self.now.instance.own c.args.shared.now c.args.group.now c.lend_lasting.new.out
     c.requires.fits c.lend_lasting.ensures.done.1 c.args.self.now.instance.params.items w h lawful (keeps lawful)
 
 pub returns-clause-once : goal.returns-clause-once

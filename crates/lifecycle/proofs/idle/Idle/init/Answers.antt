@@ -22,6 +22,6 @@ pub returns-clause-keeps : goal.returns-clause-keeps
 returns-clause-keeps g c w is new lawful =
     let fits = fits_settled c.args.table c.placed-table.result c.args.own c.args.own c.args.shared.now c.args.group.now refl c.placed-table.ensures c.requires.fits in
     let same = unplaced-placed c.args.table c.placed-table.result c.args.own c.args.shared.now c.args.group.now c.placed-table.ensures in
-    started g.M.Ialg.meaning g.M.Ialg.idle_keeps g.M.Ialg.active_keeps c.args.kind c.placed-table.result c.args.own c.lend_lasting.new.own c.args.shared.now c.lend_lasting.new.shared c.args.group.now c.args.params.items
+    started g.M.Ialg.law c.args.kind c.placed-table.result c.args.own c.lend_lasting.new.own c.args.shared.now c.lend_lasting.new.shared c.args.group.now c.args.params.items
     fits c.lend_lasting.ensures.done w lawful (is ∙ ap Some same)
-    (are_new-same w (g.M.Ialg.meaning.fill c.args.kind c.args.params.items) c.args.table c.placed-table.result c.args.own c.args.shared.now (sym same) new)
+    (are_new-same w (g.M.Ialg.law.meaning.fill c.args.kind c.args.params.items) c.args.table c.placed-table.result c.args.own c.args.shared.now (sym same) new)

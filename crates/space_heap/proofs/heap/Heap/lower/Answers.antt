@@ -3,13 +3,13 @@ use Rattle.std.proofs.Common.{◌≡◌, ℕ, ◌<◌, ◌-◌, ◌+◌, ◌%◌
 use Rattle.space_raw.specs.Span.{Scattered, Span}
 use Rattle.std.specs.Prelude.{ℤ}
 use Rattle.relocate.specs.Places.{Range, end_of}
-use Rattle.space_heap.specs.Pictures.{HeapState, Holds, IsBlock, range_of}
+use Rattle.space_heap.specs.Maps.{HeapState, Holds, IsBlock, range_of}
 use Rattle.space_heap.specs.declared.find.Fit.{Fit}
 use Rattle.space_heap.specs.declared.holes.Front.{Front}
 use Rattle.space_heap.specs.Holes.{AreParts, IsCarved, IsFit, IsFront, IsTaken, between, hole_end, in_rest, last_place}
 use Rattle.space_heap.proofs.Ends.{found_chains, front_behind, next_behind}
 use Rattle.space_heap.proofs.Counts.{there, there_less}
-use Rattle.space_heap.proofs.PictureLemmas.{agree, same_marks, moved_blocks, moved_agrees}
+use Rattle.space_heap.proofs.MapLemmas.{agree, same_marks, moved_blocks, moved_agrees}
 use Rattle.space_heap.proofs.PlaceLemmas.{lowered, not_lowered}
 use Rattle.space_heap.proofs.heap.Heap.lower.Given.{Over}
 use Rattle.space_heap.proofs.heap.Heap.lower.Goals as goal
@@ -18,14 +18,14 @@ pub returns-in_default-clause-place : goal.returns-in_default-clause-place
 returns-in_default-clause-place g c =
     let heap = c.self.inside in let slots = heap.rest.slots in let words = heap.region.size in let r = range_of c.args.piece in
     λ before after holds.
-    let picture = subst (λ (v : HeapState). Holds v (before ++ r ∷ after)) (sym c.self.view_is) holds in
-    let same = agree words slots (before ++ r ∷ after) c.self.invariant.long picture.free in
+    let map = subst (λ (v : HeapState). Holds v (before ++ r ∷ after)) (sym c.self.view_is) holds in
+    let same = agree words slots (before ++ r ∷ after) c.self.invariant.long map.free in
     let place = c.in_default.ensures.place in
-    ap (λ (s : Span). s.place) c.gap_before.ensures.same.1 ∙ not_lowered words before after r (in_rest slots) place.0 picture.placed same place.1 c.args.align place.2
+    ap (λ (s : Span). s.place) c.gap_before.ensures.same.1 ∙ not_lowered words before after r (in_rest slots) place.0 map.placed same place.1 c.args.align place.2
 
 -- the words that the block leaves come behind it, and it behind what is left of the hole
 module _ (old new : List (Option ℤ)) (first first' : Option ℕ) (r : Range) (fit : Fit) (n : ℕ) (block : IsBlock (length old) r) (taken : IsTaken old r)
-    (lt : fit.place < r.place) (touching : hole_end fit.found.hole ≡ r.place) (is : IsFit old first (r.place - fit.place) fit)
+    (lt : fit.place < r.place) (activating : hole_end fit.found.hole ≡ r.place) (is : IsFit old first (r.place - fit.place) fit)
     (long : length new ≡ length old) (wide : fit.place + n ≡ r.place) (carved : IsCarved new first' n fit) where
   abbrev front_from : ℕ → Front
   front_from place = record { before = last_place fit.found.before (between fit.found.hole.place fit.place); from = place; next = fit.found.hole.next }
@@ -106,7 +106,7 @@ module _ (g : Over) (c : goal.After-self-1 g) where
   back = c.put_behind.ensures.parts
 
   inside : r.place + r.size ≤ length old
-  inside = let last = c.requires.block.inside in let long = c.self.invariant.long in let home = ap (λ (v : HeapState). v.region.size) c.self.view_is in omega arith
+  inside = let last = c.requires.block.inside in let long = c.self.invariant.long in let owner = ap (λ (v : HeapState). v.region.size) c.self.view_is in omega arith
 
   rest_long : length rest ≡ length old
   rest_long = c.carve-gap.ensures.rest.1 ∙ ap length kept
@@ -130,7 +130,7 @@ module _ (g : Over) (c : goal.After-self-1 g) where
 
 pub invariant_of-self-2 : goal.invariant_of-self-2
 invariant_of-self-2 g c = record {
-  home = c.put_behind.ensures.rest.0 ∙ c.carve-gap.ensures.rest.0 ∙ ap (λ (t : Scattered). t.region) c.gap_before.ensures.same.0 ∙ c.self.invariant.home;
+  owner = c.put_behind.ensures.rest.0 ∙ c.carve-gap.ensures.rest.0 ∙ ap (λ (t : Scattered). t.region) c.gap_before.ensures.same.0 ∙ c.self.invariant.owner;
   same_size = c.self.invariant.same_size;
   long = new_long g c ∙ c.self.invariant.long;
   holes = c.put_behind.ensures.holes;
@@ -141,21 +141,21 @@ pub returns-clause-place : goal.returns-clause-place
 returns-clause-place g c =
     let heap = c.self.inside in let slots = heap.rest.slots in let words = heap.region.size in let r = range_of c.args.piece in
     λ before after holds.
-    let picture = subst (λ (v : HeapState). Holds v (before ++ r ∷ after)) (sym c.self.view_is) holds in
-    let same = agree words slots (before ++ r ∷ after) c.self.invariant.long picture.free in
+    let map = subst (λ (v : HeapState). Holds v (before ++ r ∷ after)) (sym c.self.view_is) holds in
+    let same = agree words slots (before ++ r ∷ after) c.self.invariant.long map.free in
     let place = c.in-Some.ensures.place in let found = c.in-Some.ensures.found in
     c.slide-block.ensures.block.1 ∙ c.carve-gap.ensures.block.1
-    ∙ lowered words before after r (in_rest slots) place.0 picture.placed same place.1 c.args.align c.in-Some.fit.place place.2 found.0
+    ∙ lowered words before after r (in_rest slots) place.0 map.placed same place.1 c.args.align c.in-Some.fit.place place.2 found.0
 
 pub returns-clause-taken : goal.returns-clause-taken
 returns-clause-taken g c =
     let words = c.self.inside.region.size in let long = c.self.invariant.long in
     let block = subst (λ n. IsBlock n (s g c)) long (is_block g c) in
     λ before after holds.
-    let picture = subst (λ (v : HeapState). Holds v (before ++ r g c ∷ after)) (sym c.self.view_is) holds in
-    let same = agree words (old g c) (before ++ r g c ∷ after) long picture.free in
+    let map = subst (λ (v : HeapState). Holds v (before ++ r g c ∷ after)) (sym c.self.view_is) holds in
+    let same = agree words (old g c) (before ++ r g c ∷ after) long map.free in
     record {
-      placed = moved_blocks words before after (in_rest (old g c)) (in_rest (rest g c)) (in_rest (new g c)) (gap g c) (behind g c) (r g c) (s g c) (out g c) (back g c) (start g c) (meeting g c) (size g c) (next g c) (end g c) picture.placed same block;
+      placed = moved_blocks words before after (in_rest (old g c)) (in_rest (rest g c)) (in_rest (new g c)) (gap g c) (behind g c) (r g c) (s g c) (out g c) (back g c) (start g c) (meeting g c) (size g c) (next g c) (end g c) map.placed same block;
       free = same_marks words (new g c) (before ++ s g c ∷ after) (new_long g c ∙ long)
-          (moved_agrees words before after (in_rest (old g c)) (in_rest (rest g c)) (in_rest (new g c)) (gap g c) (behind g c) (r g c) (s g c) (out g c) (back g c) (start g c) (meeting g c) (size g c) (next g c) (end g c) picture.placed same block);
+          (moved_agrees words before after (in_rest (old g c)) (in_rest (rest g c)) (in_rest (new g c)) (gap g c) (behind g c) (r g c) (s g c) (out g c) (back g c) (start g c) (meeting g c) (size g c) (next g c) (end g c) map.placed same block);
     }

@@ -6,7 +6,7 @@ use Rattle.space_raw.specs.Span.{Extent}
 use Rattle.relocate.specs.Places.{IsSpaceSize}
 use Rattle.space_heap.specs.Holes.{in_rest}
 use Rattle.space_heap.proofs.Counts.{all_there}
-use Rattle.space_heap.proofs.PictureLemmas.{same_marks}
+use Rattle.space_heap.proofs.MapLemmas.{same_marks}
 use Rattle.space_heap.proofs.Returns.{one_hole}
 use Rattle.space_heap.proofs.Words.{at_some}
 use Rattle.space_heap.proofs.heap.Heap.over.Given.{Over}
@@ -35,7 +35,7 @@ module _ (g : Over) (c : goal.After-leave_hole-first g) where
 
 pub invariant_of-result : goal.invariant_of-result
 invariant_of-result g c = let same = long g c in record {
-  home = c.leave_hole-first.ensures.others.0 ∙ c.of-rest.ensures.region ∙ c.requires.whole.0;
+  owner = c.leave_hole-first.ensures.others.0 ∙ c.of-rest.ensures.region ∙ c.requires.whole.0;
   same_size = size g c;
   long = long g c ∙ size g c;
   holes = one_hole (rest g c) c.len-size.result c.leave_hole-first.result (long g c) (subst IsSpaceSize (sym (size g c)) c.requires.whole.2) (all_free g c) c.leave_hole-first.ensures.written c.leave_hole-first.ensures.start;

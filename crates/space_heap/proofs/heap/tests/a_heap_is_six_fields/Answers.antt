@@ -1,6 +1,6 @@
 -- The block is back, or wasn't taken.
 use Rattle.std.proofs.Common.{[], sym, subst, ◌∙◌}
-use Rattle.space_heap.specs.Pictures.{HeapState, Holds}
+use Rattle.space_heap.specs.Maps.{HeapState, Holds}
 use Rattle.space_heap.proofs.heap.tests.a_heap_is_six_fields.Goals.{in-Some+else-assert_eq-2, in-None+else-assert}
 use Rattle.space_heap.proofs.heap.tests.a_heap_is_six_fields.Goals as goal
 

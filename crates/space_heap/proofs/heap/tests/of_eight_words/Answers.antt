@@ -6,7 +6,7 @@ use Rattle.space_raw.specs.Slots.{IsRun, with_run}
 use Rattle.space_raw.specs.Span.{Extent}
 use Rattle.space_heap.specs.Holes.{AreWritten, between, in_rest}
 use Rattle.space_heap.proofs.Counts.{all_there}
-use Rattle.space_heap.proofs.PictureLemmas.{same_marks}
+use Rattle.space_heap.proofs.MapLemmas.{same_marks}
 use Rattle.space_heap.proofs.Returns.{one_hole}
 use Rattle.space_heap.proofs.Words.{at_some, is_run, tag_first, tag_second, tag_rewrites}
 use Rattle.space_heap.proofs.heap.tests.of_eight_words.Goals as goal
@@ -50,7 +50,7 @@ module _ (c : goal.After-set_tag) where
 
 pub invariant_of-result : goal.invariant_of-result
 invariant_of-result c = let eight = as_long c in record {
-  home = c.set_tag.ensures.region ∙ c.of-rest.ensures.region ∙ c.requires.whole.0;
+  owner = c.set_tag.ensures.region ∙ c.of-rest.ensures.region ∙ c.requires.whole.0;
   same_size = sym c.requires.whole.2;
   long = as_long c ∙ sym c.requires.whole.2;
   holes = one_hole c.set_tag.new.self.slots 8 (Some 0) (as_long c) (omega arith, refl) (free c)

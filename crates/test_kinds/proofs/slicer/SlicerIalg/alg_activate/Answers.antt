@@ -7,7 +7,7 @@ use Rattle.ialg.specs.Loans.{lent_words}
 use Rattle.ialg.proofs.Tables.{lent_size}
 use Rattle.test_kinds.specs.declared.TheConstants.{SLICER_KIND}
 use Rattle.test_kinds.specs.Slicer.{slicer_records, IsSpread}
-use Rattle.test_kinds.proofs.Levels.{awake_by, high_named, low_named, spread_over}
+use Rattle.test_kinds.proofs.Levels.{active_by, high_named, low_named, spread_over}
 use Rattle.test_kinds.proofs.slicer.SlicerIalg.alg_activate.Goals as goal
 
 pub returns-clause-law : goal.returns-clause-law
@@ -15,7 +15,7 @@ returns-clause-law c p w h lawful closed lent poison asleep =
     let m = c.args.mem.now in
     let between = c.spread.new.mem in
     let rs = m.table.now in
-    let keeps = awake_by p rs rs (lent_words m) h refl asleep in
+    let keeps = active_by p rs rs (lent_words m) h refl asleep in
     let sizes = lent_size rs slicer_records keeps.object.on_table (lent_words m) lent in
     let levels = c.as_slice.ensures.value ∙ c.kept_levels-levels.ensures p h lent keeps in
     let items = c.as_slice.result.now in
@@ -36,7 +36,7 @@ returns-clause-law c p w h lawful closed lent poison asleep =
 pub returns-in_default-clause-law : goal.returns-in_default-clause-law
 returns-in_default-clause-law c p w h lawful closed lent poison asleep =
     let m = c.args.mem.now in
-    let keeps = awake_by p m.table.now m.table.now (lent_words m) h refl asleep in
+    let keeps = active_by p m.table.now m.table.now (lent_words m) h refl asleep in
     let levels = ap length (c.as_slice.ensures.value ∙ c.kept_levels-levels.ensures p h lent keeps) ∙ keeps.two in
     let few = c.in_default.len_below in
     absurd (omega (arith, levels, few))
@@ -44,7 +44,7 @@ returns-in_default-clause-law c p w h lawful closed lent poison asleep =
 pub returns-in_default-2-clause-law : goal.returns-in_default-2-clause-law
 returns-in_default-2-clause-law c p w h lawful closed lent poison asleep =
     let m = c.args.mem.now in
-    let keeps = awake_by p m.table.now m.table.now (lent_words m) h refl asleep in
+    let keeps = active_by p m.table.now m.table.now (lent_words m) h refl asleep in
     let levels = ap length (c.as_slice.ensures.value ∙ c.kept_levels-levels.ensures p h lent keeps) ∙ keeps.two in
     let many = c.in_default.len_at_least in
     absurd (omega (arith, levels, many))

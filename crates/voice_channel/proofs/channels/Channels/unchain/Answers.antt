@@ -6,7 +6,7 @@ use Rattle.voice_channel.proofs.channels.Channels.unchain.Goals as goal
 
 pub returns-clause-machine : goal.returns-clause-machine
 returns-clause-machine g c =
-    given g.M.Ialg.meaning g.M.Ialg.idle_keeps g.M.Ialg.active_keeps (c.members_live_in_one_channel.ensures.kept g.M.Ialg.meaning)
+    given g.M.Ialg.law (c.members_live_in_one_channel.ensures.kept g.M.Ialg.law.meaning)
     (Unchain c.args.c (Ok tt)) c.args.c [] c.args.self.now c.set_members.new.self c.set_members.ensures.host
     (c.set_members.ensures.chained ∙ ap (set c.args.self.now.chained c.args.c) c.new.ensures)
     (λ before same host. ap (λ r. unless r before (Ok tt, with_members before c.args.c [])) (sym (c.refusal.ensures.refusal before same ∙ c.in_default.is)))

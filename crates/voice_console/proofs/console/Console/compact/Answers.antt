@@ -8,4 +8,4 @@ use Rattle.voice_console.proofs.console.Console.compact.Goals as goal
 
 pub returns-clause-asks : goal.returns-clause-asks
 returns-clause-asks g c =
-    called g.M.Ialg.meaning g.M.Ialg.idle_keeps g.M.Ialg.active_keeps (λ a. OfHost (Compact c.args.space a)) (λ a. tells (Count a)) c.compact.result _ _ _ c.compact.ensures.machine refl
+    called g.M.Ialg.law (λ a. OfHost (Compact c.args.space a)) (λ a. tells (Count a)) c.compact.result _ _ _ c.compact.ensures.machine refl

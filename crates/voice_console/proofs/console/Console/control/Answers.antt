@@ -10,4 +10,4 @@ use Rattle.voice_console.proofs.console.Console.control.Goals as goal
 
 pub returns-clause-asks : goal.returns-clause-asks
 returns-clause-asks g c =
-    called g.M.Ialg.meaning g.M.Ialg.idle_keeps g.M.Ialg.active_keeps (λ a. OfHost (Control c.args.i (control_of c.args.control.now) a)) (λ a. tells (told_by status_reply a)) (told c.control.result) _ _ _ c.control.ensures.machine (ap tells c.tell_status.ensures)
+    called g.M.Ialg.law (λ a. OfHost (Control c.args.i (control_of c.args.control.now) a)) (λ a. tells (told_by status_reply a)) (told c.control.result) _ _ _ c.control.ensures.machine (ap tells c.tell_status.ensures)

@@ -9,4 +9,4 @@ use Rattle.voice_console.proofs.console.Console.create.Goals as goal
 
 pub returns-clause-asks : goal.returns-clause-asks
 returns-clause-asks g c =
-    called g.M.Ialg.meaning g.M.Ialg.idle_keeps g.M.Ialg.active_keeps (λ a. OfHost (Create c.args.i c.args.kind c.args.group c.args.parameters.now.items a)) (λ a. tells (told_by (λ _. Done) a)) c.create.result _ _ _ c.create.ensures.machine (ap tells c.tell_done.ensures)
+    called g.M.Ialg.law (λ a. OfHost (Create c.args.i c.args.kind c.args.group c.args.parameters.now.items a)) (λ a. tells (told_by (λ _. Done) a)) c.create.result _ _ _ c.create.ensures.machine (ap tells c.tell_done.ensures)

@@ -8,4 +8,4 @@ use Rattle.voice_console.proofs.console.Console.delete.Goals as goal
 
 pub returns-clause-asks : goal.returns-clause-asks
 returns-clause-asks g c =
-    called g.M.Ialg.meaning g.M.Ialg.idle_keeps g.M.Ialg.active_keeps (λ a. Remove c.args.i a) (λ a. tells (told_by (λ _. Done) a)) c.delete.result _ _ _ c.delete.ensures.machine (ap tells c.tell_done.ensures)
+    called g.M.Ialg.law (λ a. Remove c.args.i a) (λ a. tells (told_by (λ _. Done) a)) c.delete.result _ _ _ c.delete.ensures.machine (ap tells c.tell_done.ensures)

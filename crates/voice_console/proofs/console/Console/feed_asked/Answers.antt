@@ -7,7 +7,7 @@ use Rattle.voice_console.proofs.console.Console.feed_asked.Goals as goal
 
 pub returns-in-Ok-clause-asks : goal.returns-in-Ok-clause-asks
 returns-in-Ok-clause-asks g c =
-    called g.M.Ialg.meaning g.M.Ialg.idle_keeps g.M.Ialg.active_keeps (λ a. Ready c.args.c a) (feed_asked ((port_widths_of c.args.self.now).input c.args.c) c.args.c c.args.samples.number) c.ready.result _ _ _ c.ready.ensures.machine
+    called g.M.Ialg.law (λ a. Ready c.args.c a) (feed_asked ((port_widths_of c.args.self.now).input c.args.c) c.args.c c.args.samples.number) c.ready.result _ _ _ c.ready.ensures.machine
     (ap (feed_asked ((port_widths_of c.args.self.now).input c.args.c) c.args.c c.args.samples.number) (sym c.in-Ok.is))
 
 pub returns-in-Ok-clause-ready : goal.returns-in-Ok-clause-ready
@@ -15,5 +15,5 @@ returns-in-Ok-clause-ready g c = record { there = c.in-Ok.ensures.there refl; ab
 
 pub returns-in-Err-clause-asks : goal.returns-in-Err-clause-asks
 returns-in-Err-clause-asks g c =
-    called g.M.Ialg.meaning g.M.Ialg.idle_keeps g.M.Ialg.active_keeps (λ a. Ready c.args.c a) (feed_asked ((port_widths_of c.args.self.now).input c.args.c) c.args.c c.args.samples.number) c.ready.result _ _ _ c.ready.ensures.machine
+    called g.M.Ialg.law (λ a. Ready c.args.c a) (feed_asked ((port_widths_of c.args.self.now).input c.args.c) c.args.c c.args.samples.number) c.ready.result _ _ _ c.ready.ensures.machine
     (ap (feed_asked ((port_widths_of c.args.self.now).input c.args.c) c.args.c c.args.samples.number) (sym c.in-Err.is))

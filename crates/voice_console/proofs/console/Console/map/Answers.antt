@@ -8,5 +8,5 @@ use Rattle.voice_console.proofs.console.Console.map.Goals as goal
 
 pub returns : goal.returns
 returns g c = record {
-  asks = called g.M.Ialg.meaning g.M.Ialg.idle_keeps g.M.Ialg.active_keeps (λ a. OfHost (Map c.args.space a)) (λ a. tells (Told a)) c.map.result.items _ _ _ c.map.ensures.machine refl;
+  asks = called g.M.Ialg.law (λ a. OfHost (Map c.args.space a)) (λ a. tells (Told a)) c.map.result.items _ _ _ c.map.ensures.machine refl;
 }

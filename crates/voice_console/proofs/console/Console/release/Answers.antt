@@ -9,4 +9,4 @@ use Rattle.voice_console.proofs.console.Console.release.Goals as goal
 
 pub returns-clause-asks : goal.returns-clause-asks
 returns-clause-asks g c =
-    called g.M.Ialg.meaning g.M.Ialg.idle_keeps g.M.Ialg.active_keeps (λ a. OfHost (Release c.args.group a)) (λ a. tells (told_by Flag a)) c.release.result _ _ _ c.release.ensures.machine (ap tells c.tell_flag.ensures)
+    called g.M.Ialg.law (λ a. OfHost (Release c.args.group a)) (λ a. tells (told_by Flag a)) c.release.result _ _ _ c.release.ensures.machine (ap tells c.tell_flag.ensures)

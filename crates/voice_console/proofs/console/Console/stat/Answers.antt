@@ -10,5 +10,5 @@ use Rattle.voice_console.proofs.console.Console.stat.Goals as goal
 
 pub returns : goal.returns
 returns g c = record {
-  asks = called g.M.Ialg.meaning g.M.Ialg.idle_keeps g.M.Ialg.active_keeps (λ a. OfHost (Stat c.args.group a)) (λ a. tells (told_by (λ s. replies.Stat s.active s.count) a)) (stat_told c.stat.result) _ _ _ c.stat.ensures.machine (ap tells c.tell_stat.ensures);
+  asks = called g.M.Ialg.law (λ a. OfHost (Stat c.args.group a)) (λ a. tells (told_by (λ s. replies.Stat s.active s.count) a)) (stat_told c.stat.result) _ _ _ c.stat.ensures.machine (ap tells c.tell_stat.ensures);
 }

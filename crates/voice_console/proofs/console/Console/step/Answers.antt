@@ -8,4 +8,4 @@ use Rattle.voice_console.proofs.console.Console.step.Goals as goal
 
 pub returns-clause-asks : goal.returns-clause-asks
 returns-clause-asks g c =
-    called g.M.Ialg.meaning g.M.Ialg.idle_keeps g.M.Ialg.active_keeps (λ a. OfHost (Step c.args.space a)) (λ a. tells (Flag a)) c.step.result _ _ _ c.step.ensures.machine refl
+    called g.M.Ialg.law (λ a. OfHost (Step c.args.space a)) (λ a. tells (Flag a)) c.step.result _ _ _ c.step.ensures.machine refl

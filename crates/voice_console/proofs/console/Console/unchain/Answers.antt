@@ -8,4 +8,4 @@ use Rattle.voice_console.proofs.console.Console.unchain.Goals as goal
 
 pub returns-clause-asks : goal.returns-clause-asks
 returns-clause-asks g c =
-    called g.M.Ialg.meaning g.M.Ialg.idle_keeps g.M.Ialg.active_keeps (λ a. Unchain c.args.c a) (λ a. tells (told_by (λ _. Done) a)) c.unchain.result _ _ _ c.unchain.ensures.machine (ap tells c.tell_done.ensures)
+    called g.M.Ialg.law (λ a. Unchain c.args.c a) (λ a. tells (told_by (λ _. Done) a)) c.unchain.result _ _ _ c.unchain.ensures.machine (ap tells c.tell_done.ensures)

@@ -1,0 +1,301 @@
+-- Lanes of vectors.
+use Rattle.std.proofs.Common.{◌≡◌, ℕ, zero, suc, ◌+◌, ◌-◌, ◌*◌, ◌%◌, ◌<◌, ◌≤◌, inl, inr, take, drop, ℤ, pos, ◌+ℤ◌, ◌*ℤ◌, List, [], ◌∷◌, ◌++◌, length, map, get_or, to_z, of_z, FitsSigned, w16, w32, refl, sym, ap, subst, ◌∙◌, arith, rules, get_or-take, get_or-drop, length-take, length-drop}
+use Rattle.std.specs.Int.{int_wrap}
+use Rattle.std.proofs.lemmas.Int.{ints, wraps, to_z-of_z, wrapping_add-bits, int_wrap_fits, int_wrap-add_same, SFits-int_wrap}
+use Rattle.std.proofs.lemmas.Bool.{cases_lt}
+use Rattle.std.proofs.lemmas.List.{get_or_past}
+use Rattle.std.proofs.lemmas.Simd.{length-put_chunk, get_or-put_chunk_below, get_or-put_chunk_at}
+use lib.Lanes.{zip2, Each1, put_chunk}
+use borrow.Rule.Simd.Lanes.{Asks1, act1, act2}
+use borrow.Table.Row.{s_int}
+use mir.Syntax.{cast, signed, wrap_add, wrap_mul}
+use Rattle.ialg.specs.History.{word_at}
+use Rattle.fir_kernel.specs.Bounded.{product_sum}
+use Rattle.fir_kernel.specs.Windows.{IsSplit, window_sum}
+use Rattle.fir_kernel.proofs.Parts.{part_at}
+use Rattle.fir_kernel.proofs.Sums.{product_sum-same, product_sum-add}
+
+-- ---- lists of a length that is known
+
+first : (xs : List ℤ) (n : ℕ) → length xs ≡ suc n → (P : List ℤ → Type 0) → ((x : ℤ) (ys : List ℤ) → length ys ≡ n → P (x ∷ ys)) → P xs
+first [] n e P f = absurd (omega arith)
+first (x ∷ ys) n e P f = f x ys (omega arith)
+
+none : (xs : List ℤ) → length xs ≡ 0 → (P : List ℤ → Type 0) → P [] → P xs
+none [] e P f = f
+none (x ∷ ys) e P f = absurd (omega arith)
+
+pub four : (xs : List ℤ) → length xs ≡ 4 → (P : List ℤ → Type 0) → ((a b c d : ℤ) → P (a ∷ b ∷ c ∷ d ∷ [])) → P xs
+four xs e P f =
+    first xs 3 e P (λ a l3 e3. first l3 2 e3 (λ l. P (a ∷ l)) (λ b l2 e2. first l2 1 e2 (λ l. P (a ∷ b ∷ l))
+    (λ c l1 e1. first l1 0 e1 (λ l. P (a ∷ b ∷ c ∷ l)) (λ d l0 e0. none l0 e0 (λ l. P (a ∷ b ∷ c ∷ d ∷ l)) (f a b c d)))))
+
+pub eight : (xs : List ℤ) → length xs ≡ 8 → (P : List ℤ → Type 0) → ((a b c d e f g h : ℤ) → P (a ∷ b ∷ c ∷ d ∷ e ∷ f ∷ g ∷ h ∷ [])) → P xs
+eight xs q P k =
+    first xs 7 q P (λ a l7 e7. first l7 6 e7 (λ l. P (a ∷ l)) (λ b l6 e6. first l6 5 e6 (λ l. P (a ∷ b ∷ l))
+    (λ c l5 e5. first l5 4 e5 (λ l. P (a ∷ b ∷ c ∷ l)) (λ d l4 e4. four l4 e4 (λ l. P (a ∷ b ∷ c ∷ d ∷ l)) (λ e f g h. k a b c d e f g h)))))
+
+-- ---- a lane
+
+widened : (x : ℤ) → FitsSigned w16 x → FitsSigned w32 x
+widened x f = record { sfits = omega (arith, f.sfits) }
+
+pub all_widened : (xs : List ℤ) → ((k : ℕ) → FitsSigned w16 (word_at xs k)) → Each1 (Asks1 (cast signed signed w32) (s_int w16)) (map (of_z w16) xs)
+all_widened [] f = tt
+all_widened (x ∷ xs) f =
+    let here : FitsSigned w16 x = f 0 in
+    (rw (to_z-of_z w16 x here) (widened x here), all_widened xs (λ k. f (suc k)))
+
+-- a product of two lanes, in bits
+abbrev times : ℤ → ℤ → ℕ
+times a b = of_z w32 (to_z w16 (of_z w16 a)) * of_z w32 (to_z w16 (of_z w16 b)) % 4294967296
+
+product : (a b : ℤ) → FitsSigned w32 a → FitsSigned w32 b → to_z w32 (of_z w32 a * of_z w32 b % 4294967296) ≡ int_wrap w32 (a *ℤ b)
+product a b f g = search (rules, wraps)
+
+times_is : (a b : ℤ) → FitsSigned w16 a → FitsSigned w16 b → to_z w32 (times a b) ≡ int_wrap w32 (a *ℤ b)
+times_is a b f g = rw (to_z-of_z w16 a f, to_z-of_z w16 b g) (product a b (widened a f) (widened b g))
+
+added_bits : (m n : ℕ) → m < 4294967296 → n < 4294967296 → to_z w32 ((m + n) % 4294967296) ≡ int_wrap w32 (to_z w32 m +ℤ to_z w32 n)
+added_bits m n p q = wrapping_add-bits w32 m n p q
+
+-- sums of what was wrapped
+wrapped_both : (a b x y : ℤ) → int_wrap w32 a ≡ int_wrap w32 x → int_wrap w32 b ≡ int_wrap w32 y → int_wrap w32 (a +ℤ b) ≡ int_wrap w32 (x +ℤ y)
+wrapped_both a b x y e f =
+    let turn : x +ℤ b ≡ b +ℤ x = omega (arith, ints) in
+    let back : y +ℤ x ≡ x +ℤ y = omega (arith, ints) in
+    int_wrap-add_same w32 a x b e ∙ ap (int_wrap w32) turn ∙ int_wrap-add_same w32 b y x f ∙ ap (int_wrap w32) back
+
+again : (l x : ℤ) → l ≡ int_wrap w32 x → int_wrap w32 l ≡ int_wrap w32 x
+again l x e = ap (int_wrap w32) e ∙ int_wrap_fits w32 (int_wrap w32 x) (SFits-int_wrap w32 x)
+
+bits_below : (m : ℕ) → m % 4294967296 < 4294967296
+bits_below m = omega arith
+
+word_bits : (z : ℤ) → FitsSigned w32 z → of_z w32 z < 4294967296
+word_bits z f = omega (arith, ints, f.sfits)
+
+-- one lane of the four: two products go onto it
+abbrev lane_of : ℤ → ℤ → ℤ → ℤ → ℤ → ℤ
+lane_of s a b c d = to_z w32 ((of_z w32 s + (times a b + times c d) % 4294967296) % 4294967296)
+
+lane : (s a b c d : ℤ) → FitsSigned w32 s → FitsSigned w16 a → FitsSigned w16 b → FitsSigned w16 c → FitsSigned w16 d
+    → lane_of s a b c d ≡ int_wrap w32 (s +ℤ ((a *ℤ b) +ℤ (c *ℤ d)))
+lane s a b c d fs fa fb fc fd =
+    let p = times a b in
+    let q = times c d in
+    let pair : to_z w32 ((p + q) % 4294967296) ≡ int_wrap w32 (to_z w32 p +ℤ to_z w32 q) = added_bits p q (bits_below _) (bits_below _) in
+    let products : int_wrap w32 (to_z w32 p +ℤ to_z w32 q) ≡ int_wrap w32 ((a *ℤ b) +ℤ (c *ℤ d)) =
+    wrapped_both (to_z w32 p) (to_z w32 q) (a *ℤ b) (c *ℤ d) (again _ _ (times_is a b fa fb)) (again _ _ (times_is c d fc fd)) in
+    added_bits (of_z w32 s) ((p + q) % 4294967296) (word_bits s fs) (bits_below _)
+    ∙ wrapped_both (to_z w32 (of_z w32 s)) (to_z w32 ((p + q) % 4294967296)) s ((a *ℤ b) +ℤ (c *ℤ d)) (ap (int_wrap w32) (to_z-of_z w32 s fs))
+    (again _ _ (pair ∙ products))
+
+four_fit : (a b c d : ℤ) → FitsSigned w32 a → FitsSigned w32 b → FitsSigned w32 c → FitsSigned w32 d
+    → (k : ℕ) → FitsSigned w32 (word_at (a ∷ b ∷ c ∷ d ∷ []) k)
+four_fit a b c d e f g h zero = e
+four_fit a b c d e f g h (suc zero) = f
+four_fit a b c d e f g h (suc (suc zero)) = g
+four_fit a b c d e f g h (suc (suc (suc zero))) = h
+four_fit a b c d e f g h (suc (suc (suc (suc k)))) = record { sfits = omega arith }
+
+fits_as : (l x : ℤ) → l ≡ int_wrap w32 x → FitsSigned w32 l
+fits_as l x e = subst (FitsSigned w32) (sym e) (SFits-int_wrap w32 x)
+
+-- four lanes
+lanes_added : (s t u v a b c d e f g h i j k l m n o p q r w x sum : ℤ) → int_wrap w32 (((s +ℤ t) +ℤ u) +ℤ v) ≡ int_wrap w32 sum
+    → q ≡ int_wrap w32 (s +ℤ ((a *ℤ i) +ℤ (b *ℤ j))) → r ≡ int_wrap w32 (t +ℤ ((c *ℤ k) +ℤ (d *ℤ l)))
+    → w ≡ int_wrap w32 (u +ℤ ((e *ℤ m) +ℤ (f *ℤ n))) → x ≡ int_wrap w32 (v +ℤ ((g *ℤ o) +ℤ (h *ℤ p)))
+    → IsSplit (q ∷ r ∷ w ∷ x ∷ []) (sum +ℤ ((((((((pos 0 +ℤ (a *ℤ i)) +ℤ (b *ℤ j)) +ℤ (c *ℤ k)) +ℤ (d *ℤ l)) +ℤ (e *ℤ m)) +ℤ (f *ℤ n)) +ℤ (g *ℤ o)) +ℤ (h *ℤ p)))
+lanes_added s t u v a b c d e f g h i j k l m n o p q r w x sum before one two three last =
+    let x1 = s +ℤ ((a *ℤ i) +ℤ (b *ℤ j)) in
+    let x2 = t +ℤ ((c *ℤ k) +ℤ (d *ℤ l)) in
+    let x3 = u +ℤ ((e *ℤ m) +ℤ (f *ℤ n)) in
+    let x4 = v +ℤ ((g *ℤ o) +ℤ (h *ℤ p)) in
+    let products = (((((((pos 0 +ℤ (a *ℤ i)) +ℤ (b *ℤ j)) +ℤ (c *ℤ k)) +ℤ (d *ℤ l)) +ℤ (e *ℤ m)) +ℤ (f *ℤ n)) +ℤ (g *ℤ o)) +ℤ (h *ℤ p) in
+    let regroup : ((x1 +ℤ x2) +ℤ x3) +ℤ x4 ≡ (((s +ℤ t) +ℤ u) +ℤ v) +ℤ products = omega (arith, ints) in
+    record {
+      four = refl;
+      fit = four_fit q r w x (fits_as q x1 one) (fits_as r x2 two) (fits_as w x3 three) (fits_as x x4 last);
+      total = wrapped_both ((q +ℤ r) +ℤ w) x ((x1 +ℤ x2) +ℤ x3) x4 (wrapped_both (q +ℤ r) w (x1 +ℤ x2) x3 (wrapped_both q r x1 x2 (again _ _ one) (again _ _ two)) (again _ _ three)) (again _ _ last)
+          ∙ ap (int_wrap w32) regroup ∙ int_wrap-add_same w32 (((s +ℤ t) +ℤ u) +ℤ v) sum products before;
+    }
+
+abbrev wide : List ℤ → List ℕ
+wide xs = map (act1 (cast signed signed w32) (s_int w16) (s_int w32)) (map (of_z w16) xs)
+
+abbrev products_of : List ℤ → List ℤ → List ℕ
+products_of a b = zip2 (act2 wrap_mul (s_int w32) (s_int w32) (s_int w32)) (wide a) (wide b)
+
+abbrev pair_at : List ℕ → ℕ → ℕ → ℕ
+pair_at p i j = (get_or (p ++ p) i 0 + get_or (p ++ p) j 0) % 4294967296
+
+abbrev pairs : List ℕ → List ℕ
+pairs p = pair_at p 0 1 ∷ pair_at p 2 3 ∷ pair_at p 4 5 ∷ pair_at p 6 7 ∷ []
+
+abbrev onto : List ℤ → List ℤ → List ℤ → List ℤ
+onto s a b = map (to_z w32) (zip2 (act2 wrap_add (s_int w32) (s_int w32) (s_int w32)) (map (of_z w32) s) (pairs (products_of a b)))
+
+pub added : (s a b : List ℤ) (sum : ℤ) → IsSplit s sum → length a ≡ 8 → length b ≡ 8
+    → ((k : ℕ) → FitsSigned w16 (word_at a k)) → ((k : ℕ) → FitsSigned w16 (word_at b k))
+    → IsSplit (onto s a b) (sum +ℤ product_sum (word_at a) (word_at b) 8)
+added s a b sum is la lb fa fb =
+    four s is.four (λ s. IsSplit s sum → IsSplit (onto s a b) (sum +ℤ product_sum (word_at a) (word_at b) 8))
+    (λ s0 s1 s2 s3. eight a la (λ a. ((k : ℕ) → FitsSigned w16 (word_at a k)) → IsSplit (s0 ∷ s1 ∷ s2 ∷ s3 ∷ []) sum → IsSplit (onto (s0 ∷ s1 ∷ s2 ∷ s3 ∷ []) a b) (sum +ℤ product_sum (word_at a) (word_at b) 8))
+    (λ a0 a1 a2 a3 a4 a5 a6 a7. eight b lb (λ b. ((k : ℕ) → FitsSigned w16 (word_at b k)) → ((k : ℕ) → FitsSigned w16 (word_at (a0 ∷ a1 ∷ a2 ∷ a3 ∷ a4 ∷ a5 ∷ a6 ∷ a7 ∷ []) k)) → IsSplit (s0 ∷ s1 ∷ s2 ∷ s3 ∷ []) sum
+    → IsSplit (onto (s0 ∷ s1 ∷ s2 ∷ s3 ∷ []) (a0 ∷ a1 ∷ a2 ∷ a3 ∷ a4 ∷ a5 ∷ a6 ∷ a7 ∷ []) b) (sum +ℤ product_sum (word_at (a0 ∷ a1 ∷ a2 ∷ a3 ∷ a4 ∷ a5 ∷ a6 ∷ a7 ∷ [])) (word_at b) 8))
+    (λ b0 b1 b2 b3 b4 b5 b6 b7 gb ga is'.
+    lanes_added s0 s1 s2 s3 a0 a1 a2 a3 a4 a5 a6 a7 b0 b1 b2 b3 b4 b5 b6 b7
+    (lane_of s0 a0 b0 a1 b1) (lane_of s1 a2 b2 a3 b3) (lane_of s2 a4 b4 a5 b5) (lane_of s3 a6 b6 a7 b7) sum is'.total
+    (lane s0 a0 b0 a1 b1 (is'.fit 0) (ga 0) (gb 0) (ga 1) (gb 1)) (lane s1 a2 b2 a3 b3 (is'.fit 1) (ga 2) (gb 2) (ga 3) (gb 3))
+    (lane s2 a4 b4 a5 b5 (is'.fit 2) (ga 4) (gb 4) (ga 5) (gb 5)) (lane s3 a6 b6 a7 b7 (is'.fit 3) (ga 6) (gb 6) (ga 7) (gb 7))) fb)
+    fa) is
+
+-- ---- the sums of the lanes of four vectors
+
+abbrev sum_at : List ℕ → ℕ → ℕ → ℕ → ℕ → ℤ
+sum_at p i j k l = to_z w32 (((get_or p i 0 + get_or p k 0) % 4294967296 + (get_or p j 0 + get_or p l 0) % 4294967296) % 4294967296)
+
+lanes_sum : (a b c d sum : ℤ) → FitsSigned w32 a → FitsSigned w32 b → FitsSigned w32 c → FitsSigned w32 d → int_wrap w32 (((a +ℤ b) +ℤ c) +ℤ d) ≡ int_wrap w32 sum
+    → to_z w32 (((of_z w32 a + of_z w32 c) % 4294967296 + (of_z w32 b + of_z w32 d) % 4294967296) % 4294967296) ≡ int_wrap w32 sum
+lanes_sum a b c d sum fa fb fc fd e =
+    let ac : to_z w32 ((of_z w32 a + of_z w32 c) % 4294967296) ≡ int_wrap w32 (a +ℤ c) = search (rules, wraps) in
+    let bd : to_z w32 ((of_z w32 b + of_z w32 d) % 4294967296) ≡ int_wrap w32 (b +ℤ d) = search (rules, wraps) in
+    let regroup : (a +ℤ c) +ℤ (b +ℤ d) ≡ ((a +ℤ b) +ℤ c) +ℤ d = omega (arith, ints) in
+    added_bits ((of_z w32 a + of_z w32 c) % 4294967296) ((of_z w32 b + of_z w32 d) % 4294967296) (bits_below _) (bits_below _)
+    ∙ wrapped_both _ _ (a +ℤ c) (b +ℤ d) (again _ _ ac) (again _ _ bd) ∙ ap (int_wrap w32) regroup ∙ e
+
+abbrev summed : List ℤ → List ℤ → List ℤ → List ℤ → List ℤ
+summed a b c d =
+    sum_at (map (of_z w32) a ++ map (of_z w32) b) 0 1 2 3 ∷ sum_at (map (of_z w32) a ++ map (of_z w32) b) 4 5 6 7
+    ∷ sum_at (map (of_z w32) c ++ map (of_z w32) d) 0 1 2 3 ∷ sum_at (map (of_z w32) c ++ map (of_z w32) d) 4 5 6 7 ∷ []
+
+two_sums : (a b : List ℤ) (s t : ℤ) → IsSplit a s → IsSplit b t
+    → (sum_at (map (of_z w32) a ++ map (of_z w32) b) 0 1 2 3 ≡ int_wrap w32 s) × (sum_at (map (of_z w32) a ++ map (of_z w32) b) 4 5 6 7 ≡ int_wrap w32 t)
+two_sums a b s t ia ib =
+    four a ia.four (λ a. IsSplit a s → (sum_at (map (of_z w32) a ++ map (of_z w32) b) 0 1 2 3 ≡ int_wrap w32 s) × (sum_at (map (of_z w32) a ++ map (of_z w32) b) 4 5 6 7 ≡ int_wrap w32 t))
+    (λ a0 a1 a2 a3 ia'. four b ib.four (λ b. IsSplit b t → (sum_at (map (of_z w32) (a0 ∷ a1 ∷ a2 ∷ a3 ∷ []) ++ map (of_z w32) b) 0 1 2 3 ≡ int_wrap w32 s) × (sum_at (map (of_z w32) (a0 ∷ a1 ∷ a2 ∷ a3 ∷ []) ++ map (of_z w32) b) 4 5 6 7 ≡ int_wrap w32 t))
+    (λ b0 b1 b2 b3 ib'. (
+      lanes_sum a0 a1 a2 a3 s (ia'.fit 0) (ia'.fit 1) (ia'.fit 2) (ia'.fit 3) ia'.total,
+      lanes_sum b0 b1 b2 b3 t (ib'.fit 0) (ib'.fit 1) (ib'.fit 2) (ib'.fit 3) ib'.total,
+    )) ib) ia
+
+pub summed_is : (a b c d : List ℤ) (s t u v : ℤ) → IsSplit a s → IsSplit b t → IsSplit c u → IsSplit d v
+    → summed a b c d ≡ int_wrap w32 s ∷ int_wrap w32 t ∷ int_wrap w32 u ∷ int_wrap w32 v ∷ []
+summed_is a b c d s t u v ia ib ic id =
+    let front = two_sums a b s t ia ib in
+    let back = two_sums c d u v ic id in
+    rw (front.0, front.1, back.0, back.1)
+
+none_fits : FitsSigned w32 (pos 0)
+none_fits = record { sfits = omega arith }
+
+-- ---- loads and stores
+
+-- behind a list there are words of 0
+pub all_fit : (xs : List ℤ) → ((k : ℕ) → k < length xs → FitsSigned w16 (word_at xs k)) → (k : ℕ) → FitsSigned w16 (word_at xs k)
+all_fit xs f k = elim (cases_lt k (length xs)) [
+  | inl b ↦ f k b
+  | inr b ↦ rw (get_or_past xs k (pos 0) b) (record { sfits = omega arith })
+]
+
+-- lanes that were kept as bits
+pub kept : (lanes : List ℤ) (sum : ℤ) → IsSplit lanes sum → IsSplit (map (to_z w32) (map (of_z w32) lanes)) sum
+kept lanes sum is =
+    four lanes is.four (λ l. IsSplit l sum → IsSplit (map (to_z w32) (map (of_z w32) l)) sum)
+    (λ a b c d is'.
+    let fa : FitsSigned w32 a = is'.fit 0 in
+    let fb : FitsSigned w32 b = is'.fit 1 in
+    let fc : FitsSigned w32 c = is'.fit 2 in
+    let fd : FitsSigned w32 d = is'.fit 3 in
+    rw (to_z-of_z w32 a fa, to_z-of_z w32 b fb, to_z-of_z w32 c fc, to_z-of_z w32 d fd) is') is
+
+-- four lanes of 0
+pub no_lanes : (taps line : List ℤ) (from : ℕ) → IsSplit (pos 0 ∷ pos 0 ∷ pos 0 ∷ pos 0 ∷ []) (window_sum taps line from 0)
+no_lanes taps line from = record { four = refl; fit = four_fit (pos 0) (pos 0) (pos 0) (pos 0) none_fits none_fits none_fits none_fits; total = ap (int_wrap w32) (omega (arith, ints)) }
+
+pub take_fits : (n : ℕ) (xs : List ℤ) → ((k : ℕ) → FitsSigned w16 (word_at xs k)) → (k : ℕ) → FitsSigned w16 (word_at (take n xs) k)
+take_fits n xs f k = elim (cases_lt k n) [
+  | inl b ↦ rw (get_or-take n xs k (pos 0) b) (f k)
+  | inr b ↦
+      let short : length (take n xs) ≤ k = simp length-take (omega arith) in
+      rw (get_or_past (take n xs) k (pos 0) short) (record { sfits = omega arith })
+]
+
+pub drop_fits : (n : ℕ) (xs : List ℤ) → ((k : ℕ) → FitsSigned w16 (word_at xs k)) → (k : ℕ) → FitsSigned w16 (word_at (drop n xs) k)
+drop_fits n xs f k = rw (get_or-drop n xs k (pos 0)) (f (n + k))
+
+pub part_fits : (m n : ℕ) (xs : List ℤ) → ((k : ℕ) → FitsSigned w16 (word_at xs k)) → (k : ℕ) → FitsSigned w16 (word_at (take n (drop m xs)) k)
+part_fits m n xs f = take_fits n (drop m xs) (drop_fits m xs f)
+
+-- the products of eight taps with eight samples of the line
+pub added_window : (s taps line : List ℤ) (at : ℕ) (sum : ℤ) → IsSplit s sum → length taps ≡ 8 → at + 8 ≤ length line
+    → ((k : ℕ) → FitsSigned w16 (word_at taps k)) → ((k : ℕ) → FitsSigned w16 (word_at line k))
+    → IsSplit (onto s (take 8 taps) (take 8 (take (at + 8 - at) (drop at line)))) (sum +ℤ window_sum taps line at 8)
+added_window s taps line at sum is eight reach ft fl =
+    let part = take (at + 8 - at) (drop at line) in
+    let lt : length (take 8 taps) ≡ 8 = simp length-take (omega arith) in
+    let ll : length (take 8 part) ≡ 8 = simp (length-take, length-drop) (omega arith) in
+    let same : product_sum (word_at (take 8 taps)) (word_at (take 8 part)) 8 ≡ window_sum taps line at 8 =
+    product_sum-same (word_at (take 8 taps)) (word_at taps) (word_at (take 8 part)) (λ k. word_at line (at + k)) 8
+    (λ k h. get_or-take 8 taps k (pos 0) h)
+    (λ k h. get_or-take 8 part k (pos 0) h ∙ part_at line at (at + 8) k (omega arith)) in
+    subst (λ p. IsSplit (onto s (take 8 taps) (take 8 part)) (sum +ℤ p)) same
+    (added s (take 8 taps) (take 8 part) sum is lt ll (take_fits 8 taps ft) (take_fits 8 part (take_fits (at + 8 - at) (drop at line) (drop_fits at line fl))))
+
+-- one run of eight taps more
+pub run_more : (taps line lanes : List ℤ) (from run at : ℕ) → 8 * run + 8 ≤ length taps → at ≡ from + 8 * run
+    → IsSplit lanes (window_sum taps line from (8 * run) +ℤ window_sum (take (8 * run + 8 - 8 * run) (drop (8 * run) taps)) line at 8)
+    → IsSplit lanes (window_sum taps line from (8 * (run + 1)))
+run_more taps line lanes from run at fits e is =
+    let m = 8 * run in
+    let part = take (m + 8 - m) (drop m taps) in
+    let next : m + 8 ≡ 8 * (run + 1) = omega arith in
+    let same : window_sum part line at 8 ≡ product_sum (λ j. word_at taps (m + j)) (λ j. word_at line (from + (m + j))) 8 =
+    product_sum-same (word_at part) (λ j. word_at taps (m + j)) (λ j. word_at line (at + j)) (λ j. word_at line (from + (m + j))) 8
+    (λ j h. part_at taps m (m + 8) j (omega arith)) (λ j h. let to : at + j ≡ from + (m + j) = omega arith in ap (word_at line) to) in
+    subst (IsSplit lanes)
+    (ap (λ p. window_sum taps line from m +ℤ p) same ∙ product_sum-add (word_at taps) (λ j. word_at line (from + j)) m 8 ∙ ap (window_sum taps line from) next) is
+
+-- sums that were kept as bits
+pub kept_sums : (s t u v : ℤ) (r : List ℤ) → r ≡ int_wrap w32 s ∷ int_wrap w32 t ∷ int_wrap w32 u ∷ int_wrap w32 v ∷ []
+    → map (to_z w32) (map (of_z w32) r) ≡ int_wrap w32 s ∷ int_wrap w32 t ∷ int_wrap w32 u ∷ int_wrap w32 v ∷ []
+kept_sums s t u v r e =
+    let fs : FitsSigned w32 (int_wrap w32 s) = SFits-int_wrap w32 s in
+    let ft : FitsSigned w32 (int_wrap w32 t) = SFits-int_wrap w32 t in
+    let fu : FitsSigned w32 (int_wrap w32 u) = SFits-int_wrap w32 u in
+    let fv : FitsSigned w32 (int_wrap w32 v) = SFits-int_wrap w32 v in
+    ap (λ l. map (to_z w32) (map (of_z w32) l)) e
+    ∙ rw (to_z-of_z w32 (int_wrap w32 s) fs, to_z-of_z w32 (int_wrap w32 t) ft, to_z-of_z w32 (int_wrap w32 u) fu, to_z-of_z w32 (int_wrap w32 v) fv)
+
+one_of_four : (wanted : ℕ → ℤ) (q : ℕ) → q < 4 → word_at (wanted 0 ∷ wanted 1 ∷ wanted 2 ∷ wanted 3 ∷ []) q ≡ wanted q
+one_of_four wanted zero b = refl
+one_of_four wanted (suc zero) b = refl
+one_of_four wanted (suc (suc zero)) b = refl
+one_of_four wanted (suc (suc (suc zero))) b = refl
+one_of_four wanted (suc (suc (suc (suc q)))) b = absurd (omega arith)
+
+-- eight words that were written four by four
+pub eight_written : (words : List ℤ) (at : ℕ) (wanted : ℕ → ℤ) (v w : List ℤ) → at + 8 ≤ length words
+    → v ≡ wanted 0 ∷ wanted 1 ∷ wanted 2 ∷ wanted 3 ∷ [] → w ≡ wanted 4 ∷ wanted 5 ∷ wanted 6 ∷ wanted 7 ∷ []
+    → (q : ℕ) → q < 8 → word_at (put_chunk (at + 4) (put_chunk at words v) w) (at + q) ≡ wanted q
+eight_written words at wanted v w room front back q b =
+    let lv : length v ≡ 4 = ap length front in
+    let lw : length w ≡ 4 = ap length back in
+    let same : length (put_chunk at words v) ≡ length words = length-put_chunk at words v in
+    elim (cases_lt q 4) [
+      | inl low ↦
+          get_or-put_chunk_below (at + 4) (put_chunk at words v) w (at + q) (pos 0) (omega arith)
+          ∙ get_or-put_chunk_at at words v q (pos 0) (omega arith) (omega arith) ∙ ap (λ l. word_at l q) front ∙ one_of_four wanted q low
+      | inr high ↦
+          let r = q - 4 in
+          let to : at + q ≡ at + 4 + r = omega arith in
+          let up : 4 + r ≡ q = omega arith in
+          ap (word_at (put_chunk (at + 4) (put_chunk at words v) w)) to
+          ∙ get_or-put_chunk_at (at + 4) (put_chunk at words v) w r (pos 0) (omega arith) (omega arith) ∙ ap (λ l. word_at l r) back
+          ∙ one_of_four (λ k. wanted (4 + k)) r (omega arith) ∙ ap wanted up
+    ]
+
+pub before_eight : (words : List ℤ) (at : ℕ) (v w : List ℤ) (k : ℕ) → k < at → word_at (put_chunk (at + 4) (put_chunk at words v) w) k ≡ word_at words k
+before_eight words at v w k b =
+    get_or-put_chunk_below (at + 4) (put_chunk at words v) w k (pos 0) (omega arith) ∙ get_or-put_chunk_below at words v k (pos 0) b

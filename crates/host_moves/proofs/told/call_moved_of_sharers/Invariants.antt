@@ -1,0 +1,17 @@
+use Rattle.std.proofs.Common.{◌≡◌, ℕ, ℤ, Option}
+use Rattle.ialg.specs.History.{History}
+use Rattle.host_table.specs.Table.{activity_at}
+use Rattle.host_table.specs.Keeps.{Keeps}
+use Rattle.host_table.specs.Frames.{InactiveGroupsStay, SameMembers}
+use Rattle.host_moves.specs.Waiting.{all_from, holds_with, TablesWaiting}
+use Rattle.host_moves.proofs.told.call_moved_of_sharers.Given as goal
+
+abbrev pub invariant-loop-j : goal.invariant-loop-j
+invariant-loop-j g l = record {
+  waiting : TablesWaiting (all_from (holds_with l.tables.sharing l.i l.k) l.j) l.tables.instances l.tables.sharing l.tables.groups;
+  inactive : InactiveGroupsStay l.fn.tables.groups l.tables.groups;
+  same : SameMembers l.fn.tables.instances l.fn.tables.sharing l.fn.tables.groups l.tables.instances l.tables.sharing l.tables.groups;
+  activity : (g : ℕ) → activity_at l.tables.groups g ≡ activity_at l.fn.tables.groups g;
+  keeps : (w : Option ℤ) (histories : ℕ → History) → Keeps g.M.Ialg.law w l.fn.tables.instances l.fn.tables.sharing l.fn.tables.groups histories
+      → Keeps g.M.Ialg.law w l.tables.instances l.tables.sharing l.tables.groups histories;
+}
