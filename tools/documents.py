@@ -11,6 +11,7 @@ What is checked:
   with where it comes from. Under a heading that names crates it stands in these or in a crate that they stand on. In `x`, `y` of `z` the
   x and the y stand in the contract of a function z, in the record z, or in the crate or the crates that have z.
 - **Paths**, in backticks and in blocks of commands. A word in capitals is a placeholder.
+- **Parts of the test command**: what stands behind `./check` is one that it has.
 - **Links** and their anchors.
 - **Counted numbers** between `<!-- count: NAME -->` and `<!-- -->`, and the reading list of the main theorem between `<!-- list: headline -->`
   and `<!-- end of the list -->`.
@@ -49,6 +50,8 @@ LINK = re.compile(r"(?<!!)\[[^\]\n]*\]\(([^)\s]+)\)|!\[[^\]\n]*\]\(([^)\s]+)\)|s
 COUNT = re.compile(r"<!-- count: (\w+) -->(.*?)<!-- -->", re.S)
 LIST = re.compile(r"<!-- list: (\w+) -->\n(.*?)<!-- end of the list -->", re.S)
 FILE = re.compile(r"<!-- file: (\S+) -->\n(.*?)<!-- end of the file -->", re.S)
+CHECK = re.compile(r"(?<![\w/])\./check((?: [a-z_]+)+)")
+PART = re.compile(r'Part\("(\w+)"')
 OF = re.compile(r"((?:`[^`\n]+`(?:,? and |, )?)+) of (?:the )?((?:`[^`\n]+`(?:,? and |, )?)+)")
 
 
@@ -188,6 +191,8 @@ class Repository:
             "headline_types": lambda: len(self.headline.declared),
             "headline_type_lines": lambda: self.headline.declared_lines(),
             "headline_outside": lambda: len(self.headline.outside),
+            "sounds_definitions": lambda: len(self.sounds.found),
+            "sounds_lines": lambda: self.sounds.lines()[0],
         }
 
     def _files(self, folder: str, suffix: str) -> list[Path]:
@@ -204,7 +209,11 @@ class Repository:
 
     @cached_property
     def headline(self) -> reading.Closure:
-        return reading.headline_closure(self.sources)
+        return reading.theorem_closure(self.sources, reading.HEADLINE)
+
+    @cached_property
+    def sounds(self) -> reading.Closure:
+        return reading.theorem_closure(self.sources, reading.SOUNDS)
 
 
 def read_outside(root: Path) -> dict[str, str]:
@@ -277,6 +286,7 @@ class Checker:
             name = str(path.relative_to(self.repository.root))
             found += self.names(name, text)
             found += self.links(path, name, text)
+            found += self.parts(name, text)
             found += self.counted(name, text)
         found += self.column()
         found += self.rows_of_crates()
@@ -356,6 +366,20 @@ class Checker:
                     found.append(Problem(name, number, f"the link {link} leads nowhere"))
                 elif anchor and target.suffix == ".md" and anchor not in anchors(target.read_text(encoding="utf-8")):
                     found.append(Problem(name, number, f"the anchor of {link} isn't there"))
+        return found
+
+    def parts(self, name: str, text: str) -> list[Problem]:
+        """What is named as a part of the test command and is none."""
+        command = self.repository.root / "check"
+        if not command.is_file():
+            return []
+        known = set(PART.findall(command.read_text(encoding="utf-8")))
+        found: list[Problem] = []
+        for number, line, code in prose(text):
+            for span in [line] if code else SPAN.findall(line):
+                # In a block of commands words follow that say what a command does, behind more than one space.
+                for words in CHECK.findall(span):
+                    found += [Problem(name, number, f"`./check` has no part {word}") for word in words.split() if word not in known]
         return found
 
     def counted(self, name: str, text: str) -> list[Problem]:
