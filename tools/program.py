@@ -280,12 +280,12 @@ def build(say, name: str = NAME) -> None:
     say("built")
 
 
-def run_unproved(arguments: list[str]) -> int:
+def run_unproved(arguments: list[str], name: str = NAME) -> int:
     """Runs what `rt try` makes of the sources, of which nothing is proved, and returns its exit status."""
     if not shutil.which("rt"):
         raise CantBuild("rt, the command of the Rattle kit, isn't on PATH: install the kit that README.md names (x86-64 Linux)", CANT_BUILD_HERE)
     print("dsp_console: NOTHING OF THIS PROGRAM IS PROVED: it is made for this one run, in a minute or two", file=sys.stderr, flush=True)
-    return subprocess.run(["rt", "try", "--", *absolute(arguments)], cwd=CRATES / NAME).returncode
+    return subprocess.run(["rt", "try", "--", *absolute(arguments)], cwd=CRATES / name).returncode
 
 
 # Options whose value is the next argument.
