@@ -1,8 +1,9 @@
 -- Halves of sums that don't saturate.
-use Rattle.std.proofs.Common.{◌≡◌, ℕ, ◌*◌, ◌^◌, ◌<◌, ◌≤◌, ℤ, pos, ◌+ℤ◌, ◌-ℤ◌, ◌*ℤ◌, unsigned_abs, Option, Some, None, IfSome, sym, ap, ◌∙◌, arith}
-use Rattle.std.specs.Int.{saturate_to_bits}
+use Rattle.std.proofs.Common.{◌≡◌, ℕ, ◌*◌, ◌^◌, ◌<◌, ◌≤◌, ℤ, pos, negsuc, ◌+ℤ◌, ◌-ℤ◌, ◌*ℤ◌, unsigned_abs, Option, Some, None, IfSome, sym, ap, ◌∙◌, arith}
+use Rattle.std.specs.Int.{int_max, int_min, saturate_to_bits}
 use Rattle.std.proofs.lemmas.Int.{ints, unsigned_abs-mul}
 use Rattle.std.proofs.lemmas.Nat.{mul-le}
+use lib.Signed.{shr_z}
 use Rattle.basic_op.specs.Operators.{l_mult_of, l_mac_of, l_msu_of, l_shl_of, round_of}
 use Rattle.alg_biquad.specs.Equation.{biquad_value}
 use Rattle.alg_biquad.specs.Halves.{IsHalfOf}
@@ -47,3 +48,11 @@ by_halves c x x1 x2 y1 y2 first second third fourth sum y a b d e s rounded =
     let four = e.doubled ∙ ap (λ v. l_msu_of v (c 3) y1) three in
     let five = s.doubled ∙ ap (λ v. l_msu_of v (c 4) y2) four in
     rounded ∙ ap (λ v. round_of (l_shl_of v (pos 1))) (twice sum ∙ five)
+
+pub step_small : (z : ℤ) → unsigned_abs z < 2 ^ 30 → unsigned_abs (shr_z (z +ℤ pos 8192) 16384) < 2 ^ 31
+step_small z h = grind (arith, ints)
+
+-- rounding that is limited once
+pub one_limit : (z : ℤ) → unsigned_abs z < 2 ^ 30
+    → int_max (negsuc 32767) (int_min (shr_z (z +ℤ pos 8192) 16384) (pos 32767)) ≡ round_of (l_shl_of (pos 2 *ℤ z) (pos 1))
+one_limit z h = grind (arith, ints)

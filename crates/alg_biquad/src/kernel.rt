@@ -5,7 +5,7 @@ ghost use Rattle.alg_biquad.specs.Equation.{biquad_value};
 ghost use Rattle.alg_biquad.specs.Halves.{AreAboveLeast};
 ghost use Rattle.alg_biquad.specs.Keeps.{state_after, Ran};
 
-use crate::halves::{are_above_least, half_product, less_product, plus_product};
+use crate::halves::{are_above_least, half_product, less_product, plus_product, rounded};
 use crate::{COEFFICIENTS, STATE_WORDS};
 use basic_op::{l_mac, l_msu, l_mult, l_shl, round};
 use ialg::{BLOCK_SAMPLES, Block};
@@ -62,7 +62,7 @@ impl State {
 
 /// The output at the sample `x`, in Q15, each step saturated in its order. Coefficients are in Q14, so that the sum is in Q30, and in Q31
 /// when it is doubled.
-#[inline(never)]
+#[inline]
 fn limited_output(c: &[i16], state: State, x: i16) -> i16
     requires { length c.now ≡ COEFFICIENTS }
     ensures { result ≡ biquad_value (word_at c.now) x state.x1 state.x2 state.y1 state.y2 }
@@ -84,7 +84,7 @@ fn plain_output(c: &[i16], state: State, x: i16) -> Option<i16>
     let third = plus_product(second, c[2], state.x2)?;
     let fourth = less_product(third, c[3], state.y1)?;
     let sum = less_product(fourth, c[4], state.y2)?;
-    Some(round(l_shl(2 * sum, 1)))
+    Some(rounded(sum))
 }
 
 /// The output at the sample `x`, in Q15: by plain sums where the coefficients allow it and no step saturates.

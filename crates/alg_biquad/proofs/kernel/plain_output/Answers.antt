@@ -1,5 +1,5 @@
-use Rattle.std.proofs.Common.{pos, ◌*ℤ◌, w16, w32, SFits, rules, ◌∙◌, arith}
-use Rattle.std.proofs.lemmas.Int.{ints, to_z-of_z, fits_signed_from_abs}
+use Rattle.std.proofs.Common.{w16, w32, SFits, rules, ◌∙◌}
+use Rattle.std.proofs.lemmas.Int.{to_z-of_z}
 use Rattle.ialg.specs.History.{word_at}
 use Rattle.alg_biquad.proofs.HalfLemmas.{by_halves}
 use Rattle.alg_biquad.proofs.kernel.plain_output.Goals as goal
@@ -32,9 +32,6 @@ returns c =
     let d = rw (to_z-of_z w32 second fsecond, to_z-of_z w16 (word_at cs 2) f2, to_z-of_z w16 s.x2 fx2) at c.in_ok-third.ensures in
     let e = rw (to_z-of_z w32 third fthird, to_z-of_z w16 (word_at cs 3) f3, to_z-of_z w16 s.y1 fy1) at c.in_ok-fourth.ensures in
     let whole = rw (to_z-of_z w32 fourth ffourth, to_z-of_z w16 (word_at cs 4) f4, to_z-of_z w16 s.y2 fy2) at c.in_ok-sum.ensures in
-    let small = whole.small in
-    let twice : SFits w32 (pos 2 *ℤ sum) = fits_signed_from_abs w32 (pos 2 *ℤ sum) (omega (arith, ints)) in
-    let shifted = rw (to_z-of_z w32 sum fsum, to_z-of_z w32 (pos 2 *ℤ sum) twice) at c.l_shl.ensures in
-    let rounded = rw (to_z-of_z w32 c.l_shl.result (record { sfits = c.l_shl.type_inv }), shifted) at c.round.ensures in
-    to_z-of_z w16 c.round.result (record { sfits = c.round.type_inv })
-    ∙ by_halves (word_at cs) c.args.x s.x1 s.x2 s.y1 s.y2 first second third fourth sum c.round.result a b d e whole rounded
+    let rounded = rw (to_z-of_z w32 sum fsum) at c.rounded.ensures in
+    to_z-of_z w16 c.rounded.result (record { sfits = c.rounded.type_inv })
+    ∙ by_halves (word_at cs) c.args.x s.x1 s.x2 s.y1 s.y2 first second third fourth sum c.rounded.result a b d e whole rounded
