@@ -53,7 +53,7 @@ def coefficients(seed: int, count: int, magnitudes: int) -> str:
     """Random coefficients whose magnitudes come to about so much: up to 32,767 no sum of theirs can saturate."""
     source = random.Random(seed)
     raw = [source.uniform(-1, 1) for _ in range(count)]
-    factor = magnitudes / sum(map(abs, raw))
+    factor = magnitudes / sum(abs(v) for v in raw)
     return " ".join(str(max(-32768, min(32767, int(v * factor)))) for v in raw)
 
 

@@ -14,6 +14,7 @@ import time
 from collections.abc import Iterable, Iterator, Mapping, Sequence
 from dataclasses import dataclass
 from pathlib import Path
+from typing import Union
 
 TOP = Path(__file__).resolve().parent.parent
 SOURCES = Path(__file__).resolve().parent / "c"
@@ -58,10 +59,10 @@ STANDARD = ("-std=gnu11", "-D_GNU_SOURCE")
 HOST = ("console.c", "host.c")
 # The job in C. The program itself is built for x86-64-v2, by a newer clang.
 IN_ORDER = Compiled("C in order", "clang", ("-O2",), (*HOST, "baseline.c"))
-STRONGEST = Compiled("strongest C", "clang", ("-O3", "-march=x86-64-v2"), (*HOST, "best.c"), "sse4_1")
-WITH_AVX2 = Compiled("strongest C, AVX2", "clang", ("-O3", "-march=x86-64-v3"), (*HOST, "best.c"), "avx2")
+STRONGEST = Compiled("Strongest C", "clang", ("-O3", "-march=x86-64-v2"), (*HOST, "best.c"), "sse4_1")
+WITH_AVX2 = Compiled("Strongest C, AVX2", "clang", ("-O3", "-march=x86-64-v3"), (*HOST, "best.c"), "avx2")
 IN_C = (IN_ORDER, STRONGEST, WITH_AVX2)
-SPANDSP = Compiled("spandsp", "clang", ("-O2",), ("spandsp.c",), libraries=("-l:libspandsp.so.2", "-lm"))
+SPANDSP = Compiled("SpanDSP", "clang", ("-O2",), ("spandsp.c",), libraries=("-l:libspandsp.so.2", "-lm"))
 
 
 def find_program(given: str | None) -> Path:
@@ -103,8 +104,12 @@ def timed(words: Sequence[str | Path], folder: Path, replies: Path | None = None
     return Ran(usage.ru_utime + usage.ru_stime, child.returncode)
 
 
-def least_by_turns(calls: Sequence[tuple[Sequence[str | Path], Path]], runs: int) -> list[float]:
-    """The least seconds of each call, which run by turns: what disturbs one disturbs the others too. A call is its words and its folder."""
+# The words of a run, and its folder.
+Call = tuple[Sequence[Union[str, Path]], Path]
+
+
+def least_by_turns(calls: Sequence[Call], runs: int) -> list[float]:
+    """The least seconds of each call, which run by turns: what disturbs one disturbs the others too."""
     least = [math.inf] * len(calls)
     for _ in range(runs):
         for at, (words, folder) in enumerate(calls):
@@ -157,7 +162,7 @@ def quicker(rows: Mapping[str, Mapping[str, float]], names: Sequence[str]) -> st
     for name in names[1:]:
         where = [row for row, values in rows.items() if name in values and values[name] < (1 - NOISE) * values[names[0]]]
         if where:
-            told += f"- {name[0].upper()}{name[1:]} takes less than {names[0]} at: {'; '.join(where)}.\n"
+            told += f"- {name} takes less than {names[0]} at: {'; '.join(where)}.\n"
     return told or f"None takes less than {names[0]}.\n"
 
 

@@ -9,6 +9,8 @@
 
 #define RARE(x) __builtin_expect(!!(x), 0)
 #define APART __attribute__((noinline, cold))
+/* For functions whose constant arguments have to reach their loops, so that their vectors stay in registers. */
+#define UNFOLDED static inline __attribute__((always_inline))
 
 /* ---- vectors of 32-bit lanes ------------------------------------------------------------------- */
 
@@ -92,7 +94,7 @@ static int is_bounded(const word16 *c, int taps, const word16 *line, int n)
 
 /* n outputs, `by` samples apart, of sums that can't saturate: as many windows at once as there are lanes share each load of the
  * coefficients, which stand in reverse with zeros behind them. What the last vector has too many is computed and dropped. */
-static inline void fir_windows(const word16 *c, int taps, const word16 *line, int by, int n, word16 *y)
+UNFOLDED void fir_windows(const word16 *c, int taps, const word16 *line, int by, int n, word16 *y)
 {
     word16 reversed[TAPS_MAX + WORDS] = {0};
     for (int k = 0; k < taps; k++)
@@ -119,7 +121,7 @@ static inline void fir_windows(const word16 *c, int taps, const word16 *line, in
  * h = clamp(h + c x, -2^30, 2^30), which neither doubles nor overflows, as long as no c is -32768. Then (h + 2^14) >> 15 is what s
  * rounds to, but where h + 2^14 is a multiple of 2^15, once in 32,768: that output is summed in order.
  * Here are `side` vectors of outputs side by side, from the one at line[taps - 1] on; `y` gets n of them. */
-static inline void fir_half(const word16 *c, int taps, const word16 *line, int side, int n, word16 *y)
+UNFOLDED void fir_half(const word16 *c, int taps, const word16 *line, int side, int n, word16 *y)
 {
     const vec high = all(1 << 30), low = all(-(1 << 30));
     vec h[8] = {0};
@@ -164,10 +166,8 @@ void fir(const word16 *c, int taps, const word16 *line, int n, word16 *y)
     }
     for (; i + 8 * LANES <= n; i += 8 * LANES)
         fir_half(c, taps, line + i, 8, 8 * LANES, y + i);
-    for (; i + LANES <= n; i += LANES)
-        fir_half(c, taps, line + i, 1, LANES, y + i);
-    if (i < n)
-        fir_half(c, taps, line + i, 1, n - i, y + i);
+    for (; i < n; i += LANES)
+        fir_half(c, taps, line + i, 1, n - i < LANES ? n - i : LANES, y + i);
 }
 
 int decimate(const word16 *c, int taps, int by, int phase, const word16 *line, int n, word16 *y)

@@ -84,7 +84,7 @@ class Tables(unittest.TestCase):
 
     def test_who_takes_less_is_said(self) -> None:
         rows = {"one": {"ours": 1.0, "theirs": 0.9, "others": 0.99}, "two": {"ours": 1.0, "theirs": 2.0}, "three": {"ours": 1.0, "theirs": 0.5}}
-        self.assertEqual(measure.quicker(rows, self.NAMES), "- Theirs takes less than ours at: one; three.\n")
+        self.assertEqual(measure.quicker(rows, self.NAMES), "- theirs takes less than ours at: one; three.\n")
         self.assertEqual(measure.quicker({"two": rows["two"]}, self.NAMES), "None takes less than ours.\n")
 
     def test_a_table_is_put_between_its_marks(self) -> None:
@@ -99,6 +99,11 @@ class Tables(unittest.TestCase):
         page = measure.PAGE.read_text(encoding="utf-8")
         for name in ("loads, seconds", "loads, instructions", "peers", "peers, samples that differ", "by block", "by width", "by width, in time", "growth"):
             self.assertEqual(page.count(f"<!-- table: {name} -->\n"), 1, name)
+
+    def test_the_commands_say_how_they_are_used(self) -> None:
+        for name in ("run", "growth"):
+            ran = subprocess.run([TOP / "bench" / name, "--help"], capture_output=True, text=True)
+            self.assertIn("--write", ran.stdout, ran.stderr)
 
     def test_seconds_are_those_of_the_child(self) -> None:
         ran = measure.timed([sys.executable, "-c", "import sys; sys.exit(3)"], TOP)
