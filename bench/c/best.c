@@ -1,7 +1,7 @@
 /* SPDX-License-Identifier: Apache-2.0
  * The five kinds as quick as C gets with the same words: sums by vectors where none of them can saturate, half sums where they can,
- * and branches to the step in order for what hardly ever happens. It takes a processor with SSE4.1, and uses AVX2 where the compiler
- * may. */
+ * branches to the step in order for what hardly ever happens, and the codes of eight samples at once. It takes a processor with
+ * SSE4.1, and uses AVX2 where the compiler may. */
 #include "kernels.h"
 #include <immintrin.h>
 #include <stdlib.h>
@@ -248,28 +248,38 @@ int tone(struct tone p, word16 state[3], const word16 *x, int n, word16 *levels)
 
 /* ---- G.711 ------------------------------------------------------------------------------------- */
 
-/* The code goes by the upper 14 bits of a sample in mu-law, and by 12 in A-law. */
-static uint8_t of_mu[1 << 14], of_a[1 << 12];
-
-static APART void fill_tables(void)
+/* Sixteen times the exponent of each number and the next four bits below its highest one: as a float it has both side by side. */
+static inline __m128i segments_and_steps(__m128i v)
 {
-    for (int v = 0; v < 1 << 14; v++)
-        of_mu[v] = (uint8_t)encode_mu((word16)(4 * v));
-    for (int v = 0; v < 1 << 12; v++)
-        of_a[v] = (uint8_t)encode_a((word16)(16 * v));
+    const __m128i low = _mm_castps_si128(_mm_cvtepi32_ps(_mm_cvtepu16_epi32(v)));
+    const __m128i high = _mm_castps_si128(_mm_cvtepi32_ps(_mm_unpackhi_epi16(v, _mm_setzero_si128())));
+    return _mm_sub_epi16(_mm_packus_epi32(_mm_srli_epi32(low, 19), _mm_srli_epi32(high, 19)), _mm_set1_epi16(16 * 127));
+}
+
+/* The codes of eight samples. */
+static inline __m128i encode_mu_8(__m128i x)
+{
+    const __m128i sign = _mm_srai_epi16(x, 15), magnitudes = _mm_xor_si128(x, sign);
+    const __m128i v = _mm_min_epi16(_mm_add_epi16(_mm_srli_epi16(magnitudes, 2), _mm_set1_epi16(33)), _mm_set1_epi16(8191));
+    const __m128i plain = _mm_sub_epi16(segments_and_steps(v), _mm_set1_epi16(16 * 5));
+    return _mm_add_epi16(_mm_sub_epi16(_mm_set1_epi16(255), plain), _mm_and_si128(sign, _mm_set1_epi16(-128)));
+}
+
+static inline __m128i encode_a_8(__m128i x)
+{
+    const __m128i sign = _mm_srai_epi16(x, 15), v = _mm_srli_epi16(_mm_xor_si128(x, sign), 4);
+    const __m128i plain = _mm_sub_epi16(segments_and_steps(v), _mm_set1_epi16(16 * 3));
+    const __m128i code = _mm_blendv_epi8(plain, v, _mm_cmplt_epi16(v, _mm_set1_epi16(16)));
+    return _mm_xor_si128(_mm_or_si128(code, _mm_andnot_si128(sign, _mm_set1_epi16(128))), _mm_set1_epi16(0x55));
 }
 
 void encode(int law, const word16 *x, int n, word16 *codes)
 {
-    static int filled;
-    if (RARE(!filled)) {
-        fill_tables();
-        filled = 1;
+    int i = 0;
+    for (; i + 8 <= n; i += 8) {
+        const __m128i samples = _mm_loadu_si128((const __m128i *)(x + i));
+        _mm_storeu_si128((__m128i *)(codes + i), law ? encode_mu_8(samples) : encode_a_8(samples));
     }
-    if (law)
-        for (int i = 0; i < n; i++)
-            codes[i] = of_mu[(uint16_t)x[i] >> 2];
-    else
-        for (int i = 0; i < n; i++)
-            codes[i] = of_a[(uint16_t)x[i] >> 4];
+    for (; i < n; i++)
+        codes[i] = (word16)(law ? encode_mu(x[i]) : encode_a(x[i]));
 }
