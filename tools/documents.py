@@ -2,7 +2,7 @@
 # SPDX-License-Identifier: Apache-2.0
 """Keeps the documents true to the sources.
 
-    tools/documents.py --check     says what the pages at the top, in docs and in examples name or link to and isn't there, and what is stale
+    tools/documents.py --check     says what the pages at the top, in docs, bench and examples name or link to and isn't there, and what is stale
     tools/documents.py --write     fills in what it makes: counted numbers, reading lists, whole files, and the column `headline` of docs/DEFINITIONS.md
 
 What is checked:
@@ -41,7 +41,7 @@ OUTSIDE_NAMES = "tools/outside_names.txt"
 README_LINES, README_LETTERS = 250, 120
 
 # Where a path of the repository begins, and what stands in a folder that isn't kept.
-TOP_FOLDERS = ("crates", "docs", "examples", "python", "tests", "tools", ".ci", "bindings", "include")
+TOP_FOLDERS = ("bench", "crates", "docs", "examples", "python", "tests", "tools", ".ci", "bindings", "include")
 MADE = ("*/out/*", "*/out", "*/target/*")
 
 WORD = re.compile(r"[A-Za-z_][A-Za-z0-9_']*")
@@ -229,7 +229,7 @@ def read_outside(root: Path) -> dict[str, str]:
 
 
 def documents(root: Path) -> list[Path]:
-    return [*sorted(root.glob("*.md")), *sorted((root / "docs").glob("*.md")), *sorted((root / "examples").rglob("*.md"))]
+    return [*sorted(root.glob("*.md")), *sorted((root / "docs").glob("*.md")), *(path for folder in ("bench", "examples") for path in sorted((root / folder).rglob("*.md")))]
 
 
 def prose(text: str) -> Iterator[tuple[int, str, bool]]:
