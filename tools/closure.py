@@ -4,6 +4,7 @@
 
     tools/closure.py CRATE[/src/FILE.rt]:FUNCTION .. [--clause NAME] [--also CRATE.FILE.NAME] [--stop CRATE.FILE.NAME]
     tools/closure.py --headline          the same as for the main theorem at the program's own five algorithms
+    tools/closure.py --sounds            of its sounds alone: what of it speaks of no memory
     tools/closure.py .. --files          the definitions of each file, with their lines
     tools/closure.py .. --outside        the names of the kit's libraries that are left
 
@@ -22,10 +23,10 @@ from pathlib import Path
 
 ROOT = Path(__file__).resolve().parent.parent
 
-# The main theorem: one clause of `run`, for the meaning and the names of the five algorithms of the program.
-HEADLINE = "dsp_console:run"
-HEADLINE_CLAUSES = ("headline",)
-HEADLINE_ALSO = ("voice_set.Voices.voice_meaning", "voice_set.Voices.voice_named")
+# The main theorem, and its sounds alone: a clause of `run` each, for the meaning and the names of the five algorithms of the program.
+RUN = "dsp_console:run"
+HEADLINE, SOUNDS = "headline", "sounds"
+VOICES = ("voice_set.Voices.voice_meaning", "voice_set.Voices.voice_named")
 
 IDENTIFIER = re.compile(r"[A-Za-z_][A-Za-z0-9_']*(?:\.[A-Za-z_][A-Za-z0-9_']*)*")
 DEFINITION = re.compile(
@@ -291,9 +292,9 @@ def closure_of(sources: Sources, functions: list[str], clauses: tuple[str, ...],
     return closure
 
 
-def headline_closure(sources: Sources) -> Closure:
-    """What a reader of the main theorem has to believe, at the five algorithms of the program."""
-    return closure_of(sources, [HEADLINE], HEADLINE_CLAUSES, HEADLINE_ALSO, set())
+def theorem_closure(sources: Sources, clause: str) -> Closure:
+    """What a reader of the main theorem, or of its sounds alone, has to believe, at the five algorithms of the program."""
+    return closure_of(sources, [RUN], (clause,), VOICES, set())
 
 
 def report(closure: Closure, files: bool, outside: bool) -> str:
@@ -322,7 +323,8 @@ def report(closure: Closure, files: bool, outside: bool) -> str:
 def main(words: list[str]) -> int:
     parser = argparse.ArgumentParser(description="Lists the definitions that a reader of a clause has to believe.")
     parser.add_argument("functions", nargs="*", metavar="CRATE[/src/FILE.rt]:FUNCTION")
-    parser.add_argument("--headline", action="store_true", help="the main theorem at the program's own algorithms")
+    parser.add_argument("--headline", action="store_const", dest="theorem", const=HEADLINE, help="the main theorem at the program's own algorithms")
+    parser.add_argument("--sounds", action="store_const", dest="theorem", const=SOUNDS, help="its sounds alone")
     parser.add_argument("--clause", action="append", default=[], help="only the clauses of this name")
     parser.add_argument("--also", action="append", default=[], metavar="CRATE.FILE.NAME", help="a definition that stands in for a trait's")
     parser.add_argument("--stop", action="append", default=[], metavar="CRATE.FILE.NAME", help="leave this one out, and what only it needs")
@@ -330,13 +332,13 @@ def main(words: list[str]) -> int:
     parser.add_argument("--outside", action="store_true", help="name what is left of the kit's libraries")
     parser.add_argument("--root", type=Path, default=ROOT, help="another checkout")
     given = parser.parse_args(words)
-    if bool(given.functions) == given.headline:
-        parser.error("name a function, or --headline, and not both")
+    if bool(given.functions) == bool(given.theorem):
+        parser.error("name a function, or --headline or --sounds, and not both")
     sources = Sources(given.root)
     stops = {tuple(name.split(".")) for name in given.stop}
     try:
-        if given.headline:
-            closure = closure_of(sources, [HEADLINE], HEADLINE_CLAUSES, (*HEADLINE_ALSO, *given.also), stops)
+        if given.theorem:
+            closure = closure_of(sources, [RUN], (given.theorem,), (*VOICES, *given.also), stops)
         else:
             closure = closure_of(sources, given.functions, tuple(given.clause), tuple(given.also), stops)
     except LookupError as wrong:

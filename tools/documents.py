@@ -2,7 +2,7 @@
 # SPDX-License-Identifier: Apache-2.0
 """Keeps the documents true to the sources.
 
-    tools/documents.py --check     says what the pages at the top, in docs and in examples name or link to and isn't there, and what is stale
+    tools/documents.py --check     says what the pages at the top, in docs, bench and examples name or link to and isn't there, and what is stale
     tools/documents.py --write     fills in what it makes: counted numbers, reading lists, whole files, and the column `headline` of docs/DEFINITIONS.md
 
 What is checked:
@@ -11,6 +11,7 @@ What is checked:
   with where it comes from. Under a heading that names crates it stands in these or in a crate that they stand on. In `x`, `y` of `z` the
   x and the y stand in the contract of a function z, in the record z, or in the crate or the crates that have z.
 - **Paths**, in backticks and in blocks of commands. A word in capitals is a placeholder.
+- **Parts of the test command**: what stands behind `./check` is one that it has.
 - **Links** and their anchors.
 - **Counted numbers** between `<!-- count: NAME -->` and `<!-- -->`, and the reading list of the main theorem between `<!-- list: headline -->`
   and `<!-- end of the list -->`.
@@ -37,10 +38,12 @@ ROOT = Path(__file__).resolve().parent.parent
 DEFINITIONS = "docs/DEFINITIONS.md"
 ARCHITECTURE = "docs/ARCHITECTURE.md"
 OUTSIDE_NAMES = "tools/outside_names.txt"
+# A page that a script makes of a log: it names commits, and crates as they were.
+STATUS = "docs/STATUS.md"
 README_LINES, README_LETTERS = 250, 120
 
 # Where a path of the repository begins, and what stands in a folder that isn't kept.
-TOP_FOLDERS = ("crates", "docs", "examples", "python", "tests", "tools", ".ci", "bindings", "include")
+TOP_FOLDERS = ("bench", "crates", "docs", "examples", "python", "tests", "tools", ".ci", "bindings", "include")
 MADE = ("*/out/*", "*/out", "*/target/*")
 
 WORD = re.compile(r"[A-Za-z_][A-Za-z0-9_']*")
@@ -49,6 +52,8 @@ LINK = re.compile(r"(?<!!)\[[^\]\n]*\]\(([^)\s]+)\)|!\[[^\]\n]*\]\(([^)\s]+)\)|s
 COUNT = re.compile(r"<!-- count: (\w+) -->(.*?)<!-- -->", re.S)
 LIST = re.compile(r"<!-- list: (\w+) -->\n(.*?)<!-- end of the list -->", re.S)
 FILE = re.compile(r"<!-- file: (\S+) -->\n(.*?)<!-- end of the file -->", re.S)
+CHECK = re.compile(r"(?<![\w/])\./check((?: [a-z_]+)+)")
+PART = re.compile(r'Part\("(\w+)"')
 OF = re.compile(r"((?:`[^`\n]+`(?:,? and |, )?)+) of (?:the )?((?:`[^`\n]+`(?:,? and |, )?)+)")
 
 
@@ -188,6 +193,8 @@ class Repository:
             "headline_types": lambda: len(self.headline.declared),
             "headline_type_lines": lambda: self.headline.declared_lines(),
             "headline_outside": lambda: len(self.headline.outside),
+            "sounds_definitions": lambda: len(self.sounds.found),
+            "sounds_lines": lambda: self.sounds.lines()[0],
         }
 
     def _files(self, folder: str, suffix: str) -> list[Path]:
@@ -204,7 +211,11 @@ class Repository:
 
     @cached_property
     def headline(self) -> reading.Closure:
-        return reading.headline_closure(self.sources)
+        return reading.theorem_closure(self.sources, reading.HEADLINE)
+
+    @cached_property
+    def sounds(self) -> reading.Closure:
+        return reading.theorem_closure(self.sources, reading.SOUNDS)
 
 
 def read_outside(root: Path) -> dict[str, str]:
@@ -220,7 +231,7 @@ def read_outside(root: Path) -> dict[str, str]:
 
 
 def documents(root: Path) -> list[Path]:
-    return [*sorted(root.glob("*.md")), *sorted((root / "docs").glob("*.md")), *sorted((root / "examples").rglob("*.md"))]
+    return [*sorted(root.glob("*.md")), *sorted((root / "docs").glob("*.md")), *(path for folder in ("bench", "examples") for path in sorted((root / folder).rglob("*.md")))]
 
 
 def prose(text: str) -> Iterator[tuple[int, str, bool]]:
@@ -275,8 +286,9 @@ class Checker:
         for path in documents(self.repository.root):
             text = path.read_text(encoding="utf-8")
             name = str(path.relative_to(self.repository.root))
-            found += self.names(name, text)
+            found += self.names(name, text) if name != STATUS else []
             found += self.links(path, name, text)
+            found += self.parts(name, text)
             found += self.counted(name, text)
         found += self.column()
         found += self.rows_of_crates()
@@ -356,6 +368,20 @@ class Checker:
                     found.append(Problem(name, number, f"the link {link} leads nowhere"))
                 elif anchor and target.suffix == ".md" and anchor not in anchors(target.read_text(encoding="utf-8")):
                     found.append(Problem(name, number, f"the anchor of {link} isn't there"))
+        return found
+
+    def parts(self, name: str, text: str) -> list[Problem]:
+        """What is named as a part of the test command and is none."""
+        command = self.repository.root / "check"
+        if not command.is_file():
+            return []
+        known = set(PART.findall(command.read_text(encoding="utf-8")))
+        found: list[Problem] = []
+        for number, line, code in prose(text):
+            for span in [line] if code else SPAN.findall(line):
+                # In a block of commands words follow that say what a command does, behind more than one space.
+                for words in CHECK.findall(span):
+                    found += [Problem(name, number, f"`./check` has no part {word}") for word in words.split() if word not in known]
         return found
 
     def counted(self, name: str, text: str) -> list[Problem]:

@@ -204,6 +204,12 @@ class Progress:
         )
         self.whole = max(self.seconds_left(), 1.0)
 
+    def kept(self, crate: str) -> None:
+        """Counts a crate that was proved by an earlier run on this machine: it takes no time."""
+        if crate in self.left:
+            self.left.remove(crate)
+            self.whole = max(self.seconds_left(), 1.0)
+
     def proved(self, crate: str) -> None:
         """Tells that a crate is proved."""
         if crate not in self.left:
@@ -266,6 +272,9 @@ def build(say, name: str = NAME) -> None:
                 told = re.fullmatch(r"rt: (\w+) proved\n", line)
                 if told:
                     progress.proved(told[1])
+                kept_before = re.match(r"rt: (\w+) is kept: ", line)
+                if kept_before:
+                    progress.kept(kept_before[1])
                 refused = re.fullmatch(r"rt: (\w+)(?:: its tests are)? NOT PROVED.*\n", line)
                 if refused:
                     say(f"{refused[1]} is refused")
@@ -280,12 +289,12 @@ def build(say, name: str = NAME) -> None:
     say("built")
 
 
-def run_unproved(arguments: list[str]) -> int:
+def run_unproved(arguments: list[str], name: str = NAME) -> int:
     """Runs what `rt try` makes of the sources, of which nothing is proved, and returns its exit status."""
     if not shutil.which("rt"):
         raise CantBuild("rt, the command of the Rattle kit, isn't on PATH: install the kit that README.md names (x86-64 Linux)", CANT_BUILD_HERE)
     print("dsp_console: NOTHING OF THIS PROGRAM IS PROVED: it is made for this one run, in a minute or two", file=sys.stderr, flush=True)
-    return subprocess.run(["rt", "try", "--", *absolute(arguments)], cwd=CRATES / NAME).returncode
+    return subprocess.run(["rt", "try", "--", *absolute(arguments)], cwd=CRATES / name).returncode
 
 
 # Options whose value is the next argument.

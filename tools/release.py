@@ -104,7 +104,7 @@ def tracked() -> dict[str, bool]:
 def look_at_built(name: str) -> None:
     """Refuses a program or an archive that isn't built from the sources as they stand."""
     if not program.is_built(name):
-        what, command = ("archive", f"tools/archive.py {name}") if program.is_archive(name) else ("program", "./check examples gateway, or the first use of ./dsp_console,")
+        what, command = ("archive", f"tools/archive.py {name}") if program.is_archive(name) else ("program", f"./{name}" if name == program.GATEWAY else "./dsp_console")
         raise NoRelease(f"the {what} {name} isn't built from the sources as they stand: {command} proves and builds it, which takes the Rattle kit", program.CANT_BUILD_HERE)
 
 

@@ -5,7 +5,8 @@
     tools/status.py            writes docs/STATUS.md
     tools/status.py --print    prints it
 
-It refuses a run in which a part failed, was left out, or of which the proofs' log is missing.
+Beside it stands what was run by name there, such as `./check long_scripts`. It refuses a run in which a part failed or was left out, or of
+which the proofs' log is missing.
 """
 
 from __future__ import annotations
@@ -54,8 +55,25 @@ def rows_of(log: str) -> dict[str, Row]:
     return rows
 
 
-def page(summary: dict, log: str) -> str:
-    """The text of docs/STATUS.md."""
+def by_name(runs: dict[str, dict]) -> list[str]:
+    """The lines on parts that were run by name."""
+    if not runs:
+        return []
+    return [
+        "",
+        "## Run by name",
+        "",
+        "| part | command | commit | passed | failed | minutes | processors | what it said |",
+        "|---|---|---|---|---|---|---|---|",
+        *(
+            f"| {name} | `{it['command']}` | `{it['commit'][:8]}` | {it['passed']} | {it['failed']} | {it['minutes']} | {it['processors']} | {it['said']} |"
+            for name, it in sorted(runs.items())
+        ),
+    ]
+
+
+def page(summary: dict, log: str, runs: dict[str, dict]) -> str:
+    """The text of docs/STATUS.md: of a whole run, of its log, and of the parts that were run by name."""
     rows, parts = rows_of(log), summary["parts"]
     passed = sum(part["passed"] for part in parts.values())
     edits = sum(len(row.refused) for row in rows.values())
@@ -86,6 +104,7 @@ def page(summary: dict, log: str) -> str:
         "| part | passed | failed | minutes |",
         "|---|---|---|---|",
         *(f"| {name} | {part['passed']} | {part['failed']} | {part['minutes']} |" for name, part in parts.items()),
+        *by_name(runs),
         "",
         "## Crates",
         "",
@@ -103,11 +122,13 @@ def main() -> int:
     except OSError as missing:
         print(f"status: no whole run is kept here: {missing}", file=sys.stderr)
         return 1
-    bad = [name for name, part in summary["parts"].items() if part["failed"] or not part["passed"]]
+    kept = {file.stem: json.loads(file.read_text()) for file in LOGS.glob("*.json") if file.stem != "summary"}
+    runs = {name: it for name, it in kept.items() if name not in summary["parts"]}
+    bad = [name for name, part in (summary["parts"] | runs).items() if part["failed"] or not part["passed"]]
     if bad or "proofs" not in summary["parts"]:
         print(f"status: not a whole run in which all passed: {', '.join(bad) or 'the proofs were left out'}", file=sys.stderr)
         return 1
-    text = page(summary, log)
+    text = page(summary, log, runs)
     if "--print" in sys.argv[1:]:
         print(text, end="")
     else:

@@ -167,7 +167,7 @@ def why_range(words: Sequence[str], circuit: Circuit) -> str:
         given = [int(it) for it in (words[4:] if command == "create" else words[3:])]
         for value in given:
             if not -32768 <= value <= 32767:
-                near = ", and 32768 is 2 in Q14, which no word of a biquad is: halve b0, b1 and b2, or let dsp_design scale the section" if abs(value) < 65536 else ""
+                near = f", and in Q14 it would be {value / 16384:.2f}, where a biquad takes -2 to just below 2: halve b0, b1 and b2, or let dsp_design scale the section" if abs(value) < 65536 else ""
                 return f"a word is -32768 to 32767, and {value} isn't{near}"
         return f"a line has at most 72 words, and here are {len(given)}"
     if command == "chain" and len(words) > 10:

@@ -51,6 +51,10 @@ class Counting(unittest.TestCase):
         self.assertEqual(self.counts("2,000 cases of seed x, 4,000 runs of the program, 3 differ; 4 s\n", 1), (1997, 3))
         self.assertEqual(self.counts("28 documents, 40 wrong\n", 1), (0, 40))
 
+    def test_what_a_part_says_of_itself_is_kept(self) -> None:
+        self.assertEqual(check.counted("a\n90 worked rows, 0 differ\n", 0).said, "90 worked rows, 0 differ")
+        self.assertEqual(check.counted("Ran 5 tests in 1.0s\n\nOK\n", 0).said, "Ran 5 tests in 1.0s")
+
     def test_python_tests_count(self) -> None:
         self.assertEqual(self.counts("Ran 5 tests in 1.0s\n\nOK\n", 0), (5, 0))
         self.assertEqual(self.counts("Ran 5 tests in 1.0s\n\nFAILED (failures=1, errors=1)\n", 1), (3, 2))
@@ -78,9 +82,15 @@ class Status(unittest.TestCase):
 
     def test_the_page_has_the_sums(self) -> None:
         summary = {"commit": "abc", "changed": False, "ended": "today", "kit": "k", "processors": 4, "parts": {"proofs": {"passed": 3, "failed": 0, "minutes": 2.5}}}
-        page = status.page(summary, LOG)
+        page = status.page(summary, LOG, {})
         self.assertIn("| last line | 3 passed, 0 failed |", page)
         self.assertIn("| low | 31 | 7 | 2 |", page)
+        self.assertNotIn("Run by name", page)
+
+    def test_the_page_has_what_was_run_by_name(self) -> None:
+        summary = {"commit": "abc", "changed": False, "ended": "today", "kit": "k", "processors": 4, "parts": {}}
+        run = {"command": "tests/x --cases 9", "commit": "0123456789", "passed": 9, "failed": 0, "minutes": 1.5, "processors": 2, "said": "9 cases, 0 differ"}
+        self.assertIn("| long_x | `tests/x --cases 9` | `01234567` | 9 | 0 | 1.5 | 2 | 9 cases, 0 differ |", status.page(summary, LOG, {"long_x": run}))
 
 
 if __name__ == "__main__":

@@ -134,6 +134,12 @@ class Names(Checkout):
         found = self.problems()
         self.assertEqual([problem.split(": ")[1] for problem in found], ["`crates/low/src/none.rt` isn't there", "`docs/none.md` isn't there"])
 
+    def test_parts_of_the_test_command(self) -> None:
+        self.put("check", 'PARTS = (Part("rows", ..), Part("long_rows", ..))\n')
+        self.put("README.md", README + "\n`./check rows long_rows`.\n\n    ./check rows    these alone\n")
+        self.assertEqual(self.problems(), [])
+        self.put("README.md", README + "\n`./check double`\n")
+        self.assert_one("README.md:9", "no part double")
 
     def test_what_git_ignores_may_be_named(self) -> None:
         self.put("README.md", README + "\n    examples/one/out.raw\n")

@@ -27,7 +27,7 @@ case $1 in
     ci)
         [ -d crates/low/must-fail ] && echo "an edit was copied"
         if grep -q wrong crates/low/src/lib.rt; then echo "rt: low NOT PROVED"; echo "0 passed, 2 failed"; exit 1; fi
-        echo "rt: low proved"
+        if grep -q kept crates/low/src/lib.rt; then echo "rt: low is kept: an earlier run on this machine proved the same files"; else echo "rt: low proved"; fi
         echo "rt: dsp_console_main proved"
         mkdir crates/dsp_console_main/out
         made=crates/dsp_console_main/out/dsp_console_main
@@ -76,6 +76,23 @@ class Wrapper(unittest.TestCase):
         self.assertIn("proved low, 1 of 2", ran.stderr)
         self.assertIn("proved dsp_console_main, 2 of 2, the program is next", ran.stderr)
         self.assertNotIn("left", ran.stderr.splitlines()[-1])
+
+    def test_what_was_proved_before_is_counted(self) -> None:
+        (self.top / "crates" / "low" / "src" / "lib.rt").write_text("kept")
+        ran = self.run_it()
+        self.assertNotIn("proved low", ran.stderr)
+        self.assertIn("proved dsp_console_main, 2 of 2, the program is next", ran.stderr)
+
+    def test_the_name_says_which_program_is_run(self) -> None:
+        (self.top / "gateway_console").symlink_to("dsp_console")
+        made = self.top / "crates" / "gateway_console"
+        (made / "src").mkdir(parents=True)
+        (made / "src" / "main.rt").write_text("first")
+        with (self.top / "crates.txt").open("a") as listed:
+            listed.write("gateway_console: low\n")
+        (self.bin / "rt").write_text(RT.replace("dsp_console_main", "gateway_console"))
+        ran = subprocess.run([sys.executable, self.top / "gateway_console", "a"], cwd=self.room, env={**os.environ, "PATH": f"{self.bin}:/usr/bin:/bin", "CALLS": str(self.calls), "KIT_HERE": KIT}, capture_output=True, text=True)
+        self.assertEqual((ran.stdout, ran.returncode), ("first a\n", 3), ran.stderr)
 
     def test_the_second_call_runs_alone(self) -> None:
         self.run_it("a")

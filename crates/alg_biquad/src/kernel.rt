@@ -1,9 +1,11 @@
 //! The filter over plain words.
-ghost use Rattle.std.specs.Prelude.{◌≡◌, ◌≤◌, ◌∷◌, ℤ, List, [], length};
+ghost use Rattle.std.specs.Prelude.{◌≡◌, ◌≤◌, ◌∷◌, ℤ, true, List, [], length, IfSome};
 ghost use Rattle.ialg.specs.History.{History, word_at, words_in_force};
 ghost use Rattle.alg_biquad.specs.Equation.{biquad_value};
+ghost use Rattle.alg_biquad.specs.Halves.{AreAboveLeast};
 ghost use Rattle.alg_biquad.specs.Keeps.{state_after, Ran};
 
+use crate::halves::{are_above_least, half_product, less_product, plus_product, rounded};
 use crate::{COEFFICIENTS, STATE_WORDS};
 use basic_op::{l_mac, l_msu, l_mult, l_shl, round};
 use ialg::{BLOCK_SAMPLES, Block};
@@ -58,14 +60,44 @@ impl State {
     }
 }
 
-/// The output at the sample `x`, in Q15. Coefficients are in Q14, so that the sum is in Q30, and in Q31 when it is doubled.
-fn output(c: &[i16], state: State, x: i16) -> i16
+/// The output at the sample `x`, in Q15, each step saturated in its order. Coefficients are in Q14, so that the sum is in Q30, and in Q31
+/// when it is doubled.
+#[inline]
+fn limited_output(c: &[i16], state: State, x: i16) -> i16
     requires { length c.now ≡ COEFFICIENTS }
     ensures { result ≡ biquad_value (word_at c.now) x state.x1 state.x2 state.y1 state.y2 }
 {
     let forward = l_mac(l_mac(l_mult(c[0], x), c[1], state.x1), c[2], state.x2);
     let sum = l_msu(l_msu(forward, c[3], state.y1), c[4], state.y2);
     round(l_shl(sum, 1))
+}
+
+/// The output where no step saturates, and None where one does. Sums are halves of G.191's, which are doubled.
+#[inline]
+fn plain_output(c: &[i16], state: State, x: i16) -> Option<i16>
+    requires five { length c.now ≡ COEFFICIENTS }
+    requires above { AreAboveLeast c.now }
+    ensures { IfSome result (λ y. y ≡ biquad_value (word_at c.now) x state.x1 state.x2 state.y1 state.y2) }
+{
+    let first = half_product(c[0], x);
+    let second = plus_product(first, c[1], state.x1)?;
+    let third = plus_product(second, c[2], state.x2)?;
+    let fourth = less_product(third, c[3], state.y1)?;
+    let sum = less_product(fourth, c[4], state.y2)?;
+    Some(rounded(sum))
+}
+
+/// The output at the sample `x`, in Q15: by plain sums where the coefficients allow it and no step saturates.
+#[inline]
+fn output(c: &[i16], above: bool, state: State, x: i16) -> i16
+    requires five { length c.now ≡ COEFFICIENTS }
+    requires above { above ≡ true → AreAboveLeast c.now }
+    ensures { result ≡ biquad_value (word_at c.now) x state.x1 state.x2 state.y1 state.y2 }
+{
+    if above && let Some(y) = plain_output(c, state, x) {
+        return y;
+    }
+    limited_output(c, state, x)
 }
 
 /// Runs the filter over a block; `state` has the two newest samples and outputs before and after.
@@ -78,9 +110,10 @@ pub(crate) fn filter(coefficients: &[i16], state: &mut [i16], input: &[i16], out
     ensures law { (p : List ℤ) (h : History) → coefficients.now ≡ words_in_force p h → state.old ≡ state_after p h
         → Ran p h input.now state.new out.new.items }
 {
+    let above = are_above_least(coefficients);
     let mut newest = State::read(state);
     for x in input {
-        let y = output(coefficients, newest, *x);
+        let y = output(coefficients, above, newest, *x);
         newest = newest.after(*x, y);
         out.push(y);
     }

@@ -6,8 +6,11 @@ ghost use Rattle.alg_tone.specs.Equation.{feedback_of, tone_level, tone_value};
 ghost use Rattle.alg_tone.specs.Keeps.{state_after, KeepsParameters, Ran};
 
 use crate::{PARAMETERS, STATE_WORDS};
-use basic_op::{add, extract_h, l_mac, l_msu, l_mult, l_shl, shr, sub};
+use basic_op::{add, extract_h, l_mac, l_msu, l_mult, shr, sub};
 use ialg::{BLOCK_SAMPLES, Block};
+
+/// The bits behind a factor's point.
+const FACTOR_BITS: u32 = 14;
 
 /// A frame so far: how many samples of it there are, and the two newest values.
 #[derive(Clone, Copy)]
@@ -84,11 +87,13 @@ impl Tuning {
         }
     }
 
-    /// The factor, in Q14, times a value in Q15: in Q15.
+    /// The factor, in Q14, times a value in Q15: in Q15. One limit stands for those of the product and of its shift.
+    #[inline]
     fn feedback(self, v: i16) -> i16
         ensures { result ≡ feedback_of self.factor v }
     {
-        extract_h(l_shl(l_mult(self.factor, v), 1))
+        let whole = i32::from(self.factor) * i32::from(v);
+        (whole >> FACTOR_BITS).clamp(i32::from(i16::MIN), i32::from(i16::MAX)) as i16
     }
 
     /// The value of the sample `x` in the frame, in Q15.

@@ -11,7 +11,7 @@ ghost use Rattle.console_spec.specs.Console.{console_machine, start};
 ghost use Rattle.script_server.specs.Runs.{Devices, EndsByRead, EndsWell, IsHonest, honest_at, octets_to_come};
 ghost use Rattle.run_theorem.specs.Births.{Born};
 ghost use Rattle.run_theorem.specs.Headline.{GoesOn, Headline};
-ghost use Rattle.dsp_console.specs.Headline.{RunHeadline};
+ghost use Rattle.dsp_console.specs.Headline.{RunHeadline, RunSounds};
 
 use ialg::{Ialg, Named};
 
@@ -24,7 +24,8 @@ use ialg::{Ialg, Named};
 /// that input is honest, whatever the others are. Of one that isn't each feed may be given any samples, or be refused as short.
 ///
 /// So it is where a run ends well (`ok`), and, of the lines that were served, where a script or an input fails (`read`). It holds up to
-/// each line of the script, by the first lines alone (`first`). And in two runs instances of one kind and the same parameters that were
+/// each line of the script, by the first lines alone (`first`). Its sounds hold by themselves (`sounds`): no block, no place and no size of a space occurs in
+/// what they say. And in two runs instances of one kind and the same parameters that were
 /// given the same since their creation gave and answered the same (`two`). The call does nothing: its contract is the law.
 pub fn headline<M: Ialg + Named>()
     ensures ok { (widths : Widths) (sizes : Sizes) (poison : Option ℤ) (refused : ℕ) (old new : Devices) → IsHonest old.script
@@ -33,6 +34,8 @@ pub fn headline<M: Ialg + Named>()
     ensures read { (widths : Widths) (sizes : Sizes) (poison : Option ℤ) (old new : Devices)
         (ends : EndsByRead (console_machine M.law.meaning M.named widths) (start sizes poison (octets_to_come old.inputs)) old new)
         → Headline M.law.meaning M.named widths sizes poison ends.served.lines (octets_to_come old.inputs) (honest_at old.inputs) ends.served.answer }
+    ensures sounds { (widths : Widths) (sizes : Sizes) (poison : Option ℤ) (refused : ℕ) (old new : Devices)
+        → RunHeadline M.law.meaning M.named widths sizes poison refused old new → RunSounds M.law.meaning M.named widths poison old new }
     ensures first { (widths : Widths) (sizes : Sizes) (poison : Option ℤ) (refused : ℕ) (old new : Devices) (run : RunHeadline M.law.meaning M.named widths sizes poison refused old new)
         (first more : List (List ℕ)) → lines_of old.script.coming ≡ first ++ more
         → GoesOn M.law.meaning M.named widths sizes poison first more (octets_to_come old.inputs) (honest_at old.inputs) run.serves.answer }

@@ -11,7 +11,7 @@ ghost use Rattle.console_spec.specs.Console.{console_machine, start};
 ghost use Rattle.script_server.specs.Runs.{AreReady, EndsWell, EndsByRead, EndsByWrite, IsHonest, IsUnused, known_of, octets_to_come, run_of};
 ghost use Rattle.voice_console.specs.Consoles.{Keeps, channels_of, port_widths_of};
 ghost use Rattle.dsp_console.specs.Fresh.{fresh};
-ghost use Rattle.dsp_console.specs.Headline.{RunHeadline};
+ghost use Rattle.dsp_console.specs.Headline.{RunHeadline, RunSounds};
 ghost use Rattle.dsp_console.specs.Lawful.{EndsLawfully, EndsLawfullyByRead, EndsLawfullyByWrite, ServesLawfully};
 
 use crate::laws::headline;
@@ -160,6 +160,12 @@ pub fn run<M: Ialg + Named, S: PortIn, I: PortIn, O: PortOut, P: PortOut>(
     // Over any list of commands: the headline.
     ensures headline { IsHonest (S.source script.old)
         → IfOk result (λ summary. RunHeadline M.law.meaning M.named (widths_of config.in8 config.out8) config.sizes config.poison summary.refused
+        (known_of S.source I.source O.sink P.sink script.old inputs.old.items outputs.old.items replies.old)
+        (known_of S.source I.source O.sink P.sink script.new inputs.new.items outputs.new.items replies.new)) }
+
+    // Its sounds by themselves, without the memory.
+    ensures sounds { IsHonest (S.source script.old)
+        → IfOk result (λ summary. RunSounds M.law.meaning M.named (widths_of config.in8 config.out8) config.poison
         (known_of S.source I.source O.sink P.sink script.old inputs.old.items outputs.old.items replies.old)
         (known_of S.source I.source O.sink P.sink script.new inputs.new.items outputs.new.items replies.new)) }
 

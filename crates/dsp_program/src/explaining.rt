@@ -21,21 +21,6 @@ pub(crate) struct Explainer<'e, R> {
     reply: ArrayVec<u8, KEPT_OCTETS>,
 }
 
-/// The number of the refusal that a reply tells, if it tells one.
-fn refusal_of(reply: &[u8]) -> Option<u32> {
-    let mut words = reply.split(|octet| *octet == b' ');
-    if words.next()? != b"no".as_slice() {
-        return None;
-    }
-    let mut number: u32 = 0;
-    for digit in words.next()? {
-        number = number
-            .saturating_mul(10)
-            .saturating_add(u32::from(digit.saturating_sub(b'0')));
-    }
-    Some(number)
-}
-
 impl<'e, R: Eprint> Explainer<'e, R> {
     /// Nothing was read and replied yet.
     pub(crate) fn new(rt: &'e R, arguments: &Arguments<'e>) -> Self {
@@ -66,16 +51,11 @@ impl<'e, R: Eprint> Explainer<'e, R> {
 
     /// Tells why the line of the reply was refused, if it was.
     fn end_reply(&mut self) {
+        let reply = self.reply.as_slice();
         if let Some(line) = self.lines.next()
-            && let Some(refusal) = refusal_of(self.reply.as_slice())
+            && let Some(reason) = Reason::of(line.octets, reply, self.channels)
         {
-            let (number, text) = (line.number, Shown(line.octets));
-            let reply = Shown(self.reply.as_slice());
-            let reason = Reason {
-                line: line.octets,
-                refusal,
-                channels: self.channels,
-            };
+            let (number, text, reply) = (line.number, Shown(line.octets), Shown(reply));
             let _ = eprintln!(self.rt; "{}:{number}: {text}: {reply}: {reason}", self.script);
         }
         self.reply.clear();

@@ -5,19 +5,48 @@ ghost use Rattle.line_reasons.specs.Ranges.{is_in};
 use crate::numbers::Range;
 use crate::shown::Shown;
 use crate::verbs::Verb;
-use ialg::PARAMETER_WORDS;
+use ialg::{PARAMETER_WORDS, Refusal};
+use mem_rec::Space;
 use std::fmt::{self, Display, Formatter};
 use voice_script::{LINE_OCTETS, MEMBERS, Words};
+
+/// The refusals that replies name. Which space has no room a reply doesn't tell: one of them stands for all.
+const REFUSALS: [Refusal; 10] = [
+    Refusal::Long,
+    Refusal::Syntax,
+    Refusal::Range,
+    Refusal::Taken,
+    Refusal::Missing,
+    Refusal::Params,
+    Refusal::Room(Space::Daram),
+    Refusal::Busy,
+    Refusal::Command,
+    Refusal::Short,
+];
+
+/// The refusal that a reply tells, if it tells one: `no 3 range`.
+fn refusal_told(reply: &[u8]) -> Option<Refusal> {
+    let mut words = Words::of(reply);
+    if words.next()? != b"no".as_slice() {
+        return None;
+    }
+    let name = words.nth(1)?;
+    for refusal in &REFUSALS {
+        if refusal.name().as_bytes() == name {
+            return Some(*refusal);
+        }
+    }
+    None
+}
 
 /// Why a line was refused.
 #[derive(Clone, Copy)]
 pub struct Reason<'a> {
     /// The line, without its line feed.
-    pub line: &'a [u8],
-    /// The number of the refusal, as its reply has it.
-    pub refusal: u32,
+    line: &'a [u8],
+    refusal: Refusal,
     /// How many channels there are.
-    pub channels: u8,
+    channels: u8,
 }
 
 /// A number out of its range, as it is written.
@@ -33,6 +62,16 @@ fn write_length<W: fmt::Write>(f: &mut Formatter<W>) -> fmt::Result {
 }
 
 impl<'a> Reason<'a> {
+    /// Why this line, without its line feed, got this reply in a run of so many channels; none where the line was accepted.
+    pub fn of(line: &'a [u8], reply: &[u8], channels: u8) -> Option<Reason<'a>> {
+        let refusal = refusal_told(reply)?;
+        Some(Reason {
+            line,
+            refusal,
+            channels,
+        })
+    }
+
     /// The word at this place of the line, from 0.
     fn word(&self, place: usize) -> Option<&'a [u8]> {
         Words::of(self.line).nth(place)
@@ -77,21 +116,22 @@ impl<'a> Reason<'a> {
     ) -> fmt::Result {
         let is_of_channel = matches!(verb, Verb::Chain | Verb::Unchain | Verb::Feed);
         f.write_str(match self.refusal {
-            1 => return write_length(f),
-            2 => return write!(f, "it is written {form}"),
-            3 => return self.write_range(verb, f),
-            4 if is_of_channel => "the channel has members already",
-            4 => "the instance is there already",
-            5 if verb == Verb::Chain => "a member isn't there",
-            5 if is_of_channel => "the channel has no members",
-            5 => "the instance isn't there",
-            6 => "the kind doesn't take these parameters",
-            7 => "no place is free for its memory",
-            8 if verb == Verb::Chain => "a member is in a channel already, or is named twice",
-            8 => "the instance is in a channel",
-            9 => "the instance doesn't take this control",
-            10 => "fewer samples are left on the channel's input",
-            _ => "",
+            Refusal::Long => return write_length(f),
+            Refusal::Syntax => return write!(f, "it is written {form}"),
+            Refusal::Range => return self.write_range(verb, f),
+            Refusal::Taken if is_of_channel => "the channel has members already",
+            Refusal::Taken => "the instance is there already",
+            Refusal::Missing if verb == Verb::Chain => "a member isn't there",
+            Refusal::Missing if is_of_channel => "the channel has no members",
+            Refusal::Missing => "the instance isn't there",
+            Refusal::Params => "the kind doesn't take these parameters",
+            Refusal::Room(_) => "no place is free for its memory",
+            Refusal::Busy if verb == Verb::Chain => {
+                "a member is in a channel already, or is named twice"
+            }
+            Refusal::Busy => "the instance is in a channel",
+            Refusal::Command => "the instance doesn't take this control",
+            Refusal::Short => "fewer samples are left on the channel's input",
         })
     }
 }
@@ -101,7 +141,7 @@ impl Display for Reason<'_> {
         let first = self.word(0).unwrap_or(&[]);
         match Verb::of(first) {
             Some((verb, form)) => self.write_of_verb(verb, form, f),
-            None if self.refusal == 1 => write_length(f),
+            None if self.refusal == Refusal::Long => write_length(f),
             None => write!(f, "no command is called {}", Shown(first)),
         }
     }

@@ -1,8 +1,9 @@
 //! The lines of a script that were read and not answered yet.
 use arrayvec::ArrayVec;
+use voice_script::LINE_OCTETS;
 
 /// The most octets of a line that are kept: one more than a line of a script may have.
-const KEPT_OCTETS: usize = 1025;
+const KEPT_OCTETS: usize = LINE_OCTETS + 1;
 
 /// Room for what is read ahead of a script behind an unfinished line.
 const ROOM: usize = 8192;

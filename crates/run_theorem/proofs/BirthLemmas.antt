@@ -19,7 +19,7 @@ use Rattle.host_spec.specs.Runs.{AllSpare, Life, history_of_run}
 use Rattle.host_spec.proofs.CallLemmas.{host_stays}
 use Rattle.host_spec.proofs.RunLemmas.{granted}
 use Rattle.host_spec.proofs.LifeLemmas.{lives_on, grows_by}
-use Rattle.run_theorem.specs.Births.{Born, GoesByItsHistory, answer_of}
+use Rattle.run_theorem.specs.Births.{Born, GivesItsEquation, GoesByItsHistory, answer_of}
 
 err_is_no_ok : {A E : Type 0} (r : E) (a : A) → ◌≡◌ {A = Result A E} (Err r) (Ok a) → ⊥
 err_is_no_ok r a e = cc
@@ -128,10 +128,7 @@ module _ {M : Type 0} (kinds : Meaning M) where
         let middle = parts later born.rest first after split.leads_on.2 in
         let life : Life kinds i x later = record { before = first; after = middle.between; born = there; lawful = still; spared = born.spared; leads = middle.leads } in
         let grows = grows_by kinds i x later life in
-        record {
-          table = born_with.records;
-          asked = sym told ∙ born_with.asked;
-          lives = λ none. subst (λ (s : State M). s.living i ≡ Some (record x { history = history_of_run i [] later })) (sym (subst (λ cs. Leads kinds middle.between cs after) none middle.leads_on)) (lives_on kinds i x later life);
+        let given : GivesItsEquation kinds i kind p later = record {
           outputs = sym grows.outputs_more;
           statuses = sym grows.statuses_more;
           controls = λ sooner rest c answer e.
@@ -146,4 +143,10 @@ module _ {M : Type 0} (kinds : Meaning M) where
               } in
               control_answered two.between two.leads_on.0 i c answer (record x { history = history_of_run i [] sooner }) number
               (lives_on kinds i x sooner sooner_life) (subst (λ w. IsTrue (kinds.lawful kind p w)) (sym two.poison) still) two.leads_on.1;
+        } in
+        record {
+          gives = given;
+          table = born_with.records;
+          asked = sym told ∙ born_with.asked;
+          lives = λ none. subst (λ (s : State M). s.living i ≡ Some (record x { history = history_of_run i [] later })) (sym (subst (λ cs. Leads kinds middle.between cs after) none middle.leads_on)) (lives_on kinds i x later life);
         }

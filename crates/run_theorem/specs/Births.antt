@@ -22,12 +22,16 @@ pub record Born {M : Type 0} (i : ℕ) (kind : M) (g : ℕ) (p : List ℤ) (call
 abbrev pub answer_of : {M : Type 0} → Meaning M → M → List ℤ → History → Ctl → Result Status Refusal
 answer_of kinds kind p h c = if kinds.accepts kind p c then Ok (status_of kinds kind p h c) else Err Command
 
--- from its creation on an instance gives and answers what its kind means for what it was given since then
-pub record GoesByItsHistory {M : Type 0} (kinds : Meaning M) (i : ℕ) (kind : M) (g : ℕ) (p : List ℤ) (later rest : List (Call M)) (after : State M) : Type 0 where
-  pub table : List MemRec
-  pub asked : kinds.table kind p ≡ Some table
-  pub lives : rest ≡ [] → after.living i ≡ Some (record { kind = kind; params = p; table = unplaced table; group = g; history = history_of_run i [] later })
+-- in these calls, which come next behind its creation, an instance gives and answers what its kind means for what they give it
+pub record GivesItsEquation {M : Type 0} (kinds : Meaning M) (i : ℕ) (kind : M) (p : List ℤ) (later : List (Call M)) : Type 0 where
   pub outputs : outputs_in i later ≡ outputs_of kinds kind p (history_of_run i [] later)
   pub statuses : statuses_in i later ≡ statuses_of kinds kind p (history_of_run i [] later)
   pub controls : (first rest : List (Call M)) (c : Ctl) (answer : Result Status Refusal) → later ≡ first ++ Control i c answer ∷ rest
       → answer ≡ answer_of kinds kind p (history_of_run i [] first) c
+
+-- so it goes from its creation on, and where no further call came it lives, with all that it was given
+pub record GoesByItsHistory {M : Type 0} (kinds : Meaning M) (i : ℕ) (kind : M) (g : ℕ) (p : List ℤ) (later rest : List (Call M)) (after : State M) : Type 0 where
+  pub gives : GivesItsEquation kinds i kind p later
+  pub table : List MemRec
+  pub asked : kinds.table kind p ≡ Some table
+  pub lives : rest ≡ [] → after.living i ≡ Some (record { kind = kind; params = p; table = unplaced table; group = g; history = history_of_run i [] later })

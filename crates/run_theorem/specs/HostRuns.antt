@@ -15,12 +15,12 @@ module _ {M : Type 0} where
   IsPassing (i ∷ is) (s ∷ block) out asked =
       (given : List ℤ) × (rest : List (host_calls.Call M)) × (asked ≡ Process i (s ∷ block) given ∷ rest) × IsPassing is given out rest
 
-  -- what a call of channels asks of their host
-  abbrev pub AsHostCalls : Channels M → Call M → List (host_calls.Call M) → Type 0
-  AsHostCalls before (Feed c block out) asked = IsPassing (members_at before.chained c) block out asked
-  AsHostCalls before (Remove i (Ok done)) asked = asked ≡ Delete i (Ok done) ∷ []
-  AsHostCalls before (OfHost call) asked = asked ≡ call ∷ []
-  AsHostCalls before _ asked = asked ≡ []
+  -- what a call of channels of these members asks of their host
+  abbrev pub AsHostCalls : List (List ℕ) → Call M → List (host_calls.Call M) → Type 0
+  AsHostCalls chained (Feed c block out) asked = IsPassing (members_at chained c) block out asked
+  AsHostCalls chained (Remove i (Ok done)) asked = asked ≡ Delete i (Ok done) ∷ []
+  AsHostCalls chained (OfHost call) asked = asked ≡ call ∷ []
+  AsHostCalls chained _ asked = asked ≡ []
 
 module _ {M : Type 0} (kinds : Meaning M) where
   -- the calls, one after the other, lead from one state to another
@@ -32,5 +32,5 @@ module _ {M : Type 0} (kinds : Meaning M) where
   abbrev pub RunsOnHost : Channels M → List (Call M) → List (host_calls.Call M) → Channels M → Type 0
   RunsOnHost before [] asked after = (asked ≡ []) × (after ≡ before)
   RunsOnHost before (call ∷ calls) asked after =
-      (between : Channels M) × (first rest : List (host_calls.Call M)) × Does kinds before call between × AsHostCalls before call first
+      (between : Channels M) × (first rest : List (host_calls.Call M)) × Does kinds before call between × AsHostCalls before.chained call first
       × RunsOnHost between calls rest after × (asked ≡ first ++ rest)

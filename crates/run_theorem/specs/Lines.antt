@@ -1,5 +1,5 @@
 -- Lines of a console as calls of channels.
-use Rattle.std.specs.Prelude.{ℕ, ℤ, ◌≡◌, ◌⊎◌, ◌<◌, ◌≤◌, ◌==◌, Bool, true, List, [], ◌∷◌, ◌++◌, length, drop, take, Option, Some, Result, Ok, Err, if◌then◌else◌}
+use Rattle.std.specs.Prelude.{ℕ, ℤ, ◌≡◌, ◌⊎◌, ◌<◌, ◌≤◌, ◌==◌, Bool, true, List, [], ◌∷◌, ◌++◌, length, drop, take, Option, Some, Result, Ok, Err, slice_index_or, if◌then◌else◌}
 use Rattle.std.specs.List.{flat_map}
 use Rattle.ialg.specs.declared.refusal.Refusal.{Refusal}
 use Rattle.ialg.specs.Meaning.{Meaning}
@@ -9,7 +9,7 @@ use Rattle.channel_spec.specs.Calls.{Call}
 use Rattle.voice_script.specs.Script as script
 use Rattle.voice_script.specs.Script.{Command, parsed}
 use Rattle.voice_script.specs.declared.limits.TheConstants.{LINE_OCTETS}
-use Rattle.line_spec.specs.Served.{Answer, Run, held_by, octets_left, order_of}
+use Rattle.line_spec.specs.Served.{Answer, Run, held_by, order_of}
 use Rattle.line_spec.specs.Widths.{Widths}
 use Rattle.console_spec.specs.Samples.{octets_at, samples_at}
 use Rattle.console_spec.specs.Console.{call_of}
@@ -29,9 +29,13 @@ IsSame honest left after = (c : ℕ) → honest c ≡ true → after c ≡ left 
 abbrev pub IsSameBut : (ℕ → Bool) → ℕ → List ℤ → Left → Left → Type 0
 IsSameBut honest c rest left after = (d : ℕ) → honest d ≡ true → after d ≡ (if d == c then rest else left d)
 
--- the samples that are left on the inputs of a run, by the widths of their ports
+-- the samples of these octets of the inputs, by the widths of their ports
+abbrev pub samples_on : Widths → List (List ℕ) → Left
+samples_on widths inputs c = samples_at (widths.input c) (slice_index_or inputs c [])
+
+-- the samples that are left on the inputs of a run
 abbrev pub samples_left : {M : Type 0} → Widths → Run (Channels M) → Left
-samples_left widths run c = samples_at (widths.input c) (octets_left run c)
+samples_left widths run = samples_on widths run.inputs
 
 module _ {M : Type 0} (c : ℕ) where
   -- what channel c gives in the call

@@ -24,7 +24,7 @@ ghost use Rattle.run_theorem.specs.Room.{IsCreation, LacksRoom};
 /// host. The call does nothing: its contract is the law.
 pub fn calls_run_on_the_host<M>()
     ensures call { (kinds : Meaning M) (before after : Channels M) (call : Call M) → Does kinds before call after
-        → (asked : List (host_calls.Call M)) × AsHostCalls before call asked × host_calls.Leads kinds before.host asked after.host }
+        → (asked : List (host_calls.Call M)) × AsHostCalls before.chained call asked × host_calls.Leads kinds before.host asked after.host }
     ensures run { (kinds : Meaning M) (before after : Channels M) (calls : List (Call M)) → Leads kinds before calls after
         → (asked : List (host_calls.Call M)) × RunsOnHost kinds before calls asked after × host_calls.Leads kinds before.host asked after.host }
 {}

@@ -1,15 +1,16 @@
 //! The headline.
-ghost use Rattle.std.specs.Prelude.{◌≡◌, ◌++◌, ℕ, ℤ, Bool, [], IsTrue, List, Option};
+ghost use Rattle.std.specs.Prelude.{◌≡◌, ◌++◌, ℕ, ℤ, Bool, [], IsTrue, List, Option, Some};
 ghost use Rattle.ialg.specs.Meaning.{Meaning};
 ghost use Rattle.host_map.specs.declared.parts.Sizes.{Sizes};
 ghost use Rattle.host_spec.specs.Calls.{Call};
 ghost use Rattle.host_spec.specs.Runs.{history_of_run, outputs_in, statuses_in};
 ghost use Rattle.channel_spec.specs.Channels.{Channels};
-ghost use Rattle.line_spec.specs.Served.{Answer, LinesAnswer};
+ghost use Rattle.line_spec.specs.Served.{Answer, LinesAnswer, held_by, order_of};
 ghost use Rattle.line_spec.specs.Widths.{Widths};
 ghost use Rattle.console_spec.specs.Console.{console_machine, start};
 ghost use Rattle.run_theorem.specs.Births.{Born};
 ghost use Rattle.run_theorem.specs.Headline.{GoesOn, Headline};
+ghost use Rattle.run_theorem.specs.Sounds.{Sounds};
 
 use crate::laws::{creations_alone_lack_room, refused_lines_change_nothing};
 
@@ -24,6 +25,8 @@ use crate::laws::{creations_alone_lack_room, refused_lines_change_nothing};
 /// So it is of each instance that was ever created, as long as it lived, and up to each line: the first lines have the headline by
 /// themselves (`first`).
 ///
+/// Its sounds hold by themselves (`sounds`): in what they say no block, no place and no size of a space occurs.
+///
 /// And of two runs: instances of one kind and the same parameters that were given the same since their creation give and answer the
 /// same, whatever else differs. The call does nothing: its contract is the law.
 pub fn headline<M>()
@@ -31,6 +34,9 @@ pub fn headline<M>()
         → LinesAnswer (console_machine kinds named widths) honest (start sizes poison inputs) lines answer → Headline kinds named widths sizes poison lines inputs honest answer }
     ensures first { (kinds : Meaning M) (named : List ℕ → Option M) (widths : Widths) (sizes : Sizes) (poison : Option ℤ) (first more inputs : List (List ℕ)) (honest : ℕ → Bool) (answer : Answer (Channels M))
         → LinesAnswer (console_machine kinds named widths) honest (start sizes poison inputs) (first ++ more) answer → GoesOn kinds named widths sizes poison first more inputs honest answer }
+    ensures sounds { (kinds : Meaning M) (named : List ℕ → Option M) (widths : Widths) (sizes : Sizes) (poison : Option ℤ) (lines inputs : List (List ℕ)) (honest : ℕ → Bool) (answer : Answer (Channels M))
+        → Headline kinds named widths sizes poison lines inputs honest answer
+        → Sounds kinds named widths poison lines inputs answer.run.inputs honest (λ c. held_by (Some c) (order_of answer.written)) }
     ensures two { (kinds : Meaning M) (named : List ℕ → Option M) (widths other_widths : Widths) (sizes other_sizes : Sizes) (poison other_poison : Option ℤ)
         (lines inputs other_lines other_inputs : List (List ℕ)) (honest other_honest : ℕ → Bool) (answer other : Answer (Channels M))
         (one : Headline kinds named widths sizes poison lines inputs honest answer)

@@ -141,7 +141,7 @@ module _ (poison : Option ℤ) (lawful : AreLawful voice_meaning poison) (other 
           let born : Born 0 Fir 0 mean says.asked (life_beside one between three) =
           record { earlier = []; rest = []; created = asked ∙ ap (λ calls. host_calls.Create 0 Fir 0 mean (Ok tt) ∷ calls) (sym (append-nil (life_beside one between three))); spared = spared } in
           let gave : outputs_in 0 (life_beside one between three) ≡ pos 1 ∷ pos 3 ∷ pos 5 ∷ [] =
-          (says.each 0 Fir 0 mean (life_beside one between three) (lawful Fir mean) born).outputs
+          (says.each 0 Fir 0 mean (life_beside one between three) (lawful Fir mean) born).gives.outputs
           ∙ ap (outputs_of voice_meaning Fir mean) history ∙ fir mean (Sample (pos 6) ∷ Sample (pos 4) ∷ Sample (pos 2) ∷ []) in
           record {
             one = one;

@@ -169,7 +169,7 @@ module _ (poison : Option ℤ) (lawful : AreLawful voice_meaning poison) where
         spared = (tt, (tt, (tt, (λ e. omega (arith, e), (tt, (tt, tt))))));
       } in
       let gave : outputs_in 0 (life made.one made.two made.three) ≡ pos 1 ∷ pos 3 ∷ pos 5 ∷ [] =
-      (says.each 0 Fir 0 mean (life made.one made.two made.three) (lawful Fir mean) born).outputs ∙ fir mean (Sample (pos 6) ∷ Sample (pos 4) ∷ Sample (pos 2) ∷ []) in
+      (says.each 0 Fir 0 mean (life made.one made.two made.three) (lawful Fir mean) born).gives.outputs ∙ fir mean (Sample (pos 6) ∷ Sample (pos 4) ∷ Sample (pos 2) ∷ []) in
       record { one = made.one; two = made.two; three = made.three; born = born; rest = refl; given = refl; gave = gave; fed = made.given ∙ gave; written = says.outputs 0 ∙ ap octets_of (made.given ∙ gave) }
 
   pub row_gave : FirGives → (result : Result Summary Fault) (old new : Devices) → CanRunRow old → length old.outputs ≡ 2

@@ -45,7 +45,7 @@ module _ {M : Type 0} (kinds : Meaning M) (named : List ℕ → Option M) (hones
       → nat_le (length line) LINE_OCTETS ≡ true
       → ((left after : Left) (made : List (Call M)) → LineMakes honest (parsed named line) left made after → Makes honest call left made after)
       → ((a : A) → ◌≡◌ {A = Call M × Channels M} (answered kinds state (call a)) (call answer, next))
-      → ((asked : List (host_calls.Call M)) → AsHostCalls state (call answer) asked → asked ≡ host)
+      → ((asked : List (host_calls.Call M)) → AsHostCalls state.chained (call answer) asked → asked ≡ host)
       → Holds lines known next (λ made asked. P (call answer ∷ made) (host ++ asked))
       → Holds (line ∷ lines) known state P
   told {line = line} {lines = lines} {state = state} {P = P} call answer next host lawful fits makes same hosts go = record {
@@ -55,7 +55,7 @@ module _ {M : Type 0} (kinds : Meaning M) (named : List ℕ → Option M) (hones
         let ran = subst (λ calls. RunsOnHost kinds state calls asked end) made_is r in
         let c = computed kinds state ran.0 lawful (call one.0) ran.3 ∙ same one.0 in
         let its : call one.0 ≡ call answer = ap (λ o. o.0) c in
-        let asks : ran.1 ≡ host = hosts ran.1 (subst (λ x. AsHostCalls state x ran.1) its ran.4) in
+        let asks : ran.1 ≡ host = hosts ran.1 (subst (λ x. AsHostCalls state.chained x ran.1) its ran.4) in
         let later : RunsOnHost kinds next m.2 ran.2 end = subst (λ s. RunsOnHost kinds s m.2 ran.2 end) (ap (λ o. o.1) c) ran.5 in
         let p = go.always m.0 after m.2 ran.2 end (λ d f. one.2 d (are d f) ∙ k d f) m.4 later in
         subst (λ x. P x asked) (sym (made_is ∙ ap (λ x. x ∷ m.2) its)) (subst (λ x. P (call answer ∷ m.2) x) (sym (ran.6 ∙ ap (λ first. first ++ ran.2) asks)) p);

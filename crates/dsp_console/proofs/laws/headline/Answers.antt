@@ -1,8 +1,9 @@
-use Rattle.std.proofs.Common.{List, ℕ, subst}
+use Rattle.std.proofs.Common.{List, ℕ, Some, subst}
 use Rattle.script_server.specs.Runs.{honest_at, octets_to_come}
 use Rattle.voice_script.specs.Script.{lines_of}
-use Rattle.line_spec.specs.Served.{LinesAnswer}
+use Rattle.line_spec.specs.Served.{LinesAnswer, held_by, order_of}
 use Rattle.console_spec.specs.Console.{console_machine, start}
+use Rattle.run_theorem.specs.Sounds.{Sounds}
 use Rattle.dsp_console.proofs.laws.headline.Goals as goal
 
 pub returns-clause-ok : goal.returns-clause-ok
@@ -17,6 +18,18 @@ pub returns-clause-read : goal.returns-clause-read
 returns-clause-read g c = λ widths sizes poison old new ends.
     let all = ends.served in
     c.headline.ensures.run g.M.Ialg.law.meaning g.M.Named.named widths sizes poison all.lines (octets_to_come old.inputs) (honest_at old.inputs) all.answer all.is_answer
+
+pub returns-clause-sounds : goal.returns-clause-sounds
+returns-clause-sounds g c = λ widths sizes poison refused old new run.
+    let kinds = g.M.Ialg.law.meaning in
+    let named = g.M.Named.named in
+    let written : ℕ → List ℕ = λ c. held_by (Some c) (order_of run.serves.answer.written) in
+    record {
+      written = written;
+      sounds = subst (λ (rest : List (List ℕ)). Sounds kinds named widths poison (lines_of old.script.coming) (octets_to_come old.inputs) rest (honest_at old.inputs) written) run.serves.inputs
+          (c.headline.ensures.sounds kinds named widths sizes poison (lines_of old.script.coming) (octets_to_come old.inputs) (honest_at old.inputs) run.serves.answer run.says);
+      holds = run.serves.writes.output;
+    }
 
 pub returns-clause-first : goal.returns-clause-first
 returns-clause-first g c = λ widths sizes poison refused old new run first more same.

@@ -1,6 +1,6 @@
 use Rattle.std.proofs.Common.{◌∙◌, ap, map}
 use Rattle.line_spec.specs.Widths.{widths_in, widths_of}
-use Rattle.dsp_console.proofs.HeadlineLemmas.{says_headline}
+use Rattle.dsp_console.proofs.HeadlineLemmas.{says_headline, says_sounds}
 use Rattle.dsp_console.proofs.LawfulLemmas.{lawfully, lawfully_by_read, lawfully_by_write, serve_lawfully}
 use Rattle.dsp_console.proofs.StartLemmas.{as_many, by_read, by_write, kept, well}
 use Rattle.dsp_console.proofs.serving.run.Goals as goal
@@ -48,3 +48,9 @@ returns-clause-headline g c = λ script.
     says_headline g.M.Ialg.law.meaning g.M.Named.named (widths_of c.args.config.in8 c.args.config.out8) c.args.config.sizes c.args.config.poison _ _ _
     (λ refused old new. c.headline.ensures.ok (widths_of c.args.config.in8 c.args.config.out8) c.args.config.sizes c.args.config.poison refused old new) script
     (well g.M.Ialg.law c.new-console.result c.in-Ok.host c.args.config.sizes c.args.config.poison (map g.I.PortIn.source c.args.inputs.now.items) c.new-console.ensures.host c.in-Ok.ensures.host _ (widths_of c.args.config.in8 c.args.config.out8) (ap widths_in c.new-console.ensures.widths ∙ c.of_masks-widths.ensures) _ _ _ c.serve_console-served.ensures.ok)
+
+pub returns-clause-sounds : goal.returns-clause-sounds
+returns-clause-sounds g c = λ script.
+    says_sounds g.M.Ialg.law.meaning g.M.Named.named (widths_of c.args.config.in8 c.args.config.out8) c.args.config.sizes c.args.config.poison _ _ _
+    (λ refused old new. c.headline.ensures.sounds (widths_of c.args.config.in8 c.args.config.out8) c.args.config.sizes c.args.config.poison refused old new)
+    (returns-clause-headline g c script)

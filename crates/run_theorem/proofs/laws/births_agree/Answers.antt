@@ -8,4 +8,4 @@ pub returns : goal.returns
 returns g c = λ kinds one one_after other other_after calls others i j g' h kind p later since leads lawful born leads' lawful' born' same.
     let first = goes kinds one one_after calls i g' kind p later leads lawful born in
     let second = goes kinds other other_after others j h kind p since leads' lawful' born' in
-    (first.outputs ∙ ap (outputs_of kinds kind p) same ∙ sym second.outputs, first.statuses ∙ ap (statuses_of kinds kind p) same ∙ sym second.statuses)
+    (first.gives.outputs ∙ ap (outputs_of kinds kind p) same ∙ sym second.gives.outputs, first.gives.statuses ∙ ap (statuses_of kinds kind p) same ∙ sym second.gives.statuses)

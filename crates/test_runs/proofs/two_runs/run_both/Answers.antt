@@ -32,6 +32,6 @@ returns-clause-agree g c = λ one two.
       agree = c.headline.ensures.two (widths_of c.args.config.in8 c.args.config.out8) (widths_of c.args.other_config.in8 c.args.other_config.out8) _ _ _ _ _ _ _ _ _ _ _ _ first.says second.says;
       granted = λ i j g' h kind p later since lawful born lawful' born' control before rest answer at other_before other_rest other_answer other_at.
           refused_alike g.M.Ialg.law.meaning kind p _ _ control answer other_answer
-          ((first.says.each i kind g' p later lawful born).controls before rest control answer at)
-          ((second.says.each j kind h p since lawful' born').controls other_before other_rest control other_answer other_at);
+          ((first.says.each i kind g' p later lawful born).gives.controls before rest control answer at)
+          ((second.says.each j kind h p since lawful' born').gives.controls other_before other_rest control other_answer other_at);
     })

@@ -1,0 +1,69 @@
+//! Sums of products that don't saturate, as halves of G.191's sums, whose products are doubled.
+ghost use Rattle.std.specs.Prelude.{◌≡◌, ◌≤◌, ◌<◌, ◌^◌, ◌+ℤ◌, ◌*ℤ◌, pos, true, unsigned_abs, IfSome};
+ghost use Rattle.basic_op.specs.Operators.{l_mult_of, l_mac_of, l_msu_of, l_shl_of, round_of};
+ghost use Rattle.alg_biquad.specs.Halves.{AreAboveLeast, IsHalfOf};
+
+/// Halves of sums are less than this in magnitude: twice of them a Word32 has.
+const LIMIT: i32 = 1 << 30;
+
+/// The bits by which a half sum is longer than a word, and half of what the last of them stands for.
+const HALF_BITS: u32 = 14;
+
+const HALF_STEP: i32 = 1 << 13;
+
+/// Whether no coefficient is the least word: then no product saturates.
+pub(crate) fn are_above_least(coefficients: &[i16]) -> bool
+    ensures { result ≡ true → AreAboveLeast coefficients.now }
+{
+    coefficients.iter().all(|c| *c != i16::MIN)
+}
+
+/// Half of the product that G.191's `L_mult` gives.
+#[inline]
+pub(crate) fn half_product(c: i16, v: i16) -> i32
+    requires { unsigned_abs c ≤ 32767 }
+    ensures { IsHalfOf result (l_mult_of c v) }
+{
+    i32::from(c) * i32::from(v)
+}
+
+/// The half sum, where it is less than the limit.
+#[inline]
+fn within(sum: i32) -> Option<i32>
+    ensures { IfSome result (λ s. (s ≡ sum) × (unsigned_abs s < 2 ^ 30)) }
+{
+    if -LIMIT < sum && sum < LIMIT {
+        Some(sum)
+    } else {
+        None
+    }
+}
+
+/// Half of what G.191's `L_mac` gives, and None where that saturates.
+#[inline]
+pub(crate) fn plus_product(sum: i32, c: i16, v: i16) -> Option<i32>
+    requires above { unsigned_abs c ≤ 32767 }
+    requires small { unsigned_abs sum < 2 ^ 30 }
+    ensures { IfSome result (λ s. IsHalfOf s (l_mac_of (sum +ℤ sum) c v)) }
+{
+    within(sum + half_product(c, v))
+}
+
+/// Half of what G.191's `L_msu` gives, and None where that saturates.
+#[inline]
+pub(crate) fn less_product(sum: i32, c: i16, v: i16) -> Option<i32>
+    requires above { unsigned_abs c ≤ 32767 }
+    requires small { unsigned_abs sum < 2 ^ 30 }
+    ensures { IfSome result (λ s. IsHalfOf s (l_msu_of (sum +ℤ sum) c v)) }
+{
+    within(sum - half_product(c, v))
+}
+
+/// The sum in Q15, rounded and limited once, in place of a doubling, a shift and a sum that are limited each.
+#[inline]
+pub(crate) fn rounded(half: i32) -> i16
+    requires { unsigned_abs half < 2 ^ 30 }
+    ensures { result ≡ round_of (l_shl_of (pos 2 *ℤ half) (pos 1)) }
+{
+    ((half + HALF_STEP) >> HALF_BITS).clamp(i32::from(i16::MIN), i32::from(i16::MAX)) as i16
+}
