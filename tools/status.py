@@ -2,8 +2,9 @@
 # SPDX-License-Identifier: Apache-2.0
 """Makes docs/STATUS.md out of what the last whole `./check` kept in out/check: what passed, of which commit, and what it took.
 
-    tools/status.py            writes docs/STATUS.md
-    tools/status.py --print    prints it
+    tools/status.py                     writes docs/STATUS.md
+    tools/status.py --print             prints it
+    tools/status.py .. --beside TEXT    with a row on what ran beside it, which no log knows
 
 Beside it stands what was run by name there, such as `./check long_scripts`. It refuses a run in which a part failed or was left out, or of
 which the proofs' log is missing.
@@ -11,6 +12,7 @@ which the proofs' log is missing.
 
 from __future__ import annotations
 
+import argparse
 import json
 import re
 import sys
@@ -72,8 +74,8 @@ def by_name(runs: dict[str, dict]) -> list[str]:
     ]
 
 
-def page(summary: dict, log: str, runs: dict[str, dict]) -> str:
-    """The text of docs/STATUS.md: of a whole run, of its log, and of the parts that were run by name."""
+def page(summary: dict, log: str, runs: dict[str, dict], beside: str = "nothing was told of") -> str:
+    """The text of docs/STATUS.md: of a whole run, of its log, of the parts that were run by name, and of what ran beside it."""
     rows, parts = rows_of(log), summary["parts"]
     passed = sum(part["passed"] for part in parts.values())
     edits = sum(len(row.refused) for row in rows.values())
@@ -91,7 +93,9 @@ def page(summary: dict, log: str, runs: dict[str, dict]) -> str:
         f"| commit | `{summary['commit']}`{', with changes that were not committed' if summary['changed'] else ''} |",
         f"| ended | {summary['ended']} |",
         f"| kit | {summary['kit']} |",
+        f"| machine | {summary.get('machine', 'not told')} |",
         f"| processors | {summary['processors']} |",
+        f"| ran beside it | {beside} |",
         f"| minutes | {sum(part['minutes'] for part in parts.values()):.1f} |",
         f"| last line | {passed} passed, 0 failed |",
         f"| crates proved | {len(rows)} |",
@@ -116,6 +120,10 @@ def page(summary: dict, log: str, runs: dict[str, dict]) -> str:
 
 
 def main() -> int:
+    asked = argparse.ArgumentParser(prog="status", description=__doc__.splitlines()[0])
+    asked.add_argument("--print", action="store_true", help="print the page")
+    asked.add_argument("--beside", default="nothing was told of", metavar="TEXT", help="what ran beside the whole run")
+    words = asked.parse_args()
     try:
         summary = json.loads((LOGS / "summary.json").read_text())
         log = (LOGS / "proofs.log").read_text(encoding="utf-8", errors="replace")
@@ -128,8 +136,8 @@ def main() -> int:
     if bad or "proofs" not in summary["parts"]:
         print(f"status: not a whole run in which all passed: {', '.join(bad) or 'the proofs were left out'}", file=sys.stderr)
         return 1
-    text = page(summary, log, runs)
-    if "--print" in sys.argv[1:]:
+    text = page(summary, log, runs, words.beside)
+    if words.print:
         print(text, end="")
     else:
         (TOP / "docs" / "STATUS.md").write_text(text)
