@@ -93,6 +93,7 @@ class Wrapper(unittest.TestCase):
         (self.bin / "rt").write_text(RT.replace("dsp_console_main", "gateway_console"))
         ran = subprocess.run([sys.executable, self.top / "gateway_console", "a"], cwd=self.room, env={**os.environ, "PATH": f"{self.bin}:/usr/bin:/bin", "CALLS": str(self.calls), "KIT_HERE": KIT}, capture_output=True, text=True)
         self.assertEqual((ran.stdout, ran.returncode), ("first a\n", 3), ran.stderr)
+        self.assertTrue(all(line.startswith("gateway_console: ") for line in ran.stderr.splitlines()), ran.stderr)
 
     def test_the_second_call_runs_alone(self) -> None:
         self.run_it("a")
