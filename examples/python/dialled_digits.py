@@ -2,11 +2,14 @@
 # SPDX-License-Identifier: Apache-2.0
 """The digits that were dialled in files of 8,000 samples a second, one line for each file.
 
-    dialled_digits.py [IN ..]       up to sixteen; without files it dials 0 to 9 itself, behind a dial tone
+    dialled_digits.py [--picture PICTURE] [IN ..]   up to sixteen; without files it dials 0 to 9 itself, behind a dial tone
+
+The picture shows the first file: its samples, and above them the digit of each frame of the detector. It ends in .svg, .png or .pdf.
 """
 
 from __future__ import annotations
 
+import argparse
 import sys
 from pathlib import Path
 
@@ -33,14 +36,36 @@ def dialled(keys: str) -> np.ndarray:
     return rokdaum.samples.from_floats(np.concatenate([*parts, sines((), 0.1)]))
 
 
-def main(files: list[str]) -> int:
+def draw(path: str, receiver: rokdaum.design.Digits, samples: np.ndarray, codes: np.ndarray) -> None:
+    """Draws samples over time, and above them the codes: a digit where it is heard in frames one after the other."""
+    axes = rokdaum.plot.new_axes()
+    axes.plot(np.arange(len(samples)) / RATE, samples, linewidth=0.3)
+    frame = len(samples) / max(len(codes), 1) / RATE
+    begins = np.flatnonzero(np.diff(codes, prepend=-1))
+    for begin, end in zip(begins, [*begins[1:], len(codes)]):
+        if codes[begin] >= 0:
+            axes.text((begin + end) / 2 * frame, 16_000, rokdaum.design.KEYS[codes[begin]], ha="center")
+    axes.set(xlabel="s", ylabel="sample", ylim=(-20_000, 20_000), title=f"dialled: {receiver.dialled(codes)}")
+    rokdaum.plot.save(axes, path)
+
+
+def main(words: list[str]) -> int:
     """Hears each file in an instance of its own."""
+    asked = argparse.ArgumentParser(description=__doc__, formatter_class=argparse.RawDescriptionHelpFormatter)
+    asked.add_argument("--picture")
+    asked.add_argument("files", nargs="*")
+    given = asked.parse_args(words)
     receiver = rokdaum.design.dtmf()
-    heard = [rokdaum.samples.read(it)[0] for it in files] or [dialled("0123456789")]
-    with rokdaum.Host() as host:
-        for samples in heard:
-            line = host.chain(host.create("dtmf", params=receiver))
-            print(receiver.dialled(line.feed(samples)))
+    try:
+        heard = [rokdaum.samples.read(it)[0] for it in given.files] or [dialled("0123456789")]
+        with rokdaum.Host() as host:
+            found = [host.chain(host.create("dtmf", params=receiver)).feed(samples) for samples in heard]
+        if given.picture:
+            draw(given.picture, receiver, heard[0], found[0])
+    except (rokdaum.RokdaumError, OSError) as why:
+        print(f"dialled_digits.py: {why}", file=sys.stderr)
+        return 1
+    print(*map(receiver.dialled, found), sep="\n")
     return 0
 
 

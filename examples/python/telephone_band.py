@@ -2,7 +2,8 @@
 # SPDX-License-Identifier: Apache-2.0
 """The telephone band, 300 to 3,400 Hz, of a WAV file of 8,000 samples a second, and the gain that was heard beside the designed one.
 
-    telephone_band.py [IN.wav OUT.wav]      without files the input is noise, and nothing is written
+    telephone_band.py [IN.wav OUT.wav] [PICTURE]    without files the input is noise, and none is written; the picture shows both gains,
+                                                    in a file that ends in .svg, .png or .pdf
 """
 
 from __future__ import annotations
@@ -25,11 +26,21 @@ def power(samples: np.ndarray) -> np.ndarray:
     return (np.abs(np.fft.rfft(segments)) ** 2).mean(axis=0)
 
 
-def main(files: list[str]) -> int:
-    """Filters, and prints the gains."""
-    if len(files) not in (0, 2):
+def draw(path: str, rate: float, heard: np.ndarray, band: rokdaum.design.Biquads) -> None:
+    """Draws the gain that was heard over the response of the words and the designed one."""
+    axes = rokdaum.plot.response(band)
+    axes.plot(np.arange(len(heard))[::4] * rate / SEGMENT, heard[::4], label="heard", marker="o", markersize=3, linestyle="none")
+    axes.set(title="the telephone band, 300 to 3,400 Hz", ylim=(-60, 5))
+    axes.legend()
+    rokdaum.plot.save(axes, path)
+
+
+def main(words: list[str]) -> int:
+    """Filters, prints the gains, and draws them."""
+    if len(words) > 3:
         print(__doc__, file=sys.stderr)
         return 2
+    files, pictures = (words[:2], words[2:]) if len(words) > 1 else ([], words)
     try:
         given, rate = rokdaum.samples.read(files[0]) if files else (np.random.default_rng(1).integers(-8000, 8001, 80_000).astype(np.int16), 8000)
         band = rokdaum.design.band(300, 3400, rate=rate or 8000)
@@ -37,12 +48,14 @@ def main(files: list[str]) -> int:
             out = host.chain(*host.create_all(band)).feed(given)
         if files:
             rokdaum.samples.write(files[1], out, rate or 8000)
+        if len(given) < SEGMENT:
+            return 0
+        heard = 10 * np.log10(np.maximum(power(out), 1) / np.maximum(power(given), 1))
+        for picture in pictures:
+            draw(picture, rate or 8000, heard, band)
     except (rokdaum.RokdaumError, OSError) as why:
         print(f"telephone_band.py: {why}", file=sys.stderr)
         return 1
-    if len(given) < SEGMENT:
-        return 0
-    heard = 10 * np.log10(np.maximum(power(out), 1) / np.maximum(power(given), 1))
     bins = np.round(np.array(FREQUENCIES) * SEGMENT / (rate or 8000)).astype(int)
     print("     Hz  heard dB  designed dB")
     for frequency, one, wanted in zip(FREQUENCIES, heard[bins], rokdaum.design.decibels(band.designed_response(FREQUENCIES))):

@@ -15,6 +15,7 @@ import sys
 import tempfile
 import threading
 from collections.abc import Callable
+from pathlib import Path
 from unittest import mock
 
 from library_case import PYTHON, REPOSITORY, LibraryCase
@@ -30,6 +31,7 @@ from rokdaum_model import operators as model
 from rokdaum_model.gateway import GATEWAY
 from rokdaum_model.sets import GATEWAY_SET
 
+EXAMPLES = REPOSITORY / "examples" / "python"
 SEED = os.environ.get("SEED", "1")
 # What memory of the process may grow by, in bytes, where nothing is leaked: less than one host takes, or a thousandth of what would leak.
 GROWTH = 400_000
@@ -504,32 +506,77 @@ class Finding(LibraryCase):
 
 
 class Examples(LibraryCase):
+    """The examples in Python, run as their first lines say. The picture that stands beside each is what it draws."""
+
     def said(self, name: str, *words: str) -> list[str]:
         """The lines that an example prints; it ends with status 0."""
-        done = subprocess.run([sys.executable, "-B", str(REPOSITORY / "examples" / "python" / name), *words], capture_output=True, text=True, check=False)
+        done = subprocess.run([sys.executable, "-B", str(EXAMPLES / name), *words], capture_output=True, text=True, check=False)
         self.assertEqual((done.returncode, done.stderr), (0, ""))
         return done.stdout.splitlines()
+
+    def look_at(self, drawn: str) -> None:
+        """What was drawn is the picture that is kept, but for how letters and lines are smoothed."""
+        try:
+            from matplotlib.image import imread
+        except ImportError:
+            self.fail("matplotlib isn't installed")
+        made, kept = imread(drawn), imread(EXAMPLES / Path(drawn).name)
+        self.assertEqual(made.shape, kept.shape)
+        self.assertLess(np.abs(made - kept).mean(), 0.02)
 
     def test_telephone_band(self) -> None:
         with tempfile.TemporaryDirectory(prefix="rokdaum-test-") as room:
             rokdaum.samples.write(f"{room}/in.wav", noise(80_000, 2))
-            for words in ((), (f"{room}/in.wav", f"{room}/out.wav")):
+            picture = f"{room}/telephone_band.png"
+            for words in ((picture,), (f"{room}/in.wav", f"{room}/out.wav"), (f"{room}/in.wav", f"{room}/out.wav", f"{room}/own.svg")):
                 for line in self.said("telephone_band.py", *words)[1:]:
                     _, heard, designed = map(float, line.split())
                     self.assertAlmostEqual(heard, designed, delta=1)
             self.assertEqual(rokdaum.samples.read(f"{room}/out.wav")[0].shape, (80_000,))
+            self.assertGreater(os.path.getsize(f"{room}/own.svg"), 10_000)
+            self.look_at(picture)
 
     def test_dialled_digits(self) -> None:
-        self.assertEqual(self.said("dialled_digits.py"), ["0123456789"])
         with tempfile.TemporaryDirectory(prefix="rokdaum-test-") as room:
+            self.assertEqual(self.said("dialled_digits.py", "--picture", f"{room}/dialled_digits.png"), ["0123456789"])
+            self.look_at(f"{room}/dialled_digits.png")
             for name, keys in (("a.wav", "12*#"), ("b.raw", "99")):
                 rokdaum.samples.write(f"{room}/{name}", np.concatenate([np.zeros(1000, np.int16), keypad(keys)]))
             self.assertEqual(self.said("dialled_digits.py", f"{room}/a.wav", f"{room}/b.raw"), ["12*#", "99"])
 
+    def test_dialled_digits_over_ten_minutes(self) -> None:
+        keys = "".join(np.random.default_rng(list(SEED.encode())).choice(list(design.KEYS), 5_000))
+        with tempfile.TemporaryDirectory(prefix="rokdaum-test-") as room:
+            samples = keypad(keys)
+            self.assertEqual(len(samples), 600 * 8_000)
+            rokdaum.samples.write(f"{room}/long.wav", samples)
+            self.assertEqual(self.said("dialled_digits.py", f"{room}/long.wav"), [keys])
+
+    def test_companding(self) -> None:
+        """Both laws keep the ratio over 30 dB; what is heard is what the blocks of G.711 without a host give."""
+        with tempfile.TemporaryDirectory(prefix="rokdaum-test-") as room:
+            said = self.said("companding.py", f"{room}/companding.png")
+            self.look_at(f"{room}/companding.png")
+        rows = {int(line.split()[0]): [float(it) for it in line.split()[1:]] for line in said[1:]}
+        for law in (0, 1):
+            self.assertLess(max(rows[level][law] for level in (0, -10, -20, -30)) - min(rows[level][law] for level in (0, -10, -20, -30)), 5)
+        self.assertGreater(rows[0][2] - rows[-30][2], 25)
+        sent = rokdaum.samples.from_floats(0.1 * np.sin(2 * np.pi * 1020 / 8000 * np.arange(8000)))
+        for law, name in enumerate(("mu", "a")):
+            added = g711.decode(g711.encode(sent, name), name).astype(float) - sent
+            self.assertAlmostEqual(10 * np.log10((sent.astype(float) ** 2).sum() / (added**2).sum()), rows[-20][law], delta=0.06)
+
+    def test_live_line(self) -> None:
+        with tempfile.TemporaryDirectory(prefix="rokdaum-test-") as room:
+            said = self.said("live_line.py", "measure", "2", f"{room}/live_line.png")
+            self.assertGreater(os.path.getsize(f"{room}/live_line.png"), 10_000)
+        self.assertEqual(said[-1], "the samples are those of one feed")
+        self.assertEqual(said[0].split(" ms ")[0], "100 blocks of 20")
+
     def test_sixteen_lines(self) -> None:
         with tempfile.TemporaryDirectory(prefix="rokdaum-test-") as room:
-            said = self.said("sixteen_lines.py", f"{room}/picture.png")
-            self.assertGreater(os.path.getsize(f"{room}/picture.png"), 10_000)
+            said = self.said("sixteen_lines.py", f"{room}/sixteen_lines.png")
+            self.look_at(f"{room}/sixteen_lines.png")
         self.assertEqual(said[-1], "the outputs are the same")
         self.assertEqual([line.split(", ")[0] for line in said[:2]], ["8 scratch groups: 8704 words of daram", "1 scratch group: 1088 words of daram"])
 
