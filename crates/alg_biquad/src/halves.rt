@@ -6,9 +6,10 @@ ghost use Rattle.alg_biquad.specs.Halves.{AreAboveLeast, IsHalfOf};
 /// Halves of sums are less than this in magnitude: twice of them a Word32 has.
 const LIMIT: i32 = 1 << 30;
 
-/// The bits by which a half sum is longer than a word, and half of what the last of them stands for.
+/// The bits by which a half sum is longer than a word.
 const HALF_BITS: u32 = 14;
 
+/// Half of the least step of a word, in a half sum: what is added before it is cut to a word.
 const HALF_STEP: i32 = 1 << 13;
 
 /// Whether no coefficient is the least word: then no product saturates.

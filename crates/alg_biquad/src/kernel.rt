@@ -87,16 +87,19 @@ fn plain_output(c: &[i16], state: State, x: i16) -> Option<i16>
     Some(rounded(sum))
 }
 
-/// The output at the sample `x`, in Q15: by plain sums where the coefficients allow it and no step saturates.
+/// The output at the sample `x`, in Q15: by plain sums as long as `plain` says so. Where a step saturates, others soon will, and each try costs
+/// a guess of the processor's: `plain` is false from then on.
 #[inline]
-fn output(c: &[i16], above: bool, state: State, x: i16) -> i16
+fn output(c: &[i16], plain: &mut bool, state: State, x: i16) -> i16
     requires five { length c.now ≡ COEFFICIENTS }
-    requires above { above ≡ true → AreAboveLeast c.now }
-    ensures { result ≡ biquad_value (word_at c.now) x state.x1 state.x2 state.y1 state.y2 }
+    requires above { plain.old ≡ true → AreAboveLeast c.now }
+    ensures value { result ≡ biquad_value (word_at c.now) x state.x1 state.x2 state.y1 state.y2 }
+    ensures plain { plain.new ≡ true → plain.old ≡ true }
 {
-    if above && let Some(y) = plain_output(c, state, x) {
+    if *plain && let Some(y) = plain_output(c, state, x) {
         return y;
     }
+    *plain = false;
     limited_output(c, state, x)
 }
 
@@ -110,10 +113,10 @@ pub(crate) fn filter(coefficients: &[i16], state: &mut [i16], input: &[i16], out
     ensures law { (p : List ℤ) (h : History) → coefficients.now ≡ words_in_force p h → state.old ≡ state_after p h
         → Ran p h input.now state.new out.new.items }
 {
-    let above = are_above_least(coefficients);
+    let mut plain = are_above_least(coefficients);
     let mut newest = State::read(state);
     for x in input {
-        let y = output(coefficients, above, newest, *x);
+        let y = output(coefficients, &mut plain, newest, *x);
         newest = newest.after(*x, y);
         out.push(y);
     }
