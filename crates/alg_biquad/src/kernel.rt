@@ -1,9 +1,10 @@
 //! The filter over plain words.
-ghost use Rattle.std.specs.Prelude.{◌≡◌, ◌≤◌, ◌∷◌, ℤ, true, List, [], length, IfSome};
+ghost use Rattle.std.specs.Prelude.{◌≡◌, ◌≤◌, ◌<◌, ◌∷◌, ℕ, ℤ, List, [], length, take, FitsSigned, IfSome};
+ghost use Rattle.std.specs.Int.{w16};
 ghost use Rattle.ialg.specs.History.{History, word_at, words_in_force};
 ghost use Rattle.alg_biquad.specs.Equation.{biquad_value};
 ghost use Rattle.alg_biquad.specs.Halves.{AreAboveLeast};
-ghost use Rattle.alg_biquad.specs.Keeps.{state_after, Ran};
+ghost use Rattle.alg_biquad.specs.Keeps.{state_after, Gives, IsNewest, Ran};
 
 use crate::halves::{are_above_least, half_product, less_product, plus_product, rounded};
 use crate::{COEFFICIENTS, STATE_WORDS};
@@ -87,23 +88,38 @@ fn plain_output(c: &[i16], state: State, x: i16) -> Option<i16>
     Some(rounded(sum))
 }
 
-/// The output at the sample `x`, in Q15: by plain sums as long as `plain` says so. Where a step saturates, others soon will, and each try costs
-/// a guess of the processor's: `plain` is false from then on.
-#[inline]
-fn output(c: &[i16], plain: &mut bool, state: State, x: i16) -> i16
-    requires five { length c.now ≡ COEFFICIENTS }
-    requires above { plain.old ≡ true → AreAboveLeast c.now }
-    ensures value { result ≡ biquad_value (word_at c.now) x state.x1 state.x2 state.y1 state.y2 }
-    ensures plain { plain.new ≡ true → plain.old ≡ true }
+/// Runs samples as long as no step saturates: there are as many outputs. Gives the state after them.
+fn run_plain(coefficients: &[i16], state: State, input: &[i16], out: &mut Block) -> State
+    requires five { length coefficients.now ≡ COEFFICIENTS }
+    requires above { AreAboveLeast coefficients.now }
+    requires within { length input.now ≤ BLOCK_SAMPLES }
+    requires empty { out.old.items ≡ [] }
+    ensures count { length out.new.items ≤ length input.now }
+    ensures fit { (k : ℕ) → k < length out.new.items → FitsSigned w16 (word_at input.now k) }
+    ensures law { (p : List ℤ) (h : History) → coefficients.now ≡ words_in_force p h → IsNewest p h state
+        → Gives p h (take (length out.new.items) input.now) result out.new.items }
 {
-    if *plain && let Some(y) = plain_output(c, state, x) {
-        return y;
+    // A copy: the caller's words would be read anew at each sample, since the output might lie over them.
+    let own = [
+        coefficients[0],
+        coefficients[1],
+        coefficients[2],
+        coefficients[3],
+        coefficients[4],
+    ];
+    let mut newest = state;
+    for x in input {
+        let Some(y) = plain_output(&own, newest, *x) else {
+            break;
+        };
+        newest = newest.after(*x, y);
+        out.push(y);
     }
-    *plain = false;
-    limited_output(c, state, x)
+    newest
 }
 
-/// Runs the filter over a block; `state` has the two newest samples and outputs before and after.
+/// Runs the filter over a block; `state` has the two newest samples and outputs before and after. Where a step saturates, others soon will:
+/// the rest of the block is run with a limit at each step.
 pub(crate) fn filter(coefficients: &[i16], state: &mut [i16], input: &[i16], out: &mut Block)
     requires five { length coefficients.now ≡ COEFFICIENTS }
     requires four { length state.old ≡ STATE_WORDS }
@@ -113,10 +129,13 @@ pub(crate) fn filter(coefficients: &[i16], state: &mut [i16], input: &[i16], out
     ensures law { (p : List ℤ) (h : History) → coefficients.now ≡ words_in_force p h → state.old ≡ state_after p h
         → Ran p h input.now state.new out.new.items }
 {
-    let mut plain = are_above_least(coefficients);
     let mut newest = State::read(state);
-    for x in input {
-        let y = output(coefficients, &mut plain, newest, *x);
+    if are_above_least(coefficients) {
+        newest = run_plain(coefficients, newest, input, out);
+    }
+    let rest = &input[out.len()..];
+    for x in rest {
+        let y = limited_output(coefficients, newest, *x);
         newest = newest.after(*x, y);
         out.push(y);
     }

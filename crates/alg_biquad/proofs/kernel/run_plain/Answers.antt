@@ -1,0 +1,37 @@
+use Rattle.std.proofs.Common.{◌≡◌, ◌+◌, List, ℕ, ℤ, take, length, add-one, rules, ap, ◌∙◌, subst, sym}
+use Rattle.std.proofs.lemmas.Int.{to_z-of_z}
+use mir.Val.{SFits, to_z, of_z}
+use mir.Syntax.{w16}
+use Rattle.ialg.specs.History.{word_at}
+use Rattle.ialg.proofs.Histories.{fits_more}
+use Rattle.alg_biquad.specs.Equation.{biquad_value}
+use Rattle.alg_biquad.specs.Keeps.{Gives}
+use Rattle.alg_biquad.proofs.Steps.{gives_more}
+use Rattle.alg_biquad.proofs.kernel.run_plain.Goals as goal
+
+pub loop-x-preserved : goal.loop-x-preserved
+loop-x-preserved c =
+    let cs = c.args.coefficients.now in
+    let xs = c.args.input.now in
+    let i = c.loop-x.x-index in
+    let y = c.in-Some.y in
+    let fx : SFits w16 (word_at xs i) = search rules in
+    let fy : SFits w16 y = search rules in
+    let ex : to_z w16 (of_z w16 (word_at xs i)) ≡ word_at xs i = to_z-of_z w16 (word_at xs i) fx in
+    let ey : to_z w16 (of_z w16 y) ≡ y = to_z-of_z w16 y fy in
+    let s = c.loop-x.newest in
+    let own : (k : ℕ) → SFits w16 (word_at cs k) → to_z w16 (of_z w16 (word_at cs k)) ≡ word_at cs k = λ k. to_z-of_z w16 (word_at cs k) in
+    let value : y ≡ biquad_value (word_at cs) (word_at xs i) s.x1 s.x2 s.y1 s.y2 =
+    rw (ex, own 0 (search rules), own 1 (search rules), own 2 (search rules), own 3 (search rules), own 4 (search rules)) at c.in-Some.ensures in
+    let pushed = rw ey at c.push.ensures.items in
+    let after = c.after-newest.ensures in
+    record {
+      count = c.push.ensures.len ∙ ap (λ n. n + 1) c.loop-x.invariant.count;
+      fit = fits_more xs i c.loop-x.invariant.fit fx;
+      ran = λ p h in_force newest.
+          let more = gives_more p h cs xs c.loop-x.out.items i s c.after-newest.result y
+          c.loop-x-test.true in_force (c.loop-x.invariant.ran p h in_force newest) value
+          (after.x1 ∙ ex) after.x2 (after.y1 ∙ ey) after.y2 in
+          let P : List ℤ → Type 0 = λ ys. Gives p h (take (i + 1) xs) c.after-newest.result ys in
+          subst P (sym pushed) (rw add-one more);
+    }
