@@ -16,9 +16,11 @@ mod rooms;
 mod row;
 #[cfg(test)]
 mod scripts;
+mod sounds;
 mod two_runs;
 
 pub use beside::run_beside;
 pub use rooms::room_rows;
 pub use row::run_row;
+pub use sounds::sound_rows;
 pub use two_runs::{Ports, run_both};
