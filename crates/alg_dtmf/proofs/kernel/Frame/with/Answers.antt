@@ -1,0 +1,31 @@
+use Rattle.std.proofs.Common.{◌≡◌, ◌∙◌, rules, refl}
+use Rattle.std.proofs.lemmas.Int.{to_z-of_z}
+use mir.Val.{SFits, to_z, of_z}
+use mir.Syntax.{w16, w32}
+use Rattle.alg_dtmf.proofs.kernel.Frame.with.Goals as goal
+
+pub returns-clause-samples : goal.returns-clause-samples
+returns-clause-samples c =
+    let fn : SFits w16 c.args.self.samples = search rules in
+    let en : to_z w16 (of_z w16 c.args.self.samples) ≡ c.args.self.samples = to_z-of_z w16 c.args.self.samples fn in
+    to_z-of_z w16 c.add.result (record { sfits = c.add.type_inv }) ∙ c.add.ensures ∙ rw en refl
+
+pub returns-clause-energy : goal.returns-clause-energy
+returns-clause-energy c =
+    let es : to_z w16 (of_z w16 c.args.shift) ≡ c.args.shift = to_z-of_z w16 c.args.shift c.ranges.shift in
+    let ex : to_z w16 (of_z w16 c.args.x) ≡ c.args.x = to_z-of_z w16 c.args.x c.ranges.x in
+    let fe : SFits w32 c.args.self.energy = search rules in
+    let ee : to_z w32 (of_z w32 c.args.self.energy) ≡ c.args.self.energy = to_z-of_z w32 c.args.self.energy fe in
+    to_z-of_z w32 c.add_square.result (record { sfits = c.add_square.type_inv }) ∙ c.add_square.ensures ∙ rw (es, ex, ee) refl
+
+pub returns-clause-low : goal.returns-clause-low
+returns-clause-low c =
+    let es : to_z w16 (of_z w16 c.args.shift) ≡ c.args.shift = to_z-of_z w16 c.args.shift c.ranges.shift in
+    let ex : to_z w16 (of_z w16 c.args.x) ≡ c.args.x = to_z-of_z w16 c.args.x c.ranges.x in
+    c.lower.ensures ∙ rw (es, ex) refl
+
+pub returns-clause-high : goal.returns-clause-high
+returns-clause-high c =
+    let es : to_z w16 (of_z w16 c.args.shift) ≡ c.args.shift = to_z-of_z w16 c.args.shift c.ranges.shift in
+    let ex : to_z w16 (of_z w16 c.args.x) ≡ c.args.x = to_z-of_z w16 c.args.x c.ranges.x in
+    c.upper.ensures ∙ rw (es, ex) refl
