@@ -21,6 +21,7 @@ returns-in_default-clause-fault g c =
             | then-count-gt0 w' ↦ absurd (search rules)
             | else-count-gt0 w' ↦ omega arith
           ] in
-          takes_nothing before after c.args.octets.now old.waiting old.failed (keeps_none before after c.args.octets.now w.in-Ok.count w.in-Ok.ensures.bytes none)
+          let kept = keeps_none before after c.args.octets.now w.in-Ok.count w.in-Ok.ensures.bytes none in
+          takes_nothing before after c.args.octets.now old.waiting old.failed kept
       | in_default-via-in_default w ↦ takes_nothing before after c.args.octets.now old.waiting old.failed w.in_default.ensures.bytes
     ]

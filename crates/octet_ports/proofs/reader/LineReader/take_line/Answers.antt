@@ -9,7 +9,7 @@ returns-clause-taken g c e =
     (search rules) (search rules) c.self.invariant.few)
 
 pub invariant_of-self : goal.invariant_of-self
-invariant_of-self g c = window_after c.self.inside.buffer c.self.inside.at c.self.inside.end c.self.inside.left c.in-Some.line.now c.self.invariant c.in-Some.ensures
+invariant_of-self g c = let r = c.self.inside in window_after r.buffer r.at r.end r.left c.in-Some.line.now c.self.invariant c.in-Some.ensures
 
 pub returns-in_default-clause-within : goal.returns-in_default-clause-within
 returns-in_default-clause-within g c = let r = c.self.inside in rw (← c.self.view_is) (window r.buffer r.at r.end r.left c.self.invariant).0
