@@ -8,7 +8,8 @@ use Rattle.std.proofs.lemmas.Grind.{common_steps, get_or_default_zero}
 use Rattle.std.proofs.lemmas.List.{append_assoc, drop-drop, drop-take, get_or-take, length-take, take-append-drop}
 use Rattle.std.proofs.Math.Seq.{drop-cons, drop-append-add}
 use Rattle.octet_ports.specs.Ports.{Source}
-use Rattle.octet_ports.specs.Lines.{Ahead, IsNoFeed, LineCame, ahead_of, behind}
+use Rattle.octet_ports.specs.Lines.{Ahead, IsNoFeed, IsWindow, LineCame, ahead_of, behind}
+use Rattle.octet_ports.specs.declared.reader.TheConstants.{BUFFER_OCTETS}
 use Rattle.octet_ports.specs.Readers.{BeginsWith, LineTaken}
 
 pub some_where_feed : (xs : List ℕ) → (All IsNoFeed xs → ⊥) → 0 < length xs
@@ -52,6 +53,21 @@ line_taken most buffer at end left line text order begins same room within =
       front = parts ∙ ap (λ (t : List ℕ). line ++ 10 ∷ t) (sym gone);
       used = omega (arith, few);
     })
+
+-- how many octets are ahead
+pub window : (buffer : List ℕ) (at end left : ℕ) → IsWindow at end left
+    → (length (drop at (take end buffer)) ≤ left) × (length (drop at (take end buffer)) ≤ BUFFER_OCTETS)
+window buffer at end left is =
+    let order = is.order in let within = is.within in let few = is.few in
+    (grind (arith, common_steps), grind (arith, common_steps))
+
+pub window_after : (buffer : List ℕ) (at end left : ℕ) (line : List ℕ) → IsWindow at end left → BeginsWith line (take (end - at) (drop at buffer))
+    → IsWindow (at + (length line + 1)) end (left - (length line + 1))
+window_after buffer at end left line is begins =
+    let size = ap length begins.parts ∙ length-append line (10 ∷ begins.after) in
+    let long = length-take (end - at) (drop at buffer) in
+    let order = is.order in let few = is.few in
+    record { order = omega (arith, size, long); within = is.within; few = omega arith }
 
 -- a line that was taken so came with its line feed
 pub taken_came : {most : ℕ} (line : List ℕ) (old new : Ahead) (source : Source) → LineTaken most line old new

@@ -4,9 +4,10 @@ use Rattle.std.specs.List.{All}
 use Rattle.std.proofs.lemmas.List.{append-nil}
 use Rattle.std.proofs.lemmas.List.Elements.{All-push}
 use Rattle.std.proofs.lemmas.Grind.{common_steps}
+use Rattle.std.proofs.lemmas.Bool.{false≢true}
 use Rattle.std.proofs.lemmas.Bool.Decides.{nat_tests}
-use Rattle.octet_ports.specs.Ports.{Source, Gives}
-use Rattle.octet_ports.specs.Lines.{IsLine, IsNoFeed, LineFails}
+use Rattle.octet_ports.specs.Ports.{Source, Gives, IsAtEnd}
+use Rattle.octet_ports.specs.Lines.{IsLine, IsNoFeed, LineCame, LineFails}
 use Rattle.octet_ports.specs.Readers.{RefusesFor}
 use Rattle.octet_ports.specs.declared.reader.LineFault.{LineFault}
 use Rattle.octet_ports.specs.declared.reader.LineFault.TheVariants.{Port, Limit}
@@ -58,6 +59,28 @@ so_far_more {most} {limit} {left} {new_left} x came line gives e = record {
   line = line;
   gives = gives_more came.gives gives;
   used = let u = came.used in let l = length-append came.octets (x ∷ []) in omega arith;
+}
+
+-- a line feed ends it
+pub line_came : {most limit left new_left : ℕ} {text : List ℕ} {long : Bool} {a b c : Source} (x : ℕ) → LineSoFar most text long limit left a b → x ≡ 10
+    → Gives (x ∷ []) b c → left ≡ new_left + 1 → LineCame most text long false limit new_left a c
+line_came {left = left} {new_left = new_left} x came feed gives e = record {
+  octets = came.octets;
+  line = came.line;
+  gives = gives_more came.gives (rw feed at gives);
+  used = let u = came.used in let l = length-append came.octets (10 ∷ []) in omega arith;
+  at_end = λ bad. absurd (false≢true bad);
+}
+
+-- nothing comes behind it
+pub line_last : {most limit left new_left : ℕ} {text : List ℕ} {long : Bool} {a b c : Source} → LineSoFar most text long limit left a b
+    → Gives [] b c → IsAtEnd c → new_left ≡ left → LineCame most text long true limit new_left a c
+line_last {left = left} {new_left = new_left} came gives at_end e = record {
+  octets = came.octets;
+  line = came.line;
+  gives = gives_more came.gives gives;
+  used = let u = came.used in let l = length-append came.octets [] in omega arith;
+  at_end = λ _. at_end;
 }
 
 -- the input gave out behind it

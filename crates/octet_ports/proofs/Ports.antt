@@ -1,11 +1,11 @@
 -- What ports give and take in several calls.
 use Rattle.std.proofs.Common.{◌≡◌, ℕ, ◌+◌, ◌-◌, ◌≤◌, List, [], ◌++◌, length, take, refl, sym, ap, ◌∙◌, length-append, append_assoc, arith}
 use Rattle.std.proofs.Math.Seq.{take-append-add}
-use Rattle.std.proofs.lemmas.List.{take-append-le}
+use Rattle.std.proofs.lemmas.List.{append-nil, take-append-le}
 use borrow.Rule.Slice.PartMut.{put_mid, post_of}
 use Rattle.std.proofs.lemmas.Grind.{common_steps}
-use Rattle.std.specs.Prelude.{Bool, Option, None, Some}
-use Rattle.std.specs.Io.KnownBytes.{Appends}
+use Rattle.std.specs.Prelude.{Bool, true, Option, None, Some}
+use Rattle.std.specs.Io.KnownBytes.{Appends, Keeps}
 use Rattle.std.proofs.lemmas.Bool.{false≢true}
 use Rattle.octet_ports.specs.Ports.{Source, Sink, Gives, Holds, Waits, Takes, TakesFirst, sink_of, known_to_hold}
 
@@ -35,6 +35,32 @@ takes_appended (Some xs) (Some ys) octets waiting count failed h e = record {
   holds = record { stays = λ honest. honest; taken = λ honest. h };
   waits = record { stays = λ honest. honest; passed = λ honest. let l = length-append xs octets in rw h (omega arith) };
 }
+
+-- the output failed, and took nothing
+pub takes_nothing : (old new : Option (List ℕ)) (octets : List ℕ) (waiting : ℕ) (failed : Bool) → Keeps old new
+    → TakesFirst octets (sink_of old waiting failed) (sink_of new waiting true)
+takes_nothing None new octets waiting failed same = record {
+  count = 0;
+  within = omega arith;
+  first = record {
+    holds = record { stays = λ honest. absurd (false≢true honest); taken = λ honest. absurd (false≢true honest) };
+    waits = record { stays = λ honest. absurd (false≢true honest); passed = λ honest. absurd (false≢true honest) };
+  };
+}
+takes_nothing (Some xs) None octets waiting failed same = absurd same
+takes_nothing (Some xs) (Some ys) octets waiting failed same = record {
+  count = 0;
+  within = omega arith;
+  first = record {
+    holds = record { stays = λ honest. honest; taken = λ honest. same ∙ sym (append-nil xs) };
+    waits = record { stays = λ honest. honest; passed = λ honest. ap (λ held. length held - waiting) same };
+  };
+}
+
+pub keeps_none : (old new : Option (List ℕ)) (octets : List ℕ) (count : ℕ) → Appends old new (take count octets) → count ≡ 0 → Keeps old new
+keeps_none None new octets count appends none = tt
+keeps_none (Some xs) None octets count appends none = absurd appends
+keeps_none (Some xs) (Some ys) octets count appends none = rw none at appends ∙ append-nil xs
 
 pub gives_more : {xs ys : List ℕ} {a b c : Source} → Gives xs a b → Gives ys b c → Gives (xs ++ ys) a c
 gives_more {xs} {ys} {a} {b} {c} g h = record {

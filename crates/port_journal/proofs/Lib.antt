@@ -1,2 +1,3 @@
 pub mod EachLemmas
 pub mod MarkLemmas
+pub mod PassLemmas

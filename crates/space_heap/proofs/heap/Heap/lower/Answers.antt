@@ -1,7 +1,8 @@
 -- The block goes to the start of the free range before it, and the words that it leaves are free.
-use Rattle.std.proofs.Common.{◌≡◌, ℕ, ◌<◌, ◌-◌, ◌+◌, ◌%◌, ◌≤◌, ◌++◌, ◌∷◌, List, length, Option, sym, subst, ap, arith, ◌∙◌}
+use Rattle.std.proofs.Common.{◌≡◌, ◌^◌, min, ℕ, ◌<◌, ◌-◌, ◌+◌, ◌%◌, ◌≤◌, ◌++◌, ◌∷◌, List, length, Option, sym, subst, ap, arith, ◌∙◌}
 use Rattle.space_raw.specs.Span.{Scattered, Span}
-use Rattle.std.specs.Prelude.{ℤ}
+use Rattle.std.specs.Prelude.{ℤ, if◌then◌else◌, ◌==◌}
+use Rattle.std.proofs.lemmas.Grind.{common_steps}
 use Rattle.relocate.specs.Places.{Range, end_of}
 use Rattle.space_heap.specs.Maps.{HeapState, Holds, IsBlock, range_of}
 use Rattle.space_heap.specs.declared.find.Fit.{Fit}
@@ -159,3 +160,16 @@ returns-clause-taken g c =
       free = same_marks words (new g c) (before ++ s g c ∷ after) (new_long g c ∙ long)
           (moved_agrees words before after (in_rest (old g c)) (in_rest (rest g c)) (in_rest (new g c)) (gap g c) (behind g c) (r g c) (s g c) (out g c) (back g c) (start g c) (meeting g c) (size g c) (next g c) (end g c) map.placed same block);
     }
+
+-- what was moved is counted once
+moved_words : (result was old len words place from : ℕ) → result ≡ min (was + len) (2 ^ 64 - 1) → was ≡ old → len ≡ words → place < from
+    → result ≡ min (old + (if place == from then 0 else words)) (2 ^ 64 - 1)
+moved_words result was old len words place from sum same long low = grind (arith, common_steps)
+
+pub returns-clause-slid : goal.returns-clause-slid
+returns-clause-slid g c =
+    let was = ap (λ (v : HeapState). v.slid) c.self.view_is in
+    let long : c.from.result ≡ length c.args.piece.words = c.from.ensures ∙ c.len-len.ensures.value ∙ as_long g c in
+    let low : c.slide-block.result.0.place < c.args.piece.place =
+    let at = c.slide-block.ensures.block.1 ∙ c.carve-gap.ensures.block.1 in let less = c.in-Some.ensures.found.0 in omega arith in
+    moved_words _ _ _ _ _ _ _ c.saturating_add-self-inside.ensures was long low
