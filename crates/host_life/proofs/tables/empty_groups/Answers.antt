@@ -17,7 +17,7 @@ loop-preserved g c = record {
   room = rw c.push_reserved.ensures.capacity c.loop.invariant.room;
   blocks = λ k space.
       rw c.push_reserved.ensures.items
-      (one_more (λ (y : Group). block_in y space ≡ None) c.loop.groups.items c.new.result (λ j. c.loop.invariant.blocks j space) (c.new.ensures.blocks space) k);
+      (one_more (λ (y : Group). block_in y space ≡ None) _ c.new.result (λ j. c.loop.invariant.blocks j space) (c.new.ensures.blocks space) k);
   activity =
       rw c.push_reserved.ensures.items
       (one_more (λ (y : Group). activity_at (y ∷ []) 0 ≡ never_activated) c.loop.groups.items c.new.result c.loop.invariant.activity
