@@ -1,4 +1,4 @@
-use Rattle.std.proofs.Common.{◌≡◌, Bool, true, false, ◌||◌, refl, sym, ◌∙◌}
+use Rattle.std.proofs.Common.{◌≡◌, Bool, true, false, ◌||◌, sym, ◌∙◌}
 use Rattle.host_create.proofs.blocks.replaces_any.Goals.{then-replaces, else-replaces}
 use Rattle.host_create.proofs.blocks.replaces_any.Goals as goal
 

@@ -1,4 +1,4 @@
-use Rattle.std.proofs.Common.{◌≡◌, Bool, true, false, ◌&&◌, refl, sym, ◌∙◌}
+use Rattle.std.proofs.Common.{◌≡◌, Bool, true, false, ◌&&◌, sym, ◌∙◌}
 use Rattle.host_life.proofs.sharers.is_sharer.Goals.{then-are_one, else-are_one}
 use Rattle.host_life.proofs.sharers.is_sharer.Goals as goal
 
