@@ -1,4 +1,4 @@
-use Rattle.std.proofs.Common.{◌≡◌, ◌⊎◌, inl, inr, false, None, sym, ap, ◌∙◌}
+use Rattle.std.proofs.Common.{◌≡◌, ◌⊎◌, Bool, inl, inr, false, None, sym, ap, ◌∙◌}
 use Rattle.host_map.specs.MemoryMap.{blocks_in}
 use Rattle.host_spaces.specs.MemoryMap.{map_of, space_in}
 use Rattle.host_spaces.specs.Pieces.{new_block, with_new}
@@ -8,6 +8,7 @@ use Rattle.host_moves.proofs.Seen.{words_seen}
 use Rattle.host_moves.proofs.Owners.{alike_same, need_alike}
 use Rattle.host_moves.proofs.Rooms.{either}
 use Rattle.host_create.specs.Blocks.{replaced_in}
+use Rattle.host_create.specs.Growth.{activity_grown}
 use Rattle.host_create.proofs.Grown.{grown_stays, placed_stays}
 use Rattle.host_table.proofs.Activities.{poisoned_stays}
 use Rattle.host_create.proofs.Told.{Renewed, need_new, ok_now, poisoned_now, region_of, replaced_at, replaced_owner, stands, told_now, without_replaced_pieces, words_now}
@@ -103,6 +104,19 @@ returns-clause-need g c rs needed =
     need_alike rs (group_at c.put_new_blocks-old.new.groups.items c.args.g) (group_at c.tell_where.new.tables.groups c.args.g) (λ space. alike_same _ _ (c.tell_where.ensures.same.blocks c.args.g space))
     (need_new rs c.args.blocks (group_at c.args.tables.now.groups c.args.g) (group_at c.tables-2.inside.groups.items c.args.g) (group_at c.put_new_blocks-old.new.groups.items c.args.g)
     (λ space. (space_in c.args.spaces.now space).region) ((rw (← c.tables-2.view_is) at c.rest_where.ensures.same).blocks c.args.g) c.put_new_blocks-old.ensures.new needed)
+
+pub returns-clause-activity : goal.returns-clause-activity
+returns-clause-activity g c k =
+    let replaced_is : c.replaces_in-replaced.result ≡ replaced_in c.args.blocks (group_at c.args.tables.now.groups c.args.g) =
+    rw (← c.tables.view_is) c.replaces_in-replaced.ensures in
+    c.tell_where.ensures.activity k ∙ c.put_new_blocks-old.ensures.activity k ∙ (rw (← c.tables-2.view_is) at c.rest_where.ensures.activity) k
+    ∙ ap (λ (t : Bool). activity_grown t c.args.tables.now.groups c.args.g k) replaced_is
+
+pub returns-clause-others : goal.returns-clause-others
+returns-clause-others g c = c.take_out_blocks.ensures.others
+
+pub returns-clause-stays : goal.returns-clause-stays
+returns-clause-stays g c = c.take_out_blocks.ensures.stays
 
 pub returns-clause-map : goal.returns-clause-map
 returns-clause-map g c =

@@ -1,4 +1,4 @@
-use Rattle.std.proofs.Common.{◌≡◌, ℕ, Bool, Option, Ok, inl, sym, ap, ◌∙◌, subst, arith}
+use Rattle.std.proofs.Common.{◌≡◌, ℕ, Bool, Option, Ok, inl, refl, sym, ap, ◌∙◌, subst, arith}
 use Rattle.lifecycle.proofs.Words.{are_new}
 use Rattle.host_map.specs.declared.placed.Owner.TheVariants.{Record}
 use Rattle.host_map.specs.MemoryMap.{blocks_in, renamed}
@@ -20,21 +20,54 @@ use Rattle.host_create.proofs.Begun.{sharable, sharers_stay}
 use Rattle.host_create.proofs.Replaces.{places_are, replaces_is}
 use Rattle.host_create.proofs.starting.start_in_spaces.Goals as goal
 
+pub place-requires-clause-blocks : goal.place-requires-clause-blocks
+place-requires-clause-blocks g c = rw (← c.tables.view_is) at (c.requires.standing.blocks c.args.instance.group)
+
+pub place-requires-clause-records : goal.place-requires-clause-records
+place-requires-clause-records g c k space = c.requires.standing.gone c.args.instance.number k space c.requires.empty
+
 pub place-requires-clause-room : goal.place-requires-clause-room
 place-requires-clause-room g c space =
     let few = c.blocks_are_few.ensures.room (blocks_in (map_of c.args.spaces.now) space) c.args.instance.number (c.maps_have_room.ensures.single c.args.tables.now.instances c.args.tables.now.sharing c.args.tables.now.groups c.args.spaces.now space c.requires.ok c.requires.standing) c.requires.number (λ k. c.requires.standing.gone c.args.instance.number k space c.requires.empty) in
     omega (arith, few)
+
+pub grow-requires-clause-ok : goal.grow-requires-clause-ok
+grow-requires-clause-ok g c = c.requires.ok
+
+pub grow-requires-clause-poisoned : goal.grow-requires-clause-poisoned
+grow-requires-clause-poisoned g c = c.requires.poisoned
+
+pub grow-requires-clause-words : goal.grow-requires-clause-words
+grow-requires-clause-words g c = c.in-Ok.ensures.poison.blocks
 
 pub grow-requires-clause-placed : goal.grow-requires-clause-placed
 grow-requires-clause-placed g c =
     are_placed c.args.instance.number c.args.instance.group c.args.instance.table c.in-Ok.placed.blocks _ _ _ c.args.spaces.now c.place.new.spaces c.requires.empty c.requires.standing (rw (← c.tables.view_is) c.in-Ok.ensures.needed) c.in-Ok.ensures.blocks
     c.in-Ok.ensures.others c.place.ensures.stays
 
+pub begin-requires-clause-ok : goal.begin-requires-clause-ok
+begin-requires-clause-ok g c = c.grow.ensures.ok
+
+pub begin-requires-clause-grown : goal.begin-requires-clause-grown
+begin-requires-clause-grown g c = c.grow.ensures.grown
+
 pub begin-requires-clause-gone : goal.begin-requires-clause-gone
 begin-requires-clause-gone g c j k space none apart =
     c.grow.ensures.others (Record j k) space (not_a_group j k c.args.instance.group)
     ∙ c.in-Ok.ensures.others (Record j k) space (not_a_group j k c.args.instance.group) (λ l. other_instance c.args.instance.number j l k apart)
     ∙ c.requires.standing.gone j k space (none_before (slot_at c.args.tables.now.instances j) (slot_at c.grow.new.tables.instances j) (c.grow.ensures.same j) none)
+
+pub returns-clause-ok : goal.returns-clause-ok
+returns-clause-ok g c = c.begin.ensures.ok
+
+pub returns-clause-standing : goal.returns-clause-standing
+returns-clause-standing g c = c.begin.ensures.standing
+
+pub returns-clause-poisoned : goal.returns-clause-poisoned
+returns-clause-poisoned g c = rw c.begin.ensures.groups c.grow.ensures.poisoned
+
+pub returns-clause-newborn : goal.returns-clause-newborn
+returns-clause-newborn g c = c.begin.ensures.newborn
 
 pub returns-clause-others : goal.returns-clause-others
 returns-clause-others g c j apart =
@@ -106,3 +139,18 @@ returns-in-Err-clause-exact g c =
     let same : ◌≡◌ {A = ℕ → Option ℕ} sharers asked_for = λ t k. (c.listed-list.ensures k ∙ at_sharers k) t in
     ap (created_map (sizes_of c.args.spaces.now) (map_of c.args.spaces.now) c.args.instance.number c.args.instance.group c.args.instance.table) (sym same)
     ∙ c.creations.ensures.refused (sizes_of c.args.spaces.now) (map_of c.args.spaces.now) c.args.instance.number c.args.instance.group c.args.instance.table sharers c.in-Err.space c.in-Err.ensures.exact
+
+pub returns-in-Err-clause-ok : goal.returns-in-Err-clause-ok
+returns-in-Err-clause-ok g c = c.requires.ok
+
+pub returns-in-Err-clause-standing : goal.returns-in-Err-clause-standing
+returns-in-Err-clause-standing g c = rw c.in-Err.ensures.refused c.requires.standing
+
+pub returns-in-Err-clause-poisoned : goal.returns-in-Err-clause-poisoned
+returns-in-Err-clause-poisoned g c = c.requires.poisoned
+
+pub returns-in-Err-clause-stays : goal.returns-in-Err-clause-stays
+returns-in-Err-clause-stays g c = c.place.ensures.stays
+
+pub returns-in-Err-clause-refused : goal.returns-in-Err-clause-refused
+returns-in-Err-clause-refused g c = (refl, c.in-Err.ensures.refused)

@@ -4,7 +4,7 @@ use Rattle.host_spaces.specs.MemoryMap.{map_of}
 use Rattle.host_table.specs.Table.{slot_at, group_of}
 use Rattle.host_life.specs.Sharers.{asked_by}
 use Rattle.host_delete.specs.Ends.{sharers_among, has_members}
-use Rattle.host_delete.proofs.Belonging.{none_left}
+use Rattle.host_delete.proofs.Belonging.{none_left, none_there}
 use Rattle.host_delete.proofs.Blocks.{location_all}
 use Rattle.host_delete.proofs.Ended.{stay_then, sizes_stay, copied_stay, map_with, map_without}
 use Rattle.host_delete.proofs.ends.end_instance.Goals as goal
@@ -44,3 +44,11 @@ returns-else-not-members_left g c =
       copied = copied_stay _ _ c.give_records.ensures.spaces;
       keeps = c.give_records.ensures.keeps;
     }
+
+pub give_blocks-requires-clause-none : goal.give_blocks-requires-clause-none
+give_blocks-requires-clause-none g c = none_there c.tables-2.inside.instances.items c.group_number-g.result (sym c.members_left.ensures ∙ c.if-not-members_left.true)
+
+pub give_blocks-requires-clause-standing : goal.give_blocks-requires-clause-standing
+give_blocks-requires-clause-standing g c =
+    let number_is : c.group_number-g.result ≡ group_of (slot_at c.args.tables.now.instances c.args.i) = rw (← c.tables.view_is) c.group_number-g.ensures in
+    rw number_is (rw (← c.tables-2.view_is) at c.give_records.ensures.standing)

@@ -24,6 +24,18 @@ use Rattle.host_life.proofs.life.end.Given.{Over}
 pub borrow_pieces-shared-requires-clause-owners : goal.borrow_pieces-shared-requires-clause-owners
 borrow_pieces-shared-requires-clause-owners g c = owners_of_slot _ _ _ (steps_beside (c.tables.view_is ∙ c.take_out-g.ensures.emptied.is) c.deactivate.ensures.step).ok _ _ c.take_out-g.ensures.member
 
+pub borrow_pieces-shared-requires-clause-number : goal.borrow_pieces-shared-requires-clause-number
+borrow_pieces-shared-requires-clause-number g c =
+    let i_in = slot_in c.deactivate.new.self.instances c.args.i c.take_out-g.result c.take_out-g.ensures.member in
+    let ok = (steps_beside (c.tables.view_is ∙ c.take_out-g.ensures.emptied.is) c.deactivate.ensures.step).ok in
+    omega (arith, i_in, ok.slot_count, ok.sharing_count)
+
+pub index-requires : goal.index-requires
+index-requires g c =
+    let ok = (steps_beside (c.tables.view_is ∙ c.take_out-g.ensures.emptied.is) c.deactivate.ensures.step).ok in
+    let inside = ok.group_range c.args.i _ c.take_out-g.ensures.member in
+    omega (arith, inside, ok.group_count)
+
 pub end_idle-own-requires-clause-idle : goal.end_idle-own-requires-clause-idle
 end_idle-own-requires-clause-idle g c k =
     idle_in_any c.take_out-g.result.group k c.take_out-g.result.inst (ap slot_active_in (sym c.take_out-g.ensures.member) ∙ c.deactivate.ensures.idle)
@@ -104,6 +116,9 @@ returns-clause-ready g c = record {
       (ok_after_still _ _ _ c.args.i None no_pieces c.hand_on.new.sharing.items (views g c) (held g c) (bare g c) (steps_beside (c.tables.view_is ∙ c.take_out-g.ensures.emptied.is) c.deactivate.ensures.step).ok (inside g c) c.deactivate.ensures.idle refl (λ m at. absurd (none-some m at)));
   poisoned = (steps_beside (c.tables.view_is ∙ c.take_out-g.ensures.emptied.is) c.deactivate.ensures.step).poisoned;
 }
+
+pub returns-clause-gone : goal.returns-clause-gone
+returns-clause-gone g c = rw (← c.tables.view_is) at c.take_out-g.ensures.emptied.there
 
 pub returns-clause-none : goal.returns-clause-none
 returns-clause-none g c = (sees g c).here

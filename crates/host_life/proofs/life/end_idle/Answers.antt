@@ -7,3 +7,6 @@ unreachable-requires g c = none-some 0 (sym (rw c.in-Running.is at (c.requires.i
 
 pub returns-clause-once : goal.returns-clause-once
 returns-clause-once g c = rw c.in-Idling.is c.freed-told.ensures.once
+
+pub returns-clause-own : goal.returns-clause-own
+returns-clause-own g c = rw (c.in-Idling.is, c.finish.ensures) c.freed-told.ensures.same.own

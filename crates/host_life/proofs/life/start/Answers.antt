@@ -22,6 +22,9 @@ use Rattle.host_life.proofs.life.start.Goals as goal
 use Rattle.host_life.proofs.life.start.Goals.{After-put_in}
 use Rattle.host_life.proofs.life.start.Given.{Over}
 
+pub join-requires-clause-count : goal.join-requires-clause-count
+join-requires-clause-count g c = (ok_in c.tables.view_is c.requires.ok).sharing_count
+
 pub join-requires-clause-owners : goal.join-requires-clause-owners
 join-requires-clause-owners g c = owners_of_held c.tables.inside.instances.items c.tables.inside.sharing.items (ok_in c.tables.view_is c.requires.ok).held
 
@@ -35,6 +38,12 @@ join-requires-clause-sharers g c k =
 pub borrow_pieces-seen-requires-clause-owners : goal.borrow_pieces-seen-requires-clause-owners
 borrow_pieces-seen-requires-clause-owners g c = owners_of_all c.join.new.sharing.items c.args.instance.number c.join.ensures.owners (omega (arith, c.requires.number, c.join.ensures.count))
 
+pub borrow_pieces-seen-requires-clause-number : goal.borrow_pieces-seen-requires-clause-number
+borrow_pieces-seen-requires-clause-number g c = omega (arith, c.requires.number, c.join.ensures.count)
+
+pub index-requires : goal.index-requires
+index-requires g c = omega (arith, c.requires.group, (ok_in c.tables.view_is c.requires.ok).group_count)
+
 pub init-idle-requires : goal.init-idle-requires
 init-idle-requires g c =
     let group_is = read_ok_group _ _ _ (ok_in c.tables.view_is c.requires.ok) c.args.instance.group c.requires.group _ c.index.ensures in
@@ -43,6 +52,12 @@ init-idle-requires g c =
           room_at (record { kind = c.args.instance.kind; params = c.args.instance.params; table = c.args.instance.table; own = c.args.own }) _ _ _ _
           (c.borrow_pieces-seen.ensures.pieces ∙ c.join.ensures.pieces) group_is (rw (← c.tables.view_is) at c.requires.fits);
     }
+
+pub give_back_pieces-requires-clause-number : goal.give_back_pieces-requires-clause-number
+give_back_pieces-requires-clause-number g c = omega (arith, c.requires.number, c.join.ensures.count, c.borrow_pieces-seen.ensures.length)
+
+pub put_in-requires-clause-room : goal.put_in-requires-clause-room
+put_in-requires-clause-room g c = omega (arith, c.requires.number, (ok_in c.tables.view_is c.requires.ok).slot_count)
 
 -- the instance has joined its sharers, and was started
 module _ (g : Over) (c : After-put_in g) where

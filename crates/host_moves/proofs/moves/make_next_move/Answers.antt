@@ -1,4 +1,4 @@
-use Rattle.std.proofs.Common.{sym, ap, ◌∙◌, arith}
+use Rattle.std.proofs.Common.{is_some, true≢false, sym, ap, ◌∙◌, arith}
 use Rattle.std.proofs.lemmas.Option.{same_Some}
 use Rattle.host_map.specs.declared.placed.Placed.{Placed}
 use Rattle.host_table.proofs.Changes.{slot_in, owners_of_slot}
@@ -29,8 +29,38 @@ move_own-requires-clause-own g c =
     (next_record _ _ _ c.args.spaces.now c.args.space c.in-Record.i c.in-Record.k (rw (← c.tables.view_is) at c.requires.standing) (c.in-Some.block, (sym c.next_move.ensures.value ∙ c.in-Some.is, c.in-Record.is)))
     (sym c.sees.ensures ∙ c.if-sees.false))
 
+pub move_block-requires-clause-standing : goal.move_block-requires-clause-standing
+move_block-requires-clause-standing g c = c.requires.standing
+
 pub move_block-requires-clause-number : goal.move_block-requires-clause-number
 move_block-requires-clause-number g c =
     let next = sym c.next_move.ensures.value ∙ c.in-Some.is in
     group_number _ _ _ c.args.spaces.now c.args.space c.in-Scratch.g c.in-Some.block.align c.requires.ok c.requires.standing (c.in-Some.block, (next, c.in-Scratch.is))
     (λ b e. ap (λ (x : Placed). x.align) (same_Some b c.in-Some.block (sym e ∙ next)))
+
+pub returns-then-sees-clause-answer : goal.returns-then-sees-clause-answer
+returns-then-sees-clause-answer g c = ap is_some (sym c.in-Some.is ∙ c.next_move.ensures.value)
+
+pub returns-then-sees-clause-moved : goal.returns-then-sees-clause-moved
+returns-then-sees-clause-moved g c told = c.move_once.ensures
+
+pub returns-then-sees-clause-packed : goal.returns-then-sees-clause-packed
+returns-then-sees-clause-packed g c none = absurd (true≢false none)
+
+pub returns-else-sees-clause-answer : goal.returns-else-sees-clause-answer
+returns-else-sees-clause-answer g c = ap is_some (sym c.in-Some.is ∙ c.next_move.ensures.value)
+
+pub returns-else-sees-clause-moved : goal.returns-else-sees-clause-moved
+returns-else-sees-clause-moved g c told = c.move_own.ensures
+
+pub returns-else-sees-clause-packed : goal.returns-else-sees-clause-packed
+returns-else-sees-clause-packed g c none = absurd (true≢false none)
+
+pub returns-in-Scratch-clause-answer : goal.returns-in-Scratch-clause-answer
+returns-in-Scratch-clause-answer g c = ap is_some (sym c.in-Some.is ∙ c.next_move.ensures.value)
+
+pub returns-in-Scratch-clause-moved : goal.returns-in-Scratch-clause-moved
+returns-in-Scratch-clause-moved g c told = c.move_block.ensures
+
+pub returns-in-Scratch-clause-packed : goal.returns-in-Scratch-clause-packed
+returns-in-Scratch-clause-packed g c none = absurd (true≢false none)

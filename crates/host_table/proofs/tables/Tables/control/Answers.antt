@@ -1,4 +1,4 @@
-use Rattle.std.proofs.Common.{◌≡◌, ◌∙◌, sym, true, rules}
+use Rattle.std.proofs.Common.{◌≡◌, ◌∙◌, refl, sym, true, rules}
 use Rattle.ialg.specs.Views.{control_of}
 use Rattle.lifecycle.specs.States.{IsLawful, Accepts}
 use Rattle.host_table.specs.Table.{instance_of}
@@ -30,3 +30,6 @@ returns-clause-status g c histories m at lawful keeps =
 
 pub returns-clause-stays : goal.returns-clause-stays
 returns-clause-stays g c = stays_of (returns-clause-step g c)
+
+pub returns-then-not-accepts-clause-refused : goal.returns-then-not-accepts-clause-refused
+returns-then-not-accepts-clause-refused g c = refl

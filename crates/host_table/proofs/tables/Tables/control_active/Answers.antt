@@ -1,4 +1,4 @@
-use Rattle.std.proofs.Common.{◌≡◌, ℕ, Some, sym, ◌∙◌, refl, ap}
+use Rattle.std.proofs.Common.{rules, arith, ◌≡◌, ◌<◌, ℕ, Some, length, sym, ◌∙◌, refl, ap}
 use Rattle.std.proofs.lemmas.Option.{same_Some, none-some}
 use Rattle.lifecycle.specs.declared.instance.Inst.TheVariants.{Running}
 use Rattle.host_shared.specs.Owners.{HasOwners}
@@ -6,12 +6,40 @@ use Rattle.host_table.specs.Table.{slot_at, group_at, activity_at}
 use Rattle.host_shared.specs.Locations.{shared_at}
 use Rattle.host_table.proofs.Housing.{same_blocks, lawful_before}
 use Rattle.host_shared.proofs.Lent.{put_back}
-use Rattle.host_table.proofs.Changes.{owners_of_slot, read_slot, read_ok_group, known_active, kept_in_slot, fits_in_slot}
+use Rattle.host_table.proofs.Changes.{active_inside, once_inside, owners_of_slot, read_slot, read_ok_group, known_active, kept_in_slot, fits_in_slot}
 use Rattle.host_table.proofs.Activities.{activity_stays}
 use Rattle.host_table.proofs.Stepping.{Change, ok_in, steps_to, steps_after_step}
 use Rattle.host_table.proofs.tables.Tables.control_active.Goals as goal
 use Rattle.host_table.proofs.tables.Tables.control_active.Goals.{After-give_back_pieces}
 use Rattle.host_table.proofs.tables.Tables.control_active.Given.{Over}
+
+pub index_mut-requires : goal.index_mut-requires
+index_mut-requires g c =
+    let inside : c.args.i < length c.self.inside.instances.items = active_inside c.self.inside.instances.items c.args.i _ (rw (← c.self.view_is) at c.requires.active) in
+    search (inside, rules)
+
+pub index_mut-group-requires : goal.index_mut-group-requires
+index_mut-group-requires g c =
+    let ok = ok_in c.self.view_is c.requires.ok in
+    let in_slot = read_slot c.self.inside.instances.items c.args.i _ (rw (← c.self.view_is) at c.requires.active) _ c.index_mut.ensures.value ∙ c.in-Some.is in
+    let inside : c.in-Some.member.group < length c.self.inside.groups.items = let below = ok.group_range c.args.i _ in_slot in omega (arith, below, ok.group_count) in
+    search (inside, rules)
+
+pub unreachable-requires-in-None : goal.unreachable-requires-in-None
+unreachable-requires-in-None g c =
+    let there = rw (← c.self.view_is) at c.requires.active in
+    let empty = read_slot c.self.inside.instances.items c.args.i _ there _ c.index_mut.ensures.value ∙ c.in-None.is in
+    none-some _ (rw empty at there)
+
+pub unreachable-requires : goal.unreachable-requires
+unreachable-requires g c =
+    let there = rw (← c.self.view_is) at c.requires.active in
+    let in_slot = read_slot c.self.inside.instances.items c.args.i _ (rw (← c.self.view_is) at c.requires.active) _ c.index_mut.ensures.value ∙ c.in-Some.is in
+    none-some _ (rw (in_slot, c.in-Idling.is) at there)
+
+pub borrow_pieces-shared-requires-clause-number : goal.borrow_pieces-shared-requires-clause-number
+borrow_pieces-shared-requires-clause-number g c =
+    once_inside _ _ _ (ok_in c.self.view_is c.requires.ok) c.args.i _ (read_slot c.self.inside.instances.items c.args.i _ (rw (← c.self.view_is) at c.requires.active) _ c.index_mut.ensures.value ∙ c.in-Some.is)
 
 pub borrow_pieces-shared-requires-clause-owners : goal.borrow_pieces-shared-requires-clause-owners
 borrow_pieces-shared-requires-clause-owners g c =
@@ -23,6 +51,11 @@ control-status-requires g c =
     let once_is = sym c.borrow_pieces-shared.ensures.pieces in
     let group_is = read_ok_group _ _ _ (ok_in c.self.view_is c.requires.ok) _ ((ok_in c.self.view_is c.requires.ok).group_range c.args.i _ in_slot) _ c.index_mut-group.ensures.value in
     record { fits = fits_in_slot _ _ _ _ _ _ _ _ _ (ok_in c.self.view_is c.requires.ok) in_slot c.in-Running.is refl once_is group_is }
+
+pub give_back_pieces-requires-clause-number : goal.give_back_pieces-requires-clause-number
+give_back_pieces-requires-clause-number g c =
+    let inside = once_inside _ _ _ (ok_in c.self.view_is c.requires.ok) c.args.i _ (read_slot c.self.inside.instances.items c.args.i _ (rw (← c.self.view_is) at c.requires.active) _ c.index_mut.ensures.value ∙ c.in-Some.is) in
+    omega (arith, inside, c.borrow_pieces-shared.ensures.length)
 
 -- the instance is the active member of its group
 module _ (g : Over) (c : After-give_back_pieces g) where
