@@ -21,7 +21,7 @@ rows = record {
     ),
     refl,
   );
-  asks_no_other = λ asked asks.
+  asks_nothing = λ asked asks.
       let first = asks.2 in
       let rest = asks.3 in
       rw (asks.4, first, rest.4, rest.2.1, rest.3) refl;

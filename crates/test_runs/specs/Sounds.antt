@@ -25,5 +25,5 @@ pub record SoundRows : Type 0 where
   pub stays : chained_after {M = Voice} one_chained (Chain 0 (3 ∷ []) (Err Busy)) ≡ one_chained
   -- each member is given what the one before it gave, in the channel's order
   pub asks : AskTheHost ([] ∷ []) calls (Process 2 (pos 8 ∷ []) (pos 4 ∷ []) ∷ Process 0 (pos 4 ∷ []) (pos 2 ∷ []) ∷ Delete 2 (Ok tt) ∷ [])
-  -- and nothing else is asked
-  pub asks_no_other : (asked : List (host_calls.Call Voice)) → AskTheHost ([] ∷ []) (Unchain 0 (Ok tt) ∷ Feed 0 (pos 8 ∷ []) (pos 8 ∷ []) ∷ []) asked → asked ≡ []
+  -- an unchain and a feed without members ask nothing
+  pub asks_nothing : (asked : List (host_calls.Call Voice)) → AskTheHost ([] ∷ []) (Unchain 0 (Ok tt) ∷ Feed 0 (pos 8 ∷ []) (pos 8 ∷ []) ∷ []) asked → asked ≡ []
