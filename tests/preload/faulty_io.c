@@ -9,6 +9,7 @@
  *   FAULT_AT       the number of the call that fails, from 0; absent: none fails
  *   FAULT_ERRNO    its errno; 0 at a write: it takes no byte
  *   FAULT_STAYS    where it is 1, that descriptor's later calls fail as well; else only the one does
+ *   FAULT_CLOSE    the errno of each call of close; absent: none fails
  *   FAULT_REPORT   a file that is told at the end which call failed first, "KIND DESCRIPTOR", where KIND is read,
  *                  write or none, and then, of each descriptor from 0 on, how many bytes were read and how
  *                  often its end was, "BYTES:ENDS"
@@ -24,7 +25,7 @@
 
 static uint64_t state;
 static long calls, fail_at = -1;
-static int shortened, one, failure, stays, failed_descriptor = -1;
+static int shortened, one, failure, stays, at_close, failed_descriptor = -1;
 static const char *kind = "none";
 
 #define DESCRIPTORS 64
@@ -42,6 +43,7 @@ __attribute__((constructor)) static void begin(void) {
     fail_at = number("FAULT_AT", -1);
     failure = (int)number("FAULT_ERRNO", EIO);
     stays = (int)number("FAULT_STAYS", 0);
+    at_close = (int)number("FAULT_CLOSE", 0);
 }
 
 __attribute__((destructor)) static void end(void) {
@@ -106,4 +108,14 @@ ssize_t write(int descriptor, const void *buffer, size_t count) {
         return failure ? -1 : 0;
     }
     return syscall(SYS_write, descriptor, buffer, some_of(count));
+}
+
+/* The descriptor goes in any case, as POSIX has it on Linux. */
+int close(int descriptor) {
+    int status = (int)syscall(SYS_close, descriptor);
+    if (status == 0 && at_close) {
+        errno = at_close;
+        status = -1;
+    }
+    return status;
 }

@@ -3,6 +3,7 @@
 
 from __future__ import annotations
 
+import errno
 import os
 import tempfile
 import unittest
@@ -110,6 +111,13 @@ class ShortCalls(ConsoleCase):
     def test_an_interrupted_read(self) -> None:
         ended = self.run_program("script", "in", "out", environment=self.short(FAULT_AT=1, FAULT_ERRNO=4))
         self.assertEqual((ended.end, ended.replies), (READ_FAILED, b"ok\nok\n"))
+
+    def test_an_error_when_a_file_is_closed(self) -> None:
+        """It isn't seen, as SCRIPTS.md says: what was written stands in OUT."""
+        for error in (errno.EDQUOT, errno.EIO):
+            ended = self.run_program("script", "in", "out", environment=self.short(FAULT_CLOSE=error))
+            self.assertEqual(ended, (0, b"ok\nok\nok 2\nok 1\n", b""))
+            self.assertEqual(self.read("out"), words(1, 2, 3))
 
 
 if __name__ == "__main__":

@@ -9,12 +9,44 @@ import resource
 import signal
 import subprocess
 import unittest
-from typing import Optional
+from typing import Callable, Optional
 
 from console_case import HALF, PATIENCE, PROGRAM, READ_FAILED, WRITE_FAILED, ConsoleCase, words
 
 DONE = b"ok\nok\nok 2\nok 1\n"
 BILLION = 1_000_000_000
+EVERY_COMMAND = b"""\
+create 0 fir 0 16384 8192
+create 1 decim 0 2 16384 16384
+create 2 biquad 1 8192 0 0 0 0
+create 3 tone 1 27980 64 4
+create 4 g711 2 0 0
+create 5 g711 2 1 1
+chain 0 0 2 1
+chain 1 5 4
+feed 0 100
+feed 1 64
+control 0 set 16384 4096
+control 2 get
+control 1 reset
+unchain 1
+delete 5
+create 5 g711 3 1 0
+stat 0
+map daram
+map saram
+map external
+step daram
+compact saram
+compact external
+release 0
+chain 1 5 3
+feed 1 64
+unknown
+"""
+# What docs/SCRIPTS.md says that a run takes, in bytes.
+STACK = 256 * 1024
+ADDRESS_SPACE = 8 * 1024 * 1024
 
 
 class Closed(ConsoleCase):
@@ -169,6 +201,11 @@ class Scripts(ConsoleCase):
         self.assertEqual(self.zeros(BILLION + 1, head, feed + b"\n"), (3, b"ok\nok\nno 1 long\n", READ_FAILED[1]))
 
 
+def under(what: int, limit: int) -> Callable[[], None]:
+    """What gives a run a limit of the system."""
+    return lambda: resource.setrlimit(what, (limit, limit))
+
+
 class Memory(ConsoleCase):
     """What a run takes and gives back."""
 
@@ -184,6 +221,35 @@ class Memory(ConsoleCase):
     def test_a_long_script_takes_no_more(self) -> None:
         lines = b"create 0 fir 0 1\nmap daram\nstat 0\ndelete 0\n"
         self.assertLess(self.most_memory(lines * 50000), self.most_memory(lines) + 512)
+
+    def test_each_access_is_right_and_all_goes_back(self) -> None:
+        """Under valgrind, over every command, each kind and both widths of ports, with a poison word and without one."""
+        ports = self.pairs([words(*range(0, 1000, 7)) * 2, bytes(range(256))])
+        for options in ((), ("--poison=21845",), ("--in8=2", "--out8=2"), ("--daram=0", "--saram=1024")):
+            with self.subTest(options=options):
+                plain = self.run_script(EVERY_COMMAND, *options, *ports)
+                watched = subprocess.run(["valgrind", "-q", "--error-exitcode=99", "--leak-check=full", "--show-leak-kinds=all", "--errors-for-leak-kinds=all",
+                                          PROGRAM, *options, "given", *ports], cwd=self.folder, capture_output=True, timeout=PATIENCE)
+                self.assertEqual((watched.returncode, watched.stdout, watched.stderr), plain)
+
+    def test_a_small_stack(self) -> None:
+        """What SCRIPTS.md says that a run needs suffices for sixteen pairs and the longest lines; with a quarter of it no file is touched."""
+        self.suffices(resource.RLIMIT_STACK, STACK)
+        self.write("old", b"left by an earlier run")
+        self.assertEqual(self.run_program("script", "in", "old", "in", "new", preexec_fn=under(resource.RLIMIT_STACK, STACK // 4)), (-signal.SIGSEGV, b"", b""))
+        self.assertEqual((self.read("old"), self.exists("new")), (b"left by an earlier run", False))
+
+    def test_a_small_address_space(self) -> None:
+        self.suffices(resource.RLIMIT_AS, ADDRESS_SPACE)
+
+    def suffices(self, what: int, limit: int) -> None:
+        """A run over sixteen pairs under the limit is as without it."""
+        ports = self.pairs([words(*range(1024))] * 16)
+        script = b"".join(b"create %d fir 0%s\nchain %d %d\nfeed %d 1024\nmap external\n" % (c, b" 16384" * 64, c, c, c) for c in range(16))
+        script += b"compact daram\n" + b"x" * 1024 + b"\n"
+        free = self.run_script(script, *ports)
+        self.assertEqual((free.status, free.replies.count(b"ok 1024\n")), (1, 16))
+        self.assertEqual(self.run_script(script, *ports, preexec_fn=under(what, limit)), free)
 
 
 if __name__ == "__main__":
