@@ -10,7 +10,7 @@ use Rattle.kind_parts.proofs.Blocks.{GoesOn, one_goes_on, all_goes_on}
 use Rattle.kind_parts.proofs.Frames.{IsFrame, IsFinished, unfinished_frame, frame_goes_on}
 use Rattle.kind_parts.proofs.Joining.{joined_parts}
 use Rattle.alg_dtmf.specs.declared.kernel.Frame.{Frame}
-use Rattle.alg_dtmf.specs.Equation.{frame_length, with_square, energy_of, no_values, next_low, next_high, low_values, high_values, low_levels, high_levels, code_of, frame_code, dtmf_gives}
+use Rattle.alg_dtmf.specs.Equation.{frame_length, gain_of, energy_bits, with_square, energy_of, no_values, next_band, low_factors, high_factors, low_values, high_values, low_levels, high_levels, code_of, frame_code, dtmf_gives}
 use Rattle.alg_dtmf.specs.declared.kernel.Band.{Band}
 use Rattle.alg_dtmf.specs.Keeps.{frame_words, state_after, IsTuned, Ran}
 
@@ -28,9 +28,9 @@ IsDigits p h s = IsFrame (HasFrame (word_at p 1)) (frame_length p) h s
 -- one more sample, and what is told of a frame
 pub record IsGrown (s x : ℤ) (f grown : Frame) : Type 0 where
   pub samples : grown.samples ≡ add_of f.samples (pos 1)
-  pub energy : grown.energy ≡ with_square s x f.energy
-  pub low : grown.low ≡ next_low s x f.low
-  pub high : grown.high ≡ next_high s x f.high
+  pub energy : grown.energy ≡ with_square (energy_bits s) x f.energy
+  pub low : grown.low ≡ next_band low_factors (gain_of s) x f.low
+  pub high : grown.high ≡ next_band high_factors (gain_of s) x f.high
 
 abbrev pub code_at : List ℤ → Frame → ℤ
 code_at p f = code_of p f.energy (low_levels f.low) (high_levels f.high)
@@ -58,9 +58,9 @@ grown_frame : (s x : ℤ) (n : ℕ) (xs : List ℤ) (f grown : Frame) → n < 12
     → HasFrame s (n + 1) (take (n + 1) (x ∷ xs)) grown
 grown_frame s x n xs f grown b is more = rw add-one (record {
   samples = more.samples ∙ ap (λ n. add_of n (pos 1)) is.samples ∙ one_more n b ∙ ap pos (omega arith);
-  energy = more.energy ∙ ap (with_square s x) is.energy;
-  low = more.low ∙ ap (next_low s x) is.low;
-  high = more.high ∙ ap (next_high s x) is.high;
+  energy = more.energy ∙ ap (with_square (energy_bits s) x) is.energy;
+  low = more.low ∙ ap (next_band low_factors (gain_of s) x) is.low;
+  high = more.high ∙ ap (next_band high_factors (gain_of s) x) is.high;
 })
 
 no_frame : (s : ℤ) (xs : List ℤ) → HasFrame s 0 (take 0 xs) empty_frame

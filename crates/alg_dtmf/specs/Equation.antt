@@ -8,6 +8,7 @@ use Rattle.alg_dtmf.specs.declared.TheConstants.{ONE, ENERGY_BITS, SHARE_BITS, P
 use Rattle.alg_dtmf.specs.declared.decision.Tone.{Tone}
 use Rattle.alg_dtmf.specs.declared.decision.Levels.{Levels}
 use Rattle.alg_dtmf.specs.declared.kernel.Band.{Band}
+use Rattle.alg_dtmf.specs.declared.kernel.Factors.{Factors}
 
 -- the samples of a frame
 abbrev pub frame_length : List ℤ → ℕ
@@ -17,18 +18,26 @@ frame_length p = unsigned_abs (word_at p 0)
 abbrev pub feedback_of : ℤ → ℤ → ℤ
 feedback_of k v = round_of (l_shl_of (l_mult_of k v) (pos 1))
 
--- v(n) = k v(n-1) - v(n-2) + x / 2^s, summed in Q30 and rounded once
+-- 1 / 2^s in Q14
+abbrev pub gain_of : ℤ → ℤ
+gain_of s = shr_of ONE s
+
+-- v(n) = k v(n-1) - v(n-2) + g x, summed in Q30 and rounded once
 abbrev pub next_value : ℤ → ℤ → ℤ → ℤ → ℤ → ℤ
-next_value k s x v1 v2 = round_of (l_shl_of (l_mac_of (l_msu_of (l_mult_of k v1) v2 ONE) x (shr_of ONE s)) (pos 1))
+next_value k g x v1 v2 = round_of (l_shl_of (l_mac_of (l_msu_of (l_mult_of k v1) v2 ONE) x g) (pos 1))
 
 unfoldable pub next_values : ℤ → ℤ → ℤ → ℤ × ℤ → ℤ × ℤ
-next_values k s x v = (next_value k s x v.0 v.1, v.0)
+next_values k g x v = (next_value k g x v.0 v.1, v.0)
 
-unfoldable pub next_low : ℤ → ℤ → Band → Band
-next_low s x v = record { a = next_values FACTOR_697 s x v.a; b = next_values FACTOR_770 s x v.b; c = next_values FACTOR_852 s x v.c; d = next_values FACTOR_941 s x v.d }
+-- of a band's four tones
+unfoldable pub next_band : Factors → ℤ → ℤ → Band → Band
+next_band k g x v = record { a = next_values k.a g x v.a; b = next_values k.b g x v.b; c = next_values k.c g x v.c; d = next_values k.d g x v.d }
 
-unfoldable pub next_high : ℤ → ℤ → Band → Band
-next_high s x v = record { a = next_values FACTOR_1209 s x v.a; b = next_values FACTOR_1336 s x v.b; c = next_values FACTOR_1477 s x v.c; d = next_values FACTOR_1633 s x v.d }
+abbrev pub low_factors : Factors
+low_factors = record { a = FACTOR_697; b = FACTOR_770; c = FACTOR_852; d = FACTOR_941 }
+
+abbrev pub high_factors : Factors
+high_factors = record { a = FACTOR_1209; b = FACTOR_1336; c = FACTOR_1477; d = FACTOR_1633 }
 
 abbrev pub no_values : Band
 no_values = record { a = (pos 0, pos 0); b = (pos 0, pos 0); c = (pos 0, pos 0); d = (pos 0, pos 0) }
@@ -36,11 +45,11 @@ no_values = record { a = (pos 0, pos 0); b = (pos 0, pos 0); c = (pos 0, pos 0);
 -- the two newest values of each low tone, and of each high one, in a frame whose newest sample stands first
 abbrev pub low_values : ℤ → List ℤ → Band
 low_values s [] = no_values
-low_values s (x ∷ xs) = next_low s x (low_values s xs)
+low_values s (x ∷ xs) = next_band low_factors (gain_of s) x (low_values s xs)
 
 abbrev pub high_values : ℤ → List ℤ → Band
 high_values s [] = no_values
-high_values s (x ∷ xs) = next_high s x (high_values s xs)
+high_values s (x ∷ xs) = next_band high_factors (gain_of s) x (high_values s xs)
 
 -- a tone's level, in Q31
 unfoldable pub level_of : ℤ → ℤ × ℤ → ℤ
@@ -52,13 +61,18 @@ low_levels v = record { a = level_of FACTOR_697 v.a; b = level_of FACTOR_770 v.b
 unfoldable pub high_levels : Band → Levels
 high_levels v = record { a = level_of FACTOR_1209 v.a; b = level_of FACTOR_1336 v.b; c = level_of FACTOR_1477 v.c; d = level_of FACTOR_1633 v.d }
 
+-- the energy with the square of one more sample, shifted by so many bits
 abbrev pub with_square : ℤ → ℤ → ℤ → ℤ
-with_square s x e = let y = shr_of x (sub_of s ENERGY_BITS) in l_mac_of e y y
+with_square n x e = let y = shr_of x n in l_mac_of e y y
 
--- the energy of the frame, whose samples are shifted by fewer bits
+-- the samples are shifted by fewer bits than those of the recursions
+abbrev pub energy_bits : ℤ → ℤ
+energy_bits s = sub_of s ENERGY_BITS
+
+-- the energy of the frame
 abbrev pub energy_of : ℤ → List ℤ → ℤ
 energy_of s [] = pos 0
-energy_of s (x ∷ xs) = with_square s x (energy_of s xs)
+energy_of s (x ∷ xs) = with_square (energy_bits s) x (energy_of s xs)
 
 -- ---- what is told of a frame of these eight levels and this energy
 

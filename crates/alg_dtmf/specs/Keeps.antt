@@ -7,7 +7,9 @@ use Rattle.ialg.specs.History.{History, word_at, with_samples, IsWordHistory}
 use Rattle.kind_parts.specs.Frames.{samples_in_frame, frame_so_far}
 use Rattle.alg_dtmf.specs.declared.TheConstants.{PARAMETERS, STATE_WORDS, FRAME_SAMPLES}
 use Rattle.alg_dtmf.specs.declared.kernel.Band.{Band}
-use Rattle.alg_dtmf.specs.Equation.{frame_length, low_values, high_values, energy_of, dtmf_outputs}
+use Rattle.alg_dtmf.specs.declared.kernel.Factors.{Factors}
+use Rattle.alg_dtmf.specs.declared.kernel.Tuning.{Tuning}
+use Rattle.alg_dtmf.specs.Equation.{frame_length, low_factors, high_factors, gain_of, energy_bits, low_values, high_values, energy_of, dtmf_outputs}
 
 -- a frame as words: how many samples there are, the two words of their energy, and the two newest values of each tone
 abbrev pub frame_words : ℤ → ℤ → Band → Band → List ℤ
@@ -22,6 +24,17 @@ state_after p h =
     let s = word_at p 1 in
     let xs = frame_so_far (frame_length p) h in
     frame_words (pos (samples_in_frame (frame_length p) h)) (energy_of s xs) (low_values s xs) (high_values s xs)
+
+-- no factor is -32768
+pub record AreAboveLeast (k : Factors) : Type 0 where
+  pub a : unsigned_abs k.a ≤ 32767
+  pub b : unsigned_abs k.b ≤ 32767
+  pub c : unsigned_abs k.c ≤ 32767
+  pub d : unsigned_abs k.d ≤ 32767
+
+-- what a detector of this shift is made for
+abbrev pub tuning_of : ℤ → Tuning
+tuning_of s = record { low = low_factors; high = high_factors; scale = record { gain = gain_of s; energy_bits = energy_bits s } }
 
 -- the first parameter is the length of a frame
 pub record IsTuned (p : List ℤ) : Type 0 where

@@ -3,7 +3,7 @@ ghost use Rattle.alg_dtmf.specs.Keeps.{Rests, Runs};
 ghost use Rattle.alg_dtmf.specs.declared.TheConstants.{DTMF_KIND};
 ghost use Rattle.alg_dtmf.specs.Meaning.{dtmf_filter, dtmf_named};
 
-use crate::kernel::detect;
+use crate::kernel::{Tuning, detect};
 use crate::{DTMF_KIND, FRAME_SAMPLES, MOST_SHIFT, PARAMETERS, STATE_WORDS};
 use ialg::{Block, Ctl, Filter, FilterMemory, Named, Words, clear, copied, overwrite};
 use kind_parts::is_within;
@@ -58,7 +58,8 @@ impl Filter for Dtmf {
 
     fn run(kept: &[i16], state: &mut [i16], input: &[i16], out: &mut Block) {
         if kept.len() >= PARAMETERS && state.len() == STATE_WORDS {
-            detect(&kept[..PARAMETERS], state, input, out);
+            let tuning = Tuning::of(kept[1]);
+            detect(&tuning, &kept[..PARAMETERS], state, input, out);
         }
     }
 

@@ -1,12 +1,13 @@
 //! The detector over plain words.
-ghost use Rattle.std.specs.Prelude.{◌≡◌, ◌≤◌, ◌<◌, ◌+◌, ◌++◌, ◌∷◌, ℤ, List, [], length, pos};
-ghost use Rattle.basic_op.specs.Operators.{add_of, extract_h_of, extract_l_of};
+ghost use Rattle.std.specs.Prelude.{◌≡◌, ◌≤◌, ◌<◌, ◌+◌, ◌++◌, ◌∷◌, ℤ, List, [], length, pos, unsigned_abs};
+ghost use Rattle.basic_op.specs.Operators.{add_of, extract_h_of, extract_l_of, sub_of};
 ghost use Rattle.ialg.specs.History.{History, word_at};
-ghost use Rattle.alg_dtmf.specs.Equation.{code_of, feedback_of, high_levels, level_of, low_levels, next_high, next_low, next_values, no_values, with_square};
+ghost use Rattle.alg_dtmf.specs.Equation.{code_of, feedback_of, high_levels, level_of, low_levels, next_band, next_values, no_values, with_square};
 ghost use Rattle.kind_parts.specs.Words.{joined};
-ghost use Rattle.alg_dtmf.specs.Keeps.{frame_words, state_after, IsTuned, Ran};
+ghost use Rattle.alg_dtmf.specs.Keeps.{frame_words, state_after, tuning_of, AreAboveLeast, IsTuned, Ran};
 
 use crate::decision::{Levels, code};
+use crate::halves::{half_mac, half_msu, half_mult, half_round_doubled};
 use crate::{
     ENERGY_BITS, FACTOR_697, FACTOR_770, FACTOR_852, FACTOR_941, FACTOR_1209, FACTOR_1336,
     FACTOR_1477, FACTOR_1633, ONE, PARAMETERS, STATE_WORDS,
@@ -50,6 +51,56 @@ impl Band {
         words.copy_from_slice(&[
             self.a.0, self.a.1, self.b.0, self.b.1, self.c.0, self.c.1, self.d.0, self.d.1,
         ]);
+    }
+}
+
+/// The factors of a band's tones, in Q14.
+#[derive(Clone, Copy)]
+pub(crate) struct Factors {
+    pub a: i16,
+    pub b: i16,
+    pub c: i16,
+    pub d: i16,
+}
+
+/// How samples are scaled: by a factor in Q14 for the recursions, and by so many bits to the right for the energy.
+#[derive(Clone, Copy)]
+pub(crate) struct Scale {
+    pub gain: i16,
+    pub energy_bits: i16,
+}
+
+/// What a detector is made for: the factors of its tones, and how samples are scaled.
+#[derive(Clone, Copy)]
+pub(crate) struct Tuning {
+    pub low: Factors,
+    pub high: Factors,
+    pub scale: Scale,
+}
+
+impl Tuning {
+    /// For samples that are shifted to the right by so many bits for the recursions.
+    pub(crate) fn of(shift: i16) -> Tuning
+        ensures { result ≡ tuning_of shift }
+    {
+        Tuning {
+            low: Factors {
+                a: FACTOR_697,
+                b: FACTOR_770,
+                c: FACTOR_852,
+                d: FACTOR_941,
+            },
+            high: Factors {
+                a: FACTOR_1209,
+                b: FACTOR_1336,
+                c: FACTOR_1477,
+                d: FACTOR_1633,
+            },
+            scale: Scale {
+                gain: shr(ONE, shift),
+                energy_bits: sub(shift, ENERGY_BITS),
+            },
+        }
     }
 }
 
@@ -116,17 +167,20 @@ impl Frame {
     }
 
     /// The frame with one more sample.
-    fn with(self, x: i16, shift: i16) -> Frame
+    fn with(self, x: i16, scale: Scale, low: &Factors, high: &Factors) -> Frame
+        requires gain { unsigned_abs scale.gain ≤ 32767 }
+        requires low { AreAboveLeast low.now }
+        requires high { AreAboveLeast high.now }
         ensures samples { result.samples ≡ add_of self.samples (pos 1) }
-        ensures energy { result.energy ≡ with_square shift x self.energy }
-        ensures low { result.low ≡ next_low shift x self.low }
-        ensures high { result.high ≡ next_high shift x self.high }
+        ensures energy { result.energy ≡ with_square scale.energy_bits x self.energy }
+        ensures low { result.low ≡ next_band low.now scale.gain x self.low }
+        ensures high { result.high ≡ next_band high.now scale.gain x self.high }
     {
         Frame {
             samples: add(self.samples, 1),
-            energy: add_square(shift, x, self.energy),
-            low: lower(shift, x, self.low),
-            high: upper(shift, x, self.high),
+            energy: add_square(scale.energy_bits, x, self.energy),
+            low: next_band(low, scale.gain, x, self.low),
+            high: next_band(high, scale.gain, x, self.high),
         }
     }
 
@@ -171,11 +225,11 @@ fn write_head(words: &mut [i16], samples: i16, energy: i32)
     words.copy_from_slice(&[samples, extract_h(energy), extract_l(energy)]);
 }
 
-/// The energy with the square of one more sample, shifted by three bits less than the values are.
-fn add_square(shift: i16, x: i16, energy: i32) -> i32
-    ensures { result ≡ with_square shift x energy }
+/// The energy with the square of one more sample, shifted by so many bits.
+fn add_square(bits: i16, x: i16, energy: i32) -> i32
+    ensures { result ≡ with_square bits x energy }
 {
-    let shifted = shr(x, sub(shift, ENERGY_BITS));
+    let shifted = shr(x, bits);
     l_mac(energy, shifted, shifted)
 }
 
@@ -186,38 +240,31 @@ fn feedback(k: i16, v: i16) -> i16
     round(l_shl(l_mult(k, v), 1))
 }
 
-/// The values of a tone at the sample `x`. The sum is in Q30, and in Q31 when it is doubled.
+/// The values of a tone at the sample `x`. The sum is in Q30, and in Q31 when it is doubled: it is summed by halves.
 #[tactic(auto, unfolding(crate::specs::Equation::next_values))]
-fn next(k: i16, shift: i16, x: i16, v: Values) -> Values
-    ensures { result ≡ next_values k shift x v }
+#[inline]
+fn next(k: i16, gain: i16, x: i16, v: Values) -> Values
+    requires factor { unsigned_abs k ≤ 32767 }
+    requires gain { unsigned_abs gain ≤ 32767 }
+    ensures { result ≡ next_values k gain x v }
 {
-    let sum = l_mac(l_msu(l_mult(k, v.0), v.1, ONE), x, shr(ONE, shift));
-    (round(l_shl(sum, 1)), v.0)
+    let fed_back = half_msu(half_mult(k, v.0), v.1, ONE);
+    let sum = half_mac(fed_back, x, gain);
+    (half_round_doubled(sum), v.0)
 }
 
-/// The values of the low tones at the sample `x`.
-#[tactic(auto, unfolding(crate::specs::Equation::next_low))]
-fn lower(shift: i16, x: i16, v: Band) -> Band
-    ensures { result ≡ next_low shift x v }
+/// The values of a band's tones at the sample `x`.
+#[tactic(auto, unfolding(crate::specs::Equation::next_band))]
+fn next_band(k: &Factors, gain: i16, x: i16, v: Band) -> Band
+    requires factors { AreAboveLeast k.now }
+    requires gain { unsigned_abs gain ≤ 32767 }
+    ensures { result ≡ next_band k.now gain x v }
 {
     Band {
-        a: next(FACTOR_697, shift, x, v.a),
-        b: next(FACTOR_770, shift, x, v.b),
-        c: next(FACTOR_852, shift, x, v.c),
-        d: next(FACTOR_941, shift, x, v.d),
-    }
-}
-
-/// The values of the high tones at the sample `x`.
-#[tactic(auto, unfolding(crate::specs::Equation::next_high))]
-fn upper(shift: i16, x: i16, v: Band) -> Band
-    ensures { result ≡ next_high shift x v }
-{
-    Band {
-        a: next(FACTOR_1209, shift, x, v.a),
-        b: next(FACTOR_1336, shift, x, v.b),
-        c: next(FACTOR_1477, shift, x, v.c),
-        d: next(FACTOR_1633, shift, x, v.d),
+        a: next(k.a, gain, x, v.a),
+        b: next(k.b, gain, x, v.b),
+        c: next(k.c, gain, x, v.c),
+        d: next(k.d, gain, x, v.d),
     }
 }
 
@@ -256,7 +303,17 @@ fn levels_above(v: Band) -> Levels
 }
 
 /// Runs the detector over a block; `state` has the frame so far before and after.
-pub(crate) fn detect(parameters: &[i16], state: &mut [i16], input: &[i16], out: &mut Block)
+///
+/// It is a call of its own: where the compiler knows the factors, it drops some tones' limits, and doesn't compute the tones side by side any more.
+#[inline(never)]
+pub(crate) fn detect(
+    tuning: &Tuning,
+    parameters: &[i16],
+    state: &mut [i16],
+    input: &[i16],
+    out: &mut Block,
+)
+    requires tuned { tuning.now ≡ tuning_of (word_at parameters.now 1) }
     requires seven { length parameters.now ≡ PARAMETERS }
     requires few { length state.old ≡ STATE_WORDS }
     requires within { length input.now ≤ BLOCK_SAMPLES }
@@ -265,9 +322,12 @@ pub(crate) fn detect(parameters: &[i16], state: &mut [i16], input: &[i16], out: 
     ensures law { (p : List ℤ) (h : History) → IsTuned p → parameters.now ≡ p → state.old ≡ state_after p h
         → Ran p h input.now state.new out.new.items }
 {
+    let scale = tuning.scale;
     let mut frame = Frame::read(state);
     for x in input {
-        frame = frame.with(*x, parameters[1]).finish(parameters, out);
+        frame = frame
+            .with(*x, scale, &tuning.low, &tuning.high)
+            .finish(parameters, out);
     }
     frame.write(state);
 }

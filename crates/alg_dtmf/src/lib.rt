@@ -4,6 +4,7 @@
 
 mod decision;
 mod detector;
+mod halves;
 mod kernel;
 mod rows;
 

@@ -7,6 +7,7 @@ use Rattle.ialg.proofs.Histories.{fits_more}
 use Rattle.kind_parts.proofs.Blocks.{none_goes_on}
 use Rattle.alg_dtmf.specs.declared.kernel.Frame.{Frame}
 use Rattle.alg_dtmf.specs.Equation.{dtmf_gives}
+use Rattle.alg_dtmf.proofs.HalfLemmas.{gain_small, low_above_least, high_above_least}
 use Rattle.alg_dtmf.proofs.Steps.{IsGrown, Finishes, IsRead, IsDigits, gives_more, is_digits, ran}
 use Rattle.alg_dtmf.proofs.kernel.detect.Goals as goal
 
@@ -23,6 +24,15 @@ loop-x-init c =
           rw empty (none_goes_on Frame (dtmf_gives p) (IsDigits p) h xs c.read-frame.result (is_digits p h c.args.state.now c.read-frame.result state first));
     }
 
+pub with-requires-clause-gain : goal.with-requires-clause-gain
+with-requires-clause-gain c = rw c.requires.tuned (gain_small (word_at c.args.parameters.now 1))
+
+pub with-requires-clause-low : goal.with-requires-clause-low
+with-requires-clause-low c = rw c.requires.tuned low_above_least
+
+pub with-requires-clause-high : goal.with-requires-clause-high
+with-requires-clause-high c = rw c.requires.tuned high_above_least
+
 pub loop-x-preserved : goal.loop-x-preserved
 loop-x-preserved c =
     let xs = c.args.input.now in
@@ -31,14 +41,12 @@ loop-x-preserved c =
     let zs = c.finish-frame.new.out.items in
     let more = c.with.ensures in
     let fx : SFits w16 (word_at xs i) = search rules in
-    let fs : SFits w16 (word_at words 1) = search rules in
     let ex : to_z w16 (of_z w16 (word_at xs i)) ≡ word_at xs i = to_z-of_z w16 (word_at xs i) fx in
-    let es : to_z w16 (of_z w16 (word_at words 1)) ≡ word_at words 1 = to_z-of_z w16 (word_at words 1) fs in
     let grows : IsGrown (word_at words 1) (word_at xs i) c.loop-x.frame c.with.result = record {
       samples = more.samples;
-      energy = rw (ex, es) at more.energy;
-      low = rw (ex, es) at more.low;
-      high = rw (ex, es) at more.high;
+      energy = rw (ex, c.requires.tuned) at more.energy;
+      low = rw (ex, c.requires.tuned) at more.low;
+      high = rw (ex, c.requires.tuned) at more.high;
     } in
     let ends : Finishes words c.with.result c.finish-frame.result c.loop-x.out.items zs = record {
       full = c.finish-frame.ensures.full;

@@ -12,7 +12,8 @@ returns-clause-samples c =
 
 pub returns-clause-energy : goal.returns-clause-energy
 returns-clause-energy c =
-    let es : to_z w16 (of_z w16 c.args.shift) ≡ c.args.shift = to_z-of_z w16 c.args.shift c.ranges.shift in
+    let fs : SFits w16 c.args.scale.energy_bits = search rules in
+    let es : to_z w16 (of_z w16 c.args.scale.energy_bits) ≡ c.args.scale.energy_bits = to_z-of_z w16 c.args.scale.energy_bits fs in
     let ex : to_z w16 (of_z w16 c.args.x) ≡ c.args.x = to_z-of_z w16 c.args.x c.ranges.x in
     let fe : SFits w32 c.args.self.energy = search rules in
     let ee : to_z w32 (of_z w32 c.args.self.energy) ≡ c.args.self.energy = to_z-of_z w32 c.args.self.energy fe in
@@ -20,12 +21,14 @@ returns-clause-energy c =
 
 pub returns-clause-low : goal.returns-clause-low
 returns-clause-low c =
-    let es : to_z w16 (of_z w16 c.args.shift) ≡ c.args.shift = to_z-of_z w16 c.args.shift c.ranges.shift in
+    let fs : SFits w16 c.args.scale.gain = search rules in
+    let es : to_z w16 (of_z w16 c.args.scale.gain) ≡ c.args.scale.gain = to_z-of_z w16 c.args.scale.gain fs in
     let ex : to_z w16 (of_z w16 c.args.x) ≡ c.args.x = to_z-of_z w16 c.args.x c.ranges.x in
-    c.lower.ensures ∙ rw (es, ex) refl
+    c.next_band.ensures ∙ rw (es, ex) refl
 
 pub returns-clause-high : goal.returns-clause-high
 returns-clause-high c =
-    let es : to_z w16 (of_z w16 c.args.shift) ≡ c.args.shift = to_z-of_z w16 c.args.shift c.ranges.shift in
+    let fs : SFits w16 c.args.scale.gain = search rules in
+    let es : to_z w16 (of_z w16 c.args.scale.gain) ≡ c.args.scale.gain = to_z-of_z w16 c.args.scale.gain fs in
     let ex : to_z w16 (of_z w16 c.args.x) ≡ c.args.x = to_z-of_z w16 c.args.x c.ranges.x in
-    c.upper.ensures ∙ rw (es, ex) refl
+    c.next_band-2.ensures ∙ rw (es, ex) refl
