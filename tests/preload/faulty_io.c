@@ -110,7 +110,7 @@ ssize_t write(int descriptor, const void *buffer, size_t count) {
     return syscall(SYS_write, descriptor, buffer, some_of(count));
 }
 
-/* The descriptor goes in any case, as POSIX has it on Linux. */
+/* The descriptor is closed in any case, as Linux does it. */
 int close(int descriptor) {
     int status = (int)syscall(SYS_close, descriptor);
     if (status == 0 && at_close) {
