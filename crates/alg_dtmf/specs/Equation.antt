@@ -65,7 +65,7 @@ high_levels v = record { a = level_of FACTOR_1209 v.a; b = level_of FACTOR_1336 
 abbrev pub with_square : ℤ → ℤ → ℤ → ℤ
 with_square n x e = let y = shr_of x n in l_mac_of e y y
 
--- the samples are shifted by fewer bits than those of the recursions
+-- the bits by which samples are shifted for the energy: fewer than for the recursions
 abbrev pub energy_bits : ℤ → ℤ
 energy_bits s = sub_of s ENERGY_BITS
 

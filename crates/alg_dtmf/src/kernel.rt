@@ -7,12 +7,14 @@ ghost use Rattle.kind_parts.specs.Words.{joined};
 ghost use Rattle.alg_dtmf.specs.Keeps.{frame_words, state_after, tuning_of, AreAboveLeast, IsTuned, Ran};
 
 use crate::decision::{Levels, code};
-use crate::halves::{half_mac, half_msu, half_mult, half_round_doubled};
 use crate::{
     ENERGY_BITS, FACTOR_697, FACTOR_770, FACTOR_852, FACTOR_941, FACTOR_1209, FACTOR_1336,
     FACTOR_1477, FACTOR_1633, ONE, PARAMETERS, STATE_WORDS,
 };
-use basic_op::{add, extract_h, extract_l, l_mac, l_msu, l_mult, l_shl, round, shr, sub};
+use basic_op::{
+    add, extract_h, extract_l, half_mac, half_msu, half_mult, half_round_doubled, l_mac, l_msu,
+    l_mult, l_shl, round, shr, sub,
+};
 use ialg::{BLOCK_SAMPLES, Block};
 use kind_parts::join;
 

@@ -4,7 +4,6 @@
 
 mod decision;
 mod detector;
-mod halves;
 mod kernel;
 mod rows;
 

@@ -1,2 +1,3 @@
-pub mod Shifts
+pub mod HalfLemmas
 pub mod Norms
+pub mod Shifts

@@ -14,6 +14,12 @@ product_sum-same c c' x x' (suc k) e f =
     let s = product_sum-same c c' x x' k (λ j h. e j (omega arith)) (λ j h. f j (omega arith)) in
     rw (s, e k (omega arith), f k (omega arith))
 
+pub l_mac_sum-same : (c x x' : ℕ → ℤ) (n : ℕ) → ((k : ℕ) → k < n → x k ≡ x' k) → l_mac_sum c x n ≡ l_mac_sum c x' n
+l_mac_sum-same c x x' zero e = refl
+l_mac_sum-same c x x' (suc k) e =
+    let before = l_mac_sum-same c x x' k (λ j h. e j (omega arith)) in
+    ap (λ z. l_mac_of (l_mac_sum c x k) (c k) z) (e k (omega arith)) ∙ ap (λ v. l_mac_of v (c k) (x' k)) before
+
 add_zero : (a : ℤ) → a +ℤ pos 0 ≡ a
 add_zero a = omega (arith, ints)
 

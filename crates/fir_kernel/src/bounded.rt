@@ -4,11 +4,11 @@ ghost use Rattle.std.specs.Int.{int_wrap, w32};
 ghost use Rattle.basic_op.specs.Operators.{l_add_of, round_of};
 ghost use Rattle.ialg.specs.History.{word_at};
 ghost use Rattle.fir_kernel.specs.Bounded.{product_sum, magnitude_sum, NoneLouder, IsBounded};
-ghost use Rattle.fir_kernel.specs.Sums.{filtered_at};
+ghost use Rattle.fir_kernel.specs.Sums.{filtered_at, AreOutputs};
 
 use crate::windows::{WINDOWS, read_words, sum_eight};
 use crate::{GREATEST_MAGNITUDE, LEAST_UNBOUNDED_SUM, MOST_COEFFICIENTS};
-use basic_op::{l_add, round};
+use basic_op::{l_add, product, round};
 use ialg::BLOCK_SAMPLES;
 
 /// How many products are summed at once: a loop of so many is unrolled into vector products.
@@ -103,8 +103,7 @@ pub(crate) fn filter_bounded<const N: usize>(
     requires arrays { N ≤ BLOCK_SAMPLES }
     requires last { (i : ℕ) → i < length out.old → first + step * i ≤ last }
     requires bounded { IsBounded coefficients.now (take (last + length coefficients.now) line.now) }
-    ensures { (i : ℕ) → i < length out.old
-        → word_at out.new i ≡ filtered_at coefficients.now line.now (first + step * i) }
+    ensures { AreOutputs coefficients.now line.now first step (length out.old) out.new }
 {
     let mut taps = [0; MOST_COEFFICIENTS];
     reverse(coefficients, &mut taps);
@@ -186,14 +185,6 @@ fn add_product(sum: i32, tap: i16, sample: i16) -> i32
     ensures { result ≡ int_wrap w32 (sum +ℤ tap *ℤ sample) }
 {
     sum.wrapping_add(product(tap, sample))
-}
-
-/// The whole product.
-#[inline(always)]
-pub(crate) fn product(a: i16, b: i16) -> i32
-    ensures { result ≡ a *ℤ b }
-{
-    i32::from(a) * i32::from(b)
 }
 
 /// Twice the sums, each rounded to Q15.

@@ -5,6 +5,8 @@
 #![tactic(auto)]
 
 mod bounded;
+mod halves;
+mod in_order;
 mod kernel;
 mod ring;
 mod windows;

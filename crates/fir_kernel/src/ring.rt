@@ -1,9 +1,7 @@
 //! A ring of samples: the first `size` words, in which each sample takes the place of the oldest.
-ghost use Rattle.std.specs.Prelude.{◌≡◌, ◌<◌, ◌≤◌, ◌+◌, ◌-◌, ◌^◌, ℕ, length, pos, FitsSigned};
-ghost use Rattle.std.specs.List.{All};
-ghost use Rattle.std.specs.Int.{w16};
-ghost use Rattle.ialg.specs.History.{History, past, with_samples, word_at};
-ghost use Rattle.fir_kernel.specs.Rings.{IsNoPlace, IsRing};
+ghost use Rattle.std.specs.Prelude.{◌≡◌, ◌<◌, ◌≤◌, ◌+◌, ◌-◌, ◌^◌, ℕ, length, pos};
+ghost use Rattle.ialg.specs.History.{History, past, word_at};
+ghost use Rattle.fir_kernel.specs.Rings.{Entered, IsRing};
 
 use crate::FEW_SAMPLES;
 use ialg::place;
@@ -45,16 +43,7 @@ pub fn unroll(words: &[i16], size: usize, next: usize, count: usize, line: &mut 
 pub fn enter(words: &mut [i16], size: usize, next: usize, samples: &[i16]) -> usize
     requires size { size ≤ length words.old }
     requires next { next < size }
-    ensures within { result < size }
-    ensures ring { (count : ℕ) (h : History) → count ≤ size → IsRing count size words.old next h
-        → IsRing count size words.new result (with_samples h samples.now) }
-    ensures stays { (j : ℕ) → IsNoPlace size next (length samples.now) j → word_at words.new j ≡ word_at words.old j }
-
-    // Where the samples have room before the ring's end, they stand in a row, and the words before them stay.
-    ensures row { next + length samples.now ≤ size
-        → (k : ℕ) → k < length samples.now → word_at words.new (next + k) ≡ word_at samples.now k }
-    ensures before { next + length samples.now ≤ size → (k : ℕ) → k < next → word_at words.new k ≡ word_at words.old k }
-    ensures read { All (FitsSigned w16) samples.now }
+    ensures { Entered size next samples.now words.old words.new result }
 {
     // a few samples are written sooner than a call that copies them is made
     if samples.len() > FEW_SAMPLES && next + samples.len() <= size {
@@ -69,13 +58,7 @@ fn enter_row(words: &mut [i16], size: usize, next: usize, samples: &[i16]) -> us
     requires size { size ≤ length words.old }
     requires next { next < size }
     requires room { next + length samples.now ≤ size }
-    ensures within { result < size }
-    ensures ring { (count : ℕ) (h : History) → count ≤ size → IsRing count size words.old next h
-        → IsRing count size words.new result (with_samples h samples.now) }
-    ensures stays { (j : ℕ) → IsNoPlace size next (length samples.now) j → word_at words.new j ≡ word_at words.old j }
-    ensures row { (k : ℕ) → k < length samples.now → word_at words.new (next + k) ≡ word_at samples.now k }
-    ensures before { (k : ℕ) → k < next → word_at words.new k ≡ word_at words.old k }
-    ensures read { All (FitsSigned w16) samples.now }
+    ensures { Entered size next samples.now words.old words.new result }
 {
     place(words, next, samples);
     let after = next + samples.len();
@@ -86,16 +69,7 @@ fn enter_row(words: &mut [i16], size: usize, next: usize, samples: &[i16]) -> us
 fn enter_each(words: &mut [i16], size: usize, next: usize, samples: &[i16]) -> usize
     requires size { size ≤ length words.old }
     requires next { next < size }
-    ensures within { result < size }
-    ensures ring { (count : ℕ) (h : History) → count ≤ size → IsRing count size words.old next h
-        → IsRing count size words.new result (with_samples h samples.now) }
-    ensures stays { (j : ℕ) → IsNoPlace size next (length samples.now) j → word_at words.new j ≡ word_at words.old j }
-
-    // Where the samples have room before the ring's end, they stand in a row, and the words before them stay.
-    ensures row { next + length samples.now ≤ size
-        → (k : ℕ) → k < length samples.now → word_at words.new (next + k) ≡ word_at samples.now k }
-    ensures before { next + length samples.now ≤ size → (k : ℕ) → k < next → word_at words.new k ≡ word_at words.old k }
-    ensures read { All (FitsSigned w16) samples.now }
+    ensures { Entered size next samples.now words.old words.new result }
 {
     let mut at = next;
     for sample in samples {

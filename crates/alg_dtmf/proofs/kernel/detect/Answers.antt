@@ -7,7 +7,7 @@ use Rattle.ialg.proofs.Histories.{fits_more}
 use Rattle.kind_parts.proofs.Blocks.{none_goes_on}
 use Rattle.alg_dtmf.specs.declared.kernel.Frame.{Frame}
 use Rattle.alg_dtmf.specs.Equation.{dtmf_gives}
-use Rattle.alg_dtmf.proofs.HalfLemmas.{gain_small, low_above_least, high_above_least}
+use Rattle.alg_dtmf.proofs.Factors.{gain_small, low_above_least, high_above_least}
 use Rattle.alg_dtmf.proofs.Steps.{IsGrown, Finishes, IsRead, IsDigits, gives_more, is_digits, ran}
 use Rattle.alg_dtmf.proofs.kernel.detect.Goals as goal
 

@@ -54,9 +54,18 @@ loop-sample-preserved c =
       read = λ k d h. grind (arith, common_steps, c.loop-sample.invariant.read);
     }
 
-pub returns-clause-ring : goal.returns-clause-ring
-returns-clause-ring c count h few old =
+pub returns : goal.returns
+returns c =
     let xs = c.args.samples.now in
+    let last = c.loop-sample.invariant in
     let all : c.loop-sample.sample-index ≡ length xs = omega arith in
-    let e : with_samples h (take c.loop-sample.sample-index xs) ≡ with_samples h xs = ap (λ n. with_samples h (take n xs)) all ∙ with_samples-whole h xs in
-    rw e at (c.loop-sample.invariant.ring count h few old)
+    record {
+      within = last.within;
+      ring = λ count h few old.
+          let e : with_samples h (take c.loop-sample.sample-index xs) ≡ with_samples h xs = ap (λ n. with_samples h (take n xs)) all ∙ with_samples-whole h xs in
+          rw e at (last.ring count h few old);
+      stays = λ j out. last.stays j (λ k b. out k (omega arith));
+      row = λ fits k b. last.row fits k (omega arith);
+      before = last.before;
+      read = λ k d b. last.read k d (omega arith);
+    }

@@ -1,0 +1,13 @@
+use Rattle.std.proofs.Common.{◌≡◌, ◌<◌, ◌≤◌, ℕ, ℤ}
+use Rattle.basic_op.specs.Halves.{half_of}
+use Rattle.basic_op.specs.Operators.{l_mac_of}
+use Rattle.ialg.specs.History.{word_at}
+use Rattle.fir_kernel.specs.Halves.{AreHalves}
+use Rattle.fir_kernel.proofs.halves.add_product.Given as goal
+
+abbrev pub invariant-loop-i : goal.invariant-loop-i
+invariant-loop-i l = record {
+  halves : AreHalves l.sums;
+  done : (j : ℕ) (v : ℤ) → j < l.i → word_at l.fn.sums j ≡ half_of v → word_at l.sums j ≡ half_of (l_mac_of v l.coefficient (word_at l.samples j));
+  left : (j : ℕ) → l.i ≤ j → word_at l.sums j ≡ word_at l.fn.sums j;
+}

@@ -1,0 +1,9 @@
+use Rattle.std.proofs.Common.{◌*◌, length}
+use Rattle.fir_kernel.specs.Halves.{AreHalfSums, AreHalves}
+use Rattle.fir_kernel.proofs.halves.sum_gathered.Given as goal
+
+abbrev pub invariant-loop-pair : goal.invariant-loop-pair
+invariant-loop-pair g l = record {
+  halves : AreHalves l.sums;
+  sums : AreHalfSums l.coefficients l.line l.first l.step (2 * l.pair) (length l.sums) l.sums;
+}

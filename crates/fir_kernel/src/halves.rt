@@ -1,0 +1,173 @@
+//! The filter by halves of its sums, where no product is that of -32768 and -32768: each sum takes its products in order, and is limited after each.
+//! A step has neither a doubling nor a test for overflow, and the sums of a block run side by side in vector registers.
+ghost use Rattle.std.specs.Prelude.{true, ◌≡◌, ◌<◌, ◌≤◌, ◌+◌, ◌*◌, ℕ, ℤ, length};
+ghost use Rattle.basic_op.specs.Halves.{half_of};
+ghost use Rattle.basic_op.specs.Operators.{round_of};
+ghost use Rattle.ialg.specs.History.{word_at};
+ghost use Rattle.fir_kernel.specs.Halves.{AreAboveLeast, AreHalfSums, AreHalves, HasHalves, HaveHalves, HaveProduct, HaveProducts};
+ghost use Rattle.fir_kernel.specs.Sums.{AreOutputs};
+
+use basic_op::{half_mac, half_round};
+use ialg::BLOCK_SAMPLES;
+
+/// Half of a sum of products in Q31.
+type Half = i32;
+
+/// Whether no word is -32768.
+pub(crate) fn are_above_least(words: &[i16]) -> bool
+    ensures { result ≡ true → AreAboveLeast words.now }
+{
+    for word in words {
+        if *word == i16::MIN {
+            return false;
+        }
+    }
+    true
+}
+
+/// Runs the filter. It is a call of its own, so that one output needs no room for arrays.
+#[inline(never)]
+pub(crate) fn filter_halves<const N: usize>(
+    coefficients: &[i16],
+    line: &[i16],
+    first: usize,
+    step: usize,
+    out: &mut [i16],
+)
+    requires some { 1 ≤ length coefficients.now }
+    requires halves { HaveHalves coefficients.now line.now }
+    requires outputs { 1 ≤ length out.old }
+    requires reach { (i : ℕ) → i < length out.old → first + step * i + length coefficients.now ≤ length line.now }
+    requires block { length out.old ≤ N }
+    requires arrays { N ≤ BLOCK_SAMPLES }
+    ensures { AreOutputs coefficients.now line.now first step (length out.old) out.new }
+{
+    let mut block = [0; N];
+    let (sums, _unused) = block.split_at_mut(out.len());
+    if step == 1 {
+        sum_neighbours(coefficients, line, first, sums);
+    } else {
+        sum_gathered::<N>(coefficients, line, first, step, sums);
+    }
+    round_halves(sums, out);
+}
+
+/// The sums of neighbouring outputs, that at sample `first` first, by halves. Taps are outside and outputs inside, two taps in each pass.
+fn sum_neighbours(coefficients: &[i16], line: &[i16], first: usize, sums: &mut [Half])
+    requires some { 1 ≤ length coefficients.now }
+    requires halves { HaveHalves coefficients.now line.now }
+    requires reach { first + length coefficients.now + length sums.old ≤ length line.now + 1 }
+    ensures halves { AreHalves sums.new }
+    ensures sums { AreHalfSums coefficients.now line.now first 1 (length coefficients.now) (length sums.old) sums.new }
+{
+    sums.fill(0);
+    let count = coefficients.len();
+    for pair in 0..count / 2 {
+        let tap = 2 * pair;
+        let older = first + (count - 2 - tap);
+        add_products(
+            (coefficients[tap], coefficients[tap + 1]),
+            &line[older + 1..older + 1 + sums.len()],
+            &line[older..older + sums.len()],
+            sums,
+        );
+    }
+    if count % 2 == 1 {
+        add_product(
+            coefficients[count - 1],
+            &line[first..first + sums.len()],
+            sums,
+        );
+    }
+}
+
+/// The sums of outputs `step` samples apart, as [`sum_neighbours`] has those of neighbours. The samples of a tap are gathered first, so that
+/// they too are side by side.
+fn sum_gathered<const N: usize>(
+    coefficients: &[i16],
+    line: &[i16],
+    first: usize,
+    step: usize,
+    sums: &mut [Half],
+)
+    requires some { 1 ≤ length coefficients.now }
+    requires halves { HaveHalves coefficients.now line.now }
+    requires reach { (i : ℕ) → i < length sums.old → first + step * i + length coefficients.now ≤ length line.now }
+    requires block { length sums.old ≤ N }
+    requires arrays { N ≤ BLOCK_SAMPLES }
+    ensures halves { AreHalves sums.new }
+    ensures sums { AreHalfSums coefficients.now line.now first step (length coefficients.now) (length sums.old) sums.new }
+{
+    let mut newer_block = [0; N];
+    let (newer, _unused) = newer_block.split_at_mut(sums.len());
+    let mut older_block = [0; N];
+    let (older, _unused) = older_block.split_at_mut(sums.len());
+    sums.fill(0);
+    let count = coefficients.len();
+    for pair in 0..count / 2 {
+        let tap = 2 * pair;
+        gather(line, first, step, count - 1 - tap, newer);
+        gather(line, first, step, count - 2 - tap, older);
+        add_products(
+            (coefficients[tap], coefficients[tap + 1]),
+            newer,
+            older,
+            sums,
+        );
+    }
+    if count % 2 == 1 {
+        gather(line, first, step, 0, newer);
+        add_product(coefficients[count - 1], newer, sums);
+    }
+}
+
+/// Copies the samples that stand `on` behind `first`, `first + step`, .. of the line.
+fn gather(line: &[i16], first: usize, step: usize, on: usize, samples: &mut [i16])
+    requires { (i : ℕ) → i < length samples.old → first + step * i + on < length line.now }
+    ensures { (i : ℕ) → i < length samples.old
+        → word_at samples.new i ≡ word_at line.now (first + step * i + on) }
+{
+    for (i, sample) in samples.iter_mut().enumerate() {
+        *sample = line[first + step * i + on];
+    }
+}
+
+/// Adds the products of two coefficients, one with the newer samples and then one with the older, to each sum: so a load of sums serves two taps.
+fn add_products(coefficients: (i16, i16), newer: &[i16], older: &[i16], sums: &mut [Half])
+    requires newer_products { HasHalves coefficients.0 newer.now }
+    requires older_products { HasHalves coefficients.1 older.now }
+    requires as_many_newer { length newer.now ≡ length sums.old }
+    requires as_many_older { length older.now ≡ length sums.old }
+    requires halves { AreHalves sums.old }
+    ensures halves { AreHalves sums.new }
+    ensures sums { HaveProducts coefficients newer.now older.now sums.old sums.new }
+{
+    for (i, sum) in sums.iter_mut().enumerate() {
+        let half = half_mac(*sum, coefficients.0, newer[i]);
+        *sum = half_mac(half, coefficients.1, older[i]);
+    }
+}
+
+/// Adds the product of the coefficient and a sample to each sum.
+fn add_product(coefficient: i16, samples: &[i16], sums: &mut [Half])
+    requires products { HasHalves coefficient samples.now }
+    requires as_many { length samples.now ≡ length sums.old }
+    requires halves { AreHalves sums.old }
+    ensures halves { AreHalves sums.new }
+    ensures sums { HaveProduct coefficient samples.now sums.old sums.new }
+{
+    for (i, sum) in sums.iter_mut().enumerate() {
+        *sum = half_mac(*sum, coefficient, samples[i]);
+    }
+}
+
+/// The sums, each rounded to Q15.
+fn round_halves(sums: &[Half], out: &mut [i16])
+    requires as_many { length sums.now ≡ length out.old }
+    requires halves { AreHalves sums.now }
+    ensures { (i : ℕ) (v : ℤ) → i < length out.old → word_at sums.now i ≡ half_of v → word_at out.new i ≡ round_of v }
+{
+    for (i, output) in out.iter_mut().enumerate() {
+        *output = half_round(sums[i]);
+    }
+}
