@@ -1,11 +1,11 @@
--- The filter's output from the plain sum of a bounded block.
-use Rattle.std.proofs.Common.{◌≡◌, ℕ, ℤ, pos, ◌+◌, ◌-◌, ◌<◌, ◌≤◌, unsigned_abs, List, length, take, drop, replicate, w32, inl, inr, refl, ap, ◌∙◌, arith, get_or-take, length-take}
+-- The plain sums of a bounded block are halves of the sums in order.
+use Rattle.std.proofs.Common.{◌≡◌, ℕ, ℤ, pos, ◌+◌, ◌*◌, ◌-◌, ◌<◌, ◌≤◌, ◌^◌, unsigned_abs, List, length, take, drop, replicate, w32, inl, inr, refl, ap, ◌∙◌, arith, get_or-take, length-take}
 use Rattle.std.specs.Int.{int_wrap}
 use Rattle.std.proofs.lemmas.Bool.{cases_lt}
 use Rattle.std.proofs.lemmas.List.{get_or_past, get_or-replicate, length-replicate}
-use Rattle.basic_op.specs.Operators.{round_of, l_add_of}
+use Rattle.basic_op.specs.Halves.{half_of}
 use Rattle.ialg.specs.History.{word_at}
-use Rattle.fir_kernel.specs.Sums.{filtered_at}
+use Rattle.fir_kernel.specs.Sums.{l_mac_sum}
 use Rattle.fir_kernel.specs.Bounded.{product_sum, IsBounded}
 use Rattle.fir_kernel.proofs.Parts.{part_at}
 use Rattle.fir_kernel.proofs.Sums.{product_sum-same, product_sum-silent, product_sum-turned, wrapped_sum_is}
@@ -26,37 +26,36 @@ front_silent words m j e = elim (cases_lt j m) [
 ]
 
 module _ (cs line : List ℤ) (n : ℕ) (bounded : IsBounded cs (take (n + length cs) line)) where
-  -- the wrapped sum, doubled and rounded, is the output
-  pub output_is : (i : ℕ) (s y : ℤ) → 1 ≤ length cs → i ≤ n
-      → s ≡ int_wrap w32 (product_sum (word_at cs) (λ k. word_at line (length cs - 1 + i - k)) (length cs))
-      → y ≡ round_of (l_add_of s s) → y ≡ filtered_at cs line i
-  output_is i s y some b sum f =
+  -- half of the sum of an output
+  abbrev pub IsHalfAt : ℕ → ℤ → Type 0
+  IsHalfAt i s = (unsigned_abs s < 2 ^ 30) × (s ≡ half_of (l_mac_sum (word_at cs) (λ k. word_at line (length cs - 1 + i - k)) (length cs)))
+
+  pub half_is : (i : ℕ) (s : ℤ) → 1 ≤ length cs → i ≤ n
+      → s ≡ int_wrap w32 (product_sum (word_at cs) (λ k. word_at line (length cs - 1 + i - k)) (length cs)) → IsHalfAt i s
+  half_is i s some b sum =
       let x : ℕ → ℤ = λ k. word_at line (length cs - 1 + i - k) in
       let quiet : (k : ℕ) → k < length cs → unsigned_abs (x k) ≤ bounded.0 =
       λ k h.
       let a : length cs - 1 + i - k < n + length cs = omega arith in
       let same : word_at (take (n + length cs) line) (length cs - 1 + i - k) ≡ x k = get_or-take (n + length cs) line (length cs - 1 + i - k) (pos 0) a in
       rw same at (bounded.1 (length cs - 1 + i - k)) in
-      f ∙ ap round_of (wrapped_sum_is (word_at cs) x bounded.0 (length cs) s quiet bounded.2 sum)
+      wrapped_sum_is (word_at cs) x bounded.0 (length cs) s quiet bounded.2 sum
 
   -- by the coefficients in order, and the window that ends with the newest sample
-  pub output_turned : (i : ℕ) (s y : ℤ) → 1 ≤ length cs → i ≤ n
-      → s ≡ int_wrap w32 (product_sum (word_at cs) (λ k. word_at (take (i + length cs - i) (drop i line)) (length cs - 1 - k)) (length cs))
-      → y ≡ round_of (l_add_of s s) → y ≡ filtered_at cs line i
-  output_turned i s y some b e f =
-      output_is i s y some b
+  pub half_turned : (i : ℕ) (s : ℤ) → 1 ≤ length cs → i ≤ n
+      → s ≡ int_wrap w32 (product_sum (word_at cs) (λ k. word_at (take (i + length cs - i) (drop i line)) (length cs - 1 - k)) (length cs)) → IsHalfAt i s
+  half_turned i s some b e =
+      half_is i s some b
       (e ∙ ap (int_wrap w32) (product_sum-same (word_at cs) (word_at cs) _ _ (length cs) (λ k h. refl)
       (λ k h. let a : i + (length cs - 1 - k) ≡ length cs - 1 + i - k = omega arith in
       part_at line i (i + length cs) (length cs - 1 - k) (omega arith) ∙ ap (word_at line) a)))
-      f
 
   -- by taps, which are the coefficients turned, with silent ones behind them
-  pub output_by_taps : (taps : List ℤ) (m : ℕ) → 1 ≤ length cs → length cs ≤ m
+  pub half_by_taps : (taps : List ℤ) (m : ℕ) → 1 ≤ length cs → length cs ≤ m
       → ((j k : ℕ) → j + k + 1 ≡ length cs → word_at taps j ≡ word_at cs k)
       → ((j : ℕ) → length cs ≤ j → word_at taps j ≡ pos 0)
-      → (i : ℕ) (s y : ℤ) → i ≤ n → s ≡ int_wrap w32 (product_sum (word_at (take m taps)) (λ j. word_at line (i + j)) m)
-      → y ≡ round_of (l_add_of s s) → y ≡ filtered_at cs line i
-  output_by_taps taps m some few reversed rest i s y b e f =
+      → (i : ℕ) (s : ℤ) → i ≤ n → s ≡ int_wrap w32 (product_sum (word_at (take m taps)) (λ j. word_at line (i + j)) m) → IsHalfAt i s
+  half_by_taps taps m some few reversed rest i s b e =
       let x : ℕ → ℤ = λ k. word_at line (length cs - 1 + i - k) in
       let c' : ℕ → ℤ = word_at (take m taps) in
       let x' : ℕ → ℤ = λ j. word_at line (i + j) in
@@ -66,4 +65,17 @@ module _ (cs line : List ℤ) (n : ℕ) (bounded : IsBounded cs (take (n + lengt
       let turned : product_sum c' x' (length cs) ≡ product_sum (word_at cs) x (length cs) =
       product_sum-turned (word_at cs) x c' x' (length cs) (λ j k h. let a : j < m = omega arith in get_or-take m taps j (pos 0) a ∙ reversed j k h)
       (λ j k h. let a : i + j ≡ length cs - 1 + i - k = omega arith in ap (word_at line) a) in
-      output_is i s y some b (e ∙ ap (λ d. int_wrap w32 (product_sum c' x' d)) whole ∙ ap (int_wrap w32) (short ∙ turned)) f
+      half_is i s some b (e ∙ ap (λ d. int_wrap w32 (product_sum c' x' d)) whole ∙ ap (int_wrap w32) (short ∙ turned))
+
+  -- so are all sums of a block
+  pub halves_by_taps : (taps : List ℤ) (m : ℕ) → 1 ≤ length cs → (length cs ≤ m) × (m ≤ length taps)
+      → ((j k : ℕ) → j + k + 1 ≡ length cs → word_at taps j ≡ word_at cs k)
+      → ((j : ℕ) → length cs ≤ j → word_at taps j ≡ pos 0)
+      → (sums : List ℤ) (first step count : ℕ) → ((i : ℕ) → i < count → first + step * i ≤ n)
+      → ((i : ℕ) → i < count
+      → word_at sums i ≡ int_wrap w32 (product_sum (word_at (take m taps)) (λ j. word_at line (first + step * i + j)) (length (take m taps))))
+      → (i : ℕ) → i < count → IsHalfAt (first + step * i) (word_at sums i)
+  halves_by_taps taps m some size reversed rest sums first step count last summed i b =
+      let front : length (take m taps) ≡ m = simp length-take (omega arith) in
+      half_by_taps taps m some size.0 reversed rest (first + step * i) (word_at sums i) (last i b)
+      (summed i b ∙ ap (λ d. int_wrap w32 (product_sum (word_at (take m taps)) (λ j. word_at line (first + step * i + j)) d)) front)

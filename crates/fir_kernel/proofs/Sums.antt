@@ -1,8 +1,9 @@
 -- Sums of products: in parts, from the last product on, and within 32 bits.
-use Rattle.std.proofs.Common.{◌≡◌, ℕ, zero, suc, ◌+◌, ◌*◌, ◌^◌, ◌<◌, ◌≤◌, ℤ, pos, ◌+ℤ◌, ◌*ℤ◌, unsigned_abs, FitsSigned, w32, refl, sym, ap, ◌∙◌, arith}
+use Rattle.std.proofs.Common.{◌≡◌, ℕ, zero, suc, ◌+◌, ◌*◌, ◌^◌, ◌<◌, ◌≤◌, ℤ, pos, negsuc, ◌+ℤ◌, ◌*ℤ◌, unsigned_abs, FitsSigned, w32, refl, sym, ap, ◌∙◌, arith}
 use Rattle.std.specs.Int.{int_wrap, saturate_to_bits}
 use Rattle.std.proofs.lemmas.Int.{ints, unsigned_abs-mul, fits_signed_from_abs, int_wrap_fits, int_wrap-add_left, int_wrap-add_right}
 use Rattle.std.proofs.lemmas.Nat.{mul-le}
+use Rattle.basic_op.specs.Halves.{half_of}
 use Rattle.basic_op.specs.Operators.{l_add_of, l_mult_of, l_mac_of}
 use Rattle.fir_kernel.specs.Sums.{l_mac_sum}
 use Rattle.fir_kernel.specs.Bounded.{product_sum, magnitude_sum}
@@ -81,6 +82,10 @@ wrapped_run c x c' x' m n s t r e g cs xs f =
     ∙ int_wrap-add_right w32 (product_sum c x m) (product_sum (λ j. c (m + j)) (λ j. x (m + j)) n)
     ∙ ap (int_wrap w32) (product_sum-add c x m n)
 
+half_of_twice : (z : ℤ) → half_of (z +ℤ z) ≡ z
+half_of_twice (pos n) = grind (arith, ints)
+half_of_twice (negsuc n) = grind (arith, ints)
+
 abs_add : (a b : ℤ) → unsigned_abs (a +ℤ b) ≤ unsigned_abs a + unsigned_abs b
 abs_add a b = omega (arith, ints)
 
@@ -130,12 +135,12 @@ module _ (c x : ℕ → ℤ) (l : ℕ) where
       ap (λ v. l_mac_of v (c n) (x n)) h ∙ ap (λ m. l_add_of (product_sum c x n +ℤ product_sum c x n) m) last
       ∙ ap (saturate_to_bits 31) regroup ∙ doubled (product_sum c x n +ℤ (c n *ℤ x n)) whole
 
-  -- the wrapped sum, doubled, is the sum in order
+  -- the wrapped sum is half of the sum in order
   pub wrapped_sum_is : (n : ℕ) (s : ℤ) → ((k : ℕ) → k < n → unsigned_abs (x k) ≤ l) → magnitude_sum c n * l < 2 ^ 30
-      → s ≡ int_wrap w32 (product_sum c x n) → l_add_of s s ≡ l_mac_sum c x n
+      → s ≡ int_wrap w32 (product_sum c x n) → (unsigned_abs s < 2 ^ 30) × (s ≡ half_of (l_mac_sum c x n))
   wrapped_sum_is n s quiet bound e =
       let within = product_sum_within n quiet in
       let small : unsigned_abs (product_sum c x n) < 2 ^ 30 = omega arith in
       let fits : FitsSigned w32 (product_sum c x n) = fits_signed_from_abs w32 (product_sum c x n) (omega arith) in
       let plain : s ≡ product_sum c x n = e ∙ int_wrap_fits w32 (product_sum c x n) fits in
-      ap (λ z. l_add_of z z) plain ∙ doubled (product_sum c x n) small ∙ sym (l_mac_sum_plain n quiet bound)
+      (rw plain small, plain ∙ sym (half_of_twice (product_sum c x n)) ∙ sym (ap half_of (l_mac_sum_plain n quiet bound)))

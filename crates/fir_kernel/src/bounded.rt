@@ -1,14 +1,15 @@
-//! The filter where no sum can saturate: plain sums, in whatever order the vector registers take the products.
+//! The filter where no sum can saturate: plain sums, in whatever order the vector registers take the products. Each is half of the sum of the
+//! doubled products, and is rounded as such.
 ghost use Rattle.std.specs.Prelude.{◌≡◌, ◌↔◌, ◌<◌, ◌≤◌, ◌+◌, ◌-◌, ◌*◌, ◌%◌, ◌+ℤ◌, ◌*ℤ◌, ℕ, length, take, IsTrue};
 ghost use Rattle.std.specs.Int.{int_wrap, w32};
-ghost use Rattle.basic_op.specs.Operators.{l_add_of, round_of};
 ghost use Rattle.ialg.specs.History.{word_at};
 ghost use Rattle.fir_kernel.specs.Bounded.{product_sum, magnitude_sum, NoneLouder, IsBounded};
 ghost use Rattle.fir_kernel.specs.Sums.{filtered_at, AreOutputs};
 
+use crate::halves::round_halves;
 use crate::windows::{WINDOWS, read_words, sum_eight};
 use crate::{GREATEST_MAGNITUDE, LEAST_UNBOUNDED_SUM, MOST_COEFFICIENTS};
-use basic_op::{l_add, product, round};
+use basic_op::{half_round, product};
 use ialg::BLOCK_SAMPLES;
 
 /// How many products are summed at once: a loop of so many is unrolled into vector products.
@@ -69,7 +70,7 @@ pub(crate) fn output_bounded(coefficients: &[i16], line: &[i16], at: usize) -> i
     ensures { result ≡ filtered_at coefficients.now line.now at }
 {
     let sum = dot_turned(coefficients, &line[at..at + coefficients.len()]);
-    round(l_add(sum, sum))
+    half_round(sum)
 }
 
 /// The sum of the products of the coefficients with a window of samples, of which the newest stands last: wrapped to 32 bits.
@@ -111,7 +112,7 @@ pub(crate) fn filter_bounded<const N: usize>(
     let mut block = [0; N];
     let (sums, _unused) = block.split_at_mut(out.len());
     sum_windows(&taps[..LANES * runs], line, first, step, sums);
-    round_doubled(sums, out);
+    round_halves(sums, out);
 }
 
 /// Writes the coefficients into the first words of `taps`, the last one first.
@@ -185,15 +186,4 @@ fn add_product(sum: i32, tap: i16, sample: i16) -> i32
     ensures { result ≡ int_wrap w32 (sum +ℤ tap *ℤ sample) }
 {
     sum.wrapping_add(product(tap, sample))
-}
-
-/// Twice the sums, each rounded to Q15.
-fn round_doubled(sums: &[i32], out: &mut [i16])
-    requires { length sums.now ≡ length out.old }
-    ensures { (i : ℕ) → i < length out.old
-        → word_at out.new i ≡ round_of (l_add_of (word_at sums.now i) (word_at sums.now i)) }
-{
-    for (i, output) in out.iter_mut().enumerate() {
-        *output = round(l_add(sums[i], sums[i]));
-    }
 }

@@ -162,7 +162,7 @@ fn add_product(coefficient: i16, samples: &[i16], sums: &mut [Half])
 }
 
 /// The sums, each rounded to Q15.
-fn round_halves(sums: &[Half], out: &mut [i16])
+pub(crate) fn round_halves(sums: &[Half], out: &mut [i16])
     requires as_many { length sums.now ≡ length out.old }
     requires halves { AreHalves sums.now }
     ensures { (i : ℕ) (v : ℤ) → i < length out.old → word_at sums.now i ≡ half_of v → word_at out.new i ≡ round_of v }

@@ -2,7 +2,7 @@
 ghost use Rattle.std.specs.Prelude.{◌≡◌, ◌<◌, ◌≤◌, ◌+◌, ◌*◌, ◌%◌, ◌+ℤ◌, ℕ, ℤ, [], ◌∷◌, length, FitsSigned};
 ghost use Rattle.std.specs.Int.{int_wrap, w16, w32};
 ghost use Rattle.ialg.specs.History.{word_at};
-ghost use Rattle.fir_kernel.specs.Windows.{IsSplit, window_sum};
+ghost use Rattle.fir_kernel.specs.Windows.{window_sum, HasWindows, IsSplit};
 
 use std::simd::prelude::*;
 
@@ -14,9 +14,6 @@ const REGISTER: usize = 8;
 
 /// Writes the sums of the products of all taps with eight windows, from sum `at` on, each wrapped to 32 bits. The first window begins at word `first` of
 /// the line, and each other one `step` words behind the one before.
-///
-/// It is a call of its own: inlined, the compiler draws the loads of the taps out of the loop one by one.
-#[inline(never)]
 pub(crate) fn sum_eight(
     taps: &[i16],
     line: &[i16],
@@ -30,10 +27,51 @@ pub(crate) fn sum_eight(
     requires whole { length taps.now % REGISTER ≡ 0 }
     requires reach { first + step * 7 + length taps.now ≤ length line.now }
     requires room { at + WINDOWS ≤ length sums.old }
-    ensures size { length sums.new ≡ length sums.old }
-    ensures before { (k : ℕ) → k < at → word_at sums.new k ≡ word_at sums.old k }
-    ensures sums { (q : ℕ) → q < WINDOWS
-        → word_at sums.new (at + q) ≡ int_wrap w32 (window_sum taps.now line.now (first + step * q) (length taps.now)) }
+    ensures { HasWindows taps.now line.now first step at sums.old sums.new }
+{
+    if step == 1 {
+        sum_neighbours(taps, line, first, sums, at);
+    } else {
+        sum_apart(taps, line, first, step, sums, at);
+    }
+}
+
+/// Writes the sums of neighbouring windows. It is a call of its own, and so is [`sum_apart`]: inlined, the compiler draws the loads of the taps out of the
+/// loop one by one. Where the step is known, no address but one is computed for the eight windows.
+#[inline(never)]
+fn sum_neighbours(taps: &[i16], line: &[i16], first: usize, sums: &mut [i32], at: usize)
+    requires words { (k : ℕ) → FitsSigned w16 (word_at taps.now k) }
+    requires samples { (k : ℕ) → FitsSigned w16 (word_at line.now k) }
+    requires whole { length taps.now % REGISTER ≡ 0 }
+    requires reach { first + 7 + length taps.now ≤ length line.now }
+    requires room { at + WINDOWS ≤ length sums.old }
+    ensures { HasWindows taps.now line.now first 1 at sums.old sums.new }
+{
+    sum_by_step(taps, line, first, 1, sums, at);
+}
+
+/// Writes the sums of windows that are `step` words apart.
+#[inline(never)]
+fn sum_apart(taps: &[i16], line: &[i16], first: usize, step: usize, sums: &mut [i32], at: usize)
+    requires words { (k : ℕ) → FitsSigned w16 (word_at taps.now k) }
+    requires samples { (k : ℕ) → FitsSigned w16 (word_at line.now k) }
+    requires whole { length taps.now % REGISTER ≡ 0 }
+    requires reach { first + step * 7 + length taps.now ≤ length line.now }
+    requires room { at + WINDOWS ≤ length sums.old }
+    ensures { HasWindows taps.now line.now first step at sums.old sums.new }
+{
+    sum_by_step(taps, line, first, step, sums, at);
+}
+
+/// Writes the sums as [`sum_eight`] does.
+#[inline(always)]
+fn sum_by_step(taps: &[i16], line: &[i16], first: usize, step: usize, sums: &mut [i32], at: usize)
+    requires words { (k : ℕ) → FitsSigned w16 (word_at taps.now k) }
+    requires samples { (k : ℕ) → FitsSigned w16 (word_at line.now k) }
+    requires whole { length taps.now % REGISTER ≡ 0 }
+    requires reach { first + step * 7 + length taps.now ≤ length line.now }
+    requires room { at + WINDOWS ≤ length sums.old }
+    ensures { HasWindows taps.now line.now first step at sums.old sums.new }
 {
     let mut a = i32x4::splat(0);
     let mut b = i32x4::splat(0);

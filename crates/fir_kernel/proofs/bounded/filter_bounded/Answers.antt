@@ -1,26 +1,43 @@
-use Rattle.std.proofs.Common.{◌≡◌, ◌≤◌, ◌+◌, ◌*◌, ◌∙◌, length, take, w32, arith, ap, length-take}
-use Rattle.std.specs.Int.{int_wrap}
-use Rattle.ialg.specs.History.{word_at}
-use Rattle.fir_kernel.specs.Bounded.{product_sum}
-use Rattle.fir_kernel.proofs.Bounding.{zeros_at, output_by_taps}
+use Rattle.std.proofs.Common.{◌≡◌, ◌≤◌, ◌*◌, ◌∙◌, pos, length, inl, inr, arith}
+use Rattle.std.proofs.lemmas.Bool.{cases_lt}
+use Rattle.std.proofs.lemmas.List.{get_or_past}
+use Rattle.fir_kernel.proofs.Bounding.{zeros_at, halves_by_taps}
 use Rattle.fir_kernel.proofs.bounded.filter_bounded.Goals as goal
 use Rattle.fir_kernel.proofs.bounded.filter_bounded.Goals.{then-coefficients-le-LANES, else-coefficients-le-LANES}
+
+pub round_halves-requires-clause-halves : goal.round_halves-requires-clause-halves
+round_halves-requires-clause-halves g c k =
+    let cs = c.args.coefficients.now in
+    let taps = c.reverse.new.taps in
+    let all : length taps ≡ 64 = c.reverse.auto.taps in
+    let m = 32 * c.if-coefficients-le-LANES.runs in
+    let size : (length cs ≤ m) × (m ≤ length taps) =
+    elim c.if-coefficients-le-LANES.branch [
+      | then-coefficients-le-LANES w ↦ (omega arith, omega arith)
+      | else-coefficients-le-LANES w ↦ (omega arith, omega arith)
+    ] in
+    let halves =
+    halves_by_taps cs c.args.line.now c.args.last c.requires.bounded taps m c.requires.some size
+    c.reverse.ensures.reversed (λ j h. c.reverse.ensures.rest j h ∙ zeros_at 64 j) c.sum_windows.new.sums c.args.first c.args.step (length c.args.out.now) c.requires.last
+    (λ j h. c.sum_windows.ensures j (omega arith)) in
+    elim (cases_lt k (length c.sum_windows.new.sums)) [
+      | inl b ↦ let h = (halves k (omega arith)).0 in omega arith
+      | inr b ↦ rw (get_or_past c.sum_windows.new.sums k (pos 0) b) (omega arith)
+    ]
 
 pub returns : goal.returns
 returns g c i b =
     let cs = c.args.coefficients.now in
     let taps = c.reverse.new.taps in
-    let line = c.args.line.now in
+    let all : length taps ≡ 64 = c.reverse.auto.taps in
     let m = 32 * c.if-coefficients-le-LANES.runs in
-    let size : (length cs ≤ m) × (m ≤ 64) =
+    let size : (length cs ≤ m) × (m ≤ length taps) =
     elim c.if-coefficients-le-LANES.branch [
       | then-coefficients-le-LANES w ↦ (omega arith, omega arith)
       | else-coefficients-le-LANES w ↦ (omega arith, omega arith)
     ] in
-    let all : length taps ≡ 64 = c.reverse.auto.taps in
-    let front : length (take m taps) ≡ m = simp length-take (omega arith) in
-    let at = c.args.first + c.args.step * i in
-    output_by_taps cs line c.args.last c.requires.bounded taps m c.requires.some size.0
-    c.reverse.ensures.reversed (λ j h. c.reverse.ensures.rest j h ∙ zeros_at 64 j) at _ _ (c.requires.last i b)
-    (c.sum_windows.ensures i (omega arith) ∙ ap (λ n. int_wrap w32 (product_sum (word_at (take m taps)) (λ j. word_at line (at + j)) n)) front)
-    (c.round_doubled.ensures i b)
+    let halves =
+    halves_by_taps cs c.args.line.now c.args.last c.requires.bounded taps m c.requires.some size
+    c.reverse.ensures.reversed (λ j h. c.reverse.ensures.rest j h ∙ zeros_at 64 j) c.sum_windows.new.sums c.args.first c.args.step (length c.args.out.now) c.requires.last
+    (λ j h. c.sum_windows.ensures j (omega arith)) in
+    c.round_halves.ensures i _ b (halves i b).1

@@ -1,8 +1,8 @@
-use Rattle.std.proofs.Common.{◌≡◌, ◌<◌, ◌+◌, ◌-◌, ◌*◌, ◌∙◌, ◌/◌, ◌+ℤ◌, ℕ, List, ℤ, length, map, take, drop, to_z, of_z, w32, arith, ap}
+use Rattle.std.proofs.Common.{◌≡◌, ◌<◌, ◌+◌, ◌-◌, ◌*◌, ◌∙◌, ◌/◌, ◌+ℤ◌, ℕ, List, ℤ, length, map, take, drop, to_z, of_z, w32, arith, ap, rules}
 use Rattle.std.specs.Int.{int_wrap}
 use Rattle.fir_kernel.specs.Windows.{IsSplit, window_sum}
 use Rattle.fir_kernel.proofs.Lanes.{kept, kept_sums, no_lanes, run_more, part_fits, eight_written, before_eight}
-use Rattle.fir_kernel.proofs.windows.sum_eight.Goals as goal
+use Rattle.fir_kernel.proofs.windows.sum_by_step.Goals as goal
 
 pub loop-run-init : goal.loop-run-init
 loop-run-init c =
@@ -59,18 +59,20 @@ loop-run-preserved c =
       h = more taps line c.add_products-h.result (first + step * 7) run _ b (omega arith) (c.add_products-h.ensures _ i.h);
     }
 
-pub returns-clause-before : goal.returns-clause-before
-returns-clause-before c k b = before_eight c.args.sums.now c.args.at _ _ k b
-
-pub returns-clause-sums : goal.returns-clause-sums
-returns-clause-sums c q b =
+pub returns : goal.returns
+returns c =
     let taps = c.args.taps.now in
     let line = c.args.line.now in
     let n = length taps in
     let i = c.loop-run.invariant in
     let all : 8 * c.loop-run.run ≡ n = omega arith in
     let wanted : ℕ → ℤ = λ k. window_sum taps line (c.args.first + c.args.step * k) (8 * c.loop-run.run) in
-    eight_written c.args.sums.now c.args.at (λ k. int_wrap w32 (wanted k)) _ _ c.requires.room
-    (kept_sums (wanted 0) (wanted 1) (wanted 2) (wanted 3) c.lane_sums.result (c.lane_sums.ensures _ _ _ _ i.a i.b i.c i.d))
-    (kept_sums (wanted 4) (wanted 5) (wanted 6) (wanted 7) c.lane_sums-2.result (c.lane_sums-2.ensures _ _ _ _ i.e i.f i.g i.h)) q b
-    ∙ ap (λ m. int_wrap w32 (window_sum taps line (c.args.first + c.args.step * q) m)) all
+    record {
+      size = search rules;
+      before = λ k b. before_eight c.args.sums.now c.args.at _ _ k b;
+      sums = λ q b.
+          eight_written c.args.sums.now c.args.at (λ k. int_wrap w32 (wanted k)) _ _ c.requires.room
+          (kept_sums (wanted 0) (wanted 1) (wanted 2) (wanted 3) c.lane_sums.result (c.lane_sums.ensures _ _ _ _ i.a i.b i.c i.d))
+          (kept_sums (wanted 4) (wanted 5) (wanted 6) (wanted 7) c.lane_sums-2.result (c.lane_sums-2.ensures _ _ _ _ i.e i.f i.g i.h)) q b
+          ∙ ap (λ m. int_wrap w32 (window_sum taps line (c.args.first + c.args.step * q) m)) all;
+    }

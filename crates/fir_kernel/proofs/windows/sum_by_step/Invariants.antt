@@ -1,6 +1,6 @@
 use Rattle.std.proofs.Common.{◌+◌, ◌*◌, map, to_z, w32}
 use Rattle.fir_kernel.specs.Windows.{IsSplit, window_sum}
-use Rattle.fir_kernel.proofs.windows.sum_eight.Given as goal
+use Rattle.fir_kernel.proofs.windows.sum_by_step.Given as goal
 
 abbrev pub invariant-loop-run : goal.invariant-loop-run
 invariant-loop-run l = record {
