@@ -143,7 +143,7 @@ class Files(ConsoleCase):
     def test_full_replies(self) -> None:
         with open("/dev/full", "wb") as full:
             ended = self.run_program("--explain", "script", "in", "out", stdout=full)
-        self.assertEqual(ended.end, (4, b"dsp_console: the standard output: : No space left on device (os error 28)\n" + WRITE_FAILED[1]))
+        self.assertEqual(ended.end, (4, b"dsp_console: the standard output: No space left on device (os error 28)\n" + WRITE_FAILED[1]))
 
     def test_files_that_would_be_written_over(self) -> None:
         self.assertEqual(self.told("script", "in", "in", status=WRITE_FAILED),
@@ -154,6 +154,15 @@ class Files(ConsoleCase):
                          "dsp_console: the OUT of channel 0: mid: it is the IN of channel 1 too\n")
         self.assertEqual(self.told("script", "in", "out", "in", "out", status=WRITE_FAILED),
                          "dsp_console: the OUT of channel 1: out: it is the OUT of channel 0 too\n")
+
+    def test_files_that_are_where_the_replies_go(self) -> None:
+        """The standard output has no path to tell."""
+        with open(self.folder / "script", "ab") as script:
+            ended = self.run_program("--explain", "script", "in", "out", stdout=script)
+        self.assertEqual(ended.end, (4, b"dsp_console: the standard output: it is SCRIPT too\n" + WRITE_FAILED[1]))
+        with open(self.folder / "log", "wb") as log:
+            ended = self.run_program("--explain", "script", "in", "log", stdout=log)
+        self.assertEqual(ended.end, (4, b"dsp_console: the OUT of channel 0: log: it is the standard output too\n" + WRITE_FAILED[1]))
 
 
 class Version(ConsoleCase):

@@ -4,7 +4,7 @@ use dsp_arguments::Arguments;
 use dsp_console::Fault;
 use line_reasons::{Reason, Shown, Unanswered};
 use octet_ports::LINE_FEED;
-use port_files::{Role, Troubles};
+use port_files::{Role, Trouble, Troubles};
 
 /// The most octets of a reply that are kept: no refusal has more.
 const KEPT_OCTETS: usize = 16;
@@ -62,14 +62,14 @@ impl<'e, R: Eprint> Explainer<'e, R> {
     }
 }
 
-/// The path of the file of this role, which is empty for the standard output.
-fn path_of<'a>(arguments: &Arguments<'a>, role: Role) -> &'a str {
+/// The path of the file of this role, which the standard output hasn't.
+fn path_of<'a>(arguments: &Arguments<'a>, role: Role) -> Option<&'a str> {
     let ports = arguments.ports.as_slice();
     match role {
-        Role::Script => arguments.script,
-        Role::In(pair) => ports.get(pair as usize).map_or("", |ports| ports.0),
-        Role::Out(pair) => ports.get(pair as usize).map_or("", |ports| ports.1),
-        Role::Replies => "",
+        Role::Script => Some(arguments.script),
+        Role::In(pair) => ports.get(pair as usize).map(|ports| ports.0),
+        Role::Out(pair) => ports.get(pair as usize).map(|ports| ports.1),
+        Role::Replies => None,
     }
 }
 
@@ -85,11 +85,12 @@ pub(crate) fn explain_fault<R: Eprint>(
         Fault::Write => &troubles.written,
         Fault::Size | Fault::Memory => return,
     };
-    let _ = match trouble {
-        Some(trouble) => {
-            let path = path_of(arguments, trouble.role);
-            eprintln!(rt; "dsp_console: {}: {path}: {}", trouble.role, trouble.why)
-        }
-        None => eprintln!(rt; "dsp_console: SCRIPT: {}: it is too long", arguments.script),
+    let Some(Trouble { role, why }) = trouble else {
+        let _ = eprintln!(rt; "dsp_console: SCRIPT: {}: it is too long", arguments.script);
+        return;
+    };
+    let _ = match path_of(arguments, *role) {
+        Some(path) => eprintln!(rt; "dsp_console: {role}: {path}: {why}"),
+        None => eprintln!(rt; "dsp_console: {role}: {why}"),
     };
 }
