@@ -1,8 +1,10 @@
 //! The detector over plain words.
-ghost use Rattle.std.specs.Prelude.{◌≡◌, ◌≤◌, ◌<◌, ◌+◌, ◌++◌, ◌∷◌, ℤ, List, [], length, pos};
-ghost use Rattle.basic_op.specs.Operators.{add_of};
+ghost use Rattle.std.specs.Prelude.{◌≡◌, ◌≤◌, ◌<◌, ◌+◌, ◌^◌, ◌++◌, ◌∷◌, ℕ, ℤ, List, [], length, take, pos, true, unsigned_abs, FitsSigned, IfSome};
+ghost use Rattle.std.specs.Int.{w16};
+ghost use Rattle.basic_op.specs.Operators.{add_of, saturate16, shr_of};
 ghost use Rattle.ialg.specs.History.{History, word_at};
-ghost use Rattle.alg_tone.specs.Equation.{feedback_of, tone_level, tone_value};
+ghost use Rattle.alg_tone.specs.Equation.{feedback_of, frame_length, samples_in_frame, tone_level, tone_value};
+ghost use Rattle.alg_tone.specs.Frames.{Gives, IsFrame, IsTuned};
 ghost use Rattle.alg_tone.specs.Keeps.{state_after, KeepsParameters, Ran};
 
 use crate::{PARAMETERS, STATE_WORDS};
@@ -87,20 +89,74 @@ impl Tuning {
         }
     }
 
-    /// The factor, in Q14, times a value in Q15: in Q15. One limit stands for those of the product and of its shift.
+    /// The factor, in Q14, times a value in Q15: in Q15, and not limited.
+    #[inline]
+    fn whole_feedback(self, v: i16) -> i32
+        ensures value { saturate16 result ≡ feedback_of self.factor v }
+        ensures within { unsigned_abs result ≤ 2 ^ 16 }
+    {
+        let factor = i32::from(self.factor);
+        let value = i32::from(v);
+        (factor * value) >> FACTOR_BITS
+    }
+
+    /// The same, limited: one limit stands for those of the product and of its shift.
     #[inline]
     fn feedback(self, v: i16) -> i16
         ensures { result ≡ feedback_of self.factor v }
     {
-        let whole = i32::from(self.factor) * i32::from(v);
-        (whole >> FACTOR_BITS).clamp(i32::from(i16::MIN), i32::from(i16::MAX)) as i16
+        let whole = self.whole_feedback(v);
+        let least = i32::from(i16::MIN);
+        let most = i32::from(i16::MAX);
+        whole.clamp(least, most) as i16
     }
 
-    /// The value of the sample `x` in the frame, in Q15.
+    /// The value of the sample `x` in the frame, in Q15, each step saturated.
     fn value(self, frame: Frame, x: i16) -> i16
         ensures { result ≡ tone_value self.factor self.shift x frame.v1 frame.v2 }
     {
         sub(add(shr(x, self.shift), self.feedback(frame.v1)), frame.v2)
+    }
+
+    /// A sample shifted to the right, and None where the shift is one to the left.
+    #[inline]
+    fn shifted_right(self, x: i16) -> Option<i16>
+        ensures { IfSome result (λ y. y ≡ shr_of x self.shift) }
+    {
+        if self.shift < 0 {
+            return None;
+        }
+        // 15 shifts leave 0 or -1: so do more.
+        let bits = self.shift.unsigned_abs().min(15);
+        Some(x >> bits)
+    }
+
+    /// The value where no step saturates, and None where one does.
+    #[inline]
+    fn plain_value(self, frame: Frame, x: i16) -> Option<i16>
+        ensures { IfSome result (λ v. v ≡ tone_value self.factor self.shift x frame.v1 frame.v2) }
+    {
+        let shifted = self.shifted_right(x)?;
+        let sample = i32::from(shifted);
+        let older = i32::from(frame.v2);
+        let feedback = self.whole_feedback(frame.v1);
+        let sum = sample + feedback;
+        let value = sum - older;
+        if are_words(feedback, sum, value) {
+            Some(value as i16)
+        } else {
+            None
+        }
+    }
+
+    /// How many samples can follow in the frame before its last one. Words that no instance keeps may count more samples than a frame has:
+    /// then it is none.
+    fn room(self, frame: Frame) -> usize
+        ensures { (p : List ℤ) (h : History) → IsTuned p h self → IsFrame p h frame → samples_in_frame p h + result < frame_length p }
+    {
+        let left = sub(self.samples, frame.samples);
+        let some = left.max(1);
+        usize::from(some.unsigned_abs()) - 1
     }
 
     /// The level of the tone in the frame, in Q15: the sum of squares is in Q31.
@@ -129,7 +185,57 @@ impl Tuning {
     }
 }
 
-/// Runs the detector over a block; `state` has the frame so far before and after.
+/// Whether this is a Word16.
+#[inline]
+fn is_word(z: i32) -> bool
+    ensures { result ≡ true → FitsSigned w16 z }
+{
+    i32::from(i16::MIN) <= z && z <= i32::from(i16::MAX)
+}
+
+/// Whether all three steps to a value give words.
+#[inline]
+fn are_words(feedback: i32, sum: i32, value: i32) -> bool
+    ensures { result ≡ true → FitsSigned w16 feedback × FitsSigned w16 sum × FitsSigned w16 value }
+{
+    is_word(feedback) && is_word(sum) && is_word(value)
+}
+
+/// The frame after some samples, and how many these are.
+#[derive(Clone, Copy)]
+struct Run {
+    frame: Frame,
+    count: usize,
+}
+
+/// Runs samples, all of them before the frame's last one, as long as no step saturates.
+fn run_plain(tuning: Tuning, start: Frame, input: &[i16]) -> Run
+    requires { length input.now ≤ BLOCK_SAMPLES }
+    ensures count { result.count ≤ length input.now }
+    ensures fit { (k : ℕ) → k < result.count → FitsSigned w16 (word_at input.now k) }
+    ensures law { (p : List ℤ) (h : History) → IsTuned p h tuning → IsFrame p h start → samples_in_frame p h + length input.now < frame_length p
+        → Gives p h (take result.count input.now) result.frame [] }
+{
+    // The values as two words: as a struct they would be put together and taken apart at each sample.
+    let mut v1 = start.v1;
+    let mut v2 = start.v2;
+    let mut count = 0;
+    for x in input {
+        let newest = Frame { v1, v2, ..start };
+        let Some(v) = tuning.plain_value(newest, *x) else {
+            break;
+        };
+        v2 = v1;
+        v1 = v;
+        count += 1;
+    }
+    let samples = add(start.samples, count as i16);
+    let frame = Frame { samples, v1, v2 };
+    Run { frame, count }
+}
+
+/// Runs the detector over a block; `state` has the frame so far before and after. Where a step saturates, others soon will: the rest of
+/// the frame is run with a limit at each step, and so is its last sample, which gives the level.
 pub(crate) fn detect(parameters: &[i16], state: &mut [i16], input: &[i16], out: &mut Block)
     requires three { length parameters.now ≡ PARAMETERS }
     requires few { length state.old ≡ STATE_WORDS }
@@ -141,9 +247,19 @@ pub(crate) fn detect(parameters: &[i16], state: &mut [i16], input: &[i16], out: 
 {
     let tuning = Tuning::read(parameters);
     let mut frame = Frame::read(state);
-    for x in input {
-        let v = tuning.value(frame, *x);
-        frame = tuning.finish(frame.with(v), out);
+    let mut done = 0;
+    while done < input.len() {
+        let room = tuning.room(frame).min(input.len() - done);
+        let last = done + room;
+        let run = run_plain(tuning, frame, &input[done..last]);
+        frame = run.frame;
+        let start = done + run.count;
+        let end = input.len().min(last + 1);
+        for x in &input[start..end] {
+            let v = tuning.value(frame, *x);
+            frame = tuning.finish(frame.with(v), out);
+        }
+        done = end;
     }
     frame.write(state);
 }
