@@ -1,12 +1,14 @@
 -- An instance that sees no piece: nothing is taken, and nothing put.
-use Rattle.std.proofs.Common.{◌≡◌, ◌<◌, ℕ, zero, suc, List, [], ◌∷◌, length, set, get_or, None, refl, sym, ◌∙◌, ap, subst, arith}
+use Rattle.std.proofs.Common.{◌≡◌, ◌≢◌, ◌<◌, ℕ, zero, suc, List, [], ◌∷◌, length, set, get_or, Option, None, refl, sym, ◌∙◌, ap, arith}
 use Rattle.std.proofs.lemmas.List.{set-get_or}
+use Rattle.space_raw.specs.Span.{Span}
+use Rattle.record_loans.specs.declared.pieces.Pieces.{Pieces}
 use Rattle.host_shared.specs.declared.locations.Location.{Location}
 use Rattle.host_shared.specs.declared.locations.Location.TheVariants.{Here}
 use Rattle.host_shared.specs.declared.locations.Locations.{Locations}
-use Rattle.host_shared.specs.Locations.{location_at, piece_here, no_locations, locations_at, owner_by, owner_of, piece_seen, shared_at, no_pieces}
+use Rattle.host_shared.specs.Locations.{location_at, piece_here, no_locations, locations_at, owner_by, owner_of, piece_seen, shared_at}
 use Rattle.host_shared.specs.Owners.{with_location, put_piece, with_pieces_of, HasOwner, HasOwners}
-use Rattle.host_shared.proofs.Stands.{four_pieces}
+use Rattle.host_shared.proofs.Owners.{owner_after, seen_beside}
 
 with_same : (s : Locations) (k : ℕ) (x : Location) → location_at s k ≡ x → with_location s k x ≡ s
 with_same s zero x is = ap (λ (y : Location). with_location s 0 y) (sym is)
@@ -27,22 +29,26 @@ pub seen_again : (sharing : List Locations) (i : ℕ) → HasOwners sharing i �
 unfolding with_pieces_of
 seen_again sharing i owners = rw (put_again sharing i 0 (owners 0), put_again sharing i 1 (owners 1), put_again sharing i 2 (owners 2), put_again sharing i 3 (owners 3)) refl
 
-pub seen_none : (sharing : List Locations) (i : ℕ) → HasOwners sharing i → shared_at sharing i ≡ no_pieces → with_pieces_of sharing i no_pieces ≡ sharing
-seen_none sharing i owners none = ap (with_pieces_of sharing i) (sym none) ∙ seen_again sharing i owners
+-- of an instance that sees no piece but maybe that of record 1, one is put alone
+put_nothing : (sharing : List Locations) (i k : ℕ) → HasOwner sharing i k → piece_seen sharing i k ≡ None → put_piece sharing i k None ≡ sharing
+put_nothing sharing i k owner none = ap (put_piece sharing i k) (sym none) ∙ put_again sharing i k owner
 
--- an empty locations
-nothing_at : (sharing : List Locations) (i k : ℕ) → locations_at sharing i ≡ no_locations → location_at no_locations k ≡ Here None → piece_seen sharing i k ≡ None
-nothing_at sharing i k bare nothing =
-    let here : location_at (locations_at sharing i) k ≡ Here None = ap (λ (s : Locations). location_at s k) bare ∙ nothing in
+module _ (sharing : List Locations) (i : ℕ) (p : Option Span) (owners : HasOwners sharing i) where
+  put_beside_one : (l : ℕ) → l ≢ 1 → piece_seen sharing i l ≡ None → put_piece (put_piece sharing i 1 p) i l None ≡ put_piece sharing i 1 p
+  put_beside_one l apart none =
+      put_nothing (put_piece sharing i 1 p) i l (owner_after sharing i 1 p (owners 1) (omega arith) l (owners l)) (seen_beside sharing i 1 p (owners 1) (omega arith) l apart ∙ none)
+
+  pub one_put : (o : Pieces) → o.p0 ≡ None → o.p1 ≡ p → o.p2 ≡ None → o.p3 ≡ None
+      → piece_seen sharing i 0 ≡ None → piece_seen sharing i 2 ≡ None → piece_seen sharing i 3 ≡ None
+      → with_pieces_of sharing i o ≡ put_piece sharing i 1 p
+  unfolding with_pieces_of
+  one_put o e0 e1 e2 e3 n0 n2 n3 =
+      rw (e0, e1, e2, e3, put_nothing sharing i 0 (owners 0) n0, put_beside_one 2 (omega arith) n2, put_beside_one 3 (omega arith) n3) refl
+
+-- where an instance has no piece, and names no owner, it sees none
+pub nothing_seen : (sharing : List Locations) (i k : ℕ) → location_at (locations_at sharing i) k ≡ Here None → piece_seen sharing i k ≡ None
+nothing_seen sharing i k here =
     ap (λ (h : ℕ). piece_here (location_at (locations_at sharing h) k)) (ap (owner_by i) here) ∙ ap piece_here here
-
-pub bare_sees : (sharing : List Locations) (i : ℕ) → locations_at sharing i ≡ no_locations → shared_at sharing i ≡ no_pieces
-bare_sees sharing i bare =
-    four_pieces (shared_at sharing i) no_pieces (nothing_at sharing i 0 bare refl) (nothing_at sharing i 1 bare refl) (nothing_at sharing i 2 bare refl) (nothing_at sharing i 3 bare refl)
-
--- a locations that was read, and was empty
-pub bare_read : (sharing : List Locations) (i : ℕ) (s : Locations) → s ≡ get_or sharing i s → s ≡ no_locations → locations_at sharing i ≡ no_locations
-bare_read sharing i s read is = sym (subst (λ (x : Locations). x ≡ get_or sharing i x) is read)
 
 -- a locations that was read is the one that stands there
 pub read_locations : (sharing : List Locations) (i : ℕ) (s : Locations) → i < length sharing → s ≡ get_or sharing i s → locations_at sharing i ≡ s

@@ -7,6 +7,7 @@ use Rattle.record_loans.specs.declared.plan.Source.TheVariants.{Absent, Own, Sha
 use Rattle.record_loans.specs.declared.plan.Cut.{Cut}
 use Rattle.record_loans.specs.declared.plan.Plan.{Plan}
 use Rattle.record_loans.specs.declared.plan.FilterSizes.{FilterSizes}
+use Rattle.record_loans.specs.declared.plan.ReaderSizes.{ReaderSizes}
 
 abbrev pub is_shared : Source → Bool
 is_shared Shared = true
@@ -79,3 +80,12 @@ pub record FilterFits (n : FilterSizes) (o0 o1 d : ℕ) : Type 0 where
   pub object : n.object ≤ o0
   pub kept : n.kept ≤ o1
   pub running : n.running ≤ d
+
+-- the words of each record of a reader, with those of its own piece and of the one that is lent to it
+abbrev pub reader_words : ReaderSizes → List ℤ → List ℤ → List (List ℤ)
+reader_words n o0 s1 = take n.object o0 ∷ take n.once s1 ∷ [] ∷ [] ∷ []
+
+-- the pieces have enough words for a reader
+pub record ReaderFits (n : ReaderSizes) (o0 s1 : ℕ) : Type 0 where
+  pub object : n.object ≤ o0
+  pub once : n.once ≤ s1

@@ -2,12 +2,12 @@
 ghost use Rattle.std.specs.Prelude.{◌≡◌, ◌≤◌, [], ◌∷◌, length, None};
 ghost use Rattle.record_loans.specs.Blocks.{block_words, IsSameBlock};
 ghost use Rattle.record_loans.specs.Pieces.{piece_words, IsSamePiece, SamePieces};
-ghost use Rattle.record_loans.specs.Cuts.{cut_words, CutsFit, filter_words, plan_words, FilterFits, PlanFits};
+ghost use Rattle.record_loans.specs.Cuts.{cut_words, CutsFit, filter_words, plan_words, reader_words, FilterFits, PlanFits, ReaderFits};
 ghost use Rattle.record_loans.specs.Loans.{held, lent_by, LentFits};
 
 use crate::block::ScratchBlock;
 use crate::pieces::Pieces;
-use crate::plan::{FilterSizes, Plan, Source};
+use crate::plan::{FilterSizes, Plan, ReaderSizes, Source};
 use ialg::{Lending, Step, lend};
 use space_raw::Piece;
 use std::mem;
@@ -140,6 +140,42 @@ pub fn lend_filter<O, S: Step<O>>(
                 None => unreachable!(),
             },
             None => unreachable!(),
+        },
+        None => unreachable!(),
+    }
+}
+
+/// Performs the step with the records of a reader, out of its own piece and the second one that is lent to it, if one is: their loans are
+/// two, and no other piece and no block is looked at.
+#[inline(always)]
+#[tactic(auto, using(crate::proofs::Parts::front_read))]
+pub fn lend_reader<O, S: Step<O>>(
+    loan: &Lending<'_, S>,
+    sizes: ReaderSizes,
+    own: &mut Pieces,
+    shared: &mut Pieces,
+    out: &mut O,
+)
+    requires can { S.can loan.now.step.now out.old }
+    requires some { 1 ≤ sizes.object }
+    requires fit { ReaderFits sizes (length (piece_words own.old.p0)) (length (piece_words shared.old.p1)) }
+    ensures done { S.done loan.now.step.now loan.now.table.now loan.now.writable
+        (reader_words sizes (piece_words own.old.p0) (piece_words shared.old.p1))
+        (reader_words sizes (piece_words own.new.p0) (piece_words shared.new.p1)) out.old out.new }
+    ensures own { SamePieces own.old own.new }
+    ensures shared { SamePieces shared.old shared.new }
+{
+    match &mut own.p0 {
+        Some(object) => match &mut shared.p1 {
+            Some(once) => {
+                let (object, _rest) = object.words_mut().split_at_mut(sizes.object);
+                let (once, _rest) = once.words_mut().split_at_mut(sizes.once);
+                lend(loan, object, once, &mut [], &mut [], out);
+            }
+            None => {
+                let (object, _rest) = object.words_mut().split_at_mut(sizes.object);
+                lend(loan, object, &mut [], &mut [], &mut [], out);
+            }
         },
         None => unreachable!(),
     }

@@ -59,3 +59,10 @@ pub struct FilterSizes {
     pub kept: usize,
     pub running: usize,
 }
+
+/// How many words each record of a reader has: the object, and the write-once words behind it, none where it has no second record.
+#[derive(Clone, Copy, PartialEq, Eq, Debug)]
+pub struct ReaderSizes {
+    pub object: usize,
+    pub once: usize,
+}

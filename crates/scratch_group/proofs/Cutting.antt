@@ -121,7 +121,7 @@ less_is : (rs : List MemRec) (g : Group) (k : ℕ) (space : Space)
     → less (cut_of rs k).source space (cut_of rs k).gap (cut_of rs k).size (length (rest rs g k space)) ≡ length (rest rs g (suc k) space)
 less_is rs g k space = len_left (cut_of rs k).source space (cut_of rs k).gap (cut_of rs k).size (rest rs g k space) ∙ ap length (rest_is rs g k space)
 
-either : (a b : ℕ) → (a < b) ⊎ (b ≤ a)
+pub either : (a b : ℕ) → (a < b) ⊎ (b ≤ a)
 either a zero = inr (omega arith)
 either zero (suc b) = inl (omega arith)
 either (suc a) (suc b) = elim (either a b) [ inl h ↦ inl (omega (arith, h)) | inr h ↦ inr (omega (arith, h)) ]

@@ -3,3 +3,4 @@ pub mod Cutting
 pub mod Tables
 pub mod Fills
 pub mod Filters
+pub mod Readers

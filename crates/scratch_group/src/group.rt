@@ -7,11 +7,11 @@ ghost use Rattle.host_map.specs.Activity.{count_after};
 ghost use Rattle.record_loans.specs.Pieces.{piece_place, IsInSpace, SamePieces};
 ghost use Rattle.scratch_group.specs.Words.{active_words, HasWords};
 
-use crate::plan::{active_plan, filter_sizes};
+use crate::plan::{active_plan, filter_sizes, reader_sizes};
 use host_map::Stat;
 use ialg::{Lending, Step};
 use mem_rec::{Layout, MemTab, Space, scratch_layout};
-use record_loans::{Pieces, ScratchBlock, lend_filter, lend_with_blocks};
+use record_loans::{Pieces, ScratchBlock, lend_filter, lend_reader, lend_with_blocks};
 use space_raw::Piece;
 
 /// The size and the alignment of a block that is to be placed, in words.
@@ -204,7 +204,10 @@ impl Group {
         };
         match filter_sizes(table) {
             Some(sizes) => lend_filter(&loan, sizes, own, &mut self.daram, out),
-            None => self.lend_by_plan(&loan, own, shared, out),
+            None => match reader_sizes(table) {
+                Some(sizes) => lend_reader(&loan, sizes, own, shared, out),
+                None => self.lend_by_plan(&loan, own, shared, out),
+            },
         }
     }
 

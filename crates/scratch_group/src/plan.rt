@@ -3,14 +3,17 @@ ghost use Rattle.std.specs.Prelude.{◌≡◌, ◌≤◌, ◌<◌, ◌+◌, ◌-
 ghost use Rattle.mem_rec.specs.Records.{is_table};
 ghost use Rattle.ialg.specs.Records.{record_at};
 ghost use Rattle.scratch_group.specs.Words.{is_filter, scratch_end, scratch_offset};
-ghost use Rattle.scratch_group.specs.Plans.{cut_of, idle_cut_of, active_plan_of, idle_plan_of, IsOfFilter, IsOfNoFilter, IsWithinLimits};
+ghost use Rattle.scratch_group.specs.Plans.{cut_of, idle_cut_of, active_plan_of, idle_plan_of, IsOfFilter, IsOfNoFilter, IsOfNoReader, IsOfReader, IsWithinLimits};
 
 use ialg::FILTER_RECORDS;
 use mem_rec::{Attr, GREATEST_ALIGNMENT, MemRec, MemTab, RECORD_WORDS, Space};
-use record_loans::{Cut, FilterSizes, Plan, Source};
+use record_loans::{Cut, FilterSizes, Plan, ReaderSizes, Source};
 
 /// The most words by which a record moves the end of those before it: the greatest record, behind the greatest gap.
 pub(crate) const GREATEST_STEP: u32 = RECORD_WORDS + GREATEST_ALIGNMENT;
+
+/// The most records of a reader: the object, and write-once words behind it.
+pub(crate) const READER_RECORDS: usize = 2;
 
 /// Record `k` of a table.
 pub(crate) fn record(table: &MemTab, k: usize) -> MemRec
@@ -198,5 +201,30 @@ pub(crate) fn filter_sizes(table: &MemTab) -> Option<FilterSizes>
         object: object_size(table),
         kept: kept.size as usize,
         running: running.size as usize,
+    })
+}
+
+/// The sizes of a reader's records, where the table is one of a reader: the object, and behind it one write-once record or nothing. None for every
+/// other table.
+#[inline(always)]
+pub(crate) fn reader_sizes(table: &MemTab) -> Option<ReaderSizes>
+    ensures sizes { MatchOption result (IsOfNoReader table.now) (IsOfReader table.now) }
+    ensures table { IsTrue (is_table table.now) }
+{
+    let _records = table.records();
+    let object = object_size(table);
+    if table.len() == 1 {
+        return Some(ReaderSizes { object, once: 0 });
+    }
+    if table.len() != READER_RECORDS {
+        return None;
+    }
+    let once = record(table, 1);
+    if once.attr != Attr::WriteOnce {
+        return None;
+    }
+    Some(ReaderSizes {
+        object,
+        once: once.size as usize,
     })
 }

@@ -1,5 +1,6 @@
 use Rattle.scratch_group.specs.declared.group.Group.{Group}
 use Rattle.scratch_group.proofs.Filters.{filter_lent}
+use Rattle.scratch_group.proofs.Readers.{reader_lent}
 use Rattle.scratch_group.proofs.group.Group.lend.Goals as goal
 
 pub returns-in-Some-clause-done : goal.returns-in-Some-clause-done
@@ -8,3 +9,10 @@ returns-in-Some-clause-done g c =
     let new : Group = record { daram = c.lend_filter.new.daram; saram = old.saram; external = old.external; active = old.active; activations = old.activations } in
     let lent = filter_lent c.args.table.now c.in-Some.sizes c.in-Some.ensures.table c.in-Some.ensures.sizes in
     rw (lent c.args.own.now c.args.shared.now old, lent c.lend_filter.new.own c.args.shared.now new) c.lend_filter.ensures.done
+
+pub returns-in-Some-reader_sizes-clause-done : goal.returns-in-Some-reader_sizes-clause-done
+returns-in-Some-reader_sizes-clause-done g c =
+    let group : Group = c.args.self.now in
+    let reader = c.in-Some-reader_sizes in
+    let lent = reader_lent c.args.table.now reader.sizes reader.ensures.table reader.ensures.sizes in
+    rw (lent c.args.own.now c.args.shared.now group, lent c.lend_reader.new.own c.lend_reader.new.shared group) c.lend_reader.ensures.done

@@ -1,0 +1,39 @@
+-- What is lent to a reader is each record's words.
+use Rattle.std.proofs.Common.{◌≡◌, inl, inr, IsTrue, List, [], length, take, drop, refl, ap, sym, ◌∙◌, arith}
+use Rattle.mem_rec.specs.declared.MemRec.{MemRec}
+use Rattle.mem_rec.specs.Records.{is_table}
+use Rattle.ialg.specs.Records.{record_at}
+use Rattle.record_loans.specs.declared.plan.ReaderSizes.{ReaderSizes}
+use Rattle.record_loans.specs.Cuts.{reader_words}
+use Rattle.record_loans.specs.declared.pieces.Pieces.{Pieces}
+use Rattle.record_loans.specs.Pieces.{piece_words}
+use Rattle.record_loans.specs.Blocks.{block_words}
+use Rattle.scratch_group.specs.declared.group.Group.{Group}
+use Rattle.scratch_group.specs.Blocks.{block_in}
+use Rattle.scratch_group.specs.Words.{scratch_offset, words_by, record_words, active_words}
+use Rattle.scratch_group.specs.Plans.{IsOfReader}
+use Rattle.scratch_group.proofs.Ends.{blank_at}
+use Rattle.scratch_group.proofs.Cutting.{either, object_words}
+
+module _ (rs : List MemRec) (n : ReaderSizes) (t : IsTrue (is_table rs)) (f : IsOfReader rs n) (own shared : Pieces) (g : Group) where
+  object_is : record_words rs own shared g 0 ≡ take n.object (piece_words own.p0)
+  object_is = sym (object_words rs own shared g t) ∙ ap (λ k. take k (piece_words own.p0)) f.object
+
+  once_is : record_words rs own shared g 1 ≡ take n.once (piece_words shared.p1)
+  once_is = elim (either 1 (length rs)) [
+    | inl there ↦
+        ap (λ a. words_by a (record_at rs 1).size (piece_words own.p1) (piece_words shared.p1) (drop (scratch_offset rs 1) (block_words (block_in g (record_at rs 1).space)))) (f.second there)
+        ∙ ap (λ k. take k (piece_words shared.p1)) f.once
+    | inr past ↦
+        let none : n.once ≡ 0 = sym f.once ∙ ap (λ (r : MemRec). r.size) (blank_at rs 1 past) in
+        rw (blank_at rs 1 past, none) refl
+  ]
+
+  third_is : record_words rs own shared g 2 ≡ []
+  third_is = rw (blank_at rs 2 (let e = f.few in omega (arith, e))) refl
+
+  last_is : record_words rs own shared g 3 ≡ []
+  last_is = rw (blank_at rs 3 (let e = f.few in omega (arith, e))) refl
+
+  pub reader_lent : active_words rs own shared g ≡ reader_words n (piece_words own.p0) (piece_words shared.p1)
+  reader_lent = rw (object_is, once_is, third_is, last_is) refl
