@@ -1,7 +1,9 @@
 //! What an active instance is given.
-ghost use Rattle.std.specs.Prelude.{◌≡◌, ◌≤◌, ◌++◌, ◌∷◌, ◌<◌, ℕ, ℤ, [], length, Option, Some, None, IsSome, IfSome, IfNone, OnSome, is_some};
+ghost use Rattle.std.specs.Prelude.{◌≡◌, ◌≤◌, ◌++◌, ◌∷◌, ◌<◌, ℕ, ℤ, [], length, Option, Some, None, IsSome, IfSome, IfNone, OnSome, is_some, IsTrue};
 ghost use Rattle.ialg.specs.History.{History};
 ghost use Rattle.ialg.specs.Views.{control_of, answer_of};
+ghost use Rattle.mem_rec.specs.Records.{is_table};
+ghost use Rattle.scratch_group.specs.Readers.{IsOfReader};
 ghost use Rattle.lifecycle.specs.States.{Fits, IsLawful, Accepts, status_after};
 ghost use Rattle.host_table.specs.Table.{slot_at, group_of, slot_active_in, instance_of, activity_at, activated_by, ArePoisoned};
 ghost use Rattle.host_map.specs.Activity.{with_activity, newly_active};
@@ -16,8 +18,8 @@ use crate::tables::Tables;
 use host_shared::{Locations, borrow_pieces, end_absent, give_back_pieces};
 use ialg::{BLOCK_SAMPLES, Block, Ctl, Ialg, Status};
 use lifecycle::{Active, Idle, Inst};
-use record_loans::Pieces;
-use scratch_group::{Group, is_filter};
+use record_loans::{Pieces, ReaderSizes};
+use scratch_group::{Group, is_filter, reader_sizes};
 
 /// Gives the active member of a group a block of samples, with its write-once records borrowed from their owners.
 #[inline(never)]
@@ -41,8 +43,33 @@ fn run_sharing<M: Ialg>(
     give_back_pieces(sharing, i as usize, shared);
 }
 
+/// Gives a reader, which is active, a block of samples, as [`run_sharing`] does.
+#[inline(never)]
+fn run_reading<M: Ialg>(
+    active: &mut Active<M>,
+    sizes: ReaderSizes,
+    sharing: &mut Vec<Locations>,
+    i: u8,
+    group: &Group,
+    input: &[i16],
+    out: &mut Block,
+)
+    requires lent { CanBeLent active.old.instance sharing.old.items i group.now }
+    requires table { IsTrue (is_table active.old.instance.table) }
+    requires reader { IsOfReader active.old.instance.table sizes }
+    requires empty { out.old.items ≡ [] }
+    requires some { 1 ≤ length input.now }
+    requires within { length input.now ≤ BLOCK_SAMPLES }
+    ensures seen { sharing.new.items ≡ with_pieces_of sharing.old.items i (shared_at sharing.new.items i) }
+    ensures did { Ran M.law input.now out.new.items active.old.instance active.new.instance (shared_at sharing.old.items i) (shared_at sharing.new.items i) group.now group.now }
+{
+    let mut shared = borrow_pieces(sharing, i as usize);
+    active.run_reading(sizes, &mut shared, group, input, out);
+    give_back_pieces(sharing, i as usize, shared);
+}
+
 /// Gives the active member of a group a block of samples, as [`run_sharing`] does. A filter has no write-once record,
-/// so nothing is borrowed for it.
+/// so nothing is borrowed for it, and for a reader no plan is made.
 fn run_member<M: Ialg>(
     active: &mut Active<M>,
     sharing: &mut Vec<Locations>,
@@ -62,6 +89,8 @@ fn run_member<M: Ialg>(
         let mut none = Pieces::none();
         active.run(&mut none, group, input, out);
         end_absent(none);
+    } else if let Some(sizes) = reader_sizes(&active.instance.table) {
+        run_reading(active, sizes, sharing, i, group, input, out);
     } else {
         run_sharing(active, sharing, i, group, input, out);
     }

@@ -2,7 +2,9 @@
 ghost use Rattle.std.specs.Prelude.{◌≡◌, ◌≤◌, ◌++◌, ◌∷◌, ℕ, ℤ, [], List, length, Option, Some, None, IsSome, IsTrue};
 ghost use Rattle.ialg.specs.History.{History, Control, with_samples};
 ghost use Rattle.ialg.specs.Views.{control_of, answer_of};
+ghost use Rattle.mem_rec.specs.Records.{is_table};
 ghost use Rattle.scratch_group.specs.Blocks.{SameGroup};
+ghost use Rattle.scratch_group.specs.Readers.{IsOfReader};
 ghost use Rattle.record_loans.specs.Pieces.{piece_at, with_piece, SamePieces};
 ghost use Rattle.lifecycle.specs.Moves.{CanRestore, with_back, settled, HasRoom};
 ghost use Rattle.lifecycle.specs.States.{Fits, SameInstance, SameOnce, IsLawful, Accepts, all_outputs, status_after, IdleKeeps, ActiveKeeps};
@@ -11,7 +13,7 @@ use crate::Idle;
 use crate::instance::{Instance, restore};
 use crate::steps::{Command, Deactivate, Move, Process};
 use ialg::{BLOCK_SAMPLES, Block, Ctl, Ialg, Status};
-use record_loans::Pieces;
+use record_loans::{Pieces, ReaderSizes};
 use scratch_group::{Group, placed};
 use space_raw::Piece;
 
@@ -47,6 +49,46 @@ impl<M: Ialg> Active<M> {
         group.lend(
             &step,
             &self.instance.table,
+            &mut self.instance.own,
+            shared,
+            out,
+        );
+    }
+
+    /// Gives a reader a block of samples, as [`run`](Active::run) does: no block of its group is looked at.
+    #[inline(always)]
+    pub fn run_reading(
+        &mut self,
+        sizes: ReaderSizes,
+        shared: &mut Pieces,
+        group: &Group,
+        input: &[i16],
+        out: &mut Block,
+    )
+        requires reader { IsOfReader self.old.instance.table sizes }
+        requires table { IsTrue (is_table self.old.instance.table) }
+        requires fits { Fits self.old.instance.table self.old.instance.own shared.old group.now }
+        requires empty { out.old.items ≡ [] }
+        requires some { 1 ≤ length input.now }
+        requires within { length input.now ≤ BLOCK_SAMPLES }
+        ensures same { SameInstance self.old.instance self.new.instance }
+        ensures shared { SamePieces shared.old shared.new }
+        ensures once { SameOnce self.old.instance.table shared.old shared.new }
+        ensures fits { Fits self.new.instance.table self.new.instance.own shared.new group.now }
+        ensures bounded { length out.new.items ≤ length input.now }
+        ensures keeps { (w : Option ℤ) (h : History) → ActiveKeeps M.law self.old.instance w shared.old group.now h
+            → ActiveKeeps M.law self.new.instance w shared.new group.now (with_samples h input.now) }
+        ensures output { (w : Option ℤ) (h : History) → IsLawful M.law.meaning self.old.instance w
+            → ActiveKeeps M.law self.old.instance w shared.old group.now h
+            → all_outputs M.law.meaning self.old.instance (with_samples h input.now)
+            ≡ all_outputs M.law.meaning self.old.instance h ++ out.new.items }
+    {
+        let kind = self.instance.kind;
+        let step = Process { kind, input };
+        group.lend_reading(
+            &step,
+            &self.instance.table,
+            sizes,
             &mut self.instance.own,
             shared,
             out,

@@ -11,7 +11,7 @@ use Rattle.record_loans.specs.Blocks.{block_words}
 use Rattle.scratch_group.specs.declared.group.Group.{Group}
 use Rattle.scratch_group.specs.Blocks.{block_in}
 use Rattle.scratch_group.specs.Words.{scratch_offset, words_by, record_words, active_words}
-use Rattle.scratch_group.specs.Plans.{IsOfReader}
+use Rattle.scratch_group.specs.Readers.{IsOfReader}
 use Rattle.scratch_group.proofs.Ends.{blank_at}
 use Rattle.scratch_group.proofs.Cutting.{either, object_words}
 

@@ -1,5 +1,5 @@
 -- How the records of a table are cut. No public contract speaks of it.
-use Rattle.std.specs.Prelude.{ℕ, ◌≡◌, ◌-◌, ◌≤◌, ◌<◌, List, length}
+use Rattle.std.specs.Prelude.{ℕ, ◌≡◌, ◌-◌, ◌≤◌, List, length}
 use Rattle.mem_rec.specs.declared.TheConstants.{RECORD_WORDS, LEAST_ALIGNMENT, GREATEST_ALIGNMENT}
 use Rattle.mem_rec.specs.declared.MemRec.{MemRec}
 use Rattle.mem_rec.specs.declared.Space.{Space}
@@ -13,8 +13,6 @@ use Rattle.record_loans.specs.declared.plan.Source.TheVariants.{Absent, Own, Sha
 use Rattle.record_loans.specs.declared.plan.Cut.{Cut}
 use Rattle.record_loans.specs.declared.plan.Plan.{Plan}
 use Rattle.record_loans.specs.declared.plan.FilterSizes.{FilterSizes}
-use Rattle.record_loans.specs.declared.plan.ReaderSizes.{ReaderSizes}
-use Rattle.scratch_group.specs.declared.plan.TheConstants.{READER_RECORDS}
 use Rattle.scratch_group.specs.Words.{scratch_end, scratch_offset}
 
 -- a record within the limits
@@ -71,15 +69,3 @@ pub record IsOfFilter (rs : List MemRec) (n : FilterSizes) : Type 0 where
 -- the table of no filter
 abbrev pub IsOfNoFilter : List MemRec → Type 0
 IsOfNoFilter rs = (n : FilterSizes) → IsOfFilter rs n → ⊥
-
--- the table of a reader, with these sizes: behind the object one write-once record, or nothing
-pub record IsOfReader (rs : List MemRec) (n : ReaderSizes) : Type 0 where
-  pub few : length rs ≤ READER_RECORDS
-  pub some : 1 ≤ n.object
-  pub object : (record_at rs 0).size ≡ n.object
-  pub second : 1 < length rs → (record_at rs 1).attr ≡ WriteOnce
-  pub once : (record_at rs 1).size ≡ n.once
-
--- the table of no reader
-abbrev pub IsOfNoReader : List MemRec → Type 0
-IsOfNoReader rs = (n : ReaderSizes) → IsOfReader rs n → ⊥

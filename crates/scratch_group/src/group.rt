@@ -1,17 +1,19 @@
 //! The scratch memory of a group.
-ghost use Rattle.std.specs.Prelude.{◌≡◌, ◌<◌, ◌+◌, length, Option, Some, None, false};
+ghost use Rattle.std.specs.Prelude.{◌≡◌, ◌<◌, ◌+◌, length, Option, Some, None, false, IsTrue};
 ghost use Rattle.mem_rec.specs.Layout.{scratch_need, scratch_align};
 ghost use Rattle.record_loans.specs.Blocks.{block_piece, block_words};
 ghost use Rattle.scratch_group.specs.Blocks.{block_in, block_spot, block_needed, filled, BlocksArePoison, SameBut, SameGroup};
 ghost use Rattle.host_map.specs.Activity.{count_after};
 ghost use Rattle.record_loans.specs.Pieces.{piece_place, IsInSpace, SamePieces};
 ghost use Rattle.scratch_group.specs.Words.{active_words, HasWords};
+ghost use Rattle.scratch_group.specs.Readers.{IsOfReader};
+ghost use Rattle.mem_rec.specs.Records.{is_table};
 
 use crate::plan::{active_plan, filter_sizes, reader_sizes};
 use host_map::Stat;
 use ialg::{Lending, Step};
 use mem_rec::{Layout, MemTab, Space, scratch_layout};
-use record_loans::{Pieces, ScratchBlock, lend_filter, lend_reader, lend_with_blocks};
+use record_loans::{Pieces, ReaderSizes, ScratchBlock, lend_filter, lend_reader, lend_with_blocks};
 use space_raw::Piece;
 
 /// The size and the alignment of a block that is to be placed, in words.
@@ -209,6 +211,35 @@ impl Group {
                 None => self.lend_by_plan(&loan, own, shared, out),
             },
         }
+    }
+
+    /// Performs the step with the records of a reader, as [`lend`](Group::lend) does. No block is looked at, and no plan made.
+    #[inline(always)]
+    pub fn lend_reading<O, S: Step<O>>(
+        &self,
+        step: &S,
+        table: &MemTab,
+        sizes: ReaderSizes,
+        own: &mut Pieces,
+        shared: &mut Pieces,
+        out: &mut O,
+    )
+        requires can { S.can step.now out.old }
+        requires table { IsTrue (is_table table.now) }
+        requires reader { IsOfReader table.now sizes }
+        requires sizes { HasWords table.now own.old shared.old self.now }
+        ensures done { S.done step.now table.now false (active_words table.now own.old shared.old self.now) (active_words table.now own.new shared.new self.now) out.old out.new }
+        ensures own { SamePieces own.old own.new }
+        ensures shared { SamePieces shared.old shared.new }
+    {
+        // write-once records are for reading alone
+        let writable = false;
+        let loan = Lending {
+            step,
+            table,
+            writable,
+        };
+        lend_reader(&loan, sizes, own, shared, out);
     }
 
     /// Performs the step as [`lend`](Group::lend) does, whatever the table.

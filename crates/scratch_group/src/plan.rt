@@ -3,7 +3,8 @@ ghost use Rattle.std.specs.Prelude.{◌≡◌, ◌≤◌, ◌<◌, ◌+◌, ◌-
 ghost use Rattle.mem_rec.specs.Records.{is_table};
 ghost use Rattle.ialg.specs.Records.{record_at};
 ghost use Rattle.scratch_group.specs.Words.{is_filter, scratch_end, scratch_offset};
-ghost use Rattle.scratch_group.specs.Plans.{cut_of, idle_cut_of, active_plan_of, idle_plan_of, IsOfFilter, IsOfNoFilter, IsOfNoReader, IsOfReader, IsWithinLimits};
+ghost use Rattle.scratch_group.specs.Plans.{cut_of, idle_cut_of, active_plan_of, idle_plan_of, IsOfFilter, IsOfNoFilter, IsWithinLimits};
+ghost use Rattle.scratch_group.specs.Readers.{IsOfNoReader, IsOfReader};
 
 use ialg::FILTER_RECORDS;
 use mem_rec::{Attr, GREATEST_ALIGNMENT, MemRec, MemTab, RECORD_WORDS, Space};
@@ -207,7 +208,7 @@ pub(crate) fn filter_sizes(table: &MemTab) -> Option<FilterSizes>
 /// The sizes of a reader's records, where the table is one of a reader: the object, and behind it one write-once record or nothing. None for every
 /// other table.
 #[inline(always)]
-pub(crate) fn reader_sizes(table: &MemTab) -> Option<ReaderSizes>
+pub fn reader_sizes(table: &MemTab) -> Option<ReaderSizes>
     ensures sizes { MatchOption result (IsOfNoReader table.now) (IsOfReader table.now) }
     ensures table { IsTrue (is_table table.now) }
 {
