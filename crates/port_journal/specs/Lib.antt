@@ -1,3 +1,4 @@
+pub mod Buffers
 pub mod Handles
 pub mod Marks
 pub mod Passing

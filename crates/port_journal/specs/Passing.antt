@@ -2,7 +2,7 @@
 use Rattle.std.specs.Prelude.{◌≡◌, ◌≢◌, ◌<◌, ◌≤◌, ℕ, List, [], ◌∷◌, ◌++◌, length, take, Option, slice_index_or}
 use Rattle.octet_ports.specs.declared.TheConstants.{LINE_FEED}
 use Rattle.std.specs.Io.KnownBytes.{Appends, append_known}
-use Rattle.port_journal.specs.declared.waiting.TheConstants.{BUFFER_OCTETS}
+use Rattle.port_journal.specs.declared.buffer.TheConstants.{BUFFER_OCTETS}
 use Rattle.port_journal.specs.declared.waiting.Waiting.{Waiting}
 
 -- each value of a list does this, in its place

@@ -3,21 +3,15 @@ ghost use Rattle.std.specs.Prelude.{◌≡◌, ◌-◌, ◌≤◌, ◌++◌, [],
 ghost use Rattle.std.specs.Io.KnownBytes.{Appends};
 ghost use Rattle.port_journal.specs.Passing.{EachDoes, HasNothing, HasRoom, HoldsStill, PassesFirst, PassesOn, TakesAll};
 
-use arrayvec::ArrayVec;
+use crate::buffer::{BUFFER_OCTETS, Buffer};
 use octet_ports::PortFault;
 use std::io::Write;
-
-/// The most octets that wait for a device.
-pub const BUFFER_OCTETS: usize = 8192;
-
-// The limit, said once more: no slip of one passes.
-const _: () = prove!(BUFFER_OCTETS == 8 * 1024);
 
 /// A device, and what waits for it.
 #[derive(Drop)]
 pub(crate) struct Waiting<W> {
     writer: W,
-    octets: ArrayVec<u8, BUFFER_OCTETS>,
+    octets: Buffer,
     /// How many octets of what waited the device surely has, since it was last passed on.
     taken: usize,
 }
@@ -46,7 +40,7 @@ impl<W: Write> Waiting<W> {
     {
         Waiting {
             writer,
-            octets: ArrayVec::new(),
+            octets: Buffer::new(),
             taken: 0,
         }
     }
@@ -79,9 +73,7 @@ impl<W: Write> Waiting<W> {
         ensures octets { self.new.octets.items ≡ self.old.octets.items ++ take result octets.now }
         ensures writer { self.new.writer ≡ self.old.writer }
     {
-        let count = octets.len().min(self.octets.remaining_capacity());
-        let _ = self.octets.try_extend_from_slice(&octets[..count]);
-        count
+        self.octets.take_some(octets)
     }
 
     /// Passes on the first `count` octets of what waits, and keeps waiting what waited. After a fault the device may have some
