@@ -26,7 +26,7 @@ PICTURE = Path("docs/architecture.svg")
 LAYERS: tuple[tuple[str, str], ...] = (
     ("tests", r"test_\w+|\w+_trace|rogue_kit|mixed_console"),
     ("C library", r"\w+_library|library_runs"),
-    ("program", r"dsp_console_main|gateway_console|dsp_arguments|dsp_program|line_reasons|port_files|port_pairs"),
+    ("program", r"dsp_console_main|gateway_console|dsp_arguments|dsp_program|line_reasons|port_files"),
     ("engine", r"dsp_console|voice_console|script_server|port_journal|octet_ports"),
     ("channels", r"voice_channel"),
     ("host", r"alg_host|host_(?:create|delete)"),

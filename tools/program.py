@@ -140,6 +140,29 @@ def take(made: Path, name: str, sources: str) -> None:
         os.replace(part, path)
 
 
+def archives() -> list[str]:
+    """The crates that are made into static libraries."""
+    return [it for it in uses() if is_archive(it)]
+
+
+def has_libraries() -> bool:
+    """Whether an earlier run left the library of a crate in its place: `rt ci` puts such a one back when it ends."""
+    return any((CRATES / it / "out" / "rlib").exists() for it in uses())
+
+
+def keep_archive(name: str, sources: str) -> None:
+    """Makes the archive of a static library over the libraries that `rt ci` has just left in their places, where the sources still
+    stand as they were proved, or raises why it can't be made."""
+    if sources != checksum(name):
+        return
+    with tempfile.TemporaryDirectory(prefix="dsp_console-build-") as folder:
+        made = Path(folder) / "made"
+        log = Path(tempfile.gettempdir()) / f"dsp_console-build-{os.getpid()}.log"
+        make_archive(made, TOP, closure(name), log)
+        log.unlink()
+        take(made, name, sources)
+
+
 def kit_lines(text: str) -> list[str]:
     """The lines that name a kit: its name and the checksum of its logic."""
     return re.findall(r"rattle-kit-\w+ logic [0-9a-f]+", text)
@@ -237,7 +260,7 @@ def copy_closure(room: Path, crates: list[str]) -> None:
 
 
 def make_archive(made: Path, room: Path, crates: list[str], log: Path) -> None:
-    """Makes the archive of a static library, the last of the crates that `rt ci` proved in the room, over the libraries that it made."""
+    """Makes the archive of a static library, the last of these crates, over the libraries that `rt ci` made of the others in the room."""
     name, kit = crates[-1], Path(shutil.which("rattle")).resolve().parent.parent
     own = {it: room / "crates" / it / "out" / "rlib" for it in crates[:-1]}
     words = ["rattle", "build", "--crate-name", name, "src/lib.rt", "--crate-type", "staticlib"]

@@ -77,6 +77,26 @@ class Wrapper(unittest.TestCase):
         self.assertIn("proved dsp_console_main, 2 of 2, the program is next", ran.stderr)
         self.assertNotIn("left", ran.stderr.splitlines()[-1])
 
+    def test_an_archive_is_made_of_what_the_proofs_left(self) -> None:
+        (self.top / "crates" / "ffi" / "src").mkdir(parents=True)
+        (self.top / "crates" / "ffi" / "src" / "lib.rt").write_text("for C")
+        (self.top / "crates" / "low" / "out" / "rlib" / "low.rlib").mkdir(parents=True)
+        with open(self.top / "crates.txt", "a") as listed:
+            listed.write("ffi staticlib: low\n")
+        (self.bin / "rattle").write_text('#!/usr/bin/env bash\nfor word; do last=$word; done\necho "$*" > "$last"\n')
+        (self.bin / "rattle").chmod(0o755)
+        call = "import sys; sys.path.insert(0, 'tools'); import program; program.keep_archive('ffi', sys.argv[1] or program.checksum('ffi')); print(program.is_built('ffi'), program.archives(), program.has_libraries())"
+        more = {**os.environ, "PATH": f"{self.bin}:/usr/bin:/bin"}
+
+        def made(sources: str) -> str:
+            return subprocess.run([sys.executable, "-B", "-c", call, sources], cwd=self.top, env=more, capture_output=True, text=True, check=True).stdout
+
+        archive = self.top / "crates" / "ffi" / "out" / "libffi.a"
+        self.assertEqual((made("of other sources"), archive.exists()), ("False ['ffi'] True\n", False))
+        self.assertEqual(made(""), "True ['ffi'] True\n")
+        self.assertIn(f"--extern low={self.top}/crates/low/out/rlib/low.rlib", archive.read_text())
+        self.assertEqual(self.builds(), 0)
+
     def test_what_was_proved_before_is_counted(self) -> None:
         (self.top / "crates" / "low" / "src" / "lib.rt").write_text("kept")
         ran = self.run_it()

@@ -6,7 +6,7 @@ ghost use Rattle.host_refines.specs.Kept.{told};
 ghost use Rattle.alg_host.specs.Hosts.{lives, Serves};
 
 use crate::Host;
-use host_refines::{give_block, give_control};
+use crate::table_calls::{give_block, give_control};
 use ialg::{BLOCK_SAMPLES, Block, Ctl, Ialg, Refusal, Status};
 
 impl<M: Ialg> Host<M> {

@@ -5,8 +5,8 @@ ghost use Rattle.host_refines.specs.Kept.{stat_told};
 ghost use Rattle.alg_host.specs.Hosts.{Serves};
 
 use crate::Host;
+use crate::table_calls::{deactivate_group, stat};
 use host_map::Stat;
-use host_refines::deactivate_group;
 use ialg::{Ialg, Refusal};
 
 impl<M: Ialg> Host<M> {
@@ -30,6 +30,6 @@ impl<M: Ialg> Host<M> {
     pub fn stat(&self, group: u8) -> Result<Stat, Refusal>
         ensures machine { Serves M.law (StatCall group (stat_told result)) self.now self.now }
     {
-        host_refines::stat(&self.tables, group)
+        stat(&self.tables, group)
     }
 }

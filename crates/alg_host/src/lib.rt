@@ -14,6 +14,7 @@ mod host;
 mod lists;
 mod moves;
 mod request;
+mod table_calls;
 
 pub use host::Host;
 pub use host_create::HostMemory;

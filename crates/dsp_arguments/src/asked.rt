@@ -2,7 +2,7 @@
 use arrayvec::ArrayVec;
 use clap::Error;
 use host_map::Sizes;
-use port_pairs::PORT_PAIRS;
+use port_files::PORT_PAIRS;
 
 /// What a command line asks: the paths of the script and of the ports, and the options.
 #[derive(Drop)]

@@ -5,7 +5,7 @@ use crate::asked::{About, ArgFault, Arguments, CONSOLE};
 use crate::version::VERSION;
 use clap::{Arg, ArgAction, ArgMatches, Command, Error};
 use host_map::Sizes;
-use port_pairs::pairs;
+use port_files::pairs;
 use relocate::SPACE_WORDS;
 use std::alloc::Global;
 

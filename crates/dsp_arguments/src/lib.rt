@@ -8,5 +8,5 @@ mod version;
 
 pub use asked::{About, ArgFault, Arguments, CONSOLE};
 pub use command_line::{arguments, arguments_of};
-pub use port_pairs::PORT_PAIRS;
+pub use port_files::PORT_PAIRS;
 pub use version::VERSION;

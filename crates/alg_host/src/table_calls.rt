@@ -1,4 +1,4 @@
-//! The calls of a table, as the machine's.
+//! Calls that the tables of instances alone answer, as the specification does: controls, blocks of samples, groups.
 ghost use Rattle.std.specs.Prelude.{◌≡◌, ◌≤◌, ◌<◌, [], length, IsSome, OnErr, is_some};
 ghost use Rattle.ialg.specs.Views.{control_of};
 ghost use Rattle.host_table.specs.Table.{slot_at};

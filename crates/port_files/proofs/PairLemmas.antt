@@ -3,7 +3,7 @@ use Rattle.std.proofs.Common.{◌≡◌, ◌≤◌, ◌<◌, ◌*◌, ◌%◌, �
 use Rattle.std.proofs.lemmas.List.{nil_from_length}
 use Rattle.std.proofs.lemmas.List.Concat.{flat_map-append}
 use Rattle.std.specs.List.{flat_map}
-use Rattle.port_pairs.specs.Pairs.{both}
+use Rattle.port_files.specs.Pairs.{both}
 
 module _ {A : Type 0} where
   -- two words are the first and the second

@@ -1,12 +1,7 @@
-// SPDX-License-Identifier: Apache-2.0
 //! The ports of a command line, in pairs: pair n, from 0 on, is what channel n reads and what it writes.
-//!
-//! It stands below the command line, so that none of its edits loads `clap`.
-#![tactic(auto)]
-
 ghost use Rattle.std.specs.Prelude.{◌≡◌, ◌≤◌, ◌*◌, ◌%◌, length, is_some, IfSome};
 ghost use Rattle.std.specs.List.{flat_map};
-ghost use Rattle.port_pairs.specs.Pairs.{is_pairs, both};
+ghost use Rattle.port_files.specs.Pairs.{is_pairs, both};
 
 use arrayvec::ArrayVec;
 

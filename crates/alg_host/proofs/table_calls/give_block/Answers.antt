@@ -1,5 +1,5 @@
 use Rattle.host_refines.proofs.KeptLemmas.{block_given}
-use Rattle.host_refines.proofs.calls.give_block.Goals as goal
+use Rattle.alg_host.proofs.table_calls.give_block.Goals as goal
 
 pub returns-clause-machine : goal.returns-clause-machine
 returns-clause-machine g c =

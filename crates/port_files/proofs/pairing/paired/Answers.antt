@@ -1,6 +1,6 @@
 use Rattle.std.proofs.Common.{rules, ◌∙◌, sym, ap, length}
-use Rattle.port_pairs.proofs.PairLemmas.{next_pair, has_room, all_paired, twice_as_many}
-use Rattle.port_pairs.proofs.paired.Goals as goal
+use Rattle.port_files.proofs.PairLemmas.{next_pair, has_room, all_paired, twice_as_many}
+use Rattle.port_files.proofs.pairing.paired.Goals as goal
 
 pub loop-pair-init : goal.loop-pair-init
 loop-pair-init c =

@@ -1,6 +1,6 @@
 -- How words are pairs of ports.
 use Rattle.std.specs.Prelude.{ℕ, ◌*◌, ◌%◌, Bool, ◌&&◌, nat_le, ◌==◌, List, [], ◌∷◌}
-use Rattle.port_pairs.specs.declared.TheConstants.{PORT_PAIRS}
+use Rattle.port_files.specs.declared.pairing.TheConstants.{PORT_PAIRS}
 
 -- 1 to 16 pairs
 abbrev pub is_pairs : ℕ → Bool
