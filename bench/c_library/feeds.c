@@ -1,21 +1,54 @@
 /* SPDX-License-Identifier: Apache-2.0
- * How long a feed takes through the library, beside the same filter written out in C.
+ * How long a feed takes through the library, beside the same host in C (bench/c), whose `pass` activates and runs the same instances.
  *
- *     make -C c && cc -std=c11 -O2 -I c bench/c_library/feeds.c out/c/librokdaum.a -o out/c/feeds && out/c/feeds
+ *     make -C c && clang -O2 -I c -I bench/c bench/c_library/feeds.c bench/c/host.c bench/c/baseline.c out/c/librokdaum.a -o out/c/feeds && out/c/feeds
  *
- * A row has a channel, the samples of a feed, and nanoseconds a feed: the least of nine rounds. The filter in C keeps a delay line and
- * saturates each sum, as L_mac does; it has no host, so its time is what the arithmetic costs. */
+ * With best.c and -O3 -march=x86-64-v2 in place of baseline.c and -O2 it is the strongest C. A row has a channel, the samples of a feed,
+ * nanoseconds a feed through the library and in C, the least of as many rounds, by turns, and how many times the C the library takes.
+ * Kinds that the C has not are timed alone. Before that, both give the same samples over blocks of each length, or the command says so
+ * and ends with 1. With two words, as in `out/c/feeds biquad 160`, the library alone feeds a million samples: for callgrind. */
 #define _POSIX_C_SOURCE 200809L
+#include <host.h>
 #include <rokdaum.h>
 #include <stdio.h>
 #include <stdlib.h>
 #include <string.h>
 #include <time.h>
 
-enum { TAPS = 16, MOST = 1024, ROUNDS = 9 };
+enum { TAPS = 16, MOST = 1024, ROUNDS = 15, MEMBERS = 3, PARAMETERS = 16 };
+
+struct member {
+    uint8_t kind; /* of the library; those up to ROKDAUM_G711 are in the C too */
+    uint8_t group;
+    int count;
+    int16_t parameters[PARAMETERS];
+};
+
+struct channel {
+    const char *name;
+    int by_turns; /* the two members are a channel each, fed by turns */
+    int count;
+    struct member members[MEMBERS];
+};
+
+#define A_FIR {ROKDAUM_FIR, 0, TAPS, {1500, 1500, 1500, 1500, 1500, 1500, 1500, 1500, 1500, 1500, 1500, 1500, 1500, 1500, 1500, 1500}}
+#define A_BIQUAD(group) {ROKDAUM_BIQUAD, group, 5, {16384, -20000, 16384, -19000, 15000}}
+#define A_DECODER {ROKDAUM_G711, 0, 2, {1, 1}}
+#define AN_ENCODER {ROKDAUM_G711, 2, 2, {0, 0}}
+
+static const struct channel channels[] = {
+    {"fir 16", 0, 1, {A_FIR}},
+    {"two fir 16 by turns", 1, 2, {A_FIR, A_FIR}},
+    {"biquad", 0, 1, {A_BIQUAD(0)}},
+    {"mu-law decoder", 0, 1, {A_DECODER}},
+    {"decoder, biquad, encoder", 0, 3, {A_DECODER, A_BIQUAD(1), AN_ENCODER}},
+    {"gain", 0, 1, {{ROKDAUM_GAIN, 0, 1, {5000}}}},
+    {"level", 0, 1, {{ROKDAUM_LEVEL, 0, 2, {160, 4}}}},
+    {"dtmf", 0, 1, {{ROKDAUM_DTMF, 0, 7, ROKDAUM_DTMF_A}}},
+};
 
 static int16_t in[MOST], out[MOST];
-static rokdaum host = ROKDAUM_CLOSED;
+static rokdaum library = ROKDAUM_CLOSED;
 
 static double nanoseconds(void)
 {
@@ -24,116 +57,140 @@ static double nanoseconds(void)
     return (double)now.tv_sec * 1e9 + (double)now.tv_nsec;
 }
 
-static void must(rokdaum_code code)
+static void must(int code, const char *what)
 {
-    if (code != ROKDAUM_OK) {
-        fprintf(stderr, "feeds: %s\n", rokdaum_error_text(code));
+    if (code) {
+        fprintf(stderr, "feeds: %s: %d\n", what, code);
         exit(1);
     }
 }
 
-static int32_t mac(int32_t v, int16_t a, int16_t b)
+static int by_turns;
+
+/* The channel that is fed now: the only one, or the next of two. */
+static uint8_t turn(void)
 {
-    int64_t sum = (int64_t)v + 2 * (int64_t)a * b;
-    return sum > INT32_MAX ? INT32_MAX : sum < INT32_MIN ? INT32_MIN : (int32_t)sum;
+    static uint8_t last;
+    last = by_turns ? (uint8_t)(1 - last) : 0;
+    return last;
 }
 
-/* The filter in C: what went before stands in front of the block. */
-static int16_t taps[TAPS], line[TAPS - 1 + MOST];
-
-static void filter(int n)
+static int feed_library(int n)
 {
-    memcpy(line + TAPS - 1, in, (size_t)n * sizeof *in);
-    for (int i = 0; i < n; i++) {
-        int32_t sum = 0;
-        for (int k = 0; k < TAPS; k++)
-            sum = mac(sum, taps[k], line[TAPS - 1 + i - k]);
-        int64_t rounded = (int64_t)sum + 0x8000;
-        out[i] = (int16_t)((rounded > INT32_MAX ? INT32_MAX : rounded) >> 16);
-    }
-    memmove(line, line + n, (TAPS - 1) * sizeof *line);
-}
-
-static int channels_by_turns;
-
-static void library(int n)
-{
-    static uint8_t channel;
     uint32_t given;
-    channel = channels_by_turns ? (uint8_t)(1 - channel) : 0;
-    must(rokdaum_feed(&host, channel, in, (size_t)n, out, MOST, &given));
+    must((int)rokdaum_feed(&library, turn(), in, (size_t)n, out, MOST, &given), "the library");
+    return (int)given;
 }
 
-static double least(void (*feed)(int), int n)
+static int feed_c(int n)
 {
-    double best = 1e30;
-    int calls = 200000 / (n + 20) + 1;
-    for (int round = 0; round < ROUNDS; round++) {
-        double begun = nanoseconds(), took;
-        for (int k = 0; k < calls; k++)
-            feed(n);
-        took = (nanoseconds() - begun) / calls;
-        if (took < best)
-            best = took;
-    }
-    return best;
+    int given;
+    const word16 *samples = pass(turn(), in, n, &given);
+    memcpy(out, samples, (size_t)given * sizeof *out);
+    return given;
 }
 
-static void open_channel(const char *what)
+static int is_in_c(const struct channel *channel)
 {
-    static const int16_t gain[1] = {5000}, level[2] = {160, 4}, dtmf[7] = ROKDAUM_DTMF_A;
-    static const int16_t decode[2] = {1, 1}, encode[2] = {0, 0}, biquad[5] = {16384, -20000, 16384, -19000, 15000};
-    static const uint8_t members[3] = {0, 1, 2}, second[1] = {1};
+    for (int i = 0; i < channel->count; i++)
+        if (channel->members[i].kind > ROKDAUM_G711)
+            return 0;
+    return 1;
+}
+
+/* The channel, or the two, of the library and of the C. */
+static void open_channel(const struct channel *channel)
+{
     rokdaum_options options = ROKDAUM_OPTIONS;
-    must(rokdaum_open(&host, &options));
-    channels_by_turns = 0;
-    if (!strcmp(what, "fir 16")) {
-        must(rokdaum_create(&host, 0, ROKDAUM_FIR, 0, taps, TAPS, 0));
-        must(rokdaum_chain(&host, 0, members, 1));
-    } else if (!strcmp(what, "two fir 16 by turns")) {
-        channels_by_turns = 1;
-        must(rokdaum_create(&host, 0, ROKDAUM_FIR, 0, taps, TAPS, 0));
-        must(rokdaum_create(&host, 1, ROKDAUM_FIR, 0, taps, TAPS, 0));
-        must(rokdaum_chain(&host, 0, members, 1));
-        must(rokdaum_chain(&host, 1, second, 1));
-    } else if (!strcmp(what, "biquad")) {
-        must(rokdaum_create(&host, 0, ROKDAUM_BIQUAD, 0, biquad, 5, 0));
-        must(rokdaum_chain(&host, 0, members, 1));
-    } else if (!strcmp(what, "mu-law decoder")) {
-        must(rokdaum_create(&host, 0, ROKDAUM_G711, 0, decode, 2, 0));
-        must(rokdaum_chain(&host, 0, members, 1));
-    } else if (!strcmp(what, "gain")) {
-        must(rokdaum_create(&host, 0, ROKDAUM_GAIN, 0, gain, 1, 0));
-        must(rokdaum_chain(&host, 0, members, 1));
-    } else if (!strcmp(what, "level")) {
-        must(rokdaum_create(&host, 0, ROKDAUM_LEVEL, 0, level, 2, 0));
-        must(rokdaum_chain(&host, 0, members, 1));
-    } else if (!strcmp(what, "dtmf")) {
-        must(rokdaum_create(&host, 0, ROKDAUM_DTMF, 0, dtmf, 7, 0));
-        must(rokdaum_chain(&host, 0, members, 1));
-    } else {
-        must(rokdaum_create(&host, 0, ROKDAUM_G711, 0, decode, 2, 0));
-        must(rokdaum_create(&host, 1, ROKDAUM_BIQUAD, 1, biquad, 5, 0));
-        must(rokdaum_create(&host, 2, ROKDAUM_G711, 2, encode, 2, 0));
-        must(rokdaum_chain(&host, 0, members, 3));
+    uint8_t all[MEMBERS] = {0, 1, 2};
+    int numbers[MEMBERS] = {0, 1, 2};
+    int lists = channel->by_turns ? 2 : 1, length = channel->by_turns ? 1 : channel->count;
+    by_turns = channel->by_turns;
+    must((int)rokdaum_open(&library, &options), "rokdaum_open");
+    for (int i = 0; i < channel->count; i++) {
+        const struct member *it = &channel->members[i];
+        int parameters[PARAMETERS];
+        for (int k = 0; k < it->count; k++)
+            parameters[k] = it->parameters[k];
+        must((int)rokdaum_create(&library, (uint8_t)i, it->kind, it->group, it->parameters, (size_t)it->count, 0), "rokdaum_create");
+        if (is_in_c(channel))
+            must((int)create(i, (enum kind)it->kind, it->group, parameters, it->count), "create");
+    }
+    for (int c = 0; c < lists; c++) {
+        must((int)rokdaum_chain(&library, (uint8_t)c, all + c, (size_t)length), "rokdaum_chain");
+        if (is_in_c(channel))
+            must((int)chain(c, numbers + c, length), "chain");
     }
 }
 
-int main(void)
+static void close_channel(const struct channel *channel)
 {
-    static const char *const channels[] = {"fir 16", "two fir 16 by turns", "biquad", "mu-law decoder", "decoder, biquad, encoder", "gain", "level", "dtmf"};
-    static const int lengths[] = {1, 8, 80, 160, 1024};
-    for (int k = 0; k < TAPS; k++)
-        taps[k] = 1500;
+    must((int)rokdaum_close(&library), "rokdaum_close");
+    if (!is_in_c(channel))
+        return;
+    for (int c = 0; c <= channel->by_turns; c++)
+        must((int)unchain(c), "unchain");
+    for (int i = 0; i < channel->count; i++)
+        must((int)delete(i), "delete");
+}
+
+/* Both give the same over a block. */
+static void compare(int n)
+{
+    static int16_t first[MOST];
+    int given = feed_library(n);
+    memcpy(first, out, sizeof first);
+    if (feed_c(n) != given || memcmp(first, out, (size_t)given * sizeof *out)) {
+        fprintf(stderr, "feeds: the samples of the library and of the C differ\n");
+        exit(1);
+    }
+}
+
+static double once(int (*feed)(int), int n)
+{
+    int calls = 200000 / (n + 20) + 1;
+    double begun = nanoseconds();
+    for (int k = 0; k < calls; k++)
+        feed(n);
+    return (nanoseconds() - begun) / calls;
+}
+
+static void time_feeds(const struct channel *channel, int n)
+{
+    double mine = 1e30, its = 1e30;
+    for (int round = 0; round < ROUNDS; round++) {
+        double took = once(feed_library, n);
+        mine = took < mine ? took : mine;
+        if (is_in_c(channel)) {
+            took = once(feed_c, n);
+            its = took < its ? took : its;
+        }
+    }
+    if (is_in_c(channel))
+        printf("%-26s %5d %9.0f ns %9.0f ns in C %7.2f\n", channel->name, n, mine, its, mine / its);
+    else
+        printf("%-26s %5d %9.0f ns\n", channel->name, n, mine);
+}
+
+int main(int count, char **words)
+{
+    static const int lengths[] = {1, 8, 80, 160, 1024}, sizes[SPACES] = {65536, 65536, 65536};
     for (size_t i = 0; i < MOST; i++)
         in[i] = (int16_t)(i * 37 & 255);
-    for (size_t k = 0; k < sizeof lengths / sizeof *lengths; k++)
-        printf("%-26s %5d %9.0f ns\n", "fir 16, in C", lengths[k], least(filter, lengths[k]));
+    open_host(sizes, NO_POISON, CHANNELS);
     for (size_t c = 0; c < sizeof channels / sizeof *channels; c++) {
-        open_channel(channels[c]);
-        for (size_t k = 0; k < sizeof lengths / sizeof *lengths; k++)
-            printf("%-26s %5d %9.0f ns\n", channels[c], lengths[k], least(library, lengths[k]));
-        must(rokdaum_close(&host));
+        if (count == 3 && strcmp(words[1], channels[c].name))
+            continue;
+        open_channel(&channels[c]);
+        if (count == 3)
+            for (int n = atoi(words[2]), fed = 0; n > 0 && fed < 1000000; fed += n)
+                feed_library(n);
+        for (size_t k = 0; count != 3 && k < sizeof lengths / sizeof *lengths; k++) {
+            if (is_in_c(&channels[c]))
+                compare(lengths[k]);
+            time_feeds(&channels[c], lengths[k]);
+        }
+        close_channel(&channels[c]);
     }
     return 0;
 }
