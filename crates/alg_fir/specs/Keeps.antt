@@ -7,6 +7,7 @@ use Rattle.ialg.specs.History.{History, word_at, past, words_in_force, with_samp
 use Rattle.fir_kernel.specs.declared.TheConstants.{MOST_COEFFICIENTS}
 use Rattle.fir_kernel.specs.Rings.{IsRing}
 use Rattle.alg_fir.specs.Equation.{fir_output}
+use Rattle.alg_fir.specs.declared.delay.Taken.{Taken}
 
 -- the kind word of a filter's object
 abbrev pub fir_kind : ℤ
@@ -41,6 +42,14 @@ pub record Ran (p : List ℤ) (h : History) (block new : List ℤ) : Type 0 wher
 abbrev pub AreOutputs : List ℤ → History → List ℤ → ℕ → ℕ → List ℤ → Type 0
 AreOutputs p h block first step ys = (i : ℕ) → i < length ys
     → word_at ys i ≡ fir_output p (with_samples h (take (suc (first + step * i)) block))
+
+-- a block was run with these coefficients in force: whatever history the ring kept, `next` being the place of its next sample, it keeps
+-- the longer one, and the values are the outputs at the samples taken
+abbrev pub Filters : List ℤ → ℕ → Taken → List ℤ → List ℤ → List ℤ → List ℤ → Type 0
+Filters cs next taken block old new ys = (p : List ℤ) (h : History) → cs ≡ words_in_force p h
+    → length cs ≡ length p → length old ≡ length p - 1 + BLOCK_SAMPLES
+    → IsRing (length p - 1) (length old - 1) old next h
+    → Ran p h block new × AreOutputs p h block taken.first taken.step ys
 
 -- while an instance is idle
 pub record Rests (p : List ℤ) (h : History) (kept : List ℤ) : Type 0 where

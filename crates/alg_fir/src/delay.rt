@@ -1,9 +1,9 @@
 //! The delay line of a filter: a ring of past samples in scratch words, and in the last of them the place of the next
 //! sample.
-ghost use Rattle.std.specs.Prelude.{◌≡◌, ◌↔◌, ◌≤◌, ◌+◌, ◌-◌, ◌*◌, ◌<◌, ℕ, ℤ, [], List, length, IsTrue};
-ghost use Rattle.ialg.specs.History.{History, word_at, words_in_force};
-ghost use Rattle.fir_kernel.specs.Rings.{IsNoPlace, IsRing};
-ghost use Rattle.alg_fir.specs.Keeps.{AreOutputs, KeepsPast, KeepsRing, Ran};
+ghost use Rattle.std.specs.Prelude.{◌≡◌, ◌↔◌, ◌≤◌, ◌+◌, ◌-◌, ◌*◌, ◌<◌, ℕ, [], length, IsTrue};
+ghost use Rattle.ialg.specs.History.{History};
+ghost use Rattle.fir_kernel.specs.Rings.{OtherPlacesStay};
+ghost use Rattle.alg_fir.specs.Keeps.{Filters, KeepsPast, KeepsRing};
 
 use fir_kernel::{FEW_SAMPLES, MOST_COEFFICIENTS, SHORT_BLOCK, enter, filter, unroll};
 use ialg::{BLOCK_SAMPLES, Block, place};
@@ -66,12 +66,8 @@ pub(crate) fn run_block(
     requires count { taken.count ≤ length input.now }
     requires empty { out.old.items ≡ [] }
     ensures count { length out.new.items ≡ taken.count }
-    ensures law { (p : List ℤ) (h : History) → coefficients.now ≡ words_in_force p h
-        → length coefficients.now ≡ length p → length ring.old ≡ length p - 1 + BLOCK_SAMPLES
-        → IsRing (length p - 1) (length ring.old - 1) ring.old next h
-        → Ran p h input.now ring.new × AreOutputs p h input.now taken.first taken.step out.new.items }
-    ensures stays { (j : ℕ) → j + 1 < length ring.old → IsNoPlace (length ring.old - 1) next (length input.now) j
-        → word_at ring.new j ≡ word_at ring.old j }
+    ensures law { Filters coefficients.now next taken input.now ring.old ring.new out.new.items }
+    ensures stays { OtherPlacesStay next (length input.now) ring.old ring.new }
 {
     if is_straight(coefficients.len(), ring.len(), next, input.len()) {
         run_straight(coefficients, ring, next, input, taken, out);
@@ -135,12 +131,8 @@ fn run_straight(
     requires count { taken.count ≤ length input.now }
     requires empty { out.old.items ≡ [] }
     ensures count { length out.new.items ≡ taken.count }
-    ensures law { (p : List ℤ) (h : History) → coefficients.now ≡ words_in_force p h
-        → length coefficients.now ≡ length p → length ring.old ≡ length p - 1 + BLOCK_SAMPLES
-        → IsRing (length p - 1) (length ring.old - 1) ring.old next h
-        → Ran p h input.now ring.new × AreOutputs p h input.now taken.first taken.step out.new.items }
-    ensures stays { (j : ℕ) → j + 1 < length ring.old → IsNoPlace (length ring.old - 1) next (length input.now) j
-        → word_at ring.new j ≡ word_at ring.old j }
+    ensures law { Filters coefficients.now next taken input.now ring.old ring.new out.new.items }
+    ensures stays { OtherPlacesStay next (length input.now) ring.old ring.new }
 {
     let past = coefficients.len() - 1;
     let size = ring.len() - 1;
@@ -178,12 +170,8 @@ fn run_line<const N: usize>(
     requires count { taken.count ≤ length input.now }
     requires empty { out.old.items ≡ [] }
     ensures count { length out.new.items ≡ taken.count }
-    ensures law { (p : List ℤ) (h : History) → coefficients.now ≡ words_in_force p h
-        → length coefficients.now ≡ length p → length ring.old ≡ length p - 1 + BLOCK_SAMPLES
-        → IsRing (length p - 1) (length ring.old - 1) ring.old next h
-        → Ran p h input.now ring.new × AreOutputs p h input.now taken.first taken.step out.new.items }
-    ensures stays { (j : ℕ) → j + 1 < length ring.old → IsNoPlace (length ring.old - 1) next (length input.now) j
-        → word_at ring.new j ≡ word_at ring.old j }
+    ensures law { Filters coefficients.now next taken input.now ring.old ring.new out.new.items }
+    ensures stays { OtherPlacesStay next (length input.now) ring.old ring.new }
 {
     let past = coefficients.len() - 1;
     let size = ring.len() - 1;

@@ -1,5 +1,5 @@
 -- Channels over a host: lists of instances, each of which takes the output of the one before it.
-use Rattle.std.specs.Prelude.{ℕ, Bool, true, false, ◌||◌, List, [], ◌∷◌, is_some, nat_eq, slice_index_or}
+use Rattle.std.specs.Prelude.{ℕ, Bool, true, false, ◌||◌, List, [], ◌∷◌, is_some, nat_eq, slice_index_or, replicate}
 use Rattle.std.specs.List.{list_all, list_any}
 use Rattle.host_spec.specs.State.{State}
 
@@ -11,6 +11,10 @@ pub record Channels (M : Type 0) : Type 0 where
 -- the members of a channel
 abbrev pub members_at : List (List ℕ) → ℕ → List ℕ
 members_at chained c = slice_index_or chained c []
+
+-- so many channels over a host, none of which has members
+abbrev pub unchained : {M : Type 0} → State M → ℕ → Channels M
+unchained host count = record { host = host; chained = replicate count [] }
 
 abbrev pub is_chained : List ℕ → Bool
 is_chained [] = false

@@ -1,5 +1,5 @@
 -- Samples in a ring of words.
-use Rattle.std.specs.Prelude.{ℕ, ℤ, ◌≡◌, ◌≤◌, ◌+◌, ◌%◌, ◌<◌, List, length, FitsSigned}
+use Rattle.std.specs.Prelude.{ℕ, ℤ, ◌≡◌, ◌≤◌, ◌+◌, ◌%◌, ◌<◌, List, length, FitsSigned, ◌-◌}
 use Rattle.std.specs.List.{All}
 use Rattle.std.specs.Int.{w16}
 use Rattle.ialg.specs.History.{History, word_at, past, with_samples}
@@ -13,6 +13,10 @@ pub record IsRing (count size : ℕ) (words : List ℤ) (place : ℕ) (h : Histo
 -- the word j is none of the `count` places of a ring of `size` words from `next` on
 abbrev pub IsNoPlace : ℕ → ℕ → ℕ → ℕ → Type 0
 IsNoPlace size next count j = (i : ℕ) → i < count → (next + i) % size ≡ j → ⊥
+
+-- beside the `count` places of the ring from `next` on, and the last word, no word changed
+abbrev pub OtherPlacesStay : ℕ → ℕ → List ℤ → List ℤ → Type 0
+OtherPlacesStay next count old new = (j : ℕ) → j + 1 < length old → IsNoPlace (length old - 1) next count j → word_at new j ≡ word_at old j
 
 -- samples were entered one after the other, each at the place of the oldest, and `place` is that of the next one
 pub record Entered (size next : ℕ) (samples old new : List ℤ) (place : ℕ) : Type 0 where

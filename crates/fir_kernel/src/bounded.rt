@@ -4,7 +4,7 @@ ghost use Rattle.std.specs.Prelude.{◌≡◌, ◌↔◌, ◌<◌, ◌≤◌, �
 ghost use Rattle.std.specs.Int.{int_wrap, w32};
 ghost use Rattle.ialg.specs.History.{word_at};
 ghost use Rattle.fir_kernel.specs.Bounded.{product_sum, magnitude_sum, NoneLouder, IsBounded};
-ghost use Rattle.fir_kernel.specs.Sums.{filtered_at, AreOutputs};
+ghost use Rattle.fir_kernel.specs.Sums.{filtered_at, AreOutputs, Reaches};
 
 use crate::halves::round_halves;
 use crate::windows::{WINDOWS, read_words, sum_eight};
@@ -99,7 +99,7 @@ pub(crate) fn filter_bounded<const N: usize>(
 )
     requires some { 1 ≤ length coefficients.now }
     requires few { length coefficients.now ≤ MOST_COEFFICIENTS }
-    requires reach { (i : ℕ) → i < length out.old → first + step * i + MOST_COEFFICIENTS ≤ length line.now }
+    requires reach { Reaches first step (length out.old) MOST_COEFFICIENTS line.now }
     requires block { length out.old ≤ N }
     requires arrays { N ≤ BLOCK_SAMPLES }
     requires last { (i : ℕ) → i < length out.old → first + step * i ≤ last }
@@ -131,7 +131,7 @@ fn reverse(coefficients: &[i16], taps: &mut [i16])
 /// `first + step * i`.
 fn sum_windows(taps: &[i16], line: &[i16], first: usize, step: usize, sums: &mut [i32])
     requires whole { length taps.now % LANES ≡ 0 }
-    requires reach { (i : ℕ) → i < length sums.old → first + step * i + length taps.now ≤ length line.now }
+    requires reach { Reaches first step (length sums.old) (length taps.now) line.now }
     ensures { (i : ℕ) → i < length sums.old → word_at sums.new i ≡ int_wrap w32
         (product_sum (word_at taps.now) (λ j. word_at line.now (first + step * i + j)) (length taps.now)) }
 {

@@ -5,7 +5,7 @@ ghost use Rattle.basic_op.specs.Halves.{half_of};
 ghost use Rattle.basic_op.specs.Operators.{round_of};
 ghost use Rattle.ialg.specs.History.{word_at};
 ghost use Rattle.fir_kernel.specs.Halves.{AreAboveLeast, AreHalfSums, AreHalves, HasHalves, HaveHalves, HaveProduct, HaveProducts};
-ghost use Rattle.fir_kernel.specs.Sums.{AreOutputs};
+ghost use Rattle.fir_kernel.specs.Sums.{AreOutputs, Reaches};
 
 use basic_op::{half_mac, half_round};
 use ialg::BLOCK_SAMPLES;
@@ -37,7 +37,7 @@ pub(crate) fn filter_halves<const N: usize>(
     requires some { 1 ≤ length coefficients.now }
     requires halves { HaveHalves coefficients.now line.now }
     requires outputs { 1 ≤ length out.old }
-    requires reach { (i : ℕ) → i < length out.old → first + step * i + length coefficients.now ≤ length line.now }
+    requires reach { Reaches first step (length out.old) (length coefficients.now) line.now }
     requires block { length out.old ≤ N }
     requires arrays { N ≤ BLOCK_SAMPLES }
     ensures { AreOutputs coefficients.now line.now first step (length out.old) out.new }
@@ -92,7 +92,7 @@ fn sum_gathered<const N: usize>(
 )
     requires some { 1 ≤ length coefficients.now }
     requires halves { HaveHalves coefficients.now line.now }
-    requires reach { (i : ℕ) → i < length sums.old → first + step * i + length coefficients.now ≤ length line.now }
+    requires reach { Reaches first step (length sums.old) (length coefficients.now) line.now }
     requires block { length sums.old ≤ N }
     requires arrays { N ≤ BLOCK_SAMPLES }
     ensures halves { AreHalves sums.new }

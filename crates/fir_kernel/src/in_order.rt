@@ -1,7 +1,7 @@
 //! The filter by the operators themselves: of a single output whose sum may saturate, and of products for which halves aren't exact.
-ghost use Rattle.std.specs.Prelude.{◌≡◌, ◌<◌, ◌≤◌, ◌+◌, ◌-◌, ◌*◌, ℕ, length};
+ghost use Rattle.std.specs.Prelude.{◌≡◌, ◌≤◌, ◌+◌, ◌-◌, ◌*◌, length};
 ghost use Rattle.ialg.specs.History.{word_at};
-ghost use Rattle.fir_kernel.specs.Sums.{l_mac_sum, AreOutputs};
+ghost use Rattle.fir_kernel.specs.Sums.{l_mac_sum, AreOutputs, Reaches};
 
 use basic_op::{l_mac, round};
 
@@ -14,7 +14,7 @@ pub(crate) fn filter_in_order(
     out: &mut [i16],
 )
     requires some { 1 ≤ length coefficients.now }
-    requires reach { (i : ℕ) → i < length out.old → first + step * i + length coefficients.now ≤ length line.now }
+    requires reach { Reaches first step (length out.old) (length coefficients.now) line.now }
     ensures { AreOutputs coefficients.now line.now first step (length out.old) out.new }
 {
     for (i, output) in out.iter_mut().enumerate() {

@@ -1,7 +1,7 @@
 //! The filter over plain words: a line of past samples and a block, the newest sample last.
-ghost use Rattle.std.specs.Prelude.{◌≡◌, ◌<◌, ◌≤◌, ◌+◌, ◌*◌, ℕ, length};
+ghost use Rattle.std.specs.Prelude.{◌≡◌, ◌<◌, ◌≤◌, ◌+◌, ◌*◌, length};
 ghost use Rattle.ialg.specs.History.{word_at};
-ghost use Rattle.fir_kernel.specs.Sums.{AreOutputs};
+ghost use Rattle.fir_kernel.specs.Sums.{AreOutputs, Reaches};
 
 use crate::bounded::{filter_bounded, is_bounded, output_bounded};
 use crate::halves::{are_above_least, filter_halves};
@@ -15,7 +15,7 @@ use ialg::BLOCK_SAMPLES;
 pub fn filter(coefficients: &[i16], line: &[i16], first: usize, step: usize, out: &mut [i16])
     requires some { 1 ≤ length coefficients.now }
     requires few { length coefficients.now ≤ MOST_COEFFICIENTS }
-    requires reach { (i : ℕ) → i < length out.old → first + step * i + MOST_COEFFICIENTS ≤ length line.now }
+    requires reach { Reaches first step (length out.old) MOST_COEFFICIENTS line.now }
     requires block { length out.old ≤ BLOCK_SAMPLES }
     ensures { AreOutputs coefficients.now line.now first step (length out.old) out.new }
 {
@@ -38,7 +38,7 @@ fn filter_within<const N: usize>(
 )
     requires some { 1 ≤ length coefficients.now }
     requires few { length coefficients.now ≤ MOST_COEFFICIENTS }
-    requires reach { (i : ℕ) → i < length out.old → first + step * i + MOST_COEFFICIENTS ≤ length line.now }
+    requires reach { Reaches first step (length out.old) MOST_COEFFICIENTS line.now }
     requires block { length out.old ≤ N }
     requires arrays { N ≤ BLOCK_SAMPLES }
     ensures { AreOutputs coefficients.now line.now first step (length out.old) out.new }

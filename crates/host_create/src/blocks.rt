@@ -1,10 +1,11 @@
 //! The new blocks of a group, in place of its old ones.
-ghost use Rattle.std.specs.Prelude.{◌≡◌, ◌≢◌, ◌⊎◌, ◌<◌, ℕ, length, is_some};
+ghost use Rattle.std.specs.Prelude.{◌≡◌, ◌<◌, length, is_some};
 ghost use Rattle.mem_rec.specs.declared.Space.{Space};
 ghost use Rattle.scratch_group.specs.Blocks.{block_in};
-ghost use Rattle.host_table.specs.Table.{group_at, activity_at};
+ghost use Rattle.host_table.specs.Table.{group_at, SameActivities};
 ghost use Rattle.host_spaces.specs.Pieces.{new_block, old_piece};
 ghost use Rattle.host_create.specs.Blocks.{newer, replaced_piece, replaced_in};
+ghost use Rattle.host_table.specs.Frames.{OtherBlocksStay, OtherGroupsStay};
 
 use host_moves::put_block;
 use host_spaces::{NewBlocks, OldBlocks};
@@ -34,8 +35,8 @@ fn put_new(groups: &mut Vec<Group>, g: u8, space: Space, new: Option<ScratchBloc
     requires { g < length groups.old.items }
     ensures old { result ≡ replaced_piece new (block_in (group_at groups.old.items g) space) }
     ensures new { block_in (group_at groups.new.items g) space ≡ newer new (block_in (group_at groups.old.items g) space) }
-    ensures others { (k : ℕ) (other : Space) → (k ≢ g) ⊎ (other ≢ space) → block_in (group_at groups.new.items k) other ≡ block_in (group_at groups.old.items k) other }
-    ensures activity { (k : ℕ) → activity_at groups.new.items k ≡ activity_at groups.old.items k }
+    ensures others { OtherBlocksStay g space groups.old.items groups.new.items }
+    ensures activity { SameActivities groups.old.items groups.new.items }
     ensures length { length groups.new.items ≡ length groups.old.items }
 {
     match new {
@@ -49,8 +50,8 @@ pub fn put_new_blocks(groups: &mut Vec<Group>, g: u8, blocks: NewBlocks) -> OldB
     requires { g < length groups.old.items }
     ensures old { (space : Space) → old_piece result space ≡ replaced_piece (new_block blocks space) (block_in (group_at groups.old.items g) space) }
     ensures new { (space : Space) → block_in (group_at groups.new.items g) space ≡ newer (new_block blocks space) (block_in (group_at groups.old.items g) space) }
-    ensures others { (k : ℕ) (space : Space) → k ≢ g → block_in (group_at groups.new.items k) space ≡ block_in (group_at groups.old.items k) space }
-    ensures activity { (k : ℕ) → activity_at groups.new.items k ≡ activity_at groups.old.items k }
+    ensures others { OtherGroupsStay g groups.old.items groups.new.items }
+    ensures activity { SameActivities groups.old.items groups.new.items }
     ensures length { length groups.new.items ≡ length groups.old.items }
 {
     let NewBlocks {

@@ -1,13 +1,12 @@
 //! A group grows.
-ghost use Rattle.std.specs.Prelude.{◌≡◌, ◌≢◌, ◌<◌, ℕ, ℤ, length, List, Option, Some, None, true, false};
+ghost use Rattle.std.specs.Prelude.{◌≡◌, ◌≢◌, ◌<◌, ℕ, length, List, Option, Some, None, true, false};
 ghost use Rattle.mem_rec.specs.declared.MemRec.{MemRec};
 ghost use Rattle.mem_rec.specs.declared.Space.{Space};
-ghost use Rattle.ialg.specs.History.{History};
 ghost use Rattle.ialg.specs.Records.{ArePoison};
 ghost use Rattle.record_loans.specs.Blocks.{block_words};
 ghost use Rattle.lifecycle.specs.Rooms.{NoNeed};
 ghost use Rattle.mem_rec.specs.declared.TheConstants.{GROUPS};
-ghost use Rattle.host_table.specs.Table.{group_at, activity_at, TablesTold, ArePoisoned};
+ghost use Rattle.host_table.specs.Table.{group_at, activity_at, TablesTold, ArePoisoned, SameActivities, ActivitiesAre};
 ghost use Rattle.host_table.specs.Frames.{InactiveGroupsStay};
 ghost use Rattle.host_map.specs.declared.placed.Owner.{Owner};
 ghost use Rattle.host_map.specs.declared.placed.Owner.TheVariants.{Scratch};
@@ -19,7 +18,7 @@ ghost use Rattle.host_spaces.specs.Wants.{block_need};
 ghost use Rattle.host_moves.specs.Standing.{SameInstances};
 ghost use Rattle.host_create.specs.Blocks.{replaced_in, replaced_pieces};
 ghost use Rattle.host_create.specs.Growth.{ArePlaced, AreGrown, activity_grown};
-ghost use Rattle.host_table.specs.Steps.{AreConsistent, MembersStay, AreKept};
+ghost use Rattle.host_table.specs.Steps.{AreConsistent, MembersStay, HistoriesStay, AllHistoriesStay};
 
 use crate::blocks::{put_new_blocks, replaces_any};
 use host_life::call_moved_in_group;
@@ -46,9 +45,8 @@ fn rest_where<M: Ialg>(tables: &mut Tables<M>, poison: Option<i16>, g: u8, repla
     ensures poisoned { ArePoisoned poison tables.new.groups }
     ensures idle { replaced ≡ true → (group_at tables.new.groups g).active ≡ None }
     ensures same { MembersStay tables.old tables.new }
-    ensures activity { (k : ℕ) → activity_at tables.new.groups k ≡ activity_grown replaced tables.old.groups g k }
-    ensures keeps { (histories : ℕ → History) → AreKept M.law poison tables.old histories
-        → AreKept M.law poison tables.new histories }
+    ensures activity { ActivitiesAre tables.new.groups (activity_grown replaced tables.old.groups g) }
+    ensures keeps { HistoriesStay M.law poison tables.old tables.new }
 {
     if replaced {
         let _was_active = tables.deactivate_in(poison, g);
@@ -63,9 +61,8 @@ fn tell_where<M: Ialg>(tables: &mut Tables<M>, g: u8, replaced: bool)
     ensures ok { AreConsistent tables.new }
     ensures inactive { InactiveGroupsStay tables.old.groups tables.new.groups }
     ensures same { MembersStay tables.old tables.new }
-    ensures activity { (k : ℕ) → activity_at tables.new.groups k ≡ activity_at tables.old.groups k }
-    ensures keeps { (w : Option ℤ) (histories : ℕ → History) → AreKept M.law w tables.old histories
-        → AreKept M.law w tables.new histories }
+    ensures activity { SameActivities tables.old.groups tables.new.groups }
+    ensures keeps { AllHistoriesStay M.law tables.old tables.new }
 {
     if replaced {
         call_moved_in_group(
@@ -101,8 +98,7 @@ pub fn grow<M: Ialg>(
     ensures map { map_of spaces.new ≡ without_pieces (map_of spaces.old) (replaced_pieces blocks (group_at tables.old.groups g)) }
     ensures others { (o : Owner) (space : Space) → o ≢ Scratch g → owned o (blocks_in (map_of spaces.new) space) ≡ owned o (blocks_in (map_of spaces.old) space) }
     ensures stays { AreSameSpaces spaces.old spaces.new }
-    ensures keeps { (histories : ℕ → History) → AreKept M.law poison tables.old histories
-        → AreKept M.law poison tables.new histories }
+    ensures keeps { HistoriesStay M.law poison tables.old tables.new }
 {
     let replaced = replaces_in(&tables.groups, g, &blocks);
     rest_where(tables, poison, g, replaced);

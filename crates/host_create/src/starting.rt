@@ -1,10 +1,9 @@
 //! A new instance starts.
-ghost use Rattle.std.specs.Prelude.{◌≡◌, ◌≢◌, ◌+◌, ◌<◌, ℕ, ℤ, [], length, Option, Some, None, IsTrue, IfOk, OnOk, OnErr};
+ghost use Rattle.std.specs.Prelude.{◌≡◌, ◌≢◌, ◌+◌, ◌<◌, ℕ, [], length, Option, Some, None, IsTrue, IfOk, OnOk, OnErr};
 ghost use Rattle.mem_rec.specs.declared.Space.{Space};
 ghost use Rattle.mem_rec.specs.declared.TheConstants.{TABLE_RECORDS, INSTANCES, GROUPS};
 ghost use Rattle.ialg.specs.History.{History};
-ghost use Rattle.ialg.specs.Records.{unplaced, AreNew};
-ghost use Rattle.scratch_group.specs.Words.{idle_words};
+ghost use Rattle.ialg.specs.Records.{unplaced};
 ghost use Rattle.host_table.specs.Table.{slot_at, group_at, activity_at, ArePoisoned};
 ghost use Rattle.host_map.specs.Sharers.{asked, sharer_of};
 ghost use Rattle.host_life.specs.Sharers.{asked_by, AreLeastSharers};
@@ -23,6 +22,7 @@ ghost use Rattle.host_create.specs.Growth.{AreGrown, activity_grown};
 ghost use Rattle.host_create.specs.Started.{IsNewborn, IsPlaced, OthersAreSame};
 ghost use Rattle.host_table.specs.Steps.{AreConsistent, AreKept};
 ghost use Rattle.host_moves.specs.Standing.{MapAgrees};
+ghost use Rattle.host_life.specs.Starts.{asked_for, BeginsHistory};
 
 use crate::growth::grow;
 use host_life::{NewInstance, find_sharers, start};
@@ -88,7 +88,7 @@ fn begin<M: Ialg>(
     requires empty { slot_at tables.old.instances instance.number ≡ None }
     requires ok { AreConsistent tables.old }
     requires grown { AreGrown instance.group tables.old.instances tables.old.sharing tables.old.groups spaces.old }
-    requires sharers { AreLeastSharers M.law.meaning.same tables.old.instances (asked instance.kind instance.params.items instance.table) sharers }
+    requires sharers { AreLeastSharers M.law.meaning.same tables.old.instances (asked_for instance) sharers }
     requires placed { IsPlaced spaces.old instance.number (sharer_at sharers) instance.table own shared (group_at tables.old.groups instance.group) }
     requires gone { (j k : ℕ) (space : Space) → slot_at tables.old.instances j ≡ None → j ≢ instance.number → owned (Record j k) (blocks_in (map_of spaces.old) space) ≡ [] }
     ensures groups { tables.new.groups ≡ tables.old.groups }
@@ -98,11 +98,7 @@ fn begin<M: Ialg>(
     ensures newborn { IsNewborn instance.group instance.kind instance.params.items instance.table (slot_at tables.new.instances instance.number) }
     ensures map { map_of spaces.new ≡ renamed (taken_over (sharer_at sharers) instance.number) (map_of spaces.old) }
     ensures stays { AreSameSpaces spaces.old spaces.new }
-    ensures keeps { (w : Option ℤ) (histories : ℕ → History)
-        → (IsTrue (M.law.meaning.lawful instance.kind instance.params.items w) → M.law.meaning.table instance.kind instance.params.items ≡ Some (unplaced instance.table))
-        → AreNew w (M.law.meaning.fill instance.kind instance.params.items) instance.table (idle_words instance.table own shared)
-        → AreKept M.law w tables.old histories
-        → AreKept M.law w tables.new (with_history histories instance.number []) }
+    ensures keeps { BeginsHistory M.law instance own shared tables.old tables.new }
 {
     let list = listed(&sharers);
     spaces.take_over(instance.number, &list);

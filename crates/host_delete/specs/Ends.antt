@@ -6,7 +6,7 @@ use Rattle.ialg.specs.Laws.{Laws}
 use Rattle.scratch_group.specs.declared.group.Group.{Group}
 use Rattle.host_table.specs.declared.member.Member.{Member}
 use Rattle.host_shared.specs.declared.locations.Locations.{Locations}
-use Rattle.host_table.specs.Table.{slot_at, group_of, is_member_of, activity_at, deactivated_by, TablesOk, ArePoisoned}
+use Rattle.host_table.specs.Table.{slot_at, group_of, is_member_of, deactivated_by, TablesOk, ArePoisoned, ActivitiesAre}
 use Rattle.host_map.specs.Sharers.{Asked, sharer_of}
 use Rattle.host_life.specs.Sharers.{asked_by}
 use Rattle.host_table.specs.Keeps.{Keeps}
@@ -24,6 +24,10 @@ abbrev pub sharers_among : {M : Type 0} → (M → M → Bool) → List (Option 
 sharers_among same instances None k = None
 sharers_among same instances (Some x) k = sharer_of same (λ j. asked_by (slot_at instances j)) x k
 
+-- each other slot has the instance that it had, in its state
+abbrev pub OtherSlotsSame : {M : Type 0} → ℕ → List (Option (Member M)) → List (Option (Member M)) → Type 0
+OtherSlotsSame i old new = (j : ℕ) → j ≢ i → SlotIsSame (slot_at old j) (slot_at new j)
+
 -- instance i was ended in a host of this poison word or of none: each other instance is the same, in its state, and keeps its history
 pub record HasEnded {M : Type 0} (laws : Laws M) (w : Option ℤ) (i : ℕ)
     (instances : List (Option (Member M))) (sharing : List Locations) (groups : List Group) (spaces : Spaces)
@@ -32,9 +36,9 @@ pub record HasEnded {M : Type 0} (laws : Laws M) (w : Option ℤ) (i : ℕ)
   pub standing : AgreeWithMap instances' sharing' groups' spaces'
   pub poisoned : ArePoisoned w groups'
   pub gone : slot_at instances' i ≡ None
-  pub others : (j : ℕ) → j ≢ i → SlotIsSame (slot_at instances j) (slot_at instances' j)
+  pub others : OtherSlotsSame i instances instances'
   -- it is active no more, where it was
-  pub activity : (k : ℕ) → activity_at groups' k ≡ deactivated_by instances groups i k
+  pub activity : ActivitiesAre groups' (deactivated_by instances groups i)
   -- what it shared is its least sharer's, its other records are gone, and its group's blocks where no member is left
   pub map : let g = group_of (slot_at instances i) in
       map_of spaces' ≡ deleted_map (has_members instances' g) (map_of spaces) i g (sharers_among laws.meaning.same instances' (asked_by (slot_at instances i)))

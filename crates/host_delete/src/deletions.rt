@@ -1,12 +1,13 @@
 //! Deletions, as the machine's.
-ghost use Rattle.std.specs.Prelude.{◌≡◌, ◌≢◌, ◌<◌, ℕ, length, None, OnErr, is_some};
+ghost use Rattle.std.specs.Prelude.{◌≡◌, ◌<◌, length, None, OnErr, is_some};
 ghost use Rattle.host_table.specs.Table.{slot_at, ArePoisoned};
 ghost use Rattle.host_spec.specs.State.{State};
 ghost use Rattle.host_spec.specs.Calls.{Does};
 ghost use Rattle.host_spec.specs.Calls.Call.{Delete};
-ghost use Rattle.host_moves.specs.Standing.{SlotIsSame, MapAgrees};
+ghost use Rattle.host_moves.specs.Standing.{MapAgrees};
 ghost use Rattle.host_table.specs.Steps.{AreConsistent};
 ghost use Rattle.host_refines.specs.Hosts.{Refines};
+ghost use Rattle.host_delete.specs.Ends.{OtherSlotsSame};
 
 use crate::ends::end_instance;
 use host_spaces::Spaces;
@@ -29,7 +30,7 @@ pub fn delete<M: Ialg>(
     ensures standing { MapAgrees tables.new spaces.new }
     ensures poisoned { ArePoisoned poison tables.new.groups }
     ensures gone { slot_at tables.new.instances i ≡ None }
-    ensures others { (j : ℕ) → j ≢ i → SlotIsSame (slot_at tables.old.instances j) (slot_at tables.new.instances j) }
+    ensures others { OtherSlotsSame i tables.old.instances tables.new.instances }
     ensures refused { OnErr result ((tables.new ≡ tables.old) × (spaces.new ≡ spaces.old)) }
     ensures machine { (before : State M) → before.poison ≡ poison
         → Refines M.law tables.old spaces.old before

@@ -1,11 +1,11 @@
 //! What an instance leaves: its records, and with the last member of a group the group's blocks.
-ghost use Rattle.std.specs.Prelude.{◌≡◌, ◌≢◌, ◌<◌, ℕ, ℤ, false, length, Option, None, IsSome};
+ghost use Rattle.std.specs.Prelude.{◌≡◌, ◌<◌, ℕ, ℤ, false, length, Option, None, IsSome};
 ghost use Rattle.mem_rec.specs.declared.Space.{Space};
 ghost use Rattle.ialg.specs.History.{History};
 ghost use Rattle.record_loans.specs.Blocks.{block_piece};
 ghost use Rattle.scratch_group.specs.Blocks.{block_in};
 ghost use Rattle.mem_rec.specs.declared.TheConstants.{GROUPS, INSTANCES};
-ghost use Rattle.host_table.specs.Table.{slot_at, group_at, group_of, is_member_of, activity_at, deactivated_by, TablesOk, ArePoisoned};
+ghost use Rattle.host_table.specs.Table.{slot_at, group_at, group_of, is_member_of, deactivated_by, TablesOk, ArePoisoned, SameActivities, ActivitiesAre};
 ghost use Rattle.host_shared.specs.Owners.{HoldsForOthers};
 ghost use Rattle.host_shared.specs.Sharing.{next_sharer};
 ghost use Rattle.host_life.specs.Sharers.{asked_by};
@@ -14,10 +14,11 @@ ghost use Rattle.host_map.specs.Creation.{handed_on, sharer_at};
 ghost use Rattle.host_spaces.specs.MemoryMap.{AreSameSpaces, map_of};
 ghost use Rattle.host_map.specs.MemoryMap.{is_group's, is_instance's, renamed, without_owners};
 ghost use Rattle.host_spaces.specs.Pieces.{old_piece};
-ghost use Rattle.host_moves.specs.Standing.{AgreeWithMap, SlotIsSame, MapAgrees};
-ghost use Rattle.host_delete.specs.Ends.{sharers_among};
+ghost use Rattle.host_moves.specs.Standing.{AgreeWithMap, MapAgrees};
+ghost use Rattle.host_delete.specs.Ends.{sharers_among, OtherSlotsSame};
 ghost use Rattle.host_delete.specs.Leaving.{AgreeWithMapBut};
-ghost use Rattle.host_table.specs.Steps.{AreConsistent, AreKept};
+ghost use Rattle.host_table.specs.Steps.{AreConsistent, HistoriesStay};
+ghost use Rattle.host_table.specs.Frames.{OtherGroupsStay};
 
 use crate::members::table_copied;
 use host_life::end;
@@ -59,13 +60,12 @@ pub(crate) fn give_records<M: Ialg>(
     ensures standing { AgreeWithMapBut (group_of (slot_at tables.old.instances i)) tables.new.instances tables.new.sharing tables.new.groups spaces.new }
     ensures poisoned { ArePoisoned poison tables.new.groups }
     ensures gone { slot_at tables.new.instances i ≡ None }
-    ensures others { (j : ℕ) → j ≢ i → SlotIsSame (slot_at tables.old.instances j) (slot_at tables.new.instances j) }
-    ensures activity { (k : ℕ) → activity_at tables.new.groups k ≡ deactivated_by tables.old.instances tables.old.groups i k }
+    ensures others { OtherSlotsSame i tables.old.instances tables.new.instances }
+    ensures activity { ActivitiesAre tables.new.groups (deactivated_by tables.old.instances tables.old.groups i) }
     ensures map { map_of spaces.new ≡ without_owners (is_instance's i)
         (renamed (handed_on (sharers_among M.law.meaning.same tables.new.instances (asked_by (slot_at tables.old.instances i))) i) (map_of spaces.old)) }
     ensures spaces { AreSameSpaces spaces.old spaces.new }
-    ensures keeps { (histories : ℕ → History) → AreKept M.law poison tables.old histories
-        → AreKept M.law poison tables.new histories }
+    ensures keeps { HistoriesStay M.law poison tables.old tables.new }
 {
     let table = table_copied(&tables.instances, i);
     let next = next_sharers(&tables.sharing, i);
@@ -79,8 +79,8 @@ fn take_blocks(groups: &mut Vec<Group>, g: u8) -> OldBlocks
     requires { g < length groups.old.items }
     ensures old { (space : Space) → old_piece result space ≡ block_piece (block_in (group_at groups.old.items g) space) }
     ensures new { (space : Space) → block_in (group_at groups.new.items g) space ≡ None }
-    ensures others { (k : ℕ) (space : Space) → k ≢ g → block_in (group_at groups.new.items k) space ≡ block_in (group_at groups.old.items k) space }
-    ensures activity { (k : ℕ) → activity_at groups.new.items k ≡ activity_at groups.old.items k }
+    ensures others { OtherGroupsStay g groups.old.items groups.new.items }
+    ensures activity { SameActivities groups.old.items groups.new.items }
     ensures length { length groups.new.items ≡ length groups.old.items }
 {
     let daram = take_block(groups, g, Space::Daram);
@@ -108,7 +108,7 @@ pub(crate) fn give_blocks<M: Ialg>(
     ensures ok { TablesOk instances.now.items sharing.now.items groups.new.items }
     ensures standing { AgreeWithMap instances.now.items sharing.now.items groups.new.items spaces.new }
     ensures poisoned { (w : Option ℤ) → ArePoisoned w groups.old.items → ArePoisoned w groups.new.items }
-    ensures activity { (k : ℕ) → activity_at groups.new.items k ≡ activity_at groups.old.items k }
+    ensures activity { SameActivities groups.old.items groups.new.items }
     ensures map { map_of spaces.new ≡ without_owners (is_group's g) (map_of spaces.old) }
     ensures spaces { AreSameSpaces spaces.old spaces.new }
     ensures keeps { (w : Option ℤ) (histories : ℕ → History) → Keeps M.law w instances.now.items sharing.now.items groups.old.items histories

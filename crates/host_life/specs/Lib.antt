@@ -1,1 +1,2 @@
 pub mod Sharers
+pub mod Starts

@@ -1,9 +1,6 @@
 //! The start and the end of instances.
-ghost use Rattle.std.specs.Prelude.{◌≡◌, ◌≢◌, ◌<◌, ℕ, ℤ, [], Option, Some, None, IsSome, IsTrue};
-ghost use Rattle.ialg.specs.History.{History};
-ghost use Rattle.ialg.specs.Records.{unplaced, AreNew};
+ghost use Rattle.std.specs.Prelude.{◌≡◌, ◌≢◌, ◌<◌, ℕ, Option, Some, None, IsSome};
 ghost use Rattle.record_loans.specs.Pieces.{piece_at, SamePieces};
-ghost use Rattle.scratch_group.specs.Words.{idle_words};
 ghost use Rattle.lifecycle.specs.States.{Fits, SameOnce};
 ghost use Rattle.lifecycle.specs.Moves.{HasRoom, settled};
 ghost use Rattle.mem_rec.specs.declared.TheConstants.{INSTANCES, GROUPS};
@@ -11,13 +8,13 @@ ghost use Rattle.host_table.specs.declared.member.Member.{Member};
 ghost use Rattle.host_shared.specs.Locations.{location_at, locations_at, owner_of, shared_at, no_pieces};
 ghost use Rattle.host_shared.specs.Owners.{IsSameLocation};
 ghost use Rattle.host_shared.specs.Sharing.{left_with, next_sharer, location_without, AreLeast};
-ghost use Rattle.host_table.specs.Table.{slot_at, group_at, own_of, instance_of, active_in, activity_at, deactivated_by};
+ghost use Rattle.host_table.specs.Table.{slot_at, group_at, own_of, instance_of, active_in, deactivated_by, ActivitiesAre};
 ghost use Rattle.host_map.specs.Sharers.{asked, sharer_of};
 ghost use Rattle.host_life.specs.Sharers.{asked_by, AreLeastSharers, AreTogether};
 ghost use Rattle.host_shared.specs.Joining.{sharer_at, location_joined, pieces_joined};
-ghost use Rattle.host_table.specs.Keeps.{with_history};
-ghost use Rattle.host_table.specs.Steps.{Ready, AreKept, AreConsistent};
+ghost use Rattle.host_table.specs.Steps.{Ready, AreConsistent, HistoriesStay};
 ghost use Rattle.host_table.specs.Frames.{OthersStay, OthersSame, IsStarted};
+ghost use Rattle.host_life.specs.Starts.{asked_for, BeginsHistory};
 
 use host_shared::{Sharers, borrow_pieces, give_back_pieces, hand_on, join};
 use host_table::{Member, Tables};
@@ -56,7 +53,7 @@ pub fn start<M: Ialg>(
     requires ok { AreConsistent tables.old }
     requires least { AreLeast tables.old.sharing }
     requires together { AreTogether tables.old.instances tables.old.sharing }
-    requires sharers { AreLeastSharers M.law.meaning.same tables.old.instances (asked instance.kind instance.params.items instance.table) sharers }
+    requires sharers { AreLeastSharers M.law.meaning.same tables.old.instances (asked_for instance) sharers }
     requires placed { (k : ℕ) → IsSome (sharer_at sharers k) → piece_at shared k ≡ None }
     requires fits { HasRoom (record { kind = instance.kind; params = instance.params; table = instance.table; own = own }) (pieces_joined tables.old.sharing sharers shared) (group_at tables.old.groups instance.group) }
     ensures ok { AreConsistent tables.new }
@@ -67,11 +64,7 @@ pub fn start<M: Ialg>(
     ensures together { AreTogether tables.new.instances tables.new.sharing }
     ensures started { IsStarted instance.group (settled (record { kind = instance.kind; params = instance.params; table = instance.table; own = own }) (pieces_joined tables.old.sharing sharers shared) (group_at tables.old.groups instance.group)) (slot_at tables.new.instances instance.number) }
     ensures pieces { SamePieces (pieces_joined tables.old.sharing sharers shared) (shared_at tables.new.sharing instance.number) }
-    ensures keeps { (w : Option ℤ) (histories : ℕ → History)
-        → (IsTrue (M.law.meaning.lawful instance.kind instance.params.items w) → M.law.meaning.table instance.kind instance.params.items ≡ Some (unplaced instance.table))
-        → AreNew w (M.law.meaning.fill instance.kind instance.params.items) instance.table (idle_words instance.table own shared)
-        → AreKept M.law w tables.old histories
-        → AreKept M.law w tables.new (with_history histories instance.number []) }
+    ensures keeps { BeginsHistory M.law instance own shared tables.old tables.new }
 {
     let NewInstance {
         number: i,
@@ -117,9 +110,8 @@ pub fn end<M: Ialg>(tables: &mut Tables<M>, poison: Option<i16>, i: u8) -> (Piec
     ensures together { AreTogether tables.old.instances tables.old.sharing → AreTogether tables.new.instances tables.new.sharing }
     ensures next { AreLeast tables.old.sharing → AreTogether tables.old.instances tables.old.sharing → (k : ℕ) (m : Member M) → slot_at tables.old.instances i ≡ Some m → owner_of tables.old.sharing i k ≡ i
         → next_sharer tables.old.sharing i k ≡ sharer_of M.law.meaning.same (λ j. asked_by (slot_at tables.new.instances j)) (asked (instance_of m.inst).kind (instance_of m.inst).params.items (instance_of m.inst).table) k }
-    ensures activity { (k : ℕ) → activity_at tables.new.groups k ≡ deactivated_by tables.old.instances tables.old.groups i k }
-    ensures keeps { (histories : ℕ → History) → AreKept M.law poison tables.old histories
-        → AreKept M.law poison tables.new histories }
+    ensures activity { ActivitiesAre tables.new.groups (deactivated_by tables.old.instances tables.old.groups i) }
+    ensures keeps { HistoriesStay M.law poison tables.old tables.new }
 {
     tables.deactivate(poison, i);
     let Member { group: g, inst } = tables.take_out(i);

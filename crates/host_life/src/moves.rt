@@ -2,7 +2,7 @@
 ghost use Rattle.std.specs.Prelude.{◌≡◌, ◌<◌, ◌+◌, ℕ, ℤ, Option, Some, None, length, true};
 ghost use Rattle.ialg.specs.History.{History};
 ghost use Rattle.mem_rec.specs.declared.TheConstants.{INSTANCES, GROUPS};
-ghost use Rattle.host_table.specs.Table.{slot_at, is_member_of, activity_at, TablesOk, TablesTold};
+ghost use Rattle.host_table.specs.Table.{slot_at, is_member_of, TablesOk, TablesTold, SameActivities};
 ghost use Rattle.host_table.specs.Keeps.{Keeps};
 ghost use Rattle.host_table.specs.Frames.{InactiveGroupsStay, SameMembers};
 
@@ -39,7 +39,7 @@ fn call_moved_of_member<M: Ialg>(
     ensures told { TablesTold g (i + 1) instances.new.items sharing.new.items groups.new.items }
     ensures inactive { InactiveGroupsStay groups.old.items groups.new.items }
     ensures same { SameMembers instances.old.items sharing.old.items groups.old.items instances.new.items sharing.new.items groups.new.items }
-    ensures activity { (k : ℕ) → activity_at groups.new.items k ≡ activity_at groups.old.items k }
+    ensures activity { SameActivities groups.old.items groups.new.items }
     ensures keeps { (w : Option ℤ) (histories : ℕ → History) → Keeps M.law w instances.old.items sharing.old.items groups.old.items histories
         → Keeps M.law w instances.new.items sharing.new.items groups.new.items histories }
 {
@@ -74,7 +74,7 @@ fn call_moved_in_slot<M: Ialg>(
     ensures told { TablesTold g (i + 1) instances.new.items sharing.new.items groups.new.items }
     ensures inactive { InactiveGroupsStay groups.old.items groups.new.items }
     ensures same { SameMembers instances.old.items sharing.old.items groups.old.items instances.new.items sharing.new.items groups.new.items }
-    ensures activity { (k : ℕ) → activity_at groups.new.items k ≡ activity_at groups.old.items k }
+    ensures activity { SameActivities groups.old.items groups.new.items }
     ensures keeps { (w : Option ℤ) (histories : ℕ → History) → Keeps M.law w instances.old.items sharing.old.items groups.old.items histories
         → Keeps M.law w instances.new.items sharing.new.items groups.new.items histories }
 {
@@ -95,7 +95,7 @@ pub fn call_moved_in_group<M: Ialg>(
     ensures ok { TablesOk instances.new.items sharing.new.items groups.new.items }
     ensures inactive { InactiveGroupsStay groups.old.items groups.new.items }
     ensures same { SameMembers instances.old.items sharing.old.items groups.old.items instances.new.items sharing.new.items groups.new.items }
-    ensures activity { (k : ℕ) → activity_at groups.new.items k ≡ activity_at groups.old.items k }
+    ensures activity { SameActivities groups.old.items groups.new.items }
     ensures keeps { (w : Option ℤ) (histories : ℕ → History) → Keeps M.law w instances.old.items sharing.old.items groups.old.items histories
         → Keeps M.law w instances.new.items sharing.new.items groups.new.items histories }
 {

@@ -1,9 +1,10 @@
 //! The blocks of groups, put in and taken out.
-ghost use Rattle.std.specs.Prelude.{◌≡◌, ◌≢◌, ◌⊎◌, ◌<◌, ℕ, length, Some, None};
+ghost use Rattle.std.specs.Prelude.{◌≡◌, ◌<◌, length, Some, None};
 ghost use Rattle.mem_rec.specs.declared.Space.{Space};
 ghost use Rattle.record_loans.specs.Blocks.{block_piece};
 ghost use Rattle.scratch_group.specs.Blocks.{block_in};
-ghost use Rattle.host_table.specs.Table.{group_at, activity_at};
+ghost use Rattle.host_table.specs.Table.{group_at, SameActivities};
+ghost use Rattle.host_table.specs.Frames.{OtherBlocksStay};
 
 use mem_rec::Space;
 use scratch_group::Group;
@@ -20,8 +21,8 @@ pub fn put_block(
     requires { g < length groups.old.items }
     ensures old { result ≡ block_piece (block_in (group_at groups.old.items g) space) }
     ensures new { block_in (group_at groups.new.items g) space ≡ Some (record { piece = piece; align = align }) }
-    ensures others { (k : ℕ) (other : Space) → (k ≢ g) ⊎ (other ≢ space) → block_in (group_at groups.new.items k) other ≡ block_in (group_at groups.old.items k) other }
-    ensures activity { (k : ℕ) → activity_at groups.new.items k ≡ activity_at groups.old.items k }
+    ensures others { OtherBlocksStay g space groups.old.items groups.new.items }
+    ensures activity { SameActivities groups.old.items groups.new.items }
     ensures length { length groups.new.items ≡ length groups.old.items }
 {
     groups[g as usize].replace(space, piece, align)
@@ -32,8 +33,8 @@ pub fn take_block(groups: &mut Vec<Group>, g: u8, space: Space) -> Option<Piece>
     requires { g < length groups.old.items }
     ensures old { result ≡ block_piece (block_in (group_at groups.old.items g) space) }
     ensures new { block_in (group_at groups.new.items g) space ≡ None }
-    ensures others { (k : ℕ) (other : Space) → (k ≢ g) ⊎ (other ≢ space) → block_in (group_at groups.new.items k) other ≡ block_in (group_at groups.old.items k) other }
-    ensures activity { (k : ℕ) → activity_at groups.new.items k ≡ activity_at groups.old.items k }
+    ensures others { OtherBlocksStay g space groups.old.items groups.new.items }
+    ensures activity { SameActivities groups.old.items groups.new.items }
     ensures length { length groups.new.items ≡ length groups.old.items }
 {
     groups[g as usize].remove(space)

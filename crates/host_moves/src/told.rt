@@ -4,9 +4,9 @@ ghost use Rattle.mem_rec.specs.declared.TheConstants.{TABLE_RECORDS, INSTANCES};
 ghost use Rattle.ialg.specs.History.{History};
 ghost use Rattle.lifecycle.specs.Moves.{restored, CanRestore, with_back, HasRoom};
 ghost use Rattle.host_table.specs.declared.member.Member.{Member};
-ghost use Rattle.host_table.specs.Table.{slot_at, group_at, own_of, instance_of, activity_at};
+ghost use Rattle.host_table.specs.Table.{slot_at, group_at, own_of, instance_of, SameActivities};
 ghost use Rattle.host_shared.specs.Locations.{shared_at};
-ghost use Rattle.host_table.specs.Steps.{AreKept, AreConsistent, MembersStay};
+ghost use Rattle.host_table.specs.Steps.{AreKept, AreConsistent, MembersStay, AllHistoriesStay};
 ghost use Rattle.host_table.specs.Frames.{InactiveGroupsStay, SameMembers};
 ghost use Rattle.host_moves.specs.Waiting.{own_set, all_but, all_from, holds_with, TablesThere, TablesBut, TablesWaiting, TablesWaitingBut};
 
@@ -31,7 +31,7 @@ pub fn tell<M: Ialg>(tables: &mut Tables<M>, i: u8, back: Option<(usize, Piece)>
     ensures inactive { InactiveGroupsStay tables.old.groups tables.new.groups }
     ensures same { SameMembers (own_set tables.old.instances i (restored back (own_of (slot_at tables.old.instances i)))) tables.old.sharing tables.old.groups
         tables.new.instances tables.new.sharing tables.new.groups }
-    ensures activity { (k : ℕ) → activity_at tables.new.groups k ≡ activity_at tables.old.groups k }
+    ensures activity { SameActivities tables.old.groups tables.new.groups }
     ensures keeps { (w : Option ℤ) (histories : ℕ → History)
         → AreKept M.law w (record tables.old { instances = own_set tables.old.instances i (restored back (own_of (slot_at tables.old.instances i))) }) histories
         → AreKept M.law w tables.new histories }
@@ -64,9 +64,8 @@ fn call_moved_of_sharer<M: Ialg>(tables: &mut Tables<M>, i: u8, k: usize, j: u8)
     ensures waiting { TablesWaiting (all_from (holds_with tables.new.sharing i k) (j + 1)) tables.new.instances tables.new.sharing tables.new.groups }
     ensures inactive { InactiveGroupsStay tables.old.groups tables.new.groups }
     ensures same { MembersStay tables.old tables.new }
-    ensures activity { (g : ℕ) → activity_at tables.new.groups g ≡ activity_at tables.old.groups g }
-    ensures keeps { (w : Option ℤ) (histories : ℕ → History) → AreKept M.law w tables.old histories
-        → AreKept M.law w tables.new histories }
+    ensures activity { SameActivities tables.old.groups tables.new.groups }
+    ensures keeps { AllHistoriesStay M.law tables.old tables.new }
 {
     if tables.lives(j) && owner(&tables.sharing, j as usize, k) == i as usize {
         tell(tables, j, None);
@@ -80,9 +79,8 @@ pub fn call_moved_of_sharers<M: Ialg>(tables: &mut Tables<M>, i: u8, k: usize)
     ensures ok { AreConsistent tables.new }
     ensures inactive { InactiveGroupsStay tables.old.groups tables.new.groups }
     ensures same { MembersStay tables.old tables.new }
-    ensures activity { (g : ℕ) → activity_at tables.new.groups g ≡ activity_at tables.old.groups g }
-    ensures keeps { (w : Option ℤ) (histories : ℕ → History) → AreKept M.law w tables.old histories
-        → AreKept M.law w tables.new histories }
+    ensures activity { SameActivities tables.old.groups tables.new.groups }
+    ensures keeps { AllHistoriesStay M.law tables.old tables.new }
 {
     for j in 0..INSTANCES {
         call_moved_of_sharer(tables, i, k, j as u8);

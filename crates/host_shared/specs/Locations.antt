@@ -1,5 +1,5 @@
 -- Where the pieces of write-once records are: each with its instance, or at the owner, another one whose record is equal.
-use Rattle.std.specs.Prelude.{ℕ, zero, suc, ◌≡◌, List, Option, None, slice_index_or}
+use Rattle.std.specs.Prelude.{ℕ, zero, suc, ◌≡◌, List, Option, None, slice_index_or, ◌≢◌}
 use Rattle.space_raw.specs.Span.{Span}
 use Rattle.record_loans.specs.declared.pieces.Pieces.{Pieces}
 use Rattle.host_shared.specs.declared.locations.Location.{Location}
@@ -32,6 +32,10 @@ no_locations = record { s0 = Here None; s1 = Here None; s2 = Here None; s3 = Her
 
 abbrev pub locations_at : List Locations → ℕ → Locations
 locations_at sharing i = slice_index_or sharing i no_locations
+
+-- each other record than the k-th is where it was
+abbrev pub OtherRecordsStay : ℕ → List Locations → List Locations → Type 0
+OtherRecordsStay k old new = (j l : ℕ) → l ≢ k → location_at (locations_at new j) l ≡ location_at (locations_at old j) l
 
 -- the owner of a record of instance i
 abbrev pub owner_by : ℕ → Location → ℕ

@@ -3,7 +3,7 @@ ghost use Rattle.std.specs.Prelude.{◌≡◌, ◌≢◌, ◌<◌, ℕ, length, 
 ghost use Rattle.mem_rec.specs.declared.TheConstants.{TABLE_RECORDS, INSTANCES};
 ghost use Rattle.record_loans.specs.Pieces.{piece_at};
 ghost use Rattle.host_shared.specs.declared.locations.Location.TheVariants.{Here};
-ghost use Rattle.host_shared.specs.Locations.{location_at, no_locations, locations_at, shared_at};
+ghost use Rattle.host_shared.specs.Locations.{location_at, no_locations, locations_at, shared_at, OtherRecordsStay};
 ghost use Rattle.host_shared.specs.Owners.{IsPieceHere, AllHaveOwners};
 ghost use Rattle.host_shared.specs.Joining.{sharer_at, location_over, location_joined, pieces_joined, CanJoin};
 ghost use Rattle.host_shared.specs.Sharing.{AreLeast};
@@ -31,7 +31,7 @@ fn take_over(sharing: &mut Vec<Locations>, i: u8, k: usize, sharer: u8)
     requires here { IsPieceHere (location_at (locations_at sharing.old.items sharer) k) }
     ensures count { length sharing.new.items ≡ INSTANCES }
     ensures taken { (j : ℕ) → location_at (locations_at sharing.new.items j) k ≡ location_over sharing.old.items i k sharer j }
-    ensures beside { (j l : ℕ) → l ≢ k → location_at (locations_at sharing.new.items j) l ≡ location_at (locations_at sharing.old.items j) l }
+    ensures beside { OtherRecordsStay k sharing.old.items sharing.new.items }
 {
     let location = replace_location(sharing, sharer as usize, k, Location::At(i));
     point_all(sharing, sharer, k, i);
@@ -47,7 +47,7 @@ fn join_sharer(sharing: &mut Vec<Locations>, i: u8, k: usize, sharer: u8)
     requires here { IsPieceHere (location_at (locations_at sharing.old.items sharer) k) }
     ensures count { length sharing.new.items ≡ INSTANCES }
     ensures joined { (j : ℕ) → location_at (locations_at sharing.new.items j) k ≡ location_joined sharing.old.items i k (Some sharer) None j }
-    ensures beside { (j l : ℕ) → l ≢ k → location_at (locations_at sharing.new.items j) l ≡ location_at (locations_at sharing.old.items j) l }
+    ensures beside { OtherRecordsStay k sharing.old.items sharing.new.items }
 {
     if sharer < i {
         put_location(sharing, i as usize, k, Location::At(sharer));
@@ -71,7 +71,7 @@ fn join_record(
     requires sharer { CanJoin sharing.old.items k sharer piece }
     ensures count { length sharing.new.items ≡ INSTANCES }
     ensures joined { (j : ℕ) → location_at (locations_at sharing.new.items j) k ≡ location_joined sharing.old.items i k sharer piece j }
-    ensures beside { (j l : ℕ) → l ≢ k → location_at (locations_at sharing.new.items j) l ≡ location_at (locations_at sharing.old.items j) l }
+    ensures beside { OtherRecordsStay k sharing.old.items sharing.new.items }
 {
     match sharer {
         None => put_location(sharing, i as usize, k, Location::Here(piece)),

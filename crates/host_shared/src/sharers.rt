@@ -1,7 +1,7 @@
 //! What becomes of an owner's pieces when it is deleted: the next sharer becomes the owner.
 ghost use Rattle.std.specs.Prelude.{◌≡◌, ◌≢◌, ◌<◌, ℕ, length, Option, Some, None, if◌then◌else◌};
 ghost use Rattle.mem_rec.specs.declared.TheConstants.{TABLE_RECORDS, INSTANCES};
-ghost use Rattle.host_shared.specs.Locations.{location_at, piece_here, no_locations, locations_at, shared_at};
+ghost use Rattle.host_shared.specs.Locations.{location_at, piece_here, no_locations, locations_at, shared_at, OtherRecordsStay};
 ghost use Rattle.host_shared.specs.Owners.{set_location, AllHaveOwners, HoldsForOthers};
 ghost use Rattle.host_shared.specs.Sharing.{next_sharer, pointed, piece_left, left_with, location_without};
 
@@ -65,7 +65,7 @@ pub(crate) fn point_all(sharing: &mut Vec<Locations>, i: u8, k: usize, next: u8)
     requires record { k < TABLE_RECORDS }
     ensures count { length sharing.new.items ≡ INSTANCES }
     ensures pointed { (j : ℕ) → location_at (locations_at sharing.new.items j) k ≡ pointed i next (location_at (locations_at sharing.old.items j) k) }
-    ensures beside { (j l : ℕ) → l ≢ k → location_at (locations_at sharing.new.items j) l ≡ location_at (locations_at sharing.old.items j) l }
+    ensures beside { OtherRecordsStay k sharing.old.items sharing.new.items }
 {
     for j in 0..INSTANCES {
         point(sharing, i, k, next, j);
@@ -81,7 +81,7 @@ fn hand_record(sharing: &mut Vec<Locations>, i: u8, k: usize) -> Option<Piece>
     ensures left { result ≡ piece_left (next_sharer sharing.old.items i k) (location_at (locations_at sharing.old.items i) k) }
     ensures count { length sharing.new.items ≡ INSTANCES }
     ensures handed { (j : ℕ) → location_at (locations_at sharing.new.items j) k ≡ location_without sharing.old.items i k j }
-    ensures beside { (j l : ℕ) → l ≢ k → location_at (locations_at sharing.new.items j) l ≡ location_at (locations_at sharing.old.items j) l }
+    ensures beside { OtherRecordsStay k sharing.old.items sharing.new.items }
 {
     let next = next_sharer(sharing, i, k);
     let location = replace_location(sharing, i as usize, k, Location::Here(None));

@@ -1,5 +1,5 @@
 -- What stays where only states and words change.
-use Rattle.std.specs.Prelude.{ℕ, ◌≡◌, ◌≢◌, List, Option, Some, None}
+use Rattle.std.specs.Prelude.{ℕ, ◌≡◌, ◌≢◌, List, Option, Some, None, ◌⊎◌}
 use Rattle.mem_rec.specs.declared.Space.{Space}
 use Rattle.record_loans.specs.Pieces.{SamePieces}
 use Rattle.record_loans.specs.Blocks.{IsSameBlock}
@@ -53,6 +53,14 @@ pub record OthersSame {M : Type 0} (i : ℕ) (instances : List (Option (Member M
   pub slot : (j : ℕ) → j ≢ i → SameSlot (slot_at instances j) (slot_at instances' j)
   pub pieces : (j : ℕ) → j ≢ i → SamePieces (shared_at sharing j) (shared_at sharing' j)
   pub blocks : (g : ℕ) (space : Space) → IsSameBlock (block_in (group_at groups g) space) (block_in (group_at groups' g) space)
+
+-- all other groups have the blocks that they had
+abbrev pub OtherGroupsStay : ℕ → List Group → List Group → Type 0
+OtherGroupsStay g old new = (k : ℕ) (space : Space) → k ≢ g → block_in (group_at new k) space ≡ block_in (group_at old k) space
+
+-- all other blocks than that of group g in this space are the same
+abbrev pub OtherBlocksStay : ℕ → Space → List Group → List Group → Type 0
+OtherBlocksStay g space old new = (k : ℕ) (other : Space) → (k ≢ g) ⊎ (other ≢ space) → block_in (group_at new k) other ≡ block_in (group_at old k) other
 
 -- a group without an active member is as it was
 abbrev pub InactiveGroupsStay : List Group → List Group → Type 0

@@ -24,6 +24,14 @@ pub record Ready {M : Type 0} (w : Option ℤ) (t : View M) : Type 0 where
 abbrev pub AreKept : {M : Type 0} → Laws M → Option ℤ → View M → (ℕ → History) → Type 0
 AreKept laws w t histories = Keeps laws w t.instances t.sharing t.groups histories
 
+-- each instance keeps the history that it kept, in a host of this poison word or of none
+abbrev pub HistoriesStay : {M : Type 0} → Laws M → Option ℤ → View M → View M → Type 0
+HistoriesStay laws w old new = (histories : ℕ → History) → AreKept laws w old histories → AreKept laws w new histories
+
+-- in a host of any poison word, or of none
+abbrev pub AllHistoriesStay : {M : Type 0} → Laws M → View M → View M → Type 0
+AllHistoriesStay laws old new = (w : Option ℤ) → HistoriesStay laws w old new
+
 -- the same instances and blocks, all at the same places
 pub record Stays {M : Type 0} (w : Option ℤ) (old new : View M) : Type 0 where
   pub ok : TablesOk new.instances new.sharing new.groups

@@ -59,6 +59,10 @@ abbrev pub slot_active_in : {M : Type 0} → Option (Member M) → Option ℕ
 slot_active_in None = None
 slot_active_in (Some m) = active_in m.group m.inst
 
+-- the instance in slot i is active, in its group
+abbrev pub IsActiveAt : {M : Type 0} → List (Option (Member M)) → ℕ → Type 0
+IsActiveAt instances i = slot_active_in (slot_at instances i) ≡ Some (group_of (slot_at instances i))
+
 -- the instance has the words of its records, and goes by their places
 pub record IsHoused {M : Type 0} (s : Instance M) (shared : Pieces) (g : Group) : Type 0 where
   pub fits : Fits s.table s.own shared g
@@ -123,6 +127,14 @@ ArePoisoned w groups = (g : ℕ) → g < GROUPS → (group_at groups g).active �
 
 abbrev pub activity_at : List Group → ℕ → Activity
 activity_at groups g = record { active = (group_at groups g).active; count = (group_at groups g).activations }
+
+-- the groups have these activities
+abbrev pub ActivitiesAre : List Group → (ℕ → Activity) → Type 0
+ActivitiesAre groups activities = (k : ℕ) → activity_at groups k ≡ activities k
+
+-- each group has the activity that it had
+abbrev pub SameActivities : List Group → List Group → Type 0
+SameActivities old new = (k : ℕ) → activity_at new k ≡ activity_at old k
 
 -- the activities after instance i was touched
 abbrev pub activated_by : {M : Type 0} → List (Option (Member M)) → List Group → ℕ → ℕ → Activity

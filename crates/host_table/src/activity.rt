@@ -2,7 +2,7 @@
 ghost use Rattle.std.specs.Prelude.{◌≡◌, ◌<◌, Option, Some, None, IsSome, is_some};
 ghost use Rattle.lifecycle.specs.States.{Fits};
 ghost use Rattle.mem_rec.specs.declared.TheConstants.{GROUPS};
-ghost use Rattle.host_table.specs.Table.{slot_at, group_at, group_of, slot_active_in, activity_at, activated_by, deactivated_by};
+ghost use Rattle.host_table.specs.Table.{slot_at, group_at, slot_active_in, activity_at, activated_by, deactivated_by, IsActiveAt};
 ghost use Rattle.host_map.specs.Activity.{deactivated, with_activity};
 ghost use Rattle.host_shared.specs.Locations.{shared_at};
 ghost use Rattle.host_shared.specs.Owners.{with_pieces_of};
@@ -120,7 +120,7 @@ impl<M: Ialg> Tables<M> {
     pub fn activate(&mut self, poison: Option<i16>, i: u8)
         requires living { IsSome (slot_at self.old.instances i) }
         requires ready { Ready poison self.old }
-        ensures active { slot_active_in (slot_at self.new.instances i) ≡ Some (group_of (slot_at self.new.instances i)) }
+        ensures active { IsActiveAt self.new.instances i }
         ensures step { Steps M.law poison self.old self.new (activated_by self.old.instances self.old.groups i) unchanged }
     {
         let Some(g) = idle_in(&self.instances, i) else {

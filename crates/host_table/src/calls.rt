@@ -5,7 +5,7 @@ ghost use Rattle.ialg.specs.Views.{control_of, answer_of};
 ghost use Rattle.mem_rec.specs.Records.{is_table};
 ghost use Rattle.scratch_group.specs.Readers.{IsOfReader};
 ghost use Rattle.lifecycle.specs.States.{Fits, IsLawful, Accepts, status_after};
-ghost use Rattle.host_table.specs.Table.{slot_at, group_of, slot_active_in, instance_of, activity_at, activated_by, ArePoisoned};
+ghost use Rattle.host_table.specs.Table.{slot_at, group_of, slot_active_in, instance_of, activity_at, activated_by, ArePoisoned, IsActiveAt};
 ghost use Rattle.host_map.specs.Activity.{with_activity, newly_active};
 ghost use Rattle.host_table.specs.Steps.{Ready, AreKept, Stays, Steps, given, controlled, GivesOut, AnswersTo, AreConsistent};
 ghost use Rattle.host_table.specs.Turns.{CanBeLent, ActivatedAndRan, Ran};
@@ -171,7 +171,7 @@ fn activate_and_run_member<M: Ialg>(
 impl<M: Ialg> Tables<M> {
     /// Gives the active instance a block of samples.
     fn run(&mut self, i: u8, input: &[i16], out: &mut Block)
-        requires active { slot_active_in (slot_at self.old.instances i) ≡ Some (group_of (slot_at self.old.instances i)) }
+        requires active { IsActiveAt self.old.instances i }
         requires ok { AreConsistent self.old }
         requires empty { out.old.items ≡ [] }
         requires some { 1 ≤ length input.now }
@@ -230,7 +230,7 @@ impl<M: Ialg> Tables<M> {
 
     /// Gives the active instance a control that it accepts.
     fn control_active(&mut self, i: u8, c: &Ctl) -> Status
-        requires active { slot_active_in (slot_at self.old.instances i) ≡ Some (group_of (slot_at self.old.instances i)) }
+        requires active { IsActiveAt self.old.instances i }
         requires ok { AreConsistent self.old }
         ensures step { (w : Option ℤ) (m : Member M) → slot_at self.old.instances i ≡ Some m → ArePoisoned w self.old.groups
             → (IsLawful M.law.meaning (instance_of m.inst) w → Accepts M.law.meaning (instance_of m.inst) (control_of c.now))

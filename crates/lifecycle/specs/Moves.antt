@@ -22,6 +22,10 @@ CanRestore (Some (k, p)) own = (k < 4) × (piece_at own k ≡ None)
 abbrev pub with_back : {M : Type 0} → Instance M → Option (ℕ × Span) → Instance M
 with_back s back = record s { own = restored back s.own }
 
+-- the instance without its own piece of record k
+abbrev pub without_piece : {M : Type 0} → Instance M → ℕ → Instance M
+without_piece s k = record s { own = with_piece s.own k None }
+
 -- the instance with its places for bases
 abbrev pub settled : {M : Type 0} → Instance M → Pieces → Group → Instance M
 settled s shared g = record s { table = placed s.table s.own shared g }

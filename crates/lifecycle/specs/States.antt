@@ -1,5 +1,5 @@
 -- When an instance keeps a history.
-use Rattle.std.specs.Prelude.{ℕ, ℤ, ◌≡◌, IsTrue, List, take, Option}
+use Rattle.std.specs.Prelude.{ℕ, ℤ, ◌≡◌, IsTrue, List, take, Option, Bool}
 use Rattle.mem_rec.specs.declared.MemRec.{MemRec}
 use Rattle.mem_rec.specs.declared.Attr.TheVariants.{WriteOnce}
 use Rattle.ialg.specs.History.{History, Ctl}
@@ -36,6 +36,10 @@ IsLawful meaning s w = IsTrue (meaning.lawful s.kind s.params.items w)
 -- the instance takes the control
 abbrev pub Accepts : {M : Type 0} → Meaning M → Instance M → Ctl → Type 0
 Accepts meaning s c = IsTrue (meaning.accepts s.kind s.params.items c)
+
+-- the answer is whether the instance, where it is lawful, takes the control
+abbrev pub SaysWhetherAccepted : {M : Type 0} → Meaning M → Instance M → Ctl → Bool → Type 0
+SaysWhetherAccepted meaning s c answer = (w : Option ℤ) → IsLawful meaning s w → answer ≡ meaning.accepts s.kind s.params.items c
 
 -- all that the instance gives out on a history
 abbrev pub all_outputs : {M : Type 0} → Meaning M → Instance M → History → List ℤ

@@ -1,13 +1,13 @@
 //! Active instances.
-ghost use Rattle.std.specs.Prelude.{◌≡◌, ◌≤◌, ◌++◌, ◌∷◌, ℕ, ℤ, [], List, length, Option, Some, None, IsSome, IsTrue};
+ghost use Rattle.std.specs.Prelude.{◌≡◌, ◌≤◌, ◌++◌, ◌∷◌, ℕ, ℤ, [], List, length, Option, Some, IsSome, IsTrue};
 ghost use Rattle.ialg.specs.History.{History, Control, with_samples};
 ghost use Rattle.ialg.specs.Views.{control_of, answer_of};
 ghost use Rattle.mem_rec.specs.Records.{is_table};
 ghost use Rattle.scratch_group.specs.Blocks.{SameGroup};
 ghost use Rattle.scratch_group.specs.Readers.{IsOfReader};
-ghost use Rattle.record_loans.specs.Pieces.{piece_at, with_piece, SamePieces};
-ghost use Rattle.lifecycle.specs.Moves.{CanRestore, with_back, settled, HasRoom};
-ghost use Rattle.lifecycle.specs.States.{Fits, SameInstance, SameOnce, IsLawful, Accepts, all_outputs, status_after, IdleKeeps, ActiveKeeps};
+ghost use Rattle.record_loans.specs.Pieces.{piece_at, SamePieces};
+ghost use Rattle.lifecycle.specs.Moves.{CanRestore, with_back, settled, HasRoom, without_piece};
+ghost use Rattle.lifecycle.specs.States.{Fits, SameInstance, SameOnce, IsLawful, Accepts, all_outputs, status_after, IdleKeeps, ActiveKeeps, SaysWhetherAccepted};
 
 use crate::Idle;
 use crate::instance::{Instance, restore};
@@ -97,8 +97,7 @@ impl<M: Ialg> Active<M> {
 
     /// Whether the instance takes the control.
     pub fn accepts(&self, c: &Ctl) -> bool
-        ensures { (w : Option ℤ) → IsLawful M.law.meaning self.now.instance w
-            → result ≡ M.law.meaning.accepts self.now.instance.kind self.now.instance.params.items (control_of c.now) }
+        ensures { SaysWhetherAccepted M.law.meaning self.now.instance (control_of c.now) result }
     {
         self.instance.kind.accepts(&self.instance.params, c)
     }
@@ -181,7 +180,7 @@ impl<M: Ialg> Active<M> {
     pub fn detach(&mut self, k: usize) -> Piece
         requires { IsSome (piece_at self.old.instance.own k) }
         ensures piece { piece_at self.old.instance.own k ≡ Some result }
-        ensures left { self.new.instance ≡ record self.old.instance { own = with_piece self.old.instance.own k None } }
+        ensures left { self.new.instance ≡ without_piece self.old.instance k }
     {
         self.instance.own.take_out(k)
     }

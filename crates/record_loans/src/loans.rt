@@ -12,18 +12,24 @@ use ialg::{Lending, Step, lend};
 use space_raw::Piece;
 use std::mem;
 
+/// A step that is to be performed with the records of a table, and the plan by which they are cut.
+#[derive(Drop)]
+pub struct PlannedLoan<'a, S> {
+    pub lending: &'a Lending<'a, S>,
+    pub plan: &'a Plan,
+}
+
 /// Performs the step with the records that the plan cuts out of an instance's own pieces and those that are lent to it. A record
 /// that lies in a block isn't among them.
 pub fn lend_without_blocks<O, S: Step<O>>(
-    loan: &Lending<'_, S>,
-    plan: &Plan,
+    loan: &PlannedLoan<'_, S>,
     own: &mut Pieces,
     shared: &mut Pieces,
     out: &mut O,
 )
-    requires can { S.can loan.now.step.now out.old }
-    requires fit { LentFits plan.now own.old shared.old None None None }
-    ensures done { S.done loan.now.step.now loan.now.table.now loan.now.writable (lent_by plan.now own.old shared.old None None None) (lent_by plan.now own.new shared.new None None None) out.old out.new }
+    requires can { S.can loan.now.lending.now.step.now out.old }
+    requires fit { LentFits loan.now.plan.now own.old shared.old None None None }
+    ensures done { S.done loan.now.lending.now.step.now loan.now.lending.now.table.now loan.now.lending.now.writable (lent_by loan.now.plan.now own.old shared.old None None None) (lent_by loan.now.plan.now own.new shared.new None None None) out.old out.new }
     ensures own { SamePieces own.old own.new }
     ensures shared { SamePieces shared.old shared.new }
 {
@@ -32,7 +38,6 @@ pub fn lend_without_blocks<O, S: Step<O>>(
     let mut external = None;
     lend_with_blocks(
         loan,
-        plan,
         own,
         shared,
         &mut daram,
@@ -57,8 +62,7 @@ fn end_absent(block: Option<ScratchBlock>)
 /// Performs the step with the records that the plan cuts out of an instance's own pieces, those that are lent to it, and the
 /// blocks of its group.
 pub fn lend_with_blocks<O, S: Step<O>>(
-    loan: &Lending<'_, S>,
-    plan: &Plan,
+    loan: &PlannedLoan<'_, S>,
     own: &mut Pieces,
     shared: &mut Pieces,
     daram: &mut Option<ScratchBlock>,
@@ -66,20 +70,20 @@ pub fn lend_with_blocks<O, S: Step<O>>(
     external: &mut Option<ScratchBlock>,
     out: &mut O,
 )
-    requires can { S.can loan.now.step.now out.old }
-    requires fit { LentFits plan.now own.old shared.old daram.old saram.old external.old }
-    ensures done { S.done loan.now.step.now loan.now.table.now loan.now.writable
-        (lent_by plan.now own.old shared.old daram.old saram.old external.old)
-        (lent_by plan.now own.new shared.new daram.new saram.new external.new) out.old out.new }
+    requires can { S.can loan.now.lending.now.step.now out.old }
+    requires fit { LentFits loan.now.plan.now own.old shared.old daram.old saram.old external.old }
+    ensures done { S.done loan.now.lending.now.step.now loan.now.lending.now.table.now loan.now.lending.now.writable
+        (lent_by loan.now.plan.now own.old shared.old daram.old saram.old external.old)
+        (lent_by loan.now.plan.now own.new shared.new daram.new saram.new external.new) out.old out.new }
     ensures own { SamePieces own.old own.new }
     ensures shared { SamePieces shared.old shared.new }
     ensures daram { IsSameBlock daram.old daram.new }
     ensures saram { IsSameBlock saram.old saram.new }
     ensures external { IsSameBlock external.old external.new }
 {
-    swap_shared(plan, own, shared);
-    lend_daram(loan, plan, own, daram, saram, external, out);
-    swap_shared(plan, own, shared);
+    swap_shared(loan.plan, own, shared);
+    lend_daram(loan, own, daram, saram, external, out);
+    swap_shared(loan.plan, own, shared);
 }
 
 /// Lets each piece that is lent to the instance and the place of its own piece change places. A second call puts them back.
@@ -184,27 +188,25 @@ pub fn lend_reader<O, S: Step<O>>(
 /// Cuts record 0 out of its piece, and the others.
 #[tactic(auto, using(crate::proofs::Parts::front_read))]
 fn cut_object<O, S: Step<O>>(
-    loan: &Lending<'_, S>,
-    plan: &Plan,
+    loan: &PlannedLoan<'_, S>,
     own: &mut Pieces,
     daram: &mut [i16],
     saram: &mut [i16],
     external: &mut [i16],
     out: &mut O,
 )
-    requires can { S.can loan.now.step.now out.old }
-    requires fit { PlanFits plan.now (length (piece_words own.old.p0)) (length (piece_words own.old.p1)) (length (piece_words own.old.p2)) (length (piece_words own.old.p3)) (length daram.old) (length saram.old) (length external.old) }
-    ensures done { S.done loan.now.step.now loan.now.table.now loan.now.writable
-        (plan_words plan.now (piece_words own.old.p0) (piece_words own.old.p1) (piece_words own.old.p2) (piece_words own.old.p3) daram.old saram.old external.old)
-        (plan_words plan.now (piece_words own.new.p0) (piece_words own.new.p1) (piece_words own.new.p2) (piece_words own.new.p3) daram.new saram.new external.new) out.old out.new }
+    requires can { S.can loan.now.lending.now.step.now out.old }
+    requires fit { PlanFits loan.now.plan.now (length (piece_words own.old.p0)) (length (piece_words own.old.p1)) (length (piece_words own.old.p2)) (length (piece_words own.old.p3)) (length daram.old) (length saram.old) (length external.old) }
+    ensures done { S.done loan.now.lending.now.step.now loan.now.lending.now.table.now loan.now.lending.now.writable
+        (plan_words loan.now.plan.now (piece_words own.old.p0) (piece_words own.old.p1) (piece_words own.old.p2) (piece_words own.old.p3) daram.old saram.old external.old)
+        (plan_words loan.now.plan.now (piece_words own.new.p0) (piece_words own.new.p1) (piece_words own.new.p2) (piece_words own.new.p3) daram.new saram.new external.new) out.old out.new }
     ensures own { SamePieces own.old own.new }
 {
     match &mut own.p0 {
         Some(piece) => {
-            let (object, _rest) = piece.words_mut().split_at_mut(plan.object);
+            let (object, _rest) = piece.words_mut().split_at_mut(loan.plan.object);
             cut_first(
                 loan,
-                plan,
                 &mut own.p1,
                 &mut own.p2,
                 &mut own.p3,
@@ -217,7 +219,6 @@ fn cut_object<O, S: Step<O>>(
         }
         None => cut_first(
             loan,
-            plan,
             &mut own.p1,
             &mut own.p2,
             &mut own.p3,
@@ -233,102 +234,82 @@ fn cut_object<O, S: Step<O>>(
 /// Lends the block in `external`.
 #[inline(always)]
 fn lend_external<O, S: Step<O>>(
-    loan: &Lending<'_, S>,
-    plan: &Plan,
+    loan: &PlannedLoan<'_, S>,
     own: &mut Pieces,
     daram: &mut [i16],
     saram: &mut [i16],
     external: &mut Option<ScratchBlock>,
     out: &mut O,
 )
-    requires can { S.can loan.now.step.now out.old }
-    requires fit { PlanFits plan.now (length (piece_words own.old.p0)) (length (piece_words own.old.p1)) (length (piece_words own.old.p2)) (length (piece_words own.old.p3)) (length daram.old) (length saram.old) (length (block_words external.old)) }
-    ensures done { S.done loan.now.step.now loan.now.table.now loan.now.writable
-        (plan_words plan.now (piece_words own.old.p0) (piece_words own.old.p1) (piece_words own.old.p2) (piece_words own.old.p3) daram.old saram.old (block_words external.old))
-        (plan_words plan.now (piece_words own.new.p0) (piece_words own.new.p1) (piece_words own.new.p2) (piece_words own.new.p3) daram.new saram.new (block_words external.new)) out.old out.new }
+    requires can { S.can loan.now.lending.now.step.now out.old }
+    requires fit { PlanFits loan.now.plan.now (length (piece_words own.old.p0)) (length (piece_words own.old.p1)) (length (piece_words own.old.p2)) (length (piece_words own.old.p3)) (length daram.old) (length saram.old) (length (block_words external.old)) }
+    ensures done { S.done loan.now.lending.now.step.now loan.now.lending.now.table.now loan.now.lending.now.writable
+        (plan_words loan.now.plan.now (piece_words own.old.p0) (piece_words own.old.p1) (piece_words own.old.p2) (piece_words own.old.p3) daram.old saram.old (block_words external.old))
+        (plan_words loan.now.plan.now (piece_words own.new.p0) (piece_words own.new.p1) (piece_words own.new.p2) (piece_words own.new.p3) daram.new saram.new (block_words external.new)) out.old out.new }
     ensures own { SamePieces own.old own.new }
     ensures external { IsSameBlock external.old external.new }
 {
     match external {
-        Some(block) => cut_object(loan, plan, own, daram, saram, block.piece.words_mut(), out),
-        None => cut_object(loan, plan, own, daram, saram, &mut [], out),
+        Some(block) => cut_object(loan, own, daram, saram, block.piece.words_mut(), out),
+        None => cut_object(loan, own, daram, saram, &mut [], out),
     }
 }
 
 /// Lends the block in `saram`.
 #[inline(always)]
 fn lend_saram<O, S: Step<O>>(
-    loan: &Lending<'_, S>,
-    plan: &Plan,
+    loan: &PlannedLoan<'_, S>,
     own: &mut Pieces,
     daram: &mut [i16],
     saram: &mut Option<ScratchBlock>,
     external: &mut Option<ScratchBlock>,
     out: &mut O,
 )
-    requires can { S.can loan.now.step.now out.old }
-    requires fit { PlanFits plan.now (length (piece_words own.old.p0)) (length (piece_words own.old.p1)) (length (piece_words own.old.p2)) (length (piece_words own.old.p3)) (length daram.old) (length (block_words saram.old)) (length (block_words external.old)) }
-    ensures done { S.done loan.now.step.now loan.now.table.now loan.now.writable
-        (plan_words plan.now (piece_words own.old.p0) (piece_words own.old.p1) (piece_words own.old.p2) (piece_words own.old.p3) daram.old (block_words saram.old) (block_words external.old))
-        (plan_words plan.now (piece_words own.new.p0) (piece_words own.new.p1) (piece_words own.new.p2) (piece_words own.new.p3) daram.new (block_words saram.new) (block_words external.new)) out.old out.new }
+    requires can { S.can loan.now.lending.now.step.now out.old }
+    requires fit { PlanFits loan.now.plan.now (length (piece_words own.old.p0)) (length (piece_words own.old.p1)) (length (piece_words own.old.p2)) (length (piece_words own.old.p3)) (length daram.old) (length (block_words saram.old)) (length (block_words external.old)) }
+    ensures done { S.done loan.now.lending.now.step.now loan.now.lending.now.table.now loan.now.lending.now.writable
+        (plan_words loan.now.plan.now (piece_words own.old.p0) (piece_words own.old.p1) (piece_words own.old.p2) (piece_words own.old.p3) daram.old (block_words saram.old) (block_words external.old))
+        (plan_words loan.now.plan.now (piece_words own.new.p0) (piece_words own.new.p1) (piece_words own.new.p2) (piece_words own.new.p3) daram.new (block_words saram.new) (block_words external.new)) out.old out.new }
     ensures own { SamePieces own.old own.new }
     ensures saram { IsSameBlock saram.old saram.new }
     ensures external { IsSameBlock external.old external.new }
 {
     match saram {
-        Some(block) => lend_external(
-            loan,
-            plan,
-            own,
-            daram,
-            block.piece.words_mut(),
-            external,
-            out,
-        ),
-        None => lend_external(loan, plan, own, daram, &mut [], external, out),
+        Some(block) => lend_external(loan, own, daram, block.piece.words_mut(), external, out),
+        None => lend_external(loan, own, daram, &mut [], external, out),
     }
 }
 
 /// Lends the block in `daram`.
 #[inline(always)]
 fn lend_daram<O, S: Step<O>>(
-    loan: &Lending<'_, S>,
-    plan: &Plan,
+    loan: &PlannedLoan<'_, S>,
     own: &mut Pieces,
     daram: &mut Option<ScratchBlock>,
     saram: &mut Option<ScratchBlock>,
     external: &mut Option<ScratchBlock>,
     out: &mut O,
 )
-    requires can { S.can loan.now.step.now out.old }
-    requires fit { PlanFits plan.now (length (piece_words own.old.p0)) (length (piece_words own.old.p1)) (length (piece_words own.old.p2)) (length (piece_words own.old.p3)) (length (block_words daram.old)) (length (block_words saram.old)) (length (block_words external.old)) }
-    ensures done { S.done loan.now.step.now loan.now.table.now loan.now.writable
-        (plan_words plan.now (piece_words own.old.p0) (piece_words own.old.p1) (piece_words own.old.p2) (piece_words own.old.p3) (block_words daram.old) (block_words saram.old) (block_words external.old))
-        (plan_words plan.now (piece_words own.new.p0) (piece_words own.new.p1) (piece_words own.new.p2) (piece_words own.new.p3) (block_words daram.new) (block_words saram.new) (block_words external.new)) out.old out.new }
+    requires can { S.can loan.now.lending.now.step.now out.old }
+    requires fit { PlanFits loan.now.plan.now (length (piece_words own.old.p0)) (length (piece_words own.old.p1)) (length (piece_words own.old.p2)) (length (piece_words own.old.p3)) (length (block_words daram.old)) (length (block_words saram.old)) (length (block_words external.old)) }
+    ensures done { S.done loan.now.lending.now.step.now loan.now.lending.now.table.now loan.now.lending.now.writable
+        (plan_words loan.now.plan.now (piece_words own.old.p0) (piece_words own.old.p1) (piece_words own.old.p2) (piece_words own.old.p3) (block_words daram.old) (block_words saram.old) (block_words external.old))
+        (plan_words loan.now.plan.now (piece_words own.new.p0) (piece_words own.new.p1) (piece_words own.new.p2) (piece_words own.new.p3) (block_words daram.new) (block_words saram.new) (block_words external.new)) out.old out.new }
     ensures own { SamePieces own.old own.new }
     ensures daram { IsSameBlock daram.old daram.new }
     ensures saram { IsSameBlock saram.old saram.new }
     ensures external { IsSameBlock external.old external.new }
 {
     match daram {
-        Some(block) => lend_saram(
-            loan,
-            plan,
-            own,
-            block.piece.words_mut(),
-            saram,
-            external,
-            out,
-        ),
-        None => lend_saram(loan, plan, own, &mut [], saram, external, out),
+        Some(block) => lend_saram(loan, own, block.piece.words_mut(), saram, external, out),
+        None => lend_saram(loan, own, &mut [], saram, external, out),
     }
 }
 
 /// Cuts record 1, and those after it.
 #[tactic(auto, using(crate::proofs::Parts::part_read, crate::proofs::Parts::part_left, crate::proofs::Parts::front_read))]
 fn cut_first<O, S: Step<O>>(
-    loan: &Lending<'_, S>,
-    plan: &Plan,
+    loan: &PlannedLoan<'_, S>,
     p1: &mut Option<Piece>,
     p2: &mut Option<Piece>,
     p3: &mut Option<Piece>,
@@ -338,38 +319,38 @@ fn cut_first<O, S: Step<O>>(
     r0: &mut [i16],
     out: &mut O,
 )
-    requires can { S.can loan.now.step.now out.old }
-    requires fit { CutsFit (plan.now.first ∷ plan.now.second ∷ plan.now.third ∷ []) (length (piece_words p1.old) ∷ length (piece_words p2.old) ∷ length (piece_words p3.old) ∷ []) (length daram.old) (length saram.old) (length external.old) }
-    ensures done { S.done loan.now.step.now loan.now.table.now loan.now.writable
-        (r0.old ∷ cut_words (plan.now.first ∷ plan.now.second ∷ plan.now.third ∷ []) (piece_words p1.old ∷ piece_words p2.old ∷ piece_words p3.old ∷ []) daram.old saram.old external.old)
-        (r0.new ∷ cut_words (plan.now.first ∷ plan.now.second ∷ plan.now.third ∷ []) (piece_words p1.new ∷ piece_words p2.new ∷ piece_words p3.new ∷ []) daram.new saram.new external.new) out.old out.new }
+    requires can { S.can loan.now.lending.now.step.now out.old }
+    requires fit { CutsFit (loan.now.plan.now.first ∷ loan.now.plan.now.second ∷ loan.now.plan.now.third ∷ []) (length (piece_words p1.old) ∷ length (piece_words p2.old) ∷ length (piece_words p3.old) ∷ []) (length daram.old) (length saram.old) (length external.old) }
+    ensures done { S.done loan.now.lending.now.step.now loan.now.lending.now.table.now loan.now.lending.now.writable
+        (r0.old ∷ cut_words (loan.now.plan.now.first ∷ loan.now.plan.now.second ∷ loan.now.plan.now.third ∷ []) (piece_words p1.old ∷ piece_words p2.old ∷ piece_words p3.old ∷ []) daram.old saram.old external.old)
+        (r0.new ∷ cut_words (loan.now.plan.now.first ∷ loan.now.plan.now.second ∷ loan.now.plan.now.third ∷ []) (piece_words p1.new ∷ piece_words p2.new ∷ piece_words p3.new ∷ []) daram.new saram.new external.new) out.old out.new }
     ensures p1 { IsSamePiece p1.old p1.new }
     ensures p2 { IsSamePiece p2.old p2.new }
     ensures p3 { IsSamePiece p3.old p3.new }
 {
-    match plan.first.source {
-        Source::Absent => cut_second(loan, plan, p2, p3, daram, saram, external, r0, &mut [], out),
+    match loan.plan.first.source {
+        Source::Absent => cut_second(loan, p2, p3, daram, saram, external, r0, &mut [], out),
         Source::Own | Source::Shared => match p1 {
             Some(piece) => {
-                let (r1, _rest) = piece.words_mut().split_at_mut(plan.first.size);
-                cut_second(loan, plan, p2, p3, daram, saram, external, r0, r1, out);
+                let (r1, _rest) = piece.words_mut().split_at_mut(loan.plan.first.size);
+                cut_second(loan, p2, p3, daram, saram, external, r0, r1, out);
             }
-            None => cut_second(loan, plan, p2, p3, daram, saram, external, r0, &mut [], out),
+            None => cut_second(loan, p2, p3, daram, saram, external, r0, &mut [], out),
         },
         Source::InDaram => {
-            let (_gap, rest) = daram.split_at_mut(plan.first.gap);
-            let (r1, left) = rest.split_at_mut(plan.first.size);
-            cut_second(loan, plan, p2, p3, left, saram, external, r0, r1, out);
+            let (_gap, rest) = daram.split_at_mut(loan.plan.first.gap);
+            let (r1, left) = rest.split_at_mut(loan.plan.first.size);
+            cut_second(loan, p2, p3, left, saram, external, r0, r1, out);
         }
         Source::InSaram => {
-            let (_gap, rest) = saram.split_at_mut(plan.first.gap);
-            let (r1, left) = rest.split_at_mut(plan.first.size);
-            cut_second(loan, plan, p2, p3, daram, left, external, r0, r1, out);
+            let (_gap, rest) = saram.split_at_mut(loan.plan.first.gap);
+            let (r1, left) = rest.split_at_mut(loan.plan.first.size);
+            cut_second(loan, p2, p3, daram, left, external, r0, r1, out);
         }
         Source::InExternal => {
-            let (_gap, rest) = external.split_at_mut(plan.first.gap);
-            let (r1, left) = rest.split_at_mut(plan.first.size);
-            cut_second(loan, plan, p2, p3, daram, saram, left, r0, r1, out);
+            let (_gap, rest) = external.split_at_mut(loan.plan.first.gap);
+            let (r1, left) = rest.split_at_mut(loan.plan.first.size);
+            cut_second(loan, p2, p3, daram, saram, left, r0, r1, out);
         }
     }
 }
@@ -377,8 +358,7 @@ fn cut_first<O, S: Step<O>>(
 /// Cuts record 2, and those after it.
 #[tactic(auto, using(crate::proofs::Parts::part_read, crate::proofs::Parts::part_left, crate::proofs::Parts::front_read))]
 fn cut_second<O, S: Step<O>>(
-    loan: &Lending<'_, S>,
-    plan: &Plan,
+    loan: &PlannedLoan<'_, S>,
     p2: &mut Option<Piece>,
     p3: &mut Option<Piece>,
     daram: &mut [i16],
@@ -388,37 +368,37 @@ fn cut_second<O, S: Step<O>>(
     r1: &mut [i16],
     out: &mut O,
 )
-    requires can { S.can loan.now.step.now out.old }
-    requires fit { CutsFit (plan.now.second ∷ plan.now.third ∷ []) (length (piece_words p2.old) ∷ length (piece_words p3.old) ∷ []) (length daram.old) (length saram.old) (length external.old) }
-    ensures done { S.done loan.now.step.now loan.now.table.now loan.now.writable
-        (r0.old ∷ r1.old ∷ cut_words (plan.now.second ∷ plan.now.third ∷ []) (piece_words p2.old ∷ piece_words p3.old ∷ []) daram.old saram.old external.old)
-        (r0.new ∷ r1.new ∷ cut_words (plan.now.second ∷ plan.now.third ∷ []) (piece_words p2.new ∷ piece_words p3.new ∷ []) daram.new saram.new external.new) out.old out.new }
+    requires can { S.can loan.now.lending.now.step.now out.old }
+    requires fit { CutsFit (loan.now.plan.now.second ∷ loan.now.plan.now.third ∷ []) (length (piece_words p2.old) ∷ length (piece_words p3.old) ∷ []) (length daram.old) (length saram.old) (length external.old) }
+    ensures done { S.done loan.now.lending.now.step.now loan.now.lending.now.table.now loan.now.lending.now.writable
+        (r0.old ∷ r1.old ∷ cut_words (loan.now.plan.now.second ∷ loan.now.plan.now.third ∷ []) (piece_words p2.old ∷ piece_words p3.old ∷ []) daram.old saram.old external.old)
+        (r0.new ∷ r1.new ∷ cut_words (loan.now.plan.now.second ∷ loan.now.plan.now.third ∷ []) (piece_words p2.new ∷ piece_words p3.new ∷ []) daram.new saram.new external.new) out.old out.new }
     ensures p2 { IsSamePiece p2.old p2.new }
     ensures p3 { IsSamePiece p3.old p3.new }
 {
-    match plan.second.source {
-        Source::Absent => cut_third(loan, plan, p3, daram, saram, external, r0, r1, &mut [], out),
+    match loan.plan.second.source {
+        Source::Absent => cut_third(loan, p3, daram, saram, external, r0, r1, &mut [], out),
         Source::Own | Source::Shared => match p2 {
             Some(piece) => {
-                let (r2, _rest) = piece.words_mut().split_at_mut(plan.second.size);
-                cut_third(loan, plan, p3, daram, saram, external, r0, r1, r2, out);
+                let (r2, _rest) = piece.words_mut().split_at_mut(loan.plan.second.size);
+                cut_third(loan, p3, daram, saram, external, r0, r1, r2, out);
             }
-            None => cut_third(loan, plan, p3, daram, saram, external, r0, r1, &mut [], out),
+            None => cut_third(loan, p3, daram, saram, external, r0, r1, &mut [], out),
         },
         Source::InDaram => {
-            let (_gap, rest) = daram.split_at_mut(plan.second.gap);
-            let (r2, left) = rest.split_at_mut(plan.second.size);
-            cut_third(loan, plan, p3, left, saram, external, r0, r1, r2, out);
+            let (_gap, rest) = daram.split_at_mut(loan.plan.second.gap);
+            let (r2, left) = rest.split_at_mut(loan.plan.second.size);
+            cut_third(loan, p3, left, saram, external, r0, r1, r2, out);
         }
         Source::InSaram => {
-            let (_gap, rest) = saram.split_at_mut(plan.second.gap);
-            let (r2, left) = rest.split_at_mut(plan.second.size);
-            cut_third(loan, plan, p3, daram, left, external, r0, r1, r2, out);
+            let (_gap, rest) = saram.split_at_mut(loan.plan.second.gap);
+            let (r2, left) = rest.split_at_mut(loan.plan.second.size);
+            cut_third(loan, p3, daram, left, external, r0, r1, r2, out);
         }
         Source::InExternal => {
-            let (_gap, rest) = external.split_at_mut(plan.second.gap);
-            let (r2, left) = rest.split_at_mut(plan.second.size);
-            cut_third(loan, plan, p3, daram, saram, left, r0, r1, r2, out);
+            let (_gap, rest) = external.split_at_mut(loan.plan.second.gap);
+            let (r2, left) = rest.split_at_mut(loan.plan.second.size);
+            cut_third(loan, p3, daram, saram, left, r0, r1, r2, out);
         }
     }
 }
@@ -426,8 +406,7 @@ fn cut_second<O, S: Step<O>>(
 /// Cuts record 3, and performs the step.
 #[tactic(auto, using(crate::proofs::Parts::part_read, crate::proofs::Parts::part_left, crate::proofs::Parts::front_read))]
 fn cut_third<O, S: Step<O>>(
-    loan: &Lending<'_, S>,
-    plan: &Plan,
+    loan: &PlannedLoan<'_, S>,
     p3: &mut Option<Piece>,
     daram: &mut [i16],
     saram: &mut [i16],
@@ -437,36 +416,36 @@ fn cut_third<O, S: Step<O>>(
     r2: &mut [i16],
     out: &mut O,
 )
-    requires can { S.can loan.now.step.now out.old }
-    requires fit { CutsFit (plan.now.third ∷ []) (length (piece_words p3.old) ∷ []) (length daram.old) (length saram.old) (length external.old) }
-    ensures done { S.done loan.now.step.now loan.now.table.now loan.now.writable
-        (r0.old ∷ r1.old ∷ r2.old ∷ cut_words (plan.now.third ∷ []) (piece_words p3.old ∷ []) daram.old saram.old external.old)
-        (r0.new ∷ r1.new ∷ r2.new ∷ cut_words (plan.now.third ∷ []) (piece_words p3.new ∷ []) daram.new saram.new external.new) out.old out.new }
+    requires can { S.can loan.now.lending.now.step.now out.old }
+    requires fit { CutsFit (loan.now.plan.now.third ∷ []) (length (piece_words p3.old) ∷ []) (length daram.old) (length saram.old) (length external.old) }
+    ensures done { S.done loan.now.lending.now.step.now loan.now.lending.now.table.now loan.now.lending.now.writable
+        (r0.old ∷ r1.old ∷ r2.old ∷ cut_words (loan.now.plan.now.third ∷ []) (piece_words p3.old ∷ []) daram.old saram.old external.old)
+        (r0.new ∷ r1.new ∷ r2.new ∷ cut_words (loan.now.plan.now.third ∷ []) (piece_words p3.new ∷ []) daram.new saram.new external.new) out.old out.new }
     ensures p3 { IsSamePiece p3.old p3.new }
 {
-    match plan.third.source {
-        Source::Absent => lend(loan, r0, r1, r2, &mut [], out),
+    match loan.plan.third.source {
+        Source::Absent => lend(loan.lending, r0, r1, r2, &mut [], out),
         Source::Own | Source::Shared => match p3 {
             Some(piece) => {
-                let (r3, _rest) = piece.words_mut().split_at_mut(plan.third.size);
-                lend(loan, r0, r1, r2, r3, out);
+                let (r3, _rest) = piece.words_mut().split_at_mut(loan.plan.third.size);
+                lend(loan.lending, r0, r1, r2, r3, out);
             }
-            None => lend(loan, r0, r1, r2, &mut [], out),
+            None => lend(loan.lending, r0, r1, r2, &mut [], out),
         },
         Source::InDaram => {
-            let (_gap, rest) = daram.split_at_mut(plan.third.gap);
-            let (r3, _rest) = rest.split_at_mut(plan.third.size);
-            lend(loan, r0, r1, r2, r3, out);
+            let (_gap, rest) = daram.split_at_mut(loan.plan.third.gap);
+            let (r3, _rest) = rest.split_at_mut(loan.plan.third.size);
+            lend(loan.lending, r0, r1, r2, r3, out);
         }
         Source::InSaram => {
-            let (_gap, rest) = saram.split_at_mut(plan.third.gap);
-            let (r3, _rest) = rest.split_at_mut(plan.third.size);
-            lend(loan, r0, r1, r2, r3, out);
+            let (_gap, rest) = saram.split_at_mut(loan.plan.third.gap);
+            let (r3, _rest) = rest.split_at_mut(loan.plan.third.size);
+            lend(loan.lending, r0, r1, r2, r3, out);
         }
         Source::InExternal => {
-            let (_gap, rest) = external.split_at_mut(plan.third.gap);
-            let (r3, _rest) = rest.split_at_mut(plan.third.size);
-            lend(loan, r0, r1, r2, r3, out);
+            let (_gap, rest) = external.split_at_mut(loan.plan.third.gap);
+            let (r3, _rest) = rest.split_at_mut(loan.plan.third.size);
+            lend(loan.lending, r0, r1, r2, r3, out);
         }
     }
 }

@@ -13,7 +13,9 @@ use crate::plan::{active_plan, filter_sizes, reader_sizes};
 use host_map::Stat;
 use ialg::{Lending, Step};
 use mem_rec::{Layout, MemTab, Space, scratch_layout};
-use record_loans::{Pieces, ReaderSizes, ScratchBlock, lend_filter, lend_reader, lend_with_blocks};
+use record_loans::{
+    Pieces, PlannedLoan, ReaderSizes, ScratchBlock, lend_filter, lend_reader, lend_with_blocks,
+};
 use space_raw::Piece;
 
 /// The size and the alignment of a block that is to be placed, in words.
@@ -259,9 +261,12 @@ impl Group {
         ensures group { SameGroup self.old self.new }
     {
         let plan = active_plan(loan.table);
+        let planned = PlannedLoan {
+            lending: loan,
+            plan: &plan,
+        };
         lend_with_blocks(
-            loan,
-            &plan,
+            &planned,
             own,
             shared,
             &mut self.daram,

@@ -6,7 +6,7 @@ ghost use Rattle.scratch_group.specs.Words.{idle_words, HasPieces};
 use crate::plan::idle_plan;
 use ialg::{Lending, Step};
 use mem_rec::MemTab;
-use record_loans::{Pieces, lend_without_blocks};
+use record_loans::{Pieces, PlannedLoan, lend_without_blocks};
 
 /// Performs the step with the records of an idle instance: its persistent records in its own pieces, and its write-once records in
 /// those that are lent to it. Write-once records may be written where `writable` says so.
@@ -25,10 +25,14 @@ pub fn lend_lasting<O, S: Step<O>>(
     ensures shared { SamePieces shared.old shared.new }
 {
     let plan = idle_plan(table);
-    let loan = Lending {
+    let lending = Lending {
         step,
         table,
         writable,
     };
-    lend_without_blocks(&loan, &plan, own, shared, out);
+    let loan = PlannedLoan {
+        lending: &lending,
+        plan: &plan,
+    };
+    lend_without_blocks(&loan, own, shared, out);
 }

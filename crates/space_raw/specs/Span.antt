@@ -1,5 +1,5 @@
 -- Regions and their parts, as contracts see them.
-use Rattle.std.specs.Prelude.{◌≡◌, ◌⊎◌, ℕ, ℤ, ◌+◌, ◌≤◌, List, Option, length}
+use Rattle.std.specs.Prelude.{◌≡◌, ◌⊎◌, ℕ, ℤ, ◌+◌, ◌≤◌, List, Option, length, take, drop}
 use denote.RawPtr.{Ptr}
 
 -- an allocation: the pointer to it, its size in words, and the name that it was given when it was made. The name tells it from an
@@ -31,3 +31,11 @@ Adjoins s t = (t.region ≡ s.region) × (t.place ≡ s.place + length s.words)
 -- no word is in both ranges: one has none, or ends before the other begins
 abbrev pub Apart : Span → Span → Type 0
 Apart s t = (length s.words ≡ 0) ⊎ ((length t.words ≡ 0) ⊎ ((s.place + length s.words ≤ t.place) ⊎ (t.place + length t.words ≤ s.place)))
+
+-- the part has the first n words of the range
+abbrev pub IsFront : ℕ → Span → Span → Type 0
+IsFront n s part = (part.region ≡ s.region) × (part.place ≡ s.place) × (part.words ≡ take n s.words)
+
+-- the part has the words behind the first n
+abbrev pub IsBack : ℕ → Span → Span → Type 0
+IsBack n s part = (part.region ≡ s.region) × (part.place ≡ s.place + n) × (part.words ≡ drop n s.words)

@@ -1,7 +1,7 @@
 //! A range of a region's words that is owned.
 ghost use Rattle.std.specs.Prelude.{◌≡◌, ◌+◌, ◌<◌, ◌≤◌, ◌++◌, length, take, drop};
 ghost use Rattle.std.specs.Borrow.{sem};
-ghost use Rattle.space_raw.specs.Span.{Adjoins, Apart};
+ghost use Rattle.space_raw.specs.Span.{Adjoins, Apart, IsBack, IsFront};
 ghost use Rattle.space_raw.specs.SpanLends.{lends_words};
 
 use crate::places::Places;
@@ -69,8 +69,8 @@ impl Piece {
     pub fn split(self, n: u32) -> (Piece, Piece)
         requires some { 0 < n }
         requires fewer { n < length self.words }
-        ensures left { (result.0.region ≡ self.region) × (result.0.place ≡ self.place) × (result.0.words ≡ take n self.words) }
-        ensures right { (result.1.region ≡ self.region) × (result.1.place ≡ self.place + n) × (result.1.words ≡ drop n self.words) }
+        ensures left { IsFront n self result.0 }
+        ensures right { IsBack n self result.1 }
     {
         self.cut(n)
     }
@@ -78,8 +78,8 @@ impl Piece {
     // One of the two may have no words.
     fn cut(self, n: u32) -> (Piece, Piece)
         requires fewer { n ≤ length self.words }
-        ensures left { (result.0.region ≡ self.region) × (result.0.place ≡ self.place) × (result.0.words ≡ take n self.words) }
-        ensures right { (result.1.region ≡ self.region) × (result.1.place ≡ self.place + n) × (result.1.words ≡ drop n self.words) }
+        ensures left { IsFront n self result.0 }
+        ensures right { IsBack n self result.1 }
     {
         let Piece {
             base,

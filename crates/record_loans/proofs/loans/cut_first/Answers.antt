@@ -6,7 +6,7 @@ pub cut_second-requires-in-InDaram-clause-fit : goal.cut_second-requires-in-InDa
 cut_second-requires-in-InDaram-clause-fit g c =
     let gap = c.split_at_mut-gap.ensures.back_len in
     let part = c.split_at_mut-r1-in-InDaram.ensures.back_len in
-    let plan = c.args.plan.now.first in
+    let plan = c.args.loan.now.plan.now.first in
     let left : length c.split_at_mut-r1-in-InDaram.result.1.now ≡ length c.args.daram.now - plan.gap - plan.size = omega (arith, gap, part) in
     rw left ((rw c.in-InDaram.is at c.requires.fit).1)
 
@@ -14,7 +14,7 @@ pub cut_second-requires-in-InSaram-clause-fit : goal.cut_second-requires-in-InSa
 cut_second-requires-in-InSaram-clause-fit g c =
     let gap = c.split_at_mut-gap-in-InSaram.ensures.back_len in
     let part = c.split_at_mut-r1-in-InSaram.ensures.back_len in
-    let plan = c.args.plan.now.first in
+    let plan = c.args.loan.now.plan.now.first in
     let left : length c.split_at_mut-r1-in-InSaram.result.1.now ≡ length c.args.saram.now - plan.gap - plan.size = omega (arith, gap, part) in
     rw left ((rw c.in-InSaram.is at c.requires.fit).1)
 
@@ -22,7 +22,7 @@ pub cut_second-requires-in-InExternal-clause-fit : goal.cut_second-requires-in-I
 cut_second-requires-in-InExternal-clause-fit g c =
     let gap = c.split_at_mut-gap-in-InExternal.ensures.back_len in
     let part = c.split_at_mut-r1-in-InExternal.ensures.back_len in
-    let plan = c.args.plan.now.first in
+    let plan = c.args.loan.now.plan.now.first in
     let left : length c.split_at_mut-r1-in-InExternal.result.1.now ≡ length c.args.external.now - plan.gap - plan.size = omega (arith, gap, part) in
     rw left ((rw c.in-InExternal.is at c.requires.fit).1)
 
@@ -34,7 +34,7 @@ returns-in-InDaram-clause-done g c =
     let gap = c.split_at_mut-gap in
     let part = c.split_at_mut-r1-in-InDaram.ensures in
     let lent = c.cut_second-in-InDaram in
-    let plan = c.args.plan.now.first in
+    let plan = c.args.loan.now.plan.now.first in
     let back = part_back plan.gap plan.size gap.result.0.now lent.new.r1 lent.new.daram gap.ensures.front_len (lent.auto.r1 ∙ part.front_len) in
     rw (c.in-InDaram.is, back.0, back.1, ← gap.ensures.back, ← part.front, ← part.back) lent.ensures.done
 
@@ -43,7 +43,7 @@ returns-in-InSaram-clause-done g c =
     let gap = c.split_at_mut-gap-in-InSaram in
     let part = c.split_at_mut-r1-in-InSaram.ensures in
     let lent = c.cut_second-in-InSaram in
-    let plan = c.args.plan.now.first in
+    let plan = c.args.loan.now.plan.now.first in
     let back = part_back plan.gap plan.size gap.result.0.now lent.new.r1 lent.new.saram gap.ensures.front_len (lent.auto.r1 ∙ part.front_len) in
     rw (c.in-InSaram.is, back.0, back.1, ← gap.ensures.back, ← part.front, ← part.back) lent.ensures.done
 
@@ -52,6 +52,6 @@ returns-in-InExternal-clause-done g c =
     let gap = c.split_at_mut-gap-in-InExternal in
     let part = c.split_at_mut-r1-in-InExternal.ensures in
     let lent = c.cut_second-in-InExternal in
-    let plan = c.args.plan.now.first in
+    let plan = c.args.loan.now.plan.now.first in
     let back = part_back plan.gap plan.size gap.result.0.now lent.new.r1 lent.new.external gap.ensures.front_len (lent.auto.r1 ∙ part.front_len) in
     rw (c.in-InExternal.is, back.0, back.1, ← gap.ensures.back, ← part.front, ← part.back) lent.ensures.done

@@ -28,7 +28,7 @@ returns-in-InDaram-clause-done g c =
     let gap = c.split_at_mut-gap in
     let part = c.split_at_mut-r3-in-InDaram in
     let lent = c.lend-in-InDaram in
-    let plan = c.args.plan.now.third in
+    let plan = c.args.loan.now.plan.now.third in
     let back = part_back plan.gap plan.size gap.result.0.now lent.new.r3 part.result.1.now gap.ensures.front_len (lent.auto.r3 ∙ part.ensures.front_len) in
     rw (c.in-InDaram.is, back.0, ← gap.ensures.back, ← part.ensures.front) lent.ensures.done
 
@@ -37,7 +37,7 @@ returns-in-InSaram-clause-done g c =
     let gap = c.split_at_mut-gap-in-InSaram in
     let part = c.split_at_mut-r3-in-InSaram in
     let lent = c.lend-in-InSaram in
-    let plan = c.args.plan.now.third in
+    let plan = c.args.loan.now.plan.now.third in
     let back = part_back plan.gap plan.size gap.result.0.now lent.new.r3 part.result.1.now gap.ensures.front_len (lent.auto.r3 ∙ part.ensures.front_len) in
     rw (c.in-InSaram.is, back.0, ← gap.ensures.back, ← part.ensures.front) lent.ensures.done
 
@@ -46,7 +46,7 @@ returns-in-InExternal-clause-done g c =
     let gap = c.split_at_mut-gap-in-InExternal in
     let part = c.split_at_mut-r3-in-InExternal in
     let lent = c.lend-in-InExternal in
-    let plan = c.args.plan.now.third in
+    let plan = c.args.loan.now.plan.now.third in
     let back = part_back plan.gap plan.size gap.result.0.now lent.new.r3 part.result.1.now gap.ensures.front_len (lent.auto.r3 ∙ part.ensures.front_len) in
     rw (c.in-InExternal.is, back.0, ← gap.ensures.back, ← part.ensures.front) lent.ensures.done
 
@@ -63,7 +63,7 @@ returns-in-Some-clause-done g c =
     let words = c.words_mut.ensures.value in
     let part = c.split_at_mut-r3.ensures in
     let lent = c.lend-in-Some in
-    let back = front_back c.args.plan.now.third.size c.in-Some.piece.words lent.new.r3 _ (lent.auto.r3 ∙ part.front_len) (rw words at part.back_len) in
+    let back = front_back c.args.loan.now.plan.now.third.size c.in-Some.piece.words lent.new.r3 _ (lent.auto.r3 ∙ part.front_len) (rw words at part.back_len) in
     let done = rw (part.front, words) at lent.ensures.done in
     elim c.in-Own.is [
       | inl own ↦ rw (own, c.in-Some.is, back) done
