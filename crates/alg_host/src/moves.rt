@@ -1,10 +1,11 @@
 //! Where the blocks stand, and how they are moved together.
-ghost use Rattle.std.specs.Prelude.{◌≡◌};
+ghost use Rattle.std.specs.Prelude.{◌≡◌, ◌≤◌, length};
 ghost use Rattle.host_spec.specs.Calls.Call.{Step, Compact, Map as MapCall, Copied};
 ghost use Rattle.alg_host.specs.Hosts.{Serves};
+ghost use Rattle.host_map.specs.declared.TheConstants.{MAP_BLOCKS};
 
 use crate::Host;
-use host_map::Map;
+use host_map::{Map, Placed};
 use host_moves::maps_have_room;
 use ialg::Ialg;
 use mem_rec::Space;
@@ -31,6 +32,15 @@ impl<M: Ialg> Host<M> {
     {
         maps_have_room::<M>();
         self.spaces.map(space)
+    }
+
+    /// The same blocks, lent as they stand.
+    pub fn blocks_in(&self, space: Space) -> &[Placed]
+        ensures machine { Serves M.law (MapCall space result.now) self.now self.now }
+        ensures few { length result.now ≤ MAP_BLOCKS }
+    {
+        maps_have_room::<M>();
+        self.spaces.blocks(space)
     }
 
     /// The words that moves have copied, each time that they did. It stays at the greatest `u64`.

@@ -1,8 +1,9 @@
 -- What comes from an input: its lines.
-use Rattle.std.specs.Prelude.{◌≡◌, ◌≢◌, ℕ, ◌+◌, ◌≤◌, Bool, true, false, nat_lt, List, [], ◌∷◌, ◌++◌, length, take, drop, All}
+use Rattle.std.specs.Prelude.{◌≡◌, ◌≢◌, ℕ, ◌+◌, ◌≤◌, Bool, true, false, nat_lt, List, [], ◌∷◌, ◌++◌, length, take, drop, All, Result, IfOk, IfErr}
 use Rattle.octet_ports.specs.Ports.{Source, Gives, IsAtEnd}
 use Rattle.octet_ports.specs.declared.TheConstants.{LINE_FEED}
 use Rattle.octet_ports.specs.declared.reader.TheConstants.{BUFFER_OCTETS}
+use Rattle.octet_ports.specs.declared.reader.ReadLine.{ReadLine}
 use Rattle.octet_ports.specs.declared.reader.LineFault.{LineFault}
 use Rattle.octet_ports.specs.declared.reader.LineFault.TheVariants.{Port, Limit}
 
@@ -60,3 +61,14 @@ abbrev pub LineFails : LineFault → ℕ → Source → Source → Type 0
 LineFails Port limit old new = (new.failed ≡ true) × ((octets : List ℕ) × BreaksOff octets limit old new)
 LineFails Limit limit old new =
     (new.failed ≡ false) × ((octets : List ℕ) × (next : ℕ) × All IsNoFeed octets × Gives (octets ++ next ∷ []) old new × (limit ≡ length octets))
+
+-- of a script, by what is known of its port, with what is ahead of it before and after
+module _ {S : Type 0} (source : S → Source) where
+  -- if a line was read, it came with its ending
+  abbrev pub ReadsLine : (most : ℕ) → Result ReadLine LineFault → (text : List ℕ) → (ahead new_ahead : Ahead) → (script new_script : S) → Type 0
+  ReadsLine most result text ahead new_ahead script new_script = IfOk result (λ line. LineCame most text line.long line.last ahead.left new_ahead.left
+      (behind ahead.octets (source script)) (behind new_ahead.octets (source new_script)))
+
+  -- if none was read, the script failed within a line, or goes on after the limit
+  abbrev pub FailsToRead : Result ReadLine LineFault → (ahead : Ahead) → (script new_script : S) → Type 0
+  FailsToRead result ahead script new_script = IfErr result (λ e. LineFails e ahead.left (behind ahead.octets (source script)) (source new_script))

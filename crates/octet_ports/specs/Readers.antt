@@ -44,3 +44,7 @@ pub record IsRefused (fault : LineFault) (old new : Ahead) (source new_source : 
   pub before : old.octets ≡ []
   pub none : new.octets ≡ []
   pub why : RefusesFor fault old.left source new_source
+
+-- the same of a script, by what is known of its port
+abbrev pub RefusesOctet : {S : Type 0} → (S → Source) → LineFault → (old new : Ahead) → (script new_script : S) → Type 0
+RefusesOctet source fault old new script new_script = IsRefused fault old new (source script) (source new_script)

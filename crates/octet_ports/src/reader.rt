@@ -2,9 +2,9 @@
 ghost use Rattle.std.specs.Prelude.{MatchOption, ◌≡◌, ◌+◌, ◌<◌, ◌≤◌, ◌==◌, true, false, [], ◌∷◌, length, Ok, None, All, IfOk, IfErr, IfSome, IsOk};
 ghost use Rattle.std.specs.Result.{is_err};
 ghost use Rattle.octet_ports.specs.Ports.{Gives};
-ghost use Rattle.octet_ports.specs.Lines.{IsNoFeed, LineCame, LineFails, behind};
+ghost use Rattle.octet_ports.specs.Lines.{FailsToRead, IsNoFeed, ReadsLine};
 ghost use Rattle.octet_ports.specs.declared.reader.TheConstants.{BUFFER_OCTETS};
-ghost use Rattle.octet_ports.specs.Readers.{BeginsWith, LineTaken, OctetCame, EndCame, IsRefused};
+ghost use Rattle.octet_ports.specs.Readers.{BeginsWith, LineTaken, OctetCame, EndCame, RefusesOctet};
 
 use crate::LINE_FEED;
 use crate::port::PortIn;
@@ -80,10 +80,9 @@ impl LineReader {
     ) -> Result<ReadLine, LineFault>
         requires ready { (S.source script.old).failed ≡ false }
         requires empty { text.old.items ≡ [] }
-        ensures ok { IfOk result (λ line. LineCame MOST text.new.items line.long line.last self.old.left self.new.left
-            (behind self.old.octets (S.source script.old)) (behind self.new.octets (S.source script.new))) }
+        ensures ok { ReadsLine S.source MOST result text.new.items self.old self.new script.old script.new }
         ensures last { IfOk result (λ line. line.last ≡ true → self.new.octets ≡ []) }
-        ensures err { IfErr result (λ e. LineFails e self.old.left (behind self.old.octets (S.source script.old)) (S.source script.new)) }
+        ensures err { FailsToRead S.source result self.old script.old script.new }
         ensures gone { is_err result ≡ true → self.new.octets ≡ [] }
         ensures within { length self.new.octets ≤ self.new.left }
         ensures few { length self.new.octets ≤ BUFFER_OCTETS }
@@ -127,10 +126,9 @@ impl LineReader {
     ) -> Result<ReadLine, LineFault>
         requires ready { (S.source script.old).failed ≡ false }
         requires empty { text.old.items ≡ [] }
-        ensures ok { IfOk result (λ line. LineCame MOST text.new.items line.long line.last self.old.left self.new.left
-            (behind self.old.octets (S.source script.old)) (behind self.new.octets (S.source script.new))) }
+        ensures ok { ReadsLine S.source MOST result text.new.items self.old self.new script.old script.new }
         ensures last { IfOk result (λ line. line.last ≡ true → self.new.octets ≡ []) }
-        ensures err { IfErr result (λ e. LineFails e self.old.left (behind self.old.octets (S.source script.old)) (S.source script.new)) }
+        ensures err { FailsToRead S.source result self.old script.old script.new }
         ensures gone { is_err result ≡ true → self.new.octets ≡ [] }
         ensures within { length self.new.octets ≤ self.new.left }
         ensures few { length self.new.octets ≤ BUFFER_OCTETS }
@@ -161,7 +159,7 @@ impl LineReader {
         requires ready { (S.source script.old).failed ≡ false }
         ensures some { IfOk result (λ answer. IfSome answer (λ octet. OctetCame octet self.old self.new (S.source script.old) (S.source script.new))) }
         ensures none { result ≡ Ok None → EndCame self.old self.new (S.source script.old) (S.source script.new) }
-        ensures err { IfErr result (λ e. IsRefused e self.old self.new (S.source script.old) (S.source script.new)) }
+        ensures err { IfErr result (λ e. RefusesOctet S.source e self.old self.new script.old script.new) }
         ensures within { length self.new.octets ≤ self.new.left }
         ensures few { length self.new.octets ≤ BUFFER_OCTETS }
         ensures waits { 0 < length self.old.octets → script.new ≡ script.old }
@@ -205,7 +203,7 @@ impl LineReader {
         ensures some { result ≡ Ok true → (0 < length self.new.octets) × Gives self.new.octets (S.source script.old) (S.source script.new) }
         ensures left { self.new.left ≡ self.old.left }
         ensures end { result ≡ Ok false → EndCame self.old self.new (S.source script.old) (S.source script.new) }
-        ensures err { IfErr result (λ e. IsRefused e self.old self.new (S.source script.old) (S.source script.new)) }
+        ensures err { IfErr result (λ e. RefusesOctet S.source e self.old self.new script.old script.new) }
         ensures ready { IsOk result → (S.source script.new).failed ≡ false }
     {
         // Behind the last octet that lines may have one is asked for that tells whether the script goes on.

@@ -2,6 +2,7 @@
 use Rattle.std.specs.Prelude.{◌≡◌, ◌≢◌, ◌⊎◌, ◌<◌, ◌≤◌, ◌++◌, ℕ, List, [], ◌∷◌, Option, length, take, All, Any, IsSomeAnd, slice_get, slice_index_or}
 use Rattle.std.specs.Io.KnownBytes.{Appends}
 use Rattle.port_journal.specs.declared.waiting.Waiting.{Waiting}
+use Rattle.port_journal.specs.declared.journal.Journal.{Journal}
 use Rattle.port_journal.specs.declared.marks.Mark.{Mark}
 use Rattle.port_journal.specs.Passing.{HasNothing}
 
@@ -25,6 +26,10 @@ IsMarked number outputs replies marks =
 -- the marks stand, or no sample waits that one could be of
 abbrev pub KeepsMarks : {W : Type 0} → List Mark → List Mark → List (Waiting W) → Type 0
 KeepsMarks old new outputs = (new ≡ old) ⊎ ((new ≡ []) × All HasNothing outputs)
+
+-- a journal's marks stand, or no sample waits that one could be of
+abbrev pub Remembers : {W R : Type 0} → Journal W R → Journal W R → Type 0
+Remembers old new = KeepsMarks old.marks.items new.marks.items new.outputs.items
 
 -- the marks stand and one more behind them, or there is that one alone, and no sample waits but for its output
 abbrev pub MarksOneMore : {W : Type 0} → ℕ → List Mark → List Mark → List (Waiting W) → Type 0

@@ -4,6 +4,7 @@ use Rattle.octet_ports.specs.declared.TheConstants.{LINE_FEED}
 use Rattle.std.specs.Io.KnownBytes.{Appends, append_known}
 use Rattle.port_journal.specs.declared.buffer.TheConstants.{BUFFER_OCTETS}
 use Rattle.port_journal.specs.declared.waiting.Waiting.{Waiting}
+use Rattle.port_journal.specs.declared.journal.Journal.{Journal}
 
 -- each value of a list does this, in its place
 pub record EachDoes {X : Type 0} (Does : X → X → Type 0) (olds news : List X) : Type 0 where
@@ -69,3 +70,8 @@ module _ {W : Type 0} where
   pub record HoldsStill (old new : Waiting W) : Type 0 where
     pub writer : new.writer ≡ old.writer
     pub taken : new.taken ≡ old.taken
+
+-- what the devices held and what waited for them, the replies' among them, they hold or it waits
+abbrev pub NothingIsLost : {W R : Type 0} → (W → Option (List ℕ)) → (R → Option (List ℕ)) → Journal W R → Journal W R → Type 0
+NothingIsLost contents contents_of_replies old new =
+    EachDoes (LosesNothing contents) old.outputs.items new.outputs.items × LosesNothing contents_of_replies old.replies new.replies

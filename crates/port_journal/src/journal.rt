@@ -1,8 +1,8 @@
 //! Outputs and replies that are passed on together.
 ghost use Rattle.std.specs.Prelude.{◌≡◌, ◌<◌, ◌≤◌, ◌++◌, ◌∷◌, ◌⊎◌, [], true, false, length, take, All, IfOk, IsOk};
 ghost use Rattle.std.specs.Result.{is_err};
-ghost use Rattle.port_journal.specs.Passing.{EachDoes, EndsLine, Gets, GetsAt, HasNothing, HasRoom, HasRoomAt, LosesNothing, PassesOn, TakesAll, WaitsLast, WaitsLastAt};
-ghost use Rattle.port_journal.specs.Marks.{IsMarked, KeepsMarks, MarksOneMore, TellsTruth};
+ghost use Rattle.port_journal.specs.Passing.{EachDoes, EndsLine, Gets, GetsAt, HasNothing, HasRoom, HasRoomAt, LosesNothing, NothingIsLost, PassesOn, TakesAll, WaitsLast, WaitsLastAt};
+ghost use Rattle.port_journal.specs.Marks.{IsMarked, MarksOneMore, Remembers, TellsTruth};
 ghost use Rattle.port_journal.specs.declared.waiting.Waiting.{Waiting};
 
 use crate::marks::{MARKS, Mark, true_octets};
@@ -86,7 +86,7 @@ impl<W: Write, R: Write> Journal<W, R> {
         ensures outputs { EachDoes (PassesOn W.contents) self.old.outputs.items self.new.outputs.items }
         ensures replies { TellsTruth R.contents self.old.marks.items self.new.outputs.items self.old.replies self.new.replies }
         ensures all { IsOk result → EachDoes TakesAll self.old.outputs.items self.new.outputs.items × TakesAll self.old.replies self.new.replies }
-        ensures kept { IsOk result → EachDoes (LosesNothing W.contents) self.old.outputs.items self.new.outputs.items × LosesNothing R.contents self.old.replies self.new.replies }
+        ensures kept { IsOk result → NothingIsLost W.contents R.contents self.old self.new }
         ensures nothing { All HasNothing self.new.outputs.items × HasNothing self.new.replies × (self.new.marks.items ≡ []) }
         ensures failed { self.new.failed ≡ is_err result }
         ensures lasts { self.old.failed ≡ true → self.new.failed ≡ true }
@@ -112,10 +112,10 @@ impl<W: Write, R: Write> Journal<W, R> {
         requires ready { self.old.failed ≡ false }
         ensures room { IsOk result → HasRoomAt number self.new.outputs.items }
         ensures marks { IsOk result → length self.new.marks.items < MARKS }
-        ensures remembers { IsOk result → KeepsMarks self.old.marks.items self.new.marks.items self.new.outputs.items }
+        ensures remembers { IsOk result → Remembers self.old self.new }
         ensures passing { self.new.passing ≡ self.old.passing }
         ensures count { length self.new.outputs.items ≡ length self.old.outputs.items }
-        ensures kept { IsOk result → EachDoes (LosesNothing W.contents) self.old.outputs.items self.new.outputs.items × LosesNothing R.contents self.old.replies self.new.replies }
+        ensures kept { IsOk result → NothingIsLost W.contents R.contents self.old self.new }
         ensures failed { self.new.failed ≡ is_err result }
     {
         if self.outputs[number].is_full() || self.marks.is_full() {
@@ -128,8 +128,8 @@ impl<W: Write, R: Write> Journal<W, R> {
     fn make_room_for_reply(&mut self) -> Result<(), PortFault>
         requires { self.old.failed ≡ false }
         ensures room { IsOk result → HasRoom self.new.replies }
-        ensures remembers { IsOk result → KeepsMarks self.old.marks.items self.new.marks.items self.new.outputs.items }
-        ensures kept { IsOk result → EachDoes (LosesNothing W.contents) self.old.outputs.items self.new.outputs.items × LosesNothing R.contents self.old.replies self.new.replies }
+        ensures remembers { IsOk result → Remembers self.old self.new }
+        ensures kept { IsOk result → NothingIsLost W.contents R.contents self.old self.new }
         ensures passing { self.new.passing ≡ self.old.passing }
         ensures failed { self.new.failed ≡ is_err result }
     {
@@ -176,7 +176,7 @@ impl<W: Write, R: Write> Journal<W, R> {
         ensures outputs { IsOk result → EachDoes (LosesNothing W.contents) self.old.outputs.items self.new.outputs.items }
         ensures waits { self.old.passing ≡ Passing.WhereFull → IfOk result (λ n. WaitsLast (take n octets.now) self.new.replies) }
         ensures passed { self.old.passing ≡ Passing.EachLine → IfOk result (λ n. EndsLine (take n octets.now) → HasNothing self.new.replies) }
-        ensures remembers { IsOk result → KeepsMarks self.old.marks.items self.new.marks.items self.new.outputs.items }
+        ensures remembers { IsOk result → Remembers self.old self.new }
         ensures passing { self.new.passing ≡ self.old.passing }
         ensures failed { self.new.failed ≡ is_err result }
         ensures lasts { self.old.failed ≡ true → self.new.failed ≡ true }

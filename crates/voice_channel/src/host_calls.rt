@@ -1,7 +1,8 @@
 //! The calls of the host, which change no channel.
-ghost use Rattle.std.specs.Prelude.{◌≡◌, OnErr};
+ghost use Rattle.std.specs.Prelude.{◌≡◌, ◌≤◌, length, OnErr};
 ghost use Rattle.ialg.specs.Views.{control_of};
 ghost use Rattle.host_spec.specs.Calls.Call.{Create, Control, Release, Step, Compact, Stat as StatCall, Map as MapCall, Copied};
+ghost use Rattle.host_map.specs.declared.TheConstants.{MAP_BLOCKS};
 ghost use Rattle.host_refines.specs.Kept.{told};
 ghost use Rattle.alg_host.specs.Hosts.{stat_told};
 ghost use Rattle.channel_spec.specs.Calls.Call.{OfHost};
@@ -10,7 +11,7 @@ ghost use Rattle.voice_channel.specs.Channels.{Serves};
 use crate::Channels;
 use alg_host::Stat;
 use channel_spec::members_live_in_one_channel;
-use host_map::Map;
+use host_map::{Map, Placed};
 use ialg::{Ctl, Ialg, Params, Refusal, Status};
 use mem_rec::Space;
 
@@ -93,6 +94,15 @@ impl<M: Ialg> Channels<M> {
     {
         members_live_in_one_channel::<M>();
         self.host.map(space)
+    }
+
+    /// The same blocks, lent as they stand.
+    pub fn blocks_in(&self, space: Space) -> &[Placed]
+        ensures machine { Serves M.law (OfHost (MapCall space result.now)) self.now self.now }
+        ensures few { length result.now ≤ MAP_BLOCKS }
+    {
+        members_live_in_one_channel::<M>();
+        self.host.blocks_in(space)
     }
 
     /// The words that moves have copied. It stays at the greatest `u64`.

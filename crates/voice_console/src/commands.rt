@@ -102,7 +102,8 @@ impl<M: Ialg> Console<M> {
     pub(crate) fn map<'a>(&self, space: Space, map: &'a mut Map) -> Reply<'a>
         ensures asks { Serves M.law (CommandAsks M.law.meaning (port_widths_of self.now) (script.Map space)) (tells (reply_of result)) self.now self.now }
     {
-        *map = self.channels.map(space);
+        map.clear();
+        let _fits = map.try_extend_from_slice(self.channels.blocks_in(space));
         Reply::Map(map)
     }
 
