@@ -17,12 +17,12 @@ type Half = i32;
 pub(crate) fn are_above_least(words: &[i16]) -> bool
     ensures { result ≡ true → AreAboveLeast words.now }
 {
+    // to the end, whatever is found: so the words are compared side by side in vector registers
+    let mut above = true;
     for word in words {
-        if *word == i16::MIN {
-            return false;
-        }
+        above &= *word != i16::MIN;
     }
-    true
+    above
 }
 
 /// Runs the filter. It is a call of its own, so that one output needs no room for arrays.

@@ -53,9 +53,25 @@ fn filter_within<const N: usize>(
         } else {
             filter_bounded::<N>(coefficients, line, first, step, last, out);
         }
-    } else if out.len() > 1 && (are_above_least(coefficients) || are_above_least(line)) {
-        filter_halves::<N>(coefficients, line, first, step, out);
     } else {
-        filter_in_order(coefficients, line, first, step, out);
+        let reach = &line[first..last + coefficients.len()];
+        filter_limited::<N>(coefficients, reach, step, out);
+    }
+}
+
+/// Runs the filter as [`filter_within`] does, where sums may saturate. The line has the words that the outputs are made of, and no others:
+/// all of it is looked through for -32768 where a coefficient is that.
+fn filter_limited<const N: usize>(coefficients: &[i16], line: &[i16], step: usize, out: &mut [i16])
+    requires some { 1 ≤ length coefficients.now }
+    requires outputs { 1 ≤ length out.old }
+    requires reach { Reaches 0 step (length out.old) (length coefficients.now) line.now }
+    requires block { length out.old ≤ N }
+    requires arrays { N ≤ BLOCK_SAMPLES }
+    ensures { AreOutputs coefficients.now line.now 0 step (length out.old) out.new }
+{
+    if out.len() > 1 && (are_above_least(coefficients) || are_above_least(line)) {
+        filter_halves::<N>(coefficients, line, 0, step, out);
+    } else {
+        filter_in_order(coefficients, line, 0, step, out);
     }
 }

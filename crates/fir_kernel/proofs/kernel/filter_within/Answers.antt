@@ -1,5 +1,14 @@
-use Rattle.std.proofs.Common.{arith}
+use Rattle.std.proofs.Common.{◌≤◌, ◌-◌, ◌*◌, ◌∙◌, length, arith}
+use Rattle.std.proofs.lemmas.Nat.{mul-le}
+use Rattle.fir_kernel.proofs.Parts.{filtered_within}
 use Rattle.fir_kernel.proofs.kernel.filter_within.Goals as goal
 
 pub filter_bounded-requires-clause-bounded : goal.filter_bounded-requires-clause-bounded
 filter_bounded-requires-clause-bounded g c = grind arith
+
+pub returns-else-is_bounded : goal.returns-else-is_bounded
+returns-else-is_bounded g c i b =
+    let last = length c.args.out.now - 1 in
+    let before : i ≤ last = omega arith in
+    c.filter_limited.ensures i b
+    ∙ filtered_within c.args.coefficients.now c.args.line.now c.args.first c.args.step (c.args.step * last) i c.requires.some (mul-le c.args.step i c.args.step last (omega arith) before)
