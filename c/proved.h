@@ -13,7 +13,7 @@ typedef struct rokdaum_handle {
     void *at;
 } rokdaum_handle;
 
-int32_t rokdaum_proved_open(rokdaum_handle *handle, uint32_t daram, uint32_t saram, uint32_t external, uint32_t poisoned, int16_t poison, uint8_t channels);
+int32_t rokdaum_proved_open(rokdaum_handle *handle, const rokdaum_options *options);
 int32_t rokdaum_proved_close(rokdaum_handle *handle);
 int32_t rokdaum_proved_create(rokdaum_handle *handle, uint8_t i, uint32_t kind, uint8_t group, const int16_t *parameters, size_t parameters_len, uint32_t *full);
 int32_t rokdaum_proved_delete(rokdaum_handle *handle, uint8_t i);

@@ -126,7 +126,7 @@ rokdaum_code rokdaum_open_with(rokdaum *host, const rokdaum_options *options, co
         return ROKDAUM_NULL;
     const rokdaum_allocator *serves = allocator ? allocator : &heap, *before = current;
     current = serves;
-    int32_t code = rokdaum_proved_open(of(host), options->daram, options->saram, options->external, options->poisoned, options->poison, options->channels);
+    int32_t code = rokdaum_proved_open(of(host), options);
     current = before;
     if (code == ROKDAUM_OK)
         host->allocator = serves;

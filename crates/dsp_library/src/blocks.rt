@@ -5,7 +5,7 @@ ghost use Rattle.ialg.specs.declared.TheConstants.{BLOCK_SAMPLES};
 ghost use Rattle.basic_op.specs.Operators.{add_of, sub_of, mult_of, shl_of, shr_of};
 ghost use Rattle.fir_kernel.specs.Sums.{filtered_at};
 ghost use Rattle.fir_kernel.specs.declared.TheConstants.{MOST_COEFFICIENTS};
-ghost use Rattle.dsp_library.specs.Sums.{l_mac_sum};
+ghost use Rattle.dsp_library.specs.Sums.{l_mac_sum, BothHave};
 ghost use Rattle.dsp_library.specs.declared.TheConstants.{DONE, BAD_LENGTH};
 
 use crate::{BAD_LENGTH, DONE};
@@ -79,7 +79,7 @@ fn l_mac_all(v: i32, a: &[i16], b: &[i16]) -> i32
 /// Writes the sum of each two samples, saturated (G.191 `add`): `DONE`, or `BAD_LENGTH`, and then nothing is written.
 #[unsafe(no_mangle)]
 pub extern "C" fn rokdaum_proved_add_block(a: &[i16], b: &[i16], out: &mut [i16]) -> i32
-    ensures length { ¬ ((length a.now ≡ length out.old) × (length b.now ≡ length out.old)) → result ≡ BAD_LENGTH }
+    ensures length { ¬ BothHave (length out.old) a.now b.now → result ≡ BAD_LENGTH }
     ensures done { length a.now ≡ length out.old → length b.now ≡ length out.old → result ≡ DONE }
     ensures sums { result ≡ DONE → (k : ℕ) → k < length out.old → word_at out.new k ≡ add_of (word_at a.now k) (word_at b.now k) }
     ensures refused { result ≢ DONE → out.new ≡ out.old }
@@ -94,7 +94,7 @@ pub extern "C" fn rokdaum_proved_add_block(a: &[i16], b: &[i16], out: &mut [i16]
 /// Writes the difference of each two samples, saturated (G.191 `sub`): `DONE`, or `BAD_LENGTH`, and then nothing is written.
 #[unsafe(no_mangle)]
 pub extern "C" fn rokdaum_proved_sub_block(a: &[i16], b: &[i16], out: &mut [i16]) -> i32
-    ensures length { ¬ ((length a.now ≡ length out.old) × (length b.now ≡ length out.old)) → result ≡ BAD_LENGTH }
+    ensures length { ¬ BothHave (length out.old) a.now b.now → result ≡ BAD_LENGTH }
     ensures done { length a.now ≡ length out.old → length b.now ≡ length out.old → result ≡ DONE }
     ensures differences { result ≡ DONE → (k : ℕ) → k < length out.old → word_at out.new k ≡ sub_of (word_at a.now k) (word_at b.now k) }
     ensures refused { result ≢ DONE → out.new ≡ out.old }

@@ -1,5 +1,5 @@
 -- How C names kinds, spaces and answers.
-use Rattle.std.specs.Prelude.{ℕ, zero, suc, ℤ, pos, negsuc, Bool, true, false, Option, Some, None, Result, Ok, Err, List, length, slice_index_or, ◌≡◌, ◌<◌}
+use Rattle.std.specs.Prelude.{ℕ, zero, suc, ℤ, pos, negsuc, Bool, true, false, Option, Some, None, Result, Ok, Err, List, length, slice_index_or, ◌≡◌, ◌<◌, ◌≤◌}
 use Rattle.ialg.specs.declared.refusal.Refusal.{Refusal}
 use Rattle.ialg.specs.declared.refusal.Refusal.TheVariants.{Long, Syntax, Range, Taken, Missing, Params, Room, Busy, Command, Short}
 use Rattle.ialg.specs.Refusals.{refusal_number}
@@ -11,6 +11,11 @@ use Rattle.host_map.specs.declared.parts.Sizes.{Sizes}
 use Rattle.host_map.specs.declared.placed.Owner.{Owner}
 use Rattle.host_map.specs.declared.placed.Owner.TheVariants.{Record, Scratch}
 use Rattle.host_map.specs.declared.placed.Placed.{Placed}
+use Rattle.host_map.specs.MemoryMap.{AreSizes}
+use Rattle.host_spec.specs.State.{new_state}
+use Rattle.channel_spec.specs.Channels.{Channels, unchained}
+use Rattle.voice_channel.specs.declared.TheConstants.{CHANNELS}
+use Rattle.host_library.specs.declared.handle.Options.{Options}
 use Rattle.host_library.specs.declared.spaces.BlockShown.{BlockShown}
 use Rattle.host_library.specs.declared.TheConstants.{DONE}
 
@@ -59,13 +64,21 @@ full_after (Ok answer) before = before
 full_after (Err refusal) before = full_by refusal before
 
 -- the sizes of three spaces
-abbrev pub sizes_by : ℕ → ℕ → ℕ → Sizes
-sizes_by daram saram external = record { daram = daram; saram = saram; external = external }
+abbrev pub sizes_of : Options → Sizes
+sizes_of o = record { daram = o.daram; saram = o.saram; external = o.external }
 
 -- the poison word, if there is one
 abbrev pub poison_of : ℕ → ℤ → Option ℤ
 poison_of zero word = None
 poison_of (suc n) word = Some word
+
+-- a host can be opened with these options
+abbrev pub CanBeOpened : Options → Type 0
+CanBeOpened o = AreSizes (sizes_of o) × (1 ≤ o.channels) × (o.channels ≤ CHANNELS)
+
+-- the state that a host is opened in: no instance lives, and no channel has members
+abbrev pub opened_state : Options → Channels Kind
+opened_state o = unchained (new_state (sizes_of o) (poison_of o.poisoned o.poison)) o.channels
 
 -- a block as C sees it
 abbrev pub block_by : Owner → Placed → BlockShown

@@ -1,11 +1,12 @@
 //! The handle that a caller keeps, and how it is opened and closed.
-ghost use Rattle.std.specs.Prelude.{◌≡◌, ◌≢◌, ◌≤◌, true, Some, None, is_some, [], replicate, IfOk, IfErr, IsErrOf};
+ghost use Rattle.std.specs.Prelude.{◌≡◌, ◌≢◌, ◌≤◌, true, Some, None, is_some, IfOk, IfErr, IsErrOf};
 ghost use Rattle.host_map.specs.MemoryMap.{AreSizes};
 ghost use Rattle.host_spec.specs.State.{new_state};
 ghost use Rattle.host_library.specs.declared.machine.Machine.{Machine as MachineOf};
 ghost use Rattle.host_library.specs.declared.TheConstants.{DONE, BAD_SIZE, NO_MEMORY, CLOSED, OPEN, MARK};
 ghost use Rattle.host_library.specs.Calls.{IsHandle, Keeps};
-ghost use Rattle.host_library.specs.Codes.{poison_of, sizes_by};
+ghost use Rattle.host_library.specs.Codes.{CanBeOpened, opened_state};
+ghost use Rattle.channel_spec.specs.Channels.{unchained};
 
 use crate::held::Held;
 use crate::machine::Machine;
@@ -54,7 +55,7 @@ fn new_machine(
     requires most { channels ≤ CHANNELS }
     ensures size { ¬ AreSizes sizes → IsErrOf result BAD_SIZE }
     ensures memory { AreSizes sizes → IfErr result (λ e. e ≡ NO_MEMORY) }
-    ensures keeps { IfOk result (λ m. Keeps m.value.channels (record { host = new_state sizes poison; chained = replicate channels [] })) }
+    ensures keeps { IfOk result (λ m. Keeps m.value.channels (unchained (new_state sizes poison) channels)) }
 {
     let host: Host<GatewayKind> = match Host::new(alloc, sizes, poison) {
         Ok(host) => host,
@@ -71,41 +72,48 @@ fn new_machine(
     }
 }
 
-/// Opens a handle: so many channels over a host without instances, whose spaces have so many words each. Where `poisoned` isn't 0, new
-/// blocks hold the poison word.
+/// What a handle is opened with: so many channels over spaces of so many words each. Where `poisoned` isn't 0, new blocks hold the
+/// poison word.
+#[repr(C)]
+#[derive(Clone, Copy, Drop)]
+pub struct Options {
+    pub daram: u32,
+    pub saram: u32,
+    pub external: u32,
+    pub channels: u8,
+    pub poisoned: u8,
+    pub poison: i16,
+}
+
+/// Opens a handle: its channels, over a host without instances.
 #[unsafe(no_mangle)]
-pub extern "C" fn rokdaum_proved_open(
-    alloc: Global,
-    handle: &mut Handle,
-    daram: u32,
-    saram: u32,
-    external: u32,
-    poisoned: u32,
-    poison: i16,
-    channels: u8,
-) -> i32
+pub extern "C" fn rokdaum_proved_open(alloc: Global, handle: &mut Handle, options: &Options) -> i32
     requires handle { IsHandle handle.old }
     ensures handle { IsHandle handle.new }
     ensures open { handle.old.mark ≡ MARK → result ≡ OPEN }
-    ensures size { handle.old.mark ≢ MARK → ¬ (AreSizes (sizes_by daram saram external) × (1 ≤ channels) × (channels ≤ CHANNELS)) → result ≡ BAD_SIZE }
-    ensures memory { handle.old.mark ≢ MARK → AreSizes (sizes_by daram saram external) → 1 ≤ channels → channels ≤ CHANNELS → result ≢ DONE → result ≡ NO_MEMORY }
+    ensures size { handle.old.mark ≢ MARK → ¬ CanBeOpened options.now → result ≡ BAD_SIZE }
+    ensures memory { handle.old.mark ≢ MARK → CanBeOpened options.now → result ≢ DONE → result ≡ NO_MEMORY }
     ensures refused { result ≢ DONE → handle.new ≡ handle.old }
     ensures opened { result ≡ DONE → (handle.new.mark ≡ MARK) × ((m : MachineOf) × (handle.new.held.machine ≡ Some m)
-        × Keeps m.channels (record { host = new_state (sizes_by daram saram external) (poison_of poisoned poison); chained = replicate channels [] })) }
+        × Keeps m.channels (opened_state options.now)) }
 {
     if handle.mark == MARK {
         return OPEN;
     }
-    if channels < 1 || usize::from(channels) > CHANNELS {
+    if options.channels < 1 || usize::from(options.channels) > CHANNELS {
         return BAD_SIZE;
     }
     let sizes = Sizes {
-        daram,
-        saram,
-        external,
+        daram: options.daram,
+        saram: options.saram,
+        external: options.external,
     };
-    let poison = if poisoned == 0 { None } else { Some(poison) };
-    match new_machine(alloc, sizes, poison, channels) {
+    let poison = if options.poisoned == 0 {
+        None
+    } else {
+        Some(options.poison)
+    };
+    match new_machine(alloc, sizes, poison, options.channels) {
         Ok(machine) => {
             handle.put(machine);
             handle.mark = MARK;

@@ -6,7 +6,7 @@ ghost use Rattle.ialg.specs.declared.TheConstants.{BLOCK_SAMPLES};
 ghost use Rattle.ialg.specs.History.{word_at};
 ghost use Rattle.ialg.specs.Loans.{SameLoans, WritableAt, lent_words};
 ghost use Rattle.ialg.specs.Records.{AreApart, record_at, words_of};
-ghost use Rattle.rogue_kit.specs.Writing.{MayBeWritten, block_count};
+ghost use Rattle.rogue_kit.specs.Writing.{MayBeWritten, block_count, CountsABlock};
 
 use crate::rogues::{KEPT, echo, fill_record, record_of};
 use ialg::{Block, Lent, Record};
@@ -40,8 +40,7 @@ fn count_on(words: &mut [i16]) -> i16
 fn count_block(mem: &mut Lent<'_>) -> i16
     ensures loans { SameLoans mem.old mem.new }
     ensures count { AreApart mem.old.table.now → MayBeWritten mem.old 1 → result ≡ block_count mem.old }
-    ensures counted { AreApart mem.old.table.now → MayBeWritten mem.old 1
-        → block_count mem.new ≡ int_wrap w16 (block_count mem.old +ℤ pos 1) }
+    ensures counted { CountsABlock mem.old mem.new }
 {
     let Some(kept) = record_of(mem.table(), KEPT) else {
         return 0;
@@ -75,8 +74,7 @@ pub(crate) fn babble(mem: &mut Lent<'_>, input: &[i16], out: &mut Block)
     ensures bounded { length out.new.items ≤ length input.now }
     ensures given { AreApart mem.old.table.now → MayBeWritten mem.old 1
         → out.new.items ≡ take (cast_unsigned w16 (block_count mem.old) % (length input.now + 1)) input.now }
-    ensures counted { AreApart mem.old.table.now → MayBeWritten mem.old 1
-        → block_count mem.new ≡ int_wrap w16 (block_count mem.old +ℤ pos 1) }
+    ensures counted { CountsABlock mem.old mem.new }
 {
     let given = given_samples(count_block(mem), input.len());
     echo(&input[..given], out);

@@ -2,11 +2,11 @@
 use Rattle.std.specs.Prelude.{ℤ, List, [], ◌∷◌}
 use Rattle.mem_rec.specs.declared.MemRec.{MemRec}
 use Rattle.mem_rec.specs.Records.{with_base}
-use Rattle.ialg.specs.Records.{lasting}
+use Rattle.ialg.specs.Records.{lasting, HoldFill}
 use Rattle.test_kinds.specs.declared.TheConstants.{ONCE, ONCE_BASE}
 use Rattle.test_kinds.specs.declared.starts.Held.{Held}
 use Rattle.test_kinds.specs.declared.starts.Active.{Active}
-use Rattle.test_kinds.specs.Primed.{primed_records, KeepsWords, KeepsActive}
+use Rattle.test_kinds.specs.Primed.{primed_records, KeepsWords, KeepsActive, primed_fill}
 
 -- the two records of `external` begin apart
 abbrev pub placed_records : List MemRec
@@ -27,3 +27,7 @@ active_words active = active.held.object ∷ active.held.once ∷ active.held.pr
 -- the words keep the empty history of an active instance
 abbrev pub IsActive : ℤ → ℤ → Active → Type 0
 IsActive poison once active = KeepsActive (poison ∷ once ∷ []) placed_records (active_words active) []
+
+-- its write-once record holds the word that it is filled with
+abbrev pub HoldsFill : ℤ → ℤ → Held → Type 0
+HoldsFill poison once held = HoldFill (primed_fill (poison ∷ once ∷ [])) placed_records (held_words held)

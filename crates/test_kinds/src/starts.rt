@@ -1,12 +1,12 @@
 //! Starts of a primed instance, its activation, and a sample. Each concludes from the laws of [`Ialg`] what is kept.
 ghost use Rattle.std.specs.Prelude.{◌≡◌, ◌∷◌, ℤ, [], List, Option, Some, IfSome, IsTrue, MatchOption, true, false, ⊤};
 ghost use Rattle.ialg.specs.History.{History, Sample};
-ghost use Rattle.ialg.specs.Records.{lasting, HoldFill, AllLent, AreNew, LastingLent, ScratchIsPoison, unplaced};
+ghost use Rattle.ialg.specs.Records.{lasting, AllLent, AreNew, LastingLent, ScratchIsPoison, unplaced};
 ghost use Rattle.ialg.specs.Meaning.{Done};
 ghost use Rattle.ialg.specs.Views.{answer_of};
 ghost use Rattle.ialg.specs.Loans.{lent_words, SameLoans};
 ghost use Rattle.test_kinds.specs.Primed.{is_primed, primed_fill, primed_records, KeepsWords, KeepsActive};
-ghost use Rattle.test_kinds.specs.Starts.{placed_records, held_words, HasStarted, IsActive};
+ghost use Rattle.test_kinds.specs.Starts.{placed_records, held_words, HasStarted, IsActive, HoldsFill};
 
 use crate::{ONCE, ONCE_BASE, Primed};
 use ialg::{
@@ -32,7 +32,7 @@ pub struct Active {
 /// Starts an instance in a host of the poison word `poison`, where its records hold nothing else.
 pub fn start_in_poison(poison: i16, once: i16) -> Option<Held>
     ensures keeps { MatchOption result ⊥ (λ held. HasStarted poison once held) }
-    ensures fill { IfSome result (λ held. HoldFill (primed_fill (poison ∷ once ∷ [])) placed_records (held_words held)) }
+    ensures fill { IfSome result (λ held. HoldsFill poison once held) }
 {
     let new = Held {
         object: [poison; OBJECT_WORDS],
@@ -46,7 +46,7 @@ pub fn start_in_poison(poison: i16, once: i16) -> Option<Held>
 /// equal parameters may share it.
 pub fn start_with_fill(poison: i16, once: i16) -> Option<Held>
     ensures keeps { MatchOption result ⊥ (λ held. HasStarted poison once held) }
-    ensures fill { IfSome result (λ held. HoldFill (primed_fill (poison ∷ once ∷ [])) placed_records (held_words held)) }
+    ensures fill { IfSome result (λ held. HoldsFill poison once held) }
 {
     let new = Held {
         object: [poison; OBJECT_WORDS],

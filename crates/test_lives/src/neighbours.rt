@@ -4,6 +4,7 @@ ghost use Rattle.ialg.specs.History.{History, with_samples};
 ghost use Rattle.record_loans.specs.Pieces.{SamePieces};
 ghost use Rattle.scratch_group.specs.Blocks.{BlocksArePoison, SameGroup};
 ghost use Rattle.lifecycle.specs.States.{Fits, IsLawful, IdleKeeps, SameInstance, all_outputs};
+ghost use Rattle.test_lives.specs.Blocks.{AreBlocks};
 
 use ialg::{BLOCK_SAMPLES, Block, Ialg};
 use lifecycle::Idle;
@@ -58,7 +59,7 @@ pub fn interleave<M: Ialg, N: Ialg>(
     requires second { Fits second.instance.table second.instance.own others.old group.old }
     requires empty { (out.old.items ≡ []) × (other.old.items ≡ []) × (more.old.items ≡ []) }
     requires some { (1 ≤ length before.now) × (1 ≤ length between.now) × (1 ≤ length after.now) }
-    requires within { (length before.now ≤ BLOCK_SAMPLES) × (length between.now ≤ BLOCK_SAMPLES) × (length after.now ≤ BLOCK_SAMPLES) }
+    requires within { AreBlocks before.now between.now after.now }
     ensures output { (h : History) → IsLawful M.law.meaning first.instance None
         → IdleKeeps M.law first.instance None shared.old h
         → all_outputs M.law.meaning first.instance (with_samples (with_samples h before.now) after.now)

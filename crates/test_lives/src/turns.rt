@@ -1,14 +1,14 @@
 //! Two instances of one table by turns.
 ghost use Rattle.std.specs.Prelude.{◌≡◌, ◌≢◌, ◌≤◌, ◌++◌, ℕ, [], length, IsSome, Some};
-ghost use Rattle.ialg.specs.declared.TheConstants.{BLOCK_SAMPLES};
 ghost use Rattle.ialg.specs.History.{History, with_samples};
 ghost use Rattle.lifecycle.specs.States.{IsLawful, all_outputs};
 ghost use Rattle.host_table.specs.declared.member.Member.{Member};
 ghost use Rattle.host_table.specs.Table.{slot_at, instance_of};
 ghost use Rattle.host_table.specs.Steps.{Ready, Stays, AreKept};
+ghost use Rattle.test_lives.specs.Blocks.{AreBlocks};
 
 use host_table::Tables;
-use ialg::{BLOCK_SAMPLES, Block, Ialg};
+use ialg::{Block, Ialg};
 
 /// The first instance is given two blocks, and between them the second is given one. What the first gives are the outputs of its own
 /// two blocks, under each poison word and under none.
@@ -29,7 +29,7 @@ pub fn take_turns<M: Ialg>(
     requires ready { Ready poison tables.old }
     requires empty { (out.old.items ≡ []) × (other.old.items ≡ []) × (more.old.items ≡ []) }
     requires some { (1 ≤ length before.now) × (1 ≤ length between.now) × (1 ≤ length after.now) }
-    requires within { (length before.now ≤ BLOCK_SAMPLES) × (length between.now ≤ BLOCK_SAMPLES) × (length after.now ≤ BLOCK_SAMPLES) }
+    requires within { AreBlocks before.now between.now after.now }
     ensures stays { Stays poison tables.old tables.new }
     ensures output { (histories : ℕ → History) (m : Member M)
         → AreKept M.law poison tables.old histories

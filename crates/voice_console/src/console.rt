@@ -1,9 +1,10 @@
 //! The console: how it is made.
-ghost use Rattle.std.specs.Prelude.{◌≡◌, ◌≤◌, ℕ, false, [], replicate, length};
+ghost use Rattle.std.specs.Prelude.{◌≡◌, ◌≤◌, ℕ, false, length};
 ghost use Rattle.host_spec.specs.State.{State};
 ghost use Rattle.voice_channel.specs.Hosts.{lives};
 ghost use Rattle.voice_channel.specs.Hosts as hosts;
 ghost use Rattle.voice_console.specs.Consoles.{Keeps, channels_of};
+ghost use Rattle.channel_spec.specs.Channels.{unchained};
 
 use ialg::{BLOCK_SAMPLES, Block, Ialg};
 use line_spec::PortWidths;
@@ -27,8 +28,7 @@ impl<M: Ialg> Console<M> {
         ensures host { result.channels.host ≡ host }
         ensures count { channels_of result ≡ count }
         ensures widths { result.widths ≡ widths }
-        ensures keeps { (state : State M) → hosts.Keeps M.law host state
-            → Keeps M.law result (record { host = state; chained = replicate count [] }) }
+        ensures keeps { (state : State M) → hosts.Keeps M.law host state → Keeps M.law result (unchained state count) }
     {
         Console {
             channels: Channels::new(host, count),
