@@ -5,7 +5,7 @@ ghost use Rattle.ialg.specs.History.{History};
 ghost use Rattle.lifecycle.specs.Moves.{restored, CanRestore, with_back, HasRoom};
 ghost use Rattle.host_table.specs.declared.member.Member.{Member};
 ghost use Rattle.host_table.specs.Table.{slot_at, group_at, own_of, instance_of, SameActivities};
-ghost use Rattle.host_shared.specs.Locations.{shared_at};
+ghost use Rattle.host_shared.specs.Locations.{owner_of, shared_at};
 ghost use Rattle.host_table.specs.Steps.{AreKept, AreConsistent, MembersStay, AllHistoriesStay};
 ghost use Rattle.host_table.specs.Frames.{InactiveGroupsStay, SameMembers};
 ghost use Rattle.host_moves.specs.Waiting.{own_set, all_but, all_from, holds_with, TablesThere, TablesBut, TablesWaiting, TablesWaitingBut};
@@ -56,10 +56,11 @@ pub fn tell<M: Ialg>(tables: &mut Tables<M>, i: u8, back: Option<(usize, Piece)>
     }
 }
 
-/// Calls algMoved of instance `j`, if it shares record `k` with its owner `i` or is the owner.
+/// Calls algMoved of instance `j`, which shares record `k` with its owner `i` or is the owner.
 fn call_moved_of_sharer<M: Ialg>(tables: &mut Tables<M>, i: u8, k: usize, j: u8)
     requires number { j < INSTANCES }
     requires record { k < TABLE_RECORDS }
+    requires shares { owner_of tables.old.sharing j k ≡ i }
     requires waiting { TablesWaiting (all_from (holds_with tables.old.sharing i k) j) tables.old.instances tables.old.sharing tables.old.groups }
     ensures waiting { TablesWaiting (all_from (holds_with tables.new.sharing i k) (j + 1)) tables.new.instances tables.new.sharing tables.new.groups }
     ensures inactive { InactiveGroupsStay tables.old.groups tables.new.groups }
@@ -67,7 +68,7 @@ fn call_moved_of_sharer<M: Ialg>(tables: &mut Tables<M>, i: u8, k: usize, j: u8)
     ensures activity { SameActivities tables.old.groups tables.new.groups }
     ensures keeps { AllHistoriesStay M.law tables.old tables.new }
 {
-    if tables.lives(j) && owner(&tables.sharing, j as usize, k) == i as usize {
+    if tables.lives(j) {
         tell(tables, j, None);
     }
 }
@@ -83,6 +84,8 @@ pub fn call_moved_of_sharers<M: Ialg>(tables: &mut Tables<M>, i: u8, k: usize)
     ensures keeps { AllHistoriesStay M.law tables.old tables.new }
 {
     for j in 0..INSTANCES {
-        call_moved_of_sharer(tables, i, k, j as u8);
+        if owner(&tables.sharing, j, k) == i as usize {
+            call_moved_of_sharer(tables, i, k, j as u8);
+        }
     }
 }

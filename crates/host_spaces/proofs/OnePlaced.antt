@@ -1,6 +1,6 @@
 -- One block more is placed.
 use Rattle.std.proofs.Common.{◌≡◌, ◌≢◌, ◌⊎◌, inl, inr, ℕ, zero, suc, ◌+◌, ◌<◌, ◌≤◌, ℤ, true, if◌then◌else◌, List, [], ◌∷◌, length, get_or, drop, Option, Some, None, Contains, refl, sym, ap, subst, ◌∙◌, arith}
-use Rattle.std.specs.Prelude.{Result, Ok, Err, IfOk}
+use Rattle.std.specs.Prelude.{Result, Ok, Err, OnOk}
 use Rattle.std.proofs.lemmas.Bool.{cases_eq, cases_lt}
 use Rattle.std.proofs.lemmas.List.Elements.{All-nil}
 use Rattle.std.proofs.Math.Seq.{drop-cons}
@@ -239,6 +239,6 @@ module _ (old mid new : Spaces) (word : Option ℤ) (k : ℕ) (wants : List (Opt
         ∙ same_blocks o space (λ here. others k w (omega arith) is here);
   }
 
-pub if_ok : (r : Result Granted Space) (P Q : Granted → Type 0) → ((made : Granted) → P made → Q made) → IfOk r P → IfOk r Q
-if_ok (Ok made) P Q f it = f made it
-if_ok (Err space) P Q f it = it
+pub on_ok : (r : Result (Unit {0}) Space) (P Q : Type 0) → (P → Q) → OnOk r P → OnOk r Q
+on_ok (Ok done) P Q f it = f it
+on_ok (Err space) P Q f it = it

@@ -68,6 +68,10 @@ count_in space (w ∷ ws) = one_in space w + count_in space ws
 abbrev pub AreApartWants : List (Option Wanted) → Type 0
 AreApartWants wants = (j l : ℕ) (v u : Wanted) → j < l → want_at wants j ≡ Some v → want_at wants l ≡ Some u → v.space ≡ u.space → v.owner ≢ u.owner
 
+-- no pieces
+abbrev pub none_granted : Granted
+none_granted = record { p0 = None; p1 = None; p2 = None; p3 = None; p4 = None; p5 = None; p6 = None }
+
 -- the piece that was placed for entry j
 abbrev pub slot_at : Granted → ℕ → Option Span
 slot_at made zero = made.p0

@@ -12,6 +12,7 @@ ghost use Rattle.host_map.specs.Creation.{all_placed, result_map, sharer_at, wan
 ghost use Rattle.host_spaces.specs.Pieces.{ArePlacedPieces, AreSharable, HasBlocks, HasRecords, IsNeeded, IsPoisoned, new_block, with_new};
 ghost use Rattle.host_spaces.specs.Wants.{block_need};
 
+use crate::granted::Granted;
 use crate::pieces::{Placement, as_placement};
 use crate::placing::place_from;
 use crate::spaces::Spaces;
@@ -51,10 +52,14 @@ impl Spaces {
         // it has four records at most
         let _records = table.records();
         let wants = wants(self, i, g, table, sharers, old);
-        let granted = match place_from(self, &wants, 0, poison) {
-            Ok(granted) => granted,
-            Err(space) => return Err(space),
-        };
+        let mut granted = Granted::none();
+        match place_from(self, &wants, 0, poison, &mut granted) {
+            Ok(()) => {}
+            Err(space) => {
+                granted.end_none();
+                return Err(space);
+            }
+        }
         Ok(as_placement(granted, table, &wants))
     }
 }

@@ -1,7 +1,7 @@
 //! The pieces that a creation places.
 ghost use Rattle.std.specs.Prelude.{◌≡◌, ◌<◌, ℕ, None, Some};
 ghost use Rattle.host_spaces.specs.declared.wants.TheConstants.{WANTS};
-ghost use Rattle.host_spaces.specs.Wants.{slot_at, with_slot};
+ghost use Rattle.host_spaces.specs.Wants.{none_granted, slot_at, with_slot};
 
 use crate::wants::WANTS;
 use space_raw::Piece;
@@ -20,7 +20,7 @@ pub(crate) struct Granted {
 impl Granted {
     // No pieces.
     pub(crate) fn none() -> Granted
-        ensures { result ≡ record { p0 = None; p1 = None; p2 = None; p3 = None; p4 = None; p5 = None; p6 = None } }
+        ensures { result ≡ none_granted }
     {
         Granted {
             p0: None,
@@ -48,9 +48,38 @@ impl Granted {
             5 => self.p5.replace(piece),
             _ => self.p6.replace(piece),
         };
-        match old {
-            Some(_piece) => unreachable!(),
-            None => {}
-        }
+        end_none(old);
+    }
+
+    // Ends it where it has no pieces.
+    pub(crate) fn end_none(self)
+        requires { self ≡ none_granted }
+    {
+        let Granted {
+            p0,
+            p1,
+            p2,
+            p3,
+            p4,
+            p5,
+            p6,
+        } = self;
+        end_none(p0);
+        end_none(p1);
+        end_none(p2);
+        end_none(p3);
+        end_none(p4);
+        end_none(p5);
+        end_none(p6);
+    }
+}
+
+// Ends a piece that isn't there.
+fn end_none(piece: Option<Piece>)
+    requires { piece ≡ None }
+{
+    match piece {
+        Some(_piece) => unreachable!(),
+        None => {}
     }
 }

@@ -1,5 +1,5 @@
 //! Places for all that is needed, or for nothing.
-ghost use Rattle.std.specs.Prelude.{◌≡◌, ◌≢◌, ℕ, ◌+◌, ◌<◌, ◌≤◌, length, drop, Some, IfOk, IfSome, IfNone, OnErr};
+ghost use Rattle.std.specs.Prelude.{◌≡◌, ◌≢◌, ℕ, ◌+◌, ◌<◌, ◌≤◌, length, drop, Some, IfSome, IfNone, OnOk, OnErr};
 ghost use Rattle.std.specs.Option.{option_map};
 ghost use Rattle.mem_rec.specs.declared.Space.{Space};
 ghost use Rattle.relocate.specs.Places.{least_place, placed_size};
@@ -12,7 +12,7 @@ ghost use Rattle.host_spaces.specs.declared.wants.TheConstants.{WANTS};
 ghost use Rattle.host_map.specs.declared.parts.Wanted.{Wanted};
 ghost use Rattle.host_spaces.specs.MemoryMap.{AreSameSpaces, map_of, sizes_of, space_in};
 ghost use Rattle.host_map.specs.Creation.{all_placed, result_map};
-ghost use Rattle.host_spaces.specs.Wants.{AreApartWants, IsGranted, IsWithinLimits, count_in, somes, want_at};
+ghost use Rattle.host_spaces.specs.Wants.{AreApartWants, IsGranted, IsWithinLimits, count_in, none_granted, somes, want_at};
 
 use crate::granted::Granted;
 use crate::spaces::Spaces;
@@ -42,38 +42,40 @@ fn place_filled(spaces: &mut Spaces, want: Wanted, poison: Option<i16>) -> Optio
     Some(piece)
 }
 
-// Places for what is wanted from entry `k` on, in this order; or the space of the first that has none, and then nothing has happened.
+// Places for what is wanted from entry `k` on, in this order; or the space of the first that has none, and then nothing has happened. The
+// pieces are put where the caller has room for them: given back by value they would be copied at each entry.
 pub(crate) fn place_from(
     spaces: &mut Spaces,
     wants: &[Option<Wanted>],
     k: usize,
     poison: Option<i16>,
-) -> Result<Granted, Space>
+    granted: &mut Granted,
+) -> Result<(), Space>
     requires seven { length wants.now ≡ WANTS }
     requires limits { (j : ℕ) (w : Wanted) → want_at wants.now j ≡ Some w → IsWithinLimits w }
     requires apart { AreApartWants wants.now }
     requires room { (space : Space) → length (space_in spaces.old space).blocks + count_in space (drop k wants.now) ≤ SPACE_BLOCKS }
+    requires none { granted.old ≡ none_granted }
     ensures exact { all_placed (sizes_of spaces.old) (map_of spaces.old) (somes (drop k wants.now)) ≡ result_map (λ _. map_of spaces.new) result }
-    ensures granted { IfOk result (IsGranted spaces.old spaces.new poison k wants.now) }
-    ensures refused { OnErr result (spaces.new ≡ spaces.old) }
+    ensures granted { OnOk result (IsGranted spaces.old spaces.new poison k wants.now granted.new) }
+    ensures refused { OnErr result ((spaces.new ≡ spaces.old) × (granted.new ≡ none_granted)) }
     ensures stays { AreSameSpaces spaces.old spaces.new }
 {
     if k >= wants.len() {
-        return Ok(Granted::none());
+        return Ok(());
     }
     let want = match wants[k] {
         Some(want) => want,
-        None => return place_from(spaces, wants, k + 1, poison),
+        None => return place_from(spaces, wants, k + 1, poison, granted),
     };
     let piece = match place_filled(spaces, want, poison) {
         Some(piece) => piece,
         None => return Err(want.space),
     };
-    match place_from(spaces, wants, k + 1, poison) {
-        Ok(granted) => {
-            let mut granted = granted;
+    match place_from(spaces, wants, k + 1, poison, granted) {
+        Ok(()) => {
             granted.put(k, piece);
-            Ok(granted)
+            Ok(())
         }
         Err(space) => {
             spaces.take_out(want.space, piece);

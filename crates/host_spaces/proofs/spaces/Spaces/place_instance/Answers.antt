@@ -42,12 +42,12 @@ returns-clause-exact c =
     ∙ c.in-Ok.ensures.exact
 
 -- what is known once it is placed
-granted : (c : After-as_placement) → IsGranted c.args.self.now c.place_from.new.spaces c.args.poison 0 (wants_of (sharer_at c.args.sharers.now) c.args.i c.args.g c.args.table.now c.args.old.now) c.in-Ok.granted
+granted : (c : After-as_placement) → IsGranted c.args.self.now c.place_from.new.spaces c.args.poison 0 (wants_of (sharer_at c.args.sharers.now) c.args.i c.args.g c.args.table.now c.args.old.now) c.place_from.new.granted
 granted c =
-    subst (λ (ws : List (Option Wanted)). IsGranted c.args.self.now c.place_from.new.spaces c.args.poison 0 ws c.in-Ok.granted) c.wants-wants.ensures.value c.in-Ok.ensures.granted
+    subst (λ (ws : List (Option Wanted)). IsGranted c.args.self.now c.place_from.new.spaces c.args.poison 0 ws c.place_from.new.granted) c.wants-wants.ensures.value c.in-Ok.ensures.granted
 
-made : (c : After-as_placement) → placement_of c.args.table.now (wants_of (sharer_at c.args.sharers.now) c.args.i c.args.g c.args.table.now c.args.old.now) c.in-Ok.granted ≡ c.as_placement.result
-made c = sym (c.as_placement.ensures ∙ ap (λ (ws : List (Option Wanted)). placement_of c.args.table.now ws c.in-Ok.granted) c.wants-wants.ensures.value)
+made : (c : After-as_placement) → placement_of c.args.table.now (wants_of (sharer_at c.args.sharers.now) c.args.i c.args.g c.args.table.now c.args.old.now) c.place_from.new.granted ≡ c.as_placement.result
+made c = sym (c.as_placement.ensures ∙ ap (λ (ws : List (Option Wanted)). placement_of c.args.table.now ws c.place_from.new.granted) c.wants-wants.ensures.value)
 
 none : (c : After-as_placement) (k : ℕ) (space : Space) → owned (Record c.args.i k) (space_in c.args.self.now space).blocks ≡ []
 none c k space = ap (owned (Record c.args.i k)) (sym (seen_blocks c.args.self.now space)) ∙ c.requires.records k space
@@ -55,29 +55,29 @@ none c k space = ap (owned (Record c.args.i k)) (sym (seen_blocks c.args.self.no
 pub returns-clause-pieces : goal.returns-clause-pieces
 returns-clause-pieces c =
     subst (λ (m : Placement). ArePlacedPieces c.args.self.now c.args.table.now (sharer_at c.args.sharers.now) m.own m.shared) (made c)
-    (pieces_made c.args.self.now c.place_from.new.spaces c.args.poison (sharer_at c.args.sharers.now) c.args.i c.args.g c.args.table.now c.args.old.now c.in-Ok.granted (granted c) c.requires.sharers c.records-records.ensures.table)
+    (pieces_made c.args.self.now c.place_from.new.spaces c.args.poison (sharer_at c.args.sharers.now) c.args.i c.args.g c.args.table.now c.args.old.now c.place_from.new.granted (granted c) c.requires.sharers c.records-records.ensures.table)
 
 pub returns-clause-records : goal.returns-clause-records
 returns-clause-records c =
     subst (λ (m : Placement). HasRecords (map_of c.place_from.new.spaces) c.args.i c.args.table.now m.own m.shared) (made c)
-    (records_made c.args.self.now c.place_from.new.spaces c.args.poison (sharer_at c.args.sharers.now) c.args.i c.args.g c.args.table.now c.args.old.now c.in-Ok.granted (granted c) (none c) c.records-records.ensures.table)
+    (records_made c.args.self.now c.place_from.new.spaces c.args.poison (sharer_at c.args.sharers.now) c.args.i c.args.g c.args.table.now c.args.old.now c.place_from.new.granted (granted c) (none c) c.records-records.ensures.table)
 
 pub returns-clause-needed : goal.returns-clause-needed
 returns-clause-needed c =
     λ space. subst (λ (m : Placement). IsNeeded (space_in c.args.self.now space).region (block_need c.args.table.now c.args.old.now space) (new_block m.blocks space)) (made c)
-    (needed_made c.args.self.now c.place_from.new.spaces c.args.poison (sharer_at c.args.sharers.now) c.args.i c.args.g c.args.table.now c.args.old.now c.in-Ok.granted (granted c) (none c) space)
+    (needed_made c.args.self.now c.place_from.new.spaces c.args.poison (sharer_at c.args.sharers.now) c.args.i c.args.g c.args.table.now c.args.old.now c.place_from.new.granted (granted c) (none c) space)
 
 pub returns-clause-blocks : goal.returns-clause-blocks
 returns-clause-blocks c =
     λ space. subst (λ (m : Placement). owned (Scratch c.args.g) (blocks_in (map_of c.place_from.new.spaces) space)
     ≡ with_new c.args.g (new_block m.blocks space) (owned (Scratch c.args.g) (blocks_in (map_of c.args.self.now) space))) (made c)
-    (blocks_made c.args.self.now c.place_from.new.spaces c.args.poison (sharer_at c.args.sharers.now) c.args.i c.args.g c.args.table.now c.args.old.now c.in-Ok.granted (granted c) (none c) space)
+    (blocks_made c.args.self.now c.place_from.new.spaces c.args.poison (sharer_at c.args.sharers.now) c.args.i c.args.g c.args.table.now c.args.old.now c.place_from.new.granted (granted c) (none c) space)
 
 pub returns-clause-others : goal.returns-clause-others
 returns-clause-others c =
-    others_made c.args.self.now c.place_from.new.spaces c.args.poison (sharer_at c.args.sharers.now) c.args.i c.args.g c.args.table.now c.args.old.now c.in-Ok.granted (granted c) (none c)
+    others_made c.args.self.now c.place_from.new.spaces c.args.poison (sharer_at c.args.sharers.now) c.args.i c.args.g c.args.table.now c.args.old.now c.place_from.new.granted (granted c) (none c)
 
 pub returns-clause-poison : goal.returns-clause-poison
 returns-clause-poison c =
     subst (λ (m : Placement). IsPoisoned c.args.poison m) (made c)
-    (poison_made c.args.self.now c.place_from.new.spaces c.args.poison (sharer_at c.args.sharers.now) c.args.i c.args.g c.args.table.now c.args.old.now c.in-Ok.granted (granted c) (none c))
+    (poison_made c.args.self.now c.place_from.new.spaces c.args.poison (sharer_at c.args.sharers.now) c.args.i c.args.g c.args.table.now c.args.old.now c.place_from.new.granted (granted c) (none c))
