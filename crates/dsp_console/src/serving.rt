@@ -8,7 +8,7 @@ ghost use Rattle.voice_console.specs.Hosts.{lives};
 ghost use Rattle.voice_console.specs.Hosts as hosts;
 ghost use Rattle.line_spec.specs.Widths.{widths_of};
 ghost use Rattle.console_spec.specs.Console.{console_machine, start};
-ghost use Rattle.script_server.specs.Runs.{AreReady, EndsWell, EndsByRead, EndsByWrite, IsHonest, IsUnused, known_of, octets_to_come, run_of};
+ghost use Rattle.script_server.specs.Runs.{Ready, EndsWell, EndsByRead, EndsByWrite, IsHonest, IsUnused, known_of, octets_to_come, run_of};
 ghost use Rattle.voice_console.specs.Consoles.{Keeps, channels_of, port_widths_of};
 ghost use Rattle.dsp_console.specs.Fresh.{fresh};
 ghost use Rattle.dsp_console.specs.Headline.{RunHeadline, RunSounds};
@@ -104,7 +104,7 @@ fn serve_console<M: Ialg + Named, S: PortIn, I: PortIn, O: PortOut, P: PortOut>(
     requires script { (S.source script.old).failed ≡ false }
     requires one { length inputs.old.items ≡ channels_of console.old }
     requires pairs { length outputs.old.items ≡ channels_of console.old }
-    requires ready { AreReady (map I.source inputs.old.items) (map O.sink outputs.old.items) (P.sink replies.old) }
+    requires ready { Ready I.source O.sink P.sink inputs.old.items outputs.old.items replies.old }
     ensures few { GivesWithin (SCRIPT_OCTETS + 1) (S.source script.old) (S.source script.new) }
     ensures used { IfErr result (λ fault. (fault ≡ Fault.Read) ⊎ (fault ≡ Fault.Write)) }
     ensures ok { IfOk result (λ summary. EndsWell (console_machine M.law.meaning M.named (port_widths_of console.old)) (run_of (fresh console.old (map I.source inputs.old.items)) (map I.source inputs.old.items)) summary.refused
@@ -155,7 +155,7 @@ pub fn run<M: Ialg + Named, S: PortIn, I: PortIn, O: PortOut, P: PortOut>(
     requires some { 1 ≤ length inputs.old.items }
     requires few { length inputs.old.items ≤ CHANNELS }
     requires pairs { length outputs.old.items ≡ length inputs.old.items }
-    requires ready { AreReady (map I.source inputs.old.items) (map O.sink outputs.old.items) (P.sink replies.old) }
+    requires ready { Ready I.source O.sink P.sink inputs.old.items outputs.old.items replies.old }
 
     // Over any list of commands: the headline.
     ensures headline { IsHonest (S.source script.old)

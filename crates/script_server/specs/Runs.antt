@@ -51,6 +51,15 @@ pub record AreReady (sources : List Source) (outputs : List Sink) (replies : Sin
   pub outs : All IsReadyOut outputs
   pub reply : IsReadyOut replies
 
+-- no port has failed, by what is known of each
+abbrev pub Ready : {I O P : Type 0} → (I → Source) → (O → Sink) → (P → Sink) → List I → List O → P → Type 0
+Ready source_of_input sink_of_output sink_of_replies inputs outputs replies =
+    AreReady (map source_of_input inputs) (map sink_of_output outputs) (sink_of_replies replies)
+
+-- an output or the replies failed
+abbrev pub OneFailed : {O P : Type 0} → (O → Sink) → (P → Sink) → List O → P → Type 0
+OneFailed sink_of_output sink_of_replies outputs replies = Any HasFailedOut (map sink_of_output outputs) ⊎ HasFailedOut (sink_of_replies replies)
+
 -- each port holds its octets of these more
 pub record Writes (order : List Octet) (outputs new_outputs : List Sink) (replies new_replies : Sink) : Type 0 where
   pub count : length new_outputs ≡ length outputs
@@ -63,6 +72,11 @@ pub record AllWait (outputs new_outputs : List Sink) (replies new_replies : Sink
   pub count : length new_outputs ≡ length outputs
   pub output : (channel : ℕ) → channel < length outputs → Waits (slice_index_or outputs channel no_sink) (slice_index_or new_outputs channel no_sink)
   pub reply : Waits replies new_replies
+
+-- neither an output nor the replies passed anything on
+abbrev pub NothingPassed : {O P : Type 0} → (O → Sink) → (P → Sink) → (outputs new_outputs : List O) → (replies new_replies : P) → Type 0
+NothingPassed sink_of_output sink_of_replies outputs new_outputs replies new_replies =
+    AllWait (map sink_of_output outputs) (map sink_of_output new_outputs) (sink_of_replies replies) (sink_of_replies new_replies)
 
 -- an output passed something on only after each of a lower number had passed all on, if it is honest
 abbrev pub InAscendingOrder : List Sink → List Sink → Type 0

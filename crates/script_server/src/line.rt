@@ -1,5 +1,5 @@
 //! Serves one line.
-ghost use Rattle.std.specs.Prelude.{◌≡◌, ◌<◌, ◌≤◌, ◌⊎◌, Bool, List, ℕ, [], true, false, map, length, Ok, All, Any, IfOk, IsOk, IsErrOf};
+ghost use Rattle.std.specs.Prelude.{◌≡◌, ◌<◌, ◌≤◌, Bool, List, ℕ, [], true, false, map, length, Ok, All, Any, IfOk, IsOk, IsErrOf};
 ghost use Rattle.std.specs.Result.{is_err};
 ghost use Rattle.octet_ports.specs.Ports.{Sink, Gives, Holds, Takes, TakesFirst, HasPassedAll, EndsWithin};
 ghost use Rattle.octet_ports.specs.Lines.{IsLine};
@@ -8,10 +8,11 @@ ghost use Rattle.line_spec.specs.Served.{FeedAnswer, LineAnswer};
 ghost use Rattle.line_spec.specs.Widths.{octet_count};
 ghost use Rattle.voice_script.specs.Replies.{reply_text};
 ghost use Rattle.voice_script.specs.ReplyViews.{reply_of};
-ghost use Rattle.script_server.specs.Runs.{StepsAt, no_source, no_sink, IsReadyIn, IsReadyOut, HasFailedIn, HasFailedOut, AreReady, Writes, AllWait, FailsWithin, run_of, InAscendingOrder};
+ghost use Rattle.script_server.specs.Runs.{StepsAt, no_source, no_sink, IsReadyIn, IsReadyOut, HasFailedIn, HasFailedOut, Writes, NothingPassed, OneFailed, Ready, FailsWithin, run_of, InAscendingOrder};
 ghost use Rattle.script_server.specs.LineRuns.{AreHonest, IsServed, IsCut, IsUnfed};
 
 use crate::serving::PortsFault;
+use arrayvec::ArrayVec;
 use host_map::Map;
 use ialg::{Params, Refusal, Words};
 use line_spec::{Ask, BLOCK_OCTETS, LineMachine};
@@ -26,6 +27,21 @@ pub(crate) struct Desk {
     pub(crate) map: Map,
     pub(crate) words: Words,
     pub(crate) buffers: Buffers,
+}
+
+impl Desk {
+    /// All of it is cleared.
+    pub(crate) fn new() -> Desk {
+        Desk {
+            parameters: Params::new(),
+            map: Map::new(),
+            words: Words::new(),
+            buffers: Buffers {
+                text: ArrayVec::new(),
+                block: [0; BLOCK_OCTETS],
+            },
+        }
+    }
 }
 
 /// Room for a reply's line, and for the octets of a feed, those that are read and then those that are given.
@@ -103,14 +119,14 @@ fn serve_feed<T: LineMachine, I: PortIn, O: PortOut, P: PortOut>(
     requires channel { IsReady T.takes_feeds T.channels machine.old channel }
     requires one { length inputs.old.items ≡ T.channels machine.old }
     requires pairs { length outputs.old.items ≡ T.channels machine.old }
-    requires ready { AreReady (map I.source inputs.old.items) (map O.sink outputs.old.items) (P.sink replies.old) }
+    requires ready { Ready I.source O.sink P.sink inputs.old.items outputs.old.items replies.old }
     ensures widths { T.widths machine.new ≡ T.widths machine.old }
     ensures inputs { IsOk result → length inputs.new.items ≡ T.channels machine.new }
     ensures outputs { IsOk result → length outputs.new.items ≡ T.channels machine.new }
-    ensures ready { IsOk result → AreReady (map I.source inputs.new.items) (map O.sink outputs.new.items) (P.sink replies.new) }
+    ensures ready { IsOk result → Ready I.source O.sink P.sink inputs.new.items outputs.new.items replies.new }
     ensures read { IsErrOf result PortsFault.Read → Any HasFailedIn (map I.source inputs.new.items) }
-    ensures write { IsErrOf result PortsFault.Write → Any HasFailedOut (map O.sink outputs.new.items) ⊎ HasFailedOut (P.sink replies.new) }
-    ensures waits { AllWait (map O.sink outputs.old.items) (map O.sink outputs.new.items) (P.sink replies.old) (P.sink replies.new) }
+    ensures write { IsErrOf result PortsFault.Write → OneFailed O.sink P.sink outputs.new.items replies.new }
+    ensures waits { NothingPassed O.sink P.sink outputs.old.items outputs.new.items replies.old replies.new }
     ensures served { IfOk result (λ refused. (s : T.State) (honest : ℕ → Bool) → T.keeps machine.old s → AreHonest honest (map I.source inputs.old.items)
         → IsServed (T.keeps machine.new) honest (FeedAnswer (T.machine (T.widths machine.old)) honest (run_of s (map I.source inputs.old.items)) channel (octet_count ((T.widths machine.old).input channel) samples.number)) refused
         (map I.source inputs.new.items) (map O.sink outputs.old.items) (map O.sink outputs.new.items) (P.sink replies.old) (P.sink replies.new)) }
@@ -145,7 +161,9 @@ fn serve_feed<T: LineMachine, I: PortIn, O: PortOut, P: PortOut>(
     }
 }
 
-/// Serves a line, and answers whether it was refused.
+/// Serves a line, and answers whether it was refused. Where it is inlined the compiler sees that the buffers and what a console keeps are apart, and
+/// makes plain copies of samples and their octets.
+#[inline(always)]
 pub(crate) fn serve_line<T: LineMachine, I: PortIn, O: PortOut, P: PortOut>(
     machine: &mut T,
     line: &[u8],
@@ -158,14 +176,14 @@ pub(crate) fn serve_line<T: LineMachine, I: PortIn, O: PortOut, P: PortOut>(
     requires short { length line.now ≤ LINE_OCTETS }
     requires one { length inputs.old.items ≡ T.channels machine.old }
     requires pairs { length outputs.old.items ≡ T.channels machine.old }
-    requires ready { AreReady (map I.source inputs.old.items) (map O.sink outputs.old.items) (P.sink replies.old) }
+    requires ready { Ready I.source O.sink P.sink inputs.old.items outputs.old.items replies.old }
     ensures widths { T.widths machine.new ≡ T.widths machine.old }
     ensures inputs { IsOk result → length inputs.new.items ≡ T.channels machine.new }
     ensures outputs { IsOk result → length outputs.new.items ≡ T.channels machine.new }
-    ensures ready { IsOk result → AreReady (map I.source inputs.new.items) (map O.sink outputs.new.items) (P.sink replies.new) }
+    ensures ready { IsOk result → Ready I.source O.sink P.sink inputs.new.items outputs.new.items replies.new }
     ensures read { IsErrOf result PortsFault.Read → Any HasFailedIn (map I.source inputs.new.items) }
-    ensures write { IsErrOf result PortsFault.Write → Any HasFailedOut (map O.sink outputs.new.items) ⊎ HasFailedOut (P.sink replies.new) }
-    ensures waits { AllWait (map O.sink outputs.old.items) (map O.sink outputs.new.items) (P.sink replies.old) (P.sink replies.new) }
+    ensures write { IsErrOf result PortsFault.Write → OneFailed O.sink P.sink outputs.new.items replies.new }
+    ensures waits { NothingPassed O.sink P.sink outputs.old.items outputs.new.items replies.old replies.new }
     ensures served { IfOk result (λ refused. (octets : List ℕ) (s : T.State) (honest : ℕ → Bool) → IsLine LINE_OCTETS line.now long octets → T.keeps machine.old s → AreHonest honest (map I.source inputs.old.items)
         → IsServed (T.keeps machine.new) honest (LineAnswer (T.machine (T.widths machine.old)) honest (run_of s (map I.source inputs.old.items)) octets) refused
         (map I.source inputs.new.items) (map O.sink outputs.old.items) (map O.sink outputs.new.items) (P.sink replies.old) (P.sink replies.new)) }

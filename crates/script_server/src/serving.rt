@@ -1,14 +1,12 @@
 //! Serves a script.
 ghost use Rattle.std.specs.Prelude.{◌≡◌, ◌+◌, false, map, length, IfOk, IsErrOf};
 ghost use Rattle.octet_ports.specs.Ports.{GivesWithin};
-ghost use Rattle.script_server.specs.Runs.{AreReady, AllWait, ServesAll, EndsWell, EndsByRead, EndsByWrite, known_of, run_of};
+ghost use Rattle.script_server.specs.Runs.{NothingPassed, Ready, ServesAll, EndsWell, EndsByRead, EndsByWrite, known_of, run_of};
 
 use crate::limits::SCRIPT_OCTETS;
-use crate::line::{Buffers, Desk, flush_outputs, serve_line};
+use crate::line::{Desk, flush_outputs, serve_line};
 use arrayvec::ArrayVec;
-use host_map::Map;
-use ialg::{Params, Words};
-use line_spec::{BLOCK_OCTETS, LineMachine};
+use line_spec::LineMachine;
 use octet_ports::{LineReader, PortIn, PortOut};
 use voice_script::LINE_OCTETS;
 
@@ -34,9 +32,9 @@ fn serve_script<T: LineMachine, S: PortIn, I: PortIn, O: PortOut, P: PortOut>(
     requires script { (S.source script.old).failed ≡ false }
     requires one { length inputs.old.items ≡ T.channels machine.old }
     requires pairs { length outputs.old.items ≡ T.channels machine.old }
-    requires ready { AreReady (map I.source inputs.old.items) (map O.sink outputs.old.items) (P.sink replies.old) }
+    requires ready { Ready I.source O.sink P.sink inputs.old.items outputs.old.items replies.old }
     ensures few { GivesWithin (SCRIPT_OCTETS + 1) (S.source script.old) (S.source script.new) }
-    ensures waits { AllWait (map O.sink outputs.old.items) (map O.sink outputs.new.items) (P.sink replies.old) (P.sink replies.new) }
+    ensures waits { NothingPassed O.sink P.sink outputs.old.items outputs.new.items replies.old replies.new }
     ensures ok { IfOk result (λ refused. ServesAll (T.machine (T.widths machine.old)) (run_of state (map I.source inputs.old.items)) refused
         (known_of S.source I.source O.sink P.sink script.old inputs.old.items outputs.old.items replies.old)
         (known_of S.source I.source O.sink P.sink script.new inputs.new.items outputs.new.items replies.new)) }
@@ -50,16 +48,16 @@ fn serve_script<T: LineMachine, S: PortIn, I: PortIn, O: PortOut, P: PortOut>(
     let mut reader = LineReader::new(SCRIPT_OCTETS);
     let mut refused: u64 = 0;
     let mut text: ArrayVec<u8, LINE_OCTETS> = ArrayVec::new();
-    let mut desk = Desk {
-        parameters: Params::new(),
-        map: Map::new(),
-        words: Words::new(),
-        buffers: Buffers {
-            text: ArrayVec::new(),
-            block: [0; BLOCK_OCTETS],
-        },
-    };
+    let mut desk = Desk::new();
     'lines: loop {
+        // Most lines are ahead whole, and are served where they stand.
+        if let Some(line) = reader.line_ahead(LINE_OCTETS) {
+            let count = line.len();
+            let is_refused = serve_line(machine, line, false, &mut desk, inputs, outputs, replies)?;
+            reader.pass_line(count);
+            refused += u64::from(is_refused);
+            continue 'lines;
+        }
         text.clear();
         let line = match reader.read_line(script, &mut text) {
             Ok(line) => line,
@@ -106,7 +104,7 @@ pub fn serve<T: LineMachine, S: PortIn, I: PortIn, O: PortOut, P: PortOut>(
     requires script { (S.source script.old).failed ≡ false }
     requires one { length inputs.old.items ≡ T.channels machine.old }
     requires pairs { length outputs.old.items ≡ T.channels machine.old }
-    requires ready { AreReady (map I.source inputs.old.items) (map O.sink outputs.old.items) (P.sink replies.old) }
+    requires ready { Ready I.source O.sink P.sink inputs.old.items outputs.old.items replies.old }
     ensures few { GivesWithin (SCRIPT_OCTETS + 1) (S.source script.old) (S.source script.new) }
     ensures ok { IfOk result (λ refused. EndsWell (T.machine (T.widths machine.old)) (run_of state (map I.source inputs.old.items)) refused
         (known_of S.source I.source O.sink P.sink script.old inputs.old.items outputs.old.items replies.old)

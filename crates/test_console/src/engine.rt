@@ -4,7 +4,7 @@ ghost use Rattle.line_spec.specs.Served.{held_by, order_of, refusals};
 ghost use Rattle.line_spec.specs.Widths.{widths_of};
 ghost use Rattle.console_spec.specs.Answers.{served};
 ghost use Rattle.host_spec.specs.Answers.{AreLawful};
-ghost use Rattle.script_server.specs.Runs.{AreReady, IsHonest, known_of};
+ghost use Rattle.script_server.specs.Runs.{IsHonest, Ready, known_of};
 ghost use Rattle.dsp_console.specs.Lawful.{ServesLawfully};
 ghost use Rattle.voice_set.specs.Voices.{voice_meaning, voice_named};
 ghost use Rattle.test_console.specs.declared.engine.TheConstants.{FULL};
@@ -807,7 +807,7 @@ fn run_lawfully<S: PortIn, I: PortIn, O: PortOut, P: PortOut>(
     requires some { 1 ≤ length inputs.old.items }
     requires few { length inputs.old.items ≤ CHANNELS }
     requires pairs { length outputs.old.items ≡ length inputs.old.items }
-    requires ready { AreReady (map I.source inputs.old.items) (map O.sink outputs.old.items) (P.sink replies.old) }
+    requires ready { Ready I.source O.sink P.sink inputs.old.items outputs.old.items replies.old }
     ensures { AreLawful voice_meaning config.poison → IsHonest (S.source script.old) → All IsHonest (map I.source inputs.old.items)
         → IfOk result (λ summary. ServesLawfully voice_meaning voice_named (widths_of config.in8 config.out8) config.sizes summary.refused
         (known_of S.source I.source O.sink P.sink script.old inputs.old.items outputs.old.items replies.old)

@@ -12,13 +12,14 @@ ghost use Rattle.voice_console.specs.Consoles.{channels_of, port_widths_of, Take
 
 use crate::Console;
 use crate::replies::{tell_done, tell_flag, tell_stat, tell_status};
-use ialg::{Ctl, Ialg, Params, Words};
+use ialg::{Ctl, Ialg, Params, Words, copied};
 use line_spec::Ask;
 use mem_rec::Space;
 use voice_channel::Map;
 use voice_script::{FeedSamples, Members, Reply};
 
 impl<M: Ialg> Console<M> {
+    #[inline(never)]
     pub(crate) fn create<'a>(&mut self, i: u8, kind: M, group: u8, parameters: &Params) -> Reply<'a>
         ensures channels { channels_of self.new ≡ channels_of self.old }
         ensures widths { self.new.widths ≡ self.old.widths }
@@ -27,13 +28,24 @@ impl<M: Ialg> Console<M> {
         tell_done(self.channels.create(i, kind, group, parameters))
     }
 
-    /// Puts the words that are answered in place of what `room` held.
+    /// Puts the words that are answered in place of what `room` held. It is a call of its own too.
+    #[inline(never)]
     pub(crate) fn control<'a>(&mut self, i: u8, control: &Ctl, room: &'a mut Words) -> Reply<'a>
         ensures channels { channels_of self.new ≡ channels_of self.old }
         ensures widths { self.new.widths ≡ self.old.widths }
         ensures asks { Serves M.law (Calls M.law.meaning (λ a. OfHost (Control i (control_of control.now) a)) (λ a. tells (told_by status_reply a))) (tells (reply_of result)) self.old self.new }
     {
         tell_status(self.channels.control(i, control), room)
+    }
+
+    /// Asks an instance to put these words into force. It is a call of its own, so that no other command clears room for them.
+    #[inline(never)]
+    pub(crate) fn set<'a>(&mut self, i: u8, words: &Params, room: &'a mut Words) -> Reply<'a>
+        ensures channels { channels_of self.new ≡ channels_of self.old }
+        ensures widths { self.new.widths ≡ self.old.widths }
+        ensures asks { Serves M.law (CommandAsks M.law.meaning (port_widths_of self.old) (script.Set i words.now.items)) (tells (reply_of result)) self.old self.new }
+    {
+        self.control(i, &Ctl::Set(copied(words.as_slice())), room)
     }
 
     pub(crate) fn delete<'a>(&mut self, i: u8) -> Reply<'a>

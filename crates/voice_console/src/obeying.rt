@@ -6,7 +6,7 @@ ghost use Rattle.console_spec.specs.Console.{CommandAsks};
 ghost use Rattle.voice_console.specs.Consoles.{channels_of, port_widths_of, TakesFeeds, Serves};
 
 use crate::Console;
-use ialg::{Ctl, Ialg, Words, copied};
+use ialg::{Ctl, Ialg, Words};
 use line_spec::Ask;
 use voice_channel::Map;
 use voice_script::Command;
@@ -32,9 +32,7 @@ impl<M: Ialg> Console<M> {
                 group,
                 parameters,
             } => Ask::Tell(self.create(instance, kind, group, parameters)),
-            Command::Set { instance, words } => {
-                Ask::Tell(self.control(instance, &Ctl::Set(copied(words.as_slice())), room))
-            }
+            Command::Set { instance, words } => Ask::Tell(self.set(instance, words, room)),
             Command::Reset { instance } => Ask::Tell(self.control(instance, &Ctl::Reset, room)),
             Command::Get { instance } => Ask::Tell(self.control(instance, &Ctl::Get, room)),
             Command::Delete { instance } => Ask::Tell(self.delete(instance)),

@@ -1,7 +1,8 @@
 -- What the clauses of private functions alone name: a line as it is cut, and words as they are read one by one.
-use Rattle.std.specs.Prelude.{◌≡◌, ℕ, Bool, true, false, List, [], ◌∷◌, ◌++◌, All, ℤ, pos, neg_ℤ, ◌≤ℤ◌, ◌<ℤ◌, Option, Some, None, Result, Ok, Err}
+use Rattle.std.specs.Prelude.{◌≡◌, ℕ, Bool, true, false, List, [], ◌∷◌, ◌++◌, All, ℤ, pos, neg_ℤ, ◌≤ℤ◌, ◌<ℤ◌, Option, Some, None, Result, Ok, Err, if◌then◌else◌}
+use Rattle.std.specs.List.{list_all}
 use Rattle.ialg.specs.declared.refusal.Refusal.{Refusal}
-use Rattle.ialg.specs.declared.refusal.Refusal.TheVariants.{Syntax}
+use Rattle.ialg.specs.declared.refusal.Refusal.TheVariants.{Range, Syntax}
 use Rattle.voice_script.specs.Script as script
 use Rattle.voice_script.specs.declared.words.Words.{Words}
 use Rattle.voice_script.specs.declared.limits.TheConstants.{GREATEST_MAGNITUDE}
@@ -42,3 +43,7 @@ kind_first named (w ∷ ws) = named_before (named w) ws
 abbrev pub at_end : List (List ℕ) → Result Unit Refusal
 at_end [] = Ok tt
 at_end (w ∷ ws) = Err Syntax
+
+-- why the words of a list of numbers aren't taken: one is no number, or else one is out of its range or there are too many
+abbrev pub why_unfit : List (List ℕ) → Refusal
+why_unfit ws = if list_all script.is_number ws then Range else Syntax

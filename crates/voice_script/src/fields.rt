@@ -1,8 +1,8 @@
 //! The words of a row, by what each stands for.
-ghost use Rattle.std.specs.Prelude.{◌≡◌, Ok, Err, true, false, ◌&&◌, ◌++◌, ◌∷◌, [], nat_lt, length, map, IfOk, IfErr, IsOk, is_ok, IsErr, if◌then◌else◌};
+ghost use Rattle.std.specs.Prelude.{◌≡◌, Ok, Err, true, false, ◌&&◌, ◌++◌, ◌∷◌, [], nat_lt, length, map, IfOk, IfErr, IsOk, is_ok, IsErr};
 ghost use Rattle.std.specs.List.{list_all};
 ghost use Rattle.voice_script.specs.Script.{is_number, value_of, natural, fits_byte, fits_word, fit_words, fit_members, only_number, only_space, space_named};
-ghost use Rattle.voice_script.specs.Readings.{begins_with_number, kind_first, at_end, to_come};
+ghost use Rattle.voice_script.specs.Readings.{begins_with_number, kind_first, at_end, to_come, why_unfit};
 ghost use Rattle.voice_script.specs.declared.limits.TheConstants.{MEMBERS};
 
 use crate::members::MemberNumbers;
@@ -80,7 +80,7 @@ impl<'a> Words<'a> {
     pub(crate) fn parameters(self, room: &mut Params) -> Result<(), Refusal>
         ensures fits { is_ok result ≡ (list_all is_number (to_come self.entry) && fit_words (to_come self.entry)) }
         ensures value { IsOk result → room.new.items ≡ map value_of (to_come self.entry) }
-        ensures refusal { IfErr result (λ refusal. refusal ≡ (if list_all is_number (to_come self.entry) then Refusal.Range else Refusal.Syntax)) }
+        ensures refusal { IfErr result (λ refusal. refusal ≡ why_unfit (to_come self.entry)) }
     {
         room.clear();
         let mut fit = true;
@@ -98,7 +98,7 @@ impl<'a> Words<'a> {
     pub(crate) fn members(self) -> Result<MemberNumbers, Refusal>
         ensures fits { is_ok result ≡ (list_all is_number (to_come self.entry) && fit_members (to_come self.entry)) }
         ensures value { IfOk result (λ members. members.items ≡ map natural (to_come self.entry)) }
-        ensures refusal { IfErr result (λ refusal. refusal ≡ (if list_all is_number (to_come self.entry) then Refusal.Range else Refusal.Syntax)) }
+        ensures refusal { IfErr result (λ refusal. refusal ≡ why_unfit (to_come self.entry)) }
     {
         let mut members = ArrayVec::new();
         let mut fit = true;

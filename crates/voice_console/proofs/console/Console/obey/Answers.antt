@@ -1,5 +1,4 @@
-use Rattle.std.proofs.Common.{◌∙◌, ap, sym}
-use Rattle.voice_script.specs.Script as script
+use Rattle.std.proofs.Common.{ap, sym}
 use Rattle.voice_script.specs.Commands.{command_of}
 use Rattle.voice_console.specs.Consoles.{port_widths_of}
 use Rattle.voice_console.proofs.Served.{obeyed}
@@ -11,12 +10,11 @@ returns-in-Create-clause-asks g c =
 
 pub returns-in-Set-clause-asks : goal.returns-in-Set-clause-asks
 returns-in-Set-clause-asks g c =
-    obeyed g.M.Ialg.law (port_widths_of c.args.self.now) _ _ _ _ _
-    (ap (λ words. script.Set c.in-Set.instance words) (c.copied.ensures ∙ c.as_slice.ensures.value) ∙ ap command_of (sym c.in-Set.is)) c.control.ensures.asks
+    obeyed g.M.Ialg.law (port_widths_of c.args.self.now) _ _ _ _ _ (ap command_of (sym c.in-Set.is)) c.set.ensures.asks
 
 pub returns-in-Reset-clause-asks : goal.returns-in-Reset-clause-asks
 returns-in-Reset-clause-asks g c =
-    obeyed g.M.Ialg.law (port_widths_of c.args.self.now) _ _ _ _ _ (ap command_of (sym c.in-Reset.is)) c.control-in-Reset.ensures.asks
+    obeyed g.M.Ialg.law (port_widths_of c.args.self.now) _ _ _ _ _ (ap command_of (sym c.in-Reset.is)) c.control.ensures.asks
 
 pub returns-in-Get-clause-asks : goal.returns-in-Get-clause-asks
 returns-in-Get-clause-asks g c =
