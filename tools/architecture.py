@@ -30,7 +30,7 @@ LAYERS: tuple[tuple[str, str], ...] = (
     ("engine", r"dsp_console|voice_console|script_server|port_journal|octet_ports"),
     ("channels", r"voice_channel"),
     ("host", r"alg_host|host_(?:create|delete)"),
-    ("instances of a host", r"host_(?:table|life|shared|moves|spaces|refines)"),
+    ("instances of a host", r"host_(?:table|shared|moves|spaces)"),
     ("specification", r"\w+_spec|run_theorem"),
     ("script", r"voice_script"),
     ("one instance", r"lifecycle|scratch_group|record_loans"),

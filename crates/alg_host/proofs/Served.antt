@@ -14,8 +14,8 @@ use Rattle.host_map.specs.Creation.{created_map}
 use Rattle.host_spec.specs.State.{Living, State, sharers_of}
 use Rattle.host_spec.specs.Steps.{Outcome, unless, control_refusal, controlled, given, processed, release, group_refusal, step, moving, delete, instance_refusal, without_instance, create_refusal, newborn, with_memory, with_room}
 use Rattle.host_spec.specs.Calls.{Controls, Creates}
-use Rattle.host_refines.specs.Kept.{KeepsState}
-use Rattle.host_refines.specs.Hosts.{Refines}
+use Rattle.host_moves.specs.Kept.{KeepsState}
+use Rattle.host_moves.specs.Hosts.{Refines}
 use Rattle.host_table.specs.View.{View}
 
 -- the same memory map in the same spaces

@@ -7,8 +7,8 @@ use Rattle.host_spaces.specs.declared.spaces.Spaces.{Spaces}
 use Rattle.host_spec.specs.State.{State}
 use Rattle.host_spec.specs.Calls.{Call, Does}
 use Rattle.host_moves.specs.Standing.{AreSound}
-use Rattle.host_refines.specs.Hosts.{Refines}
-pub use Rattle.host_refines.specs.Kept.{stat_told}
+use Rattle.host_moves.specs.Hosts.{Refines}
+pub use Rattle.host_moves.specs.Kept.{stat_told}
 
 -- the tables, the three spaces, and the poison word, if there is one
 pub record HostState (M : Type 0) : Type 0 where

@@ -5,7 +5,7 @@ use Rattle.ialg.specs.Views.{control_of}
 use Rattle.ialg.specs.declared.refusal.Refusal.TheVariants.{Range}
 use Rattle.ialg.specs.Meaning.{Meaning}
 use Rattle.ialg.specs.Laws.{Laws}
-use Rattle.host_refines.specs.Kept.{told}
+use Rattle.host_moves.specs.Kept.{told}
 use Rattle.host_spec.specs.State.{State, Living}
 use Rattle.host_spec.specs.Choices.{IsLawful}
 use Rattle.host_spec.specs.Calls as calls

@@ -2,7 +2,7 @@
 ghost use Rattle.std.specs.Prelude.{◌≡◌, ◌≤◌, true, [], length, OnErr};
 ghost use Rattle.ialg.specs.Views.{control_of};
 ghost use Rattle.host_spec.specs.Calls.Call.{Control, Process, Lives};
-ghost use Rattle.host_refines.specs.Kept.{told};
+ghost use Rattle.host_moves.specs.Kept.{told};
 ghost use Rattle.alg_host.specs.Hosts.{lives, Serves};
 
 use crate::Host;

@@ -1,7 +1,7 @@
 //! Groups: their active member, and how often one was activated.
 ghost use Rattle.std.specs.Prelude.{◌≡◌, OnErr};
 ghost use Rattle.host_spec.specs.Calls.Call.{Release, Stat as StatCall};
-ghost use Rattle.host_refines.specs.Kept.{stat_told};
+ghost use Rattle.host_moves.specs.Kept.{stat_told};
 ghost use Rattle.alg_host.specs.Hosts.{Serves};
 
 use crate::Host;

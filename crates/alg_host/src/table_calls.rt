@@ -7,7 +7,7 @@ ghost use Rattle.host_spec.specs.State.{State};
 ghost use Rattle.host_spec.specs.Calls.{Processes, Controls, Does};
 ghost use Rattle.host_spec.specs.Calls.Call.{Release, Stat as StatCall};
 ghost use Rattle.host_spec.specs.Steps.{processed};
-ghost use Rattle.host_refines.specs.Kept.{KeepsState, told, stat_told};
+ghost use Rattle.host_moves.specs.Kept.{KeepsState, told, stat_told};
 
 use host_map::Stat;
 use host_table::Tables;

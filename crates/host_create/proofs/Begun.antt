@@ -26,12 +26,12 @@ use Rattle.host_shared.specs.Locations.{location_at, locations_at, owner_of, sha
 use Rattle.host_shared.specs.Owners.{IsSameLocation}
 use Rattle.host_table.specs.Table.{slot_at, group_at, instance_of, active_in, is_member_of, AreHeld, TablesOk}
 use Rattle.host_map.specs.Sharers.{Asked, asked, sharer_of}
-use Rattle.host_life.specs.Sharers.{asked_by, AreLeastSharers, AreTogether}
+use Rattle.host_table.specs.Sharers.{asked_by, AreLeastSharers, AreTogether}
 use Rattle.host_shared.specs.Joining.{sharer_at, pieces_joined, location_joined}
 use Rattle.host_shared.specs.Sharing.{AreLeast}
 use Rattle.host_table.specs.Frames.{IsIdle, IsStarted, OthersStay}
-use Rattle.host_life.proofs.Sharing.{IsLeastSharer}
-use Rattle.host_life.proofs.Shared.{tells_sharer, sharer_at_owner}
+use Rattle.host_table.proofs.Sharing.{IsLeastSharer}
+use Rattle.host_table.proofs.Shared.{tells_sharer, sharer_at_owner}
 use Rattle.host_map.specs.declared.placed.Owner.{Owner}
 use Rattle.host_map.specs.declared.placed.Owner.TheVariants.{Record}
 use Rattle.host_map.specs.Blocks.{owned, renamed_blocks}

@@ -24,13 +24,13 @@ use Rattle.host_spaces.specs.MemoryMap.{AreSameSpaces, copied_in, map_of, sizes_
 use Rattle.host_map.specs.MemoryMap.{MemoryMap}
 use Rattle.host_moves.proofs.OwnMoves.{same_sizes}
 use Rattle.host_map.specs.Sharers.{asked, sharer_of}
-use Rattle.host_life.specs.Sharers.{asked_by}
+use Rattle.host_table.specs.Sharers.{asked_by}
 use Rattle.host_spec.specs.State.{Living, State, sharers_of, with_living}
 use Rattle.host_moves.proofs.SharersKept.{sharers_same}
 use Rattle.host_spec.specs.Choices.{MayAsk}
 use Rattle.host_spec.specs.Steps.{activity_after_create, created, newborn}
-use Rattle.host_refines.specs.Kept.{IsLiving, history_of}
-use Rattle.host_refines.specs.Hosts.{HostKeeps}
+use Rattle.host_moves.specs.Kept.{IsLiving, history_of}
+use Rattle.host_moves.specs.Hosts.{HostKeeps}
 use Rattle.host_moves.proofs.MovesKept.{still_living}
 use Rattle.host_create.specs.Growth.{activity_grown}
 use Rattle.host_create.specs.Started.{IsNewborn, OthersAreSame}

@@ -32,8 +32,8 @@ use Rattle.host_table.specs.declared.member.Member.{Member}
 use Rattle.host_shared.specs.declared.locations.Locations.{Locations}
 use Rattle.host_shared.specs.Locations.{location_at, locations_at, owner_of, shared_at}
 use Rattle.host_table.specs.Table.{slot_at, group_at, instance_of, AreHeld}
-use Rattle.host_life.proofs.Leasts.{least_stays, together_members}
-use Rattle.host_life.proofs.Together.{owner_lives}
+use Rattle.host_table.proofs.Leasts.{least_stays, together_members}
+use Rattle.host_table.proofs.Together.{owner_lives}
 use Rattle.host_moves.proofs.Sharing.{owner_same}
 use Rattle.host_table.specs.Frames.{IsSameMember, SameMembers}
 use Rattle.host_moves.specs.Standing.{IsPieceThere, IsOf, AreOrdered, table_of}

@@ -33,8 +33,8 @@ use Rattle.host_shared.specs.Owners.{IsSameLocation}
 use Rattle.host_table.specs.Table.{slot_at, group_at, instance_of, unbased, AreHeld}
 use Rattle.host_shared.specs.Joining.{sharer_at, piece_joined, pieces_joined, location_joined}
 use Rattle.host_table.proofs.Held.{owners_of_held}
-use Rattle.host_life.proofs.Sharing.{IsLeastSharer}
-use Rattle.host_life.proofs.Together.{owner_lives}
+use Rattle.host_table.proofs.Sharing.{IsLeastSharer}
+use Rattle.host_table.proofs.Together.{owner_lives}
 use Rattle.host_moves.proofs.Sharing.{owner_same, ltb_tells, not_equal}
 use Rattle.host_moves.specs.Standing.{IsPieceThere, table_of}
 use Rattle.host_moves.proofs.Owners.{owner_record, no_record, renamed_record}

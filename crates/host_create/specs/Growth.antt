@@ -11,7 +11,7 @@ use Rattle.host_shared.specs.Locations.{owner_of, shared_at, no_pieces}
 use Rattle.host_table.specs.Table.{slot_at, group_at, instance_of, is_member_of, activity_at}
 use Rattle.host_map.specs.Activity.{Activity, deactivated, with_activity}
 use Rattle.host_shared.specs.Sharing.{AreLeast}
-use Rattle.host_life.specs.Sharers.{AreTogether}
+use Rattle.host_table.specs.Sharers.{AreTogether}
 use Rattle.host_map.specs.declared.placed.Owner.TheVariants.{Record, Scratch}
 use Rattle.host_map.specs.Blocks.{owned}
 use Rattle.host_spaces.specs.declared.pieces.NewBlocks.{NewBlocks}

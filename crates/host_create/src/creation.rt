@@ -8,13 +8,12 @@ ghost use Rattle.host_spec.specs.Calls.{Does};
 ghost use Rattle.host_spec.specs.Calls.Call.{Create};
 ghost use Rattle.host_table.specs.Steps.{AreConsistent};
 ghost use Rattle.host_moves.specs.Standing.{MapAgrees};
-ghost use Rattle.host_refines.specs.Hosts.{Refines};
+ghost use Rattle.host_moves.specs.Hosts.{Refines};
 
 use crate::starting::start_in_spaces;
-use host_life::NewInstance;
 use host_spaces::Spaces;
 use host_spec::creations_answer_in_order;
-use host_table::Tables;
+use host_table::{NewInstance, Tables};
 use ialg::{Ialg, Params, Refusal, copied};
 use mem_rec::{GROUPS, INSTANCES, MemTab};
 

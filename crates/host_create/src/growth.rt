@@ -21,10 +21,9 @@ ghost use Rattle.host_create.specs.Growth.{ArePlaced, AreGrown, activity_grown};
 ghost use Rattle.host_table.specs.Steps.{AreConsistent, MembersStay, HistoriesStay, AllHistoriesStay};
 
 use crate::blocks::{put_new_blocks, replaces_any};
-use host_life::call_moved_in_group;
 use host_moves::in_order;
 use host_spaces::{NewBlocks, Spaces};
-use host_table::Tables;
+use host_table::{Tables, call_moved_in_group};
 use ialg::Ialg;
 use scratch_group::Group;
 

@@ -4,13 +4,12 @@ ghost use Rattle.host_map.specs.MemoryMap.{AreSizes};
 ghost use Rattle.host_table.specs.Table.{slot_at, ArePoisoned};
 ghost use Rattle.host_table.specs.Steps.{AreConsistent};
 ghost use Rattle.host_moves.specs.Standing.{MapAgrees};
-ghost use Rattle.host_refines.specs.Hosts.{Refines};
+ghost use Rattle.host_moves.specs.Hosts.{Refines};
 ghost use Rattle.host_spec.specs.State.{new_state};
 
-use host_life::EmptyTables;
 use host_map::Sizes;
 use host_spaces::{EmptySpaces, Spaces, StartError};
-use host_table::Tables;
+use host_table::{EmptyTables, Tables};
 use ialg::Ialg;
 use std::alloc::{Allocator, Global};
 

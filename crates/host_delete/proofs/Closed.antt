@@ -32,7 +32,7 @@ use Rattle.host_spec.specs.Steps.{Outcome, closed, delete}
 use Rattle.host_spec.proofs.CallLemmas.{delete_keeps}
 use Rattle.host_moves.specs.Standing.{AgreeWithMap, SlotIsSame}
 use Rattle.host_moves.proofs.Rooms.{compare}
-use Rattle.host_refines.specs.Hosts.{HostKeeps}
+use Rattle.host_moves.specs.Hosts.{HostKeeps}
 
 -- ---- the state in which the first n instances are deleted
 

@@ -18,12 +18,12 @@ use Rattle.host_map.specs.Creation.{deleted_map}
 use Rattle.host_spec.specs.State.{Living, State, asked_of, has_member, is_of_group, sharers_of, with_living}
 use Rattle.host_spec.specs.Steps.{Outcome, delete, without_instance}
 use Rattle.host_spec.proofs.OutcomeLemmas.{delete_granted}
-use Rattle.host_refines.specs.Kept.{IsLiving, history_of}
-use Rattle.host_refines.proofs.KeptLemmas.{Found, found}
-use Rattle.host_refines.specs.Hosts.{HostKeeps}
+use Rattle.host_moves.specs.Kept.{IsLiving, history_of}
+use Rattle.host_moves.proofs.KeptLemmas.{Found, found}
+use Rattle.host_moves.specs.Hosts.{HostKeeps}
 use Rattle.host_moves.proofs.MovesKept.{still_living}
 use Rattle.host_map.specs.Sharers.{Asked}
-use Rattle.host_life.specs.Sharers.{asked_by}
+use Rattle.host_table.specs.Sharers.{asked_by}
 use Rattle.std.specs.Option.{option_map}
 use Rattle.host_moves.proofs.SharersKept.{asked_same, sharers_same}
 use Rattle.host_delete.specs.Ends.{HasEnded, has_members, sharers_among}

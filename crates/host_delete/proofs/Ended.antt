@@ -20,7 +20,7 @@ use Rattle.host_shared.specs.declared.locations.Locations.{Locations}
 use Rattle.host_shared.specs.Locations.{owner_of, shared_at}
 use Rattle.host_shared.specs.Sharing.{next_sharer}
 use Rattle.host_table.specs.Table.{slot_at, group_at, instance_of}
-use Rattle.host_life.specs.Sharers.{asked_by}
+use Rattle.host_table.specs.Sharers.{asked_by}
 use Rattle.host_moves.specs.Standing.{AgreeWithMap, table_of}
 use Rattle.host_moves.proofs.Owners.{own_owner}
 use Rattle.host_moves.proofs.OwnMoves.{same_sizes}

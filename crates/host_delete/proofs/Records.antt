@@ -31,7 +31,7 @@ use Rattle.host_shared.specs.Locations.{location_at, locations_at, owner_of, sha
 use Rattle.host_shared.specs.Owners.{IsSameLocation}
 use Rattle.host_shared.specs.Sharing.{next_sharer, left_with, location_without, AreLeast}
 use Rattle.host_table.specs.Table.{slot_at, AreHeld, group_at, group_of, own_of, instance_of, is_member_of}
-use Rattle.host_life.specs.Sharers.{AreTogether}
+use Rattle.host_table.specs.Sharers.{AreTogether}
 use Rattle.host_table.specs.Frames.{IsSameMember, OthersSame}
 use Rattle.host_moves.specs.Standing.{IsPieceThere, AgreeWithMap, SlotIsSame, table_of}
 use Rattle.host_moves.proofs.Owners.{alike_same, owner_stays, slot_of_same, slot_same, before, none_before, member_before, pieces_none, is_of_same, none_same, align_same}

@@ -8,7 +8,7 @@ use Rattle.host_table.specs.declared.member.Member.{Member}
 use Rattle.host_shared.specs.declared.locations.Locations.{Locations}
 use Rattle.host_table.specs.Table.{slot_at, group_of, is_member_of, deactivated_by, TablesOk, ArePoisoned, ActivitiesAre}
 use Rattle.host_map.specs.Sharers.{Asked, sharer_of}
-use Rattle.host_life.specs.Sharers.{asked_by}
+use Rattle.host_table.specs.Sharers.{asked_by}
 use Rattle.host_table.specs.Keeps.{Keeps}
 use Rattle.host_spaces.specs.declared.spaces.Spaces.{Spaces}
 use Rattle.host_spaces.specs.MemoryMap.{copied_in, map_of, sizes_of}

@@ -9,7 +9,7 @@ use Rattle.host_shared.specs.declared.locations.Locations.{Locations}
 use Rattle.host_shared.specs.Locations.{owner_of, shared_at, no_pieces}
 use Rattle.host_table.specs.Table.{slot_at, group_at, instance_of, is_member_of}
 use Rattle.host_shared.specs.Sharing.{AreLeast}
-use Rattle.host_life.specs.Sharers.{AreTogether}
+use Rattle.host_table.specs.Sharers.{AreTogether}
 use Rattle.host_map.specs.declared.placed.Owner.TheVariants.{Record}
 use Rattle.host_map.specs.Blocks.{owned}
 use Rattle.host_spaces.specs.declared.spaces.Spaces.{Spaces}

@@ -7,12 +7,11 @@ ghost use Rattle.host_spec.specs.State.{State};
 ghost use Rattle.host_spec.specs.Steps.{closed};
 ghost use Rattle.host_table.specs.Steps.{AreConsistent};
 ghost use Rattle.host_moves.specs.Standing.{MapAgrees};
-ghost use Rattle.host_refines.specs.Hosts.{Refines};
+ghost use Rattle.host_moves.specs.Hosts.{Refines};
 
 use crate::deletions::delete;
-use host_life::end_tables;
 use host_spaces::Spaces;
-use host_table::Tables;
+use host_table::{Tables, end_tables};
 use ialg::Ialg;
 use mem_rec::INSTANCES;
 

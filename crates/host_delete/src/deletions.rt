@@ -6,7 +6,7 @@ ghost use Rattle.host_spec.specs.Calls.{Does};
 ghost use Rattle.host_spec.specs.Calls.Call.{Delete};
 ghost use Rattle.host_moves.specs.Standing.{MapAgrees};
 ghost use Rattle.host_table.specs.Steps.{AreConsistent};
-ghost use Rattle.host_refines.specs.Hosts.{Refines};
+ghost use Rattle.host_moves.specs.Hosts.{Refines};
 ghost use Rattle.host_delete.specs.Ends.{OtherSlotsSame};
 
 use crate::ends::end_instance;

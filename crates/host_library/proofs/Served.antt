@@ -5,7 +5,7 @@ use Rattle.ialg.specs.declared.refusal.Refusal.{Refusal}
 use Rattle.ialg.specs.declared.control.Status.{Status}
 use Rattle.ialg.specs.Views.{answer_of}
 use Rattle.ialg.specs.Meaning as meaning
-use Rattle.host_refines.specs.Kept.{told}
+use Rattle.host_moves.specs.Kept.{told}
 use Rattle.gateway_kinds.specs.Kinds.{Kind}
 use Rattle.channel_spec.specs.Calls.{Call}
 use Rattle.voice_channel.specs.Channels.{ChannelsState}

@@ -22,7 +22,7 @@ use Rattle.host_spec.specs.State.{State}
 use Rattle.host_spec.specs.Steps.{moving, step, compact}
 use Rattle.host_spec.specs.Laws.{IsSteps}
 use Rattle.host_spec.proofs.CompactLemmas.{steps_compact}
-use Rattle.host_refines.specs.Hosts.{HostKeeps}
+use Rattle.host_moves.specs.Hosts.{HostKeeps}
 use Rattle.ialg.specs.Laws.{Laws}
 
 -- ---- how many blocks are not at their packed places

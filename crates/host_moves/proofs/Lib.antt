@@ -18,3 +18,4 @@ pub mod SharersKept
 pub mod MovesKept
 pub mod Places
 pub mod Compactions
+pub mod KeptLemmas

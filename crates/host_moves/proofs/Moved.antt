@@ -34,7 +34,7 @@ use Rattle.host_shared.specs.Owners.{AllHaveOwners}
 use Rattle.host_table.specs.Table.{slot_at, group_at, AreBare, instance_of, is_member_of}
 use Rattle.host_shared.proofs.Lent.{no_location, seen_at}
 use Rattle.host_table.proofs.Held.{IsSameSharer}
-use Rattle.host_life.proofs.Together.{together_by_owners}
+use Rattle.host_table.proofs.Together.{together_by_owners}
 use Rattle.host_moves.specs.Waiting.{inst_with, slot_with, own_set, holds_with, slid_to}
 use Rattle.host_moves.proofs.Owns.{own_set_same, own_set_other}
 use Rattle.host_moves.proofs.Sharing.{not_equal}

@@ -17,8 +17,8 @@ use Rattle.host_moves.specs.Standing.{SlotIsSame}
 use Rattle.host_moves.specs.Moves.{HasMoved}
 use Rattle.host_spec.specs.State.{Living, State}
 use Rattle.host_spec.specs.Steps.{more_copied, moving, step}
-use Rattle.host_refines.specs.Kept.{IsLiving}
-use Rattle.host_refines.specs.Hosts.{HostKeeps}
+use Rattle.host_moves.specs.Kept.{IsLiving}
+use Rattle.host_moves.specs.Hosts.{HostKeeps}
 
 pub still_living : {M : Type 0} (slot slot' : Option (Member M)) (living : Option (Living M)) → SlotIsSame slot slot' → IsLiving slot living → IsLiving slot' living
 still_living None slot' living same is = subst (λ s. IsLiving s living) (sym same) is

@@ -7,9 +7,9 @@ use Rattle.std.specs.Prelude.{ℤ}
 use Rattle.host_table.specs.declared.member.Member.{Member}
 use Rattle.host_table.specs.Table.{slot_at, instance_of}
 use Rattle.host_map.specs.Sharers.{Asked, sharer_of}
-use Rattle.host_life.specs.Sharers.{asked_by}
+use Rattle.host_table.specs.Sharers.{asked_by}
 use Rattle.host_spec.specs.State.{Living, asked_of}
-use Rattle.host_refines.specs.Kept.{IsLiving}
+use Rattle.host_moves.specs.Kept.{IsLiving}
 
 asked_alike : {M : Type 0} (a b : M) (p q : List ℤ) (rs ts : List MemRec) → a ≡ b → p ≡ q → rs ≡ ts
     → (let x : Asked M = record { kind = a; params = p; table = rs } in x) ≡ (let y : Asked M = record { kind = b; params = q; table = ts } in y)

@@ -26,8 +26,8 @@ use Rattle.host_table.specs.Frames.{SameMember, SameMembers}
 use Rattle.host_table.proofs.Housing.{same_blocks}
 use Rattle.host_table.proofs.Held.{owners_of_held}
 use Rattle.host_table.proofs.Changes.{tables_by_change, keeps_after_change, blocks_stay, pieces_stay}
-use Rattle.host_life.proofs.Idles.{tables_by_quiet, keeps_after_end}
-use Rattle.host_life.proofs.Told.{members_after, members_after_quiet}
+use Rattle.host_table.proofs.Idles.{tables_by_quiet, keeps_after_end}
+use Rattle.host_table.proofs.Told.{members_after, members_after_quiet}
 use Rattle.host_moves.specs.Waiting.{own_set, slot_with, IsThere, IsWaiting, all_but, TablesThere, TablesBut, TablesWaiting, TablesWaitingBut}
 use Rattle.host_moves.proofs.Owns.{Beside, tables_map, set_again, own_set_same, active_with, but_own, housed_beside, waiting_beside, member_back}
 

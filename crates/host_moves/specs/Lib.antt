@@ -2,3 +2,5 @@ pub mod Waiting
 pub mod Standing
 pub mod Moves
 pub mod Lent
+pub mod Kept
+pub mod Hosts

@@ -17,7 +17,7 @@ use Rattle.host_table.specs.Table.{slot_at, group_at, instance_of, is_member_of,
 use Rattle.host_table.specs.Steps.{AreConsistent}
 use Rattle.host_table.specs.View.{View}
 use Rattle.host_shared.specs.Sharing.{AreLeast}
-use Rattle.host_life.specs.Sharers.{AreTogether}
+use Rattle.host_table.specs.Sharers.{AreTogether}
 use Rattle.host_map.specs.declared.placed.Owner.TheVariants.{Record}
 use Rattle.host_map.specs.Blocks.{owned}
 use Rattle.space_blocks.specs.Spaces.{AreInOrder}

@@ -9,7 +9,7 @@ ghost use Rattle.host_spec.specs.State.{State};
 ghost use Rattle.host_spec.specs.Steps as steps;
 ghost use Rattle.host_table.specs.Steps.{AreConsistent};
 ghost use Rattle.host_moves.specs.Standing.{MapAgrees};
-ghost use Rattle.host_refines.specs.Hosts.{Refines};
+ghost use Rattle.host_moves.specs.Hosts.{Refines};
 
 use crate::moves::make_next_move;
 use crate::order::in_order;

@@ -1,6 +1,6 @@
 //! Tables without instances.
 use alg_g711::G711;
-use host_life::{EmptyTables, end_tables};
+use host_table::{EmptyTables, end_tables};
 
 #[test]
 fn tables_are_made_and_ended(rt: HostRuntime) {

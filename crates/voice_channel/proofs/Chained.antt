@@ -14,7 +14,7 @@ use Rattle.host_table.specs.declared.member.Member.{Member}
 use Rattle.host_spec.specs.State.{Living, State, is_instance_number}
 use Rattle.host_spec.specs.Steps as steps
 use Rattle.host_spec.specs.Calls.Call.{Delete}
-use Rattle.host_refines.specs.Kept.{IsLiving}
+use Rattle.host_moves.specs.Kept.{IsLiving}
 use Rattle.alg_host.specs.Hosts.{HostState}
 use Rattle.alg_host.specs.Hosts as hosts
 use Rattle.channel_spec.specs.Channels.{Channels, is_in_channel, lives, all_live}

@@ -3,7 +3,7 @@ ghost use Rattle.std.specs.Prelude.{◌≡◌, ◌≤◌, length, OnErr};
 ghost use Rattle.ialg.specs.Views.{control_of};
 ghost use Rattle.host_spec.specs.Calls.Call.{Create, Control, Release, Step, Compact, Stat as StatCall, Map as MapCall, Copied};
 ghost use Rattle.host_map.specs.declared.TheConstants.{MAP_BLOCKS};
-ghost use Rattle.host_refines.specs.Kept.{told};
+ghost use Rattle.host_moves.specs.Kept.{told};
 ghost use Rattle.alg_host.specs.Hosts.{stat_told};
 ghost use Rattle.channel_spec.specs.Calls.Call.{OfHost};
 ghost use Rattle.voice_channel.specs.Channels.{Serves};

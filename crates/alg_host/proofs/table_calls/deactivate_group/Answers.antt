@@ -1,5 +1,5 @@
 use Rattle.std.proofs.Common.{◌<◌, arith}
-use Rattle.host_refines.proofs.KeptLemmas.{rested_kept, rest_answered}
+use Rattle.host_moves.proofs.KeptLemmas.{rested_kept, rest_answered}
 use Rattle.alg_host.proofs.table_calls.deactivate_group.Goals as goal
 
 pub returns-clause-machine : goal.returns-clause-machine

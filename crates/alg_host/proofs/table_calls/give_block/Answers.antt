@@ -1,4 +1,4 @@
-use Rattle.host_refines.proofs.KeptLemmas.{block_given}
+use Rattle.host_moves.proofs.KeptLemmas.{block_given}
 use Rattle.alg_host.proofs.table_calls.give_block.Goals as goal
 
 pub returns-clause-machine : goal.returns-clause-machine

@@ -2,7 +2,7 @@ use Rattle.std.proofs.Common.{rules, ◌<◌, ap, arith}
 use Rattle.std.specs.Prelude.{IsSome}
 use Rattle.ialg.specs.Views.{control_of, answer_of}
 use Rattle.host_table.specs.Table.{slot_at}
-use Rattle.host_refines.proofs.KeptLemmas.{control_given, control_refused, same_kept}
+use Rattle.host_moves.proofs.KeptLemmas.{control_given, control_refused, same_kept}
 use Rattle.alg_host.proofs.table_calls.give_control.Goals as goal
 
 pub returns-in-Some-clause-machine : goal.returns-in-Some-clause-machine

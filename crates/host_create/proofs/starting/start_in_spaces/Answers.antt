@@ -9,7 +9,7 @@ use Rattle.host_table.specs.declared.member.Member.{Member}
 use Rattle.host_table.specs.Table.{slot_at, group_at}
 use Rattle.host_shared.specs.Locations.{no_pieces}
 use Rattle.host_map.specs.Sharers.{asked, sharer_of}
-use Rattle.host_life.specs.Sharers.{asked_by}
+use Rattle.host_table.specs.Sharers.{asked_by}
 use Rattle.host_shared.specs.Joining.{sharer_at}
 use Rattle.host_moves.specs.Standing.{SlotIsSame}
 use Rattle.host_moves.proofs.Instances.{not_a_group, other_instance}

@@ -2,7 +2,7 @@ use Rattle.std.proofs.Common.{◌≡◌, ◌<◌, ℕ, None}
 use Rattle.host_table.specs.Table.{slot_at, TablesOk, ArePoisoned}
 use Rattle.host_spec.specs.State.{State}
 use Rattle.host_moves.specs.Standing.{AgreeWithMap}
-use Rattle.host_refines.specs.Hosts.{HostKeeps}
+use Rattle.host_moves.specs.Hosts.{HostKeeps}
 use Rattle.host_delete.proofs.Closed.{IsClosing}
 use Rattle.host_delete.proofs.closing.delete_all.Given as goal
 

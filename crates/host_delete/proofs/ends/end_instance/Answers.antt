@@ -2,7 +2,7 @@ use Rattle.std.proofs.Common.{◌≡◌, true, sym, ◌∙◌}
 use Rattle.std.proofs.lemmas.Bool.{true≢false}
 use Rattle.host_spaces.specs.MemoryMap.{map_of}
 use Rattle.host_table.specs.Table.{slot_at, group_of}
-use Rattle.host_life.specs.Sharers.{asked_by}
+use Rattle.host_table.specs.Sharers.{asked_by}
 use Rattle.host_delete.specs.Ends.{sharers_among, has_members}
 use Rattle.host_delete.proofs.Belonging.{none_left, none_there}
 use Rattle.host_delete.proofs.Blocks.{location_all}

@@ -5,7 +5,7 @@ use Rattle.host_library.specs.declared.machine.Machine.{Machine}
 use Rattle.host_library.specs.Calls.{Serves}
 use Rattle.host_library.proofs.There.{same_there}
 use Rattle.ialg.specs.History.Ctl.{Get}
-use Rattle.host_refines.specs.Kept.{told}
+use Rattle.host_moves.specs.Kept.{told}
 use Rattle.channel_spec.specs.Calls.Call.{OfHost}
 use Rattle.host_spec.specs.Calls.Call.{Control}
 use Rattle.host_library.specs.Calls.{words_told}

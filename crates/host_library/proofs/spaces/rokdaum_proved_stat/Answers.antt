@@ -1,7 +1,7 @@
 use Rattle.std.proofs.Common.{◌≡◌, ◌∙◌, refl, ap, sym, subst, w32}
 use Rattle.std.proofs.Math.Facts.{to_z-of_z}
 use Rattle.std.specs.Prelude.{pos, Some, Ok, Err}
-use Rattle.host_refines.specs.Kept.{activity_of}
+use Rattle.host_moves.specs.Kept.{activity_of}
 use Rattle.channel_spec.specs.Calls.Call.{OfHost}
 use Rattle.host_spec.specs.Calls.Call.{Stat}
 use Rattle.host_library.specs.declared.machine.Machine.{Machine}

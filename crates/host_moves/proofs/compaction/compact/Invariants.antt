@@ -6,7 +6,7 @@ use Rattle.host_spaces.specs.MemoryMap.{map_of}
 use Rattle.host_table.specs.Table.{TablesOk, ArePoisoned}
 use Rattle.host_moves.specs.Standing.{AgreeWithMap}
 use Rattle.host_spec.specs.State.{State}
-use Rattle.host_refines.specs.Hosts.{HostKeeps}
+use Rattle.host_moves.specs.Hosts.{HostKeeps}
 use Rattle.host_moves.proofs.Compactions.{IsAmid}
 use Rattle.host_moves.proofs.compaction.compact.Given as goal
 

@@ -18,7 +18,7 @@ use Rattle.host_shared.proofs.Lent.{put_back}
 use Rattle.host_table.proofs.Held.{once_unplaced}
 use Rattle.host_table.proofs.Changes.{owners_in, read_ok_slot, read_ok_group}
 use Rattle.host_table.proofs.Activities.{activity_stays, group_change, inactive_beside}
-use Rattle.host_life.proofs.Told.{told_member}
+use Rattle.host_table.proofs.Told.{told_member}
 use Rattle.host_moves.proofs.Owns.{member_back}
 use Rattle.host_moves.proofs.Tells.{ok_of_idle, waiting_of_idle, same_of_idle, keeps_of_idle, ok_of_active, waiting_of_active, same_of_active, keeps_of_active}
 use Rattle.host_moves.proofs.told.tell.Goals as goal

@@ -1,6 +1,6 @@
 use Rattle.std.proofs.Common.{◌∙◌, sym, subst}
 use Rattle.ialg.specs.Views.{control_of}
-use Rattle.host_refines.specs.Kept.{told}
+use Rattle.host_moves.specs.Kept.{told}
 use Rattle.host_moves.proofs.Places.{places_stay}
 use Rattle.alg_host.specs.Hosts.{Keeps}
 use Rattle.alg_host.proofs.Served.{controls_stay, still_kept}

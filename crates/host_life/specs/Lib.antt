@@ -1,2 +1,0 @@
-pub mod Sharers
-pub mod Starts

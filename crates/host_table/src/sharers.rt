@@ -1,0 +1,138 @@
+//! Which instances share the write-once records of one that is to be created.
+ghost use Rattle.std.specs.Prelude.{◌≡◌, ◌<◌, length, Some};
+ghost use Rattle.ialg.specs.Records.{record_at, unplaced};
+ghost use Rattle.mem_rec.specs.declared.TheConstants.{INSTANCES};
+ghost use Rattle.host_table.specs.Table.{slot_at};
+ghost use Rattle.host_map.specs.Sharers.{asked, is_once, is_same_once, is_sharer, sharer_of};
+ghost use Rattle.host_table.specs.Sharers.{asked_by, AreLeastSharers};
+
+use crate::Member;
+use host_shared::Sharers;
+use ialg::{Ialg, Params};
+use lifecycle::{Inst, Instance};
+use mem_rec::{Attr, INSTANCES, MemRec, MemTab, Space};
+
+/// Record `k` of a table, blank past its end.
+fn record_of(table: &MemTab, k: usize) -> MemRec
+    ensures { result ≡ record_at table.now k }
+{
+    match table.records().get(k) {
+        Some(r) => *r,
+        None => MemRec {
+            size: 0,
+            align: 0,
+            space: Space::Daram,
+            attr: Attr::Scratch,
+            base: 0,
+        },
+    }
+}
+
+/// Whether record `k` of a table is write-once. Others have no sharers.
+fn is_once(table: &MemTab, k: usize) -> bool
+    ensures { result ≡ is_once (record_at table.now k).attr }
+{
+    record_of(table, k).attr == Attr::WriteOnce
+}
+
+/// Whether both are write-once records, of one size, alignment and space.
+fn are_same_once(r: &MemRec, s: &MemRec) -> bool
+    ensures { result ≡ is_same_once r.now s.now }
+{
+    r.attr == Attr::WriteOnce
+        && s.attr == Attr::WriteOnce
+        && r.size == s.size
+        && r.align == s.align
+        && r.space == s.space
+}
+
+/// Whether both tables have the same write-once record `k`, wherever it lies.
+fn have_same(table: &MemTab, other: &MemTab, k: usize) -> bool
+    ensures { result ≡ is_same_once (record_at (unplaced table.now) k) (record_at (unplaced other.now) k) }
+{
+    are_same_once(&record_of(table, k), &record_of(other, k))
+}
+
+/// Whether both kinds are one.
+fn are_one<M: Ialg>(a: M, b: M) -> bool
+    ensures { result ≡ M.law.meaning.same a b }
+{
+    a == b
+}
+
+/// Whether an instance shares record `k` with one of this kind, with these parameters and this table.
+fn is_sharer<M: Ialg>(
+    instance: &Instance<M>,
+    kind: M,
+    params: &Params,
+    table: &MemTab,
+    k: usize,
+) -> bool
+    ensures { result ≡ is_sharer M.law.meaning.same (asked kind params.now.items table.now) k (Some (asked instance.now.kind instance.now.params.items instance.now.table)) }
+{
+    are_one(kind, instance.kind)
+        && params.as_slice() == instance.params.as_slice()
+        && have_same(table, &instance.table, k)
+}
+
+/// Whether the instance of the number, if there is one, shares record `k`.
+fn shares<M: Ialg>(
+    instances: &Vec<Option<Member<M>>>,
+    i: usize,
+    kind: M,
+    params: &Params,
+    table: &MemTab,
+    k: usize,
+) -> bool
+    requires { i < length instances.now.items }
+    ensures { result ≡ is_sharer M.law.meaning.same (asked kind params.now.items table.now) k (asked_by (slot_at instances.now.items i)) }
+{
+    match &instances[i] {
+        Some(member) => match &member.inst {
+            Inst::Idling(idle) => is_sharer(&idle.instance, kind, params, table, k),
+            Inst::Running(active) => is_sharer(&active.instance, kind, params, table, k),
+        },
+        None => false,
+    }
+}
+
+/// The least number of an instance that shares record `k`.
+fn find_sharer<M: Ialg>(
+    instances: &Vec<Option<Member<M>>>,
+    kind: M,
+    params: &Params,
+    table: &MemTab,
+    k: usize,
+) -> Option<u8>
+    requires { length instances.now.items ≡ INSTANCES }
+    ensures { result ≡ sharer_of M.law.meaning.same (λ j. asked_by (slot_at instances.now.items j)) (asked kind params.now.items table.now) k }
+{
+    if !is_once(table, k) {
+        return None;
+    }
+    for j in 0..INSTANCES {
+        if shares(instances, j, kind, params, table, k) {
+            return Some(j as u8);
+        }
+    }
+    None
+}
+
+/// For each record the least number of an instance that shares it with one of this kind, with these parameters and this table.
+pub fn find_sharers<M: Ialg>(
+    instances: &Vec<Option<Member<M>>>,
+    kind: M,
+    params: &Params,
+    table: &MemTab,
+) -> Sharers
+    requires { length instances.now.items ≡ INSTANCES }
+    ensures { AreLeastSharers M.law.meaning.same instances.now.items (asked kind params.now.items table.now) result }
+{
+    let _records = table.records();
+    Sharers {
+        t0: find_sharer(instances, kind, params, table, 0),
+        t1: find_sharer(instances, kind, params, table, 1),
+        t2: find_sharer(instances, kind, params, table, 2),
+        t3: find_sharer(instances, kind, params, table, 3),
+    }
+}
