@@ -32,18 +32,6 @@ pub record IsWindow (at end left : ℕ) : Type 0 where
   pub within : end ≤ BUFFER_OCTETS
   pub few : end ≤ at + left
 
--- the octets begin with this line and its line feed
-pub record BeginsWith (line octets : List ℕ) : Type 0 where
-  pub no_feed : All IsNoFeed line
-  pub after : List ℕ
-  pub parts : octets ≡ line ++ LINE_FEED ∷ after
-
--- this line was taken with its line feed, from the front of what was ahead
-pub record LineTaken (line : List ℕ) (old new : Ahead) : Type 0 where
-  pub no_feed : All IsNoFeed line
-  pub front : old.octets ≡ line ++ LINE_FEED ∷ new.octets
-  pub used : old.left ≡ length line + 1 + new.left
-
 -- an input, seen with octets of it that were read already in front of what it has to come
 abbrev pub behind : List ℕ → Source → Source
 behind ahead source = record { honest = source.honest; coming = ahead ++ source.coming; failed = source.failed }

@@ -1,9 +1,23 @@
 -- For private clauses alone: a line or an octet of what is ahead, and what ends it.
-use Rattle.std.specs.Prelude.{◌≡◌, ℕ, ◌+◌, ◌⊎◌, true, false, [], ◌∷◌}
+use Rattle.std.specs.Prelude.{◌≡◌, ℕ, ◌+◌, ◌≤◌, ◌⊎◌, true, false, List, [], ◌∷◌, ◌++◌, length, All}
 use Rattle.octet_ports.specs.Ports.{Source, Gives, IsAtEnd}
-use Rattle.octet_ports.specs.Lines.{Ahead, behind}
+use Rattle.octet_ports.specs.declared.TheConstants.{LINE_FEED}
+use Rattle.octet_ports.specs.Lines.{Ahead, IsNoFeed, behind}
 use Rattle.octet_ports.specs.declared.reader.LineFault.{LineFault}
 use Rattle.octet_ports.specs.declared.reader.LineFault.TheVariants.{Port, Limit}
+
+-- the octets begin with this line and its line feed
+pub record BeginsWith (line octets : List ℕ) : Type 0 where
+  pub no_feed : All IsNoFeed line
+  pub after : List ℕ
+  pub parts : octets ≡ line ++ LINE_FEED ∷ after
+
+-- this line was taken with its line feed, from the front of what was ahead
+pub record LineTaken (most : ℕ) (line : List ℕ) (old new : Ahead) : Type 0 where
+  pub no_feed : All IsNoFeed line
+  pub room : length line ≤ most
+  pub front : old.octets ≡ line ++ LINE_FEED ∷ new.octets
+  pub used : old.left ≡ length line + 1 + new.left
 
 -- the next octet was taken
 pub record OctetCame (octet : ℕ) (old new : Ahead) (source new_source : Source) : Type 0 where

@@ -1,10 +1,10 @@
 //! The lines of a script, which is read ahead.
-ghost use Rattle.std.specs.Prelude.{MatchOption, ◌≡◌, ◌+◌, ◌<◌, ◌≤◌, ◌==◌, true, false, [], ◌∷◌, length, take, Ok, None, All, IfOk, IfErr, IfSome, IsOk};
+ghost use Rattle.std.specs.Prelude.{MatchOption, ◌≡◌, ◌+◌, ◌<◌, ◌≤◌, ◌==◌, true, false, [], ◌∷◌, length, Ok, None, All, IfOk, IfErr, IfSome, IsOk};
 ghost use Rattle.std.specs.Result.{is_err};
 ghost use Rattle.octet_ports.specs.Ports.{Gives};
-ghost use Rattle.octet_ports.specs.Lines.{BeginsWith, FailsToRead, IsNoFeed, LineTaken, ReadsLine};
+ghost use Rattle.octet_ports.specs.Lines.{FailsToRead, IsNoFeed, ReadsLine};
 ghost use Rattle.octet_ports.specs.declared.reader.TheConstants.{BUFFER_OCTETS};
-ghost use Rattle.octet_ports.specs.Readers.{OctetCame, EndCame, RefusesOctet};
+ghost use Rattle.octet_ports.specs.Readers.{BeginsWith, LineTaken, OctetCame, EndCame, RefusesOctet};
 
 use crate::LINE_FEED;
 use crate::port::PortIn;
@@ -98,45 +98,23 @@ impl LineReader {
         self.read_octets_of_line(script, text)
     }
 
-    /// The line whose line feed is ahead, if it is ahead and the line has at most `most` octets: most lines are served where they stand.
-    /// [`pass_line`](Self::pass_line) takes it.
-    pub fn line_ahead(&self, most: usize) -> Option<&[u8]>
-        ensures line { IfSome result (λ line. BeginsWith line.now self.now.octets) }
-        ensures fits { IfSome result (λ line. length line.now ≤ most) }
-        ensures within { length self.now.octets ≤ self.now.left }
-        ensures few { length self.now.octets ≤ BUFFER_OCTETS }
-    {
-        let line = first_line(&self.buffer[self.at..self.end])?;
-        if line.len() <= most { Some(line) } else { None }
-    }
-
-    /// Takes the line of so many octets that is ahead, with its line feed.
-    pub fn pass_line(&mut self, count: usize)
-        requires { BeginsWith (take count self.old.octets) self.old.octets }
-        ensures taken { LineTaken (take count self.old.octets) self.old self.new }
-        ensures within { length self.new.octets ≤ self.new.left }
-        ensures few { length self.new.octets ≤ BUFFER_OCTETS }
-    {
-        let after = self.at + count + 1;
-        self.left -= (after - self.at) as u32;
-        self.at = after;
-    }
-
-    /// Takes the line whose line feed is ahead, if it is ahead and the text has room for the line.
+    /// Takes the line whose line feed is ahead, if it is ahead and the text has room for the line: most lines are read so.
     fn take_line<const MOST: usize>(&mut self, text: &mut ArrayVec<u8, MOST>) -> bool
         requires empty { text.old.items ≡ [] }
-        ensures taken { result ≡ true → LineTaken text.new.items self.old self.new }
-        ensures room { length text.new.items ≤ MOST }
+        ensures taken { result ≡ true → LineTaken MOST text.new.items self.old self.new }
         ensures nothing { result ≡ false → (self.new ≡ self.old) × (text.new ≡ text.old) }
         ensures within { length self.new.octets ≤ self.new.left }
         ensures few { length self.new.octets ≤ BUFFER_OCTETS }
     {
-        let Some(line) = self.line_ahead(MOST) else {
+        let Some(line) = first_line(&self.buffer[self.at..self.end]) else {
             return false;
         };
-        let count = line.len();
-        let _fits = text.try_extend_from_slice(line);
-        self.pass_line(count);
+        let count = line.len() + 1;
+        if text.try_extend_from_slice(line).is_err() {
+            return false;
+        }
+        self.at += count;
+        self.left -= count as u32;
         true
     }
 

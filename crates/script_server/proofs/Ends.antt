@@ -1,7 +1,6 @@
 -- How a script goes on, and how it ends.
 use Rattle.std.proofs.Common.{◌≡◌, ◌⊎◌, inl, inr, ℕ, ◌+◌, ◌≤◌, Bool, true, false, List, [], ◌∷◌, ◌++◌, length, refl, sym, subst, ap, ◌∙◌, append_assoc, length-append, arith, if◌then◌else◌}
 use Rattle.std.specs.List.{All, flat_map}
-use mir.Val.{bool_byte}
 use Rattle.std.proofs.lemmas.List.{append-nil}
 use Rattle.std.proofs.lemmas.List.Elements.{All-push}
 use Rattle.octet_ports.specs.Ports.{Source, Sink, Gives, GivesWithin}
@@ -190,13 +189,6 @@ module _ {S : Type 0} (m : Machine S) (start : Run S) where
         is_first = sym (append-nil (order_of parts.2.written));
         writes = rw (parts.4, order_of-append parts.0.written parts.2.written) at all.writes;
       }
-
--- ---- how many lines are refused
-
--- a line counts once or not at all
-pub counted_once : {count : ℕ} (is_refused : Bool) → count ≡ bool_byte is_refused → (count ≡ (if is_refused then 1 else 0)) × (count ≤ 1)
-counted_once true e = (e, omega (arith, e))
-counted_once false e = (e, omega (arith, e))
 
 -- ---- how much of a script is read
 

@@ -12,7 +12,6 @@ ghost use Rattle.script_server.specs.Runs.{StepsAt, no_source, no_sink, IsReadyI
 ghost use Rattle.script_server.specs.LineRuns.{AreHonest, IsServed, IsCut, IsUnfed};
 
 use crate::serving::PortsFault;
-use arrayvec::ArrayVec;
 use host_map::Map;
 use ialg::{Params, Refusal, Words};
 use line_spec::{Ask, BLOCK_OCTETS, LineMachine};
@@ -27,21 +26,6 @@ pub(crate) struct Desk {
     pub(crate) map: Map,
     pub(crate) words: Words,
     pub(crate) buffers: Buffers,
-}
-
-impl Desk {
-    /// All of it is cleared.
-    pub(crate) fn new() -> Desk {
-        Desk {
-            parameters: Params::new(),
-            map: Map::new(),
-            words: Words::new(),
-            buffers: Buffers {
-                text: ArrayVec::new(),
-                block: [0; BLOCK_OCTETS],
-            },
-        }
-    }
 }
 
 /// Room for a reply's line, and for the octets of a feed, those that are read and then those that are given.
@@ -161,9 +145,7 @@ fn serve_feed<T: LineMachine, I: PortIn, O: PortOut, P: PortOut>(
     }
 }
 
-/// Serves a line, and answers whether it was refused. Where it is inlined the compiler sees that the buffers and what a console keeps are apart, and
-/// makes plain copies of samples and their octets.
-#[inline(always)]
+/// Serves a line, and answers whether it was refused.
 pub(crate) fn serve_line<T: LineMachine, I: PortIn, O: PortOut, P: PortOut>(
     machine: &mut T,
     line: &[u8],

@@ -4,9 +4,11 @@ ghost use Rattle.octet_ports.specs.Ports.{GivesWithin};
 ghost use Rattle.script_server.specs.Runs.{NothingPassed, Ready, ServesAll, EndsWell, EndsByRead, EndsByWrite, known_of, run_of};
 
 use crate::limits::SCRIPT_OCTETS;
-use crate::line::{Desk, flush_outputs, serve_line};
+use crate::line::{Buffers, Desk, flush_outputs, serve_line};
 use arrayvec::ArrayVec;
-use line_spec::LineMachine;
+use host_map::Map;
+use ialg::{Params, Words};
+use line_spec::{BLOCK_OCTETS, LineMachine};
 use octet_ports::{LineReader, PortIn, PortOut};
 use voice_script::LINE_OCTETS;
 
@@ -48,16 +50,16 @@ fn serve_script<T: LineMachine, S: PortIn, I: PortIn, O: PortOut, P: PortOut>(
     let mut reader = LineReader::new(SCRIPT_OCTETS);
     let mut refused: u64 = 0;
     let mut text: ArrayVec<u8, LINE_OCTETS> = ArrayVec::new();
-    let mut desk = Desk::new();
+    let mut desk = Desk {
+        parameters: Params::new(),
+        map: Map::new(),
+        words: Words::new(),
+        buffers: Buffers {
+            text: ArrayVec::new(),
+            block: [0; BLOCK_OCTETS],
+        },
+    };
     'lines: loop {
-        // Most lines are ahead whole, and are served where they stand.
-        if let Some(line) = reader.line_ahead(LINE_OCTETS) {
-            let count = line.len();
-            let is_refused = serve_line(machine, line, false, &mut desk, inputs, outputs, replies)?;
-            reader.pass_line(count);
-            refused += u64::from(is_refused);
-            continue 'lines;
-        }
         text.clear();
         let line = match reader.read_line(script, &mut text) {
             Ok(line) => line,

@@ -1,13 +1,10 @@
-use Rattle.std.proofs.Common.{rules, ◌≡◌, arith, ℕ, ◌+◌, ◌∙◌, refl, sym, ap, Err, ◌≤◌, length, ◌++◌, ◌∷◌, [], map, if◌then◌else◌, inl, inr}
-use Rattle.std.proofs.lemmas.Bool.{false≢true}
+use Rattle.std.proofs.Common.{rules, ◌≡◌, arith, ◌+◌, ◌∙◌, refl, ap, Err, ◌≤◌, length, ◌++◌, ◌∷◌, [], map, if◌then◌else◌, inl, inr}
 use Rattle.std.proofs.lemmas.Grind.{common_steps}
-use Rattle.octet_ports.specs.Lines.{LineTaken}
 use Rattle.octet_ports.proofs.Ports.{gives_none}
-use Rattle.octet_ports.proofs.Ahead.{ahead_taken, behind_line, first_taken, taken_came}
 use Rattle.script_server.proofs.Scripts.{served_none, consumes_more}
 use Rattle.script_server.proofs.Honest.{honest_first}
 use Rattle.script_server.proofs.Writes.{wait_none, wait_more, order_waits}
-use Rattle.script_server.proofs.Ends.{counted_once, served_more, served_all, script_cut, stops_in_script, stops_in_feed, why_failed, consumes_within, consumes_then}
+use Rattle.script_server.proofs.Ends.{served_more, served_all, script_cut, stops_in_script, stops_in_feed, why_failed, consumes_within, consumes_then}
 use Rattle.script_server.specs.Runs.{honest_at}
 use Rattle.script_server.specs.declared.serving.PortsFault.TheVariants.{Read, Write}
 use Rattle.script_server.proofs.serving.serve_script.Goals as goal
@@ -103,60 +100,3 @@ returns-in-Err-serve_line-clause-few g c = consumes_within c.read_line.new.self.
 
 pub returns-then-line-clause-few : goal.returns-then-line-clause-few
 returns-then-line-clause-few g c = consumes_within c.read_line.new.self.octets (g.S.PortIn.source c.read_line.new.script) (consumes_more c.lines.invariant.came c.in-Ok.ensures.ok) c.in-Ok.ensures.within
-
--- ---- a line that is served where it stands
-
-pub returns-in_err-is_refused-clause-few : goal.returns-in_err-is_refused-clause-few
-returns-in_err-is_refused-clause-few g c = consumes_within c.lines.reader.octets (g.S.PortIn.source c.lines.script) c.lines.invariant.came c.line_ahead.ensures.within
-
-pub returns-in_err-is_refused-clause-write : goal.returns-in_err-is_refused-clause-write
-returns-in_err-is_refused-clause-write g c = λ is.
-    let e : c.in_err-is_refused.field-0.0 ≡ Write = sym (rw is at c.from_residual.ensures.1) in
-    let line = c.in-Some.line.now in
-    let came = taken_came line c.lines.reader _ (g.S.PortIn.source c.lines.script) (ahead_taken line c.lines.reader c.in-Some.ensures.line c.line_ahead.ensures.within) c.in-Some.ensures.fits in
-    record {
-      failed = c.in_err-is_refused.ensures.write (ap Err e);
-      passed = inl (wait_more c.lines.invariant.waits c.in_err-is_refused.ensures.waits).reply;
-      order = order_waits (wait_more c.lines.invariant.waits c.in_err-is_refused.ensures.waits);
-      served = λ honest. let served = c.lines.invariant.served in
-          script_cut (g.T.LineMachine.machine (g.T.LineMachine.widths c.args.machine.now)) _ _ _ honest served came
-          (rw c.lines.invariant.widths at (c.in_err-is_refused.ensures.cut (ap Err e) came.octets _ _ came.line served.kept served.still));
-    }
-
-pub returns-in_err-is_refused-clause-read : goal.returns-in_err-is_refused-clause-read
-returns-in_err-is_refused-clause-read g c = λ is.
-    let e : c.in_err-is_refused.field-0.0 ≡ Read = sym (rw is at c.from_residual.ensures.1) in
-    let line = c.in-Some.line.now in
-    let begins = c.in-Some.ensures.line in
-    let came = taken_came line c.lines.reader _ (g.S.PortIn.source c.lines.script) (ahead_taken line c.lines.reader begins c.line_ahead.ensures.within) c.in-Some.ensures.fits in
-    record {
-      failed = inr (inl (c.in_err-is_refused.ensures.read (ap Err e)));
-      passed = wait_more c.lines.invariant.waits c.in_err-is_refused.ensures.waits;
-      served = let served = c.lines.invariant.served in
-          stops_in_feed (g.T.LineMachine.machine (g.T.LineMachine.widths c.args.machine.now)) _ _ _ begins.after served came (λ bad. absurd (false≢true bad))
-          (behind_line line c.lines.reader.octets begins c.line_ahead.ensures.few)
-          (rw c.lines.invariant.widths at (c.in_err-is_refused.ensures.unfed (ap Err e) came.octets _ came.line served.kept));
-    }
-
-pub lines-preserved-in-Some : goal.lines-preserved-in-Some
-lines-preserved-in-Some g c =
-    let line = c.in-Some.line.now in
-    let taken : LineTaken line c.lines.reader c.pass_line.new.self = rw (first_taken line c.lines.reader.octets c.in-Some.ensures.line) at c.pass_line.ensures.taken in
-    let came = taken_came line c.lines.reader c.pass_line.new.self (g.S.PortIn.source c.lines.script) taken c.in-Some.ensures.fits in
-    let once = counted_once c.in_ok-is_refused.is_refused c.from-refused.ensures in
-    let count : c.lines.refused + c.from-refused.result ≡ c.lines.refused + (if c.in_ok-is_refused.is_refused then 1 else 0) = ap (λ (n : ℕ). c.lines.refused + n) once.0 in
-    let one = once.1 in
-    let used : c.lines.reader.left ≡ length line + 1 + c.pass_line.new.self.left = taken.used in
-    record {
-      script = search rules;
-      widths = c.in_ok-is_refused.ensures.widths ∙ c.lines.invariant.widths;
-      one = search rules;
-      pairs = search rules;
-      ready = search rules;
-      few = let f = c.lines.invariant.few in omega (arith, f, one, used);
-      came = consumes_more c.lines.invariant.came came;
-      waits = wait_more c.lines.invariant.waits c.in_ok-is_refused.ensures.waits;
-      served = let served = c.lines.invariant.served in
-          served_more (g.T.LineMachine.machine (g.T.LineMachine.widths c.args.machine.now)) _ served came
-          (rw c.lines.invariant.widths at (c.in_ok-is_refused.ensures.served came.octets _ _ came.line served.kept served.still)) count;
-    }

@@ -1,0 +1,30 @@
+use Rattle.std.proofs.Common.{rules}
+use Rattle.octet_ports.proofs.Ahead.{line_taken, window, window_after}
+use Rattle.octet_ports.proofs.reader.LineReader.take_line.Goals as goal
+
+pub returns-clause-taken : goal.returns-clause-taken
+returns-clause-taken g c e =
+    rw (← c.self.view_is)
+    (line_taken g.row.MOST c.self.inside.buffer c.self.inside.at c.self.inside.end c.self.inside.left c.in-Some.line.now c.try_extend_from_slice.new.self.items c.self.invariant.order c.in-Some.ensures
+    (search rules) (search rules) c.self.invariant.few)
+
+pub invariant_of-self : goal.invariant_of-self
+invariant_of-self g c = let r = c.self.inside in window_after r.buffer r.at r.end r.left c.in-Some.line.now c.self.invariant c.in-Some.ensures
+
+pub returns-in_default-clause-within : goal.returns-in_default-clause-within
+returns-in_default-clause-within g c = let r = c.self.inside in rw (← c.self.view_is) (window r.buffer r.at r.end r.left c.self.invariant).0
+
+pub returns-in_default-clause-few : goal.returns-in_default-clause-few
+returns-in_default-clause-few g c = let r = c.self.inside in rw (← c.self.view_is) (window r.buffer r.at r.end r.left c.self.invariant).1
+
+pub returns-then-is_err-clause-within : goal.returns-then-is_err-clause-within
+returns-then-is_err-clause-within g c = let r = c.self.inside in rw (← c.self.view_is) (window r.buffer r.at r.end r.left c.self.invariant).0
+
+pub returns-then-is_err-clause-few : goal.returns-then-is_err-clause-few
+returns-then-is_err-clause-few g c = let r = c.self.inside in rw (← c.self.view_is) (window r.buffer r.at r.end r.left c.self.invariant).1
+
+pub returns-clause-within : goal.returns-clause-within
+returns-clause-within g c = (window c.self.inside.buffer _ _ _ (invariant_of-self g c)).0
+
+pub returns-clause-few : goal.returns-clause-few
+returns-clause-few g c = (window c.self.inside.buffer _ _ _ (invariant_of-self g c)).1
