@@ -13,7 +13,7 @@ use Rattle.host_map.specs.declared.placed.Placed.{Placed}
 use Rattle.space_blocks.specs.Blocks.{Owns, block_of}
 use Rattle.host_map.specs.Blocks.{block_range, ranges, with_block, without_at}
 use Rattle.host_map.specs.Moves.{spots_of}
-use Rattle.space_blocks.specs.Spaces.{AreKept, IsSpace}
+use Rattle.space_blocks.specs.Spaces.{AreKept}
 use Rattle.space_blocks.proofs.Inserts.{order_with, order_without, sorted}
 use Rattle.space_blocks.proofs.Orders.{AreSortedFrom, put_in, removed_at, same_index, without_with}
 use Rattle.space_blocks.proofs.Owners.{stands}
@@ -79,10 +79,6 @@ pub entered : (owner : Owner) (align place size : ℕ) (s : Span) (bs new : List
 entered owner align place size s bs new e at long =
     e ∙ ap (λ n. with_block (record { owner = owner; place = n; size = size; align = align }) bs) at
     ∙ ap (λ n. with_block (record { owner = owner; place = s.place; size = n; align = align }) bs) long
-
--- where none of the blocks is known to be packed
-pub unpacked : (heap : HeapState) (bs : List Placed) → AreKept heap bs → IsSpace heap bs 0
-unpacked heap bs kept = record { kept = kept; within = omega arith; front = refl }
 
 -- an owner's piece stands among the blocks
 pub stands_there : (bs slice : List Placed) (owner : Owner) (s : Span) (place : ℕ) → Owns bs owner s → slice ≡ bs → place ≡ s.place

@@ -1,25 +1,21 @@
 -- A piece that is the block of the next move, and what its space keeps once the heap has lowered it.
-use Rattle.std.proofs.Common.{◌≡◌, ◌≢◌, ℕ, suc, ◌+◌, ◌^◌, ◌<◌, ◌-◌, ◌==◌, min, if◌then◌else◌, ◌≤◌, List, [], ◌∷◌, ◌++◌, length, get_or, take, drop, Contains, Some, refl, sym, ◌∙◌, ap, subst, arith}
+use Rattle.std.proofs.Common.{◌≡◌, ◌≢◌, ℕ, suc, ◌+◌, ◌^◌, ◌<◌, ◌-◌, ◌==◌, min, if◌then◌else◌, List, [], ◌∷◌, ◌++◌, length, get_or, take, drop, Contains, Some, refl, sym, ◌∙◌, ap, subst, arith}
 use Rattle.std.specs.Option.{option_map}
-use Rattle.std.proofs.lemmas.List.{get_or-drop, length-drop}
 use Rattle.std.proofs.lemmas.List.Elements.{Contains-get_or}
 use Rattle.space_raw.specs.Span.{Span}
 use Rattle.relocate.specs.Places.{Range, lower_place, IsAlignment}
 use Rattle.space_heap.specs.Maps.{HeapState, Holds, IsBlock, range_of}
 use Rattle.relocate.specs.declared.packing.Move.{Move}
-use Rattle.relocate.specs.Spots.{AreSpots}
-use Rattle.relocate.specs.Packing.{IsPacked}
-use Rattle.relocate.proofs.Fronts.{next_behind}
 use Rattle.host_map.specs.declared.placed.Owner.{Owner}
 use Rattle.host_map.specs.declared.placed.Owner.TheVariants.{Record}
 use Rattle.host_map.specs.declared.placed.Placed.{Placed}
 use Rattle.space_blocks.specs.Blocks.{Owns, block_of}
 use Rattle.host_map.specs.Blocks.{block_range, owned, ranges}
 use Rattle.space_blocks.proofs.Placing.{with_place}
-use Rattle.host_map.specs.Moves.{moved, moved_by, moved_to, next_in, spots_of}
-use Rattle.space_blocks.specs.Spaces.{AreKept, IsSpace}
+use Rattle.host_map.specs.Moves.{moved, moved_by, moved_to, next_in}
+use Rattle.space_blocks.specs.Spaces.{AreKept}
 use Rattle.space_blocks.proofs.Keeping.{its_block, kept_sorted, split_held}
-use Rattle.space_blocks.proofs.Moving.{IsNext, counted_words, front_packed, goes_to, is_lower, its_align, kept_moved, length_moved}
+use Rattle.space_blocks.proofs.Moving.{IsNext, counted_words, goes_to, is_lower, its_align, kept_moved}
 use Rattle.space_blocks.proofs.Orders.{moved_from, same_index}
 use Rattle.space_blocks.proofs.Owners.{others_moved, owned_moved}
 
@@ -27,16 +23,12 @@ abbrev blank : Placed
 blank = record { owner = Record 0 0; place = 0; size = 0; align = 0 }
 
 -- the piece stands among the blocks
-pub next_there : (bs slice : List Placed) (s : Span) (place packed : ℕ) → IsNext bs s → slice ≡ bs → place ≡ s.place
-    → AreSpots (spots_of bs) → IsPacked (take packed (spots_of bs))
-    → (b : Placed) × Contains (drop packed slice) b × (b.place ≡ place)
-next_there bs slice s place packed nx same at order front =
+pub next_there : (bs slice : List Placed) (s : Span) (place : ℕ) → IsNext bs s → slice ≡ bs → place ≡ s.place
+    → (b : Placed) × Contains slice b × (b.place ≡ place)
+next_there bs slice s place nx same at =
     let k = nx.move.index in let b = get_or bs k blank in
-    let behind : packed ≤ k = next_behind packed (spots_of bs) nx.move order front nx.next in
-    let n = k - packed in let lt = nx.inside in let long = length-drop packed bs in
-    let is : get_or (drop packed bs) n blank ≡ b = get_or-drop packed bs n blank ∙ ap (λ i. get_or bs i blank) (let e : packed + n ≡ k = omega arith in e) in
-    subst (λ (xs : List Placed). (c : Placed) × Contains (drop packed xs) c × (c.place ≡ place)) (sym same)
-    (b, subst (λ (c : Placed). Contains (drop packed bs) c) is (Contains-get_or (drop packed bs) n blank (omega arith)), ap (λ (r : Range). r.place) (nx.range blank) ∙ sym at)
+    subst (λ (xs : List Placed). (c : Placed) × Contains xs c × (c.place ≡ place)) (sym same)
+    (b, Contains-get_or bs k blank nx.inside, ap (λ (r : Range). r.place) (nx.range blank) ∙ sym at)
 
 module _ (heap : HeapState) (bs : List Placed) (kept : AreKept heap bs) (s : Span) (nx : IsNext bs s) (k : ℕ) (lt : k < length bs)
     (at : (d : Placed) → (get_or bs k d).place ≡ s.place) where
@@ -101,20 +93,11 @@ module _ (heap : HeapState) (bs : List Placed) (kept : AreKept heap bs) (s : Spa
       same_move : moved_to bs k r.place ≡ moved_to bs nx.move.index nx.move.to
       same_move = ap (λ n. moved_to bs n r.place) index_is ∙ ap (λ n. moved_to bs nx.move.index n) goes
 
-      kept_after : AreKept new (moved_to bs k r.place)
+      pub kept_after : AreKept new (moved_to bs k r.place)
       kept_after =
           subst (λ xs. AreKept new xs) (sym same_move)
           (kept_moved heap bs kept nx.move nx.next blank its.some new same (let e = counted in omega arith)
           (subst (λ q. Holds new (front ++ q ∷ back)) range_is (taken front back held)))
-
-      -- the first blocks, up to it, are packed then
-      pub front_after : IsPacked (take (k + 1) (spots_of (moved_to bs k r.place)))
-      front_after =
-          subst (λ n. IsPacked (take (n + 1) (spots_of (moved_to bs k r.place)))) (sym index_is)
-          (subst (λ xs. IsPacked (take (nx.move.index + 1) (spots_of xs))) (sym same_move) (front_packed heap bs kept nx.move nx.next blank its.some))
-
-      pub space_after : IsSpace new (moved_to bs k r.place) (k + 1)
-      space_after = record { kept = kept_after; within = (let same = length_moved bs k r.place in omega arith); front = front_after }
 
       pub is_moved : moved_to bs k r.place ≡ moved bs
       is_moved = same_move ∙ sym (ap (λ o. moved_by o bs) nx.next)

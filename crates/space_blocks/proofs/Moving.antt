@@ -11,7 +11,7 @@ use Rattle.space_heap.specs.Maps.{HeapState, Holds, range_of}
 use Rattle.relocate.proofs.RangeTests.{when_not}
 use Rattle.relocate.specs.declared.packing.Move.{Move}
 use Rattle.relocate.specs.Spots.{AreSpots, ranges_of}
-use Rattle.relocate.specs.Packing.{IsPacked, next_move_of, with_place as spot_moved}
+use Rattle.relocate.specs.Packing.{next_move_of, with_place as spot_moved}
 use Rattle.relocate.specs.Compaction.{IsMoveDown}
 use Rattle.relocate.proofs.PackingLemmas.{place_at}
 use Rattle.relocate.proofs.CompactionLemmas.{next_move_down}
@@ -113,10 +113,6 @@ module _ (heap : HeapState) (bs : List Placed) (kept : AreKept heap bs) (m : Mov
   pub its_align : IsAlignment b.align
   its_align = (around 0 (spots_of front) (spot_of b) (spots_of back) (subst AreSpots spots_split kept.order)).is.align
 
-  -- the first blocks, up to it, are packed then
-  pub front_packed : IsPacked (take (m.index + 1) (spots_of (moved_to bs m.index m.to)))
-  front_packed = subst (λ ss. IsPacked (take (m.index + 1) ss)) (sym (spots_moved bs m.index m.to)) down.front
-
   pub kept_moved : (new : HeapState) → new.region ≡ heap.region → new.slid < 2 ^ 64 → Holds new (ranges front ++ block_range (record b { place = m.to }) ∷ ranges back)
       → AreKept new (moved_to bs m.index m.to)
   kept_moved new same counted holds = record {
@@ -136,7 +132,7 @@ pub next_found : (bs : List Placed) (m : Move) (d : Placed) → AreSpots (spots_
 next_found bs m d order e =
     sym (ap (λ o. block_to_move o bs) e ∙ block_inside bs m.index d (move_inside bs m order e))
 
-pub length_moved : (bs : List Placed) (k to : ℕ) → length (moved_to bs k to) ≡ length bs
+length_moved : (bs : List Placed) (k to : ℕ) → length (moved_to bs k to) ≡ length bs
 length_moved [] k to = refl
 length_moved (b ∷ bs) zero to = refl
 length_moved (b ∷ bs) (suc k) to = ap suc (length_moved bs k to)

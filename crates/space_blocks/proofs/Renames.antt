@@ -1,16 +1,15 @@
 -- Blocks whose owners have other names.
-use Rattle.std.proofs.Common.{◌≡◌, ◌≢◌, ◌⊎◌, inl, inr, ℕ, zero, suc, ◌<◌, Bool, true, false, if◌then◌else◌, List, [], ◌∷◌, length, get_or, take, Contains, refl, sym, ap, subst, ◌∙◌, arith}
+use Rattle.std.proofs.Common.{◌≡◌, ◌≢◌, ◌⊎◌, inl, inr, ℕ, zero, suc, ◌<◌, Bool, true, false, if◌then◌else◌, List, [], ◌∷◌, length, get_or, Contains, refl, sym, ap, subst, ◌∙◌, arith}
 use Rattle.relocate.proofs.RangeTests.{true_or_false, when_not}
 use Rattle.relocate.specs.Places.{Range}
 use Rattle.space_heap.specs.Maps.{HeapState, Holds}
 use Rattle.relocate.specs.declared.packing.Spot.{Spot}
 use Rattle.relocate.specs.Spots.{AreSpots}
-use Rattle.relocate.specs.Packing.{IsPacked}
 use Rattle.host_map.specs.declared.placed.Owner.{Owner}
 use Rattle.host_map.specs.declared.placed.Placed.{Placed}
 use Rattle.host_map.specs.Blocks.{AreSingle, IsOwner, block_range, owned, ranges, renamed_block, renamed_blocks, renaming, same_owner}
 use Rattle.host_map.specs.Moves.{spot_of, spots_of}
-use Rattle.space_blocks.specs.Spaces.{AreKept, IsSpace}
+use Rattle.space_blocks.specs.Spaces.{AreKept}
 use Rattle.space_blocks.proofs.Orders.{dropped, kept}
 use Rattle.space_blocks.proofs.Owners.{itself, not_same, one_owner}
 
@@ -89,19 +88,12 @@ module _ (new : Owner → Owner) where
   renamed_count (b ∷ bs) = ap suc (renamed_count bs)
 
   -- the heap holds them as before
-  kept_renamed : (heap : HeapState) (bs : List Placed) → AreKept heap bs → AreKept heap (renamed_blocks new bs)
+  pub kept_renamed : (heap : HeapState) (bs : List Placed) → AreKept heap bs → AreKept heap (renamed_blocks new bs)
   kept_renamed heap bs kept = record {
     size = kept.size;
     held = subst (λ rs. Holds heap rs) (sym (renamed_ranges bs)) kept.held;
     order = subst (λ ss. AreSpots ss) (sym (renamed_spots bs)) kept.order;
     counted = kept.counted;
-  }
-
-  pub space_renamed : (heap : HeapState) (bs : List Placed) (packed : ℕ) → IsSpace heap bs packed → IsSpace heap (renamed_blocks new bs) packed
-  space_renamed heap bs packed is = record {
-    kept = kept_renamed heap bs is.kept;
-    within = let within = is.within in let same = renamed_count bs in omega arith;
-    front = subst (λ ss. IsPacked (take packed ss)) (sym (renamed_spots bs)) is.front;
   }
 
 -- names that are the same give the same blocks

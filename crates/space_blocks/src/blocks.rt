@@ -1,5 +1,5 @@
 //! One space.
-ghost use Rattle.std.specs.Prelude.{◌≡◌, ◌≢◌, ℕ, ◌+◌, ◌-◌, ◌<◌, ◌≤◌, ◌^◌, [], ◌∷◌, length, drop, min, Some, Contains, slice_index_or, IfOk, IfErr, IfSome, IfNone, IsErrOf};
+ghost use Rattle.std.specs.Prelude.{◌≡◌, ◌≢◌, ℕ, ◌+◌, ◌-◌, ◌<◌, ◌≤◌, ◌^◌, [], ◌∷◌, length, min, Some, Contains, slice_index_or, IfOk, IfErr, IfSome, IfNone, IsErrOf};
 ghost use Rattle.std.specs.Option.{option_map};
 ghost use Rattle.relocate.specs.Places.{least_place, placed_size, IsAlignment, IsSpaceSize};
 ghost use Rattle.space_heap.specs.Maps.{range_of};
@@ -14,7 +14,7 @@ ghost use Rattle.space_blocks.specs.Spaces.{AreInOrder};
 
 use arrayvec::ArrayVec;
 use host_map::{MAP_BLOCKS, Map, Owner, Placed, SPACE_BLOCKS};
-use relocate::{Move, next_move_behind};
+use relocate::{Move, next_move};
 use space_heap::{Heap, HeapError};
 use space_raw::Piece;
 use std::alloc::{Allocator, Global};
@@ -25,18 +25,16 @@ use std::marker::Model;
 pub struct SpaceBlocks<A: Allocator = Global> {
     heap: Heap<A>,
     blocks: ArrayVec<Placed, SPACE_BLOCKS>,
-    // so many of the first blocks are known to be at their packed places: the search for the next move begins behind them
-    packed: usize,
 }
 
 impl<A: Allocator> Model for SpaceBlocks<A> {
-    ghost use Rattle.space_blocks.specs.Spaces.{IsSpace, SpaceState};
+    ghost use Rattle.space_blocks.specs.Spaces.{AreKept, SpaceState};
 
     ghost Value = { SpaceState };
 
     ghost view = { λ s. record { region = s.heap.region; slid = s.heap.slid; blocks = s.blocks.items } };
 
-    ghost invariant = { λ s. IsSpace s.heap s.blocks.items s.packed };
+    ghost invariant = { λ s. AreKept s.heap s.blocks.items };
 }
 
 impl<A: Allocator> SpaceBlocks<A> {
@@ -50,7 +48,6 @@ impl<A: Allocator> SpaceBlocks<A> {
             Ok(heap) => Ok(SpaceBlocks {
                 heap,
                 blocks: ArrayVec::new(),
-                packed: 0,
             }),
             Err(refusal) => Err(refusal),
         }
@@ -60,11 +57,7 @@ impl<A: Allocator> SpaceBlocks<A> {
     pub fn close(self)
         requires none { self.blocks ≡ [] }
     {
-        let SpaceBlocks {
-            heap,
-            blocks: _,
-            packed: _,
-        } = self;
+        let SpaceBlocks { heap, blocks: _ } = self;
         heap.close();
     }
 }
@@ -92,7 +85,6 @@ impl SpaceBlocks {
             size: piece.len(),
             align,
         };
-        self.packed = 0;
         enter(&mut self.blocks, block);
         Some(piece)
     }
@@ -106,8 +98,7 @@ impl SpaceBlocks {
         ensures others { (owner o : Owner) → Owns self.old.blocks owner piece → o ≢ owner → owned o self.new.blocks ≡ owned o self.old.blocks }
         ensures stays { (self.new.region ≡ self.old.region) × (self.new.slid ≡ self.old.slid) }
     {
-        let index = position(self.blocks.as_slice(), 0, piece.place());
-        self.packed = 0;
+        let index = position(self.blocks.as_slice(), piece.place());
         let _block = self.blocks.remove(index);
         self.heap.give(piece);
     }
@@ -128,7 +119,7 @@ impl SpaceBlocks {
     pub fn next_move(&self) -> Option<Placed>
         ensures value { result ≡ next_block self.now.blocks }
     {
-        match next_move_behind(self.blocks.as_slice(), self.packed) {
+        match next_move(self.blocks.as_slice()) {
             Some(Move { index, to: _ }) => Some(self.blocks.as_slice()[index]),
             None => None,
         }
@@ -146,10 +137,9 @@ impl SpaceBlocks {
         ensures slid { self.new.slid ≡ min (self.old.slid + length piece.words) (2 ^ 64 - 1) }
         ensures stays { self.new.region ≡ self.old.region }
     {
-        let index = position(self.blocks.as_slice(), self.packed, piece.place());
+        let index = position(self.blocks.as_slice(), piece.place());
         let align = align_of(self.blocks.as_slice(), index);
         let moved = self.heap.lower(piece, align);
-        self.packed = index + 1;
         put_at(&mut self.blocks, index, moved.place());
         moved
     }
@@ -215,14 +205,14 @@ fn renamed(owner: Owner, from: Owner, to: Owner) -> Owner
     if owner == from { to } else { owner }
 }
 
-// The index of the block that begins at the place, which is none of the first `from`.
-fn position(blocks: &[Placed], from: usize, place: u32) -> usize
-    requires there { (b : Placed) × Contains (drop from blocks.now) b × (b.place ≡ place) }
+// The index of the block that begins at the place.
+fn position(blocks: &[Placed], place: u32) -> usize
+    requires there { (b : Placed) × Contains blocks.now b × (b.place ≡ place) }
     ensures within { result < length blocks.now }
     ensures found { (d : Placed) → (slice_index_or blocks.now result d).place ≡ place }
 {
-    for index in from..blocks.len() {
-        if blocks[index].place == place {
+    for (index, block) in blocks.iter().enumerate() {
+        if block.place == place {
             return index;
         }
     }

@@ -5,9 +5,9 @@ use Rattle.std.proofs.lemmas.List.{length-map}
 use Rattle.host_map.specs.declared.placed.Owner.{Owner}
 use Rattle.host_map.specs.declared.placed.Placed.{Placed}
 use Rattle.host_map.specs.Blocks.{AreSingle, owned, renamed_block, renamed_blocks, renaming}
-use Rattle.space_blocks.specs.Spaces.{IsSpace, SpaceState}
+use Rattle.space_blocks.specs.Spaces.{AreKept, SpaceState}
 use Rattle.space_blocks.proofs.Moving.{all_kept}
-use Rattle.space_blocks.proofs.Renames.{other_owner, owner_given, owner_left, single_renamed, space_renamed}
+use Rattle.space_blocks.proofs.Renames.{kept_renamed, other_owner, owner_given, owner_left, single_renamed}
 use Rattle.space_blocks.proofs.blocks.SpaceBlocks.rename.Goals as goal
 use Rattle.space_blocks.proofs.blocks.SpaceBlocks.rename.Goals.{After-self-1}
 
@@ -21,8 +21,8 @@ items c =
 
 pub invariant_of-self : goal.invariant_of-self
 invariant_of-self c =
-    subst (λ (bs : List Placed). IsSpace c.self.inside.heap bs c.self.inside.packed) (sym (items c))
-    (space_renamed (renaming c.args.from c.args.to) c.self.inside.heap c.self.inside.blocks.items c.self.inside.packed c.self.invariant)
+    subst (λ (bs : List Placed). AreKept c.self.inside.heap bs) (sym (items c))
+    (kept_renamed (renaming c.args.from c.args.to) c.self.inside.heap c.self.inside.blocks.items c.self.invariant)
 
 pub returns-clause-blocks : goal.returns-clause-blocks
 returns-clause-blocks c = items c ∙ ap (λ (v : SpaceState). renamed_blocks (renaming c.args.from c.args.to) v.blocks) c.self.view_is

@@ -6,7 +6,7 @@ use Rattle.host_map.specs.declared.placed.Placed.{Placed}
 use Rattle.space_blocks.specs.Blocks.{Owns}
 use Rattle.host_map.specs.Blocks.{disowned, owned, without_at}
 use Rattle.space_blocks.specs.Spaces.{AreKept, SpaceState}
-use Rattle.space_blocks.proofs.Keeping.{is_without, kept_given, kept_sorted, piece_block, stands_there, unpacked}
+use Rattle.space_blocks.proofs.Keeping.{is_without, kept_given, kept_sorted, piece_block, stands_there}
 use Rattle.space_blocks.proofs.Owners.{others_without, removed_only}
 use Rattle.space_blocks.proofs.blocks.SpaceBlocks.take_out.Goals as goal
 use Rattle.space_blocks.proofs.blocks.SpaceBlocks.take_out.Goals.{After-give, After-give-arg-1}
@@ -28,7 +28,7 @@ give-requires-clause-block c =
     let lt : k < length bs = subst (λ (xs : List Placed). k < length xs) c.as_slice.ensures.value c.position-index.ensures.within in
     let at : (d : Placed) → (get_or bs k d).place ≡ c.args.piece.place =
     λ d. subst (λ (xs : List Placed). (get_or xs k d).place ≡ c.place.result) c.as_slice.ensures.value (c.position-index.ensures.found d) ∙ c.place.ensures.value in
-    piece_block c.self.inside.heap bs c.self.invariant.kept owner c.args.piece owns k lt at
+    piece_block c.self.inside.heap bs c.self.invariant owner c.args.piece owns k lt at
 
 owns : (c : After-give) (owner : Owner) → Owns c.args.self.now.blocks owner c.args.piece → Owns c.self.inside.blocks.items owner c.args.piece
 owns c owner it = subst (λ (v : SpaceState). Owns v.blocks owner c.args.piece) (sym c.self.view_is) it
@@ -43,15 +43,14 @@ there c d =
 
 without : (c : After-give) → remove c.self.inside.blocks.items c.position-index.result ≡ without_at c.args.piece.place c.self.inside.blocks.items
 without c =
-    is_without c.self.inside.heap c.self.inside.blocks.items c.self.invariant.kept c.requires.owner.0 c.args.piece (owns c c.requires.owner.0 c.requires.owner.1)
+    is_without c.self.inside.heap c.self.inside.blocks.items c.self.invariant c.requires.owner.0 c.args.piece (owns c c.requires.owner.0 c.requires.owner.1)
     c.position-index.result (inside c) (there c)
 
 pub invariant_of-self : goal.invariant_of-self
 invariant_of-self c =
-    unpacked c.give.new.self c.remove-block.new.self.items
-    (subst (λ (xs : List Placed). AreKept c.give.new.self xs) (sym c.remove-block.ensures.items)
-    (kept_given c.self.inside.heap c.self.inside.blocks.items c.self.invariant.kept c.requires.owner.0 c.args.piece (owns c c.requires.owner.0 c.requires.owner.1)
-    c.position-index.result (inside c) (there c) c.give.new.self c.give.ensures.stays.0 c.give.ensures.stays.1 c.give.ensures.taken))
+    subst (λ (xs : List Placed). AreKept c.give.new.self xs) (sym c.remove-block.ensures.items)
+    (kept_given c.self.inside.heap c.self.inside.blocks.items c.self.invariant c.requires.owner.0 c.args.piece (owns c c.requires.owner.0 c.requires.owner.1)
+    c.position-index.result (inside c) (there c) c.give.new.self c.give.ensures.stays.0 c.give.ensures.stays.1 c.give.ensures.taken)
 
 pub returns-clause-blocks : goal.returns-clause-blocks
 returns-clause-blocks c = c.remove-block.ensures.items ∙ without c ∙ ap (λ (v : SpaceState). without_at c.args.piece.place v.blocks) c.self.view_is
@@ -61,7 +60,7 @@ returns-clause-only c =
     let bs = c.self.inside.blocks.items in
     λ owner align one.
     c.remove-block.ensures.items
-    ∙ removed_only bs owner align c.args.piece c.position-index.result (inside c) (there c) (kept_sorted c.self.inside.heap bs c.self.invariant.kept)
+    ∙ removed_only bs owner align c.args.piece c.position-index.result (inside c) (there c) (kept_sorted c.self.inside.heap bs c.self.invariant)
     (ap (λ (v : SpaceState). owned owner v.blocks) c.self.view_is ∙ one)
     ∙ ap (λ (v : SpaceState). disowned owner v.blocks) c.self.view_is
 
@@ -70,5 +69,5 @@ returns-clause-others c =
     let bs = c.self.inside.blocks.items in
     λ owner o it apart.
     ap (λ xs. owned o xs) c.remove-block.ensures.items
-    ∙ others_without 0 bs (kept_sorted c.self.inside.heap bs c.self.invariant.kept) owner o c.args.piece (owns c owner it) c.position-index.result blank (inside c) (there c blank) apart
+    ∙ others_without 0 bs (kept_sorted c.self.inside.heap bs c.self.invariant) owner o c.args.piece (owns c owner it) c.position-index.result blank (inside c) (there c blank) apart
     ∙ ap (λ (v : SpaceState). owned o v.blocks) c.self.view_is
