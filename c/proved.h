@@ -1,7 +1,7 @@
 /* SPDX-License-Identifier: Apache-2.0
  *
- * The proved entry points, which crates/host_library and crates/dsp_library export. rokdaum.c calls them once it has tested what a
- * caller gave; c/check_header compares these prototypes with the exports. */
+ * The proved entry points, which crates/dsp_library exports. rokdaum.c calls them once it has tested what a caller gave;
+ * c/check_header compares these prototypes with the exports. */
 #ifndef ROKDAUM_PROVED_H
 #define ROKDAUM_PROVED_H
 

@@ -25,13 +25,13 @@ PICTURE = Path("docs/architecture.svg")
 # The layers from the top down, where crates.txt has no headings: a crate belongs to the first whose pattern it matches as a whole.
 LAYERS: tuple[tuple[str, str], ...] = (
     ("tests", r"test_\w+|\w+_trace|rogue_kit|mixed_console"),
-    ("C library", r"\w+_library|library_runs"),
-    ("program", r"dsp_console_main|gateway_console|dsp_arguments|dsp_program|line_reasons|port_files"),
-    ("engine", r"dsp_console|voice_console|script_server|port_journal|octet_ports"),
+    ("C library", r"\w+_library"),
+    ("program", r"dsp_console_main|gateway_console|dsp_program|port_files"),
+    ("engine", r"dsp_console|script_server|octet_ports"),
     ("channels", r"voice_channel"),
     ("host", r"alg_host|host_(?:create|delete)"),
     ("instances of a host", r"host_(?:table|shared|moves|spaces)"),
-    ("specification", r"\w+_spec|run_theorem"),
+    ("specification", r"\w+_spec"),
     ("script", r"voice_script"),
     ("one instance", r"lifecycle|scratch_group|record_loans"),
     ("spaces", r"space_\w+"),

@@ -38,7 +38,7 @@ PLATFORM = "x86_64-linux"
 # The programs: where each stands in a release, and its crate.
 PROGRAMS = {"dsp_console": program.NAME, "gateway_console": program.GATEWAY}
 # The crates whose archives the C library is made of.
-ARCHIVES = ("dsp_library", "host_library")
+ARCHIVES = ("dsp_library",)
 # The files at the top that a release has. Its README is made of a page of docs.
 FILES = ("CHANGELOG.md", "LICENSE", "Makefile", "NOTICE", "SECURITY.md", "VERSION")
 README = "docs/RELEASE.md"

@@ -191,7 +191,7 @@ class Parts(unittest.TestCase):
         self.assertEqual(program.absolute(["--poison=3", "--in8", "1", "--", "-s", "/i"]), ["--poison=3", "--in8", "1", "--", f"{here}/-s", "/i"])
 
     def test_a_static_library_is_an_archive(self) -> None:
-        self.assertEqual([program.path_of(it).name for it in ("host_library", "voice_set", program.NAME)], ["libhost_library.a", "voice_set", "dsp_console_main"])
+        self.assertEqual([program.path_of(it).name for it in ("dsp_library", "voice_set", program.NAME)], ["libdsp_library.a", "voice_set", "dsp_console_main"])
 
     def test_a_crate_stands_behind_what_it_uses(self) -> None:
         crates = program.closure()

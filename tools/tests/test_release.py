@@ -17,7 +17,7 @@ from pathlib import Path
 TOP = Path(__file__).resolve().parents[2]
 LOGIC = "5a" * 32
 SCRIPT = f"#!/bin/sh\n# rattle logic={LOGIC}\n# GLIBC_2.9 GLIBC_2.31\necho proved\n"
-PROGRAMS, ARCHIVES = ("dsp_console_main", "gateway_console"), ("dsp_library", "host_library")
+PROGRAMS, ARCHIVES = ("dsp_console_main", "gateway_console"), ("dsp_library",)
 # A library that is made as c/Makefile makes the real one: of the archives.
 LIBRARY = """all:
 	mkdir -p ../out/c
@@ -109,7 +109,7 @@ class Release(unittest.TestCase):
         wanted |= {f"python/{it}" for it in ("rokdaum/host.py", "rokdaum/librokdaum.so", "bin/dsp_run", "bin/dsp_design", "bin/dsp_map")}
         self.assertEqual(set(texts), wanted)
         self.assertEqual((texts["dsp_console"], texts["gateway_console"]), (SCRIPT, SCRIPT))
-        self.assertEqual((texts["lib/librokdaum.a"], texts["python/rokdaum/librokdaum.so"]), ("dsp_library\nhost_library\n", texts["lib/librokdaum.so.1.2.3"]))
+        self.assertEqual((texts["lib/librokdaum.a"], texts["python/rokdaum/librokdaum.so"]), ("dsp_library\n", texts["lib/librokdaum.so.1.2.3"]))
         self.assertEqual(texts["lib/pkgconfig/rokdaum.pc"], "prefix=${pcfiledir}/../..\nincludedir=${prefix}/c\nVersion: 1.2.3\n")
         self.assertEqual(texts["README.md"], "[a](docs/A.md) [x](examples/x) [c](CHANGELOG.md) [n](https://example.org/A.md)\n")
         self.assertIn(f"logic    {LOGIC}\n", texts["ORIGIN"])
@@ -136,8 +136,8 @@ class Release(unittest.TestCase):
         self.call("make", "dist", status=2)
 
     def test_no_library(self) -> None:
-        (self.top / "crates/host_library/out/libhost_library.a").unlink()
-        self.assertIn("archive host_library isn't built", self.release(status=69))
+        (self.top / "crates/dsp_library/out/libdsp_library.a").unlink()
+        self.assertIn("archive dsp_library isn't built", self.release(status=69))
         self.build()
         (self.top / "c/Makefile").write_text("all:\n\t@echo no compiler; exit 1\n")
         self.assertIn("make -C c ended with status 2: no compiler", self.release("--changed", status=1))

@@ -16,13 +16,13 @@ use Rattle.voice_script.specs.Script as script
 use Rattle.voice_script.specs.Script.{Command, parsed}
 use Rattle.voice_script.specs.Replies as replies
 use Rattle.voice_script.specs.Replies.{reply_text}
-use Rattle.line_spec.specs.Served as asks
-use Rattle.line_spec.specs.Served.{Asked, Answer, LinesAnswer, tells}
-use Rattle.line_spec.specs.Computed.{IsComputed}
-use Rattle.line_spec.specs.declared.width.Width.{Width}
-use Rattle.line_spec.specs.declared.width.Width.TheVariants.{Word}
-use Rattle.line_spec.specs.Widths.{Widths}
-use Rattle.line_spec.proofs.ComputedLemmas.{lines_are}
+use Rattle.voice_script.specs.Served as asks
+use Rattle.voice_script.specs.Served.{Asked, Answer, LinesAnswer, tells}
+use Rattle.voice_script.specs.Computed.{IsComputed}
+use Rattle.voice_script.specs.declared.width.Width.{Width}
+use Rattle.voice_script.specs.declared.width.Width.TheVariants.{Word}
+use Rattle.voice_script.specs.Widths.{Widths}
+use Rattle.voice_script.proofs.ComputedLemmas.{lines_are}
 use Rattle.console_spec.specs.Samples.{octets_at, samples_at}
 use Rattle.console_spec.specs.Console.{feed_asked, Calls, CommandAsks, LineAsks, console_machine, start, status_reply, told_by}
 use Rattle.console_spec.specs.Answers.{command_asks, line_asks, computed_console, lines_served}

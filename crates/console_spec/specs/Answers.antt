@@ -15,9 +15,9 @@ use Rattle.channel_spec.specs.Answers.{passed}
 use Rattle.voice_script.specs.Script.{Command, Create, Set, Reset, Get, Delete, Chain, Unchain, Feed, Compact, Step, Release, Map, Stat, lines_of, parsed}
 use Rattle.voice_script.specs.Replies as replies
 use Rattle.voice_script.specs.Replies.{Reply, No, reply_text}
-use Rattle.line_spec.specs.Served.{Asked, Nothing, Machine, Answer, tells}
-use Rattle.line_spec.specs.Computed.{Computed, lines_answer, machine_of}
-use Rattle.line_spec.specs.Widths.{Widths}
+use Rattle.voice_script.specs.Served.{Asked, Nothing, Machine, Answer, tells}
+use Rattle.voice_script.specs.Computed.{Computed, lines_answer, machine_of}
+use Rattle.voice_script.specs.Widths.{Widths}
 use Rattle.console_spec.specs.Samples.{octets_at, samples_at}
 use Rattle.console_spec.specs.Console.{feed_asked, start, status_reply, told_by}
 

@@ -16,10 +16,10 @@ use Rattle.voice_script.specs.Script as script
 use Rattle.voice_script.specs.Script.{Command, parsed}
 use Rattle.voice_script.specs.Replies as replies
 use Rattle.voice_script.specs.Replies.{Reply, No, reply_text}
-use Rattle.line_spec.specs.Served as asks
-use Rattle.line_spec.specs.Served.{Asked, Machine, Run, tells}
-use Rattle.line_spec.specs.declared.width.Width.{Width}
-use Rattle.line_spec.specs.Widths.{Widths, octet_count}
+use Rattle.voice_script.specs.Served as asks
+use Rattle.voice_script.specs.Served.{Asked, Machine, Run, tells}
+use Rattle.voice_script.specs.declared.width.Width.{Width}
+use Rattle.voice_script.specs.Widths.{Widths, octet_count}
 use Rattle.console_spec.specs.Samples.{octets_at, samples_at}
 
 -- ---- what is told of answers: why a call was refused, or what it answered

@@ -1,3 +1,9 @@
 pub mod Console
 pub mod Samples
 pub mod Answers
+pub mod HostRuns
+pub mod Births
+pub mod Lines
+pub mod Room
+pub mod Sounds
+pub mod Headline

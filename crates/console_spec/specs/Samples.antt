@@ -2,8 +2,8 @@
 use Rattle.std.specs.Prelude.{ℕ, ◌+◌, ◌*◌, ◌/◌, ◌%◌, List, [], ◌∷◌, map, ℤ, pos}
 use Rattle.std.specs.Int.{w16, cast_signed, cast_unsigned}
 use Rattle.std.specs.List.{flat_map}
-use Rattle.line_spec.specs.declared.width.Width.{Width}
-use Rattle.line_spec.specs.declared.width.Width.TheVariants.{Word, Octet}
+use Rattle.voice_script.specs.declared.width.Width.{Width}
+use Rattle.voice_script.specs.declared.width.Width.TheVariants.{Word, Octet}
 
 -- of each sample's 16 bits the low octet and the high one
 abbrev pub octets_of : List ℤ → List ℕ

@@ -7,9 +7,9 @@ ghost use Rattle.host_spec.specs.Answers.{AreLawful};
 ghost use Rattle.channel_spec.specs.Channels.{Channels};
 ghost use Rattle.voice_script.specs.Script.{lines_of};
 ghost use Rattle.channel_spec.specs.Laws.{with_poison};
-ghost use Rattle.line_spec.specs.Served.{Answer, FedAnswer, FeedAnswer, LinesAnswer, Run, octets_left, refuses};
-ghost use Rattle.line_spec.specs.Computed.{IsComputed, after_reading};
-ghost use Rattle.line_spec.specs.Widths.{Widths};
+ghost use Rattle.voice_script.specs.Served.{Answer, FedAnswer, FeedAnswer, LinesAnswer, Run, octets_left, refuses};
+ghost use Rattle.voice_script.specs.Computed.{IsComputed, after_reading};
+ghost use Rattle.voice_script.specs.Widths.{Widths};
 ghost use Rattle.console_spec.specs.Console.{console_machine, start};
 ghost use Rattle.console_spec.specs.Answers.{computed_console, served, lines_served};
 

@@ -5,7 +5,7 @@ use Rattle.dsp_console.specs.declared.serving.Fault.{Fault}
 use Rattle.ialg.specs.Meaning.{Meaning}
 use Rattle.host_map.specs.declared.parts.Sizes.{Sizes}
 use Rattle.script_server.specs.Runs.{Devices, EndsWell, IsHonest, octets_to_come}
-use Rattle.line_spec.specs.Widths.{Widths}
+use Rattle.voice_script.specs.Widths.{Widths}
 use Rattle.console_spec.specs.Console.{console_machine, start}
 use Rattle.dsp_console.specs.Headline.{RunHeadline, RunSounds}
 

@@ -7,9 +7,9 @@ use Rattle.host_map.specs.declared.parts.Sizes.{Sizes}
 use Rattle.host_spec.specs.Answers.{AreLawful}
 use Rattle.channel_spec.specs.Channels.{Channels}
 use Rattle.voice_script.specs.Script.{lines_of}
-use Rattle.line_spec.specs.Served.{Answer, LinesAnswer, order_of, refusals}
-use Rattle.line_spec.specs.Computed.{IsComputed}
-use Rattle.line_spec.specs.Widths.{Widths}
+use Rattle.voice_script.specs.Served.{Answer, LinesAnswer, order_of, refusals}
+use Rattle.voice_script.specs.Computed.{IsComputed}
+use Rattle.voice_script.specs.Widths.{Widths}
 use Rattle.script_server.specs.Runs.{Devices, EndsByRead, EndsByWrite, EndsWell, IsHonest, Writes, honest_at, octets_to_come}
 use Rattle.script_server.proofs.ComputedEnds as computed_ends
 use Rattle.script_server.proofs.Honest.{all_honest}

@@ -6,14 +6,14 @@ use Rattle.std.proofs.lemmas.List.{length-map}
 use Rattle.host_map.specs.declared.parts.Sizes.{Sizes}
 use Rattle.host_spaces.specs.MemoryMap.{sizes_of}
 use Rattle.host_spec.specs.State.{State, new_state}
-use Rattle.voice_console.specs.Hosts.{HostState}
-use Rattle.voice_console.specs.Hosts as hosts
+use Rattle.dsp_console.specs.Hosts.{HostState}
+use Rattle.dsp_console.specs.Hosts as hosts
 use Rattle.octet_ports.specs.Ports.{Source}
 use Rattle.script_server.specs.Runs.{Devices, EndsByRead, EndsByWrite, EndsWell, octets_to_come, run_of}
-use Rattle.line_spec.specs.Widths.{Widths}
+use Rattle.voice_script.specs.Widths.{Widths}
 use Rattle.console_spec.specs.Console.{console_machine, new_channels, start}
-use Rattle.voice_console.specs.declared.console.Console.{Console}
-use Rattle.voice_console.specs.Consoles.{Keeps, port_widths_of}
+use Rattle.dsp_console.specs.declared.console.Console.{Console}
+use Rattle.dsp_console.specs.Consoles.{Keeps, port_widths_of}
 use Rattle.dsp_console.specs.Fresh.{fresh}
 use Rattle.ialg.specs.Laws.{Laws}
 

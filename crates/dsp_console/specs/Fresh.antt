@@ -5,7 +5,7 @@ use Rattle.channel_spec.specs.Channels.{Channels}
 use Rattle.octet_ports.specs.Ports.{Source}
 use Rattle.script_server.specs.Runs.{octets_to_come}
 use Rattle.console_spec.specs.Console.{new_channels}
-use Rattle.voice_console.specs.declared.console.Console.{Console}
+use Rattle.dsp_console.specs.declared.console.Console.{Console}
 
 abbrev pub fresh : {M : Type 0} → Console M → List Source → Channels M
 fresh console sources = new_channels (sizes_of console.channels.host.spaces) console.channels.host.poison (length (octets_to_come sources))

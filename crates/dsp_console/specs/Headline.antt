@@ -3,12 +3,12 @@ use Rattle.std.specs.Prelude.{ℕ, ℤ, ◌<◌, List, Option, length, slice_ind
 use Rattle.ialg.specs.Meaning.{Meaning}
 use Rattle.host_map.specs.declared.parts.Sizes.{Sizes}
 use Rattle.voice_script.specs.Script.{lines_of}
-use Rattle.line_spec.specs.Widths.{Widths}
+use Rattle.voice_script.specs.Widths.{Widths}
 use Rattle.octet_ports.specs.Ports.{Holds}
 use Rattle.script_server.specs.Runs.{Devices, ServedAll, honest_at, no_sink, octets_to_come}
 use Rattle.console_spec.specs.Console.{console_machine, start}
-use Rattle.run_theorem.specs.Headline.{Headline}
-use Rattle.run_theorem.specs.Sounds.{Sounds}
+use Rattle.console_spec.specs.Headline.{Headline}
+use Rattle.console_spec.specs.Sounds.{Sounds}
 
 -- over ports of these widths, from a host of these sizes and this poison word, all of the script was served, by an answer that the machine
 -- may give: the ports hold what it says, the inputs have what it left, and so many lines were refused. And of that answer the headline holds

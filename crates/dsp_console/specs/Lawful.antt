@@ -2,8 +2,8 @@
 use Rattle.std.specs.Prelude.{◌≡◌, ℕ, List, Option, None}
 use Rattle.ialg.specs.Meaning.{Meaning}
 use Rattle.host_map.specs.declared.parts.Sizes.{Sizes}
-use Rattle.line_spec.specs.Served.{order_of, refusals}
-use Rattle.line_spec.specs.Widths.{Widths}
+use Rattle.voice_script.specs.Served.{order_of, refusals}
+use Rattle.voice_script.specs.Widths.{Widths}
 use Rattle.script_server.specs.Runs.{Devices, EndsByRead, EndsByWrite, EndsWell, Writes, octets_to_come}
 use Rattle.console_spec.specs.Console.{start}
 use Rattle.console_spec.specs.Answers.{lawful_console, served}

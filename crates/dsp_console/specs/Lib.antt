@@ -2,3 +2,5 @@ pub mod Fresh
 pub mod Outcomes
 pub mod Lawful
 pub mod Headline
+pub mod Consoles
+pub mod Hosts

@@ -5,12 +5,12 @@ ghost use Rattle.host_spec.specs.Calls.{Call};
 ghost use Rattle.host_spec.specs.Runs.{history_of_run, outputs_in, statuses_in};
 ghost use Rattle.channel_spec.specs.Channels.{Channels};
 ghost use Rattle.voice_script.specs.Script.{lines_of};
-ghost use Rattle.line_spec.specs.Served.{Answer};
-ghost use Rattle.line_spec.specs.Widths.{Widths};
+ghost use Rattle.voice_script.specs.Served.{Answer};
+ghost use Rattle.voice_script.specs.Widths.{Widths};
 ghost use Rattle.console_spec.specs.Console.{console_machine, start};
 ghost use Rattle.script_server.specs.Runs.{Devices, EndsByRead, EndsWell, IsHonest, honest_at, octets_to_come};
-ghost use Rattle.run_theorem.specs.Births.{Born};
-ghost use Rattle.run_theorem.specs.Headline.{GoesOn, Headline};
+ghost use Rattle.console_spec.specs.Births.{Born};
+ghost use Rattle.console_spec.specs.Headline.{GoesOn, Headline};
 ghost use Rattle.dsp_console.specs.Headline.{RunHeadline, RunSounds};
 
 use ialg::{Ialg, Named};
@@ -48,5 +48,5 @@ pub fn headline<M: Ialg + Named>()
         → history_of_run i [] later ≡ history_of_run j [] since
         → (outputs_in i later ≡ outputs_in j since) × (statuses_in i later ≡ statuses_in j since) }
 {
-    run_theorem::headline::<M>();
+    console_spec::headline::<M>();
 }

@@ -4,16 +4,17 @@ ghost use Rattle.octet_ports.specs.Ports.{GivesWithin};
 ghost use Rattle.host_map.specs.MemoryMap.{AreSizes};
 ghost use Rattle.host_spec.specs.Answers.{AreLawful};
 ghost use Rattle.host_spec.specs.State.{new_state};
-ghost use Rattle.voice_console.specs.Hosts.{lives};
-ghost use Rattle.voice_console.specs.Hosts as hosts;
-ghost use Rattle.line_spec.specs.Widths.{widths_of};
+ghost use Rattle.dsp_console.specs.Hosts.{lives};
+ghost use Rattle.dsp_console.specs.Hosts as hosts;
+ghost use Rattle.voice_script.specs.Widths.{widths_of};
 ghost use Rattle.console_spec.specs.Console.{console_machine, start};
 ghost use Rattle.script_server.specs.Runs.{Ready, EndsWell, EndsByRead, EndsByWrite, IsHonest, IsUnused, known_of, octets_to_come, run_of};
-ghost use Rattle.voice_console.specs.Consoles.{Keeps, channels_of, port_widths_of};
+ghost use Rattle.dsp_console.specs.Consoles.{Keeps, channels_of, port_widths_of};
 ghost use Rattle.dsp_console.specs.Fresh.{fresh};
 ghost use Rattle.dsp_console.specs.Headline.{RunHeadline, RunSounds};
 ghost use Rattle.dsp_console.specs.Lawful.{EndsLawfully, EndsLawfullyByRead, EndsLawfullyByWrite, ServesLawfully};
 
+use crate::console::Console;
 use crate::laws::headline;
 use console_spec::lawful_consoles_serve_one_answer;
 use ialg::{Ialg, Named};
@@ -21,7 +22,8 @@ use octet_ports::{PortIn, PortOut};
 use script_server::{PortsFault, SCRIPT_OCTETS, serve};
 use std::alloc::{Allocator, Global};
 use thiserror::Error;
-use voice_console::{CHANNELS, Console, Host, HostMemory, PortWidths, Sizes, StartError};
+use voice_channel::{CHANNELS, Host, HostMemory, Sizes, StartError};
+use voice_script::PortWidths;
 
 /// What a run is told beside its ports.
 #[derive(Clone, Copy, PartialEq, Eq, Debug)]

@@ -1,7 +1,7 @@
 -- How the words of an instance of a gateway's kind keep its history, which is as its kind does.
 use Rattle.ialg.specs.Filters as filters
 use Rattle.ialg.specs.Laws.{Laws, Relation}
-use Rattle.kind_sets.specs.Either.{either_keeps}
+use Rattle.kind_parts.specs.Either.{either_keeps}
 use Rattle.kind_parts.specs.declared.mapping.Mapped.{Mapped}
 use Rattle.kind_parts.specs.declared.framing.Framed.{Framed}
 use Rattle.kind_parts.specs.declared.words.TheConstants.{SUM_WORDS}

@@ -1,9 +1,9 @@
 -- The kinds of a gateway, each at its place in the set, and what each means.
 use Rattle.ialg.specs.Meaning.{Meaning}
 use Rattle.ialg.specs.Filters.{FilterMeaning, meaning_of}
-use Rattle.kind_sets.specs.declared.either.Or.{Or}
-use Rattle.kind_sets.specs.declared.either.Or.TheVariants.{First, Second}
-use Rattle.kind_sets.specs.Either.{either_means}
+use Rattle.kind_parts.specs.declared.either.Or.{Or}
+use Rattle.kind_parts.specs.declared.either.Or.TheVariants.{First, Second}
+use Rattle.kind_parts.specs.Either.{either_means}
 use Rattle.kind_parts.specs.declared.mapping.Mapped.{Mapped}
 use Rattle.kind_parts.specs.declared.framing.Framed.{Framed}
 use Rattle.kind_parts.specs.declared.words.TheConstants.{SUM_WORDS}

@@ -21,7 +21,7 @@ use alg_dtmf::Dtmf;
 use alg_gain::Gain;
 use alg_level::Level;
 use ialg::Ialg;
-use kind_sets::Or;
+use kind_parts::Or;
 use voice_set::Voice;
 
 /// A kind that a gateway hosts: `fir`, `decim`, `biquad`, `tone`, `g711`, `gain`, `level` or `dtmf`.

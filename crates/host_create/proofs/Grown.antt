@@ -19,9 +19,9 @@ use Rattle.lifecycle.specs.States.{Fits}
 use Rattle.lifecycle.proofs.Frames.{placed-unplaced}
 use Rattle.host_map.specs.declared.placed.Owner.{Owner}
 use Rattle.host_map.specs.declared.placed.Owner.TheVariants.{Record, Scratch}
-use Rattle.space_blocks.specs.Blocks.{block_of_piece, without_piece}
+use Rattle.host_spaces.specs.Blocks.{block_of_piece, without_piece}
 use Rattle.host_map.specs.Blocks.{owned}
-use Rattle.space_blocks.proofs.Inserts.{sorted}
+use Rattle.host_spaces.proofs.Inserts.{sorted}
 use Rattle.host_spaces.specs.declared.pieces.NewBlocks.{NewBlocks}
 use Rattle.host_spaces.specs.declared.pieces.OldBlocks.{OldBlocks}
 use Rattle.host_spaces.specs.declared.spaces.Spaces.{Spaces}

@@ -7,10 +7,10 @@ use Rattle.record_loans.specs.declared.block.ScratchBlock.{ScratchBlock}
 use Rattle.record_loans.specs.Blocks.{block_align, block_piece, block_words, IsSameBlock}
 use Rattle.host_map.specs.declared.placed.Owner.TheVariants.{Scratch}
 use Rattle.host_map.specs.declared.placed.Placed.{Placed}
-use Rattle.space_blocks.specs.Blocks.{block_of, block_of_piece, without_piece}
+use Rattle.host_spaces.specs.Blocks.{block_of, block_of_piece, without_piece}
 use Rattle.host_map.specs.Blocks.{owned, same_owner, with_block, without_at}
-use Rattle.space_blocks.proofs.Orders.{AreSortedFrom, before, behind, dropped, is_other, kept, sorted_filter}
-use Rattle.space_blocks.proofs.Owners.{filters}
+use Rattle.host_spaces.proofs.Orders.{AreSortedFrom, before, behind, dropped, is_other, kept, sorted_filter}
+use Rattle.host_spaces.proofs.Owners.{filters}
 use Rattle.host_spaces.specs.Pieces.{with_new}
 use Rattle.host_create.specs.Blocks.{newer, replaced_piece}
 

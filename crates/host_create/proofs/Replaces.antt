@@ -12,7 +12,7 @@ use Rattle.scratch_group.specs.declared.group.Need.{Need}
 use Rattle.scratch_group.specs.Blocks.{block_in}
 use Rattle.host_map.specs.declared.placed.Owner.TheVariants.{Scratch}
 use Rattle.host_map.specs.declared.placed.Placed.{Placed}
-use Rattle.space_blocks.specs.Blocks.{block_of_piece}
+use Rattle.host_spaces.specs.Blocks.{block_of_piece}
 use Rattle.host_spaces.specs.declared.pieces.NewBlocks.{NewBlocks}
 use Rattle.host_map.specs.declared.parts.Wanted.{Wanted}
 use Rattle.host_map.specs.Creation.{replaced_block, replaces}

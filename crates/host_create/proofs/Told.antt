@@ -23,9 +23,9 @@ use Rattle.record_loans.proofs.PieceLemmas.{same_pieces}
 use Rattle.host_map.specs.declared.placed.Owner.{Owner}
 use Rattle.host_map.specs.declared.placed.Owner.TheVariants.{Scratch}
 use Rattle.host_map.specs.declared.placed.Placed.{Placed}
-use Rattle.space_blocks.specs.Blocks.{Owns, block_of, block_of_piece, without_piece}
+use Rattle.host_spaces.specs.Blocks.{Owns, block_of, block_of_piece, without_piece}
 use Rattle.host_map.specs.Blocks.{owned, with_block}
-use Rattle.space_blocks.proofs.Orders.{before, behind}
+use Rattle.host_spaces.proofs.Orders.{before, behind}
 use Rattle.host_spaces.specs.declared.pieces.NewBlocks.{NewBlocks}
 use Rattle.host_spaces.specs.declared.pieces.OldBlocks.{OldBlocks}
 use Rattle.host_spaces.specs.declared.spaces.Spaces.{Spaces}

@@ -27,13 +27,12 @@ ghost use Rattle.host_table.specs.Starts.{asked_for, BeginsHistory};
 use crate::growth::grow;
 use host_moves::{in_order, maps_have_room};
 use host_shared::Sharers;
-use host_spaces::{Placement, Spaces, creations};
+use host_spaces::{Placement, Spaces, blocks_are_few, creations};
 use host_table::{NewInstance, Tables, find_sharers, start};
 use ialg::{Ialg, Params};
 use mem_rec::{MemTab, Space};
 use record_loans::Pieces;
 use scratch_group::Group;
-use space_blocks::blocks_are_few;
 
 /// The sharers as a list, by the numbers of records.
 fn listed(sharers: &Sharers) -> host_spaces::Sharers

@@ -16,9 +16,9 @@ use Rattle.record_loans.proofs.PieceLemmas.{same_pieces}
 use Rattle.host_map.specs.declared.placed.Owner.{Owner}
 use Rattle.host_map.specs.declared.placed.Owner.TheVariants.{Record, Scratch as GroupScratch}
 use Rattle.host_map.specs.declared.placed.Placed.{Placed}
-use Rattle.space_blocks.specs.Blocks.{Owns, block_of_piece}
+use Rattle.host_spaces.specs.Blocks.{Owns, block_of_piece}
 use Rattle.host_map.specs.Blocks.{owned}
-use Rattle.space_blocks.proofs.Owners.{owns_one}
+use Rattle.host_spaces.proofs.Owners.{owns_one}
 use Rattle.host_spaces.specs.declared.spaces.Spaces.{Spaces}
 use Rattle.host_spaces.specs.declared.pieces.OldBlocks.{OldBlocks}
 use Rattle.host_spaces.specs.MemoryMap.{AreSameSpaces, map_of}

@@ -20,9 +20,9 @@ use Rattle.mem_rec.specs.declared.TheConstants.{INSTANCES}
 use Rattle.host_map.specs.declared.placed.Owner.{Owner}
 use Rattle.host_map.specs.declared.placed.Owner.TheVariants.{Record, Scratch}
 use Rattle.host_map.specs.declared.placed.Placed.{Placed}
-use Rattle.space_blocks.specs.Blocks.{block_of_piece}
+use Rattle.host_spaces.specs.Blocks.{block_of_piece}
 use Rattle.host_map.specs.Blocks.{owned}
-use Rattle.space_blocks.proofs.Owners.{itself}
+use Rattle.host_spaces.proofs.Owners.{itself}
 use Rattle.host_spaces.specs.declared.spaces.Spaces.{Spaces}
 use Rattle.host_map.specs.MemoryMap.{blocks_in, empty_map}
 use Rattle.host_spaces.specs.MemoryMap.{map_of}

@@ -20,7 +20,7 @@ use Rattle.host_map.specs.declared.placed.Owner.{Owner}
 use Rattle.host_map.specs.declared.placed.Owner.TheVariants.{Record, Scratch as GroupScratch}
 use Rattle.host_map.specs.declared.placed.Placed.{Placed}
 use Rattle.host_map.specs.Blocks.{owned, renamed_blocks}
-use Rattle.space_blocks.proofs.Owners.{not_same}
+use Rattle.host_spaces.proofs.Owners.{not_same}
 use Rattle.host_spaces.specs.declared.spaces.Spaces.{Spaces}
 use Rattle.host_map.specs.MemoryMap.{MemoryMap, blocks_in, blocks_without, is_instance's, without_owners}
 use Rattle.host_spaces.specs.MemoryMap.{AreSameSpaces, map_of, space_in}

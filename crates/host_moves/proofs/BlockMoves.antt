@@ -21,7 +21,7 @@ use Rattle.lifecycle.specs.Rooms.{lasting_piece}
 use Rattle.host_map.specs.declared.placed.Owner.{Owner}
 use Rattle.host_map.specs.declared.placed.Owner.TheVariants.{Scratch as GroupScratch}
 use Rattle.host_map.specs.declared.placed.Placed.{Placed}
-use Rattle.space_blocks.specs.Blocks.{Owns, block_of, block_of_piece}
+use Rattle.host_spaces.specs.Blocks.{Owns, block_of, block_of_piece}
 use Rattle.host_map.specs.Blocks.{block_range, owned}
 use Rattle.host_map.specs.Moves.{next_block}
 use Rattle.host_spaces.specs.declared.spaces.Spaces.{Spaces}

@@ -13,7 +13,7 @@ use Rattle.host_shared.specs.declared.locations.Locations.{Locations}
 use Rattle.host_map.specs.declared.placed.Placed.{Placed}
 use Rattle.host_map.specs.Blocks.{ranges}
 use Rattle.host_map.specs.Moves.{next_block, spots_of}
-use Rattle.space_blocks.specs.Spaces.{AreInOrder}
+use Rattle.host_spaces.specs.Spaces.{AreInOrder}
 use Rattle.host_spaces.specs.declared.spaces.Spaces.{Spaces}
 use Rattle.host_map.specs.MemoryMap.{blocks_in, moved_in}
 use Rattle.host_spaces.specs.MemoryMap.{map_of, sizes_of}

@@ -20,8 +20,8 @@ use Rattle.host_map.specs.declared.placed.Owner.{Owner}
 use Rattle.host_map.specs.declared.placed.Owner.TheVariants.{Record, Scratch as GroupScratch}
 use Rattle.host_map.specs.declared.placed.Placed.{Placed}
 use Rattle.host_map.specs.Blocks.{AreSingle, IsOwner, owned, same_owner}
-use Rattle.space_blocks.specs.Blocks.{block_of_piece}
-use Rattle.space_blocks.proofs.Owners.{itself}
+use Rattle.host_spaces.specs.Blocks.{block_of_piece}
+use Rattle.host_spaces.proofs.Owners.{itself}
 use Rattle.host_spaces.specs.declared.spaces.Spaces.{Spaces}
 use Rattle.host_map.specs.MemoryMap.{MemoryMap, blocks_in, empty_map}
 use Rattle.host_spaces.specs.MemoryMap.{map_of}

@@ -6,7 +6,7 @@ use Rattle.space_raw.specs.Span.{Extent, Span}
 use Rattle.mem_rec.specs.declared.MemRec.{MemRec}
 use Rattle.mem_rec.specs.declared.Space.{Space}
 use Rattle.mem_rec.specs.declared.Space.TheVariants.{Daram, Saram, External}
-use Rattle.space_blocks.specs.Spaces.{SpaceState}
+use Rattle.host_spaces.specs.Spaces.{SpaceState}
 use Rattle.mem_rec.specs.declared.Attr.TheVariants.{Persist, WriteOnce}
 use Rattle.mem_rec.specs.Records.{same_space, is_persistent}
 use Rattle.ialg.specs.Records.{record_at, unplaced}
@@ -20,7 +20,7 @@ use Rattle.lifecycle.specs.Rooms.{piece_of_record}
 use Rattle.host_map.specs.declared.placed.Placed.{Placed}
 use Rattle.host_map.specs.declared.placed.Owner.{Owner}
 use Rattle.host_map.specs.declared.placed.Owner.TheVariants.{Record, Scratch as GroupScratch}
-use Rattle.space_blocks.specs.Blocks.{block_of}
+use Rattle.host_spaces.specs.Blocks.{block_of}
 use Rattle.host_map.specs.Blocks.{owned}
 use Rattle.host_spaces.specs.declared.spaces.Spaces.{Spaces}
 use Rattle.host_map.specs.MemoryMap.{blocks_in}

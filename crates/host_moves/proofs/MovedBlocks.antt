@@ -15,7 +15,7 @@ use Rattle.lifecycle.specs.States.{Fits}
 use Rattle.record_loans.proofs.PieceLemmas.{same_pieces}
 use Rattle.lifecycle.proofs.Frames.{placed-unplaced}
 use Rattle.host_map.specs.declared.placed.Owner.TheVariants.{Record, Scratch as GroupScratch}
-use Rattle.space_blocks.specs.Blocks.{block_of_piece}
+use Rattle.host_spaces.specs.Blocks.{block_of_piece}
 use Rattle.host_map.specs.Blocks.{owned}
 use Rattle.host_spaces.specs.declared.spaces.Spaces.{Spaces}
 use Rattle.host_map.specs.MemoryMap.{blocks_in}

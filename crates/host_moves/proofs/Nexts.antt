@@ -13,10 +13,10 @@ use Rattle.relocate.specs.declared.packing.Move.{Move}
 use Rattle.host_map.specs.declared.placed.Owner.{Owner}
 use Rattle.host_map.specs.declared.placed.Owner.TheVariants.{Record}
 use Rattle.host_map.specs.declared.placed.Placed.{Placed}
-use Rattle.space_blocks.specs.Blocks.{block_of, block_of_piece}
+use Rattle.host_spaces.specs.Blocks.{block_of, block_of_piece}
 use Rattle.host_map.specs.Blocks.{owned, same_owner}
 use Rattle.host_map.specs.Moves.{block_at, block_to_move, next_block, next_in}
-use Rattle.space_blocks.proofs.Owners.{itself}
+use Rattle.host_spaces.proofs.Owners.{itself}
 use Rattle.host_spaces.specs.declared.spaces.Spaces.{Spaces}
 use Rattle.host_map.specs.MemoryMap.{blocks_in}
 use Rattle.host_spaces.specs.MemoryMap.{map_of}

@@ -23,7 +23,7 @@ use Rattle.lifecycle.specs.Moves.{restored, with_back, HasRoom}
 use Rattle.host_map.specs.declared.placed.Owner.{Owner}
 use Rattle.host_map.specs.declared.placed.Owner.TheVariants.{Record}
 use Rattle.host_map.specs.declared.placed.Placed.{Placed}
-use Rattle.space_blocks.specs.Blocks.{Owns, block_of}
+use Rattle.host_spaces.specs.Blocks.{Owns, block_of}
 use Rattle.host_map.specs.Blocks.{block_range, owned}
 use Rattle.host_map.specs.Moves.{next_block}
 use Rattle.host_spaces.specs.declared.spaces.Spaces.{Spaces}

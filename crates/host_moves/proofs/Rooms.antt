@@ -27,7 +27,7 @@ use Rattle.scratch_group.proofs.Ends.{blank_at}
 use Rattle.host_map.specs.declared.placed.Owner.{Owner}
 use Rattle.host_map.specs.declared.placed.Owner.TheVariants.{Record, Scratch as GroupScratch}
 use Rattle.host_map.specs.declared.placed.Placed.{Placed}
-use Rattle.space_blocks.specs.Blocks.{block_of, block_of_piece}
+use Rattle.host_spaces.specs.Blocks.{block_of, block_of_piece}
 use Rattle.host_map.specs.Blocks.{block_range, owned, ranges, same_owner}
 use Rattle.host_spaces.specs.declared.spaces.Spaces.{Spaces}
 use Rattle.host_map.specs.MemoryMap.{blocks_in}

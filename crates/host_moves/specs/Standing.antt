@@ -20,7 +20,7 @@ use Rattle.host_shared.specs.Sharing.{AreLeast}
 use Rattle.host_table.specs.Sharers.{AreTogether}
 use Rattle.host_map.specs.declared.placed.Owner.TheVariants.{Record}
 use Rattle.host_map.specs.Blocks.{owned}
-use Rattle.space_blocks.specs.Spaces.{AreInOrder}
+use Rattle.host_spaces.specs.Spaces.{AreInOrder}
 use Rattle.host_spaces.specs.declared.spaces.Spaces.{Spaces}
 use Rattle.host_map.specs.MemoryMap.{blocks_in}
 use Rattle.host_spaces.specs.MemoryMap.{map_of, space_in}

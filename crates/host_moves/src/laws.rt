@@ -16,8 +16,8 @@ ghost use Rattle.host_spaces.specs.MemoryMap.{map_of};
 ghost use Rattle.host_moves.specs.Standing.{AreOrdered, AgreeWithMap};
 ghost use Rattle.host_moves.specs.Lent.{AreSharers, lent_record};
 
+use host_spaces::{blocks_are_apart, blocks_are_few};
 use ialg::Ialg;
-use space_blocks::{blocks_are_apart, blocks_are_few};
 
 /// The law that no owner has two blocks of a space, so that a map has room for all of them. The call does nothing.
 pub fn maps_have_room<M: Ialg>()

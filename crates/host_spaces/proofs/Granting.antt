@@ -18,7 +18,7 @@ use Rattle.scratch_group.specs.declared.group.Group.{Group}
 use Rattle.scratch_group.specs.declared.group.Need.{Need}
 use Rattle.host_map.specs.declared.placed.Owner.{Owner}
 use Rattle.host_map.specs.declared.placed.Owner.TheVariants.{Record, Scratch}
-use Rattle.space_blocks.specs.Blocks.{block_of, block_of_piece}
+use Rattle.host_spaces.specs.Blocks.{block_of, block_of_piece}
 use Rattle.host_map.specs.Blocks.{owned, with_block}
 use Rattle.host_spaces.specs.declared.granted.Granted.{Granted}
 use Rattle.host_spaces.specs.declared.spaces.Spaces.{Spaces}

@@ -17,11 +17,11 @@ use Rattle.relocate.proofs.RangeTests.{clash, true_or_false, when_not}
 use Rattle.host_map.specs.declared.placed.Owner.{Owner}
 use Rattle.host_map.specs.declared.placed.Owner.TheVariants.{Record, Scratch}
 use Rattle.host_map.specs.declared.placed.Placed.{Placed}
-use Rattle.space_blocks.specs.Blocks.{Owns, block_of_piece, without_piece}
+use Rattle.host_spaces.specs.Blocks.{Owns, block_of_piece, without_piece}
 use Rattle.host_map.specs.Blocks.{disowned, owned, same_owner, without_at}
-use Rattle.space_blocks.specs.Spaces.{SpaceState}
-use Rattle.space_blocks.proofs.Orders.{dropped, kept}
-use Rattle.space_blocks.proofs.Owners.{disowned_none, owned_beside, owns_one}
+use Rattle.host_spaces.specs.Spaces.{SpaceState}
+use Rattle.host_spaces.proofs.Orders.{dropped, kept}
+use Rattle.host_spaces.proofs.Owners.{disowned_none, owned_beside, owns_one}
 use Rattle.host_spaces.specs.declared.pieces.OldBlocks.{OldBlocks}
 use Rattle.host_spaces.specs.declared.spaces.Spaces.{Spaces}
 use Rattle.host_map.specs.MemoryMap.{MemoryMap, blocks_in, blocks_without, is_group's, is_instance's, without_owners}

@@ -7,3 +7,13 @@ pub mod Steps
 pub mod Granting
 pub mod Leaving
 pub mod Renaming
+pub mod BlockPlacing
+pub mod Orders
+pub mod Owners
+pub mod Inserts
+pub mod Keeping
+pub mod Moving
+pub mod MadeMoves
+pub mod Counting
+pub mod Packings
+pub mod Renames

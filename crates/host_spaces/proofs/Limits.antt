@@ -19,11 +19,11 @@ use Rattle.scratch_group.specs.declared.group.Need.{Need}
 use Rattle.scratch_group.specs.Blocks.{block_needed, serves}
 use Rattle.host_map.specs.declared.placed.Owner.{Owner}
 use Rattle.host_map.specs.declared.placed.Placed.{Placed}
-use Rattle.space_blocks.specs.Blocks.{block_of, block_of_piece}
+use Rattle.host_spaces.specs.Blocks.{block_of, block_of_piece}
 use Rattle.host_map.specs.Blocks.{block_range, owned, ranges, same_owner}
 use Rattle.host_map.specs.Moves.{spot_of, spots_of}
-use Rattle.space_blocks.specs.Spaces.{AreInOrder}
-use Rattle.space_blocks.proofs.Owners.{passing}
+use Rattle.host_spaces.specs.Spaces.{AreInOrder}
+use Rattle.host_spaces.proofs.Owners.{passing}
 use Rattle.host_spaces.specs.Wants.{IsWithinLimits}
 use Rattle.host_spaces.proofs.Needs.{AreLimits, greater_limits, need_limits, record_power, size_bound, three}
 

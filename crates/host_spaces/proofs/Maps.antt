@@ -4,7 +4,7 @@ use Rattle.mem_rec.specs.declared.Space.{Space}
 use Rattle.mem_rec.specs.declared.Space.TheVariants.{Daram, Saram, External}
 use Rattle.space_raw.specs.Span.{Extent}
 use Rattle.host_map.specs.declared.placed.Placed.{Placed}
-use Rattle.space_blocks.specs.Spaces.{SpaceState}
+use Rattle.host_spaces.specs.Spaces.{SpaceState}
 use Rattle.host_map.specs.declared.parts.Sizes.{Sizes}
 use Rattle.host_spaces.specs.declared.spaces.Spaces.{Spaces}
 use Rattle.host_spaces.specs.MemoryMap.{AreSameSpaces, IsSameSpace, map_of, sizes_of, space_in}

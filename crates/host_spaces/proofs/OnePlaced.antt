@@ -14,10 +14,10 @@ use Rattle.record_loans.specs.Pieces.{piece_words}
 use Rattle.host_map.specs.declared.TheConstants.{SPACE_BLOCKS}
 use Rattle.host_map.specs.declared.placed.Owner.{Owner}
 use Rattle.host_map.specs.declared.placed.Placed.{Placed}
-use Rattle.space_blocks.specs.Blocks.{Owns, block_of}
+use Rattle.host_spaces.specs.Blocks.{Owns, block_of}
 use Rattle.host_map.specs.Blocks.{owned, ranges, with_block, without_at}
-use Rattle.space_blocks.specs.Spaces.{SpaceState}
-use Rattle.space_blocks.proofs.Orders.{before, behind, length_with}
+use Rattle.host_spaces.specs.Spaces.{SpaceState}
+use Rattle.host_spaces.proofs.Orders.{before, behind, length_with}
 use Rattle.host_spaces.specs.declared.spaces.Spaces.{Spaces}
 use Rattle.host_spaces.specs.declared.granted.Granted.{Granted}
 use Rattle.host_map.specs.declared.parts.Wanted.{Wanted}

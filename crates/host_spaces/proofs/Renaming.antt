@@ -12,8 +12,8 @@ use Rattle.host_map.specs.declared.placed.Owner.{Owner}
 use Rattle.host_map.specs.declared.placed.Owner.TheVariants.{Record, Scratch}
 use Rattle.host_map.specs.declared.placed.Placed.{Placed}
 use Rattle.host_map.specs.Blocks.{owned, renamed_blocks, renaming}
-use Rattle.space_blocks.specs.Spaces.{SpaceState}
-use Rattle.space_blocks.proofs.Renames.{renamed_alike, renamed_given, renamed_gone, renamed_same, renamed_twice}
+use Rattle.host_spaces.specs.Spaces.{SpaceState}
+use Rattle.host_spaces.proofs.Renames.{renamed_alike, renamed_given, renamed_gone, renamed_same, renamed_twice}
 use Rattle.host_spaces.specs.declared.spaces.Spaces.{Spaces}
 use Rattle.host_spaces.specs.MemoryMap.{AreSameSpaces}
 use Rattle.host_map.specs.MemoryMap.{MemoryMap, blocks_in, renamed}

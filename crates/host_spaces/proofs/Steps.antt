@@ -21,7 +21,7 @@ use Rattle.scratch_group.specs.declared.group.Need.{Need}
 use Rattle.scratch_group.specs.Blocks.{block_in, serves}
 use Rattle.host_map.specs.declared.placed.Owner.{Owner}
 use Rattle.host_map.specs.declared.placed.Owner.TheVariants.{Record, Scratch}
-use Rattle.space_blocks.specs.Blocks.{block_of_piece}
+use Rattle.host_spaces.specs.Blocks.{block_of_piece}
 use Rattle.host_map.specs.declared.parts.Wanted.{Wanted}
 use Rattle.host_map.specs.MemoryMap.{MemoryMap, all_spaces, first_block}
 use Rattle.host_map.specs.Creation.{block_wanted, group_wanted, own_wanted, record_wanted, scratch_wanted, wanted_by}

@@ -2,7 +2,7 @@
 use Rattle.std.specs.Prelude.{◌≡◌, ℕ, ◌+◌, ◌-◌, ◌^◌, min}
 use Rattle.mem_rec.specs.declared.Space.{Space}
 use Rattle.mem_rec.specs.declared.Space.TheVariants.{Daram, Saram, External}
-use Rattle.space_blocks.specs.Spaces.{SpaceState}
+use Rattle.host_spaces.specs.Spaces.{SpaceState}
 use Rattle.host_map.specs.declared.parts.Sizes.{Sizes}
 use Rattle.host_spaces.specs.declared.spaces.Spaces.{Spaces}
 use Rattle.host_map.specs.MemoryMap.{MemoryMap, each_space}

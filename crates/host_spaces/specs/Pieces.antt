@@ -18,7 +18,7 @@ use Rattle.scratch_group.specs.Blocks.{block_in}
 use Rattle.lifecycle.specs.Rooms.{piece_of_record}
 use Rattle.host_map.specs.declared.placed.Owner.TheVariants.{Record, Scratch}
 use Rattle.host_map.specs.declared.placed.Placed.{Placed}
-use Rattle.space_blocks.specs.Blocks.{block_of, block_of_piece, without_piece}
+use Rattle.host_spaces.specs.Blocks.{block_of, block_of_piece, without_piece}
 use Rattle.host_map.specs.Blocks.{owned, with_block}
 use Rattle.scratch_group.specs.declared.group.Need.{Need}
 use Rattle.host_spaces.specs.declared.granted.Granted.{Granted}

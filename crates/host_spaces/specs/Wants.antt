@@ -17,7 +17,7 @@ use Rattle.scratch_group.specs.declared.group.Need.{Need}
 use Rattle.scratch_group.specs.Blocks.{block_in, block_needed}
 use Rattle.host_map.specs.declared.placed.Owner.{Owner}
 use Rattle.host_map.specs.declared.placed.Owner.TheVariants.{Scratch}
-use Rattle.space_blocks.specs.Blocks.{block_of}
+use Rattle.host_spaces.specs.Blocks.{block_of}
 use Rattle.host_map.specs.Blocks.{owned, with_block}
 use Rattle.host_spaces.specs.declared.spaces.Spaces.{Spaces}
 use Rattle.host_map.specs.declared.parts.Wanted.{Wanted}

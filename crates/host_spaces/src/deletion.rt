@@ -4,7 +4,7 @@ ghost use Rattle.std.specs.Option.{option_or};
 ghost use Rattle.mem_rec.specs.declared.Space.{Space};
 ghost use Rattle.host_map.specs.declared.placed.Owner.{Owner};
 ghost use Rattle.host_map.specs.declared.placed.Owner.TheVariants.{Record, Scratch};
-ghost use Rattle.space_blocks.specs.Blocks.{Owns, block_of_piece, without_piece};
+ghost use Rattle.host_spaces.specs.Blocks.{Owns, block_of_piece, without_piece};
 ghost use Rattle.host_map.specs.Blocks.{disowned, owned};
 ghost use Rattle.ialg.specs.Records.{record_at};
 ghost use Rattle.host_spaces.specs.MemoryMap.{AreSameSpaces, map_of, space_in};

@@ -6,7 +6,7 @@ ghost use Rattle.relocate.specs.Places.{least_place, placed_size};
 ghost use Rattle.ialg.specs.Records.{ArePoison};
 ghost use Rattle.host_map.specs.declared.TheConstants.{SPACE_BLOCKS};
 ghost use Rattle.host_map.specs.declared.placed.Owner.{Owner};
-ghost use Rattle.space_blocks.specs.Blocks.{block_of};
+ghost use Rattle.host_spaces.specs.Blocks.{block_of};
 ghost use Rattle.host_map.specs.Blocks.{owned, ranges, with_block, without_at};
 ghost use Rattle.host_spaces.specs.declared.wants.TheConstants.{WANTS};
 ghost use Rattle.host_map.specs.declared.parts.Wanted.{Wanted};

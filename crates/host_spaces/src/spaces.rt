@@ -6,18 +6,18 @@ ghost use Rattle.space_heap.specs.Maps.{range_of};
 ghost use Rattle.relocate.specs.Places.{least_place, placed_size};
 ghost use Rattle.host_map.specs.declared.TheConstants.{MAP_BLOCKS, SPACE_BLOCKS};
 ghost use Rattle.host_map.specs.declared.placed.Owner.{Owner};
-ghost use Rattle.space_blocks.specs.Blocks.{Owns, block_of};
+ghost use Rattle.host_spaces.specs.Blocks.{Owns, block_of};
 ghost use Rattle.host_map.specs.Blocks.{block_range, disowned, owned, ranges, with_block, without_at};
 ghost use Rattle.host_map.specs.Moves.{next_block, next_in};
-ghost use Rattle.space_blocks.specs.Spaces.{AreInOrder};
+ghost use Rattle.host_spaces.specs.Spaces.{AreInOrder};
 ghost use Rattle.host_spaces.specs.MemoryMap.{AreSameSpaces, copied_in, map_of, sizes_of, space_in};
 ghost use Rattle.host_map.specs.MemoryMap.{AreSizes, blocks_in, empty_map, moved_in};
 ghost use Rattle.host_spaces.specs.Wants.{IsWithinLimits};
 
+use crate::blocks::SpaceBlocks;
 use crate::start::{EmptySpaces, StartError};
 use host_map::{Map, Placed, Sizes, Wanted};
 use mem_rec::Space;
-use space_blocks::SpaceBlocks;
 use space_raw::Piece;
 use std::alloc::Global;
 

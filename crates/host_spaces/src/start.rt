@@ -2,9 +2,9 @@
 ghost use Rattle.std.specs.Prelude.{◌≡◌, [], IfOk, IfErr, IsErrOf};
 ghost use Rattle.host_map.specs.MemoryMap.{AreSizes};
 
+use crate::blocks::SpaceBlocks;
 use host_map::Sizes;
 use relocate::is_space_size;
-use space_blocks::SpaceBlocks;
 use space_heap::HeapError;
 use std::alloc::{Allocator, Global};
 use thiserror::Error;

@@ -2,3 +2,4 @@ pub mod Frames
 pub mod Framings
 pub mod Mappings
 pub mod Words
+pub mod Either

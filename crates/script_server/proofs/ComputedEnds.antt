@@ -2,9 +2,9 @@
 use Rattle.std.proofs.Common.{◌≡◌, ℕ, List, ◌++◌, ap, refl, subst, sym, ◌∙◌}
 use Rattle.octet_ports.specs.Ports.{Source}
 use Rattle.voice_script.specs.Script.{lines_of}
-use Rattle.line_spec.specs.Served.{Machine, Run, Feed, LineAnswer, order_of, refusals}
-use Rattle.line_spec.specs.Computed.{Computed, IsComputed, machine_of}
-use Rattle.line_spec.proofs.ComputedLemmas.{standing_run, line_stands, lines_stand}
+use Rattle.voice_script.specs.Served.{Machine, Run, Feed, LineAnswer, order_of, refusals}
+use Rattle.voice_script.specs.Computed.{Computed, IsComputed, machine_of}
+use Rattle.voice_script.proofs.ComputedLemmas.{standing_run, line_stands, lines_stand}
 use Rattle.script_server.specs.Runs.{Devices, EndsByRead, EndsByWrite, EndsWell, ServedAll, ServedFirst, ServedUpTo, Stops, InScript, AtLimit, InFeed, Writes, honest_at}
 
 module _ {S T : Type 0} (machine : Machine S) (computed : Computed T) (standing : T → S) (is : IsComputed machine computed standing) (start : Run T) where

@@ -4,7 +4,7 @@ use Rattle.std.proofs.Math.Seq.{take-append_seam}
 use Rattle.std.proofs.lemmas.Bool.Decides.{nat_tests}
 use Rattle.std.proofs.lemmas.List.{map-set, get_or-map, get_or-set_same, get_or-set_other, length-set}
 use Rattle.octet_ports.specs.Ports.{Source, Sink, Gives, EndsWithin, Takes, TakesFirst}
-use Rattle.line_spec.specs.Served.{Machine, Run, Answer, Output, Replied, FeedAnswer, replies, refusals}
+use Rattle.voice_script.specs.Served.{Machine, Run, Answer, Output, Replied, FeedAnswer, replies, refusals}
 use Rattle.script_server.specs.Runs.{StepsAt, IsHonest, no_source, no_sink, run_of}
 use Rattle.script_server.specs.LineRuns.{AreHonest, IsServed, IsCut}
 use Rattle.script_server.proofs.Writes.{writes_more, writes_reply, writes_output, step_holds, first_more, first_longer, first_reply, first_output, order_of_reply, order_of_feed, octets_to, short_text}

@@ -3,7 +3,7 @@ use Rattle.std.proofs.Common.{◌≡◌, ℕ, ◌<◌, ◌≤◌, Bool, true, fa
 use Rattle.std.proofs.lemmas.Bool.Decides.{nat_tests}
 use Rattle.octet_ports.specs.Ports.{Source, Sink, Takes, TakesFirst}
 use Rattle.octet_ports.specs.Lines.{IsLine}
-use Rattle.line_spec.specs.Served.{Machine, Run, Answer, Asked, Nothing, Tell, Feed, AskedAnswer, LineAnswer, replies, at_state, order_of, refusals}
+use Rattle.voice_script.specs.Served.{Machine, Run, Answer, Asked, Nothing, Tell, Feed, AskedAnswer, LineAnswer, replies, at_state, order_of, refusals}
 use Rattle.script_server.specs.Runs.{FailsWithin, StepsAt, Writes, no_source, run_of}
 use Rattle.script_server.specs.LineRuns.{AreHonest, IsServed, IsCut, IsUnfed}
 use Rattle.voice_script.specs.declared.limits.TheConstants.{LINE_OCTETS}

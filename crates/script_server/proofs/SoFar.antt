@@ -3,7 +3,7 @@ use Rattle.std.proofs.Common.{◌≡◌, ℕ, Bool, ◌+◌, List, length, map}
 use Rattle.std.specs.List.{All, flat_map}
 use Rattle.octet_ports.specs.Ports.{Source, Sink, Gives}
 use Rattle.octet_ports.specs.Lines.{ended, IsNoFeed}
-use Rattle.line_spec.specs.Served.{Machine, Run, Answer, order_of, refusals, LinesAnswer}
+use Rattle.voice_script.specs.Served.{Machine, Run, Answer, order_of, refusals, LinesAnswer}
 use Rattle.script_server.specs.Runs.{Writes}
 use Rattle.script_server.specs.LineRuns.{AreHonest}
 use Rattle.script_server.specs.declared.limits.TheConstants.{SCRIPT_OCTETS}

@@ -8,7 +8,7 @@ use Rattle.ialg.specs.declared.refusal.Refusal.TheVariants.{Long, Short}
 use Rattle.voice_script.specs.Replies.{No, reply_text}
 use Rattle.octet_ports.specs.Ports.{Sink, Holds, Waits, Takes, TakesFirst, HasPassedAll}
 use Rattle.octet_ports.proofs.Ports.{holds_none, holds_more, waits_none, waits_more}
-use Rattle.line_spec.specs.Served.{Octet, Written, Output, Replied, held_by, order_of, same_port, octets_written}
+use Rattle.voice_script.specs.Served.{Octet, Written, Output, Replied, held_by, order_of, same_port, octets_written}
 use Rattle.script_server.specs.Runs.{StepsAt, Writes, AllWait, InAscendingOrder, no_sink}
 use Rattle.script_server.specs.LineRuns.{WritesFirst}
 

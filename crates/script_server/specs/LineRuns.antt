@@ -1,7 +1,7 @@
 -- For private clauses alone: what a line did to the ports.
 use Rattle.std.specs.Prelude.{◌≡◌, ℕ, ◌<◌, ◌≤◌, Bool, true, List, [], ◌++◌, map, length, slice_index_or, if◌then◌else◌}
 use Rattle.octet_ports.specs.Ports.{Source, Sink}
-use Rattle.line_spec.specs.Served.{Machine, Answer, Octet, order_of, refusals, Feed}
+use Rattle.voice_script.specs.Served.{Machine, Answer, Octet, order_of, refusals, Feed}
 use Rattle.script_server.specs.Runs.{IsHonest, Writes, StepsAt, FailsWithin, no_source}
 use Rattle.voice_script.specs.declared.limits.TheConstants.{LINE_OCTETS}
 

@@ -4,7 +4,7 @@ use Rattle.std.specs.List.{flat_map}
 use Rattle.octet_ports.specs.Ports.{Source, Sink, Gives, GivesWithin, Holds, Waits, IsAtEnd, HasPassedAll}
 use Rattle.octet_ports.specs.Lines.{IsNoFeed, ending, ended}
 use Rattle.octet_ports.specs.declared.reader.TheConstants.{BUFFER_OCTETS}
-use Rattle.line_spec.specs.Served.{Machine, Run, Answer, Octet, held_by, order_of, refusals, LineAnswer, LinesAnswer, ended_lines, Feed}
+use Rattle.voice_script.specs.Served.{Machine, Run, Answer, Octet, held_by, order_of, refusals, LineAnswer, LinesAnswer, ended_lines, Feed}
 use Rattle.voice_script.specs.Script.{lines_of}
 use Rattle.voice_script.specs.declared.limits.TheConstants.{LINE_OCTETS}
 use Rattle.script_server.specs.declared.limits.TheConstants.{SCRIPT_OCTETS}

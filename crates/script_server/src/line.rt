@@ -3,9 +3,9 @@ ghost use Rattle.std.specs.Prelude.{◌≡◌, ◌<◌, ◌≤◌, Bool, List, �
 ghost use Rattle.std.specs.Result.{is_err};
 ghost use Rattle.octet_ports.specs.Ports.{Sink, Gives, Holds, Takes, TakesFirst, HasPassedAll, EndsWithin};
 ghost use Rattle.octet_ports.specs.Lines.{IsLine};
-ghost use Rattle.line_spec.specs.Asks.{IsReady};
-ghost use Rattle.line_spec.specs.Served.{FeedAnswer, LineAnswer};
-ghost use Rattle.line_spec.specs.Widths.{octet_count};
+ghost use Rattle.voice_script.specs.Asks.{IsReady};
+ghost use Rattle.voice_script.specs.Served.{FeedAnswer, LineAnswer};
+ghost use Rattle.voice_script.specs.Widths.{octet_count};
 ghost use Rattle.voice_script.specs.Replies.{reply_text};
 ghost use Rattle.voice_script.specs.ReplyViews.{reply_of};
 ghost use Rattle.script_server.specs.Runs.{StepsAt, no_source, no_sink, IsReadyIn, IsReadyOut, HasFailedIn, HasFailedOut, Writes, NothingPassed, OneFailed, Ready, FailsWithin, run_of, InAscendingOrder};
@@ -14,9 +14,10 @@ ghost use Rattle.script_server.specs.LineRuns.{AreHonest, IsServed, IsCut, IsUnf
 use crate::serving::PortsFault;
 use host_map::Map;
 use ialg::{Params, Refusal, Words};
-use line_spec::{Ask, BLOCK_OCTETS, LineMachine};
 use octet_ports::{PortFault, PortIn, PortOut, read_octets, write_octets};
-use voice_script::{FeedSamples, LINE_OCTETS, Reply, ReplyText, write_reply};
+use voice_script::{
+    Ask, BLOCK_OCTETS, FeedSamples, LINE_OCTETS, LineMachine, Reply, ReplyText, write_reply,
+};
 
 /// Room for the words of a line, for a map and for words that are told of, and the buffers of replies and feeds. To make them clears thousands of
 /// octets, so a run has one of each.

@@ -8,9 +8,8 @@ use crate::line::{Buffers, Desk, flush_outputs, serve_line};
 use arrayvec::ArrayVec;
 use host_map::Map;
 use ialg::{Params, Words};
-use line_spec::{BLOCK_OCTETS, LineMachine};
 use octet_ports::{LineReader, PortIn, PortOut};
-use voice_script::LINE_OCTETS;
+use voice_script::{BLOCK_OCTETS, LINE_OCTETS, LineMachine};
 
 /// Which ports ended a run.
 #[derive(Clone, Copy, PartialEq, Eq, Debug)]

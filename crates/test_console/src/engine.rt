@@ -1,7 +1,7 @@
 //! Runs over tapes and over devices that fail, and a caller that is proved from the contracts alone.
 ghost use Rattle.std.specs.Prelude.{◌≡◌, ◌<◌, ◌≤◌, ◌∷◌, [], None, Some, All, IfOk, false, length, map};
-ghost use Rattle.line_spec.specs.Served.{held_by, order_of, refusals};
-ghost use Rattle.line_spec.specs.Widths.{widths_of};
+ghost use Rattle.voice_script.specs.Served.{held_by, order_of, refusals};
+ghost use Rattle.voice_script.specs.Widths.{widths_of};
 ghost use Rattle.console_spec.specs.Answers.{served};
 ghost use Rattle.host_spec.specs.Answers.{AreLawful};
 ghost use Rattle.script_server.specs.Runs.{IsHonest, Ready, known_of};

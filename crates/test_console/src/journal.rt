@@ -1,8 +1,8 @@
 //! What reaches devices that fail, and in which order.
 use crate::ports::numbered;
-use octet_ports::{PortOut, write_octets};
-use port_journal::{
-    BUFFER_OCTETS, Journal, JournalOutput, JournalReplies, MARKS, Passing, pass_on_all,
+use octet_ports::{
+    JOURNAL_OCTETS, Journal, JournalOutput, JournalReplies, MARKS, Passing, PortOut, pass_on_all,
+    write_octets,
 };
 use std::cell::RefCell;
 use std::io;
@@ -147,7 +147,7 @@ fn each_line_is_passed_on(rt: HostRuntime) -> Result<(), Fail> {
 
 #[test]
 fn full_buffers_lose_nothing(rt: HostRuntime) -> Result<(), Fail> {
-    const MANY: usize = 3 * BUFFER_OCTETS + 5;
+    const MANY: usize = 3 * JOURNAL_OCTETS + 5;
     let page = RefCell::new(Vec::new(rt.alloc()));
     let journal = two_outputs(&rt, &page, WIDE, Passing::WhereFull)?;
     let mut first = JournalOutput::new(&journal, 0);

@@ -4,7 +4,7 @@ use alg_gain::Gain;
 use alg_level::Level;
 use gateway_kinds::{GatewayKind, gateway_kinds_are_lawful, gateway_kinds_give_their_equations};
 use ialg::{Ctl, FILTER_RECORDS, Ialg, Named, copied};
-use kind_sets::{Or, both_are_lawful};
+use kind_parts::{Or, both_are_lawful};
 use voice_set::Voice;
 
 fn gain() -> GatewayKind {

@@ -6,7 +6,7 @@ use host_map::Sizes;
 use ialg::{BLOCK_SAMPLES, Block, Ctl, PARAMETER_WORDS, Refusal, Status, copied};
 use mem_rec::Space;
 use std::process::Abort;
-use test_kinds::Trial;
+use test_doubles::Trial;
 use voice_set::Voice;
 
 const FIR: Trial = Trial::Lawful(Voice::Fir);

@@ -5,7 +5,7 @@ use crate::feed_both;
 use host_map::Sizes;
 use ialg::{BLOCK_SAMPLES, Block, PARAMETER_WORDS, copied};
 use std::process::Abort;
-use test_kinds::Trial;
+use test_doubles::Trial;
 use voice_channel::{Channels, Host};
 use voice_set::Voice;
 

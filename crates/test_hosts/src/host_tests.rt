@@ -5,7 +5,7 @@ use host_map::{Owner, Placed, Sizes};
 use ialg::{BLOCK_SAMPLES, Block, PARAMETER_WORDS, Params, Refusal, copied};
 use mem_rec::Space;
 use std::process::Abort;
-use test_kinds::Trial;
+use test_doubles::Trial;
 use voice_set::Voice;
 
 const FIR: Trial = Trial::Lawful(Voice::Fir);

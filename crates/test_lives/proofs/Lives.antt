@@ -9,8 +9,8 @@ use Rattle.ialg.proofs.Tables.{attr_of, size_of}
 use Rattle.record_loans.specs.declared.pieces.Pieces.{Pieces}
 use Rattle.record_loans.specs.Pieces.{piece_words}
 use Rattle.scratch_group.specs.Words.{idle_words, lasting_words_by}
-use Rattle.test_kinds.specs.Slicer.{slicer_records, slicer_gives, sliced, HoldsLevels}
-use Rattle.test_kinds.proofs.Levels.{levels_of, outputs-with_samples}
+use Rattle.test_doubles.specs.Slicer.{slicer_records, slicer_gives, sliced, HoldsLevels}
+use Rattle.test_doubles.proofs.Levels.{levels_of, outputs-with_samples}
 
 -- two levels are granted their records
 pub granted : (p : List ℤ) (rs : List MemRec) → length p ≡ 2 → unplaced rs ≡ slicer_records → (if length p == 2 then Some slicer_records else None) ≡ Some (unplaced rs)

@@ -21,7 +21,7 @@ use Rattle.lifecycle.proofs.Frames.{fits_by_places}
 use Rattle.lifecycle.proofs.Places.{there_is_room}
 use Rattle.test_lives.specs.Owners.{IsPieceThere}
 use Rattle.test_lives.proofs.Housing.{block_serves, first, none_stays, saram_is_not_daram, external_is_not_daram}
-use Rattle.test_kinds.specs.Slicer.{slicer_records}
+use Rattle.test_doubles.specs.Slicer.{slicer_records}
 
 daram_is_not_saram : Daram ≡ Saram → ⊥
 daram_is_not_saram h = cc

@@ -9,15 +9,15 @@ ghost use Rattle.record_loans.specs.Pieces.{SamePieces, piece_words};
 ghost use Rattle.scratch_group.specs.Blocks.{SameGroup};
 ghost use Rattle.scratch_group.specs.Words.{placed};
 ghost use Rattle.lifecycle.specs.States.{Fits};
-ghost use Rattle.test_kinds.specs.declared.TheConstants.{LEVELS};
-ghost use Rattle.test_kinds.specs.Slicer.{sliced, slicer_records};
+ghost use Rattle.test_doubles.specs.declared.TheConstants.{LEVELS};
+ghost use Rattle.test_doubles.specs.Slicer.{sliced, slicer_records};
 
 use ialg::{BLOCK_SAMPLES, Block, Ctl, Ialg, Params, Status};
 use lifecycle::Idle;
 use mem_rec::MemTab;
 use record_loans::Pieces;
 use scratch_group::Group;
-use test_kinds::Slicer;
+use test_doubles::Slicer;
 
 /// A slicer is started and activated, is given a block, is asked for its levels, and is deactivated. Its levels stand in a piece
 /// that is lent to each of these calls.

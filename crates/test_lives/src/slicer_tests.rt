@@ -1,8 +1,8 @@
 //! A slicer whose object and levels stand in one region, and whose scratch records stand in blocks of two others.
 ghost use Rattle.std.specs.Prelude.{◌≡◌, length, None};
 ghost use Rattle.ialg.specs.Records.{unplaced};
-ghost use Rattle.test_kinds.specs.declared.TheConstants.{LEVELS};
-ghost use Rattle.test_kinds.specs.Slicer.{slicer_records};
+ghost use Rattle.test_doubles.specs.declared.TheConstants.{LEVELS};
+ghost use Rattle.test_doubles.specs.Slicer.{slicer_records};
 
 use crate::live;
 use ialg::{Block, Ialg, PARAMETER_WORDS, Params, Status, Words, copied};
@@ -11,7 +11,7 @@ use record_loans::Pieces;
 use scratch_group::Group;
 use space_raw::{Piece, Region};
 use std::process::Abort;
-use test_kinds::{HIGH_ALIGNMENT, Slicer};
+use test_doubles::{HIGH_ALIGNMENT, Slicer};
 
 fn words(rt: &impl Abort, values: &[i16]) -> Words
     ensures { result.items ≡ values.now }

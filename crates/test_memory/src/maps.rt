@@ -4,7 +4,7 @@ ghost use Rattle.relocate.specs.declared.limits.TheConstants.{GREATEST_NEED};
 ghost use Rattle.relocate.specs.Places.{IsAlignment};
 
 use host_map::Owner;
-use space_blocks::{SpaceBlocks, blocks_are_apart, blocks_are_few, moves_pack};
+use host_spaces::{SpaceBlocks, blocks_are_apart, blocks_are_few, moves_pack};
 use space_heap::HeapError;
 
 // Where a block of a space without blocks is placed, and how many words it has. It is taken out again.

@@ -19,18 +19,18 @@ use Rattle.voice_set.specs.declared.voice.Voice.{Voice}
 use Rattle.voice_set.specs.declared.voice.Voice.TheVariants.{Fir}
 use Rattle.voice_set.specs.Voices.{voice_meaning, voice_named}
 use Rattle.voice_script.specs.Script.{lines_of}
-use Rattle.line_spec.specs.Served.{Answer}
+use Rattle.voice_script.specs.Served.{Answer}
 use Rattle.console_spec.specs.Console.{start}
 use Rattle.console_spec.specs.Samples.{octets_of}
 use Rattle.script_server.specs.Runs.{Devices, honest_at, no_sink}
-use Rattle.run_theorem.specs.HostRuns.{RunsOnHost}
-use Rattle.run_theorem.specs.Births.{Born}
-use Rattle.run_theorem.specs.Headline.{Headline}
-use Rattle.run_theorem.specs.Lines.{LinesMake, fed_out, samples_left}
+use Rattle.console_spec.specs.HostRuns.{RunsOnHost}
+use Rattle.console_spec.specs.Births.{Born}
+use Rattle.console_spec.specs.Headline.{Headline}
+use Rattle.console_spec.specs.Lines.{LinesMake, fed_out, samples_left}
 use Rattle.dsp_console.specs.declared.serving.Summary.{Summary}
 use Rattle.dsp_console.specs.declared.serving.Fault.{Fault}
 use Rattle.dsp_console.specs.Headline.{RunHeadline}
-use Rattle.test_rows.specs.ConsoleRows.{words}
+use Rattle.test_runs.specs.ConsoleRows.{words}
 use Rattle.test_runs.specs.Row.{mean, row_sizes}
 use Rattle.test_runs.specs.Beside.{BesideGave, CanRunBeside, IsGivenAny, RanBeside, beside_input, beside_script, life_beside}
 use Rattle.test_runs.proofs.RowLemmas.{FirGives, group_block, record_block, table}

@@ -4,3 +4,6 @@ pub mod RowLemmas
 pub mod RoomLemmas
 pub mod SoundLemmas
 mod BesideLemmas
+pub mod HostRowLemmas
+pub mod ConsoleRowLemmas
+pub mod Led

@@ -9,7 +9,7 @@ use Rattle.mem_rec.specs.declared.Space.TheVariants.{Daram, External}
 use Rattle.host_map.specs.declared.placed.Owner.TheVariants.{Record}
 use Rattle.host_map.specs.MemoryMap.{MemoryMap, empty_map, place_in, put_block}
 use Rattle.host_map.specs.declared.parts.Wanted.{Wanted}
-use Rattle.run_theorem.specs.Room.{FallsShort, HasNoPlace}
+use Rattle.console_spec.specs.Room.{FallsShort, HasNoPlace}
 use Rattle.test_runs.specs.Rooms.{RoomRows, small, wanted_in}
 
 true_is_false : {X : Type 0} → true ≡ false → X

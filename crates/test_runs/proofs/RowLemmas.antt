@@ -8,13 +8,13 @@ use Rattle.octet_ports.specs.Ports.{Holds as HoldsMore}
 use Rattle.host_spec.specs.Steps.{processed, newborn}
 use Rattle.host_spec.specs.Runs.{outputs_in}
 use Rattle.channel_spec.specs.Steps.{on_host}
-use Rattle.line_spec.specs.Served.{Answer}
+use Rattle.voice_script.specs.Served.{Answer}
 use Rattle.console_spec.specs.Samples.{octets_of}
 use Rattle.script_server.specs.Runs.{Devices, no_sink}
 use Rattle.script_server.proofs.Honest.{all_honest}
-use Rattle.run_theorem.specs.HostRuns.{RunsOnHost}
-use Rattle.run_theorem.specs.Births.{Born}
-use Rattle.run_theorem.specs.Headline.{Headline}
+use Rattle.console_spec.specs.HostRuns.{RunsOnHost}
+use Rattle.console_spec.specs.Births.{Born}
+use Rattle.console_spec.specs.Headline.{Headline}
 use Rattle.dsp_console.specs.declared.serving.Summary.{Summary}
 use Rattle.dsp_console.specs.declared.serving.Fault.{Fault}
 use Rattle.dsp_console.specs.Headline.{RunHeadline}
@@ -34,8 +34,8 @@ use Rattle.voice_set.specs.declared.voice.Voice.TheVariants.{Fir}
 use Rattle.voice_set.specs.Voices.{voice_meaning, voice_named}
 use Rattle.voice_script.specs.Script.{lines_of}
 use Rattle.console_spec.specs.Console.{start}
-use Rattle.test_rows.specs.ConsoleRows.{words}
-use Rattle.run_theorem.specs.Lines.{LinesMake, fed_out, samples_left}
+use Rattle.test_runs.specs.ConsoleRows.{words}
+use Rattle.console_spec.specs.Lines.{LinesMake, fed_out, samples_left}
 use Rattle.test_runs.specs.Row.{CanRunRow, FirstGave, RowGave, life, mean, row_inputs, row_script, row_sizes}
 use Rattle.test_runs.proofs.Steps.{Holds, ended, fed, told}
 

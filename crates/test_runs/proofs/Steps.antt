@@ -21,8 +21,8 @@ use Rattle.channel_spec.proofs.AnswerLemmas.{computed}
 use Rattle.voice_script.specs.Script as script
 use Rattle.voice_script.specs.Script.{parsed}
 use Rattle.voice_script.specs.declared.limits.TheConstants.{LINE_OCTETS}
-use Rattle.run_theorem.specs.HostRuns.{AsHostCalls, IsPassing, RunsOnHost}
-use Rattle.run_theorem.specs.Lines.{CommandMakes, IsFed, IsSameBut, IsShort, Left, LineMakes, LinesMake, Makes}
+use Rattle.console_spec.specs.HostRuns.{AsHostCalls, IsPassing, RunsOnHost}
+use Rattle.console_spec.specs.Lines.{CommandMakes, IsFed, IsSameBut, IsShort, Left, LineMakes, LinesMake, Makes}
 
 -- where the inputs of these channels are followed, which are honest
 module _ {M : Type 0} (kinds : Meaning M) (named : List ℕ → Option M) (honest followed : ℕ → Bool) (are : (c : ℕ) → followed c ≡ true → honest c ≡ true) where

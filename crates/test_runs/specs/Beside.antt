@@ -9,13 +9,13 @@ use Rattle.channel_spec.specs.Channels.{Channels}
 use Rattle.voice_set.specs.declared.voice.Voice.{Voice}
 use Rattle.voice_set.specs.declared.voice.Voice.TheVariants.{Fir}
 use Rattle.voice_set.specs.Voices.{voice_meaning, voice_named}
-use Rattle.line_spec.specs.Served.{Answer, held_by, order_of}
+use Rattle.voice_script.specs.Served.{Answer, held_by, order_of}
 use Rattle.console_spec.specs.Samples.{octets_of}
 use Rattle.script_server.specs.Runs.{AreReady, Devices, IsHonest, IsReadyIn, honest_at, no_sink, octets_to_come}
-use Rattle.run_theorem.specs.Births.{Born}
-use Rattle.run_theorem.specs.Headline.{Headline}
+use Rattle.console_spec.specs.Births.{Born}
+use Rattle.console_spec.specs.Headline.{Headline}
 use Rattle.dsp_console.specs.Headline.{RunHeadline}
-use Rattle.test_rows.specs.ConsoleRows.{script_of, words}
+use Rattle.test_runs.specs.ConsoleRows.{script_of, words}
 use Rattle.test_runs.specs.Row.{mean, row_sizes}
 
 abbrev pub beside_script : List ℕ

@@ -3,3 +3,11 @@ pub mod Row
 pub mod Rooms
 pub mod Sounds
 pub mod Beside
+pub mod Calls
+pub mod VoiceRows
+pub mod CreationRows
+pub mod SharingRows
+pub mod RunRows
+pub mod ConsoleRows
+pub mod RefusalRows
+pub mod Served

@@ -6,7 +6,7 @@ use Rattle.host_map.specs.declared.placed.Owner.TheVariants.{Record}
 use Rattle.host_map.specs.declared.parts.Sizes.{Sizes}
 use Rattle.host_map.specs.declared.parts.Wanted.{Wanted}
 use Rattle.host_map.specs.MemoryMap.{empty_map}
-use Rattle.run_theorem.specs.Room.{FallsShort}
+use Rattle.console_spec.specs.Room.{FallsShort}
 
 -- eight words of one space and four of another
 abbrev pub small : Sizes

@@ -11,14 +11,14 @@ use Rattle.channel_spec.specs.Channels.{Channels}
 use Rattle.voice_set.specs.declared.voice.Voice.{Voice}
 use Rattle.voice_set.specs.declared.voice.Voice.TheVariants.{Fir}
 use Rattle.voice_set.specs.Voices.{voice_meaning, voice_named}
-use Rattle.line_spec.specs.Served.{Answer, held_by, order_of}
+use Rattle.voice_script.specs.Served.{Answer, held_by, order_of}
 use Rattle.console_spec.specs.Samples.{octets_of}
 use Rattle.script_server.specs.Runs.{AreReady, Devices, IsHonest, IsReadyIn, no_sink, octets_to_come}
-use Rattle.run_theorem.specs.Births.{Born}
-use Rattle.run_theorem.specs.Lines.{fed_out}
-use Rattle.run_theorem.specs.Headline.{Headline}
+use Rattle.console_spec.specs.Births.{Born}
+use Rattle.console_spec.specs.Lines.{fed_out}
+use Rattle.console_spec.specs.Headline.{Headline}
 use Rattle.dsp_console.specs.Headline.{RunHeadline}
-use Rattle.test_rows.specs.ConsoleRows.{script_of, words}
+use Rattle.test_runs.specs.ConsoleRows.{script_of, words}
 
 abbrev pub row_script : List ℕ
 row_script = script_of "create 2 fir 1 16384 16384; create 0 fir 0 16384 16384; create 1 fir 0 16384 16384; chain 0 0; chain 1 1; feed 0 2; feed 1 1; delete 2; compact daram; feed 0 1; unchain 0; delete 0"

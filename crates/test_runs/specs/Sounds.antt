@@ -6,7 +6,7 @@ use Rattle.host_spec.specs.Calls.Call.{Delete, Process}
 use Rattle.channel_spec.specs.Calls.{Call}
 use Rattle.channel_spec.specs.Calls.Call.{Chain, Feed, Remove, Unchain}
 use Rattle.voice_set.specs.declared.voice.Voice.{Voice}
-use Rattle.run_theorem.specs.Sounds.{AskTheHost, chained_after}
+use Rattle.console_spec.specs.Sounds.{AskTheHost, chained_after}
 
 -- two channels: the first has no member
 abbrev pub one_chained : List (List ℕ)

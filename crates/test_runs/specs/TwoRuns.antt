@@ -12,9 +12,9 @@ use Rattle.host_spec.specs.Runs.{history_of_run, outputs_in, statuses_in}
 use Rattle.script_server.specs.declared.limits.TheConstants.{SCRIPT_OCTETS}
 use Rattle.script_server.specs.Runs.{AreReady, Devices, EndsByRead, EndsByWrite, EndsWell, IsReadyIn, octets_to_come}
 use Rattle.voice_channel.specs.declared.TheConstants.{CHANNELS}
-use Rattle.line_spec.specs.Widths.{Widths}
+use Rattle.voice_script.specs.Widths.{Widths}
 use Rattle.console_spec.specs.Console.{console_machine, start}
-use Rattle.run_theorem.specs.Births.{Born}
+use Rattle.console_spec.specs.Births.{Born}
 use Rattle.dsp_console.specs.declared.serving.Summary.{Summary}
 use Rattle.dsp_console.specs.declared.serving.Fault.{Fault}
 use Rattle.dsp_console.specs.declared.serving.Fault.TheVariants.{Size, Memory, Read, Write}

@@ -1,6 +1,7 @@
 // SPDX-License-Identifier: Apache-2.0
 //! For tests: whole runs in which each call of each device fails in turn, lines at the edges of the grammar, callers of the headline of one
-//! run and of two, and worked rows of the headline's definitions.
+//! run and of two, runs of calls through the library for C, and worked rows: of the headline's definitions, of what a host answers to lists of
+//! calls, of what an instance was given, gave and answered in such a list, and of what a console serves.
 #![tactic(auto)]
 
 #[cfg(test)]
@@ -8,19 +9,25 @@ mod agreement;
 mod beside;
 #[cfg(test)]
 mod beside_tests;
+mod console_rows;
 #[cfg(test)]
 mod faults;
+mod host_rows;
 #[cfg(test)]
 mod lines;
 mod rooms;
 mod row;
 #[cfg(test)]
 mod scripts;
+mod served;
 mod sounds;
 mod two_runs;
 
 pub use beside::run_beside;
+pub use console_rows::worked_rows;
+pub use host_rows::{creation_rows, run_rows, sharing_rows, voice_rows};
 pub use rooms::room_rows;
 pub use row::run_row;
+pub use served::served_calls_go_by_histories;
 pub use sounds::sound_rows;
 pub use two_runs::{Ports, run_both};

@@ -1,6 +1,6 @@
 //! Two runs, each over its own ports and from its own host.
 ghost use Rattle.std.specs.Prelude.{IfOk};
-ghost use Rattle.line_spec.specs.Widths.{widths_of};
+ghost use Rattle.voice_script.specs.Widths.{widths_of};
 ghost use Rattle.script_server.specs.Runs.{IsHonest, known_of};
 ghost use Rattle.test_runs.specs.TwoRuns.{CanRun, RunEnds, RunsAgree};
 

@@ -5,3 +5,7 @@ pub mod ReplyViews
 pub mod RowViews
 pub mod Rows
 pub mod Script
+pub mod Asks
+pub mod Served
+pub mod Computed
+pub mod Widths

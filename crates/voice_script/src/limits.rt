@@ -18,7 +18,7 @@ pub(crate) const BYTE_DIGITS: usize = 3;
 pub(crate) const OWNER_OCTETS: usize = 9;
 
 /// The most octets of a word of 16 bits and the space before it.
-pub(crate) const WORD_OCTETS: usize = 12;
+pub(crate) const WORD_TEXT_OCTETS: usize = 12;
 
 /// The most octets of a block in a map and the space before it.
 pub(crate) const ENTRY_OCTETS: usize = 32;

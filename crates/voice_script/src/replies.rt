@@ -6,7 +6,7 @@ ghost use Rattle.arrayvec.specs.ArrayVec.{array_vec_len};
 ghost use Rattle.voice_script.specs.Replies.{active_text, owner_text, block_text, word_text, entry_text, line_text, reply_text, is_refusal, Stat as told_stat, No as told_no};
 
 use crate::limits::{
-    BYTE_DIGITS, ENTRY_OCTETS, NUMBER_DIGITS, OWNER_OCTETS, REPLY_OCTETS, WORD_OCTETS,
+    BYTE_DIGITS, ENTRY_OCTETS, NUMBER_DIGITS, OWNER_OCTETS, REPLY_OCTETS, WORD_TEXT_OCTETS,
 };
 use arrayvec::ArrayVec;
 use host_map::{Map, Owner, Placed, Stat};
@@ -72,9 +72,9 @@ fn push_byte(text: &mut ReplyText, number: u8)
 
 /// Puts a space and the word.
 fn push_word(text: &mut ReplyText, word: i16)
-    requires { array_vec_len text.old + WORD_OCTETS ≤ REPLY_OCTETS }
+    requires { array_vec_len text.old + WORD_TEXT_OCTETS ≤ REPLY_OCTETS }
     ensures text { text.new.items ≡ text.old.items ++ word_text word }
-    ensures room { array_vec_len text.new ≤ array_vec_len text.old + WORD_OCTETS }
+    ensures room { array_vec_len text.new ≤ array_vec_len text.old + WORD_TEXT_OCTETS }
 {
     push_all(text, b" ");
     if word < 0 {
@@ -85,9 +85,9 @@ fn push_word(text: &mut ReplyText, word: i16)
 
 /// Puts each word after one space.
 fn push_words(text: &mut ReplyText, words: &[i16])
-    requires { array_vec_len text.old + length words.now * WORD_OCTETS ≤ REPLY_OCTETS }
+    requires { array_vec_len text.old + length words.now * WORD_TEXT_OCTETS ≤ REPLY_OCTETS }
     ensures text { text.new.items ≡ text.old.items ++ flat_map word_text words.now }
-    ensures room { array_vec_len text.new ≤ array_vec_len text.old + length words.now * WORD_OCTETS }
+    ensures room { array_vec_len text.new ≤ array_vec_len text.old + length words.now * WORD_TEXT_OCTETS }
 {
     for word in words {
         push_word(text, *word);

@@ -1,4 +1,4 @@
-use Rattle.line_spec.proofs.ComputedLemmas.{exactly_short, exactly_whole}
+use Rattle.voice_script.proofs.ComputedLemmas.{exactly_short, exactly_whole}
 use Rattle.console_spec.specs.Console.{console_machine}
 use Rattle.console_spec.proofs.laws.honest_feeds_are_exact.Goals as goal
 

@@ -1,9 +1,9 @@
 use Rattle.std.proofs.Common.{List, ℕ, Some, subst}
 use Rattle.script_server.specs.Runs.{honest_at, octets_to_come}
 use Rattle.voice_script.specs.Script.{lines_of}
-use Rattle.line_spec.specs.Served.{LinesAnswer, held_by, order_of}
+use Rattle.voice_script.specs.Served.{LinesAnswer, held_by, order_of}
 use Rattle.console_spec.specs.Console.{console_machine, start}
-use Rattle.run_theorem.specs.Sounds.{Sounds}
+use Rattle.console_spec.specs.Sounds.{Sounds}
 use Rattle.dsp_console.proofs.laws.headline.Goals as goal
 
 pub returns-clause-ok : goal.returns-clause-ok

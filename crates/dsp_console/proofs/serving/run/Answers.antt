@@ -1,5 +1,5 @@
 use Rattle.std.proofs.Common.{◌∙◌, ap, map}
-use Rattle.line_spec.specs.Widths.{widths_in, widths_of}
+use Rattle.voice_script.specs.Widths.{widths_in, widths_of}
 use Rattle.dsp_console.proofs.HeadlineLemmas.{says_headline, says_sounds}
 use Rattle.dsp_console.proofs.LawfulLemmas.{lawfully, lawfully_by_read, lawfully_by_write, serve_lawfully}
 use Rattle.dsp_console.proofs.StartLemmas.{as_many, by_read, by_write, kept, well}

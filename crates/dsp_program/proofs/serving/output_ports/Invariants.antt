@@ -1,5 +1,5 @@
 use Rattle.std.proofs.Common.{◌≡◌, length, map, All}
-use Rattle.port_journal.specs.Handles.{handle_sink}
+use Rattle.octet_ports.specs.Handles.{handle_sink}
 use Rattle.script_server.specs.Runs.{IsReadyOut}
 use Rattle.dsp_program.proofs.serving.output_ports.Given as goal
 

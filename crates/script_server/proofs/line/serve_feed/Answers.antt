@@ -1,6 +1,6 @@
 use Rattle.std.proofs.Common.{◌≡◌, ◌<◌, length, true, false, arith, ◌∙◌, Ok, refl, sym, subst}
 use Rattle.std.proofs.lemmas.Grind.{common_steps}
-use Rattle.line_spec.specs.Widths.{octet_count}
+use Rattle.voice_script.specs.Widths.{octet_count}
 use Rattle.script_server.proofs.Steps.{there_in, same_length}
 use Rattle.script_server.proofs.Writes.{writes_none, wait_none, wait_more, wait_reply, wait_took, wait_took_first}
 use Rattle.script_server.proofs.Feeds.{given_first, served_short, cut_short, served_whole, cut_output, cut_told}

@@ -1,8 +1,8 @@
 use Rattle.std.proofs.Common.{List, ◌∙◌, ap}
 use Rattle.host_map.specs.declared.placed.Placed.{Placed}
-use Rattle.space_blocks.specs.Blocks.{block_of}
+use Rattle.host_spaces.specs.Blocks.{block_of}
 use Rattle.host_map.specs.Blocks.{owned, with_block}
-use Rattle.space_blocks.proofs.Owners.{owns_one}
+use Rattle.host_spaces.proofs.Owners.{owns_one}
 use Rattle.test_memory.proofs.maps.place_alone.Goals as goal
 
 pub take_out-requires-clause-owner : goal.take_out-requires-clause-owner

@@ -1,5 +1,5 @@
 use Rattle.std.proofs.Common.{refl}
-use Rattle.line_spec.specs.Widths.{widths_of}
+use Rattle.voice_script.specs.Widths.{widths_of}
 use Rattle.test_runs.proofs.TwoRuns.{both, refused_alike}
 use Rattle.test_runs.proofs.two_runs.run_both.Goals as goal
 

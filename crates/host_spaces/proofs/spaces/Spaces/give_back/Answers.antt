@@ -1,5 +1,5 @@
 use Rattle.std.proofs.Common.{sym}
-use Rattle.space_blocks.proofs.Owners.{disowned_none}
+use Rattle.host_spaces.proofs.Owners.{disowned_none}
 use Rattle.host_spaces.specs.MemoryMap.{space_in}
 use Rattle.host_spaces.proofs.spaces.Spaces.give_back.Goals as goal
 

@@ -3,9 +3,9 @@ use Rattle.std.proofs.Common.{◌≡◌, ◌∙◌, IfSome, sym, ap, subst}
 use Rattle.mem_rec.specs.declared.Space.TheVariants.{Daram, Saram, External}
 use Rattle.host_map.specs.declared.placed.Owner.{Owner}
 use Rattle.host_map.specs.declared.placed.Owner.TheVariants.{Scratch}
-use Rattle.space_blocks.specs.Blocks.{Owns}
+use Rattle.host_spaces.specs.Blocks.{Owns}
 use Rattle.host_map.specs.Blocks.{owned}
-use Rattle.space_blocks.specs.Spaces.{SpaceState}
+use Rattle.host_spaces.specs.Spaces.{SpaceState}
 use Rattle.host_spaces.specs.MemoryMap.{space_in}
 use Rattle.host_spaces.proofs.Leaving.{group_left, group_others, if_some, pieces_left}
 use Rattle.host_spaces.proofs.Maps.{daram_external, daram_saram, saram_external}

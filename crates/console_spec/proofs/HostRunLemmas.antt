@@ -1,0 +1,140 @@
+-- A run of calls of channels is a run of calls of their host.
+use Rattle.std.proofs.Common.{◌≡◌, ℕ, ℤ, Bool, true, false, List, [], ◌∷◌, ◌++◌, Option, Some, None, Result, Ok, Err, refl, ap, sym, ◌∙◌, subst, append_assoc}
+use Rattle.std.specs.Prelude.{not, is_none, set}
+use Rattle.ialg.specs.declared.refusal.Refusal.{Refusal}
+use Rattle.ialg.specs.declared.refusal.Refusal.TheVariants.{Range, Missing, Busy}
+use Rattle.ialg.specs.Refusals.{first_refusal}
+use Rattle.ialg.specs.Meaning.{Meaning}
+use Rattle.host_spec.specs.State.{State, is_instance_number}
+use Rattle.host_spec.specs.Steps as steps
+use Rattle.host_spec.specs.Calls as host_calls
+use Rattle.host_spec.specs.Calls.Call.{Delete, Process}
+use Rattle.channel_spec.specs.Channels.{Channels, members_at, is_in_channel}
+use Rattle.channel_spec.specs.Steps.{unless, with_members, on_host, chain_refusal, channel_refusal, delete_refusal}
+use Rattle.channel_spec.specs.Calls.{Call, Does, Passes}
+use Rattle.channel_spec.specs.Calls.Call.{Chain, Unchain, Remove, Ready, Feed, OfHost}
+use Rattle.console_spec.specs.HostRuns.{IsPassing, AsHostCalls, Leads, RunsOnHost}
+use Rattle.console_spec.specs.Sounds.{AskTheHost, chained_after}
+
+err_is_no_ok : {A E : Type 0} (r : E) (a : A) → ◌≡◌ {A = Result A E} (Err r) (Ok a) → ⊥
+err_is_no_ok r a e = cc
+
+module _ {M : Type 0} (before after : Channels M) where
+  -- what changes no host leaves it, granted or refused
+  host_stays : {A : Type 0} (r : Option Refusal) (answer : Result A Refusal) (a : A) (next : Channels M) → next.host ≡ before.host
+      → (answer, after) ≡ unless r before (Ok a, next) → after.host ≡ before.host
+  host_stays None answer a next same e = ap (λ o. o.1.host) e ∙ same
+  host_stays (Some refusal) answer a next same e = ap (λ o. o.1.host) e
+
+  -- what changes no channel's members leaves them, granted or refused
+  members_stay : {A : Type 0} (r : Option Refusal) (answer : Result A Refusal) (a : A) (next : Channels M) → next.chained ≡ before.chained
+      → (answer, after) ≡ unless r before (Ok a, next) → after.chained ≡ before.chained
+  members_stay None answer a next same e = ap (λ o. o.1.chained) e ∙ same
+  members_stay (Some refusal) answer a next same e = ap (λ o. o.1.chained) e
+
+  -- a channel has these members where that was granted, and those that it had where it was refused
+  members_set : (r : Option Refusal) (done : Unit {0}) (c : ℕ) (is : List ℕ)
+      → (Ok done, after) ≡ unless r before (Ok (tt {0}), with_members before c is) → after.chained ≡ set before.chained c is
+  members_set None done c is e = ap (λ o. o.1.chained) e
+  members_set (Some refusal) done c is e = absurd (err_is_no_ok refusal done (ap (λ o. o.0) (sym e)))
+
+  members_kept : (r : Option Refusal) (refusal : Refusal) (c : ℕ) (is : List ℕ)
+      → (Err refusal, after) ≡ unless r before (Ok (tt {0}), with_members before c is) → after.chained ≡ before.chained
+  members_kept None refusal c is e = absurd (err_is_no_ok refusal (tt {0}) (ap (λ o. o.0) e))
+  members_kept (Some other) refusal c is e = ap (λ o. o.1.chained) e
+
+  -- a refused call leaves the host
+  refused_stays : {A : Type 0} (r : Option Refusal) (refusal : Refusal) (a : A) (next : Channels M)
+      → (Err refusal, after) ≡ unless r before (Ok a, next) → after.host ≡ before.host
+  refused_stays None refusal a next e = absurd (err_is_no_ok refusal a (ap (λ o. o.0) e))
+  refused_stays (Some other) refusal a next e = ap (λ o. o.1.host) e
+
+  -- where a channel's instance is deleted, the host deletes it
+  deleted : (range none busy : Bool) (done : Unit {0}) (gone : State M)
+      → (Ok done, after) ≡ unless (first_refusal ((range, Range) ∷ (none, Missing) ∷ (busy, Busy) ∷ [])) before
+      (Ok (tt {0}), on_host before (steps.unless (first_refusal ((range, Range) ∷ (none, Missing) ∷ [])) before.host (Ok (tt {0}), gone)).1)
+      → (Ok done, after.host) ≡ steps.unless (first_refusal ((range, Range) ∷ (none, Missing) ∷ [])) before.host (Ok (tt {0}), gone)
+  deleted true none busy done gone e = absurd (err_is_no_ok Range done (ap (λ o. o.0) (sym e)))
+  deleted false true busy done gone e = absurd (err_is_no_ok Missing done (ap (λ o. o.0) (sym e)))
+  deleted false false true done gone e = absurd (err_is_no_ok Busy done (ap (λ o. o.0) (sym e)))
+  deleted false false false done gone e = ap (λ o. (o.0, o.1.host)) e
+
+module _ {M : Type 0} (kinds : Meaning M) where
+  -- a block that passes through members is calls of the host
+  passing : (is : List ℕ) (before after : State M) (block out : List ℤ) → Passes kinds before is block out after
+      → (asked : List (host_calls.Call M)) × IsPassing is block out asked × host_calls.Leads kinds before asked after
+  passing [] before after block out passes = ([], (passes.0, refl), passes.1)
+  passing (i ∷ is) before after [] out passes = ([], (passes.0, refl), passes.1)
+  passing (i ∷ is) before after (s ∷ block) out passes =
+      let rest = passing is passes.1 after passes.0 out passes.3 in
+      (Process i (s ∷ block) passes.0 ∷ rest.0, (passes.0, rest.0, refl, rest.1), (passes.1, passes.2, rest.2))
+
+  -- the call asks this of the host
+  abbrev Asks : Channels M → Call M → Channels M → Type 0
+  Asks before call after = (asked : List (host_calls.Call M)) × AsHostCalls before.chained call asked × host_calls.Leads kinds before.host asked after.host
+
+  pub asks : (before after : Channels M) (call : Call M) → Does kinds before call after → Asks before call after
+  asks before after (Chain c members answer) does =
+      ([], refl, host_stays before after (chain_refusal before c members) answer tt (with_members before c members) refl does)
+  asks before after (Unchain c answer) does = ([], refl, host_stays before after (channel_refusal before c) answer tt (with_members before c []) refl does)
+  asks before after (Remove i (Ok done)) does =
+      (Delete i (Ok done) ∷ [], refl, (after.host, deleted before after (not (is_instance_number i)) (is_none (before.host.living i)) (is_in_channel before.chained i) done (steps.without_instance kinds before.host i (before.host.living i)) does, refl))
+  asks before after (Remove i (Err refusal)) does =
+      ([], refl, refused_stays before after (delete_refusal before i) refusal tt (on_host before (steps.delete kinds before.host i).1) does)
+  asks before after (Ready c answer) does = ([], refl, host_stays before after (channel_refusal before c) answer tt before refl does)
+  asks before after (Feed c block out) does = passing (members_at before.chained c) before.host after.host block out does.passes
+  asks before after (OfHost call) does = (call ∷ [], refl, (after.host, does.does, refl))
+
+  -- which members each channel has behind a call
+  chained_is : (before after : Channels M) (call : Call M) → Does kinds before call after → after.chained ≡ chained_after before.chained call
+  chained_is before after (Chain c members (Ok done)) does = members_set before after (chain_refusal before c members) done c members does
+  chained_is before after (Chain c members (Err refusal)) does = members_kept before after (chain_refusal before c members) refusal c members does
+  chained_is before after (Unchain c (Ok done)) does = members_set before after (channel_refusal before c) done c [] does
+  chained_is before after (Unchain c (Err refusal)) does = members_kept before after (channel_refusal before c) refusal c [] does
+  chained_is before after (Remove i answer) does =
+      members_stay before after (delete_refusal before i) answer tt (on_host before (steps.delete kinds before.host i).1) refl does
+  chained_is before after (Ready c answer) does = members_stay before after (channel_refusal before c) answer tt before refl does
+  chained_is before after (Feed c block out) does = does.chained
+  chained_is before after (OfHost call) does = does.chained
+
+  -- what calls ask of the host goes by the members of the channels alone
+  pub asks_by_members : (calls : List (Call M)) (asked : List (host_calls.Call M)) (before after : Channels M) → RunsOnHost kinds before calls asked after
+      → AskTheHost before.chained calls asked
+  asks_by_members [] asked before after ran = ran.0
+  asks_by_members (call ∷ calls) asked before after ran = (
+    ran.1,
+    ran.2,
+    ran.4,
+    subst (λ chained. AskTheHost chained calls ran.2) (chained_is before ran.0 call ran.3) (asks_by_members calls ran.2 ran.0 after ran.5),
+    ran.6,
+  )
+
+  -- one run after the other
+  pub leads_on : (calls more : List (host_calls.Call M)) (before mid after : State M)
+      → host_calls.Leads kinds before calls mid → host_calls.Leads kinds mid more after → host_calls.Leads kinds before (calls ++ more) after
+  leads_on [] more before mid after first then = subst (λ s. host_calls.Leads kinds s more after) first then
+  leads_on (call ∷ calls) more before mid after first then = (first.0, first.1, leads_on calls more first.0 mid after first.2 then)
+
+  pub runs : (calls : List (Call M)) (before after : Channels M) → Leads kinds before calls after
+      → (asked : List (host_calls.Call M)) × RunsOnHost kinds before calls asked after × host_calls.Leads kinds before.host asked after.host
+  runs [] before after leads = ([], (refl, leads), ap (λ channels. channels.host) leads)
+  runs (call ∷ calls) before after leads =
+      let between = leads.0 in
+      let first = asks before between call leads.1 in
+      let rest = runs calls between after leads.2 in
+      (first.0 ++ rest.0, (between, first.0, rest.0, leads.1, first.1, rest.1, refl), leads_on first.0 rest.0 before.host between.host after.host first.2 rest.2)
+
+  -- runs of both, one after the other
+  pub runs_on : (calls more : List (Call M)) (asked later : List (host_calls.Call M)) (before mid after : Channels M)
+      → RunsOnHost kinds before calls asked mid → RunsOnHost kinds mid more later after → RunsOnHost kinds before (calls ++ more) (asked ++ later) after
+  runs_on [] more asked later before mid after first then =
+      subst (λ (s : Channels M). RunsOnHost kinds s more (asked ++ later) after) first.1 (subst (λ xs. RunsOnHost kinds mid more (xs ++ later) after) (sym first.0) then)
+  runs_on (call ∷ calls) more asked later before mid after first then = (
+    first.0,
+    first.1,
+    first.2 ++ later,
+    first.3,
+    first.4,
+    runs_on calls more first.2 later first.0 mid after first.5 then,
+    ap (λ xs. xs ++ later) first.6 ∙ append_assoc first.1 first.2 later,
+  )

@@ -1,0 +1,28 @@
+-- When a console keeps a state of the machine.
+use Rattle.std.specs.Prelude.{ℕ, ◌≡◌, true, length}
+use Rattle.channel_spec.specs.Channels.{Channels, members_at, is_chained}
+use Rattle.voice_channel.specs.Channels as channels
+use Rattle.voice_script.specs.Served.{Asked}
+use Rattle.voice_script.specs.Widths.{Widths, widths_in}
+use Rattle.dsp_console.specs.declared.console.Console.{Console}
+use Rattle.ialg.specs.Laws.{Laws}
+
+-- as many channels as it was made with
+abbrev pub channels_of : {M : Type 0} → Console M → ℕ
+channels_of console = length console.channels.chained
+
+-- what their ports carry samples as
+abbrev pub port_widths_of : {M : Type 0} → Console M → Widths
+port_widths_of console = widths_in console.widths
+
+-- the channel has members
+abbrev pub TakesFeeds : {M : Type 0} → Console M → ℕ → Type 0
+TakesFeeds console c = is_chained (members_at console.channels.chained c) ≡ true
+
+abbrev pub Keeps : {M : Type 0} → Laws M → Console M → Channels M → Type 0
+Keeps laws console state = channels.Keeps laws console.channels state
+
+-- whatever state the console kept, this was asked as it may be asked there, and the console keeps a state that comes after it
+abbrev pub Serves : {M : Type 0} → Laws M → (Channels M → Asked → Channels M → Type 0) → Asked → Console M → Console M → Type 0
+Serves {M} laws Asks asked old new = (before : Channels M) → Keeps laws old before
+    → (after : Channels M) × Asks before asked after × Keeps laws new after

@@ -1,0 +1,126 @@
+//! What commands do: each is a call of the channels, whose answer is told.
+ghost use Rattle.std.specs.Prelude.{◌≡◌};
+ghost use Rattle.voice_script.specs.ReplyViews.{reply_of};
+ghost use Rattle.voice_script.specs.Script as script;
+ghost use Rattle.host_spec.specs.Calls.Call.{Control};
+ghost use Rattle.channel_spec.specs.Calls.Call.{OfHost};
+ghost use Rattle.voice_script.specs.Asks.{asked_of, AskIsReady};
+ghost use Rattle.voice_script.specs.Served.{tells};
+ghost use Rattle.ialg.specs.Views.{control_of};
+ghost use Rattle.console_spec.specs.Console.{Calls, CommandAsks, status_reply, told_by};
+ghost use Rattle.dsp_console.specs.Consoles.{channels_of, port_widths_of, TakesFeeds, Serves};
+
+use crate::console::Console;
+use crate::replies::{tell_done, tell_flag, tell_stat, tell_status};
+use ialg::{Ctl, Ialg, Params, Words, copied};
+use mem_rec::Space;
+use voice_channel::Map;
+use voice_script::{Ask, FeedSamples, Members, Reply};
+
+impl<M: Ialg> Console<M> {
+    #[inline(never)]
+    pub(crate) fn create<'a>(&mut self, i: u8, kind: M, group: u8, parameters: &Params) -> Reply<'a>
+        ensures channels { channels_of self.new ≡ channels_of self.old }
+        ensures widths { self.new.widths ≡ self.old.widths }
+        ensures asks { Serves M.law (CommandAsks M.law.meaning (port_widths_of self.old) (script.Create i kind group parameters.now.items)) (tells (reply_of result)) self.old self.new }
+    {
+        tell_done(self.channels.create(i, kind, group, parameters))
+    }
+
+    /// Puts the words that are answered in place of what `room` held. It is a call of its own too.
+    #[inline(never)]
+    pub(crate) fn control<'a>(&mut self, i: u8, control: &Ctl, room: &'a mut Words) -> Reply<'a>
+        ensures channels { channels_of self.new ≡ channels_of self.old }
+        ensures widths { self.new.widths ≡ self.old.widths }
+        ensures asks { Serves M.law (Calls M.law.meaning (λ a. OfHost (Control i (control_of control.now) a)) (λ a. tells (told_by status_reply a))) (tells (reply_of result)) self.old self.new }
+    {
+        tell_status(self.channels.control(i, control), room)
+    }
+
+    /// Asks an instance to put these words into force. It is a call of its own, so that no other command clears room for them.
+    #[inline(never)]
+    pub(crate) fn set<'a>(&mut self, i: u8, words: &Params, room: &'a mut Words) -> Reply<'a>
+        ensures channels { channels_of self.new ≡ channels_of self.old }
+        ensures widths { self.new.widths ≡ self.old.widths }
+        ensures asks { Serves M.law (CommandAsks M.law.meaning (port_widths_of self.old) (script.Set i words.now.items)) (tells (reply_of result)) self.old self.new }
+    {
+        self.control(i, &Ctl::Set(copied(words.as_slice())), room)
+    }
+
+    pub(crate) fn delete<'a>(&mut self, i: u8) -> Reply<'a>
+        ensures channels { channels_of self.new ≡ channels_of self.old }
+        ensures widths { self.new.widths ≡ self.old.widths }
+        ensures asks { Serves M.law (CommandAsks M.law.meaning (port_widths_of self.old) (script.Delete i)) (tells (reply_of result)) self.old self.new }
+    {
+        tell_done(self.channels.delete(i))
+    }
+
+    pub(crate) fn chain<'a>(&mut self, c: u8, members: &Members) -> Reply<'a>
+        ensures channels { channels_of self.new ≡ channels_of self.old }
+        ensures widths { self.new.widths ≡ self.old.widths }
+        ensures asks { Serves M.law (CommandAsks M.law.meaning (port_widths_of self.old) (script.Chain c members.now.numbers.items)) (tells (reply_of result)) self.old self.new }
+    {
+        tell_done(self.channels.chain(c, members.as_slice()))
+    }
+
+    pub(crate) fn unchain<'a>(&mut self, c: u8) -> Reply<'a>
+        ensures channels { channels_of self.new ≡ channels_of self.old }
+        ensures widths { self.new.widths ≡ self.old.widths }
+        ensures asks { Serves M.law (CommandAsks M.law.meaning (port_widths_of self.old) (script.Unchain c)) (tells (reply_of result)) self.old self.new }
+    {
+        tell_done(self.channels.unchain(c))
+    }
+
+    /// Asks for a feed's samples, where the channel is ready.
+    pub(crate) fn feed_asked<'a>(&self, c: u8, samples: FeedSamples) -> Ask<'a>
+        ensures ready { AskIsReady TakesFeeds channels_of self.now result }
+        ensures asks { Serves M.law (CommandAsks M.law.meaning (port_widths_of self.now) (script.Feed c samples.number)) (asked_of (port_widths_of self.now) result) self.now self.now }
+    {
+        match self.channels.ready(c) {
+            Ok(()) => Ask::Feed {
+                channel: c,
+                samples,
+            },
+            Err(refusal) => Ask::Tell(Reply::No(refusal)),
+        }
+    }
+
+    pub(crate) fn compact<'a>(&mut self, space: Space) -> Reply<'a>
+        ensures channels { channels_of self.new ≡ channels_of self.old }
+        ensures widths { self.new.widths ≡ self.old.widths }
+        ensures asks { Serves M.law (CommandAsks M.law.meaning (port_widths_of self.old) (script.Compact space)) (tells (reply_of result)) self.old self.new }
+    {
+        Reply::Count(self.channels.compact(space))
+    }
+
+    pub(crate) fn step<'a>(&mut self, space: Space) -> Reply<'a>
+        ensures channels { channels_of self.new ≡ channels_of self.old }
+        ensures widths { self.new.widths ≡ self.old.widths }
+        ensures asks { Serves M.law (CommandAsks M.law.meaning (port_widths_of self.old) (script.Step space)) (tells (reply_of result)) self.old self.new }
+    {
+        Reply::Flag(self.channels.step(space))
+    }
+
+    pub(crate) fn release<'a>(&mut self, group: u8) -> Reply<'a>
+        ensures channels { channels_of self.new ≡ channels_of self.old }
+        ensures widths { self.new.widths ≡ self.old.widths }
+        ensures asks { Serves M.law (CommandAsks M.law.meaning (port_widths_of self.old) (script.Release group)) (tells (reply_of result)) self.old self.new }
+    {
+        tell_flag(self.channels.release(group))
+    }
+
+    /// Puts the blocks of the space in place of what the map held.
+    pub(crate) fn map<'a>(&self, space: Space, map: &'a mut Map) -> Reply<'a>
+        ensures asks { Serves M.law (CommandAsks M.law.meaning (port_widths_of self.now) (script.Map space)) (tells (reply_of result)) self.now self.now }
+    {
+        map.clear();
+        let _fits = map.try_extend_from_slice(self.channels.blocks_in(space));
+        Reply::Map(map)
+    }
+
+    pub(crate) fn stat<'a>(&self, group: u8) -> Reply<'a>
+        ensures asks { Serves M.law (CommandAsks M.law.meaning (port_widths_of self.now) (script.Stat group)) (tells (reply_of result)) self.now self.now }
+    {
+        tell_stat(self.channels.stat(group))
+    }
+}

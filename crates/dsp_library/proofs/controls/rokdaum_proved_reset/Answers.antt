@@ -1,0 +1,19 @@
+use Rattle.std.proofs.Common.{rules, ◌≡◌, ◌∙◌, refl, ap, sym, subst, w32, List, ℤ}
+use Rattle.std.proofs.Math.Facts.{to_z-of_z}
+use Rattle.std.specs.Prelude.{Some, Ok, Err, length, take}
+use Rattle.dsp_library.specs.declared.machine.Machine.{Machine}
+use Rattle.dsp_library.specs.Calls.{Serves}
+use Rattle.dsp_library.proofs.There.{same_there}
+use Rattle.ialg.specs.History.Ctl.{Reset}
+use Rattle.host_moves.specs.Kept.{told}
+use Rattle.channel_spec.specs.Calls.Call.{OfHost}
+use Rattle.host_spec.specs.Calls.Call.{Control}
+use Rattle.dsp_library.proofs.Served.{answered, code_told}
+use Rattle.dsp_library.proofs.controls.rokdaum_proved_reset.Goals as goal
+
+pub returns-clause-machine : goal.returns-clause-machine
+returns-clause-machine c m opened is =
+    answered (λ answer. OfHost (Control c.args.i Reset answer)) (told c.control-answer.result) c.control-answer.new.self
+    (c.deref_mut.ensures.value ∙ same_there c.take-machine.ensures.machine is)
+    (to_z-of_z {w = w32} (record { sfits = c.status_code.type_inv }) ∙ c.status_code.ensures ∙ code_told c.control-answer.result) c.put.ensures.machine
+    c.control-answer.ensures.machine

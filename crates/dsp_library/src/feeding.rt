@@ -1,0 +1,92 @@
+//! Blocks of samples.
+ghost use Rattle.std.specs.Prelude.{◌≡◌, ◌≢◌, ◌≤◌, Some, length, take, drop};
+ghost use Rattle.ialg.specs.declared.TheConstants.{BLOCK_SAMPLES};
+ghost use Rattle.dsp_library.specs.declared.machine.Machine.{Machine as MachineOf};
+ghost use Rattle.dsp_library.specs.declared.TheConstants.{DONE, CLOSED, BAD_LENGTH, MARK};
+ghost use Rattle.channel_spec.specs.Calls.Call.{Ready};
+ghost use Rattle.dsp_library.specs.Calls.{IsHandle, Answers, Feeds, FeedEnds};
+
+use crate::codes::code;
+use crate::handle::Handle;
+use crate::machine::Machine;
+use crate::{BAD_LENGTH, CLOSED, DONE, MARK};
+use ialg::BLOCK_SAMPLES;
+use std::alloc::Global;
+
+/// Writes the samples to the first places.
+pub(crate) fn write_first(samples: &[i16], out: &mut [i16])
+    requires room { length samples.now ≤ length out.old }
+    ensures given { take (length samples.now) out.new ≡ samples.now }
+    ensures rest { drop (length samples.now) out.new ≡ drop (length samples.now) out.old }
+{
+    out[..samples.len()].copy_from_slice(samples);
+}
+
+/// Whether a channel can be fed: `DONE`, or as [`rokdaum_proved_feed`] would refuse.
+#[unsafe(no_mangle)]
+pub extern "C" fn rokdaum_proved_ready(alloc: Global, handle: &mut Handle, channel: u8) -> i32
+    requires handle { IsHandle handle.old }
+    ensures handle { IsHandle handle.new }
+    ensures mark { handle.new.mark ≡ handle.old.mark }
+    ensures closed { handle.old.mark ≢ MARK → (result ≡ CLOSED) × (handle.new ≡ handle.old) }
+    ensures machine { (m : MachineOf) → handle.old.mark ≡ MARK → handle.old.held.machine ≡ Some m
+        → Answers (λ answer. Ready channel answer) m handle.new result }
+{
+    if handle.mark != MARK {
+        return CLOSED;
+    }
+    let machine = handle.take(alloc);
+    let answer = machine.channels.ready(channel);
+    handle.put(machine);
+    code(answer)
+}
+
+/// Gives a block of 1 to 1,024 samples to a channel, and writes what the channel gives: no more samples than it got, from the first place
+/// of `out` on, and their count.
+#[unsafe(no_mangle)]
+pub extern "C" fn rokdaum_proved_feed(
+    alloc: Global,
+    handle: &mut Handle,
+    channel: u8,
+    input: &[i16],
+    out: &mut [i16],
+    count: &mut u32,
+) -> i32
+    requires handle { IsHandle handle.old }
+    ensures handle { IsHandle handle.new }
+    ensures mark { handle.new.mark ≡ handle.old.mark }
+    ensures refused { result ≢ DONE → (out.new ≡ out.old) × (count.new ≡ count.old) }
+    ensures closed { handle.old.mark ≢ MARK → (result ≡ CLOSED) × (handle.new ≡ handle.old) }
+    ensures length { handle.old.mark ≡ MARK → ¬ ((1 ≤ length input.now) × (length input.now ≤ BLOCK_SAMPLES) × (length input.now ≤ length out.old))
+        → (result ≡ BAD_LENGTH) × (handle.new ≡ handle.old) }
+    ensures machine { (m : MachineOf) → handle.old.mark ≡ MARK → handle.old.held.machine ≡ Some m → 1 ≤ length input.now
+        → length input.now ≤ BLOCK_SAMPLES → length input.now ≤ length out.old
+        → Feeds channel input.now m handle.new result out.old out.new count.new }
+{
+    if handle.mark != MARK {
+        return CLOSED;
+    }
+    if input.is_empty() || input.len() > BLOCK_SAMPLES || out.len() < input.len() {
+        return BAD_LENGTH;
+    }
+    let mut machine = handle.take(alloc);
+    let answer = feed(&mut machine, channel, input, out, count);
+    handle.put(machine);
+    answer
+}
+
+fn feed(machine: &mut Machine, channel: u8, input: &[i16], out: &mut [i16], count: &mut u32) -> i32
+    requires some { 1 ≤ length input.now }
+    requires within { length input.now ≤ BLOCK_SAMPLES }
+    requires room { length input.now ≤ length out.old }
+    ensures refused { result ≢ DONE → (out.new ≡ out.old) × (count.new ≡ count.old) }
+    ensures ends { FeedEnds channel input.now machine.old machine.new result out.old out.new count.new }
+{
+    if let Err(refusal) = machine.channels.ready(channel) {
+        return code(Err(refusal));
+    }
+    machine.channels.feed(channel, input, &mut machine.given);
+    write_first(machine.given.as_slice(), out);
+    *count = machine.given.len() as u32;
+    DONE
+}

@@ -1,8 +1,0 @@
-use Rattle.std.proofs.Common.{rules}
-use Rattle.host_library.proofs.handle.rokdaum_proved_close.Goals as goal
-
-pub returns-clause-handle : goal.returns-clause-handle
-returns-clause-handle c = search rules
-
-pub returns-clause-done : goal.returns-clause-done
-returns-clause-done c = search rules

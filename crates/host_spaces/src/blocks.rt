@@ -1,0 +1,238 @@
+//! One space.
+ghost use Rattle.std.specs.Prelude.{◌≡◌, ◌≢◌, ℕ, ◌+◌, ◌-◌, ◌<◌, ◌≤◌, ◌^◌, [], ◌∷◌, length, min, Some, Contains, slice_index_or, IfOk, IfErr, IfSome, IfNone, IsErrOf};
+ghost use Rattle.std.specs.Option.{option_map};
+ghost use Rattle.relocate.specs.Places.{least_place, placed_size, IsAlignment, IsSpaceSize};
+ghost use Rattle.space_heap.specs.Maps.{range_of};
+ghost use Rattle.relocate.specs.declared.limits.TheConstants.{GREATEST_NEED};
+ghost use Rattle.host_map.specs.declared.TheConstants.{MAP_BLOCKS, SPACE_BLOCKS};
+ghost use Rattle.host_map.specs.declared.placed.Owner.{Owner};
+ghost use Rattle.host_map.specs.declared.placed.Placed.{Placed};
+ghost use Rattle.host_map.specs.Blocks.{AreSingle, IsOwner, block_range, disowned, owned, ranges, renamed_blocks, renaming, with_block, without_at};
+ghost use Rattle.host_spaces.specs.Blocks.{Owns, block_of};
+ghost use Rattle.host_map.specs.Moves.{moved, moved_to, next_block, next_in};
+ghost use Rattle.host_spaces.specs.Spaces.{AreInOrder};
+
+use arrayvec::ArrayVec;
+use host_map::{MAP_BLOCKS, Map, Owner, Placed, SPACE_BLOCKS};
+use relocate::{Move, next_move};
+use space_heap::{Heap, HeapError};
+use space_raw::Piece;
+use std::alloc::{Allocator, Global};
+use std::marker::Model;
+
+/// A space and its blocks. The pieces of the blocks are held elsewhere. The space is of the allocator `A`, the system's by default. It can't
+/// be copied, and must be given back by `close`.
+pub struct SpaceBlocks<A: Allocator = Global> {
+    heap: Heap<A>,
+    blocks: ArrayVec<Placed, SPACE_BLOCKS>,
+}
+
+impl<A: Allocator> Model for SpaceBlocks<A> {
+    ghost use Rattle.host_spaces.specs.Spaces.{AreKept, SpaceState};
+
+    ghost Value = { SpaceState };
+
+    ghost view = { λ s. record { region = s.heap.region; slid = s.heap.slid; blocks = s.blocks.items } };
+
+    ghost invariant = { λ s. AreKept s.heap s.blocks.items };
+}
+
+impl<A: Allocator> SpaceBlocks<A> {
+    /// A space of that many words, all of them free. The one request for memory of its life is made here.
+    pub fn new(alloc: A, words: u32) -> Result<SpaceBlocks<A>, HeapError>
+        ensures bad_size { ¬ IsSpaceSize words → IsErrOf result HeapError.BadSize }
+        ensures memory { IsSpaceSize words → IfErr result (λ e. e ≡ HeapError.Memory) }
+        ensures space { IfOk result (λ s. (s.region.size ≡ words) × (s.slid ≡ 0) × (s.blocks ≡ [])) }
+    {
+        match Heap::new(alloc, words) {
+            Ok(heap) => Ok(SpaceBlocks {
+                heap,
+                blocks: ArrayVec::new(),
+            }),
+            Err(refusal) => Err(refusal),
+        }
+    }
+
+    /// The space goes back to the allocator. All blocks were taken out.
+    pub fn close(self)
+        requires none { self.blocks ≡ [] }
+    {
+        let SpaceBlocks { heap, blocks: _ } = self;
+        heap.close();
+    }
+}
+
+impl SpaceBlocks {
+    /// A block for the owner: `words` words, rounded up to a multiple of 4, at the least multiple of `align` at which it lies within the
+    /// space and meets no block. `None` exactly where there is no such place. The block's words are unknown.
+    pub fn place(&mut self, owner: Owner, words: u32, align: u32) -> Option<Piece>
+        requires words { (0 < words) × (words ≤ GREATEST_NEED) }
+        requires align { IsAlignment align }
+        requires room { length self.old.blocks < SPACE_BLOCKS }
+        ensures place { option_map (λ p. p.place) result ≡ least_place self.old.region.size (ranges self.old.blocks) (placed_size words) align }
+        ensures piece { IfSome result (λ p. (p.region ≡ self.old.region) × (length p.words ≡ placed_size words)) }
+        ensures blocks { IfSome result (λ p. self.new.blocks ≡ with_block (block_of owner align p) self.old.blocks) }
+        ensures owned { IfSome result (λ p. owned owner self.new.blocks ≡ with_block (block_of owner align p) (owned owner self.old.blocks)) }
+        ensures others { (o : Owner) → o ≢ owner → owned o self.new.blocks ≡ owned o self.old.blocks }
+        ensures back { IfSome result (λ p. without_at p.place self.new.blocks ≡ self.old.blocks) }
+        ensures none { IfNone result (self.new ≡ self.old) }
+        ensures stays { (self.new.region ≡ self.old.region) × (self.new.slid ≡ self.old.slid) }
+    {
+        let piece = self.heap.take(words, align)?;
+        let block = Placed {
+            owner,
+            place: piece.place(),
+            size: piece.len(),
+            align,
+        };
+        enter(&mut self.blocks, block);
+        Some(piece)
+    }
+
+    /// The owner's block goes back.
+    pub fn take_out(&mut self, piece: Piece)
+        requires region { piece.region ≡ self.old.region }
+        requires owner { (owner : Owner) × Owns self.old.blocks owner piece }
+        ensures blocks { self.new.blocks ≡ without_at piece.place self.old.blocks }
+        ensures only { (owner : Owner) (align : ℕ) → owned owner self.old.blocks ≡ block_of owner align piece ∷ [] → self.new.blocks ≡ disowned owner self.old.blocks }
+        ensures others { (owner o : Owner) → Owns self.old.blocks owner piece → o ≢ owner → owned o self.new.blocks ≡ owned o self.old.blocks }
+        ensures stays { (self.new.region ≡ self.old.region) × (self.new.slid ≡ self.old.slid) }
+    {
+        let index = position(self.blocks.as_slice(), piece.place());
+        let _block = self.blocks.remove(index);
+        self.heap.give(piece);
+    }
+
+    /// What is the block of one owner is another owner's from now on. Nothing else of it changes.
+    pub fn rename(&mut self, from: Owner, to: Owner)
+        ensures blocks { self.new.blocks ≡ renamed_blocks (renaming from to) self.old.blocks }
+        ensures given { owned to self.old.blocks ≡ [] → owned to self.new.blocks ≡ renamed_blocks (λ _. to) (owned from self.old.blocks) }
+        ensures left { from ≢ to → owned from self.new.blocks ≡ [] }
+        ensures others { (o : Owner) → o ≢ from → o ≢ to → owned o self.new.blocks ≡ owned o self.old.blocks }
+        ensures single { AreSingle self.old.blocks → IsOwner to → owned to self.old.blocks ≡ [] → AreSingle self.new.blocks }
+        ensures stays { (self.new.region ≡ self.old.region) × (self.new.slid ≡ self.old.slid) }
+    {
+        rename_each(self.blocks.as_mut_slice(), from, to);
+    }
+
+    /// The block that moves next, as it stands: the first one that isn't at its packed place. `None` exactly where all are packed.
+    pub fn next_move(&self) -> Option<Placed>
+        ensures value { result ≡ next_block self.now.blocks }
+    {
+        match next_move(self.blocks.as_slice()) {
+            Some(Move { index, to: _ }) => Some(self.blocks.as_slice()[index]),
+            None => None,
+        }
+    }
+
+    /// The next move is made, of the block that this piece is. It is slid down to its packed place with its words.
+    pub fn make_move(&mut self, piece: Piece) -> Piece
+        requires region { piece.region ≡ self.old.region }
+        requires next { option_map block_range (next_block self.old.blocks) ≡ Some (range_of piece) }
+        ensures blocks { self.new.blocks ≡ moved self.old.blocks }
+        ensures place { option_map (λ m. m.to) (next_in self.old.blocks) ≡ Some result.place }
+        ensures words { (result.words ≡ piece.words) × (result.region ≡ piece.region) }
+        ensures owned { (owner : Owner) (align : ℕ) → owned owner self.old.blocks ≡ block_of owner align piece ∷ [] → owned owner self.new.blocks ≡ block_of owner align result ∷ [] }
+        ensures others { (owner o : Owner) → Owns self.old.blocks owner piece → o ≢ owner → owned o self.new.blocks ≡ owned o self.old.blocks }
+        ensures slid { self.new.slid ≡ min (self.old.slid + length piece.words) (2 ^ 64 - 1) }
+        ensures stays { self.new.region ≡ self.old.region }
+    {
+        let index = position(self.blocks.as_slice(), piece.place());
+        let align = align_of(self.blocks.as_slice(), index);
+        let moved = self.heap.lower(piece, align);
+        put_at(&mut self.blocks, index, moved.place());
+        moved
+    }
+
+    /// The blocks, in place order.
+    pub fn blocks(&self) -> &[Placed]
+        ensures value { result.now ≡ self.now.blocks }
+        ensures order { AreInOrder self.now.region.size self.now.blocks }
+    {
+        self.blocks.as_slice()
+    }
+
+    /// The blocks as a map, while no block is being replaced.
+    pub fn map(&self) -> Map
+        requires few { length self.now.blocks ≤ MAP_BLOCKS }
+        ensures value { result.items ≡ self.now.blocks }
+    {
+        let mut map = ArrayVec::new();
+        let _fits = map.try_extend_from_slice(self.blocks.as_slice());
+        map
+    }
+
+    /// The words of the space.
+    pub fn size(&self) -> u32
+        ensures value { result ≡ self.now.region.size }
+    {
+        self.heap.size()
+    }
+
+    /// The words that were moved, again for each move. It stays at the greatest `u64`.
+    pub fn slid(&self) -> u64
+        ensures value { result ≡ self.now.slid }
+    {
+        self.heap.slid()
+    }
+}
+
+// One block more, in place order.
+fn enter(blocks: &mut ArrayVec<Placed, SPACE_BLOCKS>, block: Placed)
+    requires room { length blocks.old.items < SPACE_BLOCKS }
+    ensures items { blocks.new.items ≡ with_block block blocks.old.items }
+{
+    let mut index = 0;
+    while index < blocks.len() && blocks.as_slice()[index].place < block.place {
+        index += 1;
+    }
+    blocks.insert(index, block);
+}
+
+// Each block of one owner is another owner's.
+fn rename_each(blocks: &mut [Placed], from: Owner, to: Owner)
+    ensures { blocks.new ≡ renamed_blocks (renaming from to) blocks.old }
+{
+    for block in blocks.iter_mut() {
+        block.owner = renamed(block.owner, from, to);
+    }
+}
+
+// The owner `to` for the owner `from`.
+fn renamed(owner: Owner, from: Owner, to: Owner) -> Owner
+    ensures { result ≡ renaming from to owner }
+{
+    if owner == from { to } else { owner }
+}
+
+// The index of the block that begins at the place.
+fn position(blocks: &[Placed], place: u32) -> usize
+    requires there { (b : Placed) × Contains blocks.now b × (b.place ≡ place) }
+    ensures within { result < length blocks.now }
+    ensures found { (d : Placed) → (slice_index_or blocks.now result d).place ≡ place }
+{
+    for (index, block) in blocks.iter().enumerate() {
+        if block.place == place {
+            return index;
+        }
+    }
+    unreachable!()
+}
+
+// The alignment of a block.
+fn align_of(blocks: &[Placed], index: usize) -> u32
+    requires within { index < length blocks.now }
+    ensures value { (d : Placed) → result ≡ (slice_index_or blocks.now index d).align }
+{
+    blocks[index].align
+}
+
+// A block begins at this place from now on.
+fn put_at(blocks: &mut ArrayVec<Placed, SPACE_BLOCKS>, index: usize, place: u32)
+    requires within { index < length blocks.old.items }
+    ensures items { blocks.new.items ≡ moved_to blocks.old.items index place }
+{
+    let mut block = blocks.as_slice()[index];
+    block.place = place;
+    blocks.as_mut_slice()[index] = block;
+}

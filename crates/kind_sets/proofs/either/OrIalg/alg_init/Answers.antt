@@ -1,7 +1,0 @@
-use Rattle.kind_sets.proofs.either.OrIalg.alg_init.Goals as goal
-
-pub returns-in-First-clause-law : goal.returns-in-First-clause-law
-returns-in-First-clause-law g c = rw c.in-First.is c.alg_init.ensures.law
-
-pub returns-in-Second-clause-law : goal.returns-in-Second-clause-law
-returns-in-Second-clause-law g c = rw c.in-Second.is c.alg_init-in-Second.ensures.law

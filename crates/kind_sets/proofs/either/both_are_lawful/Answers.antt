@@ -1,5 +1,0 @@
-use Rattle.kind_sets.specs.declared.either.Or.TheVariants.{First, Second}
-use Rattle.kind_sets.proofs.either.both_are_lawful.Goals as goal
-
-pub returns : goal.returns
-returns g c first second = elim [ First a ↦ first a | Second b ↦ second b ]

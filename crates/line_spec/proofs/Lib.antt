@@ -1,2 +1,0 @@
-pub mod ComputedLemmas
-pub mod WidthLemmas

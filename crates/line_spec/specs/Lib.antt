@@ -1,4 +1,0 @@
-pub mod Asks
-pub mod Served
-pub mod Computed
-pub mod Widths

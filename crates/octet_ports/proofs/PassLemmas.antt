@@ -1,0 +1,89 @@
+-- What is passed on, and what waits behind it.
+use Rattle.std.proofs.Common.{◌≡◌, ◌<◌, ◌≤◌, ◌∙◌, ◌-◌, ℕ, true, nat_eq, ⊎_elim, inl, inr, refl, ap, sym, subst, arith}
+use Rattle.std.proofs.Common.{List, [], ◌∷◌, ◌++◌, length, set, take, get_or, get_or-set_other, length-set, All, Option, Some, Bor, slice_get}
+use Rattle.std.specs.Option.{option_copied, option_eq}
+use Rattle.std.specs.Io.KnownBytes.{Appends}
+use Rattle.std.proofs.KnownBytes.{Appends-trans}
+use Rattle.std.proofs.Math.Seq.{get_or-append_seam}
+use Rattle.std.proofs.lemmas.Grind.{common_steps}
+use Rattle.std.proofs.lemmas.Option.{slice_get_cases, slice_get_read}
+use Rattle.octet_ports.specs.declared.waiting.Waiting.{Waiting}
+use Rattle.octet_ports.specs.declared.marks.Mark.{Mark}
+use Rattle.octet_ports.specs.Passing.{EachDoes, Gets, HasNothing, HoldsStill, LosesNothing, PassesFirst, PassesOn, TakesAll}
+use Rattle.octet_ports.specs.Marks.{IsMarked, IsTaken, KeepsMarks, MarksOneMore, TellsTruth}
+
+-- what an output took it took, also where what waited is let go
+pub still_taken : {W : Type 0} (olds news : List (Waiting W)) → EachDoes HoldsStill olds news → (mark : Mark) → IsTaken olds mark → IsTaken news mark
+still_taken olds news still mark taken = grind (arith, common_steps, slice_get_cases)
+
+-- the replies before the first lost sample were passed on
+pub tells_truth : {W R : Type 0} (contents : R → Option (List ℕ)) (marks : List Mark) (olds news : List (Waiting W)) (old passed new : Waiting R) (most : ℕ)
+    → PassesFirst contents most old passed → HoldsStill passed new → most ≤ length old.octets.items → All (λ mark. mark.before < most → IsTaken olds mark) marks
+    → EachDoes HoldsStill olds news → TellsTruth contents marks news old new
+tells_truth contents marks olds news old passed new most passes still within sure stays = record {
+  count = passes.count;
+  within = omega arith;
+  gives = subst (λ w. Appends (contents old.writer) (contents w) (take passes.count old.octets.items)) (sym still.writer) passes.gives;
+  sure = omega arith;
+  truth = λ k d inside below. still_taken olds news stays (get_or marks k d) (sure k d inside (omega (arith, below)));
+}
+
+-- a device that took all that waited lost nothing
+pub loses_none : {W : Type 0} (contents : W → Option (List ℕ)) (most : ℕ) (old passed new : Waiting W) → PassesFirst contents most old passed
+    → passed.taken ≡ length old.octets.items → HoldsStill passed new → HasNothing new → LosesNothing contents old new
+loses_none contents most old passed new passes all still nothing = grind (arith, common_steps)
+
+pub each_loses_none : {W : Type 0} (contents : W → Option (List ℕ)) (olds passed news : List (Waiting W)) → EachDoes (PassesOn contents) olds passed
+    → EachDoes TakesAll olds passed → EachDoes HoldsStill passed news → All HasNothing news → EachDoes (LosesNothing contents) olds news
+each_loses_none contents olds passed news passes all still nothing = record {
+  count = still.count ∙ passes.count;
+  each = λ k d inside.
+      let there : k < length passed = omega (arith, inside, passes.count) in
+      loses_none contents _ _ _ _ (passes.each k d inside) (all.each k d inside) (still.each k d there) (nothing k d (omega (arith, there, still.count)));
+}
+
+-- nothing was lost the second time either
+pub loses_none_twice : {W : Type 0} (contents : W → Option (List ℕ)) (olds mids news : List (Waiting W)) → EachDoes (LosesNothing contents) olds mids
+    → EachDoes (LosesNothing contents) mids news → EachDoes (LosesNothing contents) olds news
+loses_none_twice contents olds mids news first second = record {
+  count = second.count ∙ first.count;
+  each = λ k d inside. Appends-trans _ _ _ [] [] (first.each k d inside) (second.each k d (omega (arith, inside, first.count)));
+}
+
+-- octets came to what waits
+pub gets_last : {W : Type 0} (contents : W → Option (List ℕ)) (octets : List ℕ) (old mid new : Waiting W) → LosesNothing contents old mid
+    → new.octets.items ≡ mid.octets.items ++ octets → new.writer ≡ mid.writer → Gets contents octets old new
+gets_last contents octets old mid new kept grown same = grind (arith, common_steps)
+
+-- and then it was passed on
+pub gets_passed : {W : Type 0} (contents : W → Option (List ℕ)) (octets : List ℕ) (old mid new : Waiting W) → Gets contents octets old mid
+    → LosesNothing contents mid new → Gets contents octets old new
+gets_passed contents octets old mid new gets kept = grind (arith, common_steps)
+
+-- a mark stands behind those that stayed
+pub one_more_mark : {W : Type 0} (number : ℕ) (old mid new : List Mark) (outputs : List (Waiting W)) (output : Waiting W) (mark : Mark)
+    → KeepsMarks old mid outputs → new ≡ mid ++ mark ∷ [] → MarksOneMore number old new (set outputs number output)
+one_more_mark number old mid new outputs output mark keeps pushed = (
+  mark,
+  ⊎_elim
+      (λ same. inl (pushed ∙ ap (λ l. l ++ mark ∷ []) same))
+      (λ none. inr (pushed ∙ ap (λ l. l ++ mark ∷ []) none.0, λ k d inside other. rw (get_or-set_other) (none.1 k d (rw length-set at inside))))
+      keeps,
+)
+
+-- and it is of all that waits for its output, behind all the replies
+pub marked_last : {W R : Type 0} (number : ℕ) (outputs : List (Waiting W)) (output : Waiting W) (replies : Waiting R) (old new : List Mark) (mark : Mark)
+    → new ≡ old ++ mark ∷ [] → mark.output ≡ number → mark.before ≡ length replies.octets.items → number < length outputs
+    → output ≡ get_or outputs number output → mark.least ≡ length output.octets.items → IsMarked number outputs replies new
+marked_last number outputs output replies old new mark pushed there before inside read least = (
+  length old,
+  mark,
+  grind (arith, common_steps),
+  rw pushed (get_or-append_seam old mark [] mark),
+  (there, before, rw (slice_get_read outputs _ number output refl inside read) least),
+)
+
+-- the last octet was found
+pub is_last : (last : Option (Bor ℕ)) (end : Bor ℕ) (octets front : List ℕ) → option_copied last ≡ slice_get octets (length octets - 1)
+    → octets ≡ front ++ end.now ∷ [] → option_eq (λ x y. nat_eq x.now y.now) last (Some end) ≡ true
+is_last last end octets front copied ends = grind (arith, common_steps, slice_get_cases)

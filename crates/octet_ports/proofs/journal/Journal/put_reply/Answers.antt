@@ -1,0 +1,49 @@
+use Rattle.std.proofs.Common.{◌≡◌, ◌∙◌, false, true, inr, refl, sym, take}
+use Rattle.std.proofs.lemmas.Bool.{false≢true}
+use Rattle.octet_ports.proofs.PassLemmas.{gets_last, gets_passed, is_last, loses_none_twice}
+use Rattle.octet_ports.proofs.journal.Journal.put_reply.Goals as goal
+use Rattle.octet_ports.proofs.journal.Journal.put_reply.Goals.{else-eq-via-then-eq+else-eq-2, else-eq-via-else-eq}
+
+pub returns-in_ok-pass_on-clause-gets : goal.returns-in_ok-pass_on-clause-gets
+returns-in_ok-pass_on-clause-gets g c =
+    let old = c.args.self.now.replies in
+    let grown = c.take_some-count.new.self in
+    let kept = (c.in_ok-make_room_for_reply.ensures.kept refl).1 in
+    let taken = c.take_some-count.ensures in
+    let gets = gets_last g.R.Write.contents _ old c.make_room_for_reply.new.self.replies grown kept taken.octets taken.writer in
+    gets_passed g.R.Write.contents _ old grown c.pass_on.new.self.replies gets (c.in_ok-pass_on.ensures.kept refl).1
+
+pub returns-in_ok-pass_on-clause-outputs : goal.returns-in_ok-pass_on-clause-outputs
+returns-in_ok-pass_on-clause-outputs g c = λ _.
+    loses_none_twice g.W.Write.contents _ _ _ (c.in_ok-make_room_for_reply.ensures.kept refl).0 (c.in_ok-pass_on.ensures.kept refl).0
+
+pub returns-in_ok-pass_on-clause-waits : goal.returns-in_ok-pass_on-clause-waits
+returns-in_ok-pass_on-clause-waits g c = λ full.
+    let same : c.eq.result ≡ false = rw (c.make_room_for_reply.ensures.passing, full) at c.eq.ensures in
+    absurd (false≢true (sym same ∙ c.if-eq.true))
+
+pub returns-in_ok-pass_on-clause-remembers : goal.returns-in_ok-pass_on-clause-remembers
+returns-in_ok-pass_on-clause-remembers g c = λ _.
+    let nothing = c.in_ok-pass_on.ensures.nothing in
+    inr (nothing.2, nothing.0)
+
+pub returns-else-eq-clause-waits : goal.returns-else-eq-clause-waits
+returns-else-eq-clause-waits g c = λ _. (_, c.take_some-count.ensures.octets)
+
+pub returns-else-eq-clause-gets : goal.returns-else-eq-clause-gets
+returns-else-eq-clause-gets g c = gets_last g.R.Write.contents _ c.args.self.now.replies c.make_room_for_reply.new.self.replies c.take_some-count.new.self
+    (c.in_ok-make_room_for_reply.ensures.kept refl).1 c.take_some-count.ensures.octets c.take_some-count.ensures.writer
+
+pub returns-else-eq-clause-passed : goal.returns-else-eq-clause-passed
+returns-else-eq-clause-passed g c = λ line ends. elim c.else-eq.branch [
+  | else-eq-via-then-eq+else-eq-2 w ↦
+      let octets = take c.take_some-count.result c.args.octets.now in
+      let last : w.eq-then-eq.result ≡ true = w.eq-then-eq.ensures ∙ is_last w.last.result _ octets ends.0 w.last.ensures.value ends.1 in
+      absurd (false≢true (sym w.if-eq-2.false ∙ last))
+  | else-eq-via-else-eq w ↦
+      let same : c.eq.result ≡ true = rw (c.make_room_for_reply.ensures.passing, line) at c.eq.ensures in
+      absurd (false≢true (sym w.if-eq.false ∙ same))
+]
+
+pub returns-else-eq-clause-remembers : goal.returns-else-eq-clause-remembers
+returns-else-eq-clause-remembers g c = λ _. c.in_ok-make_room_for_reply.ensures.remembers refl

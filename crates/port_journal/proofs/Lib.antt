@@ -1,3 +1,0 @@
-pub mod EachLemmas
-pub mod MarkLemmas
-pub mod PassLemmas

@@ -1,6 +1,0 @@
-use Rattle.port_journal.specs.Marks.{IsTaken}
-use Rattle.port_journal.proofs.MarkLemmas.{LeastLost}
-use Rattle.port_journal.proofs.marks.true_octets.Given as goal
-
-abbrev pub invariant-loop-mark : goal.invariant-loop-mark
-invariant-loop-mark g l = LeastLost (λ mark. mark.before) (IsTaken l.outputs.items) l.marks l.mark-index l.replies l.count

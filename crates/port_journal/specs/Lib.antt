@@ -1,4 +1,0 @@
-pub mod Buffers
-pub mod Handles
-pub mod Marks
-pub mod Passing

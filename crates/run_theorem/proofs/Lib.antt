@@ -1,5 +1,0 @@
-pub mod HostRunLemmas
-pub mod BirthLemmas
-pub mod LineLemmas
-pub mod RoomLemmas
-pub mod HeadlineLemmas

@@ -1,5 +1,0 @@
-use Rattle.run_theorem.proofs.LineLemmas.{are_calls}
-use Rattle.run_theorem.proofs.laws.lines_are_calls.Goals as goal
-
-pub returns : goal.returns
-returns g c = λ kinds named widths honest run lines answer a. are_calls kinds widths named honest (c.refused_calls_change_nothing.ensures kinds) lines run answer a

@@ -1,8 +1,0 @@
-use Rattle.space_blocks.proofs.Counting.{few, room}
-use Rattle.space_blocks.proofs.laws.blocks_are_few.Goals as goal
-
-pub returns-clause-few : goal.returns-clause-few
-returns-clause-few c = few
-
-pub returns-clause-room : goal.returns-clause-room
-returns-clause-room c = room

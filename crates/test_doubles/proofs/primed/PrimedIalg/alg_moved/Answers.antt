@@ -1,0 +1,25 @@
+use Rattle.std.proofs.Common.{ap, ◌∙◌, arith}
+use Rattle.ialg.specs.Loans.{lent_words}
+use Rattle.test_doubles.proofs.Kept.{asleep, active_by, moved}
+use Rattle.test_doubles.proofs.primed.PrimedIalg.alg_moved.Goals as goal
+
+pub returns-clause-active : goal.returns-clause-active
+returns-clause-active c p w h before lawful same table closed lent keeps =
+    let others = c.name_records.ensures.others in
+    let first = ap (λ r. r.now) (others.others1 (λ e. omega arith)) in
+    let second = ap (λ r. r.now) (others.others2 (λ e. omega arith)) in
+    record {
+      idle = moved p before c.args.tab.now (lent_words c.args.mem.now) (lent_words c.name_records.new.self) h same keeps.idle (c.name_records.ensures.names keeps.idle.object.long) first second;
+      scratch = ap (λ r. r.now) (others.others3 (λ e. omega arith)) ∙ keeps.scratch;
+    }
+
+pub returns-clause-idle : goal.returns-clause-idle
+returns-clause-idle c p w h before lawful same table closed lent keeps =
+    let tab = c.args.tab.now in
+    let old = lent_words c.args.mem.now in
+    let new = lent_words c.name_records.new.self in
+    let others = c.name_records.ensures.others in
+    let first = ap (λ r. r.now) (others.others1 (λ e. omega arith)) in
+    let second = ap (λ r. r.now) (others.others2 (λ e. omega arith)) in
+    let was = active_by p before tab old h same keeps in
+    asleep p tab new h (moved p before tab old new h same was (c.name_records.ensures.names was.object.long) first second)

@@ -1,0 +1,20 @@
+use Rattle.std.proofs.Common.{◌≡◌, sym, ◌∙◌, arith, rules, to_z, of_z}
+use Rattle.std.proofs.lemmas.Int.{to_z-of_z}
+use mir.Val.{SFits}
+use mir.Syntax.{w16}
+use Rattle.std.specs.List.{All}
+use Rattle.ialg.proofs.Taking.{visit, scratch_not_once}
+use Rattle.test_doubles.proofs.slicer.spread.Goals as goal
+
+pub returns-clause-spread : goal.returns-clause-spread
+returns-clause-spread c kind records named scratch =
+    let m = c.args.mem.now in
+    let found = c.in-Some.ensures.named kind records named (λ once. scratch_not_once (sym scratch ∙ once)) in
+    let v = visit c.args.n m _ _ c.in-Some.field-0 _ found (let w = named.within in let f = named.few in omega arith) (let w = named.not_the_object in λ e. omega (arith, w, e)) c.in-Some.ensures.left c.put.ensures.others c.put.ensures.back in
+    let fits : SFits w16 c.args.word = search rules in
+    let same : to_z w16 (of_z w16 c.args.word) ≡ c.args.word = to_z-of_z w16 c.args.word fits in
+    let flooded : All (λ x. x ≡ c.args.word) c.flood.new.words = rw same at c.flood.ensures in
+    record {
+      all_words = rw v.written.written flooded;
+      others = v.written.others;
+    }

@@ -1,0 +1,180 @@
+//! A kind for tests of hosts.
+ghost use Rattle.std.specs.Prelude.{◌≡◌, ◌≤◌, length, [], List, IsTrue};
+ghost use Rattle.std.proofs.Common.{rules};
+ghost use Rattle.std.specs.Cmp.Rules.{comparing};
+ghost use Rattle.ialg.specs.declared.TheConstants.{BLOCK_SAMPLES};
+ghost use Rattle.ialg.specs.Loans.{SameLoans};
+ghost use Rattle.test_doubles.specs.Trials.{trial_meaning, IsIdle, IsActive, idle_words, active_words, idle_fill, active_fill};
+
+use arrayvec::ArrayVec;
+use ialg::{Block, Ctl, Ialg, Lent, Params, Record, Status, object_record};
+use mem_rec::{Attr, MemRec, MemTab, Space, TABLE_RECORDS};
+use voice_set::Voice;
+
+/// What a scribbler writes into each word that it may write.
+const SCRIBBLE: i16 = 0x5b5b;
+
+/// A hosted kind, or one that keeps no law.
+#[derive(Clone, Copy, PartialEq, Eq, Debug)]
+pub enum Trial {
+    Lawful(Voice),
+    /// It asks for an object and for up to three scratch records, three parameters for each: the space (0 to 2), the words and the
+    /// alignment. In each call it writes over every word that it may write, its object's too. It gives the samples that it takes, and
+    /// takes every control.
+    Scribbler,
+}
+
+impl Ialg for Trial {
+    ghost law = { record {
+      meaning = trial_meaning;
+      idle_keeps = IsIdle;
+      active_keeps = IsActive;
+    } };
+
+    fn alg_num_alloc(&self) -> usize {
+        match self {
+            Trial::Lawful(voice) => voice.alg_num_alloc(),
+            Trial::Scribbler => TABLE_RECORDS,
+        }
+    }
+
+    fn alg_alloc(&self, p: &Params) -> Option<MemTab> {
+        match self {
+            Trial::Lawful(voice) => voice.alg_alloc(p),
+            Trial::Scribbler => scribbled_table(p.as_slice()),
+        }
+    }
+
+    fn alg_init(&self, tab: &MemTab, p: &Params, mem: &mut Lent<'_>) {
+        match self {
+            Trial::Lawful(voice) => voice.alg_init(tab, p, mem),
+            Trial::Scribbler => scribble(mem),
+        }
+    }
+
+    fn alg_activate(&self, mem: &mut Lent<'_>) {
+        match self {
+            Trial::Lawful(voice) => voice.alg_activate(mem),
+            Trial::Scribbler => scribble(mem),
+        }
+    }
+
+    fn process(&self, mem: &mut Lent<'_>, input: &[i16], out: &mut Block) {
+        match self {
+            Trial::Lawful(voice) => voice.process(mem, input, out),
+            Trial::Scribbler => {
+                scribble(mem);
+                echo(input, out);
+            }
+        }
+    }
+
+    fn alg_deactivate(&self, mem: &mut Lent<'_>) {
+        match self {
+            Trial::Lawful(voice) => voice.alg_deactivate(mem),
+            Trial::Scribbler => scribble(mem),
+        }
+    }
+
+    fn alg_moved(&self, tab: &MemTab, mem: &mut Lent<'_>) {
+        match self {
+            Trial::Lawful(voice) => voice.alg_moved(tab, mem),
+            Trial::Scribbler => scribble(mem),
+        }
+    }
+
+    fn accepts(&self, p: &Params, c: &Ctl) -> bool {
+        match self {
+            Trial::Lawful(voice) => voice.accepts(p, c),
+            Trial::Scribbler => true,
+        }
+    }
+
+    fn alg_control(&self, mem: &mut Lent<'_>, c: &Ctl) -> Status {
+        match self {
+            Trial::Lawful(voice) => voice.alg_control(mem, c),
+            Trial::Scribbler => {
+                scribble(mem);
+                Status::Done
+            }
+        }
+    }
+
+    fn alg_free(&self, mem: &Lent<'_>) -> MemTab {
+        match self {
+            Trial::Lawful(voice) => voice.alg_free(mem),
+            Trial::Scribbler => mem.table().copied(),
+        }
+    }
+
+    ghost same = { Prim.search (comparing, rules) };
+
+    ghost compared = { Prim.search (comparing, rules) };
+
+    ghost idle_words = { idle_words };
+
+    ghost active_words = { active_words };
+
+    ghost idle_fill = { idle_fill };
+
+    ghost active_fill = { active_fill };
+}
+
+// A scratch record of so many words in a space, at a multiple of the alignment.
+fn scratch_record(asked: &[i16]) -> Option<MemRec> {
+    let [space, words, align] = asked else {
+        return None;
+    };
+    let space = match space {
+        0 => Space::Daram,
+        1 => Space::Saram,
+        _ => Space::External,
+    };
+    Some(MemRec {
+        size: u32::from(words.unsigned_abs()),
+        align: u32::from(align.unsigned_abs()),
+        space,
+        attr: Attr::Scratch,
+        base: 0,
+    })
+}
+
+// The object, and a scratch record for each three parameters.
+fn scribbled_table(p: &[i16]) -> Option<MemTab> {
+    let mut records: ArrayVec<MemRec, TABLE_RECORDS> = ArrayVec::new();
+    records.push(object_record());
+    for asked in p.chunks(3) {
+        records.try_push(scratch_record(asked)?).ok()?;
+    }
+    MemTab::make(records.as_slice())
+}
+
+// Writes over a record.
+fn scribble_record(mem: &mut Lent<'_>, space: Space, base: u16)
+    ensures { SameLoans mem.old mem.new }
+{
+    let Some(Record { k, words }) = mem.take(space, base) else {
+        return;
+    };
+    words.fill(SCRIBBLE);
+    mem.put(k, words);
+}
+
+// Writes over every word that may be written.
+fn scribble(mem: &mut Lent<'_>)
+    ensures { SameLoans mem.old mem.new }
+{
+    let table = mem.table();
+    for k in 0..table.len() {
+        let record = table.get(k);
+        scribble_record(mem, record.space, record.base);
+    }
+}
+
+// Gives the samples that it takes.
+fn echo(input: &[i16], out: &mut Block)
+    requires empty { out.old.items ≡ [] }
+    ensures { length out.new.items ≤ length input.now }
+{
+    let _fits = out.try_extend_from_slice(input);
+}

@@ -1,2 +1,0 @@
-pub mod HostRowLemmas
-pub mod ConsoleRowLemmas

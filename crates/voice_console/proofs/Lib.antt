@@ -1,2 +1,0 @@
-pub mod SampleLemmas
-pub mod Served

@@ -1,8 +1,0 @@
-use Rattle.std.proofs.Common.{◌∙◌, ◌*◌, ap, sym}
-use Rattle.line_spec.specs.declared.limits.TheConstants.{WORD_OCTETS}
-use Rattle.voice_console.proofs.SampleLemmas.{read-samples}
-use Rattle.voice_console.proofs.samples.read_words.Goals as goal
-
-pub returns : goal.returns
-returns c =
-    read-samples c.args.octets.now c.read_i16_into.new.dst (c.requires ∙ ap (λ n. WORD_OCTETS * n) (sym c.read_i16_into.auto.dst)) c.read_i16_into.ensures

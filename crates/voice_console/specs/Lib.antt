@@ -1,2 +1,0 @@
-pub mod Consoles
-pub mod Hosts
