@@ -37,7 +37,7 @@ eight xs q P k =
 
 -- ---- a lane
 
-widened : (x : ℤ) → FitsSigned w16 x → FitsSigned w32 x
+pub widened : (x : ℤ) → FitsSigned w16 x → FitsSigned w32 x
 widened x f = record { sfits = omega (arith, f.sfits) }
 
 pub all_widened : (xs : List ℤ) → ((k : ℕ) → FitsSigned w16 (word_at xs k)) → Each1 (Asks1 (cast signed signed w32) (s_int w16)) (map (of_z w16) xs)
@@ -50,13 +50,13 @@ all_widened (x ∷ xs) f =
 abbrev times : ℤ → ℤ → ℕ
 times a b = of_z w32 (to_z w16 (of_z w16 a)) * of_z w32 (to_z w16 (of_z w16 b)) % 4294967296
 
-product : (a b : ℤ) → FitsSigned w32 a → FitsSigned w32 b → to_z w32 (of_z w32 a * of_z w32 b % 4294967296) ≡ int_wrap w32 (a *ℤ b)
+pub product : (a b : ℤ) → FitsSigned w32 a → FitsSigned w32 b → to_z w32 (of_z w32 a * of_z w32 b % 4294967296) ≡ int_wrap w32 (a *ℤ b)
 product a b f g = search (rules, wraps)
 
 times_is : (a b : ℤ) → FitsSigned w16 a → FitsSigned w16 b → to_z w32 (times a b) ≡ int_wrap w32 (a *ℤ b)
 times_is a b f g = rw (to_z-of_z w16 a f, to_z-of_z w16 b g) (product a b (widened a f) (widened b g))
 
-added_bits : (m n : ℕ) → m < 4294967296 → n < 4294967296 → to_z w32 ((m + n) % 4294967296) ≡ int_wrap w32 (to_z w32 m +ℤ to_z w32 n)
+pub added_bits : (m n : ℕ) → m < 4294967296 → n < 4294967296 → to_z w32 ((m + n) % 4294967296) ≡ int_wrap w32 (to_z w32 m +ℤ to_z w32 n)
 added_bits m n p q = wrapping_add-bits w32 m n p q
 
 -- sums of what was wrapped
@@ -69,10 +69,10 @@ wrapped_both a b x y e f =
 again : (l x : ℤ) → l ≡ int_wrap w32 x → int_wrap w32 l ≡ int_wrap w32 x
 again l x e = ap (int_wrap w32) e ∙ int_wrap_fits w32 (int_wrap w32 x) (SFits-int_wrap w32 x)
 
-bits_below : (m : ℕ) → m % 4294967296 < 4294967296
+pub bits_below : (m : ℕ) → m % 4294967296 < 4294967296
 bits_below m = omega arith
 
-word_bits : (z : ℤ) → FitsSigned w32 z → of_z w32 z < 4294967296
+pub word_bits : (z : ℤ) → FitsSigned w32 z → of_z w32 z < 4294967296
 word_bits z f = omega (arith, ints, f.sfits)
 
 -- one lane of the four: two products go onto it
@@ -91,7 +91,7 @@ lane s a b c d fs fa fb fc fd =
     ∙ wrapped_both (to_z w32 (of_z w32 s)) (to_z w32 ((p + q) % 4294967296)) s ((a *ℤ b) +ℤ (c *ℤ d)) (ap (int_wrap w32) (to_z-of_z w32 s fs))
     (again _ _ (pair ∙ products))
 
-four_fit : (a b c d : ℤ) → FitsSigned w32 a → FitsSigned w32 b → FitsSigned w32 c → FitsSigned w32 d
+pub four_fit : (a b c d : ℤ) → FitsSigned w32 a → FitsSigned w32 b → FitsSigned w32 c → FitsSigned w32 d
     → (k : ℕ) → FitsSigned w32 (word_at (a ∷ b ∷ c ∷ d ∷ []) k)
 four_fit a b c d e f g h zero = e
 four_fit a b c d e f g h (suc zero) = f

@@ -1,4 +1,5 @@
 pub mod Bounding
+pub mod HalfLanes
 pub mod HalfSums
 pub mod Lanes
 pub mod Parts

@@ -7,11 +7,13 @@ ghost use Rattle.ialg.specs.History.{word_at};
 ghost use Rattle.fir_kernel.specs.Halves.{AreAboveLeast, AreHalfSums, AreHalves, HasHalves, HaveHalves, HaveProduct, HaveProducts};
 ghost use Rattle.fir_kernel.specs.Sums.{AreOutputs, Reaches};
 
+use crate::half_lanes::{BESIDE, sum_beside};
+use crate::windows::read_words;
 use basic_op::{half_mac, half_round};
 use ialg::BLOCK_SAMPLES;
 
 /// Half of a sum of products in Q31.
-type Half = i32;
+pub(crate) type Half = i32;
 
 /// Whether no word is -32768.
 pub(crate) fn are_above_least(words: &[i16]) -> bool
@@ -45,11 +47,30 @@ pub(crate) fn filter_halves<const N: usize>(
     let mut block = [0; N];
     let (sums, _unused) = block.split_at_mut(out.len());
     if step == 1 {
-        sum_neighbours(coefficients, line, first, sums);
+        sum_in_a_row(coefficients, line, first, sums);
     } else {
         sum_gathered::<N>(coefficients, line, first, step, sums);
     }
     round_halves(sums, out);
+}
+
+/// The sums of neighbouring outputs, that at sample `first` first, by halves: 32 at a time, and then those that are left.
+fn sum_in_a_row(coefficients: &[i16], line: &[i16], first: usize, sums: &mut [Half])
+    requires some { 1 ≤ length coefficients.now }
+    requires halves { HaveHalves coefficients.now line.now }
+    requires reach { first + length coefficients.now + length sums.old ≤ length line.now + 1 }
+    requires cleared { AreHalves sums.old }
+    ensures halves { AreHalves sums.new }
+    ensures sums { AreHalfSums coefficients.now line.now first 1 (length coefficients.now) (length sums.old) sums.new }
+{
+    read_words(line);
+    let blocks = sums.len() / BESIDE;
+    let (whole, rest) = sums.split_at_mut(BESIDE * blocks);
+    for block in 0..blocks {
+        let at = BESIDE * block;
+        sum_beside(coefficients, line, first + at, whole, at);
+    }
+    sum_neighbours(coefficients, line, first + BESIDE * blocks, rest);
 }
 
 /// The sums of neighbouring outputs, that at sample `first` first, by halves. Taps are outside and outputs inside, two taps in each pass.
