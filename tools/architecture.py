@@ -26,10 +26,10 @@ PICTURE = Path("docs/architecture.svg")
 LAYERS: tuple[tuple[str, str], ...] = (
     ("tests", r"test_\w+|\w+_trace|rogue_kit|mixed_console"),
     ("C library", r"\w+_library"),
-    ("program", r"dsp_console_main|gateway_console|dsp_program|port_files"),
+    ("program", r"dsp_console_main|gateway_console|dsp_arguments|dsp_program|port_files"),
     ("engine", r"dsp_console|script_server|octet_ports"),
     ("channels", r"voice_channel"),
-    ("host", r"alg_host|host_(?:create|delete)"),
+    ("host", r"alg_host|host_instances"),
     ("instances of a host", r"host_(?:table|shared|moves|spaces)"),
     ("specification", r"\w+_spec"),
     ("script", r"voice_script"),

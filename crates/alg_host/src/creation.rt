@@ -19,7 +19,7 @@ impl<M: Ialg> Host<M> {
         ensures refused { OnErr result (self.new ≡ self.old) }
         ensures machine { Serves M.law (Create i kind group p.now.items result) self.old self.new }
     {
-        host_create::create(
+        host_instances::create(
             &mut self.tables,
             &mut self.spaces,
             self.poison,

@@ -18,7 +18,7 @@ impl<M: Ialg> Host<M> {
         ensures gone { lives self.new i ≡ false }
         ensures machine { Serves M.law (Delete i result) self.old self.new }
     {
-        host_delete::delete(&mut self.tables, &mut self.spaces, self.poison, i)
+        host_instances::delete(&mut self.tables, &mut self.spaces, self.poison, i)
     }
 
     /// Deletes every instance, in ascending number, and gives all memory back.
@@ -28,6 +28,6 @@ impl<M: Ialg> Host<M> {
             spaces,
             poison,
         } = self;
-        host_delete::close(tables, spaces, poison);
+        host_instances::close(tables, spaces, poison);
     }
 }

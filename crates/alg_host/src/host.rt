@@ -4,7 +4,7 @@ ghost use Rattle.host_map.specs.MemoryMap.{AreSizes};
 ghost use Rattle.host_spec.specs.State.{new_state};
 ghost use Rattle.alg_host.specs.Hosts.{Keeps, lives};
 
-use host_create::HostMemory;
+use host_instances::HostMemory;
 use host_map::Sizes;
 use host_spaces::{Spaces, StartError};
 use host_table::Tables;

@@ -17,7 +17,7 @@ mod request;
 mod table_calls;
 
 pub use host::Host;
-pub use host_create::HostMemory;
+pub use host_instances::HostMemory;
 pub use host_map::{Map, Owner, Placed, Sizes, Stat};
 pub use host_spaces::StartError;
 pub use lists::{make, make_all, make_both};

@@ -1,9 +1,9 @@
 //! What is said on the standard error where it is asked for: why lines were refused, and why a file failed.
-use crate::asked::Arguments;
 use crate::reasons::Reason;
 use crate::shown::Shown;
 use crate::unanswered::Unanswered;
 use arrayvec::ArrayVec;
+use dsp_arguments::Arguments;
 use dsp_console::Fault;
 use octet_ports::LINE_FEED;
 use port_files::{Role, Trouble, Troubles};

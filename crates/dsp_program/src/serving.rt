@@ -2,9 +2,9 @@
 ghost use Rattle.std.specs.Prelude.{◌≡◌, ◌+◌, ◌≤◌, false, length, map, All, IfOk, IsOk};
 ghost use Rattle.script_server.specs.Runs.{IsReadyIn, IsReadyOut};
 
-use crate::asked::Arguments;
 use crate::explaining::{Explainer, explain_fault};
 use crate::ports::{Listener, ReplyPort, ScriptPort};
+use dsp_arguments::Arguments;
 use dsp_console::{CHANNELS, Config, Fault, PortIn, PortOut, Reading, Summary, run};
 use ialg::{Ialg, Named};
 use octet_ports::{Journal, JournalOutput, JournalReplies, Passing, pass_on_all};

@@ -1,8 +1,7 @@
 //! The program from its words to its exit status.
-use crate::asked::{About, ArgFault};
-use crate::command_line::arguments_of;
 use crate::serving::serve;
 use clap::error::ErrorKind;
+use dsp_arguments::{About, ArgFault, arguments_of};
 use dsp_console::{Fault, outcome};
 use ialg::{Ialg, Named};
 use std::env::{self, Env};

@@ -1,6 +1,6 @@
 //! Which word of a command line becomes which field, and what is refused.
 use clap::error::ErrorKind;
-use dsp_program::{ArgFault, arguments};
+use dsp_arguments::{ArgFault, arguments};
 use host_map::Sizes;
 use std::process::Abort;
 use std::test::Fail;

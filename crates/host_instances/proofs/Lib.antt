@@ -1,0 +1,17 @@
+pub mod Replaced
+pub mod Needed
+pub mod Grown
+pub mod Told
+pub mod Unplaced
+pub mod Joined
+pub mod Begun
+pub mod Replaces
+pub mod Placing
+pub mod CreationsKept
+pub mod Belonging
+pub mod Handed
+pub mod Records
+pub mod FreedBlocks
+pub mod Ended
+pub mod Deleted
+pub mod Closed

@@ -1,0 +1,5 @@
+pub mod Blocks
+pub mod Growth
+pub mod Started
+pub mod Ends
+pub mod Leaving

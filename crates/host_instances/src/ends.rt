@@ -1,0 +1,40 @@
+//! The end of an instance.
+ghost use Rattle.std.specs.Prelude.{IsSome};
+ghost use Rattle.host_table.specs.Table.{slot_at, ArePoisoned};
+ghost use Rattle.host_instances.specs.Ends.{HasEnded};
+ghost use Rattle.host_table.specs.Steps.{AreConsistent};
+ghost use Rattle.host_moves.specs.Standing.{MapAgrees};
+
+use crate::leaving::{give_blocks, give_records};
+use crate::members::{group_number, members_left};
+use host_spaces::Spaces;
+use host_table::Tables;
+use ialg::Ialg;
+
+/// Ends an instance. Its records are given back, and its group's blocks where no other member is left. An active one is deactivated
+/// first, and the blocks are filled with the poison word, if there is one.
+pub fn end_instance<M: Ialg>(
+    tables: &mut Tables<M>,
+    spaces: &mut Spaces,
+    poison: Option<i16>,
+    i: u8,
+)
+    requires living { IsSome (slot_at tables.old.instances i) }
+    requires ok { AreConsistent tables.old }
+    requires standing { MapAgrees tables.old spaces.old }
+    requires poisoned { ArePoisoned poison tables.old.groups }
+    ensures { HasEnded M.law poison i tables.old.instances tables.old.sharing tables.old.groups spaces.old
+        tables.new.instances tables.new.sharing tables.new.groups spaces.new }
+{
+    let g = group_number(&tables.instances, i);
+    give_records(tables, spaces, poison, i);
+    if !members_left(&tables.instances, g) {
+        give_blocks(
+            &tables.instances,
+            &tables.sharing,
+            &mut tables.groups,
+            spaces,
+            g,
+        );
+    }
+}

@@ -1,0 +1,118 @@
+//! What an instance leaves: its records, and with the last member of a group the group's blocks.
+ghost use Rattle.std.specs.Prelude.{◌≡◌, ◌<◌, ℕ, ℤ, false, length, Option, None, IsSome};
+ghost use Rattle.mem_rec.specs.declared.Space.{Space};
+ghost use Rattle.ialg.specs.History.{History};
+ghost use Rattle.record_loans.specs.Blocks.{block_piece};
+ghost use Rattle.scratch_group.specs.Blocks.{block_in};
+ghost use Rattle.mem_rec.specs.declared.TheConstants.{GROUPS, INSTANCES};
+ghost use Rattle.host_table.specs.Table.{slot_at, group_at, group_of, is_member_of, deactivated_by, TablesOk, ArePoisoned, SameActivities, ActivitiesAre};
+ghost use Rattle.host_shared.specs.Owners.{HoldsForOthers};
+ghost use Rattle.host_shared.specs.Sharing.{next_sharer};
+ghost use Rattle.host_table.specs.Sharers.{asked_by};
+ghost use Rattle.host_table.specs.Keeps.{Keeps};
+ghost use Rattle.host_map.specs.Creation.{handed_on, sharer_at};
+ghost use Rattle.host_spaces.specs.MemoryMap.{AreSameSpaces, map_of};
+ghost use Rattle.host_map.specs.MemoryMap.{is_group's, is_instance's, renamed, without_owners};
+ghost use Rattle.host_spaces.specs.Pieces.{old_piece};
+ghost use Rattle.host_moves.specs.Standing.{AgreeWithMap, MapAgrees};
+ghost use Rattle.host_instances.specs.Ends.{sharers_among, OtherSlotsSame};
+ghost use Rattle.host_instances.specs.Leaving.{AgreeWithMapBut};
+ghost use Rattle.host_table.specs.Steps.{AreConsistent, HistoriesStay};
+ghost use Rattle.host_table.specs.Frames.{OtherGroupsStay};
+
+use crate::members::table_copied;
+use host_moves::take_block;
+use host_shared::{Locations, next_sharer};
+use host_spaces::{OldBlocks, Sharers, Spaces};
+use host_table::{Member, Tables, end};
+use ialg::Ialg;
+use mem_rec::Space;
+use scratch_group::Group;
+
+/// For each record of an instance the next one that holds it.
+fn next_sharers(sharing: &Vec<Locations>, i: u8) -> Sharers
+    requires count { length sharing.now.items ≡ INSTANCES }
+    requires number { i < INSTANCES }
+    requires held { (k : ℕ) → HoldsForOthers sharing.now.items i k }
+    ensures { (k : ℕ) → sharer_at result k ≡ next_sharer sharing.now.items i k }
+{
+    [
+        next_sharer(sharing, i, 0),
+        next_sharer(sharing, i, 1),
+        next_sharer(sharing, i, 2),
+        next_sharer(sharing, i, 3),
+    ]
+}
+
+/// Ends an instance, and gives back its records that no other instance holds. The others are their next owners' from then on.
+pub(crate) fn give_records<M: Ialg>(
+    tables: &mut Tables<M>,
+    spaces: &mut Spaces,
+    poison: Option<i16>,
+    i: u8,
+)
+    requires living { IsSome (slot_at tables.old.instances i) }
+    requires ok { AreConsistent tables.old }
+    requires standing { MapAgrees tables.old spaces.old }
+    requires poisoned { ArePoisoned poison tables.old.groups }
+    ensures ok { AreConsistent tables.new }
+    ensures standing { AgreeWithMapBut (group_of (slot_at tables.old.instances i)) tables.new.instances tables.new.sharing tables.new.groups spaces.new }
+    ensures poisoned { ArePoisoned poison tables.new.groups }
+    ensures gone { slot_at tables.new.instances i ≡ None }
+    ensures others { OtherSlotsSame i tables.old.instances tables.new.instances }
+    ensures activity { ActivitiesAre tables.new.groups (deactivated_by tables.old.instances tables.old.groups i) }
+    ensures map { map_of spaces.new ≡ without_owners (is_instance's i)
+        (renamed (handed_on (sharers_among M.law.meaning.same tables.new.instances (asked_by (slot_at tables.old.instances i))) i) (map_of spaces.old)) }
+    ensures spaces { AreSameSpaces spaces.old spaces.new }
+    ensures keeps { HistoriesStay M.law poison tables.old tables.new }
+{
+    let table = table_copied(&tables.instances, i);
+    let next = next_sharers(&tables.sharing, i);
+    let (own, shared) = end(tables, poison, i);
+    spaces.hand_on(i, &next);
+    spaces.take_out_records(i, &table, own, shared);
+}
+
+/// Takes all blocks out of a group.
+fn take_blocks(groups: &mut Vec<Group>, g: u8) -> OldBlocks
+    requires { g < length groups.old.items }
+    ensures old { (space : Space) → old_piece result space ≡ block_piece (block_in (group_at groups.old.items g) space) }
+    ensures new { (space : Space) → block_in (group_at groups.new.items g) space ≡ None }
+    ensures others { OtherGroupsStay g groups.old.items groups.new.items }
+    ensures activity { SameActivities groups.old.items groups.new.items }
+    ensures length { length groups.new.items ≡ length groups.old.items }
+{
+    let daram = take_block(groups, g, Space::Daram);
+    let saram = take_block(groups, g, Space::Saram);
+    let external = take_block(groups, g, Space::External);
+    OldBlocks {
+        daram,
+        saram,
+        external,
+    }
+}
+
+/// Gives back the blocks of a group without members.
+pub(crate) fn give_blocks<M: Ialg>(
+    instances: &Vec<Option<Member<M>>>,
+    sharing: &Vec<Locations>,
+    groups: &mut Vec<Group>,
+    spaces: &mut Spaces,
+    g: u8,
+)
+    requires number { g < GROUPS }
+    requires none { (j : ℕ) → is_member_of g (slot_at instances.now.items j) ≡ false }
+    requires ok { TablesOk instances.now.items sharing.now.items groups.old.items }
+    requires standing { AgreeWithMapBut g instances.now.items sharing.now.items groups.old.items spaces.old }
+    ensures ok { TablesOk instances.now.items sharing.now.items groups.new.items }
+    ensures standing { AgreeWithMap instances.now.items sharing.now.items groups.new.items spaces.new }
+    ensures poisoned { (w : Option ℤ) → ArePoisoned w groups.old.items → ArePoisoned w groups.new.items }
+    ensures activity { SameActivities groups.old.items groups.new.items }
+    ensures map { map_of spaces.new ≡ without_owners (is_group's g) (map_of spaces.old) }
+    ensures spaces { AreSameSpaces spaces.old spaces.new }
+    ensures keeps { (w : Option ℤ) (histories : ℕ → History) → Keeps M.law w instances.now.items sharing.now.items groups.old.items histories
+        → Keeps M.law w instances.now.items sharing.now.items groups.new.items histories }
+{
+    let blocks = take_blocks(groups, g);
+    spaces.take_out_blocks(g, blocks);
+}

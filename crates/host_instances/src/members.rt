@@ -1,0 +1,60 @@
+//! The members of groups.
+ghost use Rattle.std.specs.Prelude.{◌≡◌, ◌<◌, ℕ, length, Some, IsSome};
+ghost use Rattle.mem_rec.specs.declared.TheConstants.{INSTANCES};
+ghost use Rattle.host_table.specs.declared.member.Member.{Member};
+ghost use Rattle.host_table.specs.Table.{slot_at, group_of, instance_of, is_member_of};
+ghost use Rattle.host_instances.specs.Ends.{has_members};
+
+use host_table::Member;
+use ialg::Ialg;
+use lifecycle::Inst;
+use mem_rec::{INSTANCES, MemTab};
+
+/// The group of an instance.
+pub(crate) fn group_number<M: Ialg>(instances: &Vec<Option<Member<M>>>, i: u8) -> u8
+    requires { IsSome (slot_at instances.now.items i) }
+    ensures { result ≡ group_of (slot_at instances.now.items i) }
+{
+    match &instances[i as usize] {
+        Some(member) => member.group,
+        None => unreachable!(),
+    }
+}
+
+/// The table of an instance.
+pub(crate) fn table_copied<M: Ialg>(instances: &Vec<Option<Member<M>>>, i: u8) -> MemTab
+    requires { IsSome (slot_at instances.now.items i) }
+    ensures { (m : Member M) → slot_at instances.now.items i ≡ Some m → result ≡ (instance_of m.inst).table }
+{
+    match &instances[i as usize] {
+        Some(member) => match &member.inst {
+            Inst::Idling(idle) => idle.instance.table.copied(),
+            Inst::Running(active) => active.instance.table.copied(),
+        },
+        None => unreachable!(),
+    }
+}
+
+/// Whether the slot has a member of the group.
+fn is_member<M: Ialg>(instances: &Vec<Option<Member<M>>>, g: u8, i: usize) -> bool
+    requires { i < length instances.now.items }
+    ensures { result ≡ is_member_of g (slot_at instances.now.items i) }
+{
+    match &instances[i] {
+        Some(member) => member.group == g,
+        None => false,
+    }
+}
+
+/// Whether the group has a member.
+pub(crate) fn members_left<M: Ialg>(instances: &Vec<Option<Member<M>>>, g: u8) -> bool
+    requires { length instances.now.items ≡ INSTANCES }
+    ensures { result ≡ has_members instances.now.items g }
+{
+    for i in 0..INSTANCES {
+        if is_member(instances, g, i) {
+            return true;
+        }
+    }
+    false
+}

@@ -1,0 +1,163 @@
+//! A new instance starts.
+ghost use Rattle.std.specs.Prelude.{◌≡◌, ◌≢◌, ◌+◌, ◌<◌, ℕ, [], length, Option, Some, None, IsTrue, IfOk, OnOk, OnErr};
+ghost use Rattle.mem_rec.specs.declared.Space.{Space};
+ghost use Rattle.mem_rec.specs.declared.TheConstants.{TABLE_RECORDS, INSTANCES, GROUPS};
+ghost use Rattle.ialg.specs.History.{History};
+ghost use Rattle.ialg.specs.Records.{unplaced};
+ghost use Rattle.host_table.specs.Table.{slot_at, group_at, activity_at, ArePoisoned};
+ghost use Rattle.host_map.specs.Sharers.{asked, sharer_of};
+ghost use Rattle.host_table.specs.Sharers.{asked_by, AreLeastSharers};
+ghost use Rattle.host_shared.specs.Joining.{sharer_at};
+ghost use Rattle.host_table.specs.Keeps.{with_history};
+ghost use Rattle.host_map.specs.declared.TheConstants.{SPACE_BLOCKS};
+ghost use Rattle.host_map.specs.declared.placed.Owner.{Owner};
+ghost use Rattle.host_map.specs.declared.placed.Owner.TheVariants.{Record, Scratch};
+ghost use Rattle.host_map.specs.Blocks.{owned};
+ghost use Rattle.host_map.specs.Creation.{all_placed, created_map, replaces, result_map, taken_over, wanted_by, sharer_at as listed_at};
+ghost use Rattle.host_spaces.specs.MemoryMap.{AreSameSpaces, map_of, sizes_of, space_in};
+ghost use Rattle.host_map.specs.MemoryMap.{blocks_in, renamed};
+ghost use Rattle.host_spaces.specs.Pieces.{ArePlacedPieces, AreSharable, HasBlocks, HasRecords, IsNeeded, IsPoisoned, new_block, with_new};
+ghost use Rattle.host_spaces.specs.Wants.{block_need};
+ghost use Rattle.host_instances.specs.Growth.{AreGrown, activity_grown};
+ghost use Rattle.host_instances.specs.Started.{IsNewborn, IsPlaced, OthersAreSame};
+ghost use Rattle.host_table.specs.Steps.{AreConsistent, AreKept};
+ghost use Rattle.host_moves.specs.Standing.{MapAgrees};
+ghost use Rattle.host_table.specs.Starts.{asked_for, BeginsHistory};
+
+use crate::growth::grow;
+use host_moves::{in_order, maps_have_room};
+use host_shared::Sharers;
+use host_spaces::{Placement, Spaces, blocks_are_few, creations};
+use host_table::{NewInstance, Tables, find_sharers, start};
+use ialg::{Ialg, Params};
+use mem_rec::{MemTab, Space};
+use record_loans::Pieces;
+use scratch_group::Group;
+
+/// The sharers as a list, by the numbers of records.
+fn listed(sharers: &Sharers) -> host_spaces::Sharers
+    ensures { (k : ℕ) → listed_at result k ≡ sharer_at sharers.now k }
+{
+    [sharers.t0, sharers.t1, sharers.t2, sharers.t3]
+}
+
+/// Places all blocks that a new instance needs for what it doesn't share, or says the space of the first one that has no place.
+fn place(
+    spaces: &mut Spaces,
+    i: u8,
+    g: u8,
+    table: &MemTab,
+    sharers: &host_spaces::Sharers,
+    groups: &Vec<Group>,
+    poison: Option<i16>,
+) -> Result<Placement, Space>
+    requires group { g < length groups.now.items }
+    requires sharers { AreSharable table.now (listed_at sharers.now) }
+    requires blocks { HasBlocks (map_of spaces.old) g (group_at groups.now.items g) }
+    requires records { (k : ℕ) (space : Space) → owned (Record i k) (blocks_in (map_of spaces.old) space) ≡ [] }
+    requires room { (space : Space) → length (blocks_in (map_of spaces.old) space) + TABLE_RECORDS < SPACE_BLOCKS }
+    ensures exact { all_placed (sizes_of spaces.old) (map_of spaces.old) (wanted_by (listed_at sharers.now) (map_of spaces.old) i g table.now) ≡ result_map (λ _. map_of spaces.new) result }
+    ensures pieces { IfOk result (λ made. ArePlacedPieces spaces.old table.now (listed_at sharers.now) made.own made.shared) }
+    ensures records { IfOk result (λ made. HasRecords (map_of spaces.new) i table.now made.own made.shared) }
+    ensures needed { IfOk result (λ made. (space : Space) → IsNeeded (space_in spaces.old space).region (block_need table.now (group_at groups.now.items g) space) (new_block made.blocks space)) }
+    ensures blocks { IfOk result (λ made. (space : Space) → owned (Scratch g) (blocks_in (map_of spaces.new) space)
+        ≡ with_new g (new_block made.blocks space) (owned (Scratch g) (blocks_in (map_of spaces.old) space))) }
+    ensures others { OnOk result ((o : Owner) (space : Space) → o ≢ Scratch g → ((k : ℕ) → o ≢ Record i k)
+        → owned o (blocks_in (map_of spaces.new) space) ≡ owned o (blocks_in (map_of spaces.old) space)) }
+    ensures poison { IfOk result (IsPoisoned poison) }
+    ensures refused { OnErr result (spaces.new ≡ spaces.old) }
+    ensures stays { AreSameSpaces spaces.old spaces.new }
+{
+    spaces.place_instance(i, g, table, sharers, &groups[g as usize], poison)
+}
+
+/// Starts an instance whose records are placed, but for those that it shares with its sharers, and whose group has the blocks for it. A shared
+/// block is the new instance's from now on where that one has the lower number.
+fn begin<M: Ialg>(
+    tables: &mut Tables<M>,
+    spaces: &mut Spaces,
+    instance: NewInstance<M>,
+    own: Pieces,
+    shared: Pieces,
+    sharers: Sharers,
+)
+    requires number { instance.number < INSTANCES }
+    requires group { instance.group < GROUPS }
+    requires empty { slot_at tables.old.instances instance.number ≡ None }
+    requires ok { AreConsistent tables.old }
+    requires grown { AreGrown instance.group tables.old.instances tables.old.sharing tables.old.groups spaces.old }
+    requires sharers { AreLeastSharers M.law.meaning.same tables.old.instances (asked_for instance) sharers }
+    requires placed { IsPlaced spaces.old instance.number (sharer_at sharers) instance.table own shared (group_at tables.old.groups instance.group) }
+    requires gone { (j k : ℕ) (space : Space) → slot_at tables.old.instances j ≡ None → j ≢ instance.number → owned (Record j k) (blocks_in (map_of spaces.old) space) ≡ [] }
+    ensures groups { tables.new.groups ≡ tables.old.groups }
+    ensures ok { AreConsistent tables.new }
+    ensures standing { MapAgrees tables.new spaces.new }
+    ensures others { (j : ℕ) → j ≢ instance.number → slot_at tables.new.instances j ≡ slot_at tables.old.instances j }
+    ensures newborn { IsNewborn instance.group instance.kind instance.params.items instance.table (slot_at tables.new.instances instance.number) }
+    ensures map { map_of spaces.new ≡ renamed (taken_over (sharer_at sharers) instance.number) (map_of spaces.old) }
+    ensures stays { AreSameSpaces spaces.old spaces.new }
+    ensures keeps { BeginsHistory M.law instance own shared tables.old tables.new }
+{
+    let list = listed(&sharers);
+    spaces.take_over(instance.number, &list);
+    in_order(spaces);
+    start(tables, instance, own, shared, sharers);
+}
+
+/// Starts an instance in an empty slot. A write-once record that a living instance shares gets no
+/// block: the least of those that share it owns it. All other blocks that it needs are placed first, while the old ones of its group
+/// stand, and it is called last. Or says the space of the first block that has no place; then nothing has happened.
+pub fn start_in_spaces<M: Ialg>(
+    tables: &mut Tables<M>,
+    spaces: &mut Spaces,
+    poison: Option<i16>,
+    instance: NewInstance<M>,
+) -> Result<(), Space>
+    requires number { instance.number < INSTANCES }
+    requires group { instance.group < GROUPS }
+    requires empty { slot_at tables.old.instances instance.number ≡ None }
+    requires ok { AreConsistent tables.old }
+    requires standing { MapAgrees tables.old spaces.old }
+    requires poisoned { ArePoisoned poison tables.old.groups }
+    ensures ok { AreConsistent tables.new }
+    ensures standing { MapAgrees tables.new spaces.new }
+    ensures poisoned { ArePoisoned poison tables.new.groups }
+    ensures exact { created_map (sizes_of spaces.old) (map_of spaces.old) instance.number instance.group instance.table (sharer_of M.law.meaning.same (λ j. asked_by (slot_at tables.old.instances j)) (asked instance.kind instance.params.items instance.table))
+        ≡ result_map (λ _. map_of spaces.new) result }
+    ensures refused { OnErr result ((tables.new ≡ tables.old) × (spaces.new ≡ spaces.old)) }
+    ensures stays { AreSameSpaces spaces.old spaces.new }
+    ensures others { OnOk result (OthersAreSame instance.number tables.old.instances tables.new.instances) }
+    ensures newborn { OnOk result (IsNewborn instance.group instance.kind instance.params.items instance.table (slot_at tables.new.instances instance.number)) }
+    ensures activity { OnOk result ((k : ℕ) → activity_at tables.new.groups k ≡ activity_grown (replaces (map_of spaces.old) instance.group instance.table) tables.old.groups instance.group k) }
+    ensures keeps { OnOk result ((histories : ℕ → History)
+        → (IsTrue (M.law.meaning.lawful instance.kind instance.params.items poison) → M.law.meaning.table instance.kind instance.params.items ≡ Some (unplaced instance.table))
+        → AreKept M.law poison tables.old histories
+        → AreKept M.law poison tables.new (with_history histories instance.number [])) }
+{
+    maps_have_room::<M>();
+    blocks_are_few();
+    creations();
+    // a table is valid, as its records say
+    let _records = instance.table.records();
+    let sharers = find_sharers(
+        &tables.instances,
+        instance.kind,
+        &instance.params,
+        &instance.table,
+    );
+    let list = listed(&sharers);
+    let i = instance.number;
+    let g = instance.group;
+    let placed = match place(spaces, i, g, &instance.table, &list, &tables.groups, poison) {
+        Ok(placed) => placed,
+        Err(space) => return Err(space),
+    };
+    let Placement {
+        own,
+        shared,
+        blocks,
+    } = placed;
+    grow(tables, spaces, poison, g, blocks);
+    begin(tables, spaces, instance, own, shared, sharers);
+    Ok(())
+}
