@@ -1,9 +1,11 @@
 -- One limit in place of several.
-use Rattle.std.proofs.Common.{◌≡◌, ℕ, ◌+◌, ◌-◌, false, refl, ◌*◌, ◌^◌, ◌<◌, ◌≤◌, ℤ, pos, negsuc, ◌+ℤ◌, ◌-ℤ◌, ◌*ℤ◌, unsigned_abs, SFits, w16, sym, ap, ◌∙◌, arith}
+use Rattle.std.proofs.Common.{◌≡◌, ℕ, ◌+◌, ◌-◌, ◌/◌, ◌≤ℤ◌, false, refl, ◌*◌, ◌^◌, ◌<◌, ◌≤◌, ℤ, pos, negsuc, ◌+ℤ◌, ◌-ℤ◌, ◌*ℤ◌, unsigned_abs, SFits, w16, sym, ap, ◌∙◌, arith}
 use Rattle.std.specs.Int.{int_max, int_min}
 use Rattle.std.specs.Int.Signed.{nat_abs-le}
 use Rattle.std.proofs.lemmas.Int.{ints, unsigned_abs-mul}
 use Rattle.std.proofs.lemmas.Nat.{mul-le}
+use Rattle.std.proofs.Math.Nat.{div-le_of_le-mul}
+use Rattle.std.proofs.Math.Pow.{pow_mono}
 use lib.Signed.{shr_z}
 use Rattle.std.specs.Int.Signed.{lt_z}
 use Rattle.basic_op.specs.Operators.{floor_div, add_of, sub_of, shr_of, extract_h_of, l_shl_of, saturate16, saturate32}
@@ -48,3 +50,15 @@ shr_of-right x (negsuc n) h = cc
 -- the samples before a frame's last one
 pub before_last : (n m : ℕ) → n < m → m ≤ 1024 → n + (unsigned_abs (int_max (sub_of (pos m) (pos n)) (pos 1)) - 1) < m
 before_last n m below few = grind (arith, ints)
+
+-- a word that is shifted to the right by a bit or more
+divided : (m n : ℕ) → m ≤ 32767 → 1 ≤ n → m / 2 ^ n ≤ 16384
+divided m n few some =
+    let two : 2 ^ 1 ≤ 2 ^ n = pow_mono some in
+    let room : 2 * 16384 ≤ 2 ^ n * 16384 = mul-le 2 16384 (2 ^ n) 16384 two (omega arith) in
+    div-le_of_le-mul (2 ^ n) (omega (arith, room))
+
+pub shifted_half : (x s : ℤ) → SFits w16 x → pos 1 ≤ℤ s → unsigned_abs (shr_of x s) ≤ 16385
+shifted_half (pos m) (pos n) f some = let few = f.sfits in let h = divided m n (omega (arith, few)) (omega (arith, ints, some)) in omega (arith, h)
+shifted_half (negsuc m) (pos n) f some = let few = f.sfits in let h = divided m n (omega (arith, few)) (omega (arith, ints, some)) in omega (arith, h)
+shifted_half x (negsuc n) f some = absurd (omega (arith, ints, some))

@@ -1,5 +1,5 @@
 //! The detector over plain words.
-ghost use Rattle.std.specs.Prelude.{◌≡◌, ◌≤◌, ◌<◌, ◌+◌, ◌^◌, ◌++◌, ◌∷◌, ℕ, ℤ, List, [], length, take, pos, true, unsigned_abs, FitsSigned, IfSome};
+ghost use Rattle.std.specs.Prelude.{◌≡◌, ◌≤◌, ◌<◌, ◌+◌, ◌^◌, ◌++◌, ◌∷◌, ◌≤ℤ◌, ℕ, ℤ, List, [], length, take, pos, true, unsigned_abs, FitsSigned, IfSome};
 ghost use Rattle.std.specs.Int.{w16};
 ghost use Rattle.basic_op.specs.Operators.{add_of, saturate16, shr_of};
 ghost use Rattle.ialg.specs.History.{History, word_at};
@@ -13,6 +13,12 @@ use ialg::{BLOCK_SAMPLES, Block};
 
 /// The bits behind a factor's point.
 const FACTOR_BITS: u32 = 14;
+
+/// The greatest magnitude of a quiet value: after one, no step to the next value saturates where samples are shifted.
+const QUIET: i32 = 8_191;
+
+/// The greatest magnitude of a quiet value's feedback.
+const QUIET_FEEDBACK: i32 = 16_382;
 
 /// A frame so far: how many samples of it there are, and the two newest values.
 #[derive(Clone, Copy)]
@@ -149,6 +155,34 @@ impl Tuning {
         }
     }
 
+    /// The feedback of a quiet value, which no limit changes.
+    #[inline]
+    fn quiet_feedback(self, v: i32) -> i32
+        requires { unsigned_abs v ≤ unsigned_abs QUIET }
+        ensures value { saturate16 result ≡ feedback_of self.factor v }
+        ensures within { unsigned_abs result ≤ unsigned_abs QUIET_FEEDBACK }
+    {
+        let factor = i32::from(self.factor);
+        (factor * v) >> FACTOR_BITS
+    }
+
+    /// The value after a quiet one where it is quiet too, and None where it isn't. Both values are those of words: a word of 16 bits would be extended
+    /// anew at each sample.
+    #[inline]
+    fn quiet_value(self, v1: i32, v2: i32, x: i16) -> Option<i32>
+        requires shifts { pos 1 ≤ℤ self.shift }
+        requires quiet { unsigned_abs v1 ≤ unsigned_abs QUIET }
+        requires word { FitsSigned w16 v2 }
+        ensures quiet { IfSome result (λ v. unsigned_abs v ≤ unsigned_abs QUIET) }
+        ensures value { IfSome result (λ v. v ≡ tone_value self.factor self.shift x v1 v2) }
+    {
+        let shifted = self.shifted_right(x)?;
+        let sample = i32::from(shifted);
+        // the feedback comes last, since the next value waits for it
+        let value = (sample - v2) + self.quiet_feedback(v1);
+        if is_quiet(value) { Some(value) } else { None }
+    }
+
     /// How many samples can follow in the frame before its last one. Words that no instance keeps may count more samples than a frame has:
     /// then it is none.
     fn room(self, frame: Frame) -> usize
@@ -193,6 +227,14 @@ fn is_word(z: i32) -> bool
     i32::from(i16::MIN) <= z && z <= i32::from(i16::MAX)
 }
 
+/// Whether a value is quiet.
+#[inline]
+fn is_quiet(value: i32) -> bool
+    ensures { result ≡ true → unsigned_abs value ≤ unsigned_abs QUIET }
+{
+    -QUIET <= value && value <= QUIET
+}
+
 /// Whether all three steps to a value give words.
 #[inline]
 fn are_words(feedback: i32, sum: i32, value: i32) -> bool
@@ -208,7 +250,49 @@ struct Run {
     count: usize,
 }
 
-/// Runs samples, all of them before the frame's last one, as long as no step saturates.
+/// The two newest values after some samples, and how many these are.
+#[derive(Clone, Copy)]
+struct Values {
+    v1: i16,
+    v2: i16,
+    count: usize,
+}
+
+/// Runs samples, all of them before the frame's last one, as long as the values are quiet: a value takes one test.
+fn run_quiet(tuning: Tuning, start: Frame, input: &[i16]) -> Values
+    requires { length input.now ≤ BLOCK_SAMPLES }
+    ensures count { result.count ≤ length input.now }
+    ensures fit { (k : ℕ) → k < result.count → FitsSigned w16 (word_at input.now k) }
+    ensures law { (p : List ℤ) (h : History) → IsTuned p h tuning → IsFrame p h start → samples_in_frame p h + length input.now < frame_length p
+        → Gives p h (take result.count input.now)
+        (record { samples = pos (samples_in_frame p h + result.count); v1 = result.v1; v2 = result.v2 }) [] }
+{
+    let mut v1 = i32::from(start.v1);
+    let mut v2 = i32::from(start.v2);
+    let mut count = 0;
+    if tuning.shift < 1 || !is_quiet(v1) {
+        return Values {
+            v1: start.v1,
+            v2: start.v2,
+            count,
+        };
+    }
+    for x in input {
+        let Some(v) = tuning.quiet_value(v1, v2, *x) else {
+            break;
+        };
+        v2 = v1;
+        v1 = v;
+        count += 1;
+    }
+    Values {
+        v1: v1 as i16,
+        v2: v2 as i16,
+        count,
+    }
+}
+
+/// Runs samples, all of them before the frame's last one, as long as no step saturates: those with quiet values first.
 fn run_plain(tuning: Tuning, start: Frame, input: &[i16]) -> Run
     requires { length input.now ≤ BLOCK_SAMPLES }
     ensures count { result.count ≤ length input.now }
@@ -216,11 +300,13 @@ fn run_plain(tuning: Tuning, start: Frame, input: &[i16]) -> Run
     ensures law { (p : List ℤ) (h : History) → IsTuned p h tuning → IsFrame p h start → samples_in_frame p h + length input.now < frame_length p
         → Gives p h (take result.count input.now) result.frame [] }
 {
+    let quiet = run_quiet(tuning, start, input);
     // The values as two words: as a struct they would be put together and taken apart at each sample.
-    let mut v1 = start.v1;
-    let mut v2 = start.v2;
-    let mut count = 0;
-    for x in input {
+    let mut v1 = quiet.v1;
+    let mut v2 = quiet.v2;
+    let done = quiet.count;
+    let mut count = done;
+    for x in &input[done..] {
         let newest = Frame { v1, v2, ..start };
         let Some(v) = tuning.plain_value(newest, *x) else {
             break;

@@ -7,8 +7,8 @@ use Rattle.alg_tone.proofs.kernel.run_plain.Given as goal
 
 abbrev pub invariant-loop-x : goal.invariant-loop-x
 invariant-loop-x l = record {
-  count : l.count ≡ l.x-index;
-  fit : (k : ℕ) → k < l.x-index → FitsSigned w16 (word_at l.input k);
+  count : l.count ≡ l.done + l.x-index;
+  fit : (k : ℕ) → k < l.done + l.x-index → FitsSigned w16 (word_at l.input k);
   gives : (p : List ℤ) (h : History) → IsTuned p h l.tuning → IsFrame p h l.start → samples_in_frame p h + length l.input < frame_length p
-      → Gives p h (take l.x-index l.input) (record { samples = pos (samples_in_frame p h + l.x-index); v1 = l.v1; v2 = l.v2 }) [];
+      → Gives p h (take (l.done + l.x-index) l.input) (record { samples = pos (samples_in_frame p h + (l.done + l.x-index)); v1 = l.v1; v2 = l.v2 }) [];
 }
