@@ -18,4 +18,5 @@ pub mod SharersKept
 pub mod MovesKept
 pub mod Places
 pub mod Compactions
+pub mod Fronts
 pub mod KeptLemmas

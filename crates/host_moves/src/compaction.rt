@@ -5,6 +5,7 @@ ghost use Rattle.relocate.specs.Packing.{unpacked_count};
 ghost use Rattle.host_map.specs.Moves.{spots_of};
 ghost use Rattle.host_map.specs.MemoryMap.{blocks_in};
 ghost use Rattle.host_spaces.specs.MemoryMap.{map_of};
+ghost use Rattle.host_spaces.specs.Spaces.{HasFront};
 ghost use Rattle.host_spec.specs.State.{State};
 ghost use Rattle.host_spec.specs.Steps as steps;
 ghost use Rattle.host_table.specs.Steps.{AreConsistent};
@@ -18,6 +19,28 @@ use host_table::Tables;
 use ialg::Ialg;
 use mem_rec::Space;
 
+/// Does what [`step`] does, where so many of the first blocks of the space are known to be at their packed places: they aren't looked at.
+fn step_behind<M: Ialg>(
+    tables: &mut Tables<M>,
+    spaces: &mut Spaces,
+    space: Space,
+    packed: &mut usize,
+) -> bool
+    requires ok { AreConsistent tables.old }
+    requires standing { MapAgrees tables.old spaces.old }
+    requires front { HasFront packed.old (blocks_in (map_of spaces.old) space) }
+    ensures ok { AreConsistent tables.new }
+    ensures standing { MapAgrees tables.new spaces.new }
+    ensures poisoned { (w : Option ℤ) → ArePoisoned w tables.old.groups → ArePoisoned w tables.new.groups }
+    ensures fewer { result ≡ true → unpacked_count (spots_of (blocks_in (map_of spaces.new) space)) + 1 ≡ unpacked_count (spots_of (blocks_in (map_of spaces.old) space)) }
+    ensures machine { (before : State M) → Refines M.law tables.old spaces.old before
+        → ((result, (steps.step before space).1) ≡ steps.step before space)
+        × Refines M.law tables.new spaces.new (steps.step before space).1 }
+    ensures front { HasFront packed.new (blocks_in (map_of spaces.new) space) }
+{
+    make_next_move(tables, spaces, space, packed)
+}
+
 /// Moves the first block of the space that isn't at its packed place there, as the machine does, and says whether a block moved.
 pub fn step<M: Ialg>(tables: &mut Tables<M>, spaces: &mut Spaces, space: Space) -> bool
     requires ok { AreConsistent tables.old }
@@ -30,7 +53,9 @@ pub fn step<M: Ialg>(tables: &mut Tables<M>, spaces: &mut Spaces, space: Space) 
         → ((result, (steps.step before space).1) ≡ steps.step before space)
         × Refines M.law tables.new spaces.new (steps.step before space).1 }
 {
-    make_next_move(tables, spaces, space)
+    // of no block it is known where it belongs
+    let mut packed = 0;
+    step_behind(tables, spaces, space, &mut packed)
 }
 
 /// Makes next moves of the space until all its blocks are packed, as the machine does, and says how many blocks moved: each moves once.
@@ -45,8 +70,9 @@ pub fn compact<M: Ialg>(tables: &mut Tables<M>, spaces: &mut Spaces, space: Spac
         × Refines M.law tables.new spaces.new (steps.compact before space).1 }
 {
     in_order(spaces);
+    let mut packed = 0;
     let mut moved = 0;
-    while step(tables, spaces, space) {
+    while step_behind(tables, spaces, space, &mut packed) {
         moved += 1;
     }
     moved

@@ -9,6 +9,7 @@ ghost use Rattle.host_map.specs.declared.placed.Placed.{Placed};
 ghost use Rattle.host_map.specs.Moves.{next_block};
 ghost use Rattle.host_map.specs.MemoryMap.{blocks_in};
 ghost use Rattle.host_spaces.specs.MemoryMap.{map_of};
+ghost use Rattle.host_spaces.specs.Spaces.{HasFront};
 ghost use Rattle.host_moves.specs.Moves.{IsNextOf, Moved};
 ghost use Rattle.host_table.specs.Steps.{AreConsistent};
 ghost use Rattle.host_moves.specs.Standing.{MapAgrees};
@@ -93,15 +94,22 @@ fn end_none(piece: Option<Piece>)
 
 /// Makes the next move of a space: its first block that isn't at its packed place is slid down to it, with its words, and each instance that
 /// has words in it is told, in ascending number: its owner, and all that share the record with it, or each member of its group. Says whether
-/// a block moved.
-pub fn make_next_move<M: Ialg>(tables: &mut Tables<M>, spaces: &mut Spaces, space: Space) -> bool
+/// a block moved. So many of the first blocks as `packed` says are known to be at their packed places, and it says so of the moved ones too.
+pub fn make_next_move<M: Ialg>(
+    tables: &mut Tables<M>,
+    spaces: &mut Spaces,
+    space: Space,
+    packed: &mut usize,
+) -> bool
     requires ok { AreConsistent tables.old }
     requires standing { MapAgrees tables.old spaces.old }
+    requires front { HasFront packed.old (blocks_in (map_of spaces.old) space) }
     ensures answer { result ≡ is_some (next_block (blocks_in (map_of spaces.old) space)) }
     ensures moved { result ≡ true → Moved M.law space tables.old spaces.old tables.new spaces.new }
     ensures packed { result ≡ false → (tables.new ≡ tables.old) × (spaces.new ≡ spaces.old) }
+    ensures front { HasFront packed.new (blocks_in (map_of spaces.new) space) }
 {
-    let Some(block) = spaces.next_move(space) else {
+    let Some(block) = spaces.next_move_behind(space, packed) else {
         return false;
     };
     match block.owner {

@@ -83,7 +83,11 @@ fn hand_record(sharing: &mut Vec<Locations>, i: u8, k: usize) -> Option<Piece>
     ensures handed { (j : ℕ) → location_at (locations_at sharing.new.items j) k ≡ location_without sharing.old.items i k j }
     ensures beside { OtherRecordsStay k sharing.old.items sharing.new.items }
 {
-    let next = next_sharer(sharing, i, k);
+    // most records have no piece
+    if sharing[i as usize].location(k).is_nothing() {
+        return None;
+    }
+    let next = find_next_sharer(sharing, i, k);
     let location = replace_location(sharing, i as usize, k, Location::Here(None));
     match next {
         Some(next) => {

@@ -11,15 +11,15 @@ use Rattle.space_heap.specs.Maps.{HeapState, Holds, range_of}
 use Rattle.relocate.proofs.RangeTests.{when_not}
 use Rattle.relocate.specs.declared.packing.Move.{Move}
 use Rattle.relocate.specs.Spots.{AreSpots, ranges_of}
-use Rattle.relocate.specs.Packing.{next_move_of, with_place as spot_moved}
+use Rattle.relocate.specs.Packing.{IsPacked, next_move_of, with_place as spot_moved}
 use Rattle.relocate.specs.Compaction.{IsMoveDown}
 use Rattle.relocate.proofs.PackingLemmas.{place_at}
 use Rattle.relocate.proofs.CompactionLemmas.{next_move_down}
 use Rattle.relocate.proofs.Lowers.{around, next_lowered}
 use Rattle.host_map.specs.declared.placed.Placed.{Placed}
 use Rattle.host_map.specs.Blocks.{block_range, ranges}
-use Rattle.host_map.specs.Moves.{block_at, block_to_move, moved_to, next_block, next_in, spot_of, spots_of}
-use Rattle.host_spaces.specs.Spaces.{AreKept}
+use Rattle.host_map.specs.Moves.{block_at, block_to_move, moved, moved_by, moved_to, next_block, next_in, spot_of, spots_of}
+use Rattle.host_spaces.specs.Spaces.{AreKept, HasFront}
 use Rattle.host_spaces.proofs.Keeping.{ranges_beside, whole}
 
 ranges_spots : (bs : List Placed) → ranges_of (spots_of bs) ≡ ranges bs
@@ -143,3 +143,13 @@ all_kept xs ws same = ap (λ n. take n (ws ++ drop (length ws) xs)) (sym same) �
 pub put_done : (bs : List Placed) (k place : ℕ) (d : Placed) → k < length bs → refill (length bs) bs (set bs k (record (get_or bs k d) { place = place })) ≡ moved_to bs k place
 put_done bs k place d lt =
     ap (refill (length bs) bs) (set_moved bs k place d lt) ∙ all_kept bs (moved_to bs k place) (length_moved bs k place)
+
+-- the first blocks, up to the one that moved, are packed then
+pub front_moved : (bs : List Placed) (m : Move) → AreSpots (spots_of bs) → next_in bs ≡ Some m → HasFront (m.index + 1) (moved bs)
+front_moved bs m order e =
+    let lt = move_inside bs m order e in let same = length_moved bs m.index m.to in
+    subst (λ xs. HasFront (m.index + 1) xs) (ap (λ o. moved_by o bs) (sym e))
+    (record {
+      within = omega (arith, lt, same);
+      packed = subst (λ ss. IsPacked (take (m.index + 1) ss)) (sym (spots_moved bs m.index m.to)) (next_move_down (spots_of bs) m order e).front;
+    })

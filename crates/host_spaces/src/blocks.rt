@@ -1,5 +1,5 @@
 //! One space.
-ghost use Rattle.std.specs.Prelude.{◌≡◌, ◌≢◌, ℕ, ◌+◌, ◌-◌, ◌<◌, ◌≤◌, ◌^◌, [], ◌∷◌, length, min, Some, Contains, slice_index_or, IfOk, IfErr, IfSome, IfNone, IsErrOf};
+ghost use Rattle.std.specs.Prelude.{◌≡◌, ◌≢◌, ℕ, ◌+◌, ◌-◌, ◌<◌, ◌≤◌, ◌^◌, [], ◌∷◌, length, min, Some, None, IsSome, Contains, slice_index_or, IfOk, IfErr, IfSome, IfNone, IsErrOf};
 ghost use Rattle.std.specs.Option.{option_map};
 ghost use Rattle.relocate.specs.Places.{least_place, placed_size, IsAlignment, IsSpaceSize};
 ghost use Rattle.space_heap.specs.Maps.{range_of};
@@ -10,11 +10,11 @@ ghost use Rattle.host_map.specs.declared.placed.Placed.{Placed};
 ghost use Rattle.host_map.specs.Blocks.{AreSingle, IsOwner, block_range, disowned, owned, ranges, renamed_blocks, renaming, with_block, without_at};
 ghost use Rattle.host_spaces.specs.Blocks.{Owns, block_of};
 ghost use Rattle.host_map.specs.Moves.{moved, moved_to, next_block, next_in};
-ghost use Rattle.host_spaces.specs.Spaces.{AreInOrder};
+ghost use Rattle.host_spaces.specs.Spaces.{AreInOrder, HasFront};
 
 use arrayvec::ArrayVec;
 use host_map::{MAP_BLOCKS, Map, Owner, Placed, SPACE_BLOCKS};
-use relocate::{Move, next_move};
+use relocate::{Move, next_move, next_move_behind};
 use space_heap::{Heap, HeapError};
 use space_raw::Piece;
 use std::alloc::{Allocator, Global};
@@ -121,6 +121,23 @@ impl SpaceBlocks {
     {
         match next_move(self.blocks.as_slice()) {
             Some(Move { index, to: _ }) => Some(self.blocks.as_slice()[index]),
+            None => None,
+        }
+    }
+
+    /// The block that moves next, as it stands. `None` exactly where all are packed. The search begins behind the first blocks, so many as `packed`
+    /// says, which are known to be at their packed places; from then on it says how many of them are there once the move is made.
+    pub fn next_move_behind(&self, packed: &mut usize) -> Option<Placed>
+        requires front { HasFront packed.old self.now.blocks }
+        ensures value { result ≡ next_block self.now.blocks }
+        ensures front { IsSome result → HasFront packed.new (moved self.now.blocks) }
+        ensures none { result ≡ None → packed.new ≡ packed.old }
+    {
+        match next_move_behind(self.blocks.as_slice(), *packed) {
+            Some(Move { index, to: _ }) => {
+                *packed = index + 1;
+                Some(self.blocks.as_slice()[index])
+            }
             None => None,
         }
     }

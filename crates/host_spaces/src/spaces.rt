@@ -1,5 +1,5 @@
 //! The three spaces.
-ghost use Rattle.std.specs.Prelude.{◌≡◌, ◌≢◌, ℕ, ◌+◌, ◌-◌, ◌<◌, ◌≤◌, ◌^◌, [], ◌∷◌, length, min, Some, IfOk, IfErr, IfSome, IfNone, IsErrOf};
+ghost use Rattle.std.specs.Prelude.{◌≡◌, ◌≢◌, ℕ, ◌+◌, ◌-◌, ◌<◌, ◌≤◌, ◌^◌, [], ◌∷◌, length, min, Some, None, IsSome, IfOk, IfErr, IfSome, IfNone, IsErrOf};
 ghost use Rattle.std.specs.Option.{option_map};
 ghost use Rattle.mem_rec.specs.declared.Space.{Space};
 ghost use Rattle.space_heap.specs.Maps.{range_of};
@@ -8,8 +8,8 @@ ghost use Rattle.host_map.specs.declared.TheConstants.{MAP_BLOCKS, SPACE_BLOCKS}
 ghost use Rattle.host_map.specs.declared.placed.Owner.{Owner};
 ghost use Rattle.host_spaces.specs.Blocks.{Owns, block_of};
 ghost use Rattle.host_map.specs.Blocks.{block_range, disowned, owned, ranges, with_block, without_at};
-ghost use Rattle.host_map.specs.Moves.{next_block, next_in};
-ghost use Rattle.host_spaces.specs.Spaces.{AreInOrder};
+ghost use Rattle.host_map.specs.Moves.{moved, next_block, next_in};
+ghost use Rattle.host_spaces.specs.Spaces.{AreInOrder, HasFront};
 ghost use Rattle.host_spaces.specs.MemoryMap.{AreSameSpaces, copied_in, map_of, sizes_of, space_in};
 ghost use Rattle.host_map.specs.MemoryMap.{AreSizes, blocks_in, empty_map, moved_in};
 ghost use Rattle.host_spaces.specs.Wants.{IsWithinLimits};
@@ -85,11 +85,15 @@ impl Spaces {
         self.space(space).blocks()
     }
 
-    /// The block of a space that moves next, as it stands. `None` exactly where all are packed.
-    pub fn next_move(&self, space: Space) -> Option<Placed>
+    /// The block of a space that moves next, as it stands. `None` exactly where all are packed. The search begins behind the first blocks, so many
+    /// as `packed` says, which are known to be at their packed places; from then on it says how many of them are there once the move is made.
+    pub fn next_move_behind(&self, space: Space, packed: &mut usize) -> Option<Placed>
+        requires front { HasFront packed.old (blocks_in (map_of self.now) space) }
         ensures value { result ≡ next_block (blocks_in (map_of self.now) space) }
+        ensures front { IsSome result → HasFront packed.new (moved (blocks_in (map_of self.now) space)) }
+        ensures none { result ≡ None → packed.new ≡ packed.old }
     {
-        self.space(space).next_move()
+        self.space(space).next_move_behind(packed)
     }
 
     /// The next move of a space is made, of the block that this piece is. It is slid down to its packed place with its words.

@@ -184,15 +184,21 @@ impl MemTab {
         MemTab { records }
     }
 
+    /// Record `k` is at `base` from now on.
+    pub fn set_base(&mut self, k: usize, base: u16)
+        requires { k < length self.old }
+        ensures { self.new ≡ with_base self.old k base }
+    {
+        self.records.as_mut_slice()[k].base = base;
+    }
+
     /// The table with record `k` at `base`.
     pub fn with_base(self, k: usize, base: u16) -> MemTab
         requires { k < length self }
         ensures { result ≡ with_base self k base }
     {
-        let MemTab { mut records } = self;
-        let mut placed = records.as_slice()[k];
-        placed.base = base;
-        records.as_mut_slice()[k] = placed;
-        MemTab { records }
+        let mut table = self;
+        table.set_base(k, base);
+        table
     }
 }

@@ -1,5 +1,5 @@
 -- Moves until there is none.
-use Rattle.std.proofs.Common.{◌≡◌, ℕ, zero, suc, ◌+◌, ◌<◌, ◌≤◌, List, [], ◌∷◌, map, length, take, Some, None, refl, sym, ◌∙◌, ap, subst, arith}
+use Rattle.std.proofs.Common.{◌≡◌, ℕ, zero, suc, ◌+◌, ◌<◌, ◌≤◌, List, [], ◌∷◌, map, length, take, Option, Some, None, IfSome, IsNone, ◌↔◌, true, false, refl, sym, ◌∙◌, ap, subst, arith}
 use Rattle.std.specs.Prelude.{slice_index, sum_by}
 use Rattle.std.proofs.lemmas.List.Sums.{sum_by-cons}
 use Rattle.std.specs.Int.{next_multiple_of}
@@ -9,9 +9,10 @@ use Rattle.relocate.proofs.RangeTests.{either}
 use Rattle.relocate.specs.declared.packing.Spot.{Spot}
 use Rattle.relocate.specs.declared.packing.Move.{Move}
 use Rattle.relocate.specs.Spots.{AreSpots, AreSpotsFrom}
+use Rattle.relocate.specs.Ends.{end_from}
 use Rattle.relocate.specs.Packing.{packed_from, packed_places, places_of, IsNextMove, IsPacked, misplaced, moves_from, packing_moves, first_of, next_move_of, with_place, after_move, at_places, packed_spots, unpacked_count, unpacked_words}
 use Rattle.relocate.specs.Compaction.{IsMoveDown, IsCompaction, PacksOnce}
-use Rattle.relocate.proofs.PackingLemmas.{words_of, place_at, size_at, packed_from-with_place, moves-at, moves-off, moves-count, no_moves, none_misplaced, none_misplaced_at, sizes-with_place, IsFirst, align_at, end_from, first_move}
+use Rattle.relocate.proofs.PackingLemmas.{words_of, place_at, size_at, packed_from-with_place, moves-at, moves-off, moves-count, no_moves, none_misplaced, none_misplaced_at, sizes-with_place, IsFirst, align_at, first_move}
 
 -- the next move is the first of those that are left
 abbrev Behind : List Move → Move → Type 0
@@ -85,6 +86,15 @@ module _ (spots : List Spot) (m : Move) (ms : List Move) (e : packing_moves spot
 pub next_is_first : (spots : List Spot) (m : Move) → next_move_of spots ≡ Some m → IsNextMove spots m
 next_is_first spots m e = let b = first_is (packing_moves spots) m e in first_unpacked spots m b.0 b.1
 
+-- what a search answers
+pub first_if_any : (spots : List Spot) (o : Option Move) → o ≡ next_move_of spots → IfSome o (IsNextMove spots)
+first_if_any spots None e = tt
+first_if_any spots (Some m) e = next_is_first spots m (sym e)
+
+pub packed_iff_none : (spots : List Spot) (o : Option Move) → o ≡ next_move_of spots → IsNone o ↔ IsPacked spots
+packed_iff_none spots None e = ((λ none. packed_where_none spots (sym e)), (λ packed. refl))
+packed_iff_none spots (Some m) e = ((λ (none : true ≡ false). cc), (λ packed. let bad = e ∙ none_where_packed spots packed in cc))
+
 pub next_move_down : (spots : List Spot) (m : Move) → AreSpots spots → next_move_of spots ≡ Some m → IsMoveDown spots m
 next_move_down spots m are e = let b = first_is (packing_moves spots) m e in moved_down spots m b.0 b.1 are
 
@@ -102,7 +112,7 @@ pub comes_to_an_end : (spots : List Spot) → (after : List Spot) × IsCompactio
 comes_to_an_end spots = made (packing_moves spots) spots refl
 
 -- numbers that rise
-abbrev RisesFrom : ℕ → List ℕ → Type 0
+abbrev pub RisesFrom : ℕ → List ℕ → Type 0
 RisesFrom low [] = Unit {0}
 RisesFrom low (x ∷ xs) = (low ≤ x) × RisesFrom (suc x) xs
 
@@ -118,7 +128,7 @@ rises low (x ∷ y ∷ ys) r (suc k) lt =
     let rest : k + 1 < length (y ∷ ys) → slice_index (y ∷ ys) k < slice_index (y ∷ ys) (k + 1) = rises (suc x) (y ∷ ys) r.1 k in
     subst (λ n. slice_index (y ∷ ys) k < slice_index (x ∷ y ∷ ys) n) (let e : suc (k + 1) ≡ suc k + 1 = omega arith in e) (rest (omega arith))
 
-indices_rise : (index : ℕ) (ss : List Spot) (places : List ℕ) → RisesFrom index (map (λ (m : Move). m.index) (moves_from index ss places))
+pub indices_rise : (index : ℕ) (ss : List Spot) (places : List ℕ) → RisesFrom index (map (λ (m : Move). m.index) (moves_from index ss places))
 indices_rise index [] places = tt
 indices_rise index (s ∷ ss) [] = tt
 indices_rise index (s ∷ ss) (to ∷ places) =

@@ -10,7 +10,8 @@ use Rattle.relocate.specs.declared.packing.Move.{Move}
 use Rattle.relocate.specs.Spots.{AreSpots, AreSpotsFrom, IsSpot, range_of, ranges_of}
 use Rattle.relocate.specs.Packing.{next_move_of, with_place, after_move}
 use Rattle.relocate.proofs.Multiples.{least_multiple}
-use Rattle.relocate.proofs.PackingLemmas.{align_at, end_from}
+use Rattle.relocate.specs.Ends.{end_from}
+use Rattle.relocate.proofs.PackingLemmas.{align_at}
 use Rattle.relocate.proofs.CompactionLemmas.{next_goes}
 
 pub end_grows : (from : ℕ) (ss : List Spot) → AreSpotsFrom from ss → from ≤ end_from from ss

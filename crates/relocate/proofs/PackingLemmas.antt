@@ -9,6 +9,7 @@ use Rattle.relocate.proofs.RangeTests.{either}
 use Rattle.relocate.specs.declared.packing.Spot.{Spot}
 use Rattle.relocate.specs.declared.packing.Move.{Move}
 use Rattle.relocate.specs.Spots.{AreSpotsFrom}
+use Rattle.relocate.specs.Ends.{end_from}
 use Rattle.relocate.proofs.Multiples.{least_multiple, next_is}
 use Rattle.relocate.specs.Packing.{packed_from, misplaced, moves_from, places_of, sizes_of, with_place}
 
@@ -81,11 +82,6 @@ size_at ss k = slice_index (sizes_of ss) k
 
 abbrev pub align_at : List Spot → ℕ → ℕ
 align_at ss k = slice_index (map (λ s. s.align) ss) k
-
--- where the last block ends
-abbrev pub end_from : ℕ → List Spot → ℕ
-end_from from [] = from
-end_from from (s ∷ ss) = end_from (s.place + s.size) ss
 
 pub from_lower : (high low : ℕ) (ss : List Spot) → AreSpotsFrom high ss → low ≤ high → AreSpotsFrom low ss
 from_lower high low [] are le = tt

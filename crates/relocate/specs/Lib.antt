@@ -1,5 +1,6 @@
 pub mod Places
 pub mod Spots
+pub mod Ends
 pub mod Packing
 pub mod Compaction
 pub mod Rows

@@ -13,5 +13,5 @@ mod rows;
 
 pub use laws::{compactions, lowering_moves, moves_go_down};
 pub use limits::{GREATEST_NEED, SPACE_WORDS, is_space_size};
-pub use packing::{Move, Spot, Standing, next_move};
+pub use packing::{Move, Spot, Standing, next_move, next_move_behind};
 pub use rows::packing_rows;

@@ -1,8 +1,9 @@
 //! The next move of a space's blocks.
-ghost use Rattle.std.specs.Prelude.{◌≡◌, ◌≤◌, ◌↔◌, map, IfSome, IsNone};
+ghost use Rattle.std.specs.Prelude.{◌≡◌, ◌≤◌, ◌↔◌, length, map, take, IfSome, IsNone};
 ghost use Rattle.relocate.specs.declared.packing.Spot.{Spot};
 ghost use Rattle.std.specs.Int.{next_multiple_of};
 ghost use Rattle.relocate.specs.Spots.{AreSpots, IsSpot};
+ghost use Rattle.relocate.specs.Ends.{end_from};
 ghost use Rattle.relocate.specs.Packing.{IsNextMove, IsPacked, next_move_of};
 
 /// Where a block stands in its space, how many words of 16 bits it has, and the alignment that its place is a multiple of.
@@ -61,9 +62,19 @@ pub fn next_move<B: Standing>(blocks: &[B]) -> Option<Move>
     ensures packed { IsNone result ↔ IsPacked (map B.stands blocks.now) }
     ensures value { result ≡ next_move_of (map B.stands blocks.now) }
 {
-    let mut end: u32 = 0;
-    for (index, block) in blocks.iter().enumerate() {
-        let spot = block.spot();
+    next_move_behind(blocks, 0)
+}
+
+/// The same, of blocks whose first ones, so many, are known to be at their packed places: the search begins behind them.
+pub fn next_move_behind<B: Standing>(blocks: &[B], packed: usize) -> Option<Move>
+    requires spots { AreSpots (map B.stands blocks.now) }
+    requires within { packed ≤ length blocks.now }
+    requires packed { IsPacked (take packed (map B.stands blocks.now)) }
+    ensures value { result ≡ next_move_of (map B.stands blocks.now) }
+{
+    let mut end = end_of_first(blocks, packed);
+    for index in packed..blocks.len() {
+        let spot = blocks[index].spot();
         let to = packed_place(spot, end);
         if spot.place != to {
             return Some(Move { index, to });
@@ -71,4 +82,17 @@ pub fn next_move<B: Standing>(blocks: &[B]) -> Option<Move>
         end = to + spot.size;
     }
     None
+}
+
+/// Where the first blocks, so many, end: 0 where they are none.
+fn end_of_first<B: Standing>(blocks: &[B], count: usize) -> u32
+    requires spots { AreSpots (map B.stands blocks.now) }
+    requires within { count ≤ length blocks.now }
+    ensures { result ≡ end_from 0 (take count (map B.stands blocks.now)) }
+{
+    if count == 0 {
+        return 0;
+    }
+    let last = blocks[count - 1].spot();
+    last.place + last.size
 }

@@ -17,32 +17,32 @@ pub fn placed(table: &MemTab, own: &Pieces, shared: &Pieces, group: &Group) -> M
 {
     // a table has four records at most, as its list of records says
     let _records = table.records();
-    let placed = rebased(table, table.copied(), 0, own, shared, group);
-    let placed = rebased(table, placed, 1, own, shared, group);
-    let placed = rebased(table, placed, 2, own, shared, group);
-    rebased(table, placed, 3, own, shared, group)
+    let mut placed = table.copied();
+    rebase(table, &mut placed, 0, own, shared, group);
+    rebase(table, &mut placed, 1, own, shared, group);
+    rebase(table, &mut placed, 2, own, shared, group);
+    rebase(table, &mut placed, 3, own, shared, group);
+    placed
 }
 
-/// `old` with the place of record `k`, if there is one.
-fn rebased(
+/// Record `k` of `placed`, if there is one, is at its place from now on.
+fn rebase(
     table: &MemTab,
-    old: MemTab,
+    placed: &mut MemTab,
     k: usize,
     own: &Pieces,
     shared: &Pieces,
     group: &Group,
-) -> MemTab
+)
     requires number { k < 4 }
-    requires long { length old ≡ length table.now }
+    requires long { length placed.old ≡ length table.now }
     requires sizes { HasWords table.now own.now shared.now group.now }
     requires spaces { InSpaces own.now shared.now group.now }
-    ensures value { result ≡ with_base old k (record_place table.now own.now shared.now group.now k) }
-    ensures long { length result ≡ length table.now }
+    ensures value { placed.new ≡ with_base placed.old k (record_place table.now own.now shared.now group.now k) }
+    ensures long { length placed.new ≡ length table.now }
 {
     if k < table.len() {
-        old.with_base(k, place(table, k, own, shared, group))
-    } else {
-        old
+        placed.set_base(k, place(table, k, own, shared, group));
     }
 }
 

@@ -15,21 +15,22 @@ overflow_add-moved g c =
 
 pub loop-space-preserved : goal.loop-space-preserved
 loop-space-preserved g c = record {
-  ok = c.step.ensures.ok;
-  standing = c.step.ensures.standing;
-  poisoned = λ w before. c.step.ensures.poisoned w (c.loop-space.invariant.poisoned w before);
-  counted = counted_on c.loop-space.moved _ _ _ c.loop-space.invariant.counted (c.step.ensures.fewer c.loop-space-test.true);
+  ok = c.step_behind.ensures.ok;
+  standing = c.step_behind.ensures.standing;
+  front = c.step_behind.ensures.front;
+  poisoned = λ w before. c.step_behind.ensures.poisoned w (c.loop-space.invariant.poisoned w before);
+  counted = counted_on c.loop-space.moved _ _ _ c.loop-space.invariant.counted (c.step_behind.ensures.fewer c.loop-space-test.true);
   amid = λ before kept.
       let amid = c.loop-space.invariant.amid before kept in
-      let next = c.step.ensures.machine amid.now amid.kept in
+      let next = c.step_behind.ensures.machine amid.now amid.kept in
       amid_next g.M.Ialg.law c.args.space _ _ _ _ _ _ _ _ c.loop-space.moved before amid (rw c.loop-space-test.true at next.0) next.1;
 }
 
 pub returns-clause-poisoned : goal.returns-clause-poisoned
-returns-clause-poisoned g c w before = c.step.ensures.poisoned w (c.loop-space.invariant.poisoned w before)
+returns-clause-poisoned g c w before = c.step_behind.ensures.poisoned w (c.loop-space.invariant.poisoned w before)
 
 pub returns-clause-machine : goal.returns-clause-machine
 returns-clause-machine g c before kept =
     let amid = c.loop-space.invariant.amid before kept in
-    let next = c.step.ensures.machine amid.now amid.kept in
+    let next = c.step_behind.ensures.machine amid.now amid.kept in
     amid_end g.M.Ialg.law c.args.space _ _ _ _ _ _ _ _ c.loop-space.moved before amid (rw c.loop-space-test.false at next.0) next.1

@@ -3,6 +3,7 @@ use Rattle.relocate.specs.Packing.{unpacked_count}
 use Rattle.host_map.specs.Moves.{spots_of}
 use Rattle.host_map.specs.MemoryMap.{blocks_in}
 use Rattle.host_spaces.specs.MemoryMap.{map_of}
+use Rattle.host_spaces.specs.Spaces.{HasFront}
 use Rattle.host_table.specs.Table.{TablesOk, ArePoisoned}
 use Rattle.host_moves.specs.Standing.{AgreeWithMap}
 use Rattle.host_spec.specs.State.{State}
@@ -14,6 +15,7 @@ abbrev pub invariant-loop-space : goal.invariant-loop-space
 invariant-loop-space g l = record {
   ok : TablesOk l.tables.instances l.tables.sharing l.tables.groups;
   standing : AgreeWithMap l.tables.instances l.tables.sharing l.tables.groups l.spaces;
+  front : HasFront l.packed (blocks_in (map_of l.spaces) l.space);
   poisoned : (w : Option ℤ) → ArePoisoned w l.fn.tables.groups → ArePoisoned w l.tables.groups;
   counted : l.moved + unpacked_count (spots_of (blocks_in (map_of l.spaces) l.space)) ≡ unpacked_count (spots_of (blocks_in (map_of l.fn.spaces) l.space));
   amid : (before : State _) → HostKeeps g.M.Ialg.law l.fn.tables.instances l.fn.tables.sharing l.fn.tables.groups l.fn.spaces before

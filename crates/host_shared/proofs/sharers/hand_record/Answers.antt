@@ -1,20 +1,36 @@
-use Rattle.std.proofs.Common.{◌≡◌, ◌<◌, Some, None, length, sym, ◌∙◌, ap, arith}
+use Rattle.std.proofs.Common.{◌≡◌, refl, ◌<◌, Some, None, length, sym, ◌∙◌, ap, arith}
 use Rattle.host_shared.specs.declared.locations.Location.TheVariants.{Here}
-use Rattle.host_shared.specs.Locations.{piece_here}
+use Rattle.host_shared.specs.Locations.{location_at, locations_at, piece_here}
+use Rattle.host_shared.specs.declared.locations.Locations.{Locations}
 use Rattle.host_shared.specs.Sharing.{next_sharer}
+use Rattle.host_shared.proofs.Bare.{read_locations}
 use Rattle.host_shared.proofs.Owners.{replaced_here, replaced_there, replaced_beside}
-use Rattle.host_shared.proofs.Handing.{held_apart, next_is, with_inside, next_points, handed_next, handed_none}
+use Rattle.host_shared.proofs.Handing.{held_apart, nobody_next, next_is, with_inside, next_points, handed_next, handed_none}
 use Rattle.host_shared.proofs.sharers.hand_record.Goals as goal
+
+pub returns-then-is_nothing-clause-left : goal.returns-then-is_nothing-clause-left
+returns-then-is_nothing-clause-left c =
+    let locations = read_locations c.args.sharing.now.items c.args.i c.index.result.now (omega (arith, c.requires.number, c.requires.count)) c.index.ensures in
+    let none : location_at (locations_at c.args.sharing.now.items c.args.i) c.args.k ≡ Here None =
+    ap (λ (s : Locations). location_at s c.args.k) locations ∙ sym c.location.ensures ∙ c.is_nothing.ensures c.if-is_nothing.true in
+    rw (nobody_next c.args.sharing.now.items c.args.i c.args.k c.requires.held none, none) refl
+
+pub returns-then-is_nothing-clause-handed : goal.returns-then-is_nothing-clause-handed
+returns-then-is_nothing-clause-handed c =
+    let locations = read_locations c.args.sharing.now.items c.args.i c.index.result.now (omega (arith, c.requires.number, c.requires.count)) c.index.ensures in
+    let none : location_at (locations_at c.args.sharing.now.items c.args.i) c.args.k ≡ Here None =
+    ap (λ (s : Locations). location_at s c.args.k) locations ∙ sym c.location.ensures ∙ c.is_nothing.ensures c.if-is_nothing.true in
+    handed_none c.args.sharing.now.items c.args.sharing.now.items c.args.i c.args.k (nobody_next c.args.sharing.now.items c.args.i c.args.k c.requires.held none) (λ j apart. refl) none
 
 pub put_location-requires-clause-number : goal.put_location-requires-clause-number
 put_location-requires-clause-number c =
-    let next : next_sharer c.args.sharing.now.items c.args.i c.args.k ≡ Some c.in-Some.next = sym c.next_sharer-next.ensures ∙ c.in-Some.is in
+    let next : next_sharer c.args.sharing.now.items c.args.i c.args.k ≡ Some c.in-Some.next = sym c.find_next_sharer-next.ensures ∙ c.in-Some.is in
     let inside = with_inside c.args.sharing.now.items c.in-Some.next c.args.k c.args.i (next_is c.args.sharing.now.items c.args.i c.args.k c.in-Some.next next) in
     omega (arith, inside, c.requires.count, c.point_all.ensures.count)
 
 pub put_location-requires-clause-none : goal.put_location-requires-clause-none
 put_location-requires-clause-none c =
-    let next : next_sharer c.args.sharing.now.items c.args.i c.args.k ≡ Some c.in-Some.next = sym c.next_sharer-next.ensures ∙ c.in-Some.is in
+    let next : next_sharer c.args.sharing.now.items c.args.i c.args.k ≡ Some c.in-Some.next = sym c.find_next_sharer-next.ensures ∙ c.in-Some.is in
     let old = c.args.sharing.now.items in
     let left = c.replace_location-location.new.sharing.items in
     let there = replaced_there old left c.args.i c.args.k (Here None) c.replace_location-location.ensures.new in
@@ -23,7 +39,7 @@ put_location-requires-clause-none c =
 
 pub returns-in-Some-clause-handed : goal.returns-in-Some-clause-handed
 returns-in-Some-clause-handed c =
-    let next : next_sharer c.args.sharing.now.items c.args.i c.args.k ≡ Some c.in-Some.next = sym c.next_sharer-next.ensures ∙ c.in-Some.is in
+    let next : next_sharer c.args.sharing.now.items c.args.i c.args.k ≡ Some c.in-Some.next = sym c.find_next_sharer-next.ensures ∙ c.in-Some.is in
     let old = c.args.sharing.now.items in
     let left = c.replace_location-location.new.sharing.items in
     let others = c.point_all.new.sharing.items in
@@ -38,7 +54,7 @@ returns-in-Some-clause-handed c =
 
 pub returns-in-Some-clause-beside : goal.returns-in-Some-clause-beside
 returns-in-Some-clause-beside c j l apart =
-    let next : next_sharer c.args.sharing.now.items c.args.i c.args.k ≡ Some c.in-Some.next = sym c.next_sharer-next.ensures ∙ c.in-Some.is in
+    let next : next_sharer c.args.sharing.now.items c.args.i c.args.k ≡ Some c.in-Some.next = sym c.find_next_sharer-next.ensures ∙ c.in-Some.is in
     let old = c.args.sharing.now.items in
     let others = c.point_all.new.sharing.items in
     let least = with_inside old c.in-Some.next c.args.k c.args.i (next_is old c.args.i c.args.k c.in-Some.next next) in
@@ -51,7 +67,7 @@ pub returns-in-None-clause-handed : goal.returns-in-None-clause-handed
 returns-in-None-clause-handed c =
     let old = c.args.sharing.now.items in
     let left = c.replace_location-location.new.sharing.items in
-    handed_none old left c.args.i c.args.k (sym c.next_sharer-next.ensures ∙ c.in-None.is)
+    handed_none old left c.args.i c.args.k (sym c.find_next_sharer-next.ensures ∙ c.in-None.is)
     (replaced_there old left c.args.i c.args.k (Here None) c.replace_location-location.ensures.new)
     (replaced_here old left c.args.i c.args.k (Here None) c.replace_location-location.ensures.new (omega (arith, c.requires.number, c.requires.count)) (omega (arith, c.requires.record)))
 

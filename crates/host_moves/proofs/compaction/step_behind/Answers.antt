@@ -1,7 +1,7 @@
 use Rattle.std.proofs.Common.{ap, sym, ◌∙◌}
 use Rattle.host_moves.proofs.MovesKept.{poison_stays, step_kept}
 use Rattle.host_moves.proofs.Compactions.{moved_one}
-use Rattle.host_moves.proofs.compaction.step.Goals as goal
+use Rattle.host_moves.proofs.compaction.step_behind.Goals as goal
 
 pub returns-clause-fewer : goal.returns-clause-fewer
 returns-clause-fewer g c moved =

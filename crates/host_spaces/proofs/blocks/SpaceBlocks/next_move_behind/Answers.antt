@@ -1,0 +1,50 @@
+-- The block of the move's index.
+use Rattle.std.proofs.Common.{◌≡◌, ◌<◌, ◌+◌, List, length, Option, Some, get_or, subst, sym, ◌∙◌, ap, arith}
+use Rattle.relocate.specs.declared.packing.Move.{Move}
+use Rattle.relocate.specs.Spots.{AreSpots}
+use Rattle.host_map.specs.declared.placed.Owner.TheVariants.{Record}
+use Rattle.host_map.specs.declared.placed.Placed.{Placed}
+use Rattle.host_map.specs.Moves.{moved, next_block, next_in, spots_of}
+use Rattle.host_spaces.specs.Spaces.{HasFront, SpaceState}
+use Rattle.host_spaces.proofs.Moving.{front_moved, move_inside, next_found}
+use Rattle.host_spaces.proofs.blocks.SpaceBlocks.next_move_behind.Goals as goal
+
+-- what a read past the end would give
+abbrev blank : Placed
+blank = record { owner = Record 0 0; place = 0; size = 0; align = 0 }
+
+next : (bs slice : List Placed) (found : Option Move) (m : Move) → slice ≡ bs → found ≡ next_in slice → found ≡ Some m → next_in bs ≡ Some m
+next bs slice found m same is some = sym (ap next_in same) ∙ sym is ∙ some
+
+inside : (bs slice again : List Placed) (found : Option Move) (m : Move) → AreSpots (spots_of bs) → slice ≡ bs → again ≡ bs → found ≡ next_in slice → found ≡ Some m → m.index < length again
+inside bs slice again found m order same one is some = subst (λ (xs : List Placed). m.index < length xs) (sym one) (move_inside bs m order (next bs slice found m same is some))
+
+pub overflow_add-packed : goal.overflow_add-packed
+overflow_add-packed c =
+    let lt = inside c.self.inside.blocks.items c.as_slice.result.now c.as_slice.result.now c.next_move_behind.result c.in-Some.field-0 c.self.invariant.order
+    c.as_slice.ensures.value c.as_slice.ensures.value c.next_move_behind.ensures.value c.in-Some.is in
+    let fits = c.as_slice.ensures.fits in omega (arith, lt, fits)
+
+pub bounds-as_slice-index : goal.bounds-as_slice-index
+bounds-as_slice-index c =
+    inside c.self.inside.blocks.items c.as_slice.result.now c.as_slice-in-Some.result.now c.next_move_behind.result c.in-Some.field-0 c.self.invariant.order
+    c.as_slice.ensures.value c.as_slice-in-Some.ensures.value c.next_move_behind.ensures.value c.in-Some.is
+
+pub offset_bounds-as_slice-index : goal.offset_bounds-as_slice-index
+offset_bounds-as_slice-index c =
+    let lt = inside c.self.inside.blocks.items c.as_slice.result.now c.as_slice-in-Some.result.now c.next_move_behind.result c.in-Some.field-0 c.self.invariant.order
+    c.as_slice.ensures.value c.as_slice-in-Some.ensures.value c.next_move_behind.ensures.value c.in-Some.is in
+    let fits = c.as_slice-in-Some.ensures.fits in omega (arith, lt, fits)
+
+pub returns-in-Some-clause-value : goal.returns-in-Some-clause-value
+returns-in-Some-clause-value c =
+    let bs = c.self.inside.blocks.items in let m = c.in-Some.field-0 in
+    ap (λ (xs : List Placed). Some (get_or xs m.index blank)) c.as_slice-in-Some.ensures.value ∙ next_found bs m blank c.self.invariant.order
+    (next bs c.as_slice.result.now c.next_move_behind.result m c.as_slice.ensures.value c.next_move_behind.ensures.value c.in-Some.is)
+    ∙ ap (λ (v : SpaceState). next_block v.blocks) c.self.view_is
+
+pub returns-in-Some-clause-front : goal.returns-in-Some-clause-front
+returns-in-Some-clause-front c some =
+    let bs = c.self.inside.blocks.items in let m = c.in-Some.field-0 in
+    subst (λ (v : SpaceState). HasFront (m.index + 1) (moved v.blocks)) c.self.view_is
+    (front_moved bs m c.self.invariant.order (next bs c.as_slice.result.now c.next_move_behind.result m c.as_slice.ensures.value c.next_move_behind.ensures.value c.in-Some.is))
