@@ -29,25 +29,33 @@ pub(crate) fn sum_eight(
     requires room { at + WINDOWS ≤ length sums.old }
     ensures { HasWindows taps.now line.now first step at sums.old sums.new }
 {
-    if step == 1 {
-        sum_neighbours(taps, line, first, sums, at);
-    } else {
-        sum_apart(taps, line, first, step, sums, at);
+    match step {
+        1 => sum_every::<1>(taps, line, first, sums, at),
+        2 => sum_every::<2>(taps, line, first, sums, at),
+        4 => sum_every::<4>(taps, line, first, sums, at),
+        8 => sum_every::<8>(taps, line, first, sums, at),
+        _ => sum_apart(taps, line, first, step, sums, at),
     }
 }
 
-/// Writes the sums of neighbouring windows. It is a call of its own, and so is [`sum_apart`]: inlined, the compiler draws the loads of the taps out of the
-/// loop one by one. Where the step is known, no address but one is computed for the eight windows.
+/// Writes the sums of windows that are `STEP` words apart. It is a call of its own, and so is [`sum_apart`]: inlined, the compiler draws the loads of the
+/// taps out of the loop one by one. Where the step is known, no address but one is computed for the eight windows.
 #[inline(never)]
-fn sum_neighbours(taps: &[i16], line: &[i16], first: usize, sums: &mut [i32], at: usize)
+fn sum_every<const STEP: usize>(
+    taps: &[i16],
+    line: &[i16],
+    first: usize,
+    sums: &mut [i32],
+    at: usize,
+)
     requires words { (k : ℕ) → FitsSigned w16 (word_at taps.now k) }
     requires samples { (k : ℕ) → FitsSigned w16 (word_at line.now k) }
     requires whole { length taps.now % REGISTER ≡ 0 }
-    requires reach { first + 7 + length taps.now ≤ length line.now }
+    requires reach { first + STEP * 7 + length taps.now ≤ length line.now }
     requires room { at + WINDOWS ≤ length sums.old }
-    ensures { HasWindows taps.now line.now first 1 at sums.old sums.new }
+    ensures { HasWindows taps.now line.now first STEP at sums.old sums.new }
 {
-    sum_by_step(taps, line, first, 1, sums, at);
+    sum_by_step(taps, line, first, STEP, sums, at);
 }
 
 /// Writes the sums of windows that are `step` words apart.
