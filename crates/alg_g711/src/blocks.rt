@@ -39,6 +39,15 @@ pub(crate) fn decode_words(table: &[i16], codes: &[i16], samples: &mut [i16])
     look_up(table, codes, samples, RUN * runs, codes.len() % RUN);
 }
 
+/// The sample of the code in the lower octet of a word, by the samples of all codes.
+#[inline]
+pub(crate) fn sample_of(table: &[i16], code: i16) -> i16
+    requires { length table.now ≡ CODES }
+    ensures { result ≡ word_at table.now (cast_unsigned w16 code % CODES) }
+{
+    table[code.cast_unsigned() as usize % CODES]
+}
+
 /// Writes the samples of `count` codes from `start` on, and leaves the words before them.
 #[inline]
 fn look_up(table: &[i16], codes: &[i16], samples: &mut [i16], start: usize, count: usize)
@@ -52,7 +61,7 @@ fn look_up(table: &[i16], codes: &[i16], samples: &mut [i16], start: usize, coun
     ensures read { (k : ℕ) (d : ℤ) → start ≤ k → k < start + count → FitsSigned w16 (slice_index_or codes.now k d) }
 {
     for j in 0..count {
-        samples[start + j] = table[codes[start + j].cast_unsigned() as usize % CODES];
+        samples[start + j] = sample_of(table, codes[start + j]);
     }
 }
 

@@ -1,11 +1,11 @@
 //! The kind `G711`: its calls find the coder in the object, and leave the words to it.
-ghost use Rattle.std.specs.Prelude.{◌≡◌, ◌≤◌, ◌++◌, ◌∷◌, Option, Some, ℤ, [], List, length, map, true, FitsSigned};
+ghost use Rattle.std.specs.Prelude.{◌≡◌, ◌<◌, ◌≤◌, ◌%◌, ◌++◌, ◌∷◌, Option, Some, ℕ, ℤ, [], List, length, map, true, FitsSigned};
 ghost use Rattle.std.specs.List.{All};
-ghost use Rattle.std.specs.Int.{w16};
+ghost use Rattle.std.specs.Int.{w16, cast_unsigned};
 ghost use Rattle.mem_rec.specs.declared.MemRec.{MemRec};
 ghost use Rattle.mem_rec.specs.declared.Space.TheVariants.{External};
 ghost use Rattle.ialg.specs.declared.TheConstants.{OBJECT_WORDS};
-ghost use Rattle.ialg.specs.History.{History, Control, with_samples};
+ghost use Rattle.ialg.specs.History.{History, Control, with_samples, word_at};
 ghost use Rattle.ialg.specs.Records.{AllLent, unplaced};
 ghost use Rattle.ialg.specs.Loans.{lent_words, SameLoans, SameBut};
 ghost use Rattle.ialg.specs.Objects.{NamedAt, Names};
@@ -14,7 +14,7 @@ ghost use Rattle.alg_g711.specs.Companding.{samples_of_codes};
 ghost use Rattle.alg_g711.specs.Keeps.{Keeps};
 ghost use Rattle.alg_g711.specs.Meaning.{coded, g711_meaning, kind_word, records_of};
 
-use crate::blocks::{decode_words, encode_words, write_samples};
+use crate::blocks::{decode_words, encode_words, sample_of, write_samples};
 use crate::coder::{Coder, Direction};
 use crate::companding::Law;
 use crate::{CODER_RECORDS, CODES};
@@ -189,8 +189,29 @@ fn decode_block(mem: &Lent<'_>, input: &[i16], out: &mut Block)
         return;
     };
     if table.len() == CODES {
-        let _fits = out.try_extend_from_slice(input);
-        decode_words(table, input, out.as_mut_slice());
+        decode_by(table, input, out);
+    }
+}
+
+/// Gives out the samples of the codes, by the samples of all codes. One code needs neither a call that copies nor a loop.
+#[inline(always)]
+fn decode_by(table: &[i16], input: &[i16], out: &mut Block)
+    requires all { length table.now ≡ CODES }
+    requires within { length input.now ≤ BLOCK_SAMPLES }
+    requires empty { out.old.items ≡ [] }
+    ensures count { length out.new.items ≡ length input.now }
+    ensures samples { (k : ℕ) → k < length input.now
+        → word_at out.new.items k ≡ word_at table.now (cast_unsigned w16 (word_at input.now k) % CODES) }
+    ensures read { All (FitsSigned w16) input.now }
+{
+    match input {
+        [code] => {
+            let _fits = out.try_push(sample_of(table, *code));
+        }
+        _ => {
+            let _fits = out.try_extend_from_slice(input);
+            decode_words(table, input, out.as_mut_slice());
+        }
     }
 }
 

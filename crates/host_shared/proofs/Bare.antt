@@ -8,7 +8,7 @@ use Rattle.host_shared.specs.declared.locations.Location.TheVariants.{Here}
 use Rattle.host_shared.specs.declared.locations.Locations.{Locations}
 use Rattle.host_shared.specs.Locations.{location_at, piece_here, no_locations, locations_at, owner_by, owner_of, piece_seen, shared_at}
 use Rattle.host_shared.specs.Owners.{with_location, put_piece, with_pieces_of, HasOwner, HasOwners}
-use Rattle.host_shared.proofs.Owners.{owner_after, seen_beside}
+use Rattle.host_shared.proofs.Owners.{owner_after, seen_beside, lent_here}
 
 with_same : (s : Locations) (k : ℕ) (x : Location) → location_at s k ≡ x → with_location s k x ≡ s
 with_same s zero x is = ap (λ (y : Location). with_location s 0 y) (sym is)
@@ -44,6 +44,26 @@ module _ (sharing : List Locations) (i : ℕ) (p : Option Span) (owners : HasOwn
   unfolding with_pieces_of
   one_put o e0 e1 e2 e3 n0 n2 n3 =
       rw (e0, e1, e2, e3, put_nothing sharing i 0 (owners 0) n0, put_beside_one 2 (omega arith) n2, put_beside_one 3 (omega arith) n3) refl
+
+-- of an instance that keeps what it sees but the piece of record 1, that one is put alone
+module _ (sharing : List Locations) (i : ℕ) (p : Option Span) (owners : HasOwners sharing i) where
+  abbrev over_one : Pieces
+  over_one = let seen : Pieces = shared_at sharing i in record seen { p1 = p }
+
+  put_over_one : (l : ℕ) → l ≢ 1 → put_piece (put_piece sharing i 1 p) i l (piece_seen sharing i l) ≡ put_piece sharing i 1 p
+  put_over_one l apart =
+      ap (put_piece (put_piece sharing i 1 p) i l) (sym (seen_beside sharing i 1 p (owners 1) (omega arith) l apart))
+      ∙ put_again (put_piece sharing i 1 p) i l (owner_after sharing i 1 p (owners 1) (omega arith) l (owners l))
+
+  over_put : with_pieces_of sharing i over_one ≡ put_piece sharing i 1 p
+  unfolding with_pieces_of
+  over_put = rw (put_again sharing i 0 (owners 0), put_over_one 2 (omega arith), put_over_one 3 (omega arith)) refl
+
+  pub seen_over : (sharing' : List Locations) → sharing' ≡ put_piece sharing i 1 p → shared_at sharing' i ≡ over_one
+  seen_over sharing' is = ap (λ (s : List Locations). shared_at s i) (is ∙ sym over_put) ∙ lent_here sharing i owners over_one
+
+  pub locations_over : (sharing' : List Locations) → sharing' ≡ put_piece sharing i 1 p → sharing' ≡ with_pieces_of sharing i (shared_at sharing' i)
+  locations_over sharing' is = rw (seen_over sharing' is) (is ∙ sym over_put)
 
 -- where an instance has no piece, and names no owner, it sees none
 pub nothing_seen : (sharing : List Locations) (i k : ℕ) → location_at (locations_at sharing i) k ≡ Here None → piece_seen sharing i k ≡ None

@@ -1,19 +1,23 @@
 -- An instance is lent the pieces on its locations, or none where it has no write-once record.
-use Rattle.std.proofs.Common.{◌≡◌, ℕ, ℤ, zero, suc, List, Option, refl, ◌∙◌}
+use Rattle.std.proofs.Common.{◌≡◌, ℕ, ℤ, zero, suc, List, Option, slice_index_or, slice_set, refl, sym, ap, ◌∙◌}
+use Rattle.space_raw.specs.Span.{Span}
 use Rattle.mem_rec.specs.declared.MemRec.{MemRec}
 use Rattle.mem_rec.specs.declared.Attr.TheVariants.{WriteOnce}
 use Rattle.ialg.specs.Records.{record_at}
 use Rattle.record_loans.specs.declared.pieces.Pieces.{Pieces}
-use Rattle.record_loans.specs.Pieces.{piece_at, SamePieces, IsInSpace}
+use Rattle.record_loans.specs.Pieces.{only_second, piece_at, SamePieces, IsInSpace}
 use Rattle.record_loans.proofs.PieceLemmas.{same_pieces}
 use Rattle.scratch_group.specs.declared.group.Group.{Group}
+use Rattle.scratch_group.specs.Words.{InSpaces}
 use Rattle.ialg.specs.History.{History, with_samples}
 use Rattle.ialg.specs.Laws.{Laws}
 use Rattle.lifecycle.specs.declared.instance.Instance.{Instance}
 use Rattle.lifecycle.specs.States.{Fits, SameOnce, IdleKeeps, ActiveKeeps}
 use Rattle.host_shared.specs.declared.locations.Locations.{Locations}
-use Rattle.host_shared.specs.Locations.{shared_at, no_pieces}
-use Rattle.host_shared.specs.Owners.{with_pieces_of, HasOwners}
+use Rattle.host_shared.specs.declared.locations.Location.TheVariants.{Here, At}
+use Rattle.host_shared.specs.Locations.{locations_at, owner_of, piece_here, piece_seen, shared_at, no_pieces}
+use Rattle.host_shared.specs.Owners.{with_location, put_piece, with_pieces_of, HasOwners}
+use Rattle.host_shared.proofs.Bare.{read_locations}
 use Rattle.host_shared.proofs.Owners.{lent_here}
 use Rattle.host_shared.proofs.Lent.{put_back}
 use Rattle.host_shared.proofs.Stands.{four_pieces}
@@ -92,3 +96,66 @@ module _ (rs : List MemRec) (none : (k : ℕ) → (record_at rs k).attr ≡ Writ
     keeps = λ w h before. active_any laws s' w a' b g' (with_samples h input) (did.same.table ∙ table) (did.keeps w h (active_any laws s w b a g h table before));
     output = λ w h lawful before. did.output w h lawful (active_any laws s w b a g h table before);
   }
+
+-- where no other record than the second is write-once, its piece alone gives the same words
+module _ (rs : List MemRec) (second : (k : ℕ) → (record_at rs k).attr ≡ WriteOnce → k ≡ 1) where
+  second_alone : (a : Pieces) → SameOnce rs a (only_second a.p1)
+  second_alone a k attr = rw (second k attr) refl
+
+  second_among : (a : Pieces) → SameOnce rs (only_second a.p1) a
+  second_among a k attr = rw (second k attr) refl
+
+  second_in_space : (own a : Pieces) (g : Group) → InSpaces own a g → (k : ℕ) → IsInSpace (piece_at (only_second a.p1) k)
+  second_in_space own a g spaces zero = tt
+  second_in_space own a g spaces (suc zero) = spaces.shared_space 1
+  second_in_space own a g spaces (suc (suc zero)) = tt
+  second_in_space own a g spaces (suc (suc (suc zero))) = tt
+  second_in_space own a g spaces (suc (suc (suc (suc k)))) = tt
+
+  pub fits_second : (own a : Pieces) (g : Group) → Fits rs own a g → Fits rs own (only_second a.p1) g
+  fits_second own a g fits = record {
+    lent = rw (active_written rs own a (only_second a.p1) g (second_alone a)) fits.lent;
+    spaces = record { own_space = fits.spaces.own_space; shared_space = second_in_space own a g fits.spaces; block_space = fits.spaces.block_space };
+  }
+
+  active_like : {M : Type 0} (laws : Laws M) (s : Instance M) (w : Option ℤ) (a b : Pieces) (g : Group) (h : History) → s.table ≡ rs → SameOnce rs a b
+      → ActiveKeeps laws s w a g h → ActiveKeeps laws s w b g h
+  active_like laws s w a b g h table same keeps lawful = rw (active_written s.table s.own a b g (rw table same)) (keeps lawful)
+
+  written_second : (a b : Pieces) → SameOnce rs (only_second a.p1) (only_second b.p1) → SameOnce rs a b
+  written_second a b same k attr = second_among b k attr ∙ same k attr ∙ second_alone a k attr
+
+  -- a call that was lent the piece of the second record alone
+  pub ran_second : {M : Type 0} (laws : Laws M) (input out : List ℤ) (s s' : Instance M) (a b : Pieces) (g g' : Group) → s.table ≡ rs → SamePieces a b
+      → Ran laws input out s s' (only_second a.p1) (only_second b.p1) g g' → Ran laws input out s s' a b g g'
+  ran_second laws input out s s' a b g g' table pieces did = record {
+    same = did.same;
+    pieces = pieces;
+    written = rw table (written_second a b (rw (sym table) did.written));
+    group = did.group;
+    bounded = did.bounded;
+    keeps = λ w h before. active_like laws s' w (only_second b.p1) b g' (with_samples h input) (did.same.table ∙ table) (second_among b)
+        (did.keeps w h (active_like laws s w a (only_second a.p1) g h table (second_alone a) before));
+    output = λ w h lawful before. did.output w h lawful (active_like laws s w a (only_second a.p1) g h table (second_alone a) before);
+  }
+
+here_there : (p : Option Span) (owner : ℕ) → Here p ≡ At owner → ⊥
+here_there p owner e = cc
+
+-- the piece of record 1 is lent where it stands
+module _ (sharing : List Locations) (i at : ℕ) (owners : HasOwners sharing i) (is : at ≡ owner_of sharing i 1) (s : Locations) (read : s ≡ slice_index_or sharing at s) where
+  stands : locations_at sharing (owner_of sharing i 1) ≡ s
+  stands = ap (locations_at sharing) (sym is) ∙ read_locations sharing at s (rw is (owners 1).inside) read
+
+  pub second_seen : (p : Option Span) → s.s1 ≡ Here p → p ≡ piece_seen sharing i 1
+  second_seen p here = sym (ap (λ (l : Locations). piece_here l.s1) stands ∙ ap piece_here here)
+
+  pub second_here : (owner : ℕ) → s.s1 ≡ At owner → ⊥
+  second_here owner there =
+      let settled = (owners 1).settled in
+      here_there settled.0 owner (sym settled.1 ∙ ap (λ (l : Locations). l.s1) stands ∙ there)
+
+  pub second_put : (q : Option Span) → slice_set sharing at (with_location s 1 (Here q)) ≡ put_piece sharing i 1 q
+  second_put q =
+      ap (λ (k : ℕ). slice_set sharing k (with_location s 1 (Here q))) is
+      ∙ ap (λ (l : Locations). slice_set sharing (owner_of sharing i 1) (with_location l 1 (Here q))) (sym stands)

@@ -57,6 +57,7 @@ fn deactivate_sharing<M: Ialg>(
 
 /// Deactivates the active member of a group, in place, as [`deactivate_sharing`] does. A filter has no write-once record, so nothing is
 /// borrowed for it: most instances are filters.
+#[inline(always)]
 fn deactivate_member<M: Ialg>(
     active: &mut Active<M>,
     sharing: &mut Vec<Locations>,
@@ -88,6 +89,9 @@ fn activate_lent<M: Ialg>(idle: &mut Idle<M>, shared: &mut Pieces, group: &mut G
 
 impl<M: Ialg> Tables<M> {
     /// Deactivates the active member of a group, if there is one, and says whether there was one.
+    ///
+    /// Inlined, since members that take turns call it at each block.
+    #[inline(always)]
     pub fn deactivate_in(&mut self, poison: Option<i16>, g: u8) -> bool
         requires range { g < GROUPS }
         requires ready { Ready poison self.old }

@@ -15,11 +15,14 @@ ghost use Rattle.host_table.specs.declared.member.Member.{Member};
 
 use crate::member::{idle_in, make_active};
 use crate::tables::Tables;
-use host_shared::{Locations, borrow_pieces, end_absent, give_back_pieces};
+use host_shared::{Location, Locations, borrow_pieces, end_absent, give_back_pieces, owner};
 use ialg::{BLOCK_SAMPLES, Block, Ctl, Ialg, Status};
 use lifecycle::{Active, Idle, Inst};
 use record_loans::{Pieces, ReaderSizes};
 use scratch_group::{Group, is_filter, reader_sizes};
+
+/// The number of the write-once record of a reader.
+const ONCE: usize = 1;
 
 /// Gives the active member of a group a block of samples, with its write-once records borrowed from their owners.
 #[inline(never)]
@@ -43,7 +46,7 @@ fn run_sharing<M: Ialg>(
     give_back_pieces(sharing, i as usize, shared);
 }
 
-/// Gives a reader, which is active, a block of samples, as [`run_sharing`] does.
+/// Gives a reader, which is active, a block of samples, as [`run_sharing`] does. The one piece that it may be lent stays at its owner.
 #[inline(never)]
 fn run_reading<M: Ialg>(
     active: &mut Active<M>,
@@ -63,9 +66,11 @@ fn run_reading<M: Ialg>(
     ensures seen { sharing.new.items ≡ with_pieces_of sharing.old.items i (shared_at sharing.new.items i) }
     ensures did { Ran M.law input.now out.new.items active.old.instance active.new.instance (shared_at sharing.old.items i) (shared_at sharing.new.items i) group.now group.now }
 {
-    let mut shared = borrow_pieces(sharing, i as usize);
-    active.run_reading(sizes, &mut shared, group, input, out);
-    give_back_pieces(sharing, i as usize, shared);
+    let at = owner(sharing, i as usize, ONCE);
+    match &mut sharing[at].s1 {
+        Location::Here(once) => active.run_reading(sizes, once, group, input, out),
+        Location::At(_owner) => unreachable!(),
+    }
 }
 
 /// Gives the active member of a group a block of samples, as [`run_sharing`] does. A filter has no write-once record,

@@ -32,6 +32,9 @@ pub struct Lending<'a, S> {
 
 /// Performs the step with these records: those of the table, an empty slice for each that isn't lent. Where nothing
 /// write-once is lent for writing, each write-once record has the same words after it, whatever the step is.
+///
+/// Inlined, so that the slices aren't passed on before they are put side by side.
+#[inline(always)]
 pub fn lend<O, S: Step<O>>(
     lending: &Lending<'_, S>,
     r0: &mut [i16],

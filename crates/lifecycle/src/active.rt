@@ -5,7 +5,7 @@ ghost use Rattle.ialg.specs.Views.{control_of, answer_of};
 ghost use Rattle.mem_rec.specs.Records.{is_table};
 ghost use Rattle.scratch_group.specs.Blocks.{SameGroup};
 ghost use Rattle.scratch_group.specs.Readers.{IsOfReader};
-ghost use Rattle.record_loans.specs.Pieces.{piece_at, SamePieces};
+ghost use Rattle.record_loans.specs.Pieces.{only_second, piece_at, IsSamePiece, SamePieces};
 ghost use Rattle.lifecycle.specs.Moves.{CanRestore, with_back, settled, HasRoom, without_piece};
 ghost use Rattle.lifecycle.specs.States.{Fits, SameInstance, SameOnce, IsLawful, Accepts, all_outputs, status_after, IdleKeeps, ActiveKeeps, SaysWhetherAccepted};
 
@@ -55,31 +55,32 @@ impl<M: Ialg> Active<M> {
         );
     }
 
-    /// Gives a reader a block of samples, as [`run`](Active::run) does: no block of its group is looked at.
+    /// Gives a reader a block of samples, as [`run`](Active::run) does, with the one piece that may be lent to it: no block of its group is
+    /// looked at.
     #[inline(always)]
     pub fn run_reading(
         &mut self,
         sizes: ReaderSizes,
-        shared: &mut Pieces,
+        once: &mut Option<Piece>,
         group: &Group,
         input: &[i16],
         out: &mut Block,
     )
         requires reader { IsOfReader self.old.instance.table sizes }
         requires table { IsTrue (is_table self.old.instance.table) }
-        requires fits { Fits self.old.instance.table self.old.instance.own shared.old group.now }
+        requires fits { Fits self.old.instance.table self.old.instance.own (only_second once.old) group.now }
         requires empty { out.old.items ≡ [] }
         requires some { 1 ≤ length input.now }
         requires within { length input.now ≤ BLOCK_SAMPLES }
         ensures same { SameInstance self.old.instance self.new.instance }
-        ensures shared { SamePieces shared.old shared.new }
-        ensures once { SameOnce self.old.instance.table shared.old shared.new }
-        ensures fits { Fits self.new.instance.table self.new.instance.own shared.new group.now }
+        ensures shared { IsSamePiece once.old once.new }
+        ensures once { SameOnce self.old.instance.table (only_second once.old) (only_second once.new) }
+        ensures fits { Fits self.new.instance.table self.new.instance.own (only_second once.new) group.now }
         ensures bounded { length out.new.items ≤ length input.now }
-        ensures keeps { (w : Option ℤ) (h : History) → ActiveKeeps M.law self.old.instance w shared.old group.now h
-            → ActiveKeeps M.law self.new.instance w shared.new group.now (with_samples h input.now) }
+        ensures keeps { (w : Option ℤ) (h : History) → ActiveKeeps M.law self.old.instance w (only_second once.old) group.now h
+            → ActiveKeeps M.law self.new.instance w (only_second once.new) group.now (with_samples h input.now) }
         ensures output { (w : Option ℤ) (h : History) → IsLawful M.law.meaning self.old.instance w
-            → ActiveKeeps M.law self.old.instance w shared.old group.now h
+            → ActiveKeeps M.law self.old.instance w (only_second once.old) group.now h
             → all_outputs M.law.meaning self.old.instance (with_samples h input.now)
             ≡ all_outputs M.law.meaning self.old.instance h ++ out.new.items }
     {
@@ -90,7 +91,7 @@ impl<M: Ialg> Active<M> {
             &self.instance.table,
             sizes,
             &mut self.instance.own,
-            shared,
+            once,
             out,
         );
     }

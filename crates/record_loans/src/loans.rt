@@ -150,27 +150,27 @@ pub fn lend_filter<O, S: Step<O>>(
 }
 
 /// Performs the step with the records of a reader, out of its own piece and the second one that is lent to it, if one is: their loans are
-/// two, and no other piece and no block is looked at.
+/// two, and no other piece and no block is looked at. The piece that is lent stays where it stands.
 #[inline(always)]
 #[tactic(auto, using(crate::proofs::Parts::front_read))]
 pub fn lend_reader<O, S: Step<O>>(
     loan: &Lending<'_, S>,
     sizes: ReaderSizes,
     own: &mut Pieces,
-    shared: &mut Pieces,
+    once: &mut Option<Piece>,
     out: &mut O,
 )
     requires can { S.can loan.now.step.now out.old }
     requires some { 1 ≤ sizes.object }
-    requires fit { ReaderFits sizes (length (piece_words own.old.p0)) (length (piece_words shared.old.p1)) }
+    requires fit { ReaderFits sizes (length (piece_words own.old.p0)) (length (piece_words once.old)) }
     ensures done { S.done loan.now.step.now loan.now.table.now loan.now.writable
-        (reader_words sizes (piece_words own.old.p0) (piece_words shared.old.p1))
-        (reader_words sizes (piece_words own.new.p0) (piece_words shared.new.p1)) out.old out.new }
+        (reader_words sizes (piece_words own.old.p0) (piece_words once.old))
+        (reader_words sizes (piece_words own.new.p0) (piece_words once.new)) out.old out.new }
     ensures own { SamePieces own.old own.new }
-    ensures shared { SamePieces shared.old shared.new }
+    ensures once { IsSamePiece once.old once.new }
 {
     match &mut own.p0 {
-        Some(object) => match &mut shared.p1 {
+        Some(object) => match once {
             Some(once) => {
                 let (object, _rest) = object.words_mut().split_at_mut(sizes.object);
                 let (once, _rest) = once.words_mut().split_at_mut(sizes.once);

@@ -1,6 +1,8 @@
 -- What is lent to a reader is each record's words.
-use Rattle.std.proofs.Common.{◌≡◌, inl, inr, IsTrue, List, [], length, take, drop, refl, ap, sym, ◌∙◌, arith}
+use Rattle.std.proofs.Common.{◌≡◌, ℕ, zero, suc, inl, inr, IsTrue, List, [], length, take, drop, refl, ap, sym, ◌∙◌, arith}
 use Rattle.mem_rec.specs.declared.MemRec.{MemRec}
+use Rattle.mem_rec.specs.declared.Attr.{Attr}
+use Rattle.mem_rec.specs.declared.Attr.TheVariants.{Scratch, Persist, WriteOnce}
 use Rattle.mem_rec.specs.Records.{is_table}
 use Rattle.ialg.specs.Records.{record_at}
 use Rattle.record_loans.specs.declared.plan.ReaderSizes.{ReaderSizes}
@@ -13,6 +15,7 @@ use Rattle.scratch_group.specs.Blocks.{block_in}
 use Rattle.scratch_group.specs.Words.{scratch_offset, words_by, record_words, active_words}
 use Rattle.scratch_group.specs.Readers.{IsOfReader}
 use Rattle.scratch_group.proofs.Ends.{blank_at}
+use Rattle.ialg.proofs.Tables.{object_attr}
 use Rattle.scratch_group.proofs.Cutting.{either, object_words}
 
 module _ (rs : List MemRec) (n : ReaderSizes) (t : IsTrue (is_table rs)) (f : IsOfReader rs n) (own shared : Pieces) (g : Group) where
@@ -37,3 +40,16 @@ module _ (rs : List MemRec) (n : ReaderSizes) (t : IsTrue (is_table rs)) (f : Is
 
   pub reader_lent : active_words rs own shared g ≡ reader_words n (piece_words own.p0) (piece_words shared.p1)
   reader_lent = rw (object_is, once_is, third_is, last_is) refl
+
+persistent_once : Persist ≡ WriteOnce → ⊥
+persistent_once e = cc
+
+scratch_once : Scratch ≡ WriteOnce → ⊥
+scratch_once e = cc
+
+-- no other record than the second is write-once
+pub once_second : (rs : List MemRec) (n : ReaderSizes) → IsTrue (is_table rs) → IsOfReader rs n → (k : ℕ) → (record_at rs k).attr ≡ WriteOnce → k ≡ 1
+once_second rs n t f zero attr = absurd (persistent_once (sym (object_attr rs t) ∙ attr))
+once_second rs n t f (suc zero) attr = refl
+once_second rs n t f (suc (suc k)) attr =
+    absurd (scratch_once (sym (ap (λ (r : MemRec). r.attr) (blank_at rs (suc (suc k)) (let e = f.few in omega (arith, e)))) ∙ attr))

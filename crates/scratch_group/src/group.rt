@@ -4,7 +4,7 @@ ghost use Rattle.mem_rec.specs.Layout.{scratch_need, scratch_align};
 ghost use Rattle.record_loans.specs.Blocks.{block_piece, block_words};
 ghost use Rattle.scratch_group.specs.Blocks.{block_in, block_spot, block_needed, filled, BlocksArePoison, SameBut, SameGroup};
 ghost use Rattle.host_map.specs.Activity.{count_after};
-ghost use Rattle.record_loans.specs.Pieces.{piece_place, IsInSpace, SamePieces};
+ghost use Rattle.record_loans.specs.Pieces.{only_second, piece_place, IsInSpace, IsSamePiece, SamePieces};
 ghost use Rattle.scratch_group.specs.Words.{active_words, HasWords};
 ghost use Rattle.scratch_group.specs.Readers.{IsOfReader};
 ghost use Rattle.mem_rec.specs.Records.{is_table};
@@ -209,13 +209,14 @@ impl Group {
         match filter_sizes(table) {
             Some(sizes) => lend_filter(&loan, sizes, own, &mut self.daram, out),
             None => match reader_sizes(table) {
-                Some(sizes) => lend_reader(&loan, sizes, own, shared, out),
+                Some(sizes) => lend_reader(&loan, sizes, own, &mut shared.p1, out),
                 None => self.lend_by_plan(&loan, own, shared, out),
             },
         }
     }
 
-    /// Performs the step with the records of a reader, as [`lend`](Group::lend) does. No block is looked at, and no plan made.
+    /// Performs the step with the records of a reader, as [`lend`](Group::lend) does, out of the one piece that may be lent to it. No block is
+    /// looked at, and no plan made.
     #[inline(always)]
     pub fn lend_reading<O, S: Step<O>>(
         &self,
@@ -223,16 +224,16 @@ impl Group {
         table: &MemTab,
         sizes: ReaderSizes,
         own: &mut Pieces,
-        shared: &mut Pieces,
+        once: &mut Option<Piece>,
         out: &mut O,
     )
         requires can { S.can step.now out.old }
         requires table { IsTrue (is_table table.now) }
         requires reader { IsOfReader table.now sizes }
-        requires sizes { HasWords table.now own.old shared.old self.now }
-        ensures done { S.done step.now table.now false (active_words table.now own.old shared.old self.now) (active_words table.now own.new shared.new self.now) out.old out.new }
+        requires sizes { HasWords table.now own.old (only_second once.old) self.now }
+        ensures done { S.done step.now table.now false (active_words table.now own.old (only_second once.old) self.now) (active_words table.now own.new (only_second once.new) self.now) out.old out.new }
         ensures own { SamePieces own.old own.new }
-        ensures shared { SamePieces shared.old shared.new }
+        ensures once { IsSamePiece once.old once.new }
     {
         // write-once records are for reading alone
         let writable = false;
@@ -241,7 +242,7 @@ impl Group {
             table,
             writable,
         };
-        lend_reader(&loan, sizes, own, shared, out);
+        lend_reader(&loan, sizes, own, once, out);
     }
 
     /// Performs the step as [`lend`](Group::lend) does, whatever the table.

@@ -1,8 +1,8 @@
-use Rattle.std.proofs.Common.{◌≡◌, ◌∙◌, ap, length, rules}
+use Rattle.std.proofs.Common.{◌∙◌, ap, length}
 use Rattle.ialg.specs.History.{word_at}
 use Rattle.alg_g711.specs.declared.coder.Direction.TheVariants.{Decode}
 use Rattle.alg_g711.specs.Meaning.{kind_word, records_of, coded}
-use Rattle.alg_g711.proofs.Outputs.{length-samples_of_codes, given_block, sample_by}
+use Rattle.alg_g711.proofs.Outputs.{length-samples_of_codes, is_map, sample_by}
 use Rattle.alg_g711.proofs.kind.decode_block.Goals as goal
 
 pub returns-in_default-clause-read : goal.returns-in_default-clause-read
@@ -21,8 +21,5 @@ returns-else-table-eq-CODES-clause-read c law named samples =
 pub returns-then-table-eq-CODES-clause-law : goal.returns-then-table-eq-CODES-clause-law
 returns-then-table-eq-CODES-clause-law c law named samples =
     let same = c.in-Some.ensures.named (kind_word law Decode) (records_of Decode) named ∙ samples in
-    let room = c.try_extend_from_slice-fits.new.self.items in
-    let long : length room ≡ length c.args.input.now = search rules in
-    given_block (coded law Decode) c.args.input.now room c.decode_words.new.samples long
-    (c.decode_words.auto.samples ∙ ap length c.as_mut_slice.ensures.value)
-    (λ k b. c.decode_words.ensures.samples k b ∙ sample_by law c.in-Some.table.now (word_at c.args.input.now k) same)
+    is_map (coded law Decode) c.args.input.now c.decode_by.new.out.items c.decode_by.ensures.count
+    (λ k b. c.decode_by.ensures.samples k b ∙ sample_by law c.in-Some.table.now (word_at c.args.input.now k) same)

@@ -1,3 +1,4 @@
+use Rattle.record_loans.specs.declared.pieces.Pieces.{Pieces}
 use Rattle.scratch_group.specs.declared.group.Group.{Group}
 use Rattle.scratch_group.proofs.Filters.{filter_lent}
 use Rattle.scratch_group.proofs.Readers.{reader_lent}
@@ -15,4 +16,5 @@ returns-in-Some-reader_sizes-clause-done g c =
     let group : Group = c.args.self.now in
     let reader = c.in-Some-reader_sizes in
     let lent = reader_lent c.args.table.now reader.sizes reader.ensures.table reader.ensures.sizes in
-    rw (lent c.args.own.now c.args.shared.now group, lent c.lend_reader.new.own c.lend_reader.new.shared group) c.lend_reader.ensures.done
+    let shared : Pieces = c.args.shared.now in
+    rw (lent c.args.own.now shared group, lent c.lend_reader.new.own (record shared { p1 = c.lend_reader.new.once }) group) c.lend_reader.ensures.done
