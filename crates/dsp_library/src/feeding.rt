@@ -19,7 +19,11 @@ pub(crate) fn write_first(samples: &[i16], out: &mut [i16])
     ensures given { take (length samples.now) out.new ≡ samples.now }
     ensures rest { drop (length samples.now) out.new ≡ drop (length samples.now) out.old }
 {
-    out[..samples.len()].copy_from_slice(samples);
+    match samples {
+        // one sample needs no call that copies
+        [sample] => out[0] = *sample,
+        _ => out[..samples.len()].copy_from_slice(samples),
+    }
 }
 
 /// Whether a channel can be fed: `DONE`, or as [`rokdaum_proved_feed`] would refuse.
