@@ -9,6 +9,7 @@ pub mod Leaving
 pub mod Renaming
 pub mod BlockPlacing
 pub mod Orders
+pub mod Searches
 pub mod Owners
 pub mod Inserts
 pub mod Keeping

@@ -9,7 +9,8 @@ ghost use Rattle.host_map.specs.declared.placed.Owner.{Owner};
 ghost use Rattle.host_map.specs.declared.placed.Placed.{Placed};
 ghost use Rattle.host_map.specs.Blocks.{AreSingle, IsOwner, block_range, disowned, owned, ranges, renamed_blocks, renaming, with_block, without_at};
 ghost use Rattle.host_spaces.specs.Blocks.{Owns, block_of};
-ghost use Rattle.host_map.specs.Moves.{moved, moved_to, next_block, next_in};
+ghost use Rattle.host_map.specs.Moves.{moved, moved_to, next_block, next_in, spots_of};
+ghost use Rattle.relocate.specs.Spots.{AreSpots};
 ghost use Rattle.host_spaces.specs.Spaces.{AreInOrder, HasFront};
 
 use arrayvec::ArrayVec;
@@ -197,13 +198,31 @@ impl SpaceBlocks {
 // One block more, in place order.
 fn enter(blocks: &mut ArrayVec<Placed, SPACE_BLOCKS>, block: Placed)
     requires room { length blocks.old.items < SPACE_BLOCKS }
+    requires order { AreSpots (spots_of blocks.old.items) }
     ensures items { blocks.new.items ≡ with_block block blocks.old.items }
 {
-    let mut index = 0;
-    while index < blocks.len() && blocks.as_slice()[index].place < block.place {
-        index += 1;
-    }
+    let index = count_before(blocks.as_slice(), block.place);
     blocks.insert(index, block);
+}
+
+// How many blocks begin before the place.
+fn count_before(blocks: &[Placed], place: u32) -> usize
+    requires order { AreSpots (spots_of blocks.now) }
+    ensures within { result ≤ length blocks.now }
+    ensures before { (k : ℕ) (d : Placed) → k < result → (slice_index_or blocks.now k d).place < place }
+    ensures behind { (k : ℕ) (d : Placed) → result ≤ k → k < length blocks.now → place ≤ (slice_index_or blocks.now k d).place }
+{
+    let mut low = 0;
+    let mut high = blocks.len();
+    while low < high {
+        let middle = low + (high - low) / 2;
+        if blocks[middle].place < place {
+            low = middle + 1;
+        } else {
+            high = middle;
+        }
+    }
+    low
 }
 
 // Each block of one owner is another owner's.
@@ -224,16 +243,12 @@ fn renamed(owner: Owner, from: Owner, to: Owner) -> Owner
 
 // The index of the block that begins at the place.
 fn position(blocks: &[Placed], place: u32) -> usize
+    requires order { AreSpots (spots_of blocks.now) }
     requires there { (b : Placed) × Contains blocks.now b × (b.place ≡ place) }
     ensures within { result < length blocks.now }
     ensures found { (d : Placed) → (slice_index_or blocks.now result d).place ≡ place }
 {
-    for (index, block) in blocks.iter().enumerate() {
-        if block.place == place {
-            return index;
-        }
-    }
-    unreachable!()
+    count_before(blocks, place)
 }
 
 // The alignment of a block.

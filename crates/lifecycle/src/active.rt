@@ -14,7 +14,7 @@ use crate::instance::{Instance, restore};
 use crate::steps::{Command, Deactivate, Move, Process};
 use ialg::{BLOCK_SAMPLES, Block, Ctl, Ialg, Status};
 use record_loans::{Pieces, ReaderSizes};
-use scratch_group::{Group, placed};
+use scratch_group::{Group, rebase};
 use space_raw::Piece;
 
 /// An active instance. Its own pieces and those of its write-once records keep its history together with the blocks of its
@@ -199,7 +199,7 @@ impl<M: Ialg> Active<M> {
             → ActiveKeeps M.law self.new.instance w shared.new group.new h }
     {
         restore(&mut self.instance.own, back);
-        self.instance.table = placed(&self.instance.table, &self.instance.own, shared, group);
+        rebase(&mut self.instance.table, &self.instance.own, shared, group);
         let kind = self.instance.kind;
         group.lend(
             &Move { kind },

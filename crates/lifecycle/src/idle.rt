@@ -15,7 +15,7 @@ use crate::steps::{Activate, ActivateAndProcess, Free, Init, Move};
 use ialg::{BLOCK_SAMPLES, Block, Ctl, Ialg, Params};
 use mem_rec::MemTab;
 use record_loans::Pieces;
-use scratch_group::{Group, lend_lasting, placed};
+use scratch_group::{Group, lend_lasting, rebase};
 use space_raw::Piece;
 
 /// An idle instance. Its own pieces and those of its write-once records keep its history.
@@ -42,7 +42,8 @@ impl<M: Ialg> Idle<M> {
             → AreNew w (M.law.meaning.fill kind params.items) table (idle_words table own shared.old)
             → IdleKeeps M.law result.instance w shared.new [] }
     {
-        let table = placed(&table, &own, shared, group);
+        let mut table = table;
+        rebase(&mut table, &own, shared, group);
         let mut own = own;
         let step = Init {
             kind,
@@ -211,7 +212,7 @@ impl<M: Ialg> Idle<M> {
             → IdleKeeps M.law self.new.instance w shared.new h }
     {
         restore(&mut self.instance.own, back);
-        self.instance.table = placed(&self.instance.table, &self.instance.own, shared, group);
+        rebase(&mut self.instance.table, &self.instance.own, shared, group);
         let kind = self.instance.kind;
         lend_lasting(
             &Move { kind },

@@ -9,40 +9,44 @@ use crate::plan::{end_before, offset_behind, record};
 use mem_rec::{Attr, MemTab};
 use record_loans::Pieces;
 
-/// The table with each record's place for its base.
-pub fn placed(table: &MemTab, own: &Pieces, shared: &Pieces, group: &Group) -> MemTab
-    requires sizes { HasWords table.now own.now shared.now group.now }
+/// The base of each record is its place from now on.
+pub fn rebase(table: &mut MemTab, own: &Pieces, shared: &Pieces, group: &Group)
+    requires sizes { HasWords table.old own.now shared.now group.now }
     requires spaces { InSpaces own.now shared.now group.now }
-    ensures { result ≡ placed table.now own.now shared.now group.now }
+    ensures { table.new ≡ placed table.old own.now shared.now group.now }
 {
     // a table has four records at most, as its list of records says
     let _records = table.records();
-    let mut placed = table.copied();
-    rebase(table, &mut placed, 0, own, shared, group);
-    rebase(table, &mut placed, 1, own, shared, group);
-    rebase(table, &mut placed, 2, own, shared, group);
-    rebase(table, &mut placed, 3, own, shared, group);
-    placed
+    let first = place_if_any(table, 0, own, shared, group);
+    let second = place_if_any(table, 1, own, shared, group);
+    let third = place_if_any(table, 2, own, shared, group);
+    let fourth = place_if_any(table, 3, own, shared, group);
+    put_base(table, 0, first);
+    put_base(table, 1, second);
+    put_base(table, 2, third);
+    put_base(table, 3, fourth);
 }
 
-/// Record `k` of `placed`, if there is one, is at its place from now on.
-fn rebase(
-    table: &MemTab,
-    placed: &mut MemTab,
-    k: usize,
-    own: &Pieces,
-    shared: &Pieces,
-    group: &Group,
-)
-    requires number { k < 4 }
-    requires long { length placed.old ≡ length table.now }
-    requires sizes { HasWords table.now own.now shared.now group.now }
-    requires spaces { InSpaces own.now shared.now group.now }
-    ensures value { placed.new ≡ with_base placed.old k (record_place table.now own.now shared.now group.now k) }
-    ensures long { length placed.new ≡ length table.now }
+/// Record `k`, if there is one, is at `base` from now on.
+fn put_base(table: &mut MemTab, k: usize, base: u16)
+    ensures { table.new ≡ with_base table.old k base }
 {
     if k < table.len() {
-        placed.set_base(k, place(table, k, own, shared, group));
+        table.set_base(k, base);
+    }
+}
+
+/// Where record `k` begins, if there is one.
+fn place_if_any(table: &MemTab, k: usize, own: &Pieces, shared: &Pieces, group: &Group) -> u16
+    requires number { k < 4 }
+    requires sizes { HasWords table.now own.now shared.now group.now }
+    requires spaces { InSpaces own.now shared.now group.now }
+    ensures { k < length table.now → result ≡ record_place table.now own.now shared.now group.now k }
+{
+    if k < table.len() {
+        place(table, k, own, shared, group)
+    } else {
+        0
     }
 }
 

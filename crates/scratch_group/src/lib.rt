@@ -11,7 +11,7 @@ mod group;
 mod lasting;
 mod plan;
 
-pub use bases::{lends_at_the_layout, placed};
+pub use bases::{lends_at_the_layout, rebase};
 pub use group::{Group, Need};
 pub use lasting::lend_lasting;
 pub use plan::{is_filter, reader_sizes};

@@ -1,22 +1,26 @@
 -- The block stands behind those that begin before it.
-use Rattle.std.proofs.Common.{◌≤◌, List, get_or, inl, inr, subst, ◌∙◌, arith}
+use Rattle.std.proofs.Common.{◌<◌, ◌≤◌, ℕ, List, length, get_or, subst, sym, ◌∙◌}
 use Rattle.host_map.specs.declared.placed.Owner.TheVariants.{Record}
 use Rattle.host_map.specs.declared.placed.Placed.{Placed}
+use Rattle.host_map.specs.Moves.{spots_of}
+use Rattle.relocate.specs.Spots.{AreSpots}
 use Rattle.host_spaces.proofs.Orders.{inserted}
+use Rattle.host_spaces.proofs.Searches.{end_or_behind}
 use Rattle.host_spaces.proofs.blocks.enter.Goals as goal
-use Rattle.host_spaces.proofs.blocks.enter.Goals.{then-loop-index-test+else-as_slice-index, else-loop-index-test}
 
 -- what a read past the end would give
 abbrev blank : Placed
 blank = record { owner = Record 0 0; place = 0; size = 0; align = 0 }
 
+pub count_before-index-requires : goal.count_before-index-requires
+count_before-index-requires c = record { order = subst (λ (xs : List Placed). AreSpots (spots_of xs)) (sym c.as_slice.ensures.value) c.requires.order }
+
 pub returns : goal.returns
 returns c =
-    let xs = c.args.blocks.now.items in let i = c.loop-index.index in let b = c.args.block in
+    let xs = c.args.blocks.now.items in let i = c.count_before-index.result in let b = c.args.block in let same = c.as_slice.ensures.value in
     record {
-      items = c.insert.ensures.items ∙ inserted xs i b blank c.loop-index.invariant.upto c.loop-index.invariant.low
-          (elim c.loop-index-test.branch [
-            | then-loop-index-test+else-as_slice-index w ↦ inr (subst (λ (ys : List Placed). b.place ≤ (get_or ys i blank).place) w.as_slice.ensures.value w.if-as_slice-index.false)
-            | else-loop-index-test w ↦ inl (let test = w.loop-index-test.false in let value = c.len.ensures.value in omega arith)
-          ]);
+      items = c.insert.ensures.items ∙ inserted xs i b blank
+          (subst (λ (ys : List Placed). i ≤ length ys) same c.count_before-index.ensures.within)
+          (subst (λ (ys : List Placed). (k : ℕ) (d : Placed) → k < i → (get_or ys k d).place < b.place) same c.count_before-index.ensures.before)
+          (end_or_behind xs i b.place blank (subst (λ (ys : List Placed). (k : ℕ) (d : Placed) → i ≤ k → k < length ys → b.place ≤ (get_or ys k d).place) same c.count_before-index.ensures.behind));
     }

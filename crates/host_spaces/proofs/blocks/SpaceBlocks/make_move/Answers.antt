@@ -5,18 +5,22 @@ use Rattle.relocate.specs.declared.packing.Move.{Move}
 use Rattle.host_map.specs.declared.placed.Placed.{Placed}
 use Rattle.host_spaces.specs.Blocks.{Owns}
 use Rattle.host_map.specs.Blocks.{block_range, owned}
-use Rattle.host_map.specs.Moves.{moved, moved_to, next_block, next_in}
+use Rattle.host_map.specs.Moves.{moved, moved_to, next_block, next_in, spots_of}
 use Rattle.host_spaces.specs.Spaces.{AreKept, SpaceState}
+use Rattle.relocate.specs.Spots.{AreSpots}
 use Rattle.host_spaces.proofs.MadeMoves.{aligned, counted, is_moved, its_owner, its_place, kept_after, next_there, other_owners, piece_block}
 use Rattle.host_spaces.proofs.Moving.{IsNext, is_next}
 use Rattle.host_spaces.proofs.blocks.SpaceBlocks.make_move.Goals as goal
 use Rattle.host_spaces.proofs.blocks.SpaceBlocks.make_move.Goals.{After-put_at}
 
-pub position-index-requires : goal.position-index-requires
-position-index-requires c =
+pub position-index-requires-clause-there : goal.position-index-requires-clause-there
+position-index-requires-clause-there c =
     let bs = c.self.inside.blocks.items in
     let nx = is_next bs c.args.piece c.self.invariant.order (ap (λ (v : SpaceState). option_map block_range (next_block v.blocks)) c.self.view_is ∙ c.requires.next) in
-    record { there = next_there bs c.as_slice.result.now c.args.piece c.place.result nx c.as_slice.ensures.value c.place.ensures.value }
+    next_there bs c.as_slice.result.now c.args.piece c.place.result nx c.as_slice.ensures.value c.place.ensures.value
+
+pub position-index-requires-clause-order : goal.position-index-requires-clause-order
+position-index-requires-clause-order c = subst (λ (xs : List Placed). AreSpots (spots_of xs)) (sym c.as_slice.ensures.value) c.self.invariant.order
 
 pub lower-moved-requires-clause-block : goal.lower-moved-requires-clause-block
 lower-moved-requires-clause-block c =

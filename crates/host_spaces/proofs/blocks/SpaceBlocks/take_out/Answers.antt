@@ -5,7 +5,9 @@ use Rattle.host_map.specs.declared.placed.Owner.TheVariants.{Record}
 use Rattle.host_map.specs.declared.placed.Placed.{Placed}
 use Rattle.host_spaces.specs.Blocks.{Owns}
 use Rattle.host_map.specs.Blocks.{disowned, owned, without_at}
+use Rattle.host_map.specs.Moves.{spots_of}
 use Rattle.host_spaces.specs.Spaces.{AreKept, SpaceState}
+use Rattle.relocate.specs.Spots.{AreSpots}
 use Rattle.host_spaces.proofs.Keeping.{is_without, kept_given, kept_sorted, piece_block, stands_there}
 use Rattle.host_spaces.proofs.Owners.{others_without, removed_only}
 use Rattle.host_spaces.proofs.blocks.SpaceBlocks.take_out.Goals as goal
@@ -15,11 +17,14 @@ use Rattle.host_spaces.proofs.blocks.SpaceBlocks.take_out.Goals.{After-give, Aft
 abbrev blank : Placed
 blank = record { owner = Record 0 0; place = 0; size = 0; align = 0 }
 
-pub position-index-requires : goal.position-index-requires
-position-index-requires c =
+pub position-index-requires-clause-there : goal.position-index-requires-clause-there
+position-index-requires-clause-there c =
     let bs = c.self.inside.blocks.items in let owner = c.requires.owner.0 in
     let owns : Owns bs owner c.args.piece = subst (λ (v : SpaceState). Owns v.blocks owner c.args.piece) (sym c.self.view_is) c.requires.owner.1 in
-    record { there = stands_there bs c.as_slice.result.now owner c.args.piece c.place.result owns c.as_slice.ensures.value c.place.ensures.value }
+    stands_there bs c.as_slice.result.now owner c.args.piece c.place.result owns c.as_slice.ensures.value c.place.ensures.value
+
+pub position-index-requires-clause-order : goal.position-index-requires-clause-order
+position-index-requires-clause-order c = subst (λ (xs : List Placed). AreSpots (spots_of xs)) (sym c.as_slice.ensures.value) c.self.invariant.order
 
 pub give-requires-clause-block : goal.give-requires-clause-block
 give-requires-clause-block c =

@@ -5,23 +5,23 @@ use Rattle.lifecycle.proofs.Frames.{fits_stay, same_group, sizes_restored, fits_
 use Rattle.lifecycle.proofs.Keeps.{started}
 use Rattle.lifecycle.proofs.idle.Idle.init.Goals as goal
 
-pub placed-table-requires-clause-sizes : goal.placed-table-requires-clause-sizes
-placed-table-requires-clause-sizes g c = sizes_restored c.args.table c.args.own c.args.own c.args.shared.now c.args.group.now refl c.requires.fits
+pub rebase-requires-clause-sizes : goal.rebase-requires-clause-sizes
+rebase-requires-clause-sizes g c = sizes_restored c.args.table c.args.own c.args.own c.args.shared.now c.args.group.now refl c.requires.fits
 
 pub lend_lasting-requires-clause-sizes : goal.lend_lasting-requires-clause-sizes
 lend_lasting-requires-clause-sizes g c =
-    let fits = fits_settled c.args.table c.placed-table.result c.args.own c.args.own c.args.shared.now c.args.group.now refl c.placed-table.ensures c.requires.fits in
-    (lasting_lent c.placed-table.result c.args.own c.args.shared.now c.args.group.now fits.lent).sizes
+    let fits = fits_settled c.args.table c.rebase.new.table c.args.own c.args.own c.args.shared.now c.args.group.now refl c.rebase.ensures c.requires.fits in
+    (lasting_lent c.rebase.new.table c.args.own c.args.shared.now c.args.group.now fits.lent).sizes
 
 pub returns-clause-fits : goal.returns-clause-fits
 returns-clause-fits g c =
-    let fits = fits_settled c.args.table c.placed-table.result c.args.own c.args.own c.args.shared.now c.args.group.now refl c.placed-table.ensures c.requires.fits in
-    fits_stay c.placed-table.result c.args.own c.lend_lasting.new.own c.args.shared.now c.lend_lasting.new.shared c.args.group.now c.args.group.now c.lend_lasting.ensures.own c.lend_lasting.ensures.shared (same_group c.args.group.now) fits
+    let fits = fits_settled c.args.table c.rebase.new.table c.args.own c.args.own c.args.shared.now c.args.group.now refl c.rebase.ensures c.requires.fits in
+    fits_stay c.rebase.new.table c.args.own c.lend_lasting.new.own c.args.shared.now c.lend_lasting.new.shared c.args.group.now c.args.group.now c.lend_lasting.ensures.own c.lend_lasting.ensures.shared (same_group c.args.group.now) fits
 
 pub returns-clause-keeps : goal.returns-clause-keeps
 returns-clause-keeps g c w is new lawful =
-    let fits = fits_settled c.args.table c.placed-table.result c.args.own c.args.own c.args.shared.now c.args.group.now refl c.placed-table.ensures c.requires.fits in
-    let same = unplaced-placed c.args.table c.placed-table.result c.args.own c.args.shared.now c.args.group.now c.placed-table.ensures in
-    started g.M.Ialg.law c.args.kind c.placed-table.result c.args.own c.lend_lasting.new.own c.args.shared.now c.lend_lasting.new.shared c.args.group.now c.args.params.items
+    let fits = fits_settled c.args.table c.rebase.new.table c.args.own c.args.own c.args.shared.now c.args.group.now refl c.rebase.ensures c.requires.fits in
+    let same = unplaced-placed c.args.table c.rebase.new.table c.args.own c.args.shared.now c.args.group.now c.rebase.ensures in
+    started g.M.Ialg.law c.args.kind c.rebase.new.table c.args.own c.lend_lasting.new.own c.args.shared.now c.lend_lasting.new.shared c.args.group.now c.args.params.items
     fits c.lend_lasting.ensures.done w lawful (is ∙ ap Some same)
-    (are_new-same w (g.M.Ialg.law.meaning.fill c.args.kind c.args.params.items) c.args.table c.placed-table.result c.args.own c.args.shared.now (sym same) new)
+    (are_new-same w (g.M.Ialg.law.meaning.fill c.args.kind c.args.params.items) c.args.table c.rebase.new.table c.args.own c.args.shared.now (sym same) new)
