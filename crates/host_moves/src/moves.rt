@@ -24,7 +24,7 @@ use host_spaces::Spaces;
 use host_table::{Tables, call_moved_in_group};
 use ialg::Ialg;
 use mem_rec::Space;
-use space_raw::Piece;
+use space_raw::end_none;
 
 /// Moves a record that an instance has for its own.
 fn move_own<M: Ialg>(tables: &mut Tables<M>, spaces: &mut Spaces, space: Space, i: u8, k: u8)
@@ -79,16 +79,6 @@ fn move_block<M: Ialg>(tables: &mut Tables<M>, spaces: &mut Spaces, space: Space
             );
         }
         None => unreachable!(),
-    }
-}
-
-/// Ends a piece that isn't there.
-fn end_none(piece: Option<Piece>)
-    requires { piece ≡ None }
-{
-    match piece {
-        Some(_piece) => unreachable!(),
-        None => {}
     }
 }
 

@@ -8,10 +8,10 @@ ghost use Rattle.host_shared.specs.Owners.{IsPieceHere, AllHaveOwners};
 ghost use Rattle.host_shared.specs.Joining.{sharer_at, location_over, location_joined, pieces_joined, CanJoin};
 ghost use Rattle.host_shared.specs.Sharing.{AreLeast};
 
-use crate::locations::{Location, Locations, end_none, replace_location};
+use crate::locations::{Location, Locations, replace_location};
 use crate::sharers::{point_all, put_location};
 use record_loans::Pieces;
-use space_raw::Piece;
+use space_raw::{Piece, end_none};
 
 /// For each record of an instance the least-numbered other one that shares it, if there is one.
 #[derive(Clone, Copy)]

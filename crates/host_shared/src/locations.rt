@@ -8,7 +8,7 @@ ghost use Rattle.host_shared.specs.Owners.{with_location, set_location, put_piec
 ghost use Rattle.host_shared.specs.Sharing.{is_at};
 
 use record_loans::Pieces;
-use space_raw::Piece;
+use space_raw::{Piece, end_none};
 use std::mem;
 
 /// Where the piece of a write-once record is: with its instance, or at the owner, an instance of this number whose record is equal.
@@ -286,14 +286,4 @@ pub fn end_absent(pieces: Pieces)
     end_none(p1);
     end_none(p2);
     end_none(p3);
-}
-
-/// Ends a piece that isn't there.
-pub(crate) fn end_none(piece: Option<Piece>)
-    requires { piece ≡ None }
-{
-    match piece {
-        Some(_piece) => unreachable!(),
-        None => {}
-    }
 }

@@ -5,10 +5,10 @@ ghost use Rattle.host_shared.specs.Locations.{location_at, piece_here, no_locati
 ghost use Rattle.host_shared.specs.Owners.{set_location, AllHaveOwners, HoldsForOthers};
 ghost use Rattle.host_shared.specs.Sharing.{next_sharer, pointed, piece_left, left_with, location_without};
 
-use crate::locations::{Location, Locations, end_none, replace_location};
+use crate::locations::{Location, Locations, replace_location};
 use mem_rec::INSTANCES;
 use record_loans::Pieces;
-use space_raw::Piece;
+use space_raw::{Piece, end_none};
 
 /// Looks through all instances for the least-numbered one that shares record `k` with its owner `i`.
 fn find_next_sharer(sharing: &Vec<Locations>, i: u8, k: usize) -> Option<u8>

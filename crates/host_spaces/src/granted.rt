@@ -4,7 +4,7 @@ ghost use Rattle.host_spaces.specs.declared.wants.TheConstants.{WANTS};
 ghost use Rattle.host_spaces.specs.Wants.{none_granted, slot_at, with_slot};
 
 use crate::wants::WANTS;
-use space_raw::Piece;
+use space_raw::{Piece, end_none};
 
 // A piece for each entry of what a creation needs.
 pub(crate) struct Granted {
@@ -71,15 +71,5 @@ impl Granted {
         end_none(p4);
         end_none(p5);
         end_none(p6);
-    }
-}
-
-// Ends a piece that isn't there.
-fn end_none(piece: Option<Piece>)
-    requires { piece ≡ None }
-{
-    match piece {
-        Some(_piece) => unreachable!(),
-        None => {}
     }
 }

@@ -9,7 +9,7 @@ use crate::block::ScratchBlock;
 use crate::pieces::Pieces;
 use crate::plan::{FilterSizes, Plan, ReaderSizes, Source};
 use ialg::{Lending, Step, lend};
-use space_raw::Piece;
+use space_raw::{Piece, end_none};
 use std::mem;
 
 /// A step that is to be performed with the records of a table, and the plan by which they are cut.
@@ -45,18 +45,9 @@ pub fn lend_without_blocks<O, S: Step<O>>(
         &mut external,
         out,
     );
-    end_absent(daram);
-    end_absent(saram);
-    end_absent(external);
-}
-
-fn end_absent(block: Option<ScratchBlock>)
-    requires { block ≡ None }
-{
-    match block {
-        Some(_block) => unreachable!(),
-        None => {}
-    }
+    end_none(daram);
+    end_none(saram);
+    end_none(external);
 }
 
 /// Performs the step with the records that the plan cuts out of an instance's own pieces, those that are lent to it, and the

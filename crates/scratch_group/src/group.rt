@@ -16,7 +16,7 @@ use mem_rec::{Layout, MemTab, Space, scratch_layout};
 use record_loans::{
     Pieces, PlannedLoan, ReaderSizes, ScratchBlock, lend_filter, lend_reader, lend_with_blocks,
 };
-use space_raw::Piece;
+use space_raw::{Piece, end_none};
 
 /// The size and the alignment of a block that is to be placed, in words.
 #[derive(Clone, Copy, PartialEq, Eq, Debug)]
@@ -289,9 +289,9 @@ impl Group {
             active: _,
             activations: _,
         } = self;
-        end_absent(daram);
-        end_absent(saram);
-        end_absent(external);
+        end_none(daram);
+        end_none(saram);
+        end_none(external);
     }
 }
 
@@ -311,16 +311,6 @@ fn fill_block(block: &mut Option<ScratchBlock>, word: i16)
 {
     match block {
         Some(b) => b.piece.words_mut().fill(word),
-        None => {}
-    }
-}
-
-/// Ends a block that isn't there.
-fn end_absent(block: Option<ScratchBlock>)
-    requires { block ≡ None }
-{
-    match block {
-        Some(_block) => unreachable!(),
         None => {}
     }
 }

@@ -10,6 +10,6 @@ mod region;
 mod rest;
 mod words;
 
-pub use piece::Piece;
+pub use piece::{Piece, end_none};
 pub use region::Region;
 pub use rest::Rest;

@@ -1,5 +1,5 @@
 //! A range of a region's words that is owned.
-ghost use Rattle.std.specs.Prelude.{◌≡◌, ◌+◌, ◌<◌, ◌≤◌, ◌++◌, length, take, drop};
+ghost use Rattle.std.specs.Prelude.{◌≡◌, ◌+◌, ◌<◌, ◌≤◌, ◌++◌, length, take, drop, None};
 ghost use Rattle.std.specs.Borrow.{sem};
 ghost use Rattle.space_raw.specs.Span.{Adjoins, Apart, IsBack, IsFront};
 ghost use Rattle.space_raw.specs.SpanLends.{lends_words};
@@ -175,5 +175,16 @@ fn copy_down(words: &mut [i16], gap: usize, count: usize)
     while i < count {
         words[i] = words[gap + i];
         i += 1;
+    }
+}
+
+/// Ends what isn't there: a piece can't be dropped, nor can a value that holds pieces. It answers nothing and leaves nothing behind, so that there is
+/// no more to say.
+pub fn end_none<T>(absent: Option<T>)
+    requires { absent ≡ None }
+{
+    match absent {
+        Some(_there) => unreachable!(),
+        None => {}
     }
 }
