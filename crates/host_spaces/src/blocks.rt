@@ -15,7 +15,7 @@ ghost use Rattle.host_spaces.specs.Spaces.{AreInOrder, HasFront};
 
 use arrayvec::ArrayVec;
 use host_map::{MAP_BLOCKS, Map, Owner, Placed, SPACE_BLOCKS};
-use relocate::{Move, next_move, next_move_behind};
+use relocate::{Move, next_move_behind};
 use space_heap::{Heap, HeapError};
 use space_raw::Piece;
 use std::alloc::{Allocator, Global};
@@ -116,17 +116,7 @@ impl SpaceBlocks {
         rename_each(self.blocks.as_mut_slice(), from, to);
     }
 
-    /// The block that moves next, as it stands: the first one that isn't at its packed place. `None` exactly where all are packed.
-    pub fn next_move(&self) -> Option<Placed>
-        ensures value { result ≡ next_block self.now.blocks }
-    {
-        match next_move(self.blocks.as_slice()) {
-            Some(Move { index, to: _ }) => Some(self.blocks.as_slice()[index]),
-            None => None,
-        }
-    }
-
-    /// The block that moves next, as it stands. `None` exactly where all are packed. The search begins behind the first blocks, so many as `packed`
+    /// The block that moves next, as it stands: the first one that isn't at its packed place. `None` exactly where all are packed. The search begins behind the first blocks, so many as `packed`
     /// says, which are known to be at their packed places; from then on it says how many of them are there once the move is made.
     pub fn next_move_behind(&self, packed: &mut usize) -> Option<Placed>
         requires front { HasFront packed.old self.now.blocks }

@@ -30,7 +30,8 @@ fn a_block_is_placed_and_taken_out(rt: HostRuntime) {
     let refused = place_alone(&mut space, Owner::Scratch(7), 65, 4);
     assert!(rt; refused.is_none());
     assert!(rt; space.map().is_empty());
-    assert!(rt; space.next_move().is_none());
+    let mut packed = 0;
+    assert!(rt; space.next_move_behind(&mut packed).is_none());
     assert!(rt; space.size() == 64 && space.slid() == 0);
     space.close();
 }
