@@ -1,5 +1,5 @@
 -- The plain sums of a bounded block are halves of the sums in order.
-use Rattle.std.proofs.Common.{◌≡◌, ℕ, ℤ, pos, ◌+◌, ◌*◌, ◌-◌, ◌<◌, ◌≤◌, ◌^◌, unsigned_abs, List, length, take, drop, replicate, w32, inl, inr, refl, ap, ◌∙◌, arith, get_or-take, length-take}
+use Rattle.std.proofs.Common.{◌≡◌, ℕ, ℤ, pos, ◌+◌, ◌-◌, ◌<◌, ◌≤◌, ◌^◌, unsigned_abs, List, length, take, drop, replicate, w32, inl, inr, refl, ap, ◌∙◌, arith, get_or-take, length-take}
 use Rattle.std.specs.Int.{int_wrap}
 use Rattle.std.proofs.lemmas.Bool.{cases_lt}
 use Rattle.std.proofs.lemmas.List.{get_or_past, get_or-replicate, length-replicate}
@@ -7,6 +7,7 @@ use Rattle.basic_op.specs.Halves.{half_of}
 use Rattle.ialg.specs.History.{word_at}
 use Rattle.fir_kernel.specs.Sums.{l_mac_sum}
 use Rattle.fir_kernel.specs.Bounded.{product_sum, IsBounded}
+use Rattle.fir_kernel.specs.Windows.{wrapped_sum}
 use Rattle.fir_kernel.proofs.Parts.{part_at}
 use Rattle.fir_kernel.proofs.Sums.{product_sum-same, product_sum-silent, product_sum-turned, wrapped_sum_is}
 
@@ -67,15 +68,12 @@ module _ (cs line : List ℤ) (n : ℕ) (bounded : IsBounded cs (take (n + lengt
       (λ j k h. let a : i + j ≡ length cs - 1 + i - k = omega arith in ap (word_at line) a) in
       half_is i s some b (e ∙ ap (λ d. int_wrap w32 (product_sum c' x' d)) whole ∙ ap (int_wrap w32) (short ∙ turned))
 
-  -- so are all sums of a block
-  pub halves_by_taps : (taps : List ℤ) (m : ℕ) → 1 ≤ length cs → (length cs ≤ m) × (m ≤ length taps)
+  -- so is the sum of a window
+  pub half_of_window : (taps : List ℤ) (m : ℕ) → 1 ≤ length cs → (length cs ≤ m) × (m ≤ length taps)
       → ((j k : ℕ) → j + k + 1 ≡ length cs → word_at taps j ≡ word_at cs k)
       → ((j : ℕ) → length cs ≤ j → word_at taps j ≡ pos 0)
-      → (sums : List ℤ) (first step count : ℕ) → ((i : ℕ) → i < count → first + step * i ≤ n)
-      → ((i : ℕ) → i < count
-      → word_at sums i ≡ int_wrap w32 (product_sum (word_at (take m taps)) (λ j. word_at line (first + step * i + j)) (length (take m taps))))
-      → (i : ℕ) → i < count → IsHalfAt (first + step * i) (word_at sums i)
-  halves_by_taps taps m some size reversed rest sums first step count last summed i b =
+      → (i : ℕ) → i ≤ n → IsHalfAt i (wrapped_sum (take m taps) line i)
+  half_of_window taps m some size reversed rest i last =
       let front : length (take m taps) ≡ m = simp length-take (omega arith) in
-      half_by_taps taps m some size.0 reversed rest (first + step * i) (word_at sums i) (last i b)
-      (summed i b ∙ ap (λ d. int_wrap w32 (product_sum (word_at (take m taps)) (λ j. word_at line (first + step * i + j)) d)) front)
+      half_by_taps taps m some size.0 reversed rest i (wrapped_sum (take m taps) line i) last
+      (ap (λ d. int_wrap w32 (product_sum (word_at (take m taps)) (λ j. word_at line (i + j)) d)) front)

@@ -23,17 +23,17 @@ use Rattle.std.proofs.lemmas.List.{get_or_append_left, get_or-append_right, get_
 use Rattle.fir_kernel.proofs.Parts.{part_at}
 use Rattle.fir_kernel.proofs.Lanes.{take_fits, drop_fits, four, widened, product, added_bits, bits_below, word_bits, four_fit}
 
-abbrev compared : ℕ → ℕ → ℕ
+abbrev pub compared : ℕ → ℕ → ℕ
 compared a b = act2 (mask (lt signed)) (s_int w32) (s_int w32) (s_int w32) a b
 
 test_is : (t : Bool) → top 31 (cond t 4294967295 0) ≡ t
 test_is true = refl
 test_is false = refl
 
-compared_is : (a b : ℕ) → top 31 (compared a b) ≡ lt_z (to_z w32 a) (to_z w32 b)
+pub compared_is : (a b : ℕ) → top 31 (compared a b) ≡ lt_z (to_z w32 a) (to_z w32 b)
 compared_is a b = test_is (lt_z (to_z w32 a) (to_z w32 b))
 
-chosen : (t : Bool) (m n : ℕ) → to_z w32 (cond t m n) ≡ cond t (to_z w32 m) (to_z w32 n)
+pub chosen : (t : Bool) (m n : ℕ) → to_z w32 (cond t m n) ≡ cond t (to_z w32 m) (to_z w32 n)
 chosen true m n = refl
 chosen false m n = refl
 

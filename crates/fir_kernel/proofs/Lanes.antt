@@ -4,8 +4,7 @@ use Rattle.std.specs.Int.{int_wrap}
 use Rattle.std.proofs.lemmas.Int.{ints, wraps, to_z-of_z, wrapping_add-bits, int_wrap_fits, int_wrap-add_same, SFits-int_wrap}
 use Rattle.std.proofs.lemmas.Bool.{cases_lt}
 use Rattle.std.proofs.lemmas.List.{get_or_past}
-use Rattle.std.proofs.lemmas.Simd.{length-put_chunk, get_or-put_chunk_below, get_or-put_chunk_at}
-use lib.Lanes.{zip2, Each1, put_chunk}
+use lib.Lanes.{zip2, Each1}
 use borrow.Rule.Simd.Lanes.{Asks1, act1, act2}
 use borrow.Table.Row.{s_int}
 use mir.Syntax.{cast, signed, wrap_add, wrap_mul}
@@ -154,16 +153,16 @@ added s a b sum is la lb fa fb =
 -- ---- the sums of the lanes of four vectors
 
 abbrev sum_at : List ℕ → ℕ → ℕ → ℕ → ℕ → ℤ
-sum_at p i j k l = to_z w32 (((get_or p i 0 + get_or p k 0) % 4294967296 + (get_or p j 0 + get_or p l 0) % 4294967296) % 4294967296)
+sum_at p i j k l = to_z w32 (((get_or p i 0 + get_or p j 0) % 4294967296 + (get_or p k 0 + get_or p l 0) % 4294967296) % 4294967296)
 
 lanes_sum : (a b c d sum : ℤ) → FitsSigned w32 a → FitsSigned w32 b → FitsSigned w32 c → FitsSigned w32 d → int_wrap w32 (((a +ℤ b) +ℤ c) +ℤ d) ≡ int_wrap w32 sum
-    → to_z w32 (((of_z w32 a + of_z w32 c) % 4294967296 + (of_z w32 b + of_z w32 d) % 4294967296) % 4294967296) ≡ int_wrap w32 sum
+    → to_z w32 (((of_z w32 a + of_z w32 b) % 4294967296 + (of_z w32 c + of_z w32 d) % 4294967296) % 4294967296) ≡ int_wrap w32 sum
 lanes_sum a b c d sum fa fb fc fd e =
-    let ac : to_z w32 ((of_z w32 a + of_z w32 c) % 4294967296) ≡ int_wrap w32 (a +ℤ c) = search (rules, wraps) in
-    let bd : to_z w32 ((of_z w32 b + of_z w32 d) % 4294967296) ≡ int_wrap w32 (b +ℤ d) = search (rules, wraps) in
-    let regroup : (a +ℤ c) +ℤ (b +ℤ d) ≡ ((a +ℤ b) +ℤ c) +ℤ d = omega (arith, ints) in
-    added_bits ((of_z w32 a + of_z w32 c) % 4294967296) ((of_z w32 b + of_z w32 d) % 4294967296) (bits_below _) (bits_below _)
-    ∙ wrapped_both _ _ (a +ℤ c) (b +ℤ d) (again _ _ ac) (again _ _ bd) ∙ ap (int_wrap w32) regroup ∙ e
+    let ab : to_z w32 ((of_z w32 a + of_z w32 b) % 4294967296) ≡ int_wrap w32 (a +ℤ b) = search (rules, wraps) in
+    let cd : to_z w32 ((of_z w32 c + of_z w32 d) % 4294967296) ≡ int_wrap w32 (c +ℤ d) = search (rules, wraps) in
+    let regroup : (a +ℤ b) +ℤ (c +ℤ d) ≡ ((a +ℤ b) +ℤ c) +ℤ d = omega (arith, ints) in
+    added_bits ((of_z w32 a + of_z w32 b) % 4294967296) ((of_z w32 c + of_z w32 d) % 4294967296) (bits_below _) (bits_below _)
+    ∙ wrapped_both _ _ (a +ℤ b) (c +ℤ d) (again _ _ ab) (again _ _ cd) ∙ ap (int_wrap w32) regroup ∙ e
 
 abbrev summed : List ℤ → List ℤ → List ℤ → List ℤ → List ℤ
 summed a b c d =
@@ -268,34 +267,14 @@ kept_sums s t u v r e =
     ap (λ l. map (to_z w32) (map (of_z w32) l)) e
     ∙ rw (to_z-of_z w32 (int_wrap w32 s) fs, to_z-of_z w32 (int_wrap w32 t) ft, to_z-of_z w32 (int_wrap w32 u) fu, to_z-of_z w32 (int_wrap w32 v) fv)
 
-one_of_four : (wanted : ℕ → ℤ) (q : ℕ) → q < 4 → word_at (wanted 0 ∷ wanted 1 ∷ wanted 2 ∷ wanted 3 ∷ []) q ≡ wanted q
+pub one_of_four : (wanted : ℕ → ℤ) (q : ℕ) → q < 4 → word_at (wanted 0 ∷ wanted 1 ∷ wanted 2 ∷ wanted 3 ∷ []) q ≡ wanted q
 one_of_four wanted zero b = refl
 one_of_four wanted (suc zero) b = refl
 one_of_four wanted (suc (suc zero)) b = refl
 one_of_four wanted (suc (suc (suc zero))) b = refl
 one_of_four wanted (suc (suc (suc (suc q)))) b = absurd (omega arith)
 
--- eight words that were written four by four
-pub eight_written : (words : List ℤ) (at : ℕ) (wanted : ℕ → ℤ) (v w : List ℤ) → at + 8 ≤ length words
-    → v ≡ wanted 0 ∷ wanted 1 ∷ wanted 2 ∷ wanted 3 ∷ [] → w ≡ wanted 4 ∷ wanted 5 ∷ wanted 6 ∷ wanted 7 ∷ []
-    → (q : ℕ) → q < 8 → word_at (put_chunk (at + 4) (put_chunk at words v) w) (at + q) ≡ wanted q
-eight_written words at wanted v w room front back q b =
-    let lv : length v ≡ 4 = ap length front in
-    let lw : length w ≡ 4 = ap length back in
-    let same : length (put_chunk at words v) ≡ length words = length-put_chunk at words v in
-    elim (cases_lt q 4) [
-      | inl low ↦
-          get_or-put_chunk_below (at + 4) (put_chunk at words v) w (at + q) (pos 0) (omega arith)
-          ∙ get_or-put_chunk_at at words v q (pos 0) (omega arith) (omega arith) ∙ ap (λ l. word_at l q) front ∙ one_of_four wanted q low
-      | inr high ↦
-          let r = q - 4 in
-          let to : at + q ≡ at + 4 + r = omega arith in
-          let up : 4 + r ≡ q = omega arith in
-          ap (word_at (put_chunk (at + 4) (put_chunk at words v) w)) to
-          ∙ get_or-put_chunk_at (at + 4) (put_chunk at words v) w r (pos 0) (omega arith) (omega arith) ∙ ap (λ l. word_at l r) back
-          ∙ one_of_four (λ k. wanted (4 + k)) r (omega arith) ∙ ap wanted up
-    ]
-
-pub before_eight : (words : List ℤ) (at : ℕ) (v w : List ℤ) (k : ℕ) → k < at → word_at (put_chunk (at + 4) (put_chunk at words v) w) k ≡ word_at words k
-before_eight words at v w k b =
-    get_or-put_chunk_below (at + 4) (put_chunk at words v) w k (pos 0) (omega arith) ∙ get_or-put_chunk_below at words v k (pos 0) b
+-- one window's lanes, as they are kept, where its first word is written otherwise
+pub kept_window : (taps line lanes : List ℤ) (m from n : ℕ) → m ≡ from → IsSplit lanes (window_sum taps line m n)
+    → IsSplit (map (to_z w32) (map (of_z w32) lanes)) (window_sum taps line from n)
+kept_window taps line lanes m from n e is = kept lanes _ (subst (λ m. IsSplit lanes (window_sum taps line m n)) e is)

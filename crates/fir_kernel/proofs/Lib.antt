@@ -4,5 +4,6 @@ pub mod HalfSums
 pub mod Lanes
 pub mod Parts
 pub mod RingLemmas
+pub mod Rounding
 pub mod Sums
 pub mod Written

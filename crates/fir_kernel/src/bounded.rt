@@ -1,16 +1,15 @@
 //! The filter where no sum can saturate: plain sums, in whatever order the vector registers take the products. Each is half of the sum of the
 //! doubled products, and is rounded as such.
-ghost use Rattle.std.specs.Prelude.{◌≡◌, ◌↔◌, ◌<◌, ◌≤◌, ◌+◌, ◌-◌, ◌*◌, ◌%◌, ◌+ℤ◌, ◌*ℤ◌, ℕ, length, take, IsTrue};
+ghost use Rattle.std.specs.Prelude.{◌≡◌, ◌⊎◌, ◌↔◌, ◌<◌, ◌≤◌, ◌+◌, ◌-◌, ◌*◌, ◌%◌, ◌+ℤ◌, ◌*ℤ◌, ℕ, length, take, IsTrue};
 ghost use Rattle.std.specs.Int.{int_wrap, w32};
 ghost use Rattle.ialg.specs.History.{word_at};
 ghost use Rattle.fir_kernel.specs.Bounded.{product_sum, magnitude_sum, NoneLouder, IsBounded};
 ghost use Rattle.fir_kernel.specs.Sums.{filtered_at, AreOutputs, Reaches};
+ghost use Rattle.fir_kernel.specs.Windows.{AreRounded, HaveHalfSums};
 
-use crate::halves::round_halves;
-use crate::windows::{WINDOWS, read_words, sum_eight};
+use crate::windows::{WINDOWS, filter_groups, read_words};
 use crate::{GREATEST_MAGNITUDE, LEAST_UNBOUNDED_SUM, MOST_COEFFICIENTS};
 use basic_op::{half_round, product};
-use ialg::BLOCK_SAMPLES;
 
 /// How many products are summed at once: a loop of so many is unrolled into vector products.
 const LANES: usize = 32;
@@ -89,7 +88,7 @@ fn dot_turned(coefficients: &[i16], window: &[i16]) -> i32
 /// Runs the filter as [`filter`](crate::filter) does, where no sum can saturate over the samples up to `last`. There is
 /// no output for a later one. It is a call of its own, so that one output needs no room for arrays.
 #[inline(never)]
-pub(crate) fn filter_bounded<const N: usize>(
+pub(crate) fn filter_bounded(
     coefficients: &[i16],
     line: &[i16],
     first: usize,
@@ -100,8 +99,6 @@ pub(crate) fn filter_bounded<const N: usize>(
     requires some { 1 ≤ length coefficients.now }
     requires few { length coefficients.now ≤ MOST_COEFFICIENTS }
     requires reach { Reaches first step (length out.old) MOST_COEFFICIENTS line.now }
-    requires block { length out.old ≤ N }
-    requires arrays { N ≤ BLOCK_SAMPLES }
     requires last { (i : ℕ) → i < length out.old → first + step * i ≤ last }
     requires bounded { IsBounded coefficients.now (take (last + length coefficients.now) line.now) }
     ensures { AreOutputs coefficients.now line.now first step (length out.old) out.new }
@@ -109,10 +106,7 @@ pub(crate) fn filter_bounded<const N: usize>(
     let mut taps = [0; MOST_COEFFICIENTS];
     reverse(coefficients, &mut taps);
     let runs = if coefficients.len() <= LANES { 1 } else { 2 };
-    let mut block = [0; N];
-    let (sums, _unused) = block.split_at_mut(out.len());
-    sum_windows(&taps[..LANES * runs], line, first, step, sums);
-    round_halves(sums, out);
+    filter_windows(&taps[..LANES * runs], line, first, step, out);
 }
 
 /// Writes the coefficients into the first words of `taps`, the last one first.
@@ -127,24 +121,21 @@ fn reverse(coefficients: &[i16], taps: &mut [i16])
     }
 }
 
-/// The sums of the products of all taps with windows of the line: sum `i` is that of the window that begins at word
-/// `first + step * i`.
-fn sum_windows(taps: &[i16], line: &[i16], first: usize, step: usize, sums: &mut [i32])
-    requires whole { length taps.now % LANES ≡ 0 }
-    requires reach { Reaches first step (length sums.old) (length taps.now) line.now }
-    ensures { (i : ℕ) → i < length sums.old → word_at sums.new i ≡ int_wrap w32
-        (product_sum (word_at taps.now) (λ j. word_at line.now (first + step * i + j)) (length taps.now)) }
+/// Writes the outputs: each is the sum of the products of all taps with a window of the line, rounded; output `i` is that of the window that begins at
+/// word `first + step * i`. Those that make no whole group are made one by one.
+fn filter_windows(taps: &[i16], line: &[i16], first: usize, step: usize, out: &mut [i16])
+    requires size { (length taps.now ≡ LANES) ⊎ (length taps.now ≡ LANES * 2) }
+    requires reach { Reaches first step (length out.old) (length taps.now) line.now }
+    requires halves { HaveHalfSums taps.now line.now first step (length out.old) }
+    ensures { AreRounded taps.now line.now first step (length out.old) out.old out.new }
 {
     read_words(taps);
     read_words(line);
-    let groups = sums.len() / WINDOWS;
-    for group in 0..groups {
-        let at = WINDOWS * group;
-        sum_eight(taps, line, first + step * at, step, sums, at);
-    }
-    for i in WINDOWS * groups..sums.len() {
+    filter_groups(taps, line, first, step, out);
+    for i in WINDOWS * (out.len() / WINDOWS)..out.len() {
         let from = first + step * i;
-        sums[i] = dot(taps, &line[from..from + taps.len()]);
+        let sum = dot(taps, &line[from..from + taps.len()]);
+        out[i] = half_round(sum);
     }
 }
 

@@ -51,7 +51,7 @@ fn filter_within<const N: usize>(
         if out.len() == 1 {
             out[0] = output_bounded(coefficients, line, first);
         } else {
-            filter_bounded::<N>(coefficients, line, first, step, last, out);
+            filter_bounded(coefficients, line, first, step, last, out);
         }
     } else {
         let reach = &line[first..last + coefficients.len()];

@@ -1,108 +1,178 @@
-//! Sums of products with windows of a line, eight windows side by side in vector registers.
-ghost use Rattle.std.specs.Prelude.{◌≡◌, ◌<◌, ◌≤◌, ◌+◌, ◌*◌, ◌%◌, ◌+ℤ◌, ℕ, ℤ, [], ◌∷◌, length, FitsSigned};
+//! The filter over windows of a line, eight of them at a time: their sums of products are made and rounded in vector registers.
+ghost use Rattle.std.specs.Prelude.{◌≡◌, ◌⊎◌, ◌<◌, ◌≤◌, ◌+◌, ◌*◌, ◌/◌, ◌+ℤ◌, ℕ, ℤ, [], ◌∷◌, length, FitsSigned};
 ghost use Rattle.std.specs.Int.{int_wrap, w16, w32};
+ghost use Rattle.basic_op.specs.Halves.{half_of};
+ghost use Rattle.basic_op.specs.Operators.{round_of};
 ghost use Rattle.ialg.specs.History.{word_at};
-ghost use Rattle.fir_kernel.specs.Windows.{window_sum, HasWindows, IsSplit};
+ghost use Rattle.fir_kernel.specs.Sums.{Reaches};
+ghost use Rattle.fir_kernel.specs.Halves.{AreHalves};
+ghost use Rattle.fir_kernel.specs.Windows.{window_sum, HaveHalfSums, AreRounded, AreRoundedFrom, IsSplit};
 
 use std::simd::prelude::*;
 
-/// How many windows are summed at once: each load of taps serves so many.
+/// How many outputs are made at once.
 pub(crate) const WINDOWS: usize = 8;
 
 /// How many taps or samples a vector register has.
 const REGISTER: usize = 8;
 
-/// Writes the sums of the products of all taps with eight windows, from sum `at` on, each wrapped to 32 bits. The first window begins at word `first` of
-/// the line, and each other one `step` words behind the one before.
-pub(crate) fn sum_eight(
+/// How many registers have the taps of a short filter.
+const FEW_REGISTERS: usize = 4;
+
+/// How many registers have the taps of a long one.
+const MOST_REGISTERS: usize = 8;
+
+/// The bits by which half of a sum in Q31 is longer than a word in Q15.
+const LONGER_BITS: i32 = 15;
+
+/// Half of the least step of a word, in half a sum: what is added before it is cut to a word.
+const HALF_STEP: i32 = 1 << 14;
+
+/// The least word.
+const LEAST_WORD: i32 = -(1 << 15);
+
+/// The greatest word.
+const MOST_WORD: i32 = (1 << 15) - 1;
+
+/// Writes the outputs that are made by whole groups of eight: each is the sum of the products of all taps with a window, rounded. The first window begins
+/// at word `first` of the line, and each other one `step` words behind the one before. There are 32 taps or 64.
+pub(crate) fn filter_groups(taps: &[i16], line: &[i16], first: usize, step: usize, out: &mut [i16])
+    requires words { (k : ℕ) → FitsSigned w16 (word_at taps.now k) }
+    requires samples { (k : ℕ) → FitsSigned w16 (word_at line.now k) }
+    requires size { (length taps.now ≡ REGISTER * FEW_REGISTERS) ⊎ (length taps.now ≡ REGISTER * MOST_REGISTERS) }
+    requires reach { Reaches first step (length out.old) (length taps.now) line.now }
+    requires halves { HaveHalfSums taps.now line.now first step (length out.old) }
+    ensures { AreRounded taps.now line.now first step (WINDOWS * (length out.old / WINDOWS)) out.old out.new }
+{
+    let few = taps.len() == REGISTER * FEW_REGISTERS;
+    match (few, step) {
+        (true, 1) => filter_beside::<FEW_REGISTERS>(taps, line, first, out),
+        (true, _) => filter_apart::<FEW_REGISTERS>(taps, line, first, step, out),
+        (false, 1) => filter_beside::<MOST_REGISTERS>(taps, line, first, out),
+        (false, _) => filter_apart::<MOST_REGISTERS>(taps, line, first, step, out),
+    }
+}
+
+/// Writes the outputs of windows side by side. Where the step is known, no address but one is computed for eight windows; where the number of registers is, they have
+/// the taps of all eight.
+#[inline(never)]
+fn filter_beside<const REGISTERS: usize>(taps: &[i16], line: &[i16], first: usize, out: &mut [i16])
+    requires words { (k : ℕ) → FitsSigned w16 (word_at taps.now k) }
+    requires samples { (k : ℕ) → FitsSigned w16 (word_at line.now k) }
+    requires size { length taps.now ≡ REGISTER * REGISTERS }
+    requires reach { Reaches first 1 (length out.old) (length taps.now) line.now }
+    requires halves { HaveHalfSums taps.now line.now first 1 (length out.old) }
+    ensures { AreRounded taps.now line.now first 1 (WINDOWS * (length out.old / WINDOWS)) out.old out.new }
+{
+    filter_by_step::<REGISTERS>(taps, line, first, 1, out);
+}
+
+/// Writes the outputs of windows that are `step` words apart.
+#[inline(never)]
+fn filter_apart<const REGISTERS: usize>(
     taps: &[i16],
     line: &[i16],
     first: usize,
     step: usize,
-    sums: &mut [i32],
-    at: usize,
+    out: &mut [i16],
 )
     requires words { (k : ℕ) → FitsSigned w16 (word_at taps.now k) }
     requires samples { (k : ℕ) → FitsSigned w16 (word_at line.now k) }
-    requires whole { length taps.now % REGISTER ≡ 0 }
-    requires reach { first + step * 7 + length taps.now ≤ length line.now }
-    requires room { at + WINDOWS ≤ length sums.old }
-    ensures { HasWindows taps.now line.now first step at sums.old sums.new }
+    requires size { length taps.now ≡ REGISTER * REGISTERS }
+    requires reach { Reaches first step (length out.old) (length taps.now) line.now }
+    requires halves { HaveHalfSums taps.now line.now first step (length out.old) }
+    ensures { AreRounded taps.now line.now first step (WINDOWS * (length out.old / WINDOWS)) out.old out.new }
 {
-    match step {
-        1 => sum_every::<1>(taps, line, first, sums, at),
-        2 => sum_every::<2>(taps, line, first, sums, at),
-        4 => sum_every::<4>(taps, line, first, sums, at),
-        8 => sum_every::<8>(taps, line, first, sums, at),
-        _ => sum_apart(taps, line, first, step, sums, at),
-    }
+    filter_by_step::<REGISTERS>(taps, line, first, step, out);
 }
 
-/// Writes the sums of windows that are `STEP` words apart. It is a call of its own, and so is [`sum_apart`]: inlined, the compiler draws the loads of the
-/// taps out of the loop one by one. Where the step is known, no address but one is computed for the eight windows.
-#[inline(never)]
-fn sum_every<const STEP: usize>(
+/// Writes the outputs as [`filter_groups`] does.
+#[inline(always)]
+fn filter_by_step<const REGISTERS: usize>(
     taps: &[i16],
     line: &[i16],
     first: usize,
-    sums: &mut [i32],
+    step: usize,
+    out: &mut [i16],
+)
+    requires words { (k : ℕ) → FitsSigned w16 (word_at taps.now k) }
+    requires samples { (k : ℕ) → FitsSigned w16 (word_at line.now k) }
+    requires size { length taps.now ≡ REGISTER * REGISTERS }
+    requires reach { Reaches first step (length out.old) (length taps.now) line.now }
+    requires halves { HaveHalfSums taps.now line.now first step (length out.old) }
+    ensures { AreRounded taps.now line.now first step (WINDOWS * (length out.old / WINDOWS)) out.old out.new }
+{
+    for group in 0..out.len() / WINDOWS {
+        let at = WINDOWS * group;
+        filter_eight::<REGISTERS>(taps, line, first + step * at, step, out, at);
+    }
+}
+
+/// Writes eight outputs, from output `at` on. The first window begins at word `from` of the line.
+#[inline(always)]
+fn filter_eight<const REGISTERS: usize>(
+    taps: &[i16],
+    line: &[i16],
+    from: usize,
+    step: usize,
+    out: &mut [i16],
     at: usize,
 )
     requires words { (k : ℕ) → FitsSigned w16 (word_at taps.now k) }
     requires samples { (k : ℕ) → FitsSigned w16 (word_at line.now k) }
-    requires whole { length taps.now % REGISTER ≡ 0 }
-    requires reach { first + STEP * 7 + length taps.now ≤ length line.now }
-    requires room { at + WINDOWS ≤ length sums.old }
-    ensures { HasWindows taps.now line.now first STEP at sums.old sums.new }
+    requires size { length taps.now ≡ REGISTER * REGISTERS }
+    requires reach { from + step * 7 + length taps.now ≤ length line.now }
+    requires halves { HaveHalfSums taps.now line.now from step 8 }
+    requires room { at + WINDOWS ≤ length out.old }
+    ensures { AreRoundedFrom taps.now line.now from step at out.old out.new }
 {
-    sum_by_step(taps, line, first, STEP, sums, at);
+    let a = sum_window::<REGISTERS>(taps, line, from);
+    let b = sum_window::<REGISTERS>(taps, line, from + step);
+    let c = sum_window::<REGISTERS>(taps, line, from + step * 2);
+    let d = sum_window::<REGISTERS>(taps, line, from + step * 3);
+    let e = sum_window::<REGISTERS>(taps, line, from + step * 4);
+    let f = sum_window::<REGISTERS>(taps, line, from + step * 5);
+    let g = sum_window::<REGISTERS>(taps, line, from + step * 6);
+    let h = sum_window::<REGISTERS>(taps, line, from + step * 7);
+    let low = lane_sums(a, b, c, d);
+    let high = lane_sums(e, f, g, h);
+    round_eight(low, high).copy_to_slice(&mut out[at..]);
 }
 
-/// Writes the sums of windows that are `step` words apart.
-#[inline(never)]
-fn sum_apart(taps: &[i16], line: &[i16], first: usize, step: usize, sums: &mut [i32], at: usize)
-    requires words { (k : ℕ) → FitsSigned w16 (word_at taps.now k) }
-    requires samples { (k : ℕ) → FitsSigned w16 (word_at line.now k) }
-    requires whole { length taps.now % REGISTER ≡ 0 }
-    requires reach { first + step * 7 + length taps.now ≤ length line.now }
-    requires room { at + WINDOWS ≤ length sums.old }
-    ensures { HasWindows taps.now line.now first step at sums.old sums.new }
-{
-    sum_by_step(taps, line, first, step, sums, at);
-}
-
-/// Writes the sums as [`sum_eight`] does.
+/// The sum of the products of all taps with the window that begins at word `from` of the line, in lanes.
 #[inline(always)]
-fn sum_by_step(taps: &[i16], line: &[i16], first: usize, step: usize, sums: &mut [i32], at: usize)
+fn sum_window<const REGISTERS: usize>(taps: &[i16], line: &[i16], from: usize) -> i32x4
     requires words { (k : ℕ) → FitsSigned w16 (word_at taps.now k) }
     requires samples { (k : ℕ) → FitsSigned w16 (word_at line.now k) }
-    requires whole { length taps.now % REGISTER ≡ 0 }
-    requires reach { first + step * 7 + length taps.now ≤ length line.now }
-    requires room { at + WINDOWS ≤ length sums.old }
-    ensures { HasWindows taps.now line.now first step at sums.old sums.new }
+    requires size { length taps.now ≡ REGISTER * REGISTERS }
+    requires reach { from + length taps.now ≤ length line.now }
+    ensures { IsSplit result (window_sum taps.now line.now from (length taps.now)) }
 {
-    let mut a = i32x4::splat(0);
-    let mut b = i32x4::splat(0);
-    let mut c = i32x4::splat(0);
-    let mut d = i32x4::splat(0);
-    let mut e = i32x4::splat(0);
-    let mut f = i32x4::splat(0);
-    let mut g = i32x4::splat(0);
-    let mut h = i32x4::splat(0);
-    for run in 0..taps.len() / REGISTER {
-        let from = REGISTER * run;
-        let part = &taps[from..from + REGISTER];
-        a = add_products(a, part, line, first + from);
-        b = add_products(b, part, line, first + step + from);
-        c = add_products(c, part, line, first + step * 2 + from);
-        d = add_products(d, part, line, first + step * 3 + from);
-        e = add_products(e, part, line, first + step * 4 + from);
-        f = add_products(f, part, line, first + step * 5 + from);
-        g = add_products(g, part, line, first + step * 6 + from);
-        h = add_products(h, part, line, first + step * 7 + from);
+    let mut sums = i32x4::splat(0);
+    for register in 0..REGISTERS {
+        let on = REGISTER * register;
+        sums = add_products(sums, &taps[on..on + REGISTER], line, from + on);
     }
-    lane_sums(a, b, c, d).copy_to_slice(&mut sums[at..]);
-    lane_sums(e, f, g, h).copy_to_slice(&mut sums[at + 4..]);
+    sums
+}
+
+/// Eight halves of sums in Q31, each rounded to Q15: the compiler makes one instruction of the limits and the cut.
+#[inline(always)]
+fn round_eight(low: i32x4, high: i32x4) -> i16x8
+    requires low_four { length low ≡ 4 }
+    requires high_four { length high ≡ 4 }
+    requires low_halves { AreHalves low }
+    requires high_halves { AreHalves high }
+    ensures eight { length result ≡ 8 }
+    ensures low { (k : ℕ) (v : ℤ) → k < 4 → word_at low k ≡ half_of v → word_at result k ≡ round_of v }
+    ensures high { (k : ℕ) (v : ℤ) → k < 4 → word_at high k ≡ half_of v → word_at result (4 + k) ≡ round_of v }
+{
+    let halves: i32x8 = low.shuffle(high, [0, 1, 2, 3, 4, 5, 6, 7]);
+    let nearest = (halves + i32x8::splat(HALF_STEP)) >> i32x8::splat(LONGER_BITS);
+    nearest
+        .simd_max(i32x8::splat(LEAST_WORD))
+        .simd_min(i32x8::splat(MOST_WORD))
+        .cast::<i16>()
 }
 
 /// Reads all words. Nothing is left of it where the code is made.
@@ -137,10 +207,10 @@ fn lane_sums(a: i32x4, b: i32x4, c: i32x4, d: i32x4) -> i32x4
     ensures { (s t u v : ℤ) → IsSplit a s → IsSplit b t → IsSplit c u → IsSplit d v
         → result ≡ int_wrap w32 s ∷ int_wrap w32 t ∷ int_wrap w32 u ∷ int_wrap w32 v ∷ [] }
 {
-    let ab: i32x4 = a.shuffle(b, [0, 4, 1, 5]);
-    let ab = ab + a.shuffle(b, [2, 6, 3, 7]);
-    let cd: i32x4 = c.shuffle(d, [0, 4, 1, 5]);
-    let cd = cd + c.shuffle(d, [2, 6, 3, 7]);
-    let low: i32x4 = ab.shuffle(cd, [0, 1, 4, 5]);
-    low + ab.shuffle(cd, [2, 3, 6, 7])
+    let ab: i32x4 = a.shuffle(b, [0, 2, 4, 6]);
+    let ab = ab + a.shuffle(b, [1, 3, 5, 7]);
+    let cd: i32x4 = c.shuffle(d, [0, 2, 4, 6]);
+    let cd = cd + c.shuffle(d, [1, 3, 5, 7]);
+    let even: i32x4 = ab.shuffle(cd, [0, 2, 4, 6]);
+    even + ab.shuffle(cd, [1, 3, 5, 7])
 }

@@ -1,12 +1,10 @@
-use Rattle.std.proofs.Common.{◌≡◌, ◌≤◌, ◌*◌, ◌∙◌, pos, length, inl, inr, arith}
-use Rattle.std.proofs.lemmas.Bool.{cases_lt}
-use Rattle.std.proofs.lemmas.List.{get_or_past}
-use Rattle.fir_kernel.proofs.Bounding.{zeros_at, halves_by_taps}
+use Rattle.std.proofs.Common.{◌≡◌, ◌≤◌, ◌*◌, ◌+◌, ◌∙◌, length, arith}
+use Rattle.fir_kernel.proofs.Bounding.{zeros_at, half_of_window}
 use Rattle.fir_kernel.proofs.bounded.filter_bounded.Goals as goal
 use Rattle.fir_kernel.proofs.bounded.filter_bounded.Goals.{then-coefficients-le-LANES, else-coefficients-le-LANES}
 
-pub round_halves-requires-clause-halves : goal.round_halves-requires-clause-halves
-round_halves-requires-clause-halves g c k =
+pub filter_windows-requires-clause-halves : goal.filter_windows-requires-clause-halves
+filter_windows-requires-clause-halves c i b =
     let cs = c.args.coefficients.now in
     let taps = c.reverse.new.taps in
     let all : length taps ≡ 64 = c.reverse.auto.taps in
@@ -16,17 +14,14 @@ round_halves-requires-clause-halves g c k =
       | then-coefficients-le-LANES w ↦ (omega arith, omega arith)
       | else-coefficients-le-LANES w ↦ (omega arith, omega arith)
     ] in
-    let halves =
-    halves_by_taps cs c.args.line.now c.args.last c.requires.bounded taps m c.requires.some size
-    c.reverse.ensures.reversed (λ j h. c.reverse.ensures.rest j h ∙ zeros_at 64 j) c.sum_windows.new.sums c.args.first c.args.step (length c.args.out.now) c.requires.last
-    (λ j h. c.sum_windows.ensures j (omega arith)) in
-    elim (cases_lt k (length c.sum_windows.new.sums)) [
-      | inl b ↦ let h = (halves k (omega arith)).0 in omega arith
-      | inr b ↦ rw (get_or_past c.sum_windows.new.sums k (pos 0) b) (omega arith)
-    ]
+    let half =
+    half_of_window cs c.args.line.now c.args.last c.requires.bounded taps m c.requires.some size
+    c.reverse.ensures.reversed (λ j h. c.reverse.ensures.rest j h ∙ zeros_at 64 j) (c.args.first + c.args.step * i) (c.requires.last i b) in
+    let small = half.0 in
+    omega arith
 
 pub returns : goal.returns
-returns g c i b =
+returns c i b =
     let cs = c.args.coefficients.now in
     let taps = c.reverse.new.taps in
     let all : length taps ≡ 64 = c.reverse.auto.taps in
@@ -36,8 +31,7 @@ returns g c i b =
       | then-coefficients-le-LANES w ↦ (omega arith, omega arith)
       | else-coefficients-le-LANES w ↦ (omega arith, omega arith)
     ] in
-    let halves =
-    halves_by_taps cs c.args.line.now c.args.last c.requires.bounded taps m c.requires.some size
-    c.reverse.ensures.reversed (λ j h. c.reverse.ensures.rest j h ∙ zeros_at 64 j) c.sum_windows.new.sums c.args.first c.args.step (length c.args.out.now) c.requires.last
-    (λ j h. c.sum_windows.ensures j (omega arith)) in
-    c.round_halves.ensures i _ b (halves i b).1
+    let half =
+    half_of_window cs c.args.line.now c.args.last c.requires.bounded taps m c.requires.some size
+    c.reverse.ensures.reversed (λ j h. c.reverse.ensures.rest j h ∙ zeros_at 64 j) (c.args.first + c.args.step * i) (c.requires.last i b) in
+    c.filter_windows.ensures.rounded i _ b half.1
