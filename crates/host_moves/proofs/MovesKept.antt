@@ -1,5 +1,5 @@
 -- What a move leaves is kept.
-use Rattle.std.proofs.Common.{◌≡◌, ℕ, ℤ, Bool, true, false, List, Option, Some, None, is_some, refl, ap, sym, ◌∙◌, subst}
+use Rattle.std.proofs.Common.{◌≡◌, ℤ, Bool, true, false, List, Option, Some, None, is_some, refl, ap, sym, ◌∙◌, subst}
 use Rattle.mem_rec.specs.declared.Space.{Space}
 use Rattle.ialg.specs.Records.{ArePoison}
 use Rattle.ialg.specs.Laws.{Laws}

@@ -100,6 +100,22 @@ none_waits waits instances sharing groups n all waiting = record {
   active_known = waiting.active_known;
 }
 
+from_past : (waits : ℕ → Bool) (n n' j : ℕ) → n ≤ n' → ((l : ℕ) → n ≤ l → l < n' → waits l ≡ false) → all_from waits n j ≡ all_from waits n' j
+from_past waits n n' j behind none =
+    elim (ltb_tells j n) [
+      | inl e ↦ rw (e.0, lt-ltb j n' (omega (arith, e.1, behind))) refl
+      | inr e ↦ elim (ltb_tells j n') [
+        | inl f ↦ rw (e.0, f.0) (none j e.1 f.1)
+        | inr f ↦ rw (e.0, f.0) refl
+      ]
+    ]
+
+-- none of those that were passed over waits
+pub passed_over : {M : Type 0} (waits : ℕ → Bool) (instances : List (Option (Member M))) (sharing : List Locations) (groups : List Group) (n n' : ℕ) → n ≤ n' → ((l : ℕ) → n ≤ l → l < n' → waits l ≡ false)
+    → TablesWaiting (all_from waits n) instances sharing groups → TablesWaiting (all_from waits n') instances sharing groups
+passed_over waits instances sharing groups n n' behind none waiting =
+    waits_map (all_from waits n) (all_from waits n') instances sharing groups (λ j. from_past waits n n' j behind none) waiting
+
 module _ {M : Type 0} (i k n : ℕ) (instances : List (Option (Member M))) (sharing : List Locations) (groups : List Group) where
   pub but_this : (waits : ℕ → Bool) → TablesWaiting waits instances sharing groups → TablesWaitingBut waits n instances sharing groups
   but_this waits waiting = tables_map (IsWaiting waits) (IsWaitingBut waits n) instances sharing groups (λ j m o y h apart. h) waiting

@@ -10,7 +10,7 @@ ghost use Rattle.host_table.specs.Steps.{AreKept, AreConsistent, MembersStay, Al
 ghost use Rattle.host_table.specs.Frames.{InactiveGroupsStay, SameMembers};
 ghost use Rattle.host_moves.specs.Waiting.{own_set, all_but, all_from, holds_with, TablesThere, TablesBut, TablesWaiting, TablesWaitingBut};
 
-use host_shared::{borrow_pieces, give_back_pieces, owner};
+use host_shared::{borrow_pieces, give_back_pieces, next_with_owner};
 use host_table::Tables;
 use ialg::Ialg;
 use lifecycle::Inst;
@@ -83,9 +83,9 @@ pub fn call_moved_of_sharers<M: Ialg>(tables: &mut Tables<M>, i: u8, k: usize)
     ensures activity { SameActivities tables.old.groups tables.new.groups }
     ensures keeps { AllHistoriesStay M.law tables.old tables.new }
 {
-    for j in 0..INSTANCES {
-        if owner(&tables.sharing, j, k) == i as usize {
-            call_moved_of_sharer(tables, i, k, j as u8);
-        }
+    let mut j = next_with_owner(&tables.sharing, i, k, 0);
+    while j < INSTANCES {
+        call_moved_of_sharer(tables, i, k, j as u8);
+        j = next_with_owner(&tables.sharing, i, k, j + 1);
     }
 }

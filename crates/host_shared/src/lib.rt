@@ -12,7 +12,7 @@ mod tables;
 
 pub use joining::{Sharers, join};
 pub use locations::{
-    Location, Locations, borrow_pieces, end_absent, give_back_pieces, owner, sees,
+    Location, Locations, borrow_pieces, end_absent, give_back_pieces, next_with_owner, owner, sees,
 };
 pub use sharers::{hand_on, next_sharer};
 pub use tables::{empty_sharing, end_sharing};

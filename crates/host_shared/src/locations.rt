@@ -1,12 +1,13 @@
 //! Where the pieces of an instance's write-once records are.
-ghost use Rattle.std.specs.Prelude.{◌≡◌, ◌<◌, length, true, Option, None, is_some};
+ghost use Rattle.std.specs.Prelude.{◌≡◌, ◌≢◌, ◌<◌, ◌≤◌, ℕ, length, true, Option, None, is_some};
 ghost use Rattle.host_shared.specs.declared.locations.Location.TheVariants.{Here};
-ghost use Rattle.mem_rec.specs.declared.TheConstants.{TABLE_RECORDS};
+ghost use Rattle.mem_rec.specs.declared.TheConstants.{TABLE_RECORDS, INSTANCES};
 ghost use Rattle.record_loans.specs.Pieces.{piece_at};
 ghost use Rattle.host_shared.specs.Locations.{location_at, piece_here, pieces_here, locations_of, no_locations, locations_at, owner_of, piece_seen, shared_at, no_pieces};
 ghost use Rattle.host_shared.specs.Owners.{with_location, set_location, put_piece, with_pieces_of, HasOwner, HasOwners};
 ghost use Rattle.host_shared.specs.Sharing.{is_at};
 
+use mem_rec::INSTANCES;
 use record_loans::Pieces;
 use space_raw::{Piece, end_none};
 use std::mem;
@@ -131,6 +132,24 @@ pub fn owner(sharing: &Vec<Locations>, i: usize, k: usize) -> usize
         Location::Here(_) => i,
         Location::At(owner) => *owner as usize,
     }
+}
+
+/// The least number from `from` on of an instance whose record `k` has this owner: [`INSTANCES`] where there is none.
+#[inline(never)]
+pub fn next_with_owner(sharing: &Vec<Locations>, i: u8, k: usize, from: usize) -> usize
+    requires count { length sharing.now.items ≡ INSTANCES }
+    requires record { k < TABLE_RECORDS }
+    requires from { from ≤ INSTANCES }
+    ensures within { (from ≤ result) × (result ≤ INSTANCES) }
+    ensures passed { (j : ℕ) → from ≤ j → j < result → owner_of sharing.now.items j k ≢ i }
+    ensures found { result < INSTANCES → owner_of sharing.now.items result k ≡ i }
+{
+    for j in from..INSTANCES {
+        if owner(sharing, j, k) == i as usize {
+            return j;
+        }
+    }
+    INSTANCES
 }
 
 /// Replaces the location of record `k` of an instance; returns the old one.

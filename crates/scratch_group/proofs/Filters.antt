@@ -17,10 +17,11 @@ use Rattle.record_loans.specs.declared.pieces.Pieces.{Pieces}
 use Rattle.record_loans.specs.Pieces.{piece_words}
 use Rattle.record_loans.specs.Blocks.{block_words}
 use Rattle.scratch_group.specs.declared.group.Group.{Group}
-use Rattle.scratch_group.specs.Words.{is_filter, scratch_end, scratch_offset, record_words, active_words}
+use Rattle.scratch_group.specs.Words.{is_filter, scratch_end, scratch_offset, record_words, active_words, idle_record_words, idle_words}
 use Rattle.scratch_group.specs.Plans.{IsOfFilter}
 use Rattle.scratch_group.proofs.Ends.{next_end, scratch_end-suc, blank_at}
 use Rattle.scratch_group.proofs.Cutting.{first_end, object_words}
+use Rattle.ialg.proofs.Tables.{object_attr}
 
 none_at_0 : (al : ℕ) → next_multiple_of 0 al ≡ 0
 none_at_0 al = grind (arith, common_steps)
@@ -50,6 +51,23 @@ module _ (rs : List MemRec) (n : FilterSizes) (t : IsTrue (is_table rs)) (f : Is
 
   pub filter_lent : active_words rs own shared g ≡ filter_words n (piece_words own.p0) (piece_words own.p1) (block_words g.daram)
   filter_lent = rw (object_is, kept_is, running_is, none_is) refl
+
+module _ (rs : List MemRec) (n : FilterSizes) (t : IsTrue (is_table rs)) (f : IsOfFilter rs n) (own shared : Pieces) where
+  object_at_rest : idle_record_words rs own shared 0 ≡ take n.object (piece_words own.p0)
+  object_at_rest = rw (object_attr rs t, f.object) refl
+
+  kept_at_rest : idle_record_words rs own shared 1 ≡ take n.kept (piece_words own.p1)
+  kept_at_rest = rw (f.persistent, f.kept) refl
+
+  running_at_rest : idle_record_words rs own shared 2 ≡ []
+  running_at_rest = rw f.scratch refl
+
+  none_at_rest : idle_record_words rs own shared 3 ≡ []
+  none_at_rest = rw (blank_at rs 3 (let e = f.three in omega arith)) refl
+
+  -- the scratch record isn't lent to an idle one
+  pub filter_at_rest : idle_words rs own shared ≡ take n.object (piece_words own.p0) ∷ take n.kept (piece_words own.p1) ∷ [] ∷ [] ∷ []
+  filter_at_rest = rw (object_at_rest, kept_at_rest, running_at_rest, none_at_rest) refl
 
 persistent_is : (a : Attr) → is_persistent a ≡ true → a ≡ WriteOnce → ⊥
 persistent_is Scratch p e = cc

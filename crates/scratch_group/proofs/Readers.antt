@@ -1,7 +1,6 @@
 -- What is lent to a reader is each record's words.
 use Rattle.std.proofs.Common.{◌≡◌, ℕ, zero, suc, inl, inr, IsTrue, List, [], length, take, drop, refl, ap, sym, ◌∙◌, arith}
 use Rattle.mem_rec.specs.declared.MemRec.{MemRec}
-use Rattle.mem_rec.specs.declared.Attr.{Attr}
 use Rattle.mem_rec.specs.declared.Attr.TheVariants.{Scratch, Persist, WriteOnce}
 use Rattle.mem_rec.specs.Records.{is_table}
 use Rattle.ialg.specs.Records.{record_at}
@@ -12,7 +11,7 @@ use Rattle.record_loans.specs.Pieces.{piece_words}
 use Rattle.record_loans.specs.Blocks.{block_words}
 use Rattle.scratch_group.specs.declared.group.Group.{Group}
 use Rattle.scratch_group.specs.Blocks.{block_in}
-use Rattle.scratch_group.specs.Words.{scratch_offset, words_by, record_words, active_words}
+use Rattle.scratch_group.specs.Words.{scratch_offset, words_by, record_words, active_words, lasting_words_by, idle_record_words, idle_words}
 use Rattle.scratch_group.specs.Readers.{IsOfReader}
 use Rattle.scratch_group.proofs.Ends.{blank_at}
 use Rattle.ialg.proofs.Tables.{object_attr}
@@ -40,6 +39,30 @@ module _ (rs : List MemRec) (n : ReaderSizes) (t : IsTrue (is_table rs)) (f : Is
 
   pub reader_lent : active_words rs own shared g ≡ reader_words n (piece_words own.p0) (piece_words shared.p1)
   reader_lent = rw (object_is, once_is, third_is, last_is) refl
+
+module _ (rs : List MemRec) (n : ReaderSizes) (t : IsTrue (is_table rs)) (f : IsOfReader rs n) (own shared : Pieces) where
+  object_at_rest : idle_record_words rs own shared 0 ≡ take n.object (piece_words own.p0)
+  object_at_rest = rw (object_attr rs t, f.object) refl
+
+  once_at_rest : idle_record_words rs own shared 1 ≡ take n.once (piece_words shared.p1)
+  once_at_rest = elim (either 1 (length rs)) [
+    | inl there ↦
+        ap (λ a. lasting_words_by a (record_at rs 1).size (piece_words own.p1) (piece_words shared.p1)) (f.second there)
+        ∙ ap (λ k. take k (piece_words shared.p1)) f.once
+    | inr past ↦
+        let none : n.once ≡ 0 = sym f.once ∙ ap (λ (r : MemRec). r.size) (blank_at rs 1 past) in
+        rw (blank_at rs 1 past, none) refl
+  ]
+
+  third_at_rest : idle_record_words rs own shared 2 ≡ []
+  third_at_rest = rw (blank_at rs 2 (let e = f.few in omega (arith, e))) refl
+
+  last_at_rest : idle_record_words rs own shared 3 ≡ []
+  last_at_rest = rw (blank_at rs 3 (let e = f.few in omega (arith, e))) refl
+
+  -- an idle reader is lent what an active one is
+  pub reader_at_rest : idle_words rs own shared ≡ reader_words n (piece_words own.p0) (piece_words shared.p1)
+  reader_at_rest = rw (object_at_rest, once_at_rest, third_at_rest, last_at_rest) refl
 
 persistent_once : Persist ≡ WriteOnce → ⊥
 persistent_once e = cc

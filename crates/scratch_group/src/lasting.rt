@@ -1,12 +1,12 @@
 //! The records that last are lent to idle instances.
-ghost use Rattle.std.specs.Prelude.{◌≡◌};
-ghost use Rattle.record_loans.specs.Pieces.{SamePieces};
+ghost use Rattle.std.specs.Prelude.{◌≡◌, ◌≤◌, [], ◌∷◌, length, take};
+ghost use Rattle.record_loans.specs.Pieces.{piece_words, SamePieces};
 ghost use Rattle.scratch_group.specs.Words.{idle_words, HasPieces};
 
-use crate::plan::idle_plan;
-use ialg::{Lending, Step};
+use crate::plan::{filter_sizes, idle_plan, reader_sizes};
+use ialg::{Lending, Step, lend};
 use mem_rec::MemTab;
-use record_loans::{Pieces, PlannedLoan, lend_without_blocks};
+use record_loans::{FilterSizes, Pieces, PlannedLoan, lend_reader, lend_without_blocks};
 
 /// Performs the step with the records of an idle instance: its persistent records in its own pieces, and its write-once records in
 /// those that are lent to it. Write-once records may be written where `writable` says so.
@@ -24,15 +24,68 @@ pub fn lend_lasting<O, S: Step<O>>(
     ensures own { SamePieces own.old own.new }
     ensures shared { SamePieces shared.old shared.new }
 {
-    let plan = idle_plan(table);
     let lending = Lending {
         step,
         table,
         writable,
     };
-    let loan = PlannedLoan {
-        lending: &lending,
+    match filter_sizes(table) {
+        Some(sizes) => lend_filter_at_rest(&lending, sizes, own, out),
+        None => match reader_sizes(table) {
+            Some(sizes) => lend_reader(&lending, sizes, own, &mut shared.p1, out),
+            None => lend_lasting_by_plan(&lending, own, shared, out),
+        },
+    }
+}
+
+/// Performs the step as [`lend_lasting`] does, whatever the table.
+fn lend_lasting_by_plan<O, S: Step<O>>(
+    loan: &Lending<'_, S>,
+    own: &mut Pieces,
+    shared: &mut Pieces,
+    out: &mut O,
+)
+    requires can { S.can loan.now.step.now out.old }
+    requires sizes { HasPieces loan.now.table.now own.old shared.old }
+    ensures done { S.done loan.now.step.now loan.now.table.now loan.now.writable
+        (idle_words loan.now.table.now own.old shared.old) (idle_words loan.now.table.now own.new shared.new) out.old out.new }
+    ensures own { SamePieces own.old own.new }
+    ensures shared { SamePieces shared.old shared.new }
+{
+    let plan = idle_plan(loan.table);
+    let planned = PlannedLoan {
+        lending: loan,
         plan: &plan,
     };
-    lend_without_blocks(&loan, own, shared, out);
+    lend_without_blocks(&planned, own, shared, out);
+}
+
+/// Performs the step with the records of an idle filter, out of its own first two pieces: no other piece is looked at, and no plan made.
+#[inline(always)]
+fn lend_filter_at_rest<O, S: Step<O>>(
+    loan: &Lending<'_, S>,
+    sizes: FilterSizes,
+    own: &mut Pieces,
+    out: &mut O,
+)
+    requires can { S.can loan.now.step.now out.old }
+    requires object { sizes.object ≤ length (piece_words own.old.p0) }
+    requires kept { sizes.kept ≤ length (piece_words own.old.p1) }
+    requires some { 1 ≤ sizes.object × 1 ≤ sizes.kept }
+    ensures done { S.done loan.now.step.now loan.now.table.now loan.now.writable
+        (take sizes.object (piece_words own.old.p0) ∷ take sizes.kept (piece_words own.old.p1) ∷ [] ∷ [] ∷ [])
+        (take sizes.object (piece_words own.new.p0) ∷ take sizes.kept (piece_words own.new.p1) ∷ [] ∷ [] ∷ []) out.old out.new }
+    ensures own { SamePieces own.old own.new }
+{
+    match &mut own.p0 {
+        Some(object) => match &mut own.p1 {
+            Some(kept) => {
+                let (object, _rest) = object.words_mut().split_at_mut(sizes.object);
+                let (kept, _rest) = kept.words_mut().split_at_mut(sizes.kept);
+                lend(loan, object, kept, &mut [], &mut [], out);
+            }
+            None => unreachable!(),
+        },
+        None => unreachable!(),
+    }
 }

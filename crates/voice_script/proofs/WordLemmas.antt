@@ -1,9 +1,15 @@
 -- Words of a line.
-use Rattle.std.proofs.Common.{◌≡◌, ◌≢◌, ℕ, false, List, [], ◌∷◌, ◌++◌, length, eqb, cond, All, refl, ap, arith}
+use Rattle.std.proofs.Common.{◌≡◌, ◌≢◌, ◌≤◌, ◌<◌, ◌+◌, ◌-◌, ℕ, zero, suc, true, false, List, [], ◌∷◌, ◌++◌, length, take, drop, get_or, eqb, cond, All, inl, inr, refl, sym, ap, ◌∙◌, subst, arith}
+use Rattle.std.proofs.lemmas.Grind.{common_steps}
+use Rattle.std.proofs.Math.Nat.{eq-or-lt_of_le}
+use Rattle.std.proofs.lemmas.Bool.{and_parts}
+use Rattle.std.proofs.lemmas.List.Elements.{All-nil, All-cons}
+use Rattle.std.specs.List.{list_all}
+use Rattle.std.specs.Char.{is_ascii_digit}
 use Rattle.std.proofs.lemmas.Bool.Decides.{nat_tests}
 use Rattle.std.proofs.lemmas.List.Splits.{slice_split_at, slice_split_none}
 use Rattle.voice_script.specs.Script.{is_empty, without_return, is_blank, words_of}
-use Rattle.voice_script.specs.Readings.{IsNoBlank, PartsAtBlank}
+use Rattle.voice_script.specs.Readings.{IsNoBlank, PartsAtBlank, BeginsWithDigits}
 
 pub is_empty-length : (xs : List ℕ) → eqb (length xs) 0 ≡ is_empty xs
 is_empty-length [] = refl
@@ -31,3 +37,62 @@ words_of-parts line (w ∷ ws) after p =
 pub words_of-last : (line : List ℕ) → All IsNoBlank line → words_of line ≡ cond (is_empty line) [] (line ∷ [])
 words_of-last [] a = refl
 words_of-last (b ∷ bs) a = rw (slice_split_none is_blank (b ∷ bs) a) refl
+
+no_blank : (b : ℕ) → is_ascii_digit b ≡ true → is_blank b ≡ false
+no_blank b digit = grind (arith, nat_tests)
+
+no_blanks : (ds : List ℕ) → list_all is_ascii_digit ds ≡ true → All IsNoBlank ds
+no_blanks [] digits = All-nil IsNoBlank
+no_blanks (d ∷ ds) digits = All-cons IsNoBlank d ds (no_blank d (and_parts _ _ digits).0) (no_blanks ds (and_parts _ _ digits).1)
+
+some_first : (n : ℕ) (line : List ℕ) → 1 ≤ n → n ≤ length line → is_empty (take n line) ≡ false
+some_first zero line some within = absurd (omega arith)
+some_first (suc n) [] some within = absurd (omega arith)
+some_first (suc n) (b ∷ line) some within = refl
+
+parted : (n : ℕ) (line : List ℕ) → n < length line → line ≡ take n line ++ get_or line n 0 ∷ drop (n + 1) line
+parted n line within = grind (arith, common_steps)
+
+all_taken : (n : ℕ) (line : List ℕ) → n ≡ length line → take n line ≡ line
+all_taken n line e = grind (arith, common_steps)
+
+none_left : (n : ℕ) (line : List ℕ) → n ≡ length line → drop (n + 1) line ≡ []
+none_left n line e = grind (arith, common_steps)
+
+-- the first of the words is the line's first octets, where these have no blank and one follows, or the line ends
+words_of-front : (line : List ℕ) (n : ℕ) → 1 ≤ n → n ≤ length line → All IsNoBlank (take n line) → (n < length line → is_blank (get_or line n 0) ≡ true)
+    → words_of line ≡ take n line ∷ words_of (drop (n + 1) line)
+words_of-front line n some within none end = elim (eq-or-lt_of_le within) [
+  | inl whole ↦
+      let all = all_taken n line whole in
+      let text : is_empty line ≡ false = subst (λ w. is_empty w ≡ false) all (some_first n line some within) in
+      words_of-last line (subst (λ w. All IsNoBlank w) all none)
+      ∙ rw (text, none_left n line whole, all) refl
+  | inr inside ↦
+      words_of-parts line (take n line) (drop (n + 1) line)
+      (record { blank = get_or line n 0; is_blank = end inside; no_blanks = none; parts = parted n line inside })
+      ∙ rw (some_first n line some within) refl
+]
+
+-- the first of the words are the digits that the line begins with
+pub words_of-digits : (line : List ℕ) (n value : ℕ) → BeginsWithDigits line n value → words_of line ≡ take n line ∷ words_of (drop (n + 1) line)
+words_of-digits line n value b = words_of-front line n b.some b.within (no_blanks (take n line) b.digits) b.end
+
+behind_first : (b : ℕ) (line : List ℕ) → take (length (b ∷ line) - 1) (drop 1 (b ∷ line)) ≡ line
+behind_first b line = grind (arith, common_steps)
+
+more_taken : (b n : ℕ) (line : List ℕ) → take (n + 1) (b ∷ line) ≡ b ∷ take n line
+more_taken b n line = grind (arith, common_steps)
+
+more_read : (b n : ℕ) (line : List ℕ) → get_or (b ∷ line) (n + 1) 0 ≡ get_or line n 0
+more_read b n line = grind (arith, common_steps)
+
+-- the same, with a minus before the digits
+pub words_of-minus : (line : List ℕ) (n value : ℕ) → 1 ≤ length line → get_or line 0 0 ≡ 45 → BeginsWithDigits (take (length line - 1) (drop 1 line)) n value
+    → words_of line ≡ take (n + 1) line ∷ words_of (drop (n + 1 + 1) line)
+words_of-minus [] n value some minus digits = absurd (omega (arith, some))
+words_of-minus (b ∷ line) n value some minus digits =
+    let d : BeginsWithDigits line n value = subst (λ ds. BeginsWithDigits ds n value) (behind_first b line) digits in
+    let w = d.within in
+    words_of-front (b ∷ line) (n + 1) (omega arith) (omega (arith, w))
+    (subst (λ w. All IsNoBlank w) (sym (more_taken b n line)) (rw minus (All-cons IsNoBlank 45 (take n line) refl (no_blanks (take n line) d.digits)))) (λ inside. rw (more_read b n line) (d.end (omega (arith, inside))))

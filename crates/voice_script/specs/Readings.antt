@@ -1,6 +1,7 @@
 -- What the clauses of private functions alone name: a line as it is cut, and words as they are read one by one.
-use Rattle.std.specs.Prelude.{◌≡◌, ℕ, Bool, true, false, List, [], ◌∷◌, ◌++◌, All, ℤ, pos, neg_ℤ, ◌≤ℤ◌, ◌<ℤ◌, Option, Some, None, Result, Ok, Err, if◌then◌else◌}
+use Rattle.std.specs.Prelude.{◌≡◌, ◌≤◌, ◌<◌, ℕ, length, take, slice_index_or, Bool, true, false, List, [], ◌∷◌, ◌++◌, All, ℤ, pos, neg_ℤ, ◌≤ℤ◌, ◌<ℤ◌, Option, Some, None, Result, Ok, Err, if◌then◌else◌}
 use Rattle.std.specs.List.{list_all}
+use Rattle.std.specs.Char.{is_ascii_digit}
 use Rattle.ialg.specs.declared.refusal.Refusal.{Refusal}
 use Rattle.ialg.specs.declared.refusal.Refusal.TheVariants.{Range, Syntax}
 use Rattle.voice_script.specs.Script as script
@@ -26,6 +27,15 @@ pub record Limits (z n : ℤ) : Type 0 where
   pub within : neg_ℤ (pos GREATEST_MAGNITUDE) ≤ℤ z → z ≤ℤ pos GREATEST_MAGNITUDE → n ≡ z
   pub below : z <ℤ neg_ℤ (pos GREATEST_MAGNITUDE) → n ≡ neg_ℤ (pos GREATEST_MAGNITUDE)
   pub above : pos GREATEST_MAGNITUDE <ℤ z → n ≡ pos GREATEST_MAGNITUDE
+
+-- the line begins with so many digits, which are a word, and have this value
+pub record BeginsWithDigits (line : List ℕ) (count value : ℕ) : Type 0 where
+  pub some : 1 ≤ count
+  pub within : count ≤ length line
+  pub digits : list_all is_ascii_digit (take count line) ≡ true
+  pub valued : value ≡ script.digits_value (take count line)
+  pub most : value ≤ GREATEST_MAGNITUDE
+  pub end : count < length line → script.is_blank (slice_index_or line count 0) ≡ true
 
 abbrev pub begins_with_number : List (List ℕ) → Bool
 begins_with_number [] = false

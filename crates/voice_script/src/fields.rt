@@ -1,5 +1,5 @@
 //! The words of a row, by what each stands for.
-ghost use Rattle.std.specs.Prelude.{◌≡◌, Ok, Err, true, false, ◌&&◌, ◌++◌, ◌∷◌, [], nat_lt, length, map, IfOk, IfErr, IsOk, is_ok, IsErr};
+ghost use Rattle.std.specs.Prelude.{◌≡◌, Ok, Err, true, false, ◌&&◌, ◌+◌, ◌++◌, ◌∷◌, [], ◌≤◌, nat_le, nat_lt, length, map, IfOk, IfErr, IsOk, is_ok, IsErr};
 ghost use Rattle.std.specs.List.{list_all};
 ghost use Rattle.voice_script.specs.Script.{is_number, value_of, natural, fits_byte, fits_word, fit_words, fit_members, only_number, only_space, space_named};
 ghost use Rattle.voice_script.specs.Readings.{begins_with_number, kind_first, at_end, to_come, why_unfit};
@@ -75,6 +75,23 @@ impl<'a> Words<'a> {
         M::of_name(word).ok_or(Refusal::Syntax)
     }
 
+    /// The words that are left as far as each is a number behind one blank, as parameters, in place of what `room` held: false where one is out of
+    /// its range or there are too many. Those behind it are still to come.
+    fn leading_parameters(&mut self, room: &mut Params) -> bool
+        ensures few { length room.new.items ≤ PARAMETER_WORDS }
+        ensures numbers { list_all is_number (to_come self.old) ≡ list_all is_number (to_come self.new) }
+        ensures fits { fit_words (to_come self.old) ≡ (result && (nat_le (length room.new.items + length (to_come self.new)) PARAMETER_WORDS && list_all fits_word (to_come self.new))) }
+        ensures values { result ≡ true → map value_of (to_come self.old) ≡ room.new.items ++ map value_of (to_come self.new) }
+    {
+        room.clear();
+        while let Some(number) = self.leading_number() {
+            if !keep(room, number) {
+                return false;
+            }
+        }
+        true
+    }
+
     /// All words that are left, as parameters, in place of what `room` held: `syntax` where one is no number, and else `range` where
     /// one is out of its range or there are too many.
     pub(crate) fn parameters(self, room: &mut Params) -> Result<(), Refusal>
@@ -82,9 +99,9 @@ impl<'a> Words<'a> {
         ensures value { IsOk result → room.new.items ≡ map value_of (to_come self.entry) }
         ensures refusal { IfErr result (λ refusal. refusal ≡ why_unfit (to_come self.entry)) }
     {
-        room.clear();
-        let mut fit = true;
-        for word in self {
+        let mut words = self;
+        let mut fit = words.leading_parameters(room);
+        for word in words {
             let Some(number) = Number::of(word) else {
                 return Err(Refusal::Syntax);
             };

@@ -1,10 +1,11 @@
 //! Words that are numbers, and their ranges.
-ghost use Rattle.std.specs.Prelude.{◌≡◌, min, MatchOption, IfOk, IfErr, is_ok, false, true};
-ghost use Rattle.voice_script.specs.Script.{is_digits, digits_value, is_number, value_of};
-ghost use Rattle.voice_script.specs.Readings.{Limits};
+ghost use Rattle.std.specs.Prelude.{◌≡◌, ◌≤◌, ◌<◌, ◌+◌, ◌∷◌, length, take, drop, min, MatchOption, IfSome, IfOk, IfErr, is_ok, false, true};
+ghost use Rattle.voice_script.specs.Script.{is_digits, digits_value, is_number, value_of, words_of};
+ghost use Rattle.voice_script.specs.Readings.{Limits, BeginsWithDigits};
 
 use crate::limits::{FEED_SAMPLES, GREATEST_MAGNITUDE};
 use crate::samples::FeedSamples;
+use crate::words::is_blank;
 use ialg::Refusal;
 
 /// The value of one or more decimal digits, as far as the greatest magnitude. None for everything else.
@@ -36,6 +37,32 @@ pub fn value_of(word: &[u8]) -> Option<i32>
     }
 }
 
+/// How many digits a line begins with, and their value, where they are a word: a blank stands behind them, or the line ends. None for every other
+/// line, and where the value is beyond the greatest magnitude.
+fn leading_digits(line: &[u8]) -> Option<(usize, u32)>
+    ensures { IfSome result (λ digits. BeginsWithDigits line.now digits.0 digits.1) }
+{
+    let mut value = 0;
+    for (count, octet) in line.iter().enumerate() {
+        if !octet.is_ascii_digit() {
+            return if count > 0 && is_blank(*octet) {
+                Some((count, value))
+            } else {
+                None
+            };
+        }
+        value = 10 * value + u32::from(octet.saturating_sub(b'0'));
+        if value > GREATEST_MAGNITUDE {
+            return None;
+        }
+    }
+    if line.is_empty() {
+        None
+    } else {
+        Some((line.len(), value))
+    }
+}
+
 /// A word that is a number, with its value as far as the greatest magnitude.
 #[derive(Clone, Copy)]
 pub(crate) struct Number<'a> {
@@ -55,6 +82,44 @@ impl<'a> Number<'a> {
         match value_of(word) {
             Some(value) => Some(Number { word, value }),
             None => None,
+        }
+    }
+
+    /// The first so many octets of a line as a number of this value, and what stands behind the one after them.
+    fn part(line: &'a [u8], end: usize, value: i32) -> (Number<'a>, &'a [u8])
+        requires within { end ≤ length line.now }
+        requires numeric { is_number (take end line.now) ≡ true }
+        requires limits { Limits (value_of (take end line.now)) value }
+        ensures word { result.0.word.now ≡ take end line.now }
+        ensures after { result.1.now ≡ drop (end + 1) line.now }
+    {
+        let number = Number {
+            word: &line[..end],
+            value,
+        };
+        let after = if end < line.len() {
+            &line[end + 1..]
+        } else {
+            &line[end..]
+        };
+        (number, after)
+    }
+
+    /// The number that a line begins with, where it is a word, and what stands behind the blank that follows it. None for every other line, and
+    /// for a number beyond the greatest magnitude.
+    pub(crate) fn leading(line: &'a [u8]) -> Option<(Number<'a>, &'a [u8])>
+        ensures word { IfSome result (λ parts. words_of line.now ≡ parts.0.word.now ∷ words_of parts.1.now) }
+        ensures shorter { IfSome result (λ parts. length parts.1.now < length line.now) }
+    {
+        match line {
+            [b'-', digits @ ..] => {
+                let (count, magnitude) = leading_digits(digits)?;
+                Some(Number::part(line, count + 1, -(magnitude as i32)))
+            }
+            _ => {
+                let (count, magnitude) = leading_digits(line)?;
+                Some(Number::part(line, count, magnitude as i32))
+            }
         }
     }
 

@@ -1,8 +1,10 @@
 //! The words of a line.
-ghost use Rattle.std.specs.Prelude.{◌≡◌, length, All, MatchOption};
+ghost use Rattle.std.specs.Prelude.{◌≡◌, ◌<◌, ◌∷◌, length, All, MatchOption, IsSome, IfSome, IfNone};
 ghost use Rattle.std.specs.Iterator.{YieldsFirstRef, item_count};
 ghost use Rattle.voice_script.specs.Script.{without_return, is_blank};
 ghost use Rattle.voice_script.specs.Readings.{IsNoBlank, PartsAtBlank, to_come};
+
+use crate::numbers::Number;
 
 /// The line less one carriage return at its end.
 fn without_return(line: &[u8]) -> &[u8]
@@ -14,7 +16,7 @@ fn without_return(line: &[u8]) -> &[u8]
     if *last == b'\r' { text } else { line }
 }
 
-fn is_blank(octet: u8) -> bool
+pub(crate) fn is_blank(octet: u8) -> bool
     ensures { result ≡ is_blank octet }
 {
     octet == b' ' || octet == b'\t'
@@ -46,6 +48,18 @@ impl<'a> Words<'a> {
         Words {
             line: without_return(line),
         }
+    }
+
+    /// The next word, where the rest of the line begins with it and it is a number that isn't beyond the greatest magnitude. Otherwise None, and
+    /// nothing is read.
+    pub(crate) fn leading_number(&mut self) -> Option<Number<'a>>
+        ensures number { IfSome result (λ number. to_come self.old ≡ number.word.now ∷ to_come self.new) }
+        ensures shorter { IsSome result → length self.new.line.now < length self.old.line.now }
+        ensures none { IfNone result (self.new ≡ self.old) }
+    {
+        let (number, after) = Number::leading(self.line)?;
+        self.line = after;
+        Some(number)
     }
 }
 

@@ -1,4 +1,4 @@
-use Rattle.std.proofs.Common.{◌≡◌, is_some, sym, ◌∙◌, ap}
+use Rattle.std.proofs.Common.{is_some, sym, ◌∙◌, ap}
 use Rattle.std.proofs.lemmas.Bool.{true≢false, eq-eqb}
 use Rattle.host_moves.specs.Waiting.{all_from, holds_with}
 use Rattle.host_moves.proofs.Sharing.{none_back, from_here, but_this, nobody_told, next_told}

@@ -1,5 +1,7 @@
-use Rattle.std.proofs.Common.{◌≡◌, ℕ, ℤ, Option}
+use Rattle.std.proofs.Common.{◌≡◌, ◌≤◌, ◌<◌, ◌-◌, ℕ, ℤ, Option}
 use Rattle.ialg.specs.History.{History}
+use Rattle.mem_rec.specs.declared.TheConstants.{INSTANCES}
+use Rattle.host_shared.specs.Locations.{owner_of}
 use Rattle.host_table.specs.Table.{activity_at}
 use Rattle.host_table.specs.Keeps.{Keeps}
 use Rattle.host_table.specs.Frames.{InactiveGroupsStay, SameMembers}
@@ -8,6 +10,8 @@ use Rattle.host_moves.proofs.told.call_moved_of_sharers.Given as goal
 
 abbrev pub invariant-loop-j : goal.invariant-loop-j
 invariant-loop-j g l = record {
+  within : l.j ≤ INSTANCES;
+  found : l.j < INSTANCES → owner_of l.tables.sharing l.j l.k ≡ l.i;
   waiting : TablesWaiting (all_from (holds_with l.tables.sharing l.i l.k) l.j) l.tables.instances l.tables.sharing l.tables.groups;
   inactive : InactiveGroupsStay l.fn.tables.groups l.tables.groups;
   same : SameMembers l.fn.tables.instances l.fn.tables.sharing l.fn.tables.groups l.tables.instances l.tables.sharing l.tables.groups;
@@ -15,3 +19,6 @@ invariant-loop-j g l = record {
   keeps : (w : Option ℤ) (histories : ℕ → History) → Keeps g.M.Ialg.law w l.fn.tables.instances l.fn.tables.sharing l.fn.tables.groups histories
       → Keeps g.M.Ialg.law w l.tables.instances l.tables.sharing l.tables.groups histories;
 }
+
+abbrev pub decreases-loop-j : goal.decreases-loop-j
+decreases-loop-j g l = INSTANCES - l.j

@@ -1,16 +1,16 @@
-use Rattle.scratch_group.proofs.Cutting.{idle_lent, idle_fits}
+use Rattle.record_loans.specs.declared.pieces.Pieces.{Pieces}
+use Rattle.scratch_group.proofs.Filters.{filter_at_rest}
+use Rattle.scratch_group.proofs.Readers.{reader_at_rest}
 use Rattle.scratch_group.proofs.lasting.lend_lasting.Goals as goal
 
-pub lend_without_blocks-requires-clause-fit : goal.lend_without_blocks-requires-clause-fit
-lend_without_blocks-requires-clause-fit g c =
-    idle_fits c.args.table.now c.idle_plan-plan.result c.args.own.now c.args.shared.now
-    c.idle_plan-plan.ensures.value c.idle_plan-plan.ensures.table c.requires.sizes
+pub returns-in-Some-clause-done : goal.returns-in-Some-clause-done
+returns-in-Some-clause-done g c =
+    let lent = filter_at_rest c.args.table.now c.in-Some.sizes c.in-Some.ensures.table c.in-Some.ensures.sizes in
+    rw (lent c.args.own.now c.args.shared.now, lent c.lend_filter_at_rest.new.own c.args.shared.now) c.lend_filter_at_rest.ensures.done
 
-pub returns-clause-done : goal.returns-clause-done
-returns-clause-done g c =
-    let plan = c.idle_plan-plan.result in
-    let value = c.idle_plan-plan.ensures.value in
-    let valid = c.idle_plan-plan.ensures.table in
-    let before = idle_lent c.args.table.now plan c.args.own.now c.args.shared.now value valid in
-    let after = idle_lent c.args.table.now plan c.lend_without_blocks.new.own c.lend_without_blocks.new.shared value valid in
-    rw (← before, ← after) c.lend_without_blocks.ensures.done
+pub returns-in-Some-reader_sizes-clause-done : goal.returns-in-Some-reader_sizes-clause-done
+returns-in-Some-reader_sizes-clause-done g c =
+    let reader = c.in-Some-reader_sizes in
+    let lent = reader_at_rest c.args.table.now reader.sizes reader.ensures.table reader.ensures.sizes in
+    let shared : Pieces = c.args.shared.now in
+    rw (lent c.args.own.now shared, lent c.lend_reader.new.own (record shared { p1 = c.lend_reader.new.once })) c.lend_reader.ensures.done
