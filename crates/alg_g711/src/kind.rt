@@ -63,6 +63,7 @@ impl Ialg for G711 {
 
     fn alg_activate(&self, _mem: &mut Lent<'_>) {}
 
+    #[inline(always)]
     fn process(&self, mem: &mut Lent<'_>, input: &[i16], out: &mut Block) {
         run(mem, input, out);
     }
@@ -145,6 +146,7 @@ fn fill(law: Law, mem: &mut Lent<'_>)
 }
 
 /// Gives out one word for each word of the block.
+#[inline(always)]
 fn run(mem: &Lent<'_>, input: &[i16], out: &mut Block)
     requires within { length input.now ≤ BLOCK_SAMPLES }
     requires empty { out.old.items ≡ [] }
@@ -176,6 +178,7 @@ fn encode_block(law: Law, input: &[i16], out: &mut Block)
 }
 
 /// Gives out the samples of the codes, by the samples that `mem` has.
+#[inline(always)]
 fn decode_block(mem: &Lent<'_>, input: &[i16], out: &mut Block)
     requires within { length input.now ≤ BLOCK_SAMPLES }
     requires empty { out.old.items ≡ [] }

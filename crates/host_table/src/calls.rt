@@ -47,7 +47,9 @@ fn run_sharing<M: Ialg>(
 }
 
 /// Gives a reader, which is active, a block of samples, as [`run_sharing`] does. The one piece that it may be lent stays at its owner.
-#[inline(never)]
+///
+/// Inlined, since its work at one sample is less than the call.
+#[inline(always)]
 fn run_reading<M: Ialg>(
     active: &mut Active<M>,
     sizes: ReaderSizes,

@@ -69,6 +69,7 @@ impl<A: Ialg, B: Ialg> Ialg for Or<A, B> {
         }
     }
 
+    #[inline(always)]
     fn process(&self, mem: &mut Lent<'_>, input: &[i16], out: &mut Block) {
         match self {
             Or::First(kind) => kind.process(mem, input, out),

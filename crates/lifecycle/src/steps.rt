@@ -53,6 +53,7 @@ impl<M: Ialg> Step<Block> for Process<'_, M> {
 
     ghost done = { λ s rs writable old new o n. StaysOnce rs writable old new × HasRun M.law s.kind s.input.now rs writable old new n.items × (length n.items ≤ length s.input.now) };
 
+    #[inline(always)]
     fn perform(&self, mem: &mut Lent<'_>, out: &mut Block) {
         self.kind.process(mem, self.input, out);
     }
@@ -70,6 +71,7 @@ impl<M: Ialg> Step<Block> for ActivateAndProcess<'_, M> {
 
     ghost done = { λ s rs writable old new o n. StaysOnce rs writable old new × ActivatedAndRan M.law s.kind s.input.now rs writable old new n.items × (length n.items ≤ length s.input.now) };
 
+    #[inline(always)]
     fn perform(&self, mem: &mut Lent<'_>, out: &mut Block) {
         let kind = &self.kind;
         kind.alg_activate(mem);

@@ -95,6 +95,7 @@ impl Ialg for Voice {
         }
     }
 
+    #[inline(always)]
     fn process(&self, mem: &mut Lent<'_>, input: &[i16], out: &mut Block) {
         match self {
             Voice::Fir => Fir.process(mem, input, out),
