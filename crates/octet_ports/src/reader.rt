@@ -9,6 +9,7 @@ ghost use Rattle.octet_ports.specs.Readers.{BeginsWith, LineTaken, OctetCame, En
 use crate::LINE_FEED;
 use crate::port::PortIn;
 use arrayvec::ArrayVec;
+use memchr::memchr;
 use std::marker::Model;
 
 /// How a line was read.
@@ -226,10 +227,6 @@ impl LineReader {
 fn first_line(octets: &[u8]) -> Option<&[u8]>
     ensures { MatchOption result (All IsNoFeed octets.now) (λ line. BeginsWith line.now octets.now) }
 {
-    for (end, octet) in octets.iter().enumerate() {
-        if *octet == LINE_FEED {
-            return Some(&octets[..end]);
-        }
-    }
-    None
+    let end = memchr(LINE_FEED, octets)?;
+    Some(&octets[..end])
 }

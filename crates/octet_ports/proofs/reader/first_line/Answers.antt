@@ -1,10 +1,14 @@
-use Rattle.std.proofs.Common.{◌∙◌, sym, arith}
-use Rattle.std.proofs.lemmas.Grind.{get_or_default_zero}
+use Rattle.std.proofs.Common.{ℕ, ◌≡◌, ◌<◌, arith, get_or}
+use Rattle.octet_ports.specs.Lines.{IsNoFeed}
 use Rattle.octet_ports.proofs.Ahead.{begins_at}
 use Rattle.octet_ports.proofs.reader.first_line.Goals as goal
 
-pub returns-then-octet-eq-LINE_FEED : goal.returns-then-octet-eq-LINE_FEED
-returns-then-octet-eq-LINE_FEED c = begins_at c.args.octets.now c.loop-end.end (omega arith) c.if-octet-eq-LINE_FEED.true c.loop-end.invariant
-
 pub returns : goal.returns
-returns c k d inside is = c.loop-end.invariant k (omega (arith, inside)) (sym (get_or_default_zero c.args.octets.now k d inside) ∙ is)
+returns c =
+    let xs = c.args.octets.now in
+    let n = c.in_ok-end.end in
+    let found = c.in_ok-end.ensures in
+    let is = found.1 in
+    let feed : get_or xs n 0 ≡ 10 = grind (arith, is) in
+    let before : (k : ℕ) → k < n → IsNoFeed (get_or xs k 0) = λ k less feeds. found.0.before k (omega arith) less (grind (arith, feeds)) in
+    begins_at xs n found.0.high feed before
