@@ -1,5 +1,5 @@
 -- Sums of windows in vectors of four lanes, and rounded: private clauses alone need this.
-use Rattle.std.specs.Prelude.{ℕ, ℤ, List, ◌≡◌, ◌<◌, ◌≤◌, ◌+◌, ◌*◌, ◌^◌, ◌+ℤ◌, length, unsigned_abs, FitsSigned}
+use Rattle.std.specs.Prelude.{ℕ, ℤ, List, ◌≡◌, ◌<◌, ◌≤◌, ◌+◌, ◌*◌, ◌/◌, ◌^◌, ◌+ℤ◌, length, unsigned_abs, FitsSigned}
 use Rattle.std.specs.Int.{int_wrap, w32}
 use Rattle.basic_op.specs.Halves.{half_of}
 use Rattle.basic_op.specs.Operators.{round_of}
@@ -28,6 +28,10 @@ HaveHalfSums taps line first step n = (i : ℕ) → i < n → unsigned_abs (wrap
 pub record AreRounded (taps line : List ℤ) (first step n : ℕ) (old new : List ℤ) : Type 0 where
   pub size : length new ≡ length old
   pub rounded : (i : ℕ) (v : ℤ) → i < n → wrapped_sum taps line (first + step * i) ≡ half_of v → word_at new i ≡ round_of v
+
+-- how many of n outputs are made by whole groups of eight
+abbrev pub in_groups : ℕ → ℕ
+in_groups n = 8 * (n / 8)
 
 -- so are eight outputs from place `at` on; those before stay
 pub record AreRoundedFrom (taps line : List ℤ) (from step at : ℕ) (old new : List ℤ) : Type 0 where

@@ -1,12 +1,12 @@
 //! The filter over windows of a line, eight of them at a time: their sums of products are made and rounded in vector registers.
-ghost use Rattle.std.specs.Prelude.{◌≡◌, ◌⊎◌, ◌<◌, ◌≤◌, ◌+◌, ◌*◌, ◌/◌, ◌+ℤ◌, ℕ, ℤ, [], ◌∷◌, length, FitsSigned};
+ghost use Rattle.std.specs.Prelude.{◌≡◌, ◌⊎◌, ◌<◌, ◌≤◌, ◌+◌, ◌*◌, ◌+ℤ◌, ℕ, ℤ, [], ◌∷◌, length, FitsSigned};
 ghost use Rattle.std.specs.Int.{int_wrap, w16, w32};
 ghost use Rattle.basic_op.specs.Halves.{half_of};
 ghost use Rattle.basic_op.specs.Operators.{round_of};
 ghost use Rattle.ialg.specs.History.{word_at};
 ghost use Rattle.fir_kernel.specs.Sums.{Reaches};
 ghost use Rattle.fir_kernel.specs.Halves.{AreHalves};
-ghost use Rattle.fir_kernel.specs.Windows.{window_sum, HaveHalfSums, AreRounded, AreRoundedFrom, IsSplit};
+ghost use Rattle.fir_kernel.specs.Windows.{window_sum, in_groups, HaveHalfSums, AreRounded, AreRoundedFrom, IsSplit};
 
 use std::simd::prelude::*;
 
@@ -42,7 +42,7 @@ pub(crate) fn filter_groups(taps: &[i16], line: &[i16], first: usize, step: usiz
     requires size { (length taps.now ≡ REGISTER * FEW_REGISTERS) ⊎ (length taps.now ≡ REGISTER * MOST_REGISTERS) }
     requires reach { Reaches first step (length out.old) (length taps.now) line.now }
     requires halves { HaveHalfSums taps.now line.now first step (length out.old) }
-    ensures { AreRounded taps.now line.now first step (WINDOWS * (length out.old / WINDOWS)) out.old out.new }
+    ensures { AreRounded taps.now line.now first step (in_groups (length out.old)) out.old out.new }
 {
     let few = taps.len() == REGISTER * FEW_REGISTERS;
     match (few, step) {
@@ -62,7 +62,7 @@ fn filter_beside<const REGISTERS: usize>(taps: &[i16], line: &[i16], first: usiz
     requires size { length taps.now ≡ REGISTER * REGISTERS }
     requires reach { Reaches first 1 (length out.old) (length taps.now) line.now }
     requires halves { HaveHalfSums taps.now line.now first 1 (length out.old) }
-    ensures { AreRounded taps.now line.now first 1 (WINDOWS * (length out.old / WINDOWS)) out.old out.new }
+    ensures { AreRounded taps.now line.now first 1 (in_groups (length out.old)) out.old out.new }
 {
     filter_by_step::<REGISTERS>(taps, line, first, 1, out);
 }
@@ -81,7 +81,7 @@ fn filter_apart<const REGISTERS: usize>(
     requires size { length taps.now ≡ REGISTER * REGISTERS }
     requires reach { Reaches first step (length out.old) (length taps.now) line.now }
     requires halves { HaveHalfSums taps.now line.now first step (length out.old) }
-    ensures { AreRounded taps.now line.now first step (WINDOWS * (length out.old / WINDOWS)) out.old out.new }
+    ensures { AreRounded taps.now line.now first step (in_groups (length out.old)) out.old out.new }
 {
     filter_by_step::<REGISTERS>(taps, line, first, step, out);
 }
@@ -100,7 +100,7 @@ fn filter_by_step<const REGISTERS: usize>(
     requires size { length taps.now ≡ REGISTER * REGISTERS }
     requires reach { Reaches first step (length out.old) (length taps.now) line.now }
     requires halves { HaveHalfSums taps.now line.now first step (length out.old) }
-    ensures { AreRounded taps.now line.now first step (WINDOWS * (length out.old / WINDOWS)) out.old out.new }
+    ensures { AreRounded taps.now line.now first step (in_groups (length out.old)) out.old out.new }
 {
     for group in 0..out.len() / WINDOWS {
         let at = WINDOWS * group;
