@@ -81,6 +81,9 @@ fn sum_neighbours(coefficients: &[i16], line: &[i16], first: usize, sums: &mut [
     ensures halves { AreHalves sums.new }
     ensures sums { AreHalfSums coefficients.now line.now first 1 (length coefficients.now) (length sums.old) sums.new }
 {
+    if sums.is_empty() {
+        return;
+    }
     sums.fill(0);
     let count = coefficients.len();
     for pair in 0..count / 2 {
@@ -154,6 +157,8 @@ fn gather(line: &[i16], first: usize, step: usize, on: usize, samples: &mut [i16
 }
 
 /// Adds the products of two coefficients, one with the newer samples and then one with the older, to each sum: so a load of sums serves two taps.
+/// It is a call of its own: where the compiler knows how few sums there can be, or knows the coefficients, it makes no vectors of them.
+#[inline(never)]
 fn add_products(coefficients: (i16, i16), newer: &[i16], older: &[i16], sums: &mut [Half])
     requires newer_products { HasHalves coefficients.0 newer.now }
     requires older_products { HasHalves coefficients.1 older.now }
