@@ -202,12 +202,8 @@ rokdaum_code rokdaum_ready(rokdaum *host, uint8_t channel)
     return host ? (rokdaum_code)rokdaum_proved_ready(of(host), channel) : ROKDAUM_NULL;
 }
 
-rokdaum_code rokdaum_feed(rokdaum *host, uint8_t channel, const int16_t *samples, size_t count, int16_t *out, size_t room, uint32_t *given)
-{
-    if (!host || (!samples && count) || (!out && room) || !given)
-        return ROKDAUM_NULL;
-    return (rokdaum_code)rokdaum_proved_feed(of(host), channel, samples, count, out, room, given);
-}
+/* The one definition for callers that don't take that of the header. */
+extern rokdaum_code rokdaum_feed(rokdaum *host, uint8_t channel, const int16_t *samples, size_t count, int16_t *out, size_t room, uint32_t *given);
 
 rokdaum_code rokdaum_feed_all(rokdaum *host, uint8_t channel, const int16_t *samples, size_t count, int16_t *out, size_t room, size_t *given)
 {

@@ -178,7 +178,7 @@ rokdaum_code rokdaum_ready(rokdaum *host, uint8_t channel);
 
 /* Passes a block of 1 to 1,024 samples through the members of a channel. What the last member gives is written to `out`, and its
  * number, which is never above `count`, to `*given`. `out` has room for `count` samples. Refuses with RANGE, MISSING and BAD_LENGTH. */
-rokdaum_code rokdaum_feed(rokdaum *host, uint8_t channel, const int16_t *samples, size_t count, int16_t *out, size_t room, uint32_t *given);
+inline rokdaum_code rokdaum_feed(rokdaum *host, uint8_t channel, const int16_t *samples, size_t count, int16_t *out, size_t room, uint32_t *given);
 
 /* The same for any number of samples, in blocks of 1,024. How samples are cut into blocks doesn't show in the output. */
 rokdaum_code rokdaum_feed_all(rokdaum *host, uint8_t channel, const int16_t *samples, size_t count, int16_t *out, size_t room, size_t *given);
@@ -233,6 +233,20 @@ rokdaum_code rokdaum_fir(const int16_t *coefficients, size_t coefficient_count, 
 /* A code for each sample, and a sample for each code. There are `count` of both. */
 rokdaum_code rokdaum_g711_encode(rokdaum_law law, const int16_t *samples, uint8_t *codes, size_t count);
 rokdaum_code rokdaum_g711_decode(rokdaum_law law, const uint8_t *codes, int16_t *samples, size_t count);
+
+/* ---- Inline ---- */
+
+/* A feed of few samples takes less time than its tests for null pointers, so these stand here: a compiler that sees the pointers
+ * leaves them out. The rest is proved. A library for callers that see no header has rokdaum_feed too. */
+struct rokdaum_handle;
+int32_t rokdaum_proved_feed(struct rokdaum_handle *handle, uint8_t channel, const int16_t *input, size_t input_len, int16_t *out, size_t out_len, uint32_t *count);
+
+inline rokdaum_code rokdaum_feed(rokdaum *host, uint8_t channel, const int16_t *samples, size_t count, int16_t *out, size_t room, uint32_t *given)
+{
+    if (!host || (!samples && count) || (!out && room) || !given)
+        return ROKDAUM_NULL;
+    return (rokdaum_code)rokdaum_proved_feed((struct rokdaum_handle *)(void *)&host->machine, channel, samples, count, out, room, given);
+}
 
 #ifdef __cplusplus
 }
