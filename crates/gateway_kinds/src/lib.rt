@@ -2,6 +2,15 @@
 //! The kinds of a voice gateway as one set: the hosted kinds, gains, meters of energy and detectors of dialled digits.
 #![tactic(auto)]
 
+#[cfg(test)]
+mod digit_tests;
+#[cfg(test)]
+mod gain_tests;
+#[cfg(test)]
+mod level_tests;
+#[cfg(test)]
+mod name_tests;
+
 ghost use Rattle.std.specs.Prelude.{◌≡◌, ℤ, List, Option, IsTrue};
 ghost use Rattle.ialg.specs.History.{History, outputs_by};
 ghost use Rattle.ialg.specs.Meaning.{outputs_of};

@@ -1,8 +1,8 @@
 //! The kinds of a gateway by their names, and through the set.
+use crate::{GatewayKind, gateway_kinds_are_lawful, gateway_kinds_give_their_equations};
 use alg_dtmf::Dtmf;
 use alg_gain::Gain;
 use alg_level::Level;
-use gateway_kinds::{GatewayKind, gateway_kinds_are_lawful, gateway_kinds_give_their_equations};
 use ialg::{Ctl, FILTER_RECORDS, Ialg, Named, copied};
 use kind_parts::{Or, both_are_lawful};
 use voice_set::Voice;
