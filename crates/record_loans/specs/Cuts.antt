@@ -8,6 +8,7 @@ use Rattle.record_loans.specs.declared.plan.Cut.{Cut}
 use Rattle.record_loans.specs.declared.plan.Plan.{Plan}
 use Rattle.record_loans.specs.declared.plan.FilterSizes.{FilterSizes}
 use Rattle.record_loans.specs.declared.plan.ReaderSizes.{ReaderSizes}
+use Rattle.record_loans.specs.declared.plan.SharingSizes.{SharingSizes}
 
 abbrev pub is_shared : Source → Bool
 is_shared Shared = true
@@ -89,3 +90,14 @@ reader_words n o0 s1 = take n.object o0 ∷ take n.once s1 ∷ [] ∷ [] ∷ []
 pub record ReaderFits (n : ReaderSizes) (o0 s1 : ℕ) : Type 0 where
   pub object : n.object ≤ o0
   pub once : n.once ≤ s1
+
+-- the words of each record of a filter that shares its constants, with those of its own pieces, of the one that is lent to it and of the block in `daram`
+abbrev pub sharing_words : SharingSizes → List ℤ → List ℤ → List ℤ → List ℤ → List (List ℤ)
+sharing_words n o0 o1 s2 d = take n.object o0 ∷ take n.kept o1 ∷ take n.constants s2 ∷ take n.running d ∷ []
+
+-- the pieces and the block have enough words for such a filter
+pub record SharingFits (n : SharingSizes) (o0 o1 s2 d : ℕ) : Type 0 where
+  pub object : n.object ≤ o0
+  pub kept : n.kept ≤ o1
+  pub constants : n.constants ≤ s2
+  pub running : n.running ≤ d

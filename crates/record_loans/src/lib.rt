@@ -12,6 +12,9 @@ mod pieces;
 mod plan;
 
 pub use block::ScratchBlock;
-pub use loans::{PlannedLoan, lend_filter, lend_reader, lend_with_blocks, lend_without_blocks};
+pub use loans::{
+    PlannedLoan, lend_filter, lend_reader, lend_sharing_filter, lend_with_blocks,
+    lend_without_blocks,
+};
 pub use pieces::Pieces;
-pub use plan::{Cut, FilterSizes, Plan, ReaderSizes, Source};
+pub use plan::{Cut, FilterSizes, Plan, ReaderSizes, SharingSizes, Source};

@@ -2,12 +2,12 @@
 ghost use Rattle.std.specs.Prelude.{◌≡◌, ◌≤◌, [], ◌∷◌, length, None};
 ghost use Rattle.record_loans.specs.Blocks.{block_words, IsSameBlock};
 ghost use Rattle.record_loans.specs.Pieces.{piece_words, IsSamePiece, SamePieces};
-ghost use Rattle.record_loans.specs.Cuts.{cut_words, CutsFit, filter_words, plan_words, reader_words, FilterFits, PlanFits, ReaderFits};
+ghost use Rattle.record_loans.specs.Cuts.{cut_words, CutsFit, filter_words, plan_words, reader_words, sharing_words, FilterFits, PlanFits, ReaderFits, SharingFits};
 ghost use Rattle.record_loans.specs.Loans.{held, lent_by, LentFits};
 
 use crate::block::ScratchBlock;
 use crate::pieces::Pieces;
-use crate::plan::{FilterSizes, Plan, ReaderSizes, Source};
+use crate::plan::{FilterSizes, Plan, ReaderSizes, SharingSizes, Source};
 use ialg::{Lending, Step, lend};
 use space_raw::{Piece, end_none};
 use std::mem;
@@ -132,6 +132,49 @@ pub fn lend_filter<O, S: Step<O>>(
                     let (running, _rest) = block.piece.words_mut().split_at_mut(sizes.running);
                     lend(loan, object, kept, running, &mut [], out);
                 }
+                None => unreachable!(),
+            },
+            None => unreachable!(),
+        },
+        None => unreachable!(),
+    }
+}
+
+/// Performs the step with the records of a filter that shares its constants, out of its own first two pieces, the third one that is lent to
+/// it and the block in `daram`: no other piece or block is looked at. The piece that is lent stays where it stands.
+#[inline(always)]
+#[tactic(auto, using(crate::proofs::Parts::front_read))]
+pub fn lend_sharing_filter<O, S: Step<O>>(
+    loan: &Lending<'_, S>,
+    sizes: SharingSizes,
+    own: &mut Pieces,
+    once: &mut Option<Piece>,
+    daram: &mut Option<ScratchBlock>,
+    out: &mut O,
+)
+    requires can { S.can loan.now.step.now out.old }
+    requires some { 1 ≤ sizes.object × 1 ≤ sizes.kept × 1 ≤ sizes.constants × 1 ≤ sizes.running }
+    requires fit { SharingFits sizes (length (piece_words own.old.p0)) (length (piece_words own.old.p1)) (length (piece_words once.old)) (length (block_words daram.old)) }
+    ensures done { S.done loan.now.step.now loan.now.table.now loan.now.writable
+        (sharing_words sizes (piece_words own.old.p0) (piece_words own.old.p1) (piece_words once.old) (block_words daram.old))
+        (sharing_words sizes (piece_words own.new.p0) (piece_words own.new.p1) (piece_words once.new) (block_words daram.new)) out.old out.new }
+    ensures own { SamePieces own.old own.new }
+    ensures once { IsSamePiece once.old once.new }
+    ensures daram { IsSameBlock daram.old daram.new }
+{
+    match &mut own.p0 {
+        Some(object) => match &mut own.p1 {
+            Some(kept) => match once {
+                Some(once) => match daram {
+                    Some(block) => {
+                        let (object, _end) = object.words_mut().split_at_mut(sizes.object);
+                        let (kept, _end) = kept.words_mut().split_at_mut(sizes.kept);
+                        let (constants, _end) = once.words_mut().split_at_mut(sizes.constants);
+                        let (running, _end) = block.piece.words_mut().split_at_mut(sizes.running);
+                        lend(loan, object, kept, constants, running, out);
+                    }
+                    None => unreachable!(),
+                },
                 None => unreachable!(),
             },
             None => unreachable!(),

@@ -60,6 +60,16 @@ pub struct FilterSizes {
     pub running: usize,
 }
 
+/// How many words each record of a filter that shares its constants has: those of a filter, and the write-once constants between the kept
+/// words and the running ones.
+#[derive(Clone, Copy, PartialEq, Eq, Debug)]
+pub struct SharingSizes {
+    pub object: usize,
+    pub kept: usize,
+    pub constants: usize,
+    pub running: usize,
+}
+
 /// How many words each record of a reader has: the object, and the write-once words behind it, none where it has no second record.
 #[derive(Clone, Copy, PartialEq, Eq, Debug)]
 pub struct ReaderSizes {

@@ -23,7 +23,7 @@ use Rattle.scratch_group.proofs.Ends.{next_end, scratch_end-suc, blank_at}
 use Rattle.scratch_group.proofs.Cutting.{first_end, object_words}
 use Rattle.ialg.proofs.Tables.{object_attr}
 
-none_at_0 : (al : ℕ) → next_multiple_of 0 al ≡ 0
+pub none_at_0 : (al : ℕ) → next_multiple_of 0 al ≡ 0
 none_at_0 al = grind (arith, common_steps)
 
 module _ (rs : List MemRec) (n : FilterSizes) (t : IsTrue (is_table rs)) (f : IsOfFilter rs n) (own shared : Pieces) (g : Group) where

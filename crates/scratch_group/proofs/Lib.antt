@@ -4,3 +4,4 @@ pub mod Tables
 pub mod Fills
 pub mod Filters
 pub mod Readers
+pub mod Sharing

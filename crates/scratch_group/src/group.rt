@@ -9,12 +9,13 @@ ghost use Rattle.scratch_group.specs.Words.{active_words, HasWords};
 ghost use Rattle.scratch_group.specs.Readers.{IsOfReader};
 ghost use Rattle.mem_rec.specs.Records.{is_table};
 
-use crate::plan::{active_plan, filter_sizes, reader_sizes};
+use crate::plan::{active_plan, filter_sizes, reader_sizes, sharing_sizes};
 use host_map::Stat;
 use ialg::{Lending, Step};
 use mem_rec::{Layout, MemTab, Space, scratch_layout};
 use record_loans::{
-    Pieces, PlannedLoan, ReaderSizes, ScratchBlock, lend_filter, lend_reader, lend_with_blocks,
+    Pieces, PlannedLoan, ReaderSizes, ScratchBlock, lend_filter, lend_reader, lend_sharing_filter,
+    lend_with_blocks,
 };
 use space_raw::{Piece, end_none};
 
@@ -210,7 +211,17 @@ impl Group {
             Some(sizes) => lend_filter(&loan, sizes, own, &mut self.daram, out),
             None => match reader_sizes(table) {
                 Some(sizes) => lend_reader(&loan, sizes, own, &mut shared.p1, out),
-                None => self.lend_by_plan(&loan, own, shared, out),
+                None => match sharing_sizes(table) {
+                    Some(sizes) => lend_sharing_filter(
+                        &loan,
+                        sizes,
+                        own,
+                        &mut shared.p2,
+                        &mut self.daram,
+                        out,
+                    ),
+                    None => self.lend_by_plan(&loan, own, shared, out),
+                },
             },
         }
     }

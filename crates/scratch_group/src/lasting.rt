@@ -1,12 +1,15 @@
 //! The records that last are lent to idle instances.
 ghost use Rattle.std.specs.Prelude.{◌≡◌, ◌≤◌, [], ◌∷◌, length, take};
-ghost use Rattle.record_loans.specs.Pieces.{piece_words, SamePieces};
+ghost use Rattle.record_loans.specs.Pieces.{piece_words, IsSamePiece, SamePieces};
 ghost use Rattle.scratch_group.specs.Words.{idle_words, HasPieces};
 
-use crate::plan::{filter_sizes, idle_plan, reader_sizes};
+use crate::plan::{filter_sizes, idle_plan, reader_sizes, sharing_sizes};
 use ialg::{Lending, Step, lend};
 use mem_rec::MemTab;
-use record_loans::{FilterSizes, Pieces, PlannedLoan, lend_reader, lend_without_blocks};
+use record_loans::{
+    FilterSizes, Pieces, PlannedLoan, SharingSizes, lend_reader, lend_without_blocks,
+};
+use space_raw::Piece;
 
 /// Performs the step with the records of an idle instance: its persistent records in its own pieces, and its write-once records in
 /// those that are lent to it. Write-once records may be written where `writable` says so.
@@ -33,7 +36,12 @@ pub fn lend_lasting<O, S: Step<O>>(
         Some(sizes) => lend_filter_at_rest(&lending, sizes, own, out),
         None => match reader_sizes(table) {
             Some(sizes) => lend_reader(&lending, sizes, own, &mut shared.p1, out),
-            None => lend_lasting_by_plan(&lending, own, shared, out),
+            None => match sharing_sizes(table) {
+                Some(sizes) => {
+                    lend_sharing_filter_at_rest(&lending, sizes, own, &mut shared.p2, out)
+                }
+                None => lend_lasting_by_plan(&lending, own, shared, out),
+            },
         },
     }
 }
@@ -84,6 +92,44 @@ fn lend_filter_at_rest<O, S: Step<O>>(
                 let (kept, _rest) = kept.words_mut().split_at_mut(sizes.kept);
                 lend(loan, object, kept, &mut [], &mut [], out);
             }
+            None => unreachable!(),
+        },
+        None => unreachable!(),
+    }
+}
+
+/// Performs the step with the records of an idle filter that shares its constants, out of its own first two pieces and the third one that is
+/// lent to it: no other piece is looked at, and no plan made.
+#[inline(always)]
+fn lend_sharing_filter_at_rest<O, S: Step<O>>(
+    loan: &Lending<'_, S>,
+    sizes: SharingSizes,
+    own: &mut Pieces,
+    once: &mut Option<Piece>,
+    out: &mut O,
+)
+    requires can { S.can loan.now.step.now out.old }
+    requires object { sizes.object ≤ length (piece_words own.old.p0) }
+    requires kept { sizes.kept ≤ length (piece_words own.old.p1) }
+    requires constants { sizes.constants ≤ length (piece_words once.old) }
+    requires some { 1 ≤ sizes.object × 1 ≤ sizes.kept × 1 ≤ sizes.constants }
+    ensures done { S.done loan.now.step.now loan.now.table.now loan.now.writable
+        (take sizes.object (piece_words own.old.p0) ∷ take sizes.kept (piece_words own.old.p1) ∷ take sizes.constants (piece_words once.old) ∷ [] ∷ [])
+        (take sizes.object (piece_words own.new.p0) ∷ take sizes.kept (piece_words own.new.p1) ∷ take sizes.constants (piece_words once.new) ∷ [] ∷ []) out.old out.new }
+    ensures own { SamePieces own.old own.new }
+    ensures once { IsSamePiece once.old once.new }
+{
+    match &mut own.p0 {
+        Some(object) => match &mut own.p1 {
+            Some(kept) => match once {
+                Some(once) => {
+                    let (object, _end) = object.words_mut().split_at_mut(sizes.object);
+                    let (kept, _end) = kept.words_mut().split_at_mut(sizes.kept);
+                    let (constants, _end) = once.words_mut().split_at_mut(sizes.constants);
+                    lend(loan, object, kept, constants, &mut [], out);
+                }
+                None => unreachable!(),
+            },
             None => unreachable!(),
         },
         None => unreachable!(),

@@ -3,18 +3,21 @@ ghost use Rattle.std.specs.Prelude.{◌≡◌, ◌≤◌, ◌<◌, ◌+◌, ◌-
 ghost use Rattle.mem_rec.specs.Records.{is_table};
 ghost use Rattle.ialg.specs.Records.{record_at};
 ghost use Rattle.scratch_group.specs.Words.{is_filter, scratch_end, scratch_offset};
-ghost use Rattle.scratch_group.specs.Plans.{cut_of, idle_cut_of, active_plan_of, idle_plan_of, IsOfFilter, IsOfNoFilter, IsWithinLimits};
+ghost use Rattle.scratch_group.specs.Plans.{cut_of, idle_cut_of, active_plan_of, idle_plan_of, IsOfFilter, IsOfNoFilter, IsOfSharingFilter, IsOfNoSharingFilter, IsWithinLimits};
 ghost use Rattle.scratch_group.specs.Readers.{IsOfNoReader, IsOfReader};
 
 use ialg::FILTER_RECORDS;
 use mem_rec::{Attr, GREATEST_ALIGNMENT, MemRec, MemTab, RECORD_WORDS, Space};
-use record_loans::{Cut, FilterSizes, Plan, ReaderSizes, Source};
+use record_loans::{Cut, FilterSizes, Plan, ReaderSizes, SharingSizes, Source};
 
 /// The most words by which a record moves the end of those before it: the greatest record, behind the greatest gap.
 pub(crate) const GREATEST_STEP: u32 = RECORD_WORDS + GREATEST_ALIGNMENT;
 
 /// The most records of a reader: the object, and write-once words behind it.
 pub(crate) const READER_RECORDS: usize = 2;
+
+/// The records of a filter that shares its constants: the object, the kept words, the constants and the running words.
+pub(crate) const SHARING_RECORDS: usize = 4;
 
 /// Record `k` of a table.
 pub(crate) fn record(table: &MemTab, k: usize) -> MemRec
@@ -227,5 +230,33 @@ pub fn reader_sizes(table: &MemTab) -> Option<ReaderSizes>
     Some(ReaderSizes {
         object,
         once: once.size as usize,
+    })
+}
+
+/// The sizes of the records of a filter that shares its constants, where the table is one of such: behind the object one persistent record,
+/// one write-once record and one scratch record in `daram`. None for every other table.
+#[inline(always)]
+pub(crate) fn sharing_sizes(table: &MemTab) -> Option<SharingSizes>
+    ensures sizes { MatchOption result (IsOfNoSharingFilter table.now) (IsOfSharingFilter table.now) }
+    ensures table { IsTrue (is_table table.now) }
+{
+    let _records = table.records();
+    if table.len() != SHARING_RECORDS {
+        return None;
+    }
+    let kept = record(table, 1);
+    let constants = record(table, 2);
+    let running = record(table, 3);
+    if kept.attr != Attr::Persist
+        || constants.attr != Attr::WriteOnce
+        || !running.is_scratch_of(Space::Daram)
+    {
+        return None;
+    }
+    Some(SharingSizes {
+        object: object_size(table),
+        kept: kept.size as usize,
+        constants: constants.size as usize,
+        running: running.size as usize,
     })
 }
