@@ -1,13 +1,15 @@
 //! The filter by halves of its sums, where no product is that of -32768 and -32768: each sum takes its products in order, and is limited after each.
 //! A step has neither a doubling nor a test for overflow, and the sums of a block run side by side in vector registers.
-ghost use Rattle.std.specs.Prelude.{true, ◌≡◌, ◌<◌, ◌≤◌, ◌+◌, ◌*◌, ℕ, ℤ, length};
+ghost use Rattle.std.specs.Prelude.{true, ◌≡◌, ◌<◌, ◌≤◌, ◌+◌, ◌*◌, ℕ, ℤ, length, FitsSigned};
+ghost use Rattle.std.specs.Int.{w16};
 ghost use Rattle.basic_op.specs.Halves.{half_of};
 ghost use Rattle.basic_op.specs.Operators.{round_of};
 ghost use Rattle.ialg.specs.History.{word_at};
 ghost use Rattle.fir_kernel.specs.Halves.{AreAboveLeast, AreHalfSums, AreHalves, HasHalves, HaveHalves, HaveProduct, HaveProducts};
+ghost use Rattle.fir_kernel.specs.HalfLanes.{BeginWithSums};
 ghost use Rattle.fir_kernel.specs.Sums.{AreOutputs, Reaches};
 
-use crate::half_lanes::{BESIDE, sum_beside};
+use crate::half_lanes::{BESIDE, LANES, sum_beside, sum_four};
 use crate::windows::read_words;
 use basic_op::{half_mac, half_round};
 use ialg::BLOCK_SAMPLES;
@@ -54,7 +56,7 @@ pub(crate) fn filter_halves<const N: usize>(
     round_halves(sums, out);
 }
 
-/// The sums of neighbouring outputs, that at sample `first` first, by halves: 32 at a time, and then those that are left.
+/// The sums of neighbouring outputs, that at sample `first` first, by halves: 32 at a time and then four at a time, or one by one where there are fewer.
 fn sum_in_a_row(coefficients: &[i16], line: &[i16], first: usize, sums: &mut [Half])
     requires some { 1 ≤ length coefficients.now }
     requires halves { HaveHalves coefficients.now line.now }
@@ -64,13 +66,52 @@ fn sum_in_a_row(coefficients: &[i16], line: &[i16], first: usize, sums: &mut [Ha
     ensures sums { AreHalfSums coefficients.now line.now first 1 (length coefficients.now) (length sums.old) sums.new }
 {
     read_words(line);
-    let blocks = sums.len() / BESIDE;
-    let (whole, rest) = sums.split_at_mut(BESIDE * blocks);
-    for block in 0..blocks {
-        let at = BESIDE * block;
-        sum_beside(coefficients, line, first + at, whole, at);
+    if sums.len() < LANES {
+        sum_neighbours(coefficients, line, first, sums);
+        return;
     }
-    sum_neighbours(coefficients, line, first + BESIDE * blocks, rest);
+    let done = sum_blocks(coefficients, line, first, sums);
+    sum_fours(coefficients, line, first, sums, done);
+}
+
+/// The sums of neighbouring outputs by halves, 32 at a time, and how many those are.
+fn sum_blocks(coefficients: &[i16], line: &[i16], first: usize, sums: &mut [Half]) -> usize
+    requires samples { (k : ℕ) → FitsSigned w16 (word_at line.now k) }
+    requires products { HaveHalves coefficients.now line.now }
+    requires reach { first + length coefficients.now + length sums.old ≤ length line.now + 1 }
+    requires halves { AreHalves sums.old }
+    ensures some { result ≤ length sums.old }
+    ensures size { length sums.new ≡ length sums.old }
+    ensures halves { AreHalves sums.new }
+    ensures sums { BeginWithSums coefficients.now line.now first result sums.new }
+{
+    for block in 0..sums.len() / BESIDE {
+        let at = BESIDE * block;
+        sum_beside(coefficients, line, first + at, sums, at);
+    }
+    BESIDE * (sums.len() / BESIDE)
+}
+
+/// The sums of neighbouring outputs by halves from sum `done` on: four at a time, and where fewer are left, the last four.
+fn sum_fours(coefficients: &[i16], line: &[i16], first: usize, sums: &mut [Half], done: usize)
+    requires samples { (k : ℕ) → FitsSigned w16 (word_at line.now k) }
+    requires products { HaveHalves coefficients.now line.now }
+    requires reach { first + length coefficients.now + length sums.old ≤ length line.now + 1 }
+    requires halves { AreHalves sums.old }
+    requires four { LANES ≤ length sums.old }
+    requires some { done ≤ length sums.old }
+    requires done { BeginWithSums coefficients.now line.now first done sums.old }
+    ensures halves { AreHalves sums.new }
+    ensures sums { BeginWithSums coefficients.now line.now first (length sums.old) sums.new }
+{
+    for four in 0..(sums.len() - done) / LANES {
+        let at = done + LANES * four;
+        sum_four(coefficients, line, first + at, sums, at);
+    }
+    if (sums.len() - done) % LANES > 0 {
+        let at = sums.len() - LANES;
+        sum_four(coefficients, line, first + at, sums, at);
+    }
 }
 
 /// The sums of neighbouring outputs, that at sample `first` first, by halves. Taps are outside and outputs inside, two taps in each pass.
@@ -157,7 +198,7 @@ fn gather(line: &[i16], first: usize, step: usize, on: usize, samples: &mut [i16
 }
 
 /// Adds the products of two coefficients, one with the newer samples and then one with the older, to each sum: so a load of sums serves two taps.
-/// It is a call of its own: where the compiler knows how few sums there can be, or knows the coefficients, it makes no vectors of them.
+/// It is a call of its own: inlined, it isn't made of vectors.
 #[inline(never)]
 fn add_products(coefficients: (i16, i16), newer: &[i16], older: &[i16], sums: &mut [Half])
     requires newer_products { HasHalves coefficients.0 newer.now }
