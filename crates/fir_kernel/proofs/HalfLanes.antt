@@ -76,7 +76,7 @@ least_lanes = 3221225472 ∷ 3221225472 ∷ 3221225472 ∷ 3221225472 ∷ []
 abbrev most_lanes : List ℕ
 most_lanes = 1073741823 ∷ 1073741823 ∷ 1073741823 ∷ 1073741823 ∷ []
 
-abbrev masks : List ℕ → List ℕ → List Bool
+abbrev pub masks : List ℕ → List ℕ → List Bool
 masks a b = map (top 31) (zip2 (act2 (mask (lt signed)) (s_int w32) (s_int w32) (s_int w32)) a b)
 
 abbrev raised : List ℕ → List ℕ

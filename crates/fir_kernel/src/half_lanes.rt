@@ -143,7 +143,7 @@ fn add_products(halves: i32x4, coefficient: i16, line: &[i16], at: usize) -> i32
 
 /// The sums, each limited to half of a Word32.
 #[inline(always)]
-fn limited(sums: i32x4) -> i32x4
+pub(crate) fn limited(sums: i32x4) -> i32x4
     requires four { length sums ≡ LANES }
     requires fit { (k : ℕ) → FitsSigned w32 (word_at sums k) }
     ensures four { length result ≡ LANES }
@@ -155,7 +155,7 @@ fn limited(sums: i32x4) -> i32x4
 
 /// Writes the half sums, from sum `at` on.
 #[inline(always)]
-fn write(halves: i32x4, sums: &mut [Half], at: usize)
+pub(crate) fn write(halves: i32x4, sums: &mut [Half], at: usize)
     requires four { length halves ≡ LANES }
     requires within { AreHalves halves }
     requires room { at + LANES ≤ length sums.old }
