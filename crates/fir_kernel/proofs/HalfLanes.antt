@@ -1,5 +1,5 @@
 -- Half sums in lanes.
-use Rattle.std.proofs.Common.{◌≡◌, ℕ, zero, suc, ◌+◌, ◌-◌, ◌*◌, ◌%◌, ◌^◌, ◌<◌, ◌≤◌, cond, Bool, true, false, inl, inr, take, drop, ℤ, pos, negsuc, ◌+ℤ◌, ◌*ℤ◌, List, [], ◌∷◌, ◌++◌, length, map, to_z, of_z, FitsSigned, unsigned_abs, w16, w32, refl, sym, ap, subst, ◌∙◌, arith, get_or-take, length-take, length-drop}
+use Rattle.std.proofs.Common.{◌≡◌, ℕ, zero, suc, ◌+◌, ◌-◌, ◌*◌, ◌%◌, ◌^◌, ◌<◌, ◌≤◌, cond, Bool, true, false, inl, inr, take, drop, ℤ, pos, negsuc, ◌+ℤ◌, ◌*ℤ◌, List, [], ◌∷◌, length, map, to_z, of_z, FitsSigned, unsigned_abs, w16, w32, refl, sym, ap, subst, ◌∙◌, arith, get_or-take, length-take, length-drop}
 use Rattle.std.specs.Int.{saturate_to_bits}
 use Rattle.std.specs.Int.Signed.{lt_z}
 use Rattle.std.proofs.lemmas.Int.{ints, to_z-of_z}
@@ -18,8 +18,8 @@ use Rattle.basic_op.specs.Halves.{half_of}
 use Rattle.basic_op.specs.Operators.{l_mac_of}
 use Rattle.basic_op.proofs.HalfLemmas.{product_small, half_add}
 use Rattle.fir_kernel.specs.Halves.{AreHalfSums, AreHalves, HasHalves}
-use Rattle.fir_kernel.specs.HalfLanes.{taps_sum, AreWritten, HasHalfSums, HaveTaps, IsHalved}
-use Rattle.std.proofs.lemmas.List.{get_or_append_left, get_or-append_right, get_or_past}
+use Rattle.fir_kernel.specs.HalfLanes.{taps_sum, AreWritten, BeginWithSums, HasHalfSums, HaveTaps, IsHalved}
+use Rattle.std.proofs.lemmas.List.{get_or_past}
 use Rattle.fir_kernel.proofs.Parts.{part_at}
 use Rattle.fir_kernel.proofs.Lanes.{take_fits, drop_fits, four, widened, product, added_bits, bits_below, word_bits, four_fit}
 
@@ -76,7 +76,7 @@ least_lanes = 3221225472 ∷ 3221225472 ∷ 3221225472 ∷ 3221225472 ∷ []
 abbrev most_lanes : List ℕ
 most_lanes = 1073741823 ∷ 1073741823 ∷ 1073741823 ∷ 1073741823 ∷ []
 
-abbrev masks : List ℕ → List ℕ → List Bool
+abbrev pub masks : List ℕ → List ℕ → List Bool
 masks a b = map (top 31) (zip2 (act2 (mask (lt signed)) (s_int w32) (s_int w32) (s_int w32)) a b)
 
 abbrev raised : List ℕ → List ℕ
@@ -280,30 +280,22 @@ one_tap_each hs wide r c line at sums are lr limited fc fl factors reach is =
     (halved_as r _ _ (λ k b. ap (λ x. half_of (l_mac_of (sums k) c x)) (sample_at line at k b))
     (one_more_each hs (samples_of line at) wide r c sums are lr limited fc (samples_fit line at fl) (samples_halves c line at factors reach) is))
 
--- ---- the blocks of a row
+-- ---- the sums of a row
 
--- n sums more, behind those before
-pub block_more : (cs line sums new : List ℤ) (first block : ℕ) → ((i : ℕ) → i < 32 * block → word_at sums i ≡ half_of (taps_sum cs line (length cs) (first + i)))
-    → HasHalfSums cs line (first + 32 * block) (32 * block) 32 sums new
-    → (i : ℕ) → i < 32 * (block + 1) → word_at new i ≡ half_of (taps_sum cs line (length cs) (first + i))
-block_more cs line sums new first block before here i b = elim (cases_lt i (32 * block)) [
-  | inl less ↦ here.before i less ∙ before i less
+-- m sums more, from place `at` on, behind those before or over the last of them
+pub more_sums : (cs line sums new : List ℤ) (first n m at e f : ℕ) → at ≤ n → f ≡ first + at → e ≡ at + m → BeginWithSums cs line first n sums
+    → HasHalfSums cs line f at m sums new → BeginWithSums cs line first e new
+more_sums cs line sums new first n m at e f behind sample size before here i b = elim (cases_lt i at) [
+  | inl less ↦ here.before i less ∙ before i (omega arith)
   | inr more ↦
-      let q = i - 32 * block in
-      let to : 32 * block + q ≡ i = omega arith in
-      let from : first + 32 * block + q ≡ first + (32 * block + q) = omega arith in
+      let q = i - at in
+      let to : at + q ≡ i = omega arith in
+      let from : f + q ≡ first + (at + q) = omega arith in
       subst (λ m. word_at new m ≡ half_of (taps_sum cs line (length cs) (first + m))) to
       (here.sums q (omega arith) ∙ ap (λ m. half_of (taps_sum cs line (length cs) m)) from)
 ]
 
--- those of the blocks, and those that are left
-pub row_joined : (cs line whole rest : List ℤ) (first n size : ℕ) → length whole ≡ n → ((i : ℕ) → i < n → word_at whole i ≡ half_of (taps_sum cs line (length cs) (first + i)))
-    → AreHalfSums cs line (first + n) 1 (length cs) (size - n) rest → AreHalfSums cs line first 1 (length cs) size (whole ++ rest)
-row_joined cs line whole rest first n size e front back i b = elim (cases_lt i n) [
-  | inl less ↦
-      let one : first + i ≡ first + 1 * i = omega arith in
-      get_or_append_left whole rest (pos 0) i (omega arith) ∙ front i less ∙ ap (λ m. half_of (taps_sum cs line (length cs) m)) one
-  | inr more ↦
-      let one : first + n + 1 * (i - n) ≡ first + 1 * i = omega arith in
-      get_or-append_right whole rest n i (pos 0) e more ∙ back (i - n) (omega arith) ∙ ap (λ m. half_of (taps_sum cs line (length cs) m)) one
-]
+pub as_row : (cs line sums : List ℤ) (first n : ℕ) → BeginWithSums cs line first n sums → AreHalfSums cs line first 1 (length cs) n sums
+as_row cs line sums first n all i b =
+    let one : first + i ≡ first + 1 * i = omega arith in
+    all i b ∙ ap (λ m. half_of (taps_sum cs line (length cs) m)) one

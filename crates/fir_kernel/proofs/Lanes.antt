@@ -46,7 +46,7 @@ all_widened (x ∷ xs) f =
     (rw (to_z-of_z w16 x here) (widened x here), all_widened xs (λ k. f (suc k)))
 
 -- a product of two lanes, in bits
-abbrev times : ℤ → ℤ → ℕ
+abbrev pub times : ℤ → ℤ → ℕ
 times a b = of_z w32 (to_z w16 (of_z w16 a)) * of_z w32 (to_z w16 (of_z w16 b)) % 4294967296
 
 pub product : (a b : ℤ) → FitsSigned w32 a → FitsSigned w32 b → to_z w32 (of_z w32 a * of_z w32 b % 4294967296) ≡ int_wrap w32 (a *ℤ b)
@@ -75,10 +75,10 @@ pub word_bits : (z : ℤ) → FitsSigned w32 z → of_z w32 z < 4294967296
 word_bits z f = omega (arith, ints, f.sfits)
 
 -- one lane of the four: two products go onto it
-abbrev lane_of : ℤ → ℤ → ℤ → ℤ → ℤ → ℤ
+abbrev pub lane_of : ℤ → ℤ → ℤ → ℤ → ℤ → ℤ
 lane_of s a b c d = to_z w32 ((of_z w32 s + (times a b + times c d) % 4294967296) % 4294967296)
 
-lane : (s a b c d : ℤ) → FitsSigned w32 s → FitsSigned w16 a → FitsSigned w16 b → FitsSigned w16 c → FitsSigned w16 d
+pub lane : (s a b c d : ℤ) → FitsSigned w32 s → FitsSigned w16 a → FitsSigned w16 b → FitsSigned w16 c → FitsSigned w16 d
     → lane_of s a b c d ≡ int_wrap w32 (s +ℤ ((a *ℤ b) +ℤ (c *ℤ d)))
 lane s a b c d fs fa fb fc fd =
     let p = times a b in
@@ -98,7 +98,7 @@ four_fit a b c d e f g h (suc (suc zero)) = g
 four_fit a b c d e f g h (suc (suc (suc zero))) = h
 four_fit a b c d e f g h (suc (suc (suc (suc k)))) = record { sfits = omega arith }
 
-fits_as : (l x : ℤ) → l ≡ int_wrap w32 x → FitsSigned w32 l
+pub fits_as : (l x : ℤ) → l ≡ int_wrap w32 x → FitsSigned w32 l
 fits_as l x e = subst (FitsSigned w32) (sym e) (SFits-int_wrap w32 x)
 
 -- four lanes
@@ -120,19 +120,19 @@ lanes_added s t u v a b c d e f g h i j k l m n o p q r w x sum before one two t
           ∙ ap (int_wrap w32) regroup ∙ int_wrap-add_same w32 (((s +ℤ t) +ℤ u) +ℤ v) sum products before;
     }
 
-abbrev wide : List ℤ → List ℕ
+abbrev pub wide : List ℤ → List ℕ
 wide xs = map (act1 (cast signed signed w32) (s_int w16) (s_int w32)) (map (of_z w16) xs)
 
-abbrev products_of : List ℤ → List ℤ → List ℕ
+abbrev pub products_of : List ℤ → List ℤ → List ℕ
 products_of a b = zip2 (act2 wrap_mul (s_int w32) (s_int w32) (s_int w32)) (wide a) (wide b)
 
-abbrev pair_at : List ℕ → ℕ → ℕ → ℕ
+abbrev pub pair_at : List ℕ → ℕ → ℕ → ℕ
 pair_at p i j = (get_or (p ++ p) i 0 + get_or (p ++ p) j 0) % 4294967296
 
-abbrev pairs : List ℕ → List ℕ
+abbrev pub pairs : List ℕ → List ℕ
 pairs p = pair_at p 0 1 ∷ pair_at p 2 3 ∷ pair_at p 4 5 ∷ pair_at p 6 7 ∷ []
 
-abbrev onto : List ℤ → List ℤ → List ℤ → List ℤ
+abbrev pub onto : List ℤ → List ℤ → List ℤ → List ℤ
 onto s a b = map (to_z w32) (zip2 (act2 wrap_add (s_int w32) (s_int w32) (s_int w32)) (map (of_z w32) s) (pairs (products_of a b)))
 
 pub added : (s a b : List ℤ) (sum : ℤ) → IsSplit s sum → length a ≡ 8 → length b ≡ 8

@@ -1,4 +1,5 @@
 pub mod Bounding
+pub mod Groups
 pub mod HalfLanes
 pub mod HalfSums
 pub mod Lanes

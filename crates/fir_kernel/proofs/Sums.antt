@@ -86,7 +86,7 @@ half_of_twice : (z : ℤ) → half_of (z +ℤ z) ≡ z
 half_of_twice (pos n) = grind (arith, ints)
 half_of_twice (negsuc n) = grind (arith, ints)
 
-abs_add : (a b : ℤ) → unsigned_abs (a +ℤ b) ≤ unsigned_abs a + unsigned_abs b
+pub abs_add : (a b : ℤ) → unsigned_abs (a +ℤ b) ≤ unsigned_abs a + unsigned_abs b
 abs_add a b = omega (arith, ints)
 
 doubled : (z : ℤ) → unsigned_abs z < 2 ^ 30 → saturate_to_bits 31 (z +ℤ z) ≡ z +ℤ z
@@ -108,10 +108,10 @@ l_mult_small a b z p q e =
 
 -- no sample is louder than l
 module _ (c x : ℕ → ℤ) (l : ℕ) where
-  product_within : (k : ℕ) → unsigned_abs (x k) ≤ l → unsigned_abs (c k *ℤ x k) ≤ unsigned_abs (c k) * l
+  pub product_within : (k : ℕ) → unsigned_abs (x k) ≤ l → unsigned_abs (c k *ℤ x k) ≤ unsigned_abs (c k) * l
   product_within k quiet = rw unsigned_abs-mul (mul-le (unsigned_abs (c k)) (unsigned_abs (x k)) (unsigned_abs (c k)) l (omega arith) quiet)
 
-  product_sum_within : (n : ℕ) → ((k : ℕ) → k < n → unsigned_abs (x k) ≤ l) → unsigned_abs (product_sum c x n) ≤ magnitude_sum c n * l
+  pub product_sum_within : (n : ℕ) → ((k : ℕ) → k < n → unsigned_abs (x k) ≤ l) → unsigned_abs (product_sum c x n) ≤ magnitude_sum c n * l
   product_sum_within zero quiet = omega arith
   product_sum_within (suc n) quiet =
       let h : unsigned_abs (product_sum c x n) ≤ magnitude_sum c n * l = product_sum_within n (λ k b. quiet k (omega arith)) in

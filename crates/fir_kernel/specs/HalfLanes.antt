@@ -32,3 +32,7 @@ pub record HasHalfSums (cs line : List ℤ) (first at n : ℕ) (old new : List �
   pub before : (k : ℕ) → k < at → word_at new k ≡ word_at old k
   pub halves : AreHalves new
   pub sums : (q : ℕ) → q < n → word_at new (at + q) ≡ half_of (taps_sum cs line (length cs) (first + q))
+
+-- the first n words are half sums, of the outputs at the samples first, first + 1, ..
+abbrev pub BeginWithSums : List ℤ → List ℤ → ℕ → ℕ → List ℤ → Type 0
+BeginWithSums cs line first n sums = (i : ℕ) → i < n → word_at sums i ≡ half_of (taps_sum cs line (length cs) (first + i))

@@ -3,4 +3,5 @@ pub mod HalfLanes
 pub mod Halves
 pub mod Rings
 pub mod Sums
+pub mod Watched
 pub mod Windows

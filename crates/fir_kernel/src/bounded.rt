@@ -38,7 +38,7 @@ fn read(samples: &[i16])
 }
 
 /// The sum of the coefficients' magnitudes.
-fn magnitude(coefficients: &[i16]) -> u32
+pub(crate) fn magnitude(coefficients: &[i16]) -> u32
     requires { length coefficients.now ≤ MOST_COEFFICIENTS }
     ensures { result ≡ magnitude_sum (word_at coefficients.now) (length coefficients.now) }
 {
@@ -50,7 +50,7 @@ fn magnitude(coefficients: &[i16]) -> u32
 }
 
 /// The greatest magnitude of a sample.
-fn loudest(samples: &[i16]) -> u16
+pub(crate) fn loudest(samples: &[i16]) -> u16
     ensures bound { NoneLouder samples.now result }
     ensures least { (bound : ℕ) → NoneLouder samples.now bound → result ≤ bound }
 {

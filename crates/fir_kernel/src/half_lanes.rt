@@ -13,7 +13,7 @@ use std::simd::prelude::*;
 pub(crate) const BESIDE: usize = 32;
 
 /// How many sums a vector register has.
-const LANES: usize = 4;
+pub(crate) const LANES: usize = 4;
 
 /// The least half of a sum.
 const LEAST_HALF: Half = -(1 << 30);
@@ -65,6 +65,29 @@ pub(crate) fn sum_beside(
     write(f, sums, at + LANES * 5);
     write(g, sums, at + LANES * 6);
     write(h, sums, at + LANES * 7);
+}
+
+/// Writes the sums of four neighbouring outputs by halves, that at sample `first` first, from sum `at` on.
+#[inline(never)]
+pub(crate) fn sum_four(
+    coefficients: &[i16],
+    line: &[i16],
+    first: usize,
+    sums: &mut [Half],
+    at: usize,
+)
+    requires samples { (k : ℕ) → FitsSigned w16 (word_at line.now k) }
+    requires products { HaveHalves coefficients.now line.now }
+    requires reach { first + LANES + length coefficients.now ≤ length line.now + 1 }
+    requires room { at + LANES ≤ length sums.old }
+    requires halves { AreHalves sums.old }
+    ensures { HasHalfSums coefficients.now line.now first at LANES sums.old sums.new }
+{
+    let mut halves = begin(coefficients, line, first);
+    for pair in 0..coefficients.len() / 2 {
+        halves = add_pair(halves, coefficients, pair, line, first);
+    }
+    write(halves, sums, at);
 }
 
 /// The sums of four outputs before the first pair of taps: with a tap already where there is an odd number of them.
@@ -120,7 +143,7 @@ fn add_products(halves: i32x4, coefficient: i16, line: &[i16], at: usize) -> i32
 
 /// The sums, each limited to half of a Word32.
 #[inline(always)]
-fn limited(sums: i32x4) -> i32x4
+pub(crate) fn limited(sums: i32x4) -> i32x4
     requires four { length sums ≡ LANES }
     requires fit { (k : ℕ) → FitsSigned w32 (word_at sums k) }
     ensures four { length result ≡ LANES }
@@ -132,7 +155,7 @@ fn limited(sums: i32x4) -> i32x4
 
 /// Writes the half sums, from sum `at` on.
 #[inline(always)]
-fn write(halves: i32x4, sums: &mut [Half], at: usize)
+pub(crate) fn write(halves: i32x4, sums: &mut [Half], at: usize)
     requires four { length halves ≡ LANES }
     requires within { AreHalves halves }
     requires room { at + LANES ≤ length sums.old }

@@ -1,13 +1,18 @@
 //! The filter by halves of its sums, where no product is that of -32768 and -32768: each sum takes its products in order, and is limited after each.
 //! A step has neither a doubling nor a test for overflow, and the sums of a block run side by side in vector registers.
-ghost use Rattle.std.specs.Prelude.{true, ◌≡◌, ◌<◌, ◌≤◌, ◌+◌, ◌*◌, ℕ, ℤ, length};
+ghost use Rattle.std.specs.Prelude.{true, ◌≡◌, ◌<◌, ◌≤◌, ◌+◌, ◌*◌, ◌/◌, ℕ, ℤ, length, FitsSigned};
+ghost use Rattle.std.specs.Int.{w16};
 ghost use Rattle.basic_op.specs.Halves.{half_of};
 ghost use Rattle.basic_op.specs.Operators.{round_of};
 ghost use Rattle.ialg.specs.History.{word_at};
 ghost use Rattle.fir_kernel.specs.Halves.{AreAboveLeast, AreHalfSums, AreHalves, HasHalves, HaveHalves, HaveProduct, HaveProducts};
+ghost use Rattle.fir_kernel.specs.HalfLanes.{BeginWithSums};
 ghost use Rattle.fir_kernel.specs.Sums.{AreOutputs, Reaches};
+ghost use Rattle.fir_kernel.specs.Watched.{AreRooms};
 
-use crate::half_lanes::{BESIDE, sum_beside};
+use crate::MOST_COEFFICIENTS;
+use crate::half_lanes::{BESIDE, LANES, sum_beside, sum_four};
+use crate::watched::{GROUP, MOST_GROUPS, SIXTEEN, find_rooms, sum_sixteen};
 use crate::windows::read_words;
 use basic_op::{half_mac, half_round};
 use ialg::BLOCK_SAMPLES;
@@ -37,6 +42,7 @@ pub(crate) fn filter_halves<const N: usize>(
     out: &mut [i16],
 )
     requires some { 1 ≤ length coefficients.now }
+    requires few { length coefficients.now ≤ MOST_COEFFICIENTS }
     requires halves { HaveHalves coefficients.now line.now }
     requires outputs { 1 ≤ length out.old }
     requires reach { Reaches first step (length out.old) (length coefficients.now) line.now }
@@ -54,23 +60,113 @@ pub(crate) fn filter_halves<const N: usize>(
     round_halves(sums, out);
 }
 
-/// The sums of neighbouring outputs, that at sample `first` first, by halves: 32 at a time, and then those that are left.
+/// The sums of neighbouring outputs, that at sample `first` first, by halves: as many as can be side by side, and then those that are left.
 fn sum_in_a_row(coefficients: &[i16], line: &[i16], first: usize, sums: &mut [Half])
     requires some { 1 ≤ length coefficients.now }
+    requires few { length coefficients.now ≤ MOST_COEFFICIENTS }
     requires halves { HaveHalves coefficients.now line.now }
     requires reach { first + length coefficients.now + length sums.old ≤ length line.now + 1 }
     requires cleared { AreHalves sums.old }
     ensures halves { AreHalves sums.new }
     ensures sums { AreHalfSums coefficients.now line.now first 1 (length coefficients.now) (length sums.old) sums.new }
 {
+    read_words(coefficients);
     read_words(line);
-    let blocks = sums.len() / BESIDE;
-    let (whole, rest) = sums.split_at_mut(BESIDE * blocks);
-    for block in 0..blocks {
-        let at = BESIDE * block;
-        sum_beside(coefficients, line, first + at, whole, at);
+    if sums.len() < LANES {
+        sum_neighbours(coefficients, line, first, sums);
+        return;
     }
-    sum_neighbours(coefficients, line, first + BESIDE * blocks, rest);
+    let done = sum_blocks(coefficients, line, first, sums);
+    sum_fours(coefficients, line, first, sums, done);
+}
+
+/// The sums of neighbouring outputs by halves, in blocks, and how many those are.
+fn sum_blocks(coefficients: &[i16], line: &[i16], first: usize, sums: &mut [Half]) -> usize
+    requires words { (k : ℕ) → FitsSigned w16 (word_at coefficients.now k) }
+    requires samples { (k : ℕ) → FitsSigned w16 (word_at line.now k) }
+    requires few { length coefficients.now ≤ MOST_COEFFICIENTS }
+    requires products { HaveHalves coefficients.now line.now }
+    requires reach { first + length coefficients.now + length sums.old ≤ length line.now + 1 }
+    requires halves { AreHalves sums.old }
+    ensures some { result ≤ length sums.old }
+    ensures size { length sums.new ≡ length sums.old }
+    ensures halves { AreHalves sums.new }
+    ensures sums { BeginWithSums coefficients.now line.now first result sums.new }
+{
+    let mut rooms = [0; MOST_GROUPS];
+    if sums.len() >= SIXTEEN && find_rooms(coefficients, line, &mut rooms) {
+        sum_watched(coefficients, &rooms, line, first, sums)
+    } else {
+        sum_limited(coefficients, line, first, sums)
+    }
+}
+
+/// The sums of neighbouring outputs by halves, in blocks of 16 that are limited only where a limit can bind, and how many those are.
+fn sum_watched(
+    coefficients: &[i16],
+    rooms: &[u32],
+    line: &[i16],
+    first: usize,
+    sums: &mut [Half],
+) -> usize
+    requires words { (k : ℕ) → FitsSigned w16 (word_at coefficients.now k) }
+    requires samples { (k : ℕ) → FitsSigned w16 (word_at line.now k) }
+    requires products { HaveHalves coefficients.now line.now }
+    requires taps { GROUP ≤ length coefficients.now }
+    requires rooms { AreRooms coefficients.now line.now rooms.now }
+    requires groups { length coefficients.now / GROUP ≤ length rooms.now }
+    requires reach { first + length coefficients.now + length sums.old ≤ length line.now + 1 }
+    requires halves { AreHalves sums.old }
+    ensures some { result ≤ length sums.old }
+    ensures size { length sums.new ≡ length sums.old }
+    ensures halves { AreHalves sums.new }
+    ensures sums { BeginWithSums coefficients.now line.now first result sums.new }
+{
+    for block in 0..sums.len() / SIXTEEN {
+        let at = SIXTEEN * block;
+        sum_sixteen(coefficients, rooms, line, first + at, sums, at);
+    }
+    SIXTEEN * (sums.len() / SIXTEEN)
+}
+
+/// The sums of neighbouring outputs by halves, in blocks of 32 that are limited after each product, and how many those are.
+fn sum_limited(coefficients: &[i16], line: &[i16], first: usize, sums: &mut [Half]) -> usize
+    requires samples { (k : ℕ) → FitsSigned w16 (word_at line.now k) }
+    requires products { HaveHalves coefficients.now line.now }
+    requires reach { first + length coefficients.now + length sums.old ≤ length line.now + 1 }
+    requires halves { AreHalves sums.old }
+    ensures some { result ≤ length sums.old }
+    ensures size { length sums.new ≡ length sums.old }
+    ensures halves { AreHalves sums.new }
+    ensures sums { BeginWithSums coefficients.now line.now first result sums.new }
+{
+    for block in 0..sums.len() / BESIDE {
+        let at = BESIDE * block;
+        sum_beside(coefficients, line, first + at, sums, at);
+    }
+    BESIDE * (sums.len() / BESIDE)
+}
+
+/// The sums of neighbouring outputs by halves from sum `done` on: four at a time, and where fewer are left, the last four.
+fn sum_fours(coefficients: &[i16], line: &[i16], first: usize, sums: &mut [Half], done: usize)
+    requires samples { (k : ℕ) → FitsSigned w16 (word_at line.now k) }
+    requires products { HaveHalves coefficients.now line.now }
+    requires reach { first + length coefficients.now + length sums.old ≤ length line.now + 1 }
+    requires halves { AreHalves sums.old }
+    requires four { LANES ≤ length sums.old }
+    requires some { done ≤ length sums.old }
+    requires done { BeginWithSums coefficients.now line.now first done sums.old }
+    ensures halves { AreHalves sums.new }
+    ensures sums { BeginWithSums coefficients.now line.now first (length sums.old) sums.new }
+{
+    for four in 0..(sums.len() - done) / LANES {
+        let at = done + LANES * four;
+        sum_four(coefficients, line, first + at, sums, at);
+    }
+    if (sums.len() - done) % LANES > 0 {
+        let at = sums.len() - LANES;
+        sum_four(coefficients, line, first + at, sums, at);
+    }
 }
 
 /// The sums of neighbouring outputs, that at sample `first` first, by halves. Taps are outside and outputs inside, two taps in each pass.

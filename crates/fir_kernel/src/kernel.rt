@@ -63,6 +63,7 @@ fn filter_within<const N: usize>(
 /// all of it is looked through for -32768 where a coefficient is that.
 fn filter_limited<const N: usize>(coefficients: &[i16], line: &[i16], step: usize, out: &mut [i16])
     requires some { 1 ≤ length coefficients.now }
+    requires few { length coefficients.now ≤ MOST_COEFFICIENTS }
     requires outputs { 1 ≤ length out.old }
     requires reach { Reaches 0 step (length out.old) (length coefficients.now) line.now }
     requires block { length out.old ≤ N }

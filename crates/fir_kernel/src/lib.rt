@@ -10,6 +10,7 @@ mod halves;
 mod in_order;
 mod kernel;
 mod ring;
+mod watched;
 mod windows;
 
 pub use kernel::filter;

@@ -1,0 +1,122 @@
+use Rattle.std.proofs.Common.{◌≡◌, ◌+◌, ◌*◌, ◌%◌, ◌<◌, ◌≤◌, length, FitsSigned, w16, rules, refl, arith}
+use Rattle.std.proofs.lemmas.Int.{to_z-of_z}
+use Rattle.ialg.specs.History.{word_at}
+use Rattle.fir_kernel.specs.HalfLanes.{taps_sum}
+use Rattle.fir_kernel.proofs.HalfLanes.{halved_kept, none_written, four_written, no_sums}
+use Rattle.fir_kernel.proofs.Groups.{ahead, between, newer_tap, room_small, stay_within}
+use Rattle.fir_kernel.proofs.watched.sum_sixteen.Goals as goal
+
+pub loop-tap-init : goal.loop-tap-init
+loop-tap-init c = record { a = no_sums _ (λ k b. refl); b = no_sums _ (λ k b. refl); c = no_sums _ (λ k b. refl); d = no_sums _ (λ k b. refl) }
+
+pub loop-tap-preserved : goal.loop-tap-preserved
+loop-tap-preserved c =
+    let cs = c.args.coefficients.now in
+    let line = c.args.line.now in
+    let first = c.args.first in
+    let tap = c.loop-tap.tap in
+    let i = c.loop-tap.invariant in
+    let f : FitsSigned w16 (word_at cs tap) = search rules in
+    let e : length cs % 8 < 8 = omega arith in
+    let some : tap + 2 ≤ length cs = omega arith in
+    record {
+      a = newer_tap cs line c.add_newer-a.result first tap _ some (omega arith) (rw (to_z-of_z w16 (word_at cs tap) f) at (c.add_newer-a.ensures _ i.a));
+      b = newer_tap cs line c.add_newer-b.result (first + 1) tap _ some (omega arith) (rw (to_z-of_z w16 (word_at cs tap) f) at (c.add_newer-b.ensures _ i.b));
+      c = newer_tap cs line c.add_newer-c.result (first + 8) tap _ some (omega arith) (rw (to_z-of_z w16 (word_at cs tap) f) at (c.add_newer-c.ensures _ i.c));
+      d = newer_tap cs line c.add_newer-d.result (first + 9) tap _ some (omega arith) (rw (to_z-of_z w16 (word_at cs tap) f) at (c.add_newer-d.ensures _ i.d));
+    }
+
+pub loop-group-init : goal.loop-group-init
+loop-group-init c =
+    let all : c.loop-tap.tap ≡ length c.args.coefficients.now % 8 + 8 * 0 = omega arith in
+    let i = c.loop-tap.invariant in
+    rw (← all) (record { a = i.a; b = i.b; c = i.c; d = i.d })
+
+pub are_below-together-requires-clause-small : goal.are_below-together-requires-clause-small
+are_below-together-requires-clause-small c = room_small c.args.coefficients.now c.args.line.now _ _ (c.requires.rooms c.loop-group.group (omega arith))
+
+pub add_group-a-requires-clause-within : goal.add_group-a-requires-clause-within
+add_group-a-requires-clause-within c t = stay_within c.args.coefficients.now c.args.line.now _ _ _ (c.requires.rooms c.loop-group.group (omega arith)) (c.are_below-together.ensures.a t)
+
+pub add_group-b-requires-clause-within : goal.add_group-b-requires-clause-within
+add_group-b-requires-clause-within c t = stay_within c.args.coefficients.now c.args.line.now _ _ _ (c.requires.rooms c.loop-group.group (omega arith)) (c.are_below-together.ensures.b t)
+
+pub add_group-c-requires-clause-within : goal.add_group-c-requires-clause-within
+add_group-c-requires-clause-within c t = stay_within c.args.coefficients.now c.args.line.now _ _ _ (c.requires.rooms c.loop-group.group (omega arith)) (c.are_below-together.ensures.c t)
+
+pub add_group-d-requires-clause-within : goal.add_group-d-requires-clause-within
+add_group-d-requires-clause-within c t = stay_within c.args.coefficients.now c.args.line.now _ _ _ (c.requires.rooms c.loop-group.group (omega arith)) (c.are_below-together.ensures.d t)
+
+pub loop-group-preserved : goal.loop-group-preserved
+loop-group-preserved c =
+    let n = length c.args.coefficients.now in
+    let next : n % 8 + 8 * c.loop-group.group + 8 ≡ n % 8 + 8 * (c.loop-group.group + 1) = omega arith in
+    rw (← next)
+    (record {
+      a = halved_kept c.add_group-a.result _ c.add_group-a.ensures;
+      b = halved_kept c.add_group-b.result _ c.add_group-b.ensures;
+      c = halved_kept c.add_group-c.result _ c.add_group-c.ensures;
+      d = halved_kept c.add_group-d.result _ c.add_group-d.ensures;
+    })
+
+pub write-requires-clause-within : goal.write-requires-clause-within
+write-requires-clause-within c =
+    let cs = c.args.coefficients.now in
+    let line = c.args.line.now in
+    let first = c.args.first in
+    let i = c.loop-group.invariant in
+    let taps = length cs % 8 + 8 * c.loop-group.group in
+    let ab = between cs line _ first (first + 1) taps (omega arith) i.b in
+    (halved_kept c.low_of.result _ (c.low_of.ensures (λ j. taps_sum cs line taps (first + j)) i.a ab)).within
+
+pub write-requires-2-clause-within : goal.write-requires-2-clause-within
+write-requires-2-clause-within c =
+    let cs = c.args.coefficients.now in
+    let line = c.args.line.now in
+    let first = c.args.first in
+    let i = c.loop-group.invariant in
+    let taps = length cs % 8 + 8 * c.loop-group.group in
+    let ab = between cs line _ first (first + 1) taps (omega arith) i.b in
+    (halved_kept c.high_of.result _ (c.high_of.ensures (λ j. taps_sum cs line taps (first + j)) i.a ab)).within
+
+pub write-requires-3-clause-within : goal.write-requires-3-clause-within
+write-requires-3-clause-within c =
+    let cs = c.args.coefficients.now in
+    let line = c.args.line.now in
+    let first = c.args.first in
+    let i = c.loop-group.invariant in
+    let taps = length cs % 8 + 8 * c.loop-group.group in
+    let ab = between cs line _ (first + 8) (first + 9) taps (omega arith) i.d in
+    (halved_kept c.low_of-2.result _ (c.low_of-2.ensures (λ j. taps_sum cs line taps (first + 8 + j)) i.c ab)).within
+
+pub write-requires-4-clause-within : goal.write-requires-4-clause-within
+write-requires-4-clause-within c =
+    let cs = c.args.coefficients.now in
+    let line = c.args.line.now in
+    let first = c.args.first in
+    let i = c.loop-group.invariant in
+    let taps = length cs % 8 + 8 * c.loop-group.group in
+    let ab = between cs line _ (first + 8) (first + 9) taps (omega arith) i.d in
+    (halved_kept c.high_of-2.result _ (c.high_of-2.ensures (λ j. taps_sum cs line taps (first + 8 + j)) i.c ab)).within
+
+pub returns : goal.returns
+returns c =
+    let cs = c.args.coefficients.now in
+    let line = c.args.line.now in
+    let first = c.args.first in
+    let at = c.args.at in
+    let i = c.loop-group.invariant in
+    let taps = length cs % 8 + 8 * c.loop-group.group in
+    let all : taps ≡ length cs = omega arith in
+    let old = c.args.sums.now in
+    let ab = between cs line _ first (first + 1) taps (omega arith) i.b in
+    let cd = between cs line _ (first + 8) (first + 9) taps (omega arith) i.d in
+    let a = halved_kept c.low_of.result _ (c.low_of.ensures (λ j. taps_sum cs line taps (first + j)) i.a ab) in
+    let b = halved_kept c.high_of.result _ (ahead cs line c.high_of.result first (first + 4) taps (omega arith) (c.high_of.ensures (λ j. taps_sum cs line taps (first + j)) i.a ab)) in
+    let e = halved_kept c.low_of-2.result _ (c.low_of-2.ensures (λ j. taps_sum cs line taps (first + 8 + j)) i.c cd) in
+    let d = halved_kept c.high_of-2.result _ (ahead cs line c.high_of-2.result (first + 8) (first + 12) taps (omega arith) (c.high_of-2.ensures (λ j. taps_sum cs line taps (first + 8 + j)) i.c cd)) in
+    let none = none_written cs line old first at c.requires.halves in
+    let one = four_written cs line old _ c.write.new.sums _ first at 0 taps at first all (omega arith) (omega arith) none c.write.ensures a in
+    let two = four_written cs line old _ c.write-2.new.sums _ first at 4 taps (at + 4) (first + 4) all (omega arith) (omega arith) one c.write-2.ensures b in
+    let three = four_written cs line old _ c.write-3.new.sums _ first at 8 taps (at + 8) (first + 8) all (omega arith) (omega arith) two c.write-3.ensures e in
+    four_written cs line old _ c.write-4.new.sums _ first at 12 taps (at + 12) (first + 12) all (omega arith) (omega arith) three c.write-4.ensures d
