@@ -2,7 +2,7 @@
 use Rattle.std.specs.Prelude.{◌≡◌, ◌≢◌, ◌<◌, ◌≤◌, ℕ, List, [], ◌∷◌, ◌++◌, length, take, Option, slice_index_or}
 use Rattle.octet_ports.specs.declared.TheConstants.{LINE_FEED}
 use Rattle.std.specs.Io.KnownBytes.{Appends, append_known}
-use Rattle.octet_ports.specs.declared.buffer.TheConstants.{JOURNAL_OCTETS}
+use Rattle.octet_ports.specs.declared.waiting.TheConstants.{JOURNAL_OCTETS}
 use Rattle.octet_ports.specs.declared.waiting.Waiting.{Waiting}
 use Rattle.octet_ports.specs.declared.journal.Journal.{Journal}
 

@@ -3,7 +3,6 @@
 //! replies, and is passed on together, no reply before the samples that it tells of.
 #![tactic(auto)]
 
-mod buffer;
 mod device;
 mod handles;
 mod journal;
@@ -14,7 +13,6 @@ mod reader;
 mod tape;
 mod waiting;
 
-pub use buffer::JOURNAL_OCTETS;
 pub use device::{Reading, Writing};
 pub use handles::{JournalOutput, JournalReplies, pass_on_all};
 pub use journal::{Journal, Passing};
@@ -23,6 +21,7 @@ pub use octets::{read_octets, write_octets};
 pub use port::{PortFault, PortIn, PortOut};
 pub use reader::{BUFFER_OCTETS, LineFault, LineReader, ReadLine};
 pub use tape::{TAPE_OCTETS, TapeIn, TapeOut};
+pub use waiting::JOURNAL_OCTETS;
 
 /// The octet that ends a line.
 pub const LINE_FEED: u8 = b'\n';

@@ -4,14 +4,20 @@ ghost use Rattle.std.specs.Io.KnownBytes.{Appends};
 ghost use Rattle.octet_ports.specs.Passing.{EachDoes, HasNothing, HasRoom, HoldsStill, PassesFirst, PassesOn, TakesAll};
 
 use crate::PortFault;
-use crate::buffer::{Buffer, JOURNAL_OCTETS};
+use octet_buffer::Buffer;
 use std::io::Write;
+
+/// The most octets that wait for an output, or for the replies.
+pub const JOURNAL_OCTETS: usize = 8192;
+
+// The limit, said once more: no slip of one passes.
+const _: () = prove!(JOURNAL_OCTETS == 8 * 1024);
 
 /// A device, and what waits for it.
 #[derive(Drop)]
 pub(crate) struct Waiting<W> {
     writer: W,
-    octets: Buffer,
+    octets: Buffer<JOURNAL_OCTETS>,
     /// How many octets of what waited the device surely has, since it was last passed on.
     taken: usize,
 }

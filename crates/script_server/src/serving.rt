@@ -5,11 +5,11 @@ ghost use Rattle.script_server.specs.Runs.{NothingPassed, Ready, ServesAll, Ends
 
 use crate::limits::SCRIPT_OCTETS;
 use crate::line::{Buffers, Desk, flush_outputs, serve_line};
-use arrayvec::ArrayVec;
 use host_map::Map;
 use ialg::{Params, Words};
+use octet_buffer::Buffer;
 use octet_ports::{LineReader, PortIn, PortOut};
-use voice_script::{BLOCK_OCTETS, LINE_OCTETS, LineMachine};
+use voice_script::{BLOCK_OCTETS, LINE_OCTETS, LineMachine, ReplyText};
 
 /// Which ports ended a run.
 #[derive(Clone, Copy, PartialEq, Eq, Debug)]
@@ -48,13 +48,13 @@ fn serve_script<T: LineMachine, S: PortIn, I: PortIn, O: PortOut, P: PortOut>(
 {
     let mut reader = LineReader::new(SCRIPT_OCTETS);
     let mut refused: u64 = 0;
-    let mut text: ArrayVec<u8, LINE_OCTETS> = ArrayVec::new();
+    let mut text: Buffer<LINE_OCTETS> = Buffer::new();
     let mut desk = Desk {
         parameters: Params::new(),
         map: Map::new(),
         words: Words::new(),
         buffers: Buffers {
-            text: ArrayVec::new(),
+            text: ReplyText::new(),
             block: [0; BLOCK_OCTETS],
         },
     };

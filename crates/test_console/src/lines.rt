@@ -1,5 +1,5 @@
 //! Lines that come in whatever pieces, up to the limit, over two buffers and past one.
-use arrayvec::ArrayVec;
+use octet_buffer::Buffer;
 use octet_ports::{BUFFER_OCTETS, LINE_FEED, LineFault, LineReader, PortIn, ReadLine, TapeIn};
 use std::process::Abort;
 
@@ -31,7 +31,7 @@ const LAST: Result<ReadLine, LineFault> = Ok(ReadLine {
 /// Reads lines of at most four octets from a script of which so many may come.
 fn compare_lines(rt: &impl Abort, tape: &mut TapeIn<'_>, most: u32, lines: &[Wanted]) {
     let mut reader = LineReader::new(most);
-    let mut text: ArrayVec<u8, 4> = ArrayVec::new();
+    let mut text: Buffer<4> = Buffer::new();
     for line in lines {
         if tape.failed() {
             return;
@@ -126,7 +126,7 @@ fn a_line_spans_two_buffers(rt: HostRuntime) {
     script[FEEDS..FEEDS + 4].copy_from_slice(b"wxyz");
     let mut tape = TapeIn::new(&script, 4096, NEVER);
     let mut reader = LineReader::new(5000);
-    let mut text: ArrayVec<u8, 4> = ArrayVec::new();
+    let mut text: Buffer<4> = Buffer::new();
     for _ in 0..FEEDS {
         if tape.failed() {
             return;

@@ -1,5 +1,5 @@
 -- What the clauses of private functions alone name: a line as it is cut, and words as they are read one by one.
-use Rattle.std.specs.Prelude.{◌≡◌, ◌≤◌, ◌<◌, ℕ, length, take, slice_index_or, Bool, true, false, List, [], ◌∷◌, ◌++◌, All, ℤ, pos, neg_ℤ, ◌≤ℤ◌, ◌<ℤ◌, Option, Some, None, Result, Ok, Err, if◌then◌else◌}
+use Rattle.std.specs.Prelude.{◌≡◌, ◌≤◌, ◌<◌, ℕ, length, take, slice_index_or, Bool, true, false, List, [], ◌∷◌, ◌++◌, All, ℤ, pos, neg_ℤ, ◌≤ℤ◌, ◌<ℤ◌, Option, Some, None, Result, Ok, Err, if◌then◌else◌, codes}
 use Rattle.std.specs.List.{list_all}
 use Rattle.std.specs.Char.{is_ascii_digit}
 use Rattle.ialg.specs.declared.refusal.Refusal.{Refusal}
@@ -36,6 +36,10 @@ pub record BeginsWithDigits (line : List ℕ) (count value : ℕ) : Type 0 where
   pub valued : value ≡ script.digits_value (take count line)
   pub most : value ≤ GREATEST_MAGNITUDE
   pub end : count < length line → script.is_blank (slice_index_or line count 0) ≡ true
+
+-- the word that most lines begin with
+abbrev pub feed_word : List ℕ
+feed_word = codes "feed"
 
 abbrev pub begins_with_number : List (List ℕ) → Bool
 begins_with_number [] = false

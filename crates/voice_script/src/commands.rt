@@ -166,6 +166,7 @@ fn chain_row<'a, M: Copy>(mut words: Words<'_>) -> Result<Command<'a, M>, Refusa
 }
 
 /// `feed` C N
+#[inline(always)]
 fn feed_row<'a, M: Copy>(mut words: Words<'_>) -> Result<Command<'a, M>, Refusal>
     ensures { row_of result ≡ feed_row (to_come words.entry) }
 {
@@ -186,7 +187,6 @@ fn command_of<'a, M: Named + Copy>(
 ) -> Result<Command<'a, M>, Refusal>
     ensures { row_of result ≡ command_of M.named name.now (to_come words.entry) }
 {
-    // most lines are feeds
     if name == b"feed".as_slice() {
         feed_row(words)
     } else if name == b"create".as_slice() {
@@ -236,6 +236,10 @@ pub fn parse<'a, M: Named + Copy>(
     ensures { line_of result ≡ parsed M.named line.now }
 {
     let mut words = Words::of(line);
+    // most lines are feeds
+    if words.skip_feed() {
+        return Ok(Some(feed_row(words)?));
+    }
     let Some(name) = words.next() else {
         return Ok(None);
     };

@@ -58,6 +58,19 @@ impl<'a> Words<'a> {
         ensures none { IsErr result → begins_with_number (to_come self.old) ≡ false }
         ensures refusal { IfErr result (λ refusal. refusal ≡ Refusal.Syntax) }
     {
+        if let Some(number) = self.leading_number() {
+            return Ok(number);
+        }
+        self.other_number()
+    }
+
+    /// As [`number`](Self::number) does, also for words with more blanks before them, and for numbers beyond the greatest magnitude.
+    #[inline(never)]
+    fn other_number(&mut self) -> Result<Number<'a>, Refusal>
+        ensures number { IfOk result (λ number. to_come self.old ≡ number.word.now ∷ to_come self.new) }
+        ensures none { IsErr result → begins_with_number (to_come self.old) ≡ false }
+        ensures refusal { IfErr result (λ refusal. refusal ≡ Refusal.Syntax) }
+    {
         let Some(word) = self.next() else {
             return Err(Refusal::Syntax);
         };

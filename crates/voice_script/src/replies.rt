@@ -2,18 +2,17 @@
 ghost use Rattle.std.specs.Prelude.{◌≡◌, ◌≤◌, ◌+◌, ◌*◌, ◌++◌, ◌<◌, [], length, decimal};
 ghost use Rattle.std.specs.List.{flat_map};
 ghost use Rattle.std.specs.Fmt.{signed_decimal};
-ghost use Rattle.arrayvec.specs.ArrayVec.{array_vec_len};
 ghost use Rattle.voice_script.specs.Replies.{active_text, owner_text, block_text, word_text, entry_text, line_text, reply_text, is_refusal, Stat as told_stat, No as told_no};
 
 use crate::limits::{
     BYTE_DIGITS, ENTRY_OCTETS, NUMBER_DIGITS, OWNER_OCTETS, REPLY_OCTETS, WORD_TEXT_OCTETS,
 };
-use arrayvec::ArrayVec;
 use host_map::{Map, Owner, Placed, Stat};
 use ialg::{Refusal, Words};
+use octet_buffer::Buffer;
 
 /// The line of a reply.
-pub type ReplyText = ArrayVec<u8, REPLY_OCTETS>;
+pub type ReplyText = Buffer<REPLY_OCTETS>;
 
 /// What is replied to a command. A map is thousands of octets and words are more than a hundred, so their replies name them where they stand.
 #[derive(PartialEq, Eq, Debug, Drop)]
@@ -35,14 +34,14 @@ pub enum Reply<'a> {
 }
 
 fn push_all(text: &mut ReplyText, octets: &[u8])
-    requires { array_vec_len text.old + length octets.now ≤ REPLY_OCTETS }
+    requires { length text.old.items + length octets.now ≤ REPLY_OCTETS }
     ensures { text.new.items ≡ text.old.items ++ octets.now }
 {
-    let _fits = text.try_extend_from_slice(octets);
+    text.take_all(octets);
 }
 
 fn push_digits(text: &mut ReplyText, number: u32)
-    requires { array_vec_len text.old + length (decimal number) ≤ REPLY_OCTETS }
+    requires { length text.old.items + length (decimal number) ≤ REPLY_OCTETS }
     ensures { text.new.items ≡ text.old.items ++ decimal number }
 {
     if number < 10 {
@@ -54,7 +53,7 @@ fn push_digits(text: &mut ReplyText, number: u32)
 }
 
 fn push_number(text: &mut ReplyText, number: u32)
-    requires { array_vec_len text.old + NUMBER_DIGITS ≤ REPLY_OCTETS }
+    requires { length text.old.items + NUMBER_DIGITS ≤ REPLY_OCTETS }
     ensures text { text.new.items ≡ text.old.items ++ decimal number }
     ensures few { length (decimal number) ≤ NUMBER_DIGITS }
 {
@@ -63,7 +62,7 @@ fn push_number(text: &mut ReplyText, number: u32)
 
 /// Puts the number of an instance, a record or a group.
 fn push_byte(text: &mut ReplyText, number: u8)
-    requires { array_vec_len text.old + BYTE_DIGITS ≤ REPLY_OCTETS }
+    requires { length text.old.items + BYTE_DIGITS ≤ REPLY_OCTETS }
     ensures text { text.new.items ≡ text.old.items ++ decimal number }
     ensures few { length (decimal number) ≤ BYTE_DIGITS }
 {
@@ -72,9 +71,9 @@ fn push_byte(text: &mut ReplyText, number: u8)
 
 /// Puts a space and the word.
 fn push_word(text: &mut ReplyText, word: i16)
-    requires { array_vec_len text.old + WORD_TEXT_OCTETS ≤ REPLY_OCTETS }
+    requires { length text.old.items + WORD_TEXT_OCTETS ≤ REPLY_OCTETS }
     ensures text { text.new.items ≡ text.old.items ++ word_text word }
-    ensures room { array_vec_len text.new ≤ array_vec_len text.old + WORD_TEXT_OCTETS }
+    ensures room { length text.new.items ≤ length text.old.items + WORD_TEXT_OCTETS }
 {
     push_all(text, b" ");
     if word < 0 {
@@ -85,9 +84,9 @@ fn push_word(text: &mut ReplyText, word: i16)
 
 /// Puts each word after one space.
 fn push_words(text: &mut ReplyText, words: &[i16])
-    requires { array_vec_len text.old + length words.now * WORD_TEXT_OCTETS ≤ REPLY_OCTETS }
+    requires { length text.old.items + length words.now * WORD_TEXT_OCTETS ≤ REPLY_OCTETS }
     ensures text { text.new.items ≡ text.old.items ++ flat_map word_text words.now }
-    ensures room { array_vec_len text.new ≤ array_vec_len text.old + length words.now * WORD_TEXT_OCTETS }
+    ensures room { length text.new.items ≤ length text.old.items + length words.now * WORD_TEXT_OCTETS }
 {
     for word in words {
         push_word(text, *word);
@@ -95,9 +94,9 @@ fn push_words(text: &mut ReplyText, words: &[i16])
 }
 
 fn push_owner(text: &mut ReplyText, owner: Owner)
-    requires { array_vec_len text.old + OWNER_OCTETS ≤ REPLY_OCTETS }
+    requires { length text.old.items + OWNER_OCTETS ≤ REPLY_OCTETS }
     ensures text { text.new.items ≡ text.old.items ++ owner_text owner }
-    ensures room { array_vec_len text.new ≤ array_vec_len text.old + OWNER_OCTETS }
+    ensures room { length text.new.items ≤ length text.old.items + OWNER_OCTETS }
 {
     match owner {
         Owner::Record(instance, record) => {
@@ -115,9 +114,9 @@ fn push_owner(text: &mut ReplyText, owner: Owner)
 
 /// Puts a space and the block.
 fn push_entry(text: &mut ReplyText, block: Placed)
-    requires { array_vec_len text.old + ENTRY_OCTETS ≤ REPLY_OCTETS }
+    requires { length text.old.items + ENTRY_OCTETS ≤ REPLY_OCTETS }
     ensures text { text.new.items ≡ text.old.items ++ entry_text block }
-    ensures room { array_vec_len text.new ≤ array_vec_len text.old + ENTRY_OCTETS }
+    ensures room { length text.new.items ≤ length text.old.items + ENTRY_OCTETS }
 {
     push_all(text, b" ");
     push_owner(text, block.owner);
@@ -129,9 +128,9 @@ fn push_entry(text: &mut ReplyText, block: Placed)
 
 /// Puts each block after one space.
 fn push_map(text: &mut ReplyText, blocks: &[Placed])
-    requires { array_vec_len text.old + length blocks.now * ENTRY_OCTETS ≤ REPLY_OCTETS }
+    requires { length text.old.items + length blocks.now * ENTRY_OCTETS ≤ REPLY_OCTETS }
     ensures text { text.new.items ≡ text.old.items ++ flat_map entry_text blocks.now }
-    ensures room { array_vec_len text.new ≤ array_vec_len text.old + length blocks.now * ENTRY_OCTETS }
+    ensures room { length text.new.items ≤ length text.old.items + length blocks.now * ENTRY_OCTETS }
 {
     for block in blocks {
         push_entry(text, *block);
@@ -140,9 +139,9 @@ fn push_map(text: &mut ReplyText, blocks: &[Placed])
 
 /// Puts the number of the active member, or a minus.
 fn push_active(text: &mut ReplyText, active: Option<u8>)
-    requires { array_vec_len text.old + BYTE_DIGITS ≤ REPLY_OCTETS }
+    requires { length text.old.items + BYTE_DIGITS ≤ REPLY_OCTETS }
     ensures text { text.new.items ≡ text.old.items ++ active_text active }
-    ensures room { array_vec_len text.new ≤ array_vec_len text.old + BYTE_DIGITS }
+    ensures room { length text.new.items ≤ length text.old.items + BYTE_DIGITS }
 {
     match active {
         Some(member) => push_byte(text, member),
@@ -153,7 +152,7 @@ fn push_active(text: &mut ReplyText, active: Option<u8>)
 fn push_stat(text: &mut ReplyText, stat: Stat)
     requires { text.old.items ≡ [] }
     ensures line { text.new.items ≡ line_text (told_stat stat.active stat.activations) }
-    ensures room { array_vec_len text.new < REPLY_OCTETS }
+    ensures room { length text.new.items < REPLY_OCTETS }
 {
     push_all(text, b"ok ");
     push_active(text, stat.active);
@@ -164,7 +163,7 @@ fn push_stat(text: &mut ReplyText, stat: Stat)
 fn push_refusal(text: &mut ReplyText, refusal: Refusal)
     requires { text.old.items ≡ [] }
     ensures line { text.new.items ≡ line_text (told_no refusal) }
-    ensures room { array_vec_len text.new < REPLY_OCTETS }
+    ensures room { length text.new.items < REPLY_OCTETS }
 {
     push_all(text, b"no ");
     push_number(text, u32::from(refusal.number()));
@@ -179,7 +178,7 @@ impl Reply<'_> {
     fn push_line(&self, text: &mut ReplyText)
         requires { text.old.items ≡ [] }
         ensures line { text.new.items ≡ line_text (reply_of self.now) }
-        ensures room { array_vec_len text.new < REPLY_OCTETS }
+        ensures room { length text.new.items < REPLY_OCTETS }
     {
         match self {
             Reply::Done => push_all(text, b"ok"),
@@ -224,7 +223,7 @@ pub fn write_reply(reply: &Reply<'_>, text: &mut ReplyText)
 pub fn reply_text(reply: &Reply<'_>) -> ReplyText
     ensures { result.items ≡ reply_text (reply_of reply.now) }
 {
-    let mut text = ArrayVec::new();
+    let mut text = ReplyText::new();
     write_reply(reply, &mut text);
     text
 }

@@ -1,8 +1,8 @@
 //! The words of a line.
-ghost use Rattle.std.specs.Prelude.{◌≡◌, ◌<◌, ◌∷◌, length, All, MatchOption, IsSome, IfSome, IfNone};
+ghost use Rattle.std.specs.Prelude.{◌≡◌, ◌<◌, ◌∷◌, true, false, length, All, MatchOption, IsSome, IfSome, IfNone};
 ghost use Rattle.std.specs.Iterator.{YieldsFirstRef, item_count};
 ghost use Rattle.voice_script.specs.Script.{without_return, is_blank};
-ghost use Rattle.voice_script.specs.Readings.{IsNoBlank, PartsAtBlank, to_come};
+ghost use Rattle.voice_script.specs.Readings.{IsNoBlank, PartsAtBlank, feed_word, to_come};
 
 use crate::numbers::Number;
 
@@ -48,6 +48,18 @@ impl<'a> Words<'a> {
         Words {
             line: without_return(line),
         }
+    }
+
+    /// Reads the word `feed`, where the rest of the line begins with it and a space stands behind it. Otherwise nothing is read, and it answers false.
+    pub(crate) fn skip_feed(&mut self) -> bool
+        ensures feed { result ≡ true → to_come self.old ≡ feed_word ∷ to_come self.new }
+        ensures other { result ≡ false → self.new ≡ self.old }
+    {
+        let [b'f', b'e', b'e', b'd', b' ', after @ ..] = self.line else {
+            return false;
+        };
+        self.line = after;
+        true
     }
 
     /// The next word, where the rest of the line begins with it and it is a number that isn't beyond the greatest magnitude. Otherwise None, and

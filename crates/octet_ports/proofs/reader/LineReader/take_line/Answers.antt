@@ -5,7 +5,7 @@ use Rattle.octet_ports.proofs.reader.LineReader.take_line.Goals as goal
 pub returns-clause-taken : goal.returns-clause-taken
 returns-clause-taken g c e =
     rw (← c.self.view_is)
-    (line_taken g.row.MOST c.self.inside.buffer c.self.inside.at c.self.inside.end c.self.inside.left c.in-Some.line.now c.try_extend_from_slice.new.self.items c.self.invariant.order c.in-Some.ensures
+    (line_taken g.row.MOST c.self.inside.buffer c.self.inside.at c.self.inside.end c.self.inside.left c.in-Some.line.now c.take_all.new.self.items c.self.invariant.order c.in-Some.ensures
     (search rules) (search rules) c.self.invariant.few)
 
 pub invariant_of-self : goal.invariant_of-self
@@ -17,11 +17,11 @@ returns-in_default-clause-within g c = let r = c.self.inside in rw (← c.self.v
 pub returns-in_default-clause-few : goal.returns-in_default-clause-few
 returns-in_default-clause-few g c = let r = c.self.inside in rw (← c.self.view_is) (window r.buffer r.at r.end r.left c.self.invariant).1
 
-pub returns-then-is_err-clause-within : goal.returns-then-is_err-clause-within
-returns-then-is_err-clause-within g c = let r = c.self.inside in rw (← c.self.view_is) (window r.buffer r.at r.end r.left c.self.invariant).0
+pub returns-then-line-clause-within : goal.returns-then-line-clause-within
+returns-then-line-clause-within g c = let r = c.self.inside in rw (← c.self.view_is) (window r.buffer r.at r.end r.left c.self.invariant).0
 
-pub returns-then-is_err-clause-few : goal.returns-then-is_err-clause-few
-returns-then-is_err-clause-few g c = let r = c.self.inside in rw (← c.self.view_is) (window r.buffer r.at r.end r.left c.self.invariant).1
+pub returns-then-line-clause-few : goal.returns-then-line-clause-few
+returns-then-line-clause-few g c = let r = c.self.inside in rw (← c.self.view_is) (window r.buffer r.at r.end r.left c.self.invariant).1
 
 pub returns-clause-within : goal.returns-clause-within
 returns-clause-within g c = (window c.self.inside.buffer _ _ _ (invariant_of-self g c)).0
