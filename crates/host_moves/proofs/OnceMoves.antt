@@ -28,12 +28,13 @@ use Rattle.host_shared.specs.declared.locations.Location.{Location}
 use Rattle.host_shared.specs.declared.locations.Location.TheVariants.{Here, At}
 use Rattle.host_shared.specs.Locations.{location_at, piece_here, locations_at, owner_of, shared_at}
 use Rattle.host_shared.specs.Owners.{HasOwners, AllHaveOwners, with_pieces_of}
+use Rattle.host_shared.specs.Sharing.{AreLeast}
 use Rattle.host_table.specs.Table.{slot_at, group_at, instance_of, TablesOk}
 use Rattle.host_shared.proofs.Owners.{lent_here, count_seen}
 use Rattle.host_shared.proofs.Lent.{owners_of_all, lent_last, seen_at}
 use Rattle.host_table.proofs.Held.{owners_of_held}
 use Rattle.host_moves.specs.Waiting.{holds_with, slid_to, SameWords, TablesWaiting, WordsStay}
-use Rattle.host_moves.proofs.Slides.{seen_slid, waiting_slid}
+use Rattle.host_moves.proofs.Slides.{seen_slid, waiting_slid, with_still}
 use Rattle.host_moves.specs.Standing.{IsPieceThere, AreOrdered, AgreeWithMap, table_of}
 use Rattle.host_moves.specs.Moves.{IsNextOf}
 use Rattle.host_moves.proofs.Rooms.{space_itself}
@@ -99,6 +100,9 @@ module _ {M : Type 0} (instances : List (Option (Member M))) (sharing : List Loc
   stands_here =
       here_of (location_at (locations_at sharing i) k) p
       (ap (λ (x : ℕ). piece_here (location_at (locations_at sharing x) k)) (sym its.here) ∙ sym (seen_at sharing i k below) ∙ taken)
+
+  pub least_now : (q : Span) → AreLeast (slid_to sharing i k q)
+  least_now q j l owner is = standing.least j l owner (with_still sharing all_owners i k p q below stands_here j l owner is)
 
   abbrev away : List Locations
   away = with_pieces_of sharing i (with_piece (shared_at sharing i) k None)

@@ -11,7 +11,8 @@ use Rattle.host_table.specs.declared.member.Member.{Member}
 use Rattle.host_shared.specs.declared.locations.Location.{Location}
 use Rattle.host_shared.specs.declared.locations.Location.TheVariants.{Here, At}
 use Rattle.host_shared.specs.declared.locations.Locations.{Locations}
-use Rattle.host_shared.specs.Locations.{location_at, locations_at, owner_by}
+use Rattle.host_shared.specs.Locations.{location_at, locations_at, owner_by, owner_of}
+use Rattle.host_shared.specs.Sharing.{AreLeast}
 use Rattle.host_shared.specs.Owners.{IsSameLocation, SameLocations}
 use Rattle.host_table.specs.Table.{slot_at, own_of, instance_of, TablesOk}
 use Rattle.host_table.proofs.Changes.{slot_in}
@@ -64,6 +65,14 @@ not_equal a b apart =
       | inl h ↦ absurd (apart h.1)
       | inr h ↦ h.0
     ]
+
+owner_by_below : (l : ℕ) (s : Location) → ((owner : ℕ) → s ≡ At owner → owner < l) → owner_by l s ≤ l
+owner_by_below l (Here p) least = omega arith
+owner_by_below l (At owner) least = let less = least owner refl in omega (arith, less)
+
+-- an owner has the least number
+pub owner_below : (sharing : List Locations) → AreLeast sharing → (l k : ℕ) → owner_of sharing l k ≤ l
+owner_below sharing least l k = owner_by_below l (location_at (locations_at sharing l) k) (least l k)
 
 pub from_here : (waits : ℕ → Bool) (n : ℕ) → all_from waits n n ≡ waits n
 from_here waits n = rw (le-ltb n n (omega arith)) refl

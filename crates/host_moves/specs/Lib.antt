@@ -1,4 +1,5 @@
 pub mod Waiting
+pub mod Following
 pub mod Standing
 pub mod Moves
 pub mod Lent

@@ -27,7 +27,14 @@ use mem_rec::Space;
 use space_raw::end_none;
 
 /// Moves a record that an instance has for its own.
-fn move_own<M: Ialg>(tables: &mut Tables<M>, spaces: &mut Spaces, space: Space, i: u8, k: u8)
+fn move_own<M: Ialg>(
+    tables: &mut Tables<M>,
+    spaces: &mut Spaces,
+    space: Space,
+    i: u8,
+    k: u8,
+    guess: usize,
+)
     requires ok { AreConsistent tables.old }
     requires standing { MapAgrees tables.old spaces.old }
     requires next { IsNextOf spaces.old space (Owner.Record i k) }
@@ -35,13 +42,20 @@ fn move_own<M: Ialg>(tables: &mut Tables<M>, spaces: &mut Spaces, space: Space, 
     ensures { Moved M.law space tables.old spaces.old tables.new spaces.new }
 {
     let piece = take_own(&mut tables.instances, i, k as usize);
-    let moved = spaces.make_move(space, piece);
+    let moved = spaces.make_move(space, piece, guess);
     in_order(spaces);
     tell(tables, i, Some((k as usize, moved)));
 }
 
 /// Moves a write-once record that instance `i` owns, and calls algMoved of every instance that shares it.
-fn move_once<M: Ialg>(tables: &mut Tables<M>, spaces: &mut Spaces, space: Space, i: u8, k: u8)
+fn move_once<M: Ialg>(
+    tables: &mut Tables<M>,
+    spaces: &mut Spaces,
+    space: Space,
+    i: u8,
+    k: u8,
+    guess: usize,
+)
     requires ok { AreConsistent tables.old }
     requires standing { MapAgrees tables.old spaces.old }
     requires next { IsNextOf spaces.old space (Owner.Record i k) }
@@ -50,14 +64,21 @@ fn move_once<M: Ialg>(tables: &mut Tables<M>, spaces: &mut Spaces, space: Space,
     ensures { Moved M.law space tables.old spaces.old tables.new spaces.new }
 {
     let piece = take_once(&mut tables.sharing, i, k as usize);
-    let moved = spaces.make_move(space, piece);
+    let moved = spaces.make_move(space, piece, guess);
     in_order(spaces);
     put_once(&mut tables.sharing, i, k as usize, moved);
     call_moved_of_sharers(tables, i, k as usize);
 }
 
 /// Moves the block of a group.
-fn move_block<M: Ialg>(tables: &mut Tables<M>, spaces: &mut Spaces, space: Space, g: u8, align: u32)
+fn move_block<M: Ialg>(
+    tables: &mut Tables<M>,
+    spaces: &mut Spaces,
+    space: Space,
+    g: u8,
+    align: u32,
+    guess: usize,
+)
     requires ok { AreConsistent tables.old }
     requires standing { MapAgrees tables.old spaces.old }
     requires number { g < GROUPS }
@@ -67,7 +88,7 @@ fn move_block<M: Ialg>(tables: &mut Tables<M>, spaces: &mut Spaces, space: Space
 {
     match take_block(&mut tables.groups, g, space) {
         Some(piece) => {
-            let moved = spaces.make_move(space, piece);
+            let moved = spaces.make_move(space, piece, guess);
             in_order(spaces);
             let old = put_block(&mut tables.groups, g, space, moved, align);
             end_none(old);
@@ -102,15 +123,17 @@ pub fn make_next_move<M: Ialg>(
     let Some(block) = spaces.next_move_behind(space, packed) else {
         return false;
     };
+    // it is the last of those that are packed once it has moved
+    let guess = packed.saturating_sub(1);
     match block.owner {
         Owner::Record(i, k) => {
             if sees(&tables.sharing, i as usize, k as usize) {
-                move_once(tables, spaces, space, i, k);
+                move_once(tables, spaces, space, i, k, guess);
             } else {
-                move_own(tables, spaces, space, i, k);
+                move_own(tables, spaces, space, i, k, guess);
             }
         }
-        Owner::Scratch(g) => move_block(tables, spaces, space, g, block.align),
+        Owner::Scratch(g) => move_block(tables, spaces, space, g, block.align, guess),
     }
     true
 }

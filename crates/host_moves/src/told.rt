@@ -1,21 +1,72 @@
 //! algMoved: instances follow their records to where these lie now.
-ghost use Rattle.std.specs.Prelude.{◌≡◌, ◌+◌, ◌<◌, ℕ, ℤ, Bool, Option, Some, IsSome};
+ghost use Rattle.std.specs.Prelude.{◌≡◌, ◌+◌, ◌<◌, ℕ, ℤ, Bool, length, Option, Some, IsSome};
 ghost use Rattle.mem_rec.specs.declared.TheConstants.{TABLE_RECORDS, INSTANCES};
 ghost use Rattle.ialg.specs.History.{History};
 ghost use Rattle.lifecycle.specs.Moves.{restored, CanRestore, with_back, HasRoom};
 ghost use Rattle.host_table.specs.declared.member.Member.{Member};
 ghost use Rattle.host_table.specs.Table.{slot_at, group_at, own_of, instance_of, SameActivities};
 ghost use Rattle.host_shared.specs.Locations.{owner_of, shared_at};
+ghost use Rattle.host_shared.specs.Owners.{HasOwners, with_pieces_of};
+ghost use Rattle.host_shared.specs.Sharing.{AreLeast};
 ghost use Rattle.host_table.specs.Steps.{AreKept, AreConsistent, MembersStay, AllHistoriesStay};
 ghost use Rattle.host_table.specs.Frames.{InactiveGroupsStay, SameMembers};
+ghost use Rattle.host_moves.specs.Following.{Follows};
 ghost use Rattle.host_moves.specs.Waiting.{own_set, all_but, all_from, holds_with, TablesThere, TablesBut, TablesWaiting, TablesWaitingBut};
 
-use host_shared::{borrow_pieces, give_back_pieces, next_with_owner};
+use host_shared::{Locations, borrow_pieces, end_absent, give_back_pieces, next_with_owner};
 use host_table::Tables;
 use ialg::Ialg;
-use lifecycle::Inst;
+use lifecycle::{Idle, Inst};
 use mem_rec::INSTANCES;
+use record_loans::Pieces;
+use scratch_group::{Group, is_filter};
 use space_raw::Piece;
+
+/// Calls algMoved of an idle instance, with its write-once records borrowed from their owners.
+#[inline(never)]
+fn follow_sharing<M: Ialg>(
+    idle: &mut Idle<M>,
+    back: Option<(usize, Piece)>,
+    sharing: &mut Vec<Locations>,
+    i: u8,
+    group: &Group,
+)
+    requires back { CanRestore back idle.old.instance.own }
+    requires number { i < length sharing.old.items }
+    requires owners { HasOwners sharing.old.items i }
+    requires fits { HasRoom (with_back idle.old.instance back) (shared_at sharing.old.items i) group.now }
+    ensures seen { sharing.new.items ≡ with_pieces_of sharing.old.items i (shared_at sharing.new.items i) }
+    ensures follows { Follows M.law back idle.old.instance idle.new.instance (shared_at sharing.old.items i) (shared_at sharing.new.items i) group.now }
+{
+    let mut shared = borrow_pieces(sharing, i as usize);
+    idle.moved(back, &mut shared, group);
+    give_back_pieces(sharing, i as usize, shared);
+}
+
+/// Calls algMoved of an idle instance. A filter has no write-once record, so nothing is borrowed for it: most instances are filters.
+#[inline(always)]
+fn follow<M: Ialg>(
+    idle: &mut Idle<M>,
+    back: Option<(usize, Piece)>,
+    sharing: &mut Vec<Locations>,
+    i: u8,
+    group: &Group,
+)
+    requires back { CanRestore back idle.old.instance.own }
+    requires number { i < length sharing.old.items }
+    requires owners { HasOwners sharing.old.items i }
+    requires fits { HasRoom (with_back idle.old.instance back) (shared_at sharing.old.items i) group.now }
+    ensures seen { sharing.new.items ≡ with_pieces_of sharing.old.items i (shared_at sharing.new.items i) }
+    ensures follows { Follows M.law back idle.old.instance idle.new.instance (shared_at sharing.old.items i) (shared_at sharing.new.items i) group.now }
+{
+    if is_filter(&idle.instance.table) {
+        let mut none = Pieces::none();
+        idle.moved(back, &mut none, group);
+        end_absent(none);
+    } else {
+        follow_sharing(idle, back, sharing, i, group);
+    }
+}
 
 /// Calls algMoved of an instance, with its own piece that was taken out, if one was. It stays in its state.
 pub fn tell<M: Ialg>(tables: &mut Tables<M>, i: u8, back: Option<(usize, Piece)>)
@@ -41,9 +92,7 @@ pub fn tell<M: Ialg>(tables: &mut Tables<M>, i: u8, back: Option<(usize, Piece)>
             let g = member.group as usize;
             match &mut member.inst {
                 Inst::Idling(idle) => {
-                    let mut shared = borrow_pieces(&mut tables.sharing, i as usize);
-                    idle.moved(back, &mut shared, &tables.groups[g]);
-                    give_back_pieces(&mut tables.sharing, i as usize, shared);
+                    follow(idle, back, &mut tables.sharing, i, &tables.groups[g]);
                 }
                 Inst::Running(active) => {
                     let mut shared = borrow_pieces(&mut tables.sharing, i as usize);
@@ -73,8 +122,10 @@ fn call_moved_of_sharer<M: Ialg>(tables: &mut Tables<M>, i: u8, k: usize, j: u8)
     }
 }
 
-/// Calls algMoved of the owner `i` of a write-once record and of each instance that shares it, in ascending number.
+/// Calls algMoved of the owner `i` of a write-once record and of each instance that shares it, in ascending number. The owner has the least number.
 pub fn call_moved_of_sharers<M: Ialg>(tables: &mut Tables<M>, i: u8, k: usize)
+    requires number { i < INSTANCES }
+    requires least { AreLeast tables.old.sharing }
     requires record { k < TABLE_RECORDS }
     requires waiting { TablesWaiting (holds_with tables.old.sharing i k) tables.old.instances tables.old.sharing tables.old.groups }
     ensures ok { AreConsistent tables.new }
@@ -83,7 +134,7 @@ pub fn call_moved_of_sharers<M: Ialg>(tables: &mut Tables<M>, i: u8, k: usize)
     ensures activity { SameActivities tables.old.groups tables.new.groups }
     ensures keeps { AllHistoriesStay M.law tables.old tables.new }
 {
-    let mut j = next_with_owner(&tables.sharing, i, k, 0);
+    let mut j = next_with_owner(&tables.sharing, i, k, i as usize);
     while j < INSTANCES {
         call_moved_of_sharer(tables, i, k, j as u8);
         j = next_with_owner(&tables.sharing, i, k, j + 1);

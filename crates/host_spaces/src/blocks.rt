@@ -7,7 +7,7 @@ ghost use Rattle.relocate.specs.declared.limits.TheConstants.{GREATEST_NEED};
 ghost use Rattle.host_map.specs.declared.TheConstants.{MAP_BLOCKS, SPACE_BLOCKS};
 ghost use Rattle.host_map.specs.declared.placed.Owner.{Owner};
 ghost use Rattle.host_map.specs.declared.placed.Placed.{Placed};
-ghost use Rattle.host_map.specs.Blocks.{AreSingle, IsOwner, block_range, disowned, owned, ranges, renamed_blocks, renaming, with_block, without_at};
+ghost use Rattle.host_map.specs.Blocks.{AreSingle, IsOwner, block_range, disowned, owned, ranges, renamed_block, renamed_blocks, renaming, with_block, without_at};
 ghost use Rattle.host_spaces.specs.Blocks.{Owns, block_of};
 ghost use Rattle.host_map.specs.Moves.{moved, moved_to, next_block, next_in, spots_of};
 ghost use Rattle.relocate.specs.Spots.{AreSpots};
@@ -133,8 +133,9 @@ impl SpaceBlocks {
         }
     }
 
-    /// The next move is made, of the block that this piece is. It is slid down to its packed place with its words.
-    pub fn make_move(&mut self, piece: Piece) -> Piece
+    /// The next move is made, of the block that this piece is. It is slid down to its packed place with its words. The block is looked for at the
+    /// index `guess` first.
+    pub fn make_move(&mut self, piece: Piece, guess: usize) -> Piece
         requires region { piece.region ≡ self.old.region }
         requires next { option_map block_range (next_block self.old.blocks) ≡ Some (range_of piece) }
         ensures blocks { self.new.blocks ≡ moved self.old.blocks }
@@ -145,7 +146,7 @@ impl SpaceBlocks {
         ensures slid { self.new.slid ≡ min (self.old.slid + length piece.words) (2 ^ 64 - 1) }
         ensures stays { self.new.region ≡ self.old.region }
     {
-        let index = position(self.blocks.as_slice(), piece.place());
+        let index = position_near(self.blocks.as_slice(), piece.place(), guess);
         let align = align_of(self.blocks.as_slice(), index);
         let moved = self.heap.lower(piece, align);
         put_at(&mut self.blocks, index, moved.place());
@@ -220,15 +221,17 @@ fn rename_each(blocks: &mut [Placed], from: Owner, to: Owner)
     ensures { blocks.new ≡ renamed_blocks (renaming from to) blocks.old }
 {
     for block in blocks.iter_mut() {
-        block.owner = renamed(block.owner, from, to);
+        rename_block(block, from, to);
     }
 }
 
-// The owner `to` for the owner `from`.
-fn renamed(owner: Owner, from: Owner, to: Owner) -> Owner
-    ensures { result ≡ renaming from to owner }
+// The block is another owner's, if it is this owner's. Most are not, and are left as they are.
+fn rename_block(block: &mut Placed, from: Owner, to: Owner)
+    ensures { block.new ≡ renamed_block (renaming from to) block.old }
 {
-    if owner == from { to } else { owner }
+    if block.owner == from {
+        block.owner = to;
+    }
 }
 
 // The index of the block that begins at the place.
@@ -239,6 +242,19 @@ fn position(blocks: &[Placed], place: u32) -> usize
     ensures found { (d : Placed) → (slice_index_or blocks.now result d).place ≡ place }
 {
     count_before(blocks, place)
+}
+
+// The same, where it may be known: at `guess` it is looked for first.
+fn position_near(blocks: &[Placed], place: u32, guess: usize) -> usize
+    requires order { AreSpots (spots_of blocks.now) }
+    requires there { (b : Placed) × Contains blocks.now b × (b.place ≡ place) }
+    ensures within { result < length blocks.now }
+    ensures found { (d : Placed) → (slice_index_or blocks.now result d).place ≡ place }
+{
+    if guess < blocks.len() && blocks[guess].place == place {
+        return guess;
+    }
+    position(blocks, place)
 }
 
 // The alignment of a block.

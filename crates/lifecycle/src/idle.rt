@@ -201,6 +201,9 @@ impl<M: Ialg> Idle<M> {
     }
 
     /// Goes by the places as they are now, with the piece that was taken out, if one was.
+    ///
+    /// Inlined, so that of an instance without write-once records the compiler drops the empty `Pieces`.
+    #[inline(always)]
     pub fn moved(&mut self, back: Option<(usize, Piece)>, shared: &mut Pieces, group: &Group)
         requires back { CanRestore back self.old.instance.own }
         requires fits { HasRoom (with_back self.old.instance back) shared.old group.now }

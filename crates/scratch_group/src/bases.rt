@@ -10,6 +10,9 @@ use mem_rec::{Attr, MemTab};
 use record_loans::Pieces;
 
 /// The base of each record is its place from now on.
+///
+/// Inlined, so that where the table is known to be a filter's the compiler drops what others need.
+#[inline(always)]
 pub fn rebase(table: &mut MemTab, own: &Pieces, shared: &Pieces, group: &Group)
     requires sizes { HasWords table.old own.now shared.now group.now }
     requires spaces { InSpaces own.now shared.now group.now }

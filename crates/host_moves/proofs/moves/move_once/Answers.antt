@@ -1,3 +1,4 @@
+use Rattle.std.proofs.Common.{arith}
 use Rattle.host_map.specs.MemoryMap.{blocks_in}
 use Rattle.host_spaces.specs.MemoryMap.{map_of}
 use Rattle.host_shared.proofs.Lent.{owners_of_all}
@@ -5,7 +6,7 @@ use Rattle.host_table.proofs.Held.{owners_of_held}
 use Rattle.host_moves.proofs.Seen.{words_seen, words_at_rest}
 use Rattle.host_moves.proofs.Owners.{standing_stays}
 use Rattle.host_moves.proofs.OwnMoves.{kind_itself, then_same, same_sizes, words_copied}
-use Rattle.host_moves.proofs.OnceMoves.{next_is, region_is, range_is, below, inside_away, empty_there, back_is, waiting_now, stands, words_now}
+use Rattle.host_moves.proofs.OnceMoves.{next_is, region_is, range_is, below, inside_away, empty_there, back_is, least_now, waiting_now, stands, words_now}
 use Rattle.host_moves.proofs.moves.move_once.Goals as goal
 use Rattle.host_moves.proofs.moves.move_once.Goals.{After-put_once}
 
@@ -31,6 +32,17 @@ make_move-moved-requires-clause-region g c =
 pub make_move-moved-requires-clause-next : goal.make_move-moved-requires-clause-next
 make_move-moved-requires-clause-next g c =
     range_is _ _ _ _ _ c.args.i c.args.k _ (rw (← c.tables.view_is) at c.requires.ok) (rw (← c.tables.view_is) at c.requires.standing) c.requires.next (rw (← c.tables.view_is) at c.requires.number) c.take_once-piece.ensures.piece
+
+pub call_moved_of_sharers-requires-clause-number : goal.call_moved_of_sharers-requires-clause-number
+call_moved_of_sharers-requires-clause-number g c =
+    let count = (rw (← c.tables.view_is) at c.requires.ok).sharing_count in
+    let inside = rw (← c.tables.view_is) at c.requires.number in
+    omega (arith, count, inside)
+
+pub call_moved_of_sharers-requires-clause-least : goal.call_moved_of_sharers-requires-clause-least
+call_moved_of_sharers-requires-clause-least g c =
+    rw (c.put_once.ensures, c.take_once-piece.ensures.left, back_is _ _ _ _ _ c.args.i c.args.k _ (rw (← c.tables.view_is) at c.requires.ok) (rw (← c.tables.view_is) at c.requires.standing) c.requires.next (rw (← c.tables.view_is) at c.requires.number) c.take_once-piece.ensures.piece c.make_move-moved.result)
+    (least_now _ _ _ _ _ c.args.i c.args.k _ (rw (← c.tables.view_is) at c.requires.ok) (rw (← c.tables.view_is) at c.requires.standing) c.requires.next (rw (← c.tables.view_is) at c.requires.number) c.take_once-piece.ensures.piece c.make_move-moved.result)
 
 pub call_moved_of_sharers-requires-clause-waiting : goal.call_moved_of_sharers-requires-clause-waiting
 call_moved_of_sharers-requires-clause-waiting g c =

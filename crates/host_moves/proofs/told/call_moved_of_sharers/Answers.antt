@@ -2,7 +2,7 @@ use Rattle.std.proofs.Common.{◌+◌, ◌∙◌, refl, arith}
 use Rattle.host_table.proofs.Activities.{inactive_then}
 use Rattle.host_table.proofs.Told.{members_then, same_members}
 use Rattle.host_moves.specs.Waiting.{holds_with}
-use Rattle.host_moves.proofs.Sharing.{all_wait, none_waits, not_equal, passed_over}
+use Rattle.host_moves.proofs.Sharing.{all_wait, none_waits, not_equal, owner_below, passed_over}
 use Rattle.host_moves.proofs.told.call_moved_of_sharers.Goals as goal
 
 pub loop-j-init : goal.loop-j-init
@@ -11,7 +11,9 @@ loop-j-init g c = record {
   found = rw (← c.tables.view_is) c.next_with_owner-j.ensures.found;
   waiting =
       passed_over (holds_with c.args.tables.now.sharing c.args.i c.args.k) _ _ _ 0 c.next_with_owner-j.result (omega arith)
-      (λ l from before. rw (← c.tables.view_is) (not_equal _ c.args.i (c.next_with_owner-j.ensures.passed l from before)))
+      (λ l from before.
+      let least = owner_below _ (rw (← c.tables.view_is) at c.requires.least) l c.args.k in
+      rw (← c.tables.view_is) (not_equal _ c.args.i (λ e. c.next_with_owner-j.ensures.passed l (omega (arith, e, least)) before e)))
       (all_wait (holds_with c.args.tables.now.sharing c.args.i c.args.k) _ _ _ c.requires.waiting);
   inactive = λ k none. refl;
   same = same_members _ _ _;

@@ -2,7 +2,6 @@
 use Rattle.std.proofs.Common.{◌<◌, ◌≤◌, ◌++◌, List, map, length, get_or, set, take, ap, ◌∙◌, append-nil, arith}
 use Rattle.std.proofs.lemmas.List.{drop_all, get_or_default, take_all}
 use Rattle.std.proofs.lemmas.List.Edits.{map_over_more}
-use Rattle.host_map.specs.declared.placed.Owner.{Owner}
 use Rattle.host_map.specs.declared.placed.Owner.TheVariants.{Record}
 use Rattle.host_map.specs.declared.placed.Placed.{Placed}
 use Rattle.host_map.specs.Blocks.{renamed_block, renamed_blocks, renaming}
@@ -17,7 +16,7 @@ loop-block-preserved c =
     let xs = c.args.blocks.now in let ys = c.loop-block.blocks in let i = c.loop-block.block-index in
     let x = get_or ys i blank in
     let within : i < length ys = omega arith in
-    ap (λ (o : Owner). let b : Placed = record x { owner = o } in set ys i b) c.renamed-block.ensures
+    ap (λ (b : Placed). set ys i b) c.rename_block.ensures
     ∙ map_over_more (renamed_block (renaming c.args.from c.args.to)) xs ys i x (omega arith) c.loop-block.invariant (get_or_default ys i blank x within)
 
 pub returns : goal.returns
