@@ -1,5 +1,5 @@
-//! The filter by halves of its sums, where no product is that of -32768 and -32768: each sum takes its products in order, and is limited after each.
-//! A step has neither a doubling nor a test for overflow, and the sums of a block run side by side in vector registers.
+//! The filter by halves of its sums, where no product is that of -32768 and -32768: each sum takes its products in order, and is limited after each that may take it
+//! beyond a limit. A step has neither a doubling nor a test for overflow, and the sums of a block run side by side in vector registers.
 ghost use Rattle.std.specs.Prelude.{true, ◌≡◌, ◌<◌, ◌≤◌, ◌+◌, ◌*◌, ◌/◌, ℕ, ℤ, length, FitsSigned};
 ghost use Rattle.std.specs.Int.{w16};
 ghost use Rattle.basic_op.specs.Halves.{half_of};
