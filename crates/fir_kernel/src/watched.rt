@@ -95,11 +95,19 @@ pub(crate) fn sum_sixteen(
     }
     for group in 0..coefficients.len() / GROUP {
         let tap = coefficients.len() % GROUP + GROUP * group;
-        let together = are_below(a, b, c, d, rooms[group]);
-        a = add_group(a, together, coefficients, tap, line, first);
-        b = add_group(b, together, coefficients, tap, line, first + 1);
-        c = add_group(c, together, coefficients, tap, line, first + 8);
-        d = add_group(d, together, coefficients, tap, line, first + 9);
+        if are_below(a, b, c, d, rooms[group]) {
+            let taps = &coefficients[tap..tap + GROUP];
+            let oldest = first + (coefficients.len() - GROUP - tap);
+            a = add_together(a, taps, line, oldest);
+            b = add_together(b, taps, line, oldest + 1);
+            c = add_together(c, taps, line, oldest + 8);
+            d = add_together(d, taps, line, oldest + 9);
+        } else {
+            a = add_in_order(a, coefficients, tap, line, first);
+            b = add_in_order(b, coefficients, tap, line, first + 1);
+            c = add_in_order(c, coefficients, tap, line, first + 8);
+            d = add_in_order(d, coefficients, tap, line, first + 9);
+        }
     }
     write(low_of(a, b), sums, at);
     write(high_of(a, b), sums, at + 4);
@@ -128,32 +136,6 @@ fn are_below(a: i32x4, b: i32x4, c: i32x4, d: i32x4, room: u32) -> bool
     let cd = c.abs().simd_max(d.abs());
     let limit = i32x4::splat(room as i32);
     ab.simd_max(cd).simd_lt(limit).all()
-}
-
-/// Adds the products of a group of taps to four sums.
-#[inline(always)]
-fn add_group(
-    halves: i32x4,
-    together: bool,
-    coefficients: &[i16],
-    tap: usize,
-    line: &[i16],
-    first: usize,
-) -> i32x4
-    requires words { (k : ℕ) → FitsSigned w16 (word_at coefficients.now k) }
-    requires samples { (k : ℕ) → FitsSigned w16 (word_at line.now k) }
-    requires products { HaveHalves coefficients.now line.now }
-    requires reach { first + 6 + length coefficients.now ≤ length line.now }
-    requires tap { tap + GROUP ≤ length coefficients.now }
-    requires before { HaveEvery coefficients.now line.now first tap halves }
-    requires within { together ≡ true → StayWithin coefficients.now line.now tap halves }
-    ensures { HaveEvery coefficients.now line.now first (tap + GROUP) result }
-{
-    if together {
-        let oldest = first + (coefficients.len() - GROUP - tap);
-        return add_together(halves, &coefficients[tap..tap + GROUP], line, oldest);
-    }
-    add_in_order(halves, coefficients, tap, line, first)
 }
 
 /// Adds the products of eight taps to four sums, to 32 bits.
