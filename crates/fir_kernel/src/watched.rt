@@ -1,15 +1,15 @@
 //! Sums by halves in vector registers, that are limited only where a limit can bind: 16 neighbouring outputs side by side. Before each group of eight taps the sums are looked
 //! at: where the products of the group can't take one of them beyond the limits, whatever the samples, those are added together, and else one after the other.
-ghost use Rattle.std.specs.Prelude.{true, ◌≡◌, ◌<◌, ◌≤◌, ◌+◌, ◌-◌, ◌*◌, ◌/◌, ◌^◌, ◌+ℤ◌, ◌*ℤ◌, ℕ, ℤ, length, FitsSigned};
+ghost use Rattle.std.specs.Prelude.{true, ◌≡◌, ◌<◌, ◌≤◌, ◌+◌, ◌-◌, ◌*◌, ◌/◌, ◌^◌, ◌+ℤ◌, ◌*ℤ◌, ℕ, ℤ, List, length, FitsSigned};
 ghost use Rattle.std.specs.Int.{w16};
 ghost use Rattle.basic_op.specs.Operators.{l_mac_of};
 ghost use Rattle.ialg.specs.History.{word_at};
-ghost use Rattle.fir_kernel.specs.Bounded.{magnitude_sum, product_sum};
+ghost use Rattle.fir_kernel.specs.Bounded.{magnitude_sum, product_sum, NoneLouder};
 ghost use Rattle.fir_kernel.specs.Halves.{AreHalves, HasHalves, HaveHalves};
 ghost use Rattle.fir_kernel.specs.HalfLanes.{HasHalfSums, IsHalved};
 ghost use Rattle.fir_kernel.specs.Watched.{AreBelow, AreRooms, AreWrapped, HaveEvery, StayWithin};
 
-use crate::bounded::{loudest, magnitude};
+use crate::bounded::magnitude;
 use crate::half_lanes::{LANES, limited, write};
 use crate::halves::Half;
 use crate::{LEAST_UNBOUNDED_SUM, MOST_COEFFICIENTS};
@@ -27,20 +27,19 @@ pub(crate) const MOST_GROUPS: usize = MOST_COEFFICIENTS / GROUP;
 /// How many words a load has: two for each of four sums.
 const REGISTER: usize = 8;
 
-/// Finds the room of each group of taps: a sum whose magnitude is below it stays within the limits. Whether one has any.
-pub(crate) fn find_rooms(coefficients: &[i16], line: &[i16], rooms: &mut [u32]) -> bool
+/// Finds the room of each group of taps, for samples of which none is louder: a sum whose magnitude is below it stays within the limits. Whether one has any.
+pub(crate) fn find_rooms(coefficients: &[i16], loudest: u16, rooms: &mut [u32]) -> bool
     requires few { length coefficients.now / 8 ≤ length rooms.old }
     ensures some { result ≡ true → GROUP ≤ length coefficients.now }
-    ensures rooms { result ≡ true → AreRooms coefficients.now line.now rooms.new }
+    ensures rooms { result ≡ true → (line : List ℤ) → NoneLouder line loudest → AreRooms coefficients.now line rooms.new }
 {
     if coefficients.len() < GROUP {
         return false;
     }
-    let greatest = loudest(line);
     let mut most = 0;
     for group in 0..coefficients.len() / GROUP {
         let tap = coefficients.len() % GROUP + GROUP * group;
-        rooms[group] = room_of(&coefficients[tap..tap + GROUP], greatest);
+        rooms[group] = room_of(&coefficients[tap..tap + GROUP], loudest);
         most = rooms[group].max(most);
     }
     most > 0
