@@ -291,6 +291,17 @@ group_together cs line halves r taps first tap oldest some from same have stay a
         half_run (word_at cs) (x k) l tap (word_at halves k) (have.halves k b) 8 quiet room,
       )
 
+-- the same, of the part of the coefficients that has the eight taps
+pub added_together : (cs line halves r : List ℤ) (first tap oldest : ℕ) → tap + 8 ≤ length cs → oldest ≡ first + (length cs - 8 - tap)
+    → HaveEvery cs line first tap halves → StayWithin cs line tap halves
+    → ((s : ℕ → ℤ) → AreWrapped halves s
+    → AreWrapped r (λ k. s k +ℤ product_sum (word_at (take (tap + 8 - tap) (drop tap cs))) (λ j. word_at line (oldest + 7 + 2 * k - j)) 8))
+    → HaveEvery cs line first (tap + 8) (map (to_z w32) (map (of_z w32) r))
+added_together cs line halves r first tap oldest some from have stay adds =
+    halved_kept r _
+    (group_together cs line halves r (take (tap + 8 - tap) (drop tap cs)) first tap oldest some from (λ j b. part_at cs tap (tap + 8) j (omega arith)) have stay
+    (adds _ (halves_wrapped halves have.four have.within)))
+
 pub stay_within : (cs line lanes : List ℤ) (tap room : ℕ) → IsRoom cs line tap room → AreBelow room lanes → StayWithin cs line tap lanes
 stay_within cs line lanes tap room r below = (r.0, r.1, λ k b. r.2 (unsigned_abs (word_at lanes k)) (below k b))
 

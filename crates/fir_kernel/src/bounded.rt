@@ -14,18 +14,23 @@ use basic_op::{half_round, product};
 /// How many products are summed at once: a loop of so many is unrolled into vector products.
 const LANES: usize = 32;
 
-/// Whether no sum of the filter over these samples can saturate. Of most filters none can, however loud the samples are: then these aren't
-/// looked through.
-pub(crate) fn is_bounded(coefficients: &[i16], samples: &[i16]) -> bool
+/// Whether no sum of the filter over these samples can saturate, and a magnitude that none of them exceeds. Of most filters none can, however loud the
+/// samples are: then these aren't looked through.
+pub(crate) fn bound(coefficients: &[i16], samples: &[i16]) -> (bool, u16)
     requires { length coefficients.now ≤ MOST_COEFFICIENTS }
-    ensures { IsTrue result ↔ IsBounded coefficients.now samples.now }
+    ensures bounded { IsTrue result.0 ↔ IsBounded coefficients.now samples.now }
+    ensures quiet { NoneLouder samples.now result.1 }
 {
     let magnitude = u64::from(magnitude(coefficients));
     if magnitude * GREATEST_MAGNITUDE < LEAST_UNBOUNDED_SUM {
         read(samples);
-        return true;
+        return (true, GREATEST_MAGNITUDE as u16);
     }
-    magnitude * u64::from(loudest(samples)) < LEAST_UNBOUNDED_SUM
+    let loudest = loudest(samples);
+    (
+        magnitude * u64::from(loudest) < LEAST_UNBOUNDED_SUM,
+        loudest,
+    )
 }
 
 /// Reads all samples. Nothing is left of it where the code is made.
@@ -50,7 +55,7 @@ pub(crate) fn magnitude(coefficients: &[i16]) -> u32
 }
 
 /// The greatest magnitude of a sample.
-pub(crate) fn loudest(samples: &[i16]) -> u16
+fn loudest(samples: &[i16]) -> u16
     ensures bound { NoneLouder samples.now result }
     ensures least { (bound : ℕ) → NoneLouder samples.now bound → result ≤ bound }
 {

@@ -5,6 +5,7 @@ ghost use Rattle.std.specs.Int.{w16};
 ghost use Rattle.basic_op.specs.Halves.{half_of};
 ghost use Rattle.basic_op.specs.Operators.{round_of};
 ghost use Rattle.ialg.specs.History.{word_at};
+ghost use Rattle.fir_kernel.specs.Bounded.{NoneLouder};
 ghost use Rattle.fir_kernel.specs.Halves.{AreAboveLeast, AreHalfSums, AreHalves, HasHalves, HaveHalves, HaveProduct, HaveProducts};
 ghost use Rattle.fir_kernel.specs.HalfLanes.{BeginWithSums};
 ghost use Rattle.fir_kernel.specs.Sums.{AreOutputs, Reaches};
@@ -39,11 +40,13 @@ pub(crate) fn filter_halves<const N: usize>(
     line: &[i16],
     first: usize,
     step: usize,
+    loudest: u16,
     out: &mut [i16],
 )
     requires some { 1 ≤ length coefficients.now }
     requires few { length coefficients.now ≤ MOST_COEFFICIENTS }
     requires halves { HaveHalves coefficients.now line.now }
+    requires quiet { NoneLouder line.now loudest }
     requires outputs { 1 ≤ length out.old }
     requires reach { Reaches first step (length out.old) (length coefficients.now) line.now }
     requires block { length out.old ≤ N }
@@ -53,7 +56,7 @@ pub(crate) fn filter_halves<const N: usize>(
     let mut block = [0; N];
     let (sums, _unused) = block.split_at_mut(out.len());
     if step == 1 {
-        sum_in_a_row(coefficients, line, first, sums);
+        sum_in_a_row(coefficients, line, first, loudest, sums);
     } else {
         sum_gathered::<N>(coefficients, line, first, step, sums);
     }
@@ -61,11 +64,12 @@ pub(crate) fn filter_halves<const N: usize>(
 }
 
 /// The sums of neighbouring outputs, that at sample `first` first, by halves: as many as can be side by side, and then those that are left.
-fn sum_in_a_row(coefficients: &[i16], line: &[i16], first: usize, sums: &mut [Half])
+fn sum_in_a_row(coefficients: &[i16], line: &[i16], first: usize, loudest: u16, sums: &mut [Half])
     requires some { 1 ≤ length coefficients.now }
     requires few { length coefficients.now ≤ MOST_COEFFICIENTS }
     requires halves { HaveHalves coefficients.now line.now }
     requires reach { first + length coefficients.now + length sums.old ≤ length line.now + 1 }
+    requires quiet { NoneLouder line.now loudest }
     requires cleared { AreHalves sums.old }
     ensures halves { AreHalves sums.new }
     ensures sums { AreHalfSums coefficients.now line.now first 1 (length coefficients.now) (length sums.old) sums.new }
@@ -76,17 +80,24 @@ fn sum_in_a_row(coefficients: &[i16], line: &[i16], first: usize, sums: &mut [Ha
         sum_neighbours(coefficients, line, first, sums);
         return;
     }
-    let done = sum_blocks(coefficients, line, first, sums);
+    let done = sum_blocks(coefficients, line, first, loudest, sums);
     sum_fours(coefficients, line, first, sums, done);
 }
 
 /// The sums of neighbouring outputs by halves, in blocks, and how many those are.
-fn sum_blocks(coefficients: &[i16], line: &[i16], first: usize, sums: &mut [Half]) -> usize
+fn sum_blocks(
+    coefficients: &[i16],
+    line: &[i16],
+    first: usize,
+    loudest: u16,
+    sums: &mut [Half],
+) -> usize
     requires words { (k : ℕ) → FitsSigned w16 (word_at coefficients.now k) }
     requires samples { (k : ℕ) → FitsSigned w16 (word_at line.now k) }
     requires few { length coefficients.now ≤ MOST_COEFFICIENTS }
     requires products { HaveHalves coefficients.now line.now }
     requires reach { first + length coefficients.now + length sums.old ≤ length line.now + 1 }
+    requires quiet { NoneLouder line.now loudest }
     requires halves { AreHalves sums.old }
     ensures some { result ≤ length sums.old }
     ensures size { length sums.new ≡ length sums.old }
@@ -94,7 +105,7 @@ fn sum_blocks(coefficients: &[i16], line: &[i16], first: usize, sums: &mut [Half
     ensures sums { BeginWithSums coefficients.now line.now first result sums.new }
 {
     let mut rooms = [0; MOST_GROUPS];
-    if sums.len() >= SIXTEEN && find_rooms(coefficients, line, &mut rooms) {
+    if sums.len() >= SIXTEEN && find_rooms(coefficients, loudest, &mut rooms) {
         sum_watched(coefficients, &rooms, line, first, sums)
     } else {
         sum_limited(coefficients, line, first, sums)

@@ -1,15 +1,15 @@
 //! Sums by halves in vector registers, that are limited only where a limit can bind: 16 neighbouring outputs side by side. Before each group of eight taps the sums are looked
 //! at: where the products of the group can't take one of them beyond the limits, whatever the samples, those are added together, and else one after the other.
-ghost use Rattle.std.specs.Prelude.{true, ◌≡◌, ◌<◌, ◌≤◌, ◌+◌, ◌-◌, ◌*◌, ◌/◌, ◌^◌, ◌+ℤ◌, ◌*ℤ◌, ℕ, ℤ, length, FitsSigned};
+ghost use Rattle.std.specs.Prelude.{true, ◌≡◌, ◌<◌, ◌≤◌, ◌+◌, ◌-◌, ◌*◌, ◌/◌, ◌^◌, ◌+ℤ◌, ◌*ℤ◌, ℕ, ℤ, List, length, FitsSigned};
 ghost use Rattle.std.specs.Int.{w16};
 ghost use Rattle.basic_op.specs.Operators.{l_mac_of};
 ghost use Rattle.ialg.specs.History.{word_at};
-ghost use Rattle.fir_kernel.specs.Bounded.{magnitude_sum, product_sum};
+ghost use Rattle.fir_kernel.specs.Bounded.{magnitude_sum, product_sum, NoneLouder};
 ghost use Rattle.fir_kernel.specs.Halves.{AreHalves, HasHalves, HaveHalves};
 ghost use Rattle.fir_kernel.specs.HalfLanes.{HasHalfSums, IsHalved};
 ghost use Rattle.fir_kernel.specs.Watched.{AreBelow, AreRooms, AreWrapped, HaveEvery, StayWithin};
 
-use crate::bounded::{loudest, magnitude};
+use crate::bounded::magnitude;
 use crate::half_lanes::{LANES, limited, write};
 use crate::halves::Half;
 use crate::{LEAST_UNBOUNDED_SUM, MOST_COEFFICIENTS};
@@ -27,20 +27,19 @@ pub(crate) const MOST_GROUPS: usize = MOST_COEFFICIENTS / GROUP;
 /// How many words a load has: two for each of four sums.
 const REGISTER: usize = 8;
 
-/// Finds the room of each group of taps: a sum whose magnitude is below it stays within the limits. Whether one has any.
-pub(crate) fn find_rooms(coefficients: &[i16], line: &[i16], rooms: &mut [u32]) -> bool
+/// Finds the room of each group of taps, for samples of which none is louder: a sum whose magnitude is below it stays within the limits. Whether one has any.
+pub(crate) fn find_rooms(coefficients: &[i16], loudest: u16, rooms: &mut [u32]) -> bool
     requires few { length coefficients.now / 8 ≤ length rooms.old }
     ensures some { result ≡ true → GROUP ≤ length coefficients.now }
-    ensures rooms { result ≡ true → AreRooms coefficients.now line.now rooms.new }
+    ensures rooms { result ≡ true → (line : List ℤ) → NoneLouder line loudest → AreRooms coefficients.now line rooms.new }
 {
     if coefficients.len() < GROUP {
         return false;
     }
-    let greatest = loudest(line);
     let mut most = 0;
     for group in 0..coefficients.len() / GROUP {
         let tap = coefficients.len() % GROUP + GROUP * group;
-        rooms[group] = room_of(&coefficients[tap..tap + GROUP], greatest);
+        rooms[group] = room_of(&coefficients[tap..tap + GROUP], loudest);
         most = rooms[group].max(most);
     }
     most > 0
@@ -95,11 +94,19 @@ pub(crate) fn sum_sixteen(
     }
     for group in 0..coefficients.len() / GROUP {
         let tap = coefficients.len() % GROUP + GROUP * group;
-        let together = are_below(a, b, c, d, rooms[group]);
-        a = add_group(a, together, coefficients, tap, line, first);
-        b = add_group(b, together, coefficients, tap, line, first + 1);
-        c = add_group(c, together, coefficients, tap, line, first + 8);
-        d = add_group(d, together, coefficients, tap, line, first + 9);
+        if are_below(a, b, c, d, rooms[group]) {
+            let taps = &coefficients[tap..tap + GROUP];
+            let oldest = first + (coefficients.len() - GROUP - tap);
+            a = add_together(a, taps, line, oldest);
+            b = add_together(b, taps, line, oldest + 1);
+            c = add_together(c, taps, line, oldest + 8);
+            d = add_together(d, taps, line, oldest + 9);
+        } else {
+            a = add_in_order(a, coefficients, tap, line, first);
+            b = add_in_order(b, coefficients, tap, line, first + 1);
+            c = add_in_order(c, coefficients, tap, line, first + 8);
+            d = add_in_order(d, coefficients, tap, line, first + 9);
+        }
     }
     write(low_of(a, b), sums, at);
     write(high_of(a, b), sums, at + 4);
@@ -128,32 +135,6 @@ fn are_below(a: i32x4, b: i32x4, c: i32x4, d: i32x4, room: u32) -> bool
     let cd = c.abs().simd_max(d.abs());
     let limit = i32x4::splat(room as i32);
     ab.simd_max(cd).simd_lt(limit).all()
-}
-
-/// Adds the products of a group of taps to four sums.
-#[inline(always)]
-fn add_group(
-    halves: i32x4,
-    together: bool,
-    coefficients: &[i16],
-    tap: usize,
-    line: &[i16],
-    first: usize,
-) -> i32x4
-    requires words { (k : ℕ) → FitsSigned w16 (word_at coefficients.now k) }
-    requires samples { (k : ℕ) → FitsSigned w16 (word_at line.now k) }
-    requires products { HaveHalves coefficients.now line.now }
-    requires reach { first + 6 + length coefficients.now ≤ length line.now }
-    requires tap { tap + GROUP ≤ length coefficients.now }
-    requires before { HaveEvery coefficients.now line.now first tap halves }
-    requires within { together ≡ true → StayWithin coefficients.now line.now tap halves }
-    ensures { HaveEvery coefficients.now line.now first (tap + GROUP) result }
-{
-    if together {
-        let oldest = first + (coefficients.len() - GROUP - tap);
-        return add_together(halves, &coefficients[tap..tap + GROUP], line, oldest);
-    }
-    add_in_order(halves, coefficients, tap, line, first)
 }
 
 /// Adds the products of eight taps to four sums, to 32 bits.

@@ -1,10 +1,13 @@
 use Rattle.std.proofs.Common.{◌≤◌, ◌-◌, ◌*◌, ◌∙◌, length, arith}
 use Rattle.std.proofs.lemmas.Nat.{mul-le}
-use Rattle.fir_kernel.proofs.Parts.{filtered_within}
+use Rattle.fir_kernel.proofs.Parts.{filtered_within, part_quiet}
 use Rattle.fir_kernel.proofs.kernel.filter_within.Goals as goal
 
 pub filter_bounded-requires-clause-bounded : goal.filter_bounded-requires-clause-bounded
 filter_bounded-requires-clause-bounded g c = grind arith
+
+pub filter_limited-requires-clause-quiet : goal.filter_limited-requires-clause-quiet
+filter_limited-requires-clause-quiet g c = part_quiet c.args.line.now c.args.first _ _ c.bound-is_bounded.ensures.quiet
 
 pub returns-else-is_bounded : goal.returns-else-is_bounded
 returns-else-is_bounded g c i b =

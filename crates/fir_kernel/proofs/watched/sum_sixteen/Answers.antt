@@ -1,10 +1,12 @@
-use Rattle.std.proofs.Common.{◌≡◌, ◌+◌, ◌*◌, ◌%◌, ◌<◌, ◌≤◌, length, FitsSigned, w16, rules, refl, arith}
+use Rattle.std.proofs.Common.{◌≡◌, ◌+◌, ◌-◌, ◌*◌, ◌%◌, ◌<◌, ◌≤◌, length, FitsSigned, w16, rules, refl, arith}
 use Rattle.std.proofs.lemmas.Int.{to_z-of_z}
 use Rattle.ialg.specs.History.{word_at}
 use Rattle.fir_kernel.specs.HalfLanes.{taps_sum}
 use Rattle.fir_kernel.proofs.HalfLanes.{halved_kept, none_written, four_written, no_sums}
-use Rattle.fir_kernel.proofs.Groups.{ahead, between, newer_tap, room_small, stay_within}
+use Rattle.fir_kernel.proofs.Lanes.{part_fits}
+use Rattle.fir_kernel.proofs.Groups.{added_together, ahead, between, newer_tap, room_small, stay_within}
 use Rattle.fir_kernel.proofs.watched.sum_sixteen.Goals as goal
+use Rattle.fir_kernel.proofs.watched.sum_sixteen.Goals.{then-are_below, else-are_below}
 
 pub loop-tap-init : goal.loop-tap-init
 loop-tap-init c = record { a = no_sums _ (λ k b. refl); b = no_sums _ (λ k b. refl); c = no_sums _ (λ k b. refl); d = no_sums _ (λ k b. refl) }
@@ -32,32 +34,57 @@ loop-group-init c =
     let i = c.loop-tap.invariant in
     rw (← all) (record { a = i.a; b = i.b; c = i.c; d = i.d })
 
-pub are_below-together-requires-clause-small : goal.are_below-together-requires-clause-small
-are_below-together-requires-clause-small c = room_small c.args.coefficients.now c.args.line.now _ _ (c.requires.rooms c.loop-group.group (omega arith))
+pub are_below-requires-clause-small : goal.are_below-requires-clause-small
+are_below-requires-clause-small c = room_small c.args.coefficients.now c.args.line.now _ _ (c.requires.rooms c.loop-group.group (omega arith))
 
-pub add_group-a-requires-clause-within : goal.add_group-a-requires-clause-within
-add_group-a-requires-clause-within c t = stay_within c.args.coefficients.now c.args.line.now _ _ _ (c.requires.rooms c.loop-group.group (omega arith)) (c.are_below-together.ensures.a t)
+pub add_together-a-requires-clause-words : goal.add_together-a-requires-clause-words
+add_together-a-requires-clause-words c = part_fits (length c.args.coefficients.now % 8 + 8 * c.loop-group.group) ((length c.args.coefficients.now % 8 + 8 * c.loop-group.group) + 8 - (length c.args.coefficients.now % 8 + 8 * c.loop-group.group)) c.args.coefficients.now c.requires.words
 
-pub add_group-b-requires-clause-within : goal.add_group-b-requires-clause-within
-add_group-b-requires-clause-within c t = stay_within c.args.coefficients.now c.args.line.now _ _ _ (c.requires.rooms c.loop-group.group (omega arith)) (c.are_below-together.ensures.b t)
+pub add_together-b-requires-clause-words : goal.add_together-b-requires-clause-words
+add_together-b-requires-clause-words c = part_fits (length c.args.coefficients.now % 8 + 8 * c.loop-group.group) ((length c.args.coefficients.now % 8 + 8 * c.loop-group.group) + 8 - (length c.args.coefficients.now % 8 + 8 * c.loop-group.group)) c.args.coefficients.now c.requires.words
 
-pub add_group-c-requires-clause-within : goal.add_group-c-requires-clause-within
-add_group-c-requires-clause-within c t = stay_within c.args.coefficients.now c.args.line.now _ _ _ (c.requires.rooms c.loop-group.group (omega arith)) (c.are_below-together.ensures.c t)
+pub add_together-c-requires-clause-words : goal.add_together-c-requires-clause-words
+add_together-c-requires-clause-words c = part_fits (length c.args.coefficients.now % 8 + 8 * c.loop-group.group) ((length c.args.coefficients.now % 8 + 8 * c.loop-group.group) + 8 - (length c.args.coefficients.now % 8 + 8 * c.loop-group.group)) c.args.coefficients.now c.requires.words
 
-pub add_group-d-requires-clause-within : goal.add_group-d-requires-clause-within
-add_group-d-requires-clause-within c t = stay_within c.args.coefficients.now c.args.line.now _ _ _ (c.requires.rooms c.loop-group.group (omega arith)) (c.are_below-together.ensures.d t)
+pub add_together-d-requires-clause-words : goal.add_together-d-requires-clause-words
+add_together-d-requires-clause-words c = part_fits (length c.args.coefficients.now % 8 + 8 * c.loop-group.group) ((length c.args.coefficients.now % 8 + 8 * c.loop-group.group) + 8 - (length c.args.coefficients.now % 8 + 8 * c.loop-group.group)) c.args.coefficients.now c.requires.words
 
 pub loop-group-preserved : goal.loop-group-preserved
 loop-group-preserved c =
-    let n = length c.args.coefficients.now in
-    let next : n % 8 + 8 * c.loop-group.group + 8 ≡ n % 8 + 8 * (c.loop-group.group + 1) = omega arith in
-    rw (← next)
-    (record {
-      a = halved_kept c.add_group-a.result _ c.add_group-a.ensures;
-      b = halved_kept c.add_group-b.result _ c.add_group-b.ensures;
-      c = halved_kept c.add_group-c.result _ c.add_group-c.ensures;
-      d = halved_kept c.add_group-d.result _ c.add_group-d.ensures;
-    })
+    let cs = c.args.coefficients.now in
+    let line = c.args.line.now in
+    let first = c.args.first in
+    let tap = length cs % 8 + 8 * c.loop-group.group in
+    let i = c.loop-group.invariant in
+    let room = c.requires.rooms c.loop-group.group (omega arith) in
+    let some : tap + 8 ≤ length cs = omega arith in
+    let next : tap + 8 ≡ length cs % 8 + 8 * (c.loop-group.group + 1) = omega arith in
+    record {
+      a = elim c.if-are_below.branch [
+        | then-are_below w ↦ rw (w.a-is, ← next)
+            (added_together cs line _ w.add_together-a.result first tap _ some (omega arith) i.a
+            (stay_within cs line _ tap _ room (c.are_below.ensures.a w.if-are_below.true)) w.add_together-a.ensures)
+        | else-are_below w ↦ rw (w.a-is, ← next) (halved_kept w.add_in_order-a.result _ w.add_in_order-a.ensures)
+      ];
+      b = elim c.if-are_below.branch [
+        | then-are_below w ↦ rw (w.b-is, ← next)
+            (added_together cs line _ w.add_together-b.result (first + 1) tap _ some (omega arith) i.b
+            (stay_within cs line _ tap _ room (c.are_below.ensures.b w.if-are_below.true)) w.add_together-b.ensures)
+        | else-are_below w ↦ rw (w.b-is, ← next) (halved_kept w.add_in_order-b.result _ w.add_in_order-b.ensures)
+      ];
+      c = elim c.if-are_below.branch [
+        | then-are_below w ↦ rw (w.c-is, ← next)
+            (added_together cs line _ w.add_together-c.result (first + 8) tap _ some (omega arith) i.c
+            (stay_within cs line _ tap _ room (c.are_below.ensures.c w.if-are_below.true)) w.add_together-c.ensures)
+        | else-are_below w ↦ rw (w.c-is, ← next) (halved_kept w.add_in_order-c.result _ w.add_in_order-c.ensures)
+      ];
+      d = elim c.if-are_below.branch [
+        | then-are_below w ↦ rw (w.d-is, ← next)
+            (added_together cs line _ w.add_together-d.result (first + 9) tap _ some (omega arith) i.d
+            (stay_within cs line _ tap _ room (c.are_below.ensures.d w.if-are_below.true)) w.add_together-d.ensures)
+        | else-are_below w ↦ rw (w.d-is, ← next) (halved_kept w.add_in_order-d.result _ w.add_in_order-d.ensures)
+      ];
+    }
 
 pub write-requires-clause-within : goal.write-requires-clause-within
 write-requires-clause-within c =

@@ -4,7 +4,7 @@ use Rattle.std.proofs.lemmas.Nat.{mul-le}
 use Rattle.ialg.specs.History.{word_at}
 use Rattle.fir_kernel.specs.declared.TheConstants.{GREATEST_MAGNITUDE, LEAST_UNBOUNDED_SUM}
 use Rattle.fir_kernel.specs.Bounded.{magnitude_sum, NoneLouder, IsBounded}
-use Rattle.fir_kernel.proofs.bounded.is_bounded.Goals as goal
+use Rattle.fir_kernel.proofs.bounded.bound.Goals as goal
 
 -- the least bound of the samples tells
 decided_by : (cs samples : List ℤ) (m l : ℕ) → m ≡ magnitude_sum (word_at cs) (length cs) → NoneLouder samples l
@@ -18,15 +18,15 @@ decided_by cs samples m l e quiet least = (
       grind (arith, nat_tests, within),
 )
 
-pub returns-then-magnitude-lt-LEAST_UNBOUNDED_SUM : goal.returns-then-magnitude-lt-LEAST_UNBOUNDED_SUM
-returns-then-magnitude-lt-LEAST_UNBOUNDED_SUM c =
+pub returns-then-magnitude-lt-LEAST_UNBOUNDED_SUM-clause-bounded : goal.returns-then-magnitude-lt-LEAST_UNBOUNDED_SUM-clause-bounded
+returns-then-magnitude-lt-LEAST_UNBOUNDED_SUM-clause-bounded c =
     let e : c.from-magnitude.result ≡ magnitude_sum (word_at c.args.coefficients.now) (length c.args.coefficients.now) = c.from-magnitude.ensures ∙ c.magnitude.ensures in
     let few : magnitude_sum (word_at c.args.coefficients.now) (length c.args.coefficients.now) * GREATEST_MAGNITUDE < LEAST_UNBOUNDED_SUM =
     rw (← e) c.if-magnitude-lt-LEAST_UNBOUNDED_SUM.true in
     (λ t. (GREATEST_MAGNITUDE, c.read.ensures, few), λ b. refl)
 
-pub returns : goal.returns
-returns c =
+pub returns-clause-bounded : goal.returns-clause-bounded
+returns-clause-bounded c =
     rw c.from.ensures
-    (decided_by c.args.coefficients.now c.args.samples.now c.from-magnitude.result c.loudest.result (c.from-magnitude.ensures ∙ c.magnitude.ensures)
-    c.loudest.ensures.bound c.loudest.ensures.least)
+    (decided_by c.args.coefficients.now c.args.samples.now c.from-magnitude.result c.loudest-loudest.result (c.from-magnitude.ensures ∙ c.magnitude.ensures)
+    c.loudest-loudest.ensures.bound c.loudest-loudest.ensures.least)
