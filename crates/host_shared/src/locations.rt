@@ -283,6 +283,19 @@ pub fn give_back_pieces(sharing: &mut Vec<Locations>, i: usize, pieces: Pieces)
     put_each(sharing, i, pieces);
 }
 
+/// Whether the owner of record `k` has its piece.
+#[inline(never)]
+fn has_piece(sharing: &Vec<Locations>, i: usize, k: usize) -> bool
+    requires number { i < length sharing.now.items }
+    requires record { k < TABLE_RECORDS }
+    ensures { result ≡ is_some (piece_here (location_at (locations_at sharing.now.items i) k)) }
+{
+    match sharing[i].location(k) {
+        Location::Here(piece) => piece.is_some(),
+        Location::At(_owner) => false,
+    }
+}
+
 /// Whether an instance has a write-once record `k`.
 pub fn sees(sharing: &Vec<Locations>, i: usize, k: usize) -> bool
     requires number { i < length sharing.now.items }
@@ -290,9 +303,9 @@ pub fn sees(sharing: &Vec<Locations>, i: usize, k: usize) -> bool
     requires owners { HasOwners sharing.now.items i }
     ensures { result ≡ is_some (piece_at (shared_at sharing.now.items i) k) }
 {
-    match sharing[owner(sharing, i, k)].location(k) {
+    match sharing[i].location(k) {
         Location::Here(piece) => piece.is_some(),
-        Location::At(_owner) => unreachable!(),
+        Location::At(owner) => has_piece(sharing, *owner as usize, k),
     }
 }
 

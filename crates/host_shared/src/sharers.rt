@@ -72,8 +72,9 @@ pub(crate) fn point_all(sharing: &mut Vec<Locations>, i: u8, k: usize, next: u8)
     }
 }
 
-/// Makes the next sharer the owner of record `k`. Where there is none, the piece comes back.
-fn hand_record(sharing: &mut Vec<Locations>, i: u8, k: usize) -> Option<Piece>
+/// Makes the next sharer the owner of record `k`, which has a piece. Where there is none, the piece comes back.
+#[inline(never)]
+fn hand_piece(sharing: &mut Vec<Locations>, i: u8, k: usize) -> Option<Piece>
     requires count { length sharing.old.items ≡ INSTANCES }
     requires number { i < INSTANCES }
     requires record { k < TABLE_RECORDS }
@@ -83,10 +84,6 @@ fn hand_record(sharing: &mut Vec<Locations>, i: u8, k: usize) -> Option<Piece>
     ensures handed { (j : ℕ) → location_at (locations_at sharing.new.items j) k ≡ location_without sharing.old.items i k j }
     ensures beside { OtherRecordsStay k sharing.old.items sharing.new.items }
 {
-    // most records have no piece
-    if sharing[i as usize].location(k).is_nothing() {
-        return None;
-    }
     let next = find_next_sharer(sharing, i, k);
     let location = replace_location(sharing, i as usize, k, Location::Here(None));
     match next {
@@ -97,6 +94,24 @@ fn hand_record(sharing: &mut Vec<Locations>, i: u8, k: usize) -> Option<Piece>
         }
         None => location.piece(),
     }
+}
+
+/// Makes the next sharer the owner of record `k`. Where there is none, the piece comes back. Most records have no piece.
+#[inline(always)]
+fn hand_record(sharing: &mut Vec<Locations>, i: u8, k: usize) -> Option<Piece>
+    requires count { length sharing.old.items ≡ INSTANCES }
+    requires number { i < INSTANCES }
+    requires record { k < TABLE_RECORDS }
+    requires held { HoldsForOthers sharing.old.items i k }
+    ensures left { result ≡ piece_left (next_sharer sharing.old.items i k) (location_at (locations_at sharing.old.items i) k) }
+    ensures count { length sharing.new.items ≡ INSTANCES }
+    ensures handed { (j : ℕ) → location_at (locations_at sharing.new.items j) k ≡ location_without sharing.old.items i k j }
+    ensures beside { OtherRecordsStay k sharing.old.items sharing.new.items }
+{
+    if sharing[i as usize].location(k).is_nothing() {
+        return None;
+    }
+    hand_piece(sharing, i, k)
 }
 
 /// Makes the next sharers the owners of the records of an instance that is deleted. The pieces that nobody shares come back.

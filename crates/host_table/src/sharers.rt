@@ -96,7 +96,28 @@ fn shares<M: Ialg>(
     }
 }
 
-/// The least number of an instance that shares record `k`.
+/// Looks through all instances for the least number of one that shares record `k`, which is write-once.
+#[inline(never)]
+fn find_once_sharer<M: Ialg>(
+    instances: &Vec<Option<Member<M>>>,
+    kind: M,
+    params: &Params,
+    table: &MemTab,
+    k: usize,
+) -> Option<u8>
+    requires { length instances.now.items ≡ INSTANCES }
+    ensures { result ≡ sharer_of M.law.meaning.same (λ j. asked_by (slot_at instances.now.items j)) (asked kind params.now.items table.now) k }
+{
+    for j in 0..INSTANCES {
+        if shares(instances, j, kind, params, table, k) {
+            return Some(j as u8);
+        }
+    }
+    None
+}
+
+/// The least number of an instance that shares record `k`. Most records are not write-once, and have none.
+#[inline(always)]
 fn find_sharer<M: Ialg>(
     instances: &Vec<Option<Member<M>>>,
     kind: M,
@@ -110,12 +131,7 @@ fn find_sharer<M: Ialg>(
     if !is_once(table, k) {
         return None;
     }
-    for j in 0..INSTANCES {
-        if shares(instances, j, kind, params, table, k) {
-            return Some(j as u8);
-        }
-    }
-    None
+    find_once_sharer(instances, kind, params, table, k)
 }
 
 /// For each record the least number of an instance that shares it with one of this kind, with these parameters and this table.

@@ -1,11 +1,9 @@
-use Rattle.std.proofs.Common.{◌≡◌, refl, ◌<◌, Some, None, length, sym, ◌∙◌, ap, arith}
+use Rattle.std.proofs.Common.{◌≡◌, refl, None, sym, ◌∙◌, ap, arith}
 use Rattle.host_shared.specs.declared.locations.Location.TheVariants.{Here}
-use Rattle.host_shared.specs.Locations.{location_at, locations_at, piece_here}
+use Rattle.host_shared.specs.Locations.{location_at, locations_at}
 use Rattle.host_shared.specs.declared.locations.Locations.{Locations}
-use Rattle.host_shared.specs.Sharing.{next_sharer}
 use Rattle.host_shared.proofs.Bare.{read_locations}
-use Rattle.host_shared.proofs.Owners.{replaced_here, replaced_there, replaced_beside}
-use Rattle.host_shared.proofs.Handing.{held_apart, nobody_next, next_is, with_inside, next_points, handed_next, handed_none}
+use Rattle.host_shared.proofs.Handing.{nobody_next, handed_none}
 use Rattle.host_shared.proofs.sharers.hand_record.Goals as goal
 
 pub returns-then-is_nothing-clause-left : goal.returns-then-is_nothing-clause-left
@@ -21,56 +19,3 @@ returns-then-is_nothing-clause-handed c =
     let none : location_at (locations_at c.args.sharing.now.items c.args.i) c.args.k ≡ Here None =
     ap (λ (s : Locations). location_at s c.args.k) locations ∙ sym c.location.ensures ∙ c.is_nothing.ensures c.if-is_nothing.true in
     handed_none c.args.sharing.now.items c.args.sharing.now.items c.args.i c.args.k (nobody_next c.args.sharing.now.items c.args.i c.args.k c.requires.held none) (λ j apart. refl) none
-
-pub put_location-requires-clause-number : goal.put_location-requires-clause-number
-put_location-requires-clause-number c =
-    let next : next_sharer c.args.sharing.now.items c.args.i c.args.k ≡ Some c.in-Some.next = sym c.find_next_sharer-next.ensures ∙ c.in-Some.is in
-    let inside = with_inside c.args.sharing.now.items c.in-Some.next c.args.k c.args.i (next_is c.args.sharing.now.items c.args.i c.args.k c.in-Some.next next) in
-    omega (arith, inside, c.requires.count, c.point_all.ensures.count)
-
-pub put_location-requires-clause-none : goal.put_location-requires-clause-none
-put_location-requires-clause-none c =
-    let next : next_sharer c.args.sharing.now.items c.args.i c.args.k ≡ Some c.in-Some.next = sym c.find_next_sharer-next.ensures ∙ c.in-Some.is in
-    let old = c.args.sharing.now.items in
-    let left = c.replace_location-location.new.sharing.items in
-    let there = replaced_there old left c.args.i c.args.k (Here None) c.replace_location-location.ensures.new in
-    let here = replaced_here old left c.args.i c.args.k (Here None) c.replace_location-location.ensures.new (omega (arith, c.requires.number, c.requires.count)) (omega (arith, c.requires.record)) in
-    ap piece_here (next_points old left c.point_all.new.sharing.items c.point_all.new.sharing.items c.args.i c.args.k c.in-Some.next next (held_apart c.args.sharing.now.items c.args.i c.args.k c.requires.held) there here c.point_all.ensures.pointed)
-
-pub returns-in-Some-clause-handed : goal.returns-in-Some-clause-handed
-returns-in-Some-clause-handed c =
-    let next : next_sharer c.args.sharing.now.items c.args.i c.args.k ≡ Some c.in-Some.next = sym c.find_next_sharer-next.ensures ∙ c.in-Some.is in
-    let old = c.args.sharing.now.items in
-    let left = c.replace_location-location.new.sharing.items in
-    let others = c.point_all.new.sharing.items in
-    let new = c.put_location.new.sharing.items in
-    let there = replaced_there old left c.args.i c.args.k (Here None) c.replace_location-location.ensures.new in
-    let here = replaced_here old left c.args.i c.args.k (Here None) c.replace_location-location.ensures.new (omega (arith, c.requires.number, c.requires.count)) (omega (arith, c.requires.record)) in
-    let least = with_inside old c.in-Some.next c.args.k c.args.i (next_is old c.args.i c.args.k c.in-Some.next next) in
-    let inside : c.in-Some.next < length others = omega (arith, least, c.requires.count, c.point_all.ensures.count) in
-    handed_next old left others new c.args.i c.args.k c.in-Some.next next (held_apart c.args.sharing.now.items c.args.i c.args.k c.requires.held) there here c.point_all.ensures.pointed
-    (replaced_there others new c.in-Some.next c.args.k c.replace_location-location.result c.put_location.ensures)
-    (replaced_here others new c.in-Some.next c.args.k c.replace_location-location.result c.put_location.ensures inside (omega (arith, c.requires.record)) ∙ c.replace_location-location.ensures.old)
-
-pub returns-in-Some-clause-beside : goal.returns-in-Some-clause-beside
-returns-in-Some-clause-beside c j l apart =
-    let next : next_sharer c.args.sharing.now.items c.args.i c.args.k ≡ Some c.in-Some.next = sym c.find_next_sharer-next.ensures ∙ c.in-Some.is in
-    let old = c.args.sharing.now.items in
-    let others = c.point_all.new.sharing.items in
-    let least = with_inside old c.in-Some.next c.args.k c.args.i (next_is old c.args.i c.args.k c.in-Some.next next) in
-    let inside : c.in-Some.next < length others = omega (arith, least, c.requires.count, c.point_all.ensures.count) in
-    replaced_beside others c.put_location.new.sharing.items c.in-Some.next c.args.k c.replace_location-location.result c.put_location.ensures inside j l apart
-    ∙ c.point_all.ensures.beside j l apart
-    ∙ replaced_beside old c.replace_location-location.new.sharing.items c.args.i c.args.k (Here None) c.replace_location-location.ensures.new (omega (arith, c.requires.number, c.requires.count)) j l apart
-
-pub returns-in-None-clause-handed : goal.returns-in-None-clause-handed
-returns-in-None-clause-handed c =
-    let old = c.args.sharing.now.items in
-    let left = c.replace_location-location.new.sharing.items in
-    handed_none old left c.args.i c.args.k (sym c.find_next_sharer-next.ensures ∙ c.in-None.is)
-    (replaced_there old left c.args.i c.args.k (Here None) c.replace_location-location.ensures.new)
-    (replaced_here old left c.args.i c.args.k (Here None) c.replace_location-location.ensures.new (omega (arith, c.requires.number, c.requires.count)) (omega (arith, c.requires.record)))
-
-pub returns-in-None-clause-beside : goal.returns-in-None-clause-beside
-returns-in-None-clause-beside c j l apart =
-    replaced_beside c.args.sharing.now.items c.replace_location-location.new.sharing.items c.args.i c.args.k (Here None) c.replace_location-location.ensures.new (omega (arith, c.requires.number, c.requires.count)) j l apart

@@ -5,7 +5,7 @@ use Rattle.mem_rec.specs.declared.TheConstants.{INSTANCES}
 use Rattle.host_table.specs.Table.{slot_at}
 use Rattle.host_map.specs.Sharers.{asked, is_sharer, sharer_of}
 use Rattle.host_table.specs.Sharers.{asked_by}
-use Rattle.host_table.proofs.sharers.find_sharer.Given as goal
+use Rattle.host_table.proofs.sharers.find_once_sharer.Given as goal
 
 abbrev pub invariant-loop-j : goal.invariant-loop-j
 invariant-loop-j g l =
