@@ -47,9 +47,10 @@ limited_is n z e =
 abbrev pub nearest : ℕ → ℤ
 nearest n = to_z w32 (limited (of_z w32 (shr_z (to_z w32 ((n + 16384) % 4294967296)) 32768)))
 
-pub nearest_fits : (n : ℕ) → FitsSigned w16 (nearest n)
-nearest_fits n =
-    let m = of_z w32 (shr_z (to_z w32 ((n + 16384) % 4294967296)) 32768) in
+-- it fits, whatever the step is that is added before the cut
+pub nearest_fits : (n step : ℕ) → FitsSigned w16 (to_z w32 (limited (of_z w32 (shr_z (to_z w32 ((n + step) % 4294967296)) 32768))))
+nearest_fits n step =
+    let m = of_z w32 (shr_z (to_z w32 ((n + step) % 4294967296)) 32768) in
     subst (FitsSigned w16) (sym (limited_is m (to_z w32 m) refl)) (between_fits (to_z w32 m))
 
 rounded_half : (z v : ℤ) → z ≡ half_of v → saturate16 (shr_z (z +ℤ pos 16384) 32768) ≡ round_of v
@@ -71,7 +72,7 @@ kept_is z v h e =
     added_bits (of_z w32 z) 16384 (word_bits z fz) (omega arith) ∙ rw (to_z-of_z w32 z fz) (int_wrap_fits w32 (z +ℤ pos 16384) fs) in
     let shifted : to_z w32 (of_z w32 (shr_z (to_z w32 ((of_z w32 z + 16384) % 4294967296)) 32768)) ≡ shr_z (z +ℤ pos 16384) 32768 =
     ap (λ s. to_z w32 (of_z w32 (shr_z s 32768))) sum ∙ to_z-of_z w32 (shr_z (z +ℤ pos 16384) 32768) (shifted_fits z h) in
-    to_z-of_z w16 (nearest (of_z w32 z)) (nearest_fits (of_z w32 z))
+    to_z-of_z w16 (nearest (of_z w32 z)) (nearest_fits (of_z w32 z) 16384)
     ∙ limited_is _ _ shifted ∙ between_is (shr_z (z +ℤ pos 16384) 32768) ∙ rounded_half z v e
 
 -- eight lanes

@@ -1,3 +1,5 @@
+use Rattle.std.proofs.Common.{of_z, w32}
+use Rattle.fir_kernel.specs.declared.windows.TheConstants.{HALF_STEP}
 use Rattle.fir_kernel.proofs.Rounding.{nearest_fits, of_both, low_rounded, high_rounded}
 use Rattle.fir_kernel.proofs.windows.round_eight.Goals as goal
 
@@ -5,14 +7,14 @@ pub overflow_cast-result : goal.overflow_cast-result
 overflow_cast-result c =
     let low = c.args.low in
     let high = c.args.high in (
-      nearest_fits (of_both low high 0),
+      nearest_fits (of_both low high 0) (of_z w32 HALF_STEP),
       (
-        nearest_fits (of_both low high 1),
+        nearest_fits (of_both low high 1) (of_z w32 HALF_STEP),
         (
-          nearest_fits (of_both low high 2),
+          nearest_fits (of_both low high 2) (of_z w32 HALF_STEP),
           (
-            nearest_fits (of_both low high 3),
-            (nearest_fits (of_both low high 4), (nearest_fits (of_both low high 5), (nearest_fits (of_both low high 6), (nearest_fits (of_both low high 7), tt)))),
+            nearest_fits (of_both low high 3) (of_z w32 HALF_STEP),
+            (nearest_fits (of_both low high 4) (of_z w32 HALF_STEP), (nearest_fits (of_both low high 5) (of_z w32 HALF_STEP), (nearest_fits (of_both low high 6) (of_z w32 HALF_STEP), (nearest_fits (of_both low high 7) (of_z w32 HALF_STEP), tt)))),
           ),
         ),
       ),
