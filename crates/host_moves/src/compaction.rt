@@ -20,6 +20,7 @@ use ialg::Ialg;
 use mem_rec::Space;
 
 /// Does what [`step`] does, where so many of the first blocks of the space are known to be at their packed places: they aren't looked at.
+#[inline(always)]
 fn step_behind<M: Ialg>(
     tables: &mut Tables<M>,
     spaces: &mut Spaces,

@@ -48,6 +48,7 @@ fn move_own<M: Ialg>(
 }
 
 /// Moves a write-once record that instance `i` owns, and calls algMoved of every instance that shares it.
+#[inline(never)]
 fn move_once<M: Ialg>(
     tables: &mut Tables<M>,
     spaces: &mut Spaces,
@@ -71,6 +72,7 @@ fn move_once<M: Ialg>(
 }
 
 /// Moves the block of a group.
+#[inline(never)]
 fn move_block<M: Ialg>(
     tables: &mut Tables<M>,
     spaces: &mut Spaces,

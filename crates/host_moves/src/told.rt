@@ -2,7 +2,10 @@
 ghost use Rattle.std.specs.Prelude.{◌≡◌, ◌+◌, ◌<◌, ℕ, ℤ, Bool, length, Option, Some, IsSome};
 ghost use Rattle.mem_rec.specs.declared.TheConstants.{TABLE_RECORDS, INSTANCES};
 ghost use Rattle.ialg.specs.History.{History};
-ghost use Rattle.lifecycle.specs.Moves.{restored, CanRestore, with_back, HasRoom};
+ghost use Rattle.record_loans.specs.Pieces.{SamePieces};
+ghost use Rattle.scratch_group.specs.Blocks.{SameGroup};
+ghost use Rattle.lifecycle.specs.Moves.{restored, settled, CanRestore, with_back, HasRoom};
+ghost use Rattle.lifecycle.specs.States.{ActiveKeeps, Fits, SameInstance, SameOnce};
 ghost use Rattle.host_table.specs.declared.member.Member.{Member};
 ghost use Rattle.host_table.specs.Table.{slot_at, group_at, own_of, instance_of, SameActivities};
 ghost use Rattle.host_shared.specs.Locations.{owner_of, shared_at};
@@ -16,7 +19,7 @@ ghost use Rattle.host_moves.specs.Waiting.{own_set, all_but, all_from, holds_wit
 use host_shared::{Locations, borrow_pieces, end_absent, give_back_pieces, next_with_owner};
 use host_table::Tables;
 use ialg::Ialg;
-use lifecycle::{Idle, Inst};
+use lifecycle::{Active, Idle, Inst};
 use mem_rec::INSTANCES;
 use record_loans::Pieces;
 use scratch_group::{Group, is_filter};
@@ -68,7 +71,35 @@ fn follow<M: Ialg>(
     }
 }
 
+/// Calls algMoved of an active instance, with its write-once records borrowed from their owners. Few are active, so it stays apart.
+#[inline(never)]
+fn follow_active<M: Ialg>(
+    active: &mut Active<M>,
+    back: Option<(usize, Piece)>,
+    sharing: &mut Vec<Locations>,
+    i: u8,
+    group: &mut Group,
+)
+    requires back { CanRestore back active.old.instance.own }
+    requires number { i < length sharing.old.items }
+    requires owners { HasOwners sharing.old.items i }
+    requires fits { HasRoom (with_back active.old.instance back) (shared_at sharing.old.items i) group.old }
+    ensures seen { sharing.new.items ≡ with_pieces_of sharing.old.items i (shared_at sharing.new.items i) }
+    ensures same { SameInstance (settled (with_back active.old.instance back) (shared_at sharing.old.items i) group.old) active.new.instance }
+    ensures pieces { SamePieces (shared_at sharing.old.items i) (shared_at sharing.new.items i) }
+    ensures once { SameOnce active.new.instance.table (shared_at sharing.old.items i) (shared_at sharing.new.items i) }
+    ensures group { SameGroup group.old group.new }
+    ensures fits { Fits active.new.instance.table active.new.instance.own (shared_at sharing.new.items i) group.new }
+    ensures keeps { (w : Option ℤ) (h : History) → ActiveKeeps M.law (with_back active.old.instance back) w (shared_at sharing.old.items i) group.old h
+        → ActiveKeeps M.law active.new.instance w (shared_at sharing.new.items i) group.new h }
+{
+    let mut shared = borrow_pieces(sharing, i as usize);
+    active.moved(back, &mut shared, group);
+    give_back_pieces(sharing, i as usize, shared);
+}
+
 /// Calls algMoved of an instance, with its own piece that was taken out, if one was. It stays in its state.
+#[inline(always)]
 pub fn tell<M: Ialg>(tables: &mut Tables<M>, i: u8, back: Option<(usize, Piece)>)
     requires number { i < INSTANCES }
     requires living { IsSome (slot_at tables.old.instances i) }
@@ -95,9 +126,7 @@ pub fn tell<M: Ialg>(tables: &mut Tables<M>, i: u8, back: Option<(usize, Piece)>
                     follow(idle, back, &mut tables.sharing, i, &tables.groups[g]);
                 }
                 Inst::Running(active) => {
-                    let mut shared = borrow_pieces(&mut tables.sharing, i as usize);
-                    active.moved(back, &mut shared, &mut tables.groups[g]);
-                    give_back_pieces(&mut tables.sharing, i as usize, shared);
+                    follow_active(active, back, &mut tables.sharing, i, &mut tables.groups[g]);
                 }
             }
         }

@@ -14,7 +14,6 @@ use Rattle.host_shared.specs.Locations.{shared_at}
 use Rattle.host_table.specs.Frames.{SameMember}
 use Rattle.host_table.proofs.Housing.{same_blocks, settled_stays, settled_at}
 use Rattle.host_shared.proofs.Owners.{lent_here}
-use Rattle.host_shared.proofs.Lent.{put_back}
 use Rattle.host_table.proofs.Held.{once_unplaced}
 use Rattle.host_table.proofs.Changes.{owners_in, read_ok_slot, read_ok_group}
 use Rattle.host_table.proofs.Activities.{activity_stays, group_change, inactive_beside}
@@ -22,7 +21,7 @@ use Rattle.host_table.proofs.Told.{told_member}
 use Rattle.host_moves.proofs.Owns.{member_back}
 use Rattle.host_moves.proofs.Tells.{ok_of_idle, waiting_of_idle, same_of_idle, keeps_of_idle, ok_of_active, waiting_of_active, same_of_active, keeps_of_active}
 use Rattle.host_moves.proofs.told.tell.Goals as goal
-use Rattle.host_moves.proofs.told.tell.Goals.{After-tables-1, After-give_back_pieces}
+use Rattle.host_moves.proofs.told.tell.Goals.{After-tables-1, After-tables-in-Running-2-1}
 use Rattle.host_moves.proofs.told.tell.Given.{Over}
 
 pub follow-requires-clause-fits : goal.follow-requires-clause-fits
@@ -31,18 +30,17 @@ follow-requires-clause-fits g c =
     let group_is = read_ok_group _ _ _ (rw (← c.tables.view_is) at c.requires.there) c.in-Some.member.group ((rw (← c.tables.view_is) at c.requires.there).group_range c.args.i _ at) _ c.index.ensures in
     rw (c.in-Idling.is, group_is) at ((rw (← c.tables.view_is) at c.requires.room) _ at)
 
-pub moved-requires-clause-fits : goal.moved-requires-clause-fits
-moved-requires-clause-fits g c =
+pub follow_active-requires-clause-fits : goal.follow_active-requires-clause-fits
+follow_active-requires-clause-fits g c =
     let at = read_ok_slot _ _ _ (rw (← c.tables.view_is) at c.requires.there) c.args.i c.requires.number _ c.index_mut.ensures.value ∙ c.in-Some.is in
-    let once_is = sym c.borrow_pieces-shared.ensures.pieces in
     let group_is = read_ok_group _ _ _ (rw (← c.tables.view_is) at c.requires.there) c.in-Some.member.group ((rw (← c.tables.view_is) at c.requires.there).group_range c.args.i _ at) _ c.index_mut-in-Running.ensures.value in
-    rw (c.in-Running.is, once_is, group_is) at ((rw (← c.tables.view_is) at c.requires.room) _ at)
+    rw (c.in-Running.is, group_is) at ((rw (← c.tables.view_is) at c.requires.room) _ at)
 
 pub follow-requires-clause-owners : goal.follow-requires-clause-owners
 follow-requires-clause-owners g c = owners_in _ _ _ (rw (← c.tables.view_is) at c.requires.there) c.args.i c.requires.number
 
-pub borrow_pieces-shared-requires-clause-owners : goal.borrow_pieces-shared-requires-clause-owners
-borrow_pieces-shared-requires-clause-owners g c = owners_in _ _ _ (rw (← c.tables.view_is) at c.requires.there) c.args.i c.requires.number
+pub follow_active-requires-clause-owners : goal.follow_active-requires-clause-owners
+follow_active-requires-clause-owners g c = owners_in _ _ _ (rw (← c.tables.view_is) at c.requires.there) c.args.i c.requires.number
 
 -- an idle instance
 module _ (g : Over) (c : After-tables-1 g) where
@@ -108,12 +106,9 @@ returns-in-Idling-clause-keeps g c =
     (λ before. c.follow.ensures.follows.keeps w (histories c.args.i) (rw c.in-Idling.is at before)) keeps))
 
 -- an active instance
-module _ (g : Over) (c : After-give_back_pieces g) where
+module _ (g : Over) (c : After-tables-in-Running-2-1 g) where
   active_in_slot : slot_at c.tables.inside.instances.items c.args.i ≡ Some c.in-Some.member
   active_in_slot = read_ok_slot _ _ _ (rw (← c.tables.view_is) at c.requires.there) c.args.i c.requires.number _ c.index_mut.ensures.value ∙ c.in-Some.is
-
-  active_once_is : shared_at c.tables.inside.sharing.items c.args.i ≡ c.borrow_pieces-shared.result
-  active_once_is = sym c.borrow_pieces-shared.ensures.pieces
 
   active_owners : HasOwners c.tables.inside.sharing.items c.args.i
   active_owners = owners_in _ _ _ (rw (← c.tables.view_is) at c.requires.there) c.args.i c.requires.number
@@ -130,75 +125,75 @@ module _ (g : Over) (c : After-give_back_pieces g) where
   active_alone : (j : ℕ) → (group_at c.tables.inside.groups.items c.in-Some.member.group).active ≡ Some j → j ≡ c.args.i
   active_alone j other = same_Some j c.args.i (sym other ∙ active_known)
 
-  active_now : c.moved.new.group.active ≡ Some c.args.i
-  active_now = c.moved.ensures.group.active ∙ rw active_group_is at active_known
+  active_now : c.follow_active.new.group.active ≡ Some c.args.i
+  active_now = c.follow_active.ensures.group.active ∙ rw active_group_is at active_known
 
-  active_same : SameMember (member_back c.args.back c.in-Some.member) (record { group = c.in-Some.member.group; inst = Running c.moved.new.self })
+  active_same : SameMember (member_back c.args.back c.in-Some.member) (record { group = c.in-Some.member.group; inst = Running c.follow_active.new.active })
   active_same =
-      told_member (member_back c.args.back c.in-Some.member) (Running c.moved.new.self) c.borrow_pieces-shared.result c.index_mut-in-Running.result.now (rw c.in-Running.is c.moved.ensures.same)
+      told_member (member_back c.args.back c.in-Some.member) (Running c.follow_active.new.active) (shared_at c.tables.inside.sharing.items c.args.i) c.index_mut-in-Running.result.now (rw c.in-Running.is c.follow_active.ensures.same)
 
-  active_pieces : SamePieces (shared_at c.tables.inside.sharing.items c.args.i) c.moved.new.shared
-  active_pieces = rw active_once_is c.moved.ensures.shared
+  active_pieces : SamePieces (shared_at c.tables.inside.sharing.items c.args.i) (shared_at c.follow_active.new.sharing.items c.args.i)
+  active_pieces = c.follow_active.ensures.pieces
 
-  active_written : SameOnce (instance_of (member_back c.args.back c.in-Some.member).inst).table (shared_at c.tables.inside.sharing.items c.args.i) c.moved.new.shared
-  active_written = once_unplaced _ c.moved.new.self.instance.table _ _ active_same.table (rw active_once_is c.moved.ensures.once)
+  active_written : SameOnce (instance_of (member_back c.args.back c.in-Some.member).inst).table (shared_at c.tables.inside.sharing.items c.args.i) (shared_at c.follow_active.new.sharing.items c.args.i)
+  active_written = once_unplaced _ c.follow_active.new.active.instance.table _ _ active_same.table c.follow_active.ensures.once
 
-  active_blocks : (space : Space) → IsSameBlock (block_in (group_at c.tables.inside.groups.items c.in-Some.member.group) space) (block_in c.moved.new.group space)
-  active_blocks space = rw active_group_is (same_blocks _ _ c.moved.ensures.group space)
+  active_blocks : (space : Space) → IsSameBlock (block_in (group_at c.tables.inside.groups.items c.in-Some.member.group) space) (block_in c.follow_active.new.group space)
+  active_blocks space = rw active_group_is (same_blocks _ _ c.follow_active.ensures.group space)
 
-  active_housed : IsHoused c.moved.new.self.instance c.moved.new.shared c.moved.new.group
+  active_housed : IsHoused c.follow_active.new.active.instance (shared_at c.follow_active.new.sharing.items c.args.i) c.follow_active.new.group
   active_housed = record {
-    fits = c.moved.ensures.fits;
-    settled = settled_at (with_back c.in-Running.active.instance c.args.back) c.moved.new.self.instance _ _ c.index_mut-in-Running.result.now c.moved.new.group
-        c.moved.ensures.same c.moved.ensures.shared (λ space. same_blocks _ _ c.moved.ensures.group space);
+    fits = c.follow_active.ensures.fits;
+    settled = settled_at (with_back c.in-Running.active.instance c.args.back) c.follow_active.new.active.instance _ _ c.index_mut-in-Running.result.now c.follow_active.new.group
+        c.follow_active.ensures.same c.follow_active.ensures.pieces (λ space. same_blocks _ _ c.follow_active.ensures.group space);
   }
 
 pub returns-in-Running-clause-ok : goal.returns-in-Running-clause-ok
 returns-in-Running-clause-ok g c =
     rw (← c.tables.view_is)
     (λ before.
-    rw (put_back _ _ (active_owners g c) _ _ c.moved.new.shared c.borrow_pieces-shared.ensures.left c.give_back_pieces.ensures)
-    (ok_of_active _ _ _ c.args.i c.in-Some.member c.args.back (rw (← c.tables.view_is) at c.requires.there) (active_in_slot g c) c.requires.number (Running c.moved.new.self) _ _ (active_alone g c) (active_now g c) (active_same g c) (active_pieces g c) (active_written g c) (active_blocks g c)
+    rw c.follow_active.ensures.seen
+    (ok_of_active _ _ _ c.args.i c.in-Some.member c.args.back (rw (← c.tables.view_is) at c.requires.there) (active_in_slot g c) c.requires.number (Running c.follow_active.new.active) _ _ (active_alone g c) (active_now g c) (active_same g c) (active_pieces g c) (active_written g c) (active_blocks g c)
     (rw (
-      lent_here c.tables.inside.sharing.items c.args.i (active_owners g c) c.moved.new.shared,
-      get_or-set_same c.tables.inside.groups.items c.in-Some.member.group c.moved.new.group no_group (omega (arith, (active_range g c), (rw (← c.tables.view_is) at c.requires.there).group_count)),
+      lent_here c.tables.inside.sharing.items c.args.i (active_owners g c) (shared_at c.follow_active.new.sharing.items c.args.i),
+      get_or-set_same c.tables.inside.groups.items c.in-Some.member.group c.follow_active.new.group no_group (omega (arith, (active_range g c), (rw (← c.tables.view_is) at c.requires.there).group_count)),
     ) (active_housed g c)) before))
 
 pub returns-in-Running-clause-waiting : goal.returns-in-Running-clause-waiting
 returns-in-Running-clause-waiting g c =
     rw (← c.tables.view_is)
     (λ waits before.
-    rw (put_back _ _ (active_owners g c) _ _ c.moved.new.shared c.borrow_pieces-shared.ensures.left c.give_back_pieces.ensures)
-    (waiting_of_active _ _ _ c.args.i c.in-Some.member c.args.back (rw (← c.tables.view_is) at c.requires.there) (active_in_slot g c) c.requires.number (Running c.moved.new.self) _ _ (active_alone g c) (active_now g c) (active_same g c) (active_pieces g c) (active_written g c) (active_blocks g c)
+    rw c.follow_active.ensures.seen
+    (waiting_of_active _ _ _ c.args.i c.in-Some.member c.args.back (rw (← c.tables.view_is) at c.requires.there) (active_in_slot g c) c.requires.number (Running c.follow_active.new.active) _ _ (active_alone g c) (active_now g c) (active_same g c) (active_pieces g c) (active_written g c) (active_blocks g c)
     (rw (
-      lent_here c.tables.inside.sharing.items c.args.i (active_owners g c) c.moved.new.shared,
-      get_or-set_same c.tables.inside.groups.items c.in-Some.member.group c.moved.new.group no_group (omega (arith, (active_range g c), (rw (← c.tables.view_is) at c.requires.there).group_count)),
+      lent_here c.tables.inside.sharing.items c.args.i (active_owners g c) (shared_at c.follow_active.new.sharing.items c.args.i),
+      get_or-set_same c.tables.inside.groups.items c.in-Some.member.group c.follow_active.new.group no_group (omega (arith, (active_range g c), (rw (← c.tables.view_is) at c.requires.there).group_count)),
     ) (active_housed g c)) waits before))
 
 pub returns-in-Running-clause-inactive : goal.returns-in-Running-clause-inactive
 returns-in-Running-clause-inactive g c =
     rw (← c.tables.view_is)
-    (inactive_beside c.tables.inside.groups.items c.in-Some.member.group c.args.i c.moved.new.group
+    (inactive_beside c.tables.inside.groups.items c.in-Some.member.group c.args.i c.follow_active.new.group
     ((rw (← c.tables.view_is) at c.requires.there).active_known c.in-Some.member.group c.args.i (ap slot_active_in (active_in_slot g c) ∙ rw c.in-Running.is refl)))
 
 pub returns-in-Running-clause-same : goal.returns-in-Running-clause-same
 returns-in-Running-clause-same g c =
     rw (← c.tables.view_is)
-    (rw (put_back _ _ (active_owners g c) _ _ c.moved.new.shared c.borrow_pieces-shared.ensures.left c.give_back_pieces.ensures)
-    (same_of_active _ _ _ c.args.i c.in-Some.member c.args.back (rw (← c.tables.view_is) at c.requires.there) (active_in_slot g c) c.requires.number (Running c.moved.new.self) _ _ (active_alone g c) (active_now g c) (active_same g c) (active_pieces g c) (active_written g c) (active_blocks g c)))
+    (rw c.follow_active.ensures.seen
+    (same_of_active _ _ _ c.args.i c.in-Some.member c.args.back (rw (← c.tables.view_is) at c.requires.there) (active_in_slot g c) c.requires.number (Running c.follow_active.new.active) _ _ (active_alone g c) (active_now g c) (active_same g c) (active_pieces g c) (active_written g c) (active_blocks g c)))
 
 pub returns-in-Running-clause-activity : goal.returns-in-Running-clause-activity
 returns-in-Running-clause-activity g c =
     rw (← c.tables.view_is)
     (λ k.
     group_change c.tables.inside.groups.items c.in-Some.member.group _ (omega (arith, (active_range g c), (rw (← c.tables.view_is) at c.requires.there).group_count)) k
-    ∙ activity_stays (activity_at c.tables.inside.groups.items) c.in-Some.member.group _ (rw (active_group_is g c) c.moved.ensures.group.active) (rw (active_group_is g c) c.moved.ensures.group.activations) k)
+    ∙ activity_stays (activity_at c.tables.inside.groups.items) c.in-Some.member.group _ (rw (active_group_is g c) c.follow_active.ensures.group.active) (rw (active_group_is g c) c.follow_active.ensures.group.activations) k)
 
 pub returns-in-Running-clause-keeps : goal.returns-in-Running-clause-keeps
 returns-in-Running-clause-keeps g c =
     rw (← c.tables.view_is)
     (λ w histories keeps.
-    rw (put_back _ _ (active_owners g c) _ _ c.moved.new.shared c.borrow_pieces-shared.ensures.left c.give_back_pieces.ensures)
-    (keeps_of_active _ _ _ c.args.i c.in-Some.member c.args.back (rw (← c.tables.view_is) at c.requires.there) (active_in_slot g c) c.requires.number (Running c.moved.new.self) _ _ (active_alone g c) (active_now g c) (active_same g c) (active_pieces g c) (active_written g c) (active_blocks g c)
+    rw c.follow_active.ensures.seen
+    (keeps_of_active _ _ _ c.args.i c.in-Some.member c.args.back (rw (← c.tables.view_is) at c.requires.there) (active_in_slot g c) c.requires.number (Running c.follow_active.new.active) _ _ (active_alone g c) (active_now g c) (active_same g c) (active_pieces g c) (active_written g c) (active_blocks g c)
     g.M.Ialg.law w histories
-    (λ before. c.moved.ensures.keeps w (histories c.args.i) (rw (active_once_is g c, active_group_is g c, c.in-Running.is) at before)) keeps))
+    (λ before. c.follow_active.ensures.keeps w (histories c.args.i) (rw (active_group_is g c, c.in-Running.is) at before)) keeps))
