@@ -47,6 +47,26 @@ impl<M: Ialg> Console<M> {
         self.control(i, &Ctl::Set(copied(words.as_slice())), room)
     }
 
+    /// Has an instance forget its past samples. It is a call of its own, as [`set`](Self::set) is.
+    #[inline(never)]
+    pub(crate) fn reset<'a>(&mut self, i: u8, room: &'a mut Words) -> Reply<'a>
+        ensures channels { channels_of self.new ≡ channels_of self.old }
+        ensures widths { self.new.widths ≡ self.old.widths }
+        ensures asks { Serves M.law (CommandAsks M.law.meaning (port_widths_of self.old) (script.Reset i)) (tells (reply_of result)) self.old self.new }
+    {
+        self.control(i, &Ctl::Reset, room)
+    }
+
+    /// Asks for an instance's words. It is a call of its own, as [`set`](Self::set) is.
+    #[inline(never)]
+    pub(crate) fn get<'a>(&mut self, i: u8, room: &'a mut Words) -> Reply<'a>
+        ensures channels { channels_of self.new ≡ channels_of self.old }
+        ensures widths { self.new.widths ≡ self.old.widths }
+        ensures asks { Serves M.law (CommandAsks M.law.meaning (port_widths_of self.old) (script.Get i)) (tells (reply_of result)) self.old self.new }
+    {
+        self.control(i, &Ctl::Get, room)
+    }
+
     pub(crate) fn delete<'a>(&mut self, i: u8) -> Reply<'a>
         ensures channels { channels_of self.new ≡ channels_of self.old }
         ensures widths { self.new.widths ≡ self.old.widths }

@@ -6,7 +6,7 @@ ghost use Rattle.console_spec.specs.Console.{CommandAsks};
 ghost use Rattle.dsp_console.specs.Consoles.{channels_of, port_widths_of, TakesFeeds, Serves};
 
 use crate::console::Console;
-use ialg::{Ctl, Ialg, Words};
+use ialg::{Ialg, Words};
 use voice_channel::Map;
 use voice_script::{Ask, Command};
 
@@ -32,8 +32,8 @@ impl<M: Ialg> Console<M> {
                 parameters,
             } => Ask::Tell(self.create(instance, kind, group, parameters)),
             Command::Set { instance, words } => Ask::Tell(self.set(instance, words, room)),
-            Command::Reset { instance } => Ask::Tell(self.control(instance, &Ctl::Reset, room)),
-            Command::Get { instance } => Ask::Tell(self.control(instance, &Ctl::Get, room)),
+            Command::Reset { instance } => Ask::Tell(self.reset(instance, room)),
+            Command::Get { instance } => Ask::Tell(self.get(instance, room)),
             Command::Delete { instance } => Ask::Tell(self.delete(instance)),
             Command::Chain { channel, members } => Ask::Tell(self.chain(channel, &members)),
             Command::Unchain { channel } => Ask::Tell(self.unchain(channel)),

@@ -14,11 +14,11 @@ returns-in-Set-clause-asks g c =
 
 pub returns-in-Reset-clause-asks : goal.returns-in-Reset-clause-asks
 returns-in-Reset-clause-asks g c =
-    obeyed g.M.Ialg.law (port_widths_of c.args.self.now) _ _ _ _ _ (ap command_of (sym c.in-Reset.is)) c.control.ensures.asks
+    obeyed g.M.Ialg.law (port_widths_of c.args.self.now) _ _ _ _ _ (ap command_of (sym c.in-Reset.is)) c.reset.ensures.asks
 
 pub returns-in-Get-clause-asks : goal.returns-in-Get-clause-asks
 returns-in-Get-clause-asks g c =
-    obeyed g.M.Ialg.law (port_widths_of c.args.self.now) _ _ _ _ _ (ap command_of (sym c.in-Get.is)) c.control-in-Get.ensures.asks
+    obeyed g.M.Ialg.law (port_widths_of c.args.self.now) _ _ _ _ _ (ap command_of (sym c.in-Get.is)) c.get.ensures.asks
 
 pub returns-in-Delete-clause-asks : goal.returns-in-Delete-clause-asks
 returns-in-Delete-clause-asks g c =
