@@ -135,9 +135,10 @@ fn serve_files<'p, M: Ialg + Named, R: Files + Print + Eprint + AllocGlobal>(
     let mut script = ScriptPort::new(file, listener);
     let mut inputs = Vec::new(rt.alloc());
     let replies = ReplyFile::new(io::writer(rt), files.troubles());
-    let mut journal = Journal::new(rt.alloc(), replies, passing);
-    open_pairs(files, arguments.ports.as_slice(), &mut inputs, &mut journal)?;
-    let journal = RefCell::new(journal);
+    // It is made in its cell: moved there, all its room would be copied.
+    let mut journal = RefCell::new(Journal::new(rt.alloc(), replies, passing));
+    let pairs = arguments.ports.as_slice();
+    open_pairs(files, pairs, &mut inputs, journal.get_mut())?;
     let ended = serve_ports::<M, R, _, _, _, _>(
         arguments,
         &mut script,
