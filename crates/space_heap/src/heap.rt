@@ -1,7 +1,6 @@
 //! The heap of one space.
-ghost use Rattle.std.specs.Prelude.{◌≡◌, ◌==◌, ◌+◌, ◌/◌, ◌<◌, ◌≤◌, ◌^◌, ◌-◌, ◌++◌, [], ◌∷◌, List, length, min, sum_by, count_by, if◌then◌else◌, IfOk, IfErr, IsErrOf, IfSome, IfNone, is_some, map};
+ghost use Rattle.std.specs.Prelude.{◌≡◌, ◌==◌, ◌+◌, ◌/◌, ◌<◌, ◌≤◌, ◌^◌, ◌-◌, ◌++◌, [], ◌∷◌, List, length, min, sum_by, count_by, if◌then◌else◌, IfOk, IfErr, IsErrOf, IfSome, IfNone, Some, map, replicate, pos};
 ghost use Rattle.std.specs.Option.{option_map};
-ghost use Rattle.space_raw.specs.Span.{IsWhole};
 ghost use Rattle.relocate.specs.Places.{Range, least_place, lower_place, placed_size, IsAlignment, IsSpaceSize};
 ghost use Rattle.space_heap.specs.Maps.{Holds, IsBlock, range_of};
 
@@ -61,20 +60,20 @@ impl<A: Allocator> Heap<A> {
         if !is_space_size(words) {
             return Err(HeapError::BadSize);
         }
-        match Region::make(alloc, words) {
-            Ok((region, all)) => Ok(Heap::over(region, all)),
+        match Region::make_rest(alloc, words) {
+            Ok((region, rest)) => Ok(Heap::over(region, rest, words)),
             Err(_refused) => Err(HeapError::Memory),
         }
     }
 
     // The heap of a region of which no piece is away. It asks for no memory.
-    fn over(region: Region<A>, all: Piece) -> Heap<A>
-        requires whole { (all.region ≡ region) × IsWhole all × IsSpaceSize region.size }
+    fn over(region: Region<A>, rest: Rest, size: u32) -> Heap<A>
+        requires whole { (rest.region ≡ region) × (region.size ≡ size) × IsSpaceSize size }
+        requires free { rest.slots ≡ map Some (replicate size (pos 0)) }
         ensures region { (result.region ≡ region) × (result.slid ≡ 0) }
         ensures taken { Holds result [] }
     {
-        let size = all.len();
-        let mut rest = Rest::of(all);
+        let mut rest = rest;
         let first = leave_hole(&mut rest, 0, size, None);
         Heap {
             region,
@@ -180,6 +179,6 @@ impl<A: Allocator> Heap<A> {
             free: _,
             slid: _,
         } = self;
-        region.close(rest.whole());
+        region.close_rest(rest);
     }
 }

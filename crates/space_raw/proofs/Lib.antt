@@ -4,5 +4,6 @@ pub mod Rows
 pub mod Runs
 pub mod Slots
 pub mod Steps
+pub mod Stores
 pub mod Tokens
 pub mod Walks

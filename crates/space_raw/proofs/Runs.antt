@@ -50,14 +50,17 @@ module _ {M : Type 1} {𝓤 : Ura M} (𝓛 : Logic 𝓤) (b : ℕ) where
   of_row [] o = id⊢ 𝓤 (emp 𝓤)
   of_row (w ∷ ws) o = mono_r 𝓤 ⟦ part_at i16 full_share w b o ⟧ (of_row ws (o + 2))
 
-  pub all_loose : (o : ℕ) (ws : List ℤ) → ⟦ words_own (block_ptr b o) 0 ws ⟧ ⊢ ⟦ loose_owns (block_ptr b o) (map Some ws) ⟧
-  all_loose o ws = let start : o + 0 ≡ o = omega arith in
-      qed 𝓛 (‵ (Whole 𝓛 ws b (o + 0)) ∷ []) ∵ rewrite ! 0 (λ (k : ℕ). ‵ (Whole 𝓛 ws b k)) start refl $ use1 𝓛 (‵ (Row 𝓛 ws b o)) (apart 𝓛 ws b o) $ by ! (of_row ws o)
-
   -- words that are away own nothing
   away : (n o : ℕ) → emp 𝓤 ⊢ ⟦ slots b o (replicate n None) ⟧
   away zero o = id⊢ 𝓤 (emp 𝓤)
   away (suc n) o = qed 𝓛 [] {P = ⟦ slots b o (replicate (suc n) None) ⟧} (use0 𝓛 (‵ (slots b (o + 2) (replicate n None))) (away n (o + 2)) $ nothing ! $ fjoin ! $ done !)
+
+  -- words from the first on are loose, and those behind them are away
+  pub all_loose : (o : ℕ) (ws : List ℤ) (n : ℕ) → ⟦ words_own (block_ptr b o) 0 ws ⟧ ⊢ ⟦ loose_owns (block_ptr b o) (map Some ws ++ replicate n None) ⟧
+  all_loose o ws n =
+      let start : o + 0 ≡ o = omega arith in let at = o + length ws * 2 in let far : at ≡ o + length (map Some ws) * 2 = omega (arith, length-map ws Some) in
+      qed 𝓛 (‵ (Whole 𝓛 ws b (o + 0)) ∷ []) ∵ rewrite ! 0 (λ (k : ℕ). ‵ (Whole 𝓛 ws b k)) start refl $ use1 𝓛 (‵ (Row 𝓛 ws b o)) (apart 𝓛 ws b o) $ use1 𝓛 (‵ (slots b o (map Some ws))) (of_row ws o) $
+      use0 𝓛 (‵ (slots b at (replicate n None))) (away n at) $ move ! (1 ∷ 0 ∷ []) $ by ! (glue (map Some ws) (replicate n None) o at far)
 
   module _ (o : ℕ) (cs : Slots) (place n : ℕ) (le : place + n ≤ length cs) where
     abbrev at : ℕ

@@ -6,3 +6,4 @@ pub mod Ownership
 pub mod Slots
 pub mod Span
 pub mod SpanLends
+pub mod Stores

@@ -52,17 +52,27 @@ impl<A: Allocator> Deed<A> {
         }
     }
 
-    pub(crate) fn deallocate(self, alloc: &A, base: Base, len: usize, words: Words)
+    // The words that were written, and behind them those that never were.
+    pub(crate) fn deallocate(self, alloc: &A, base: Base, len: usize, words: Words, blank: Blank)
         requires block { (self.base ≡ base.ptr) × (self.len ≡ len) × (self.alloc ≡ alloc.now) × (len < word_limit) }
-        requires whole { (words.base ≡ base.ptr) × (words.place ≡ 0) × (length words.items ≡ len) }
+        requires words { (words.base ≡ base.ptr) × (words.place ≡ 0) }
+        requires blank { (blank.base ≡ base.ptr) × (blank.place ≡ length words.items) × (length words.items + blank.len ≡ len) }
     {
         let Deed { marker: _ } = self;
         let Words {} = words;
+        let Blank {} = blank;
         unsafe { alloc.deallocate(base.ptr as *mut u8, len * 2, 2) }
     }
 }
 
 impl Blank {
+    // It stands for an owner that was moved out of its place.
+    pub(crate) fn nowhere() -> Blank
+        ensures none { result.len ≡ 0 }
+    {
+        Blank {}
+    }
+
     // The first word is written, and joins the words before it.
     pub(crate) fn write_first(
         self,

@@ -8,6 +8,7 @@ mod piece;
 mod places;
 mod region;
 mod rest;
+mod store;
 mod words;
 
 pub use piece::{Piece, end_none};

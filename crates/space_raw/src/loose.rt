@@ -1,5 +1,5 @@
 //! The words of a region that no piece holds.
-ghost use Rattle.std.specs.Prelude.{◌≡◌, ◌<◌, ℕ, ℤ, ◌+◌, ◌≤◌, List, [], Option, Some, map, length};
+ghost use Rattle.std.specs.Prelude.{◌≡◌, ◌<◌, ℕ, ℤ, ◌+◌, ◌≤◌, ◌++◌, List, [], Option, Some, None, map, replicate, length};
 ghost use Rattle.std.specs.Borrow.{sem};
 ghost use denote.RawPtr.{Ptr};
 ghost use Rattle.space_raw.specs.Ownership.{word_limit};
@@ -33,9 +33,10 @@ impl Loose {
         Loose {}
     }
 
-    pub(crate) fn of(words: Words) -> Loose
+    // The words from the region's first on. So many behind them are away.
+    pub(crate) fn of(words: Words, away: usize) -> Loose
         requires start { words.place ≡ 0 }
-        ensures words { (result.base ≡ words.base) × (result.slots ≡ map Some words.items) }
+        ensures words { (result.base ≡ words.base) × (result.slots ≡ map Some words.items ++ replicate away None) }
     {
         let Words {} = words;
         Loose {}

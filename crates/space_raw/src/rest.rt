@@ -1,12 +1,14 @@
 //! The words of a region that no piece holds, as a map from places to words.
-ghost use Rattle.std.specs.Prelude.{◌≡◌, ◌+◌, ◌<◌, ◌≤◌, [], ◌∷◌, length, map, Some};
+ghost use Rattle.std.specs.Prelude.{◌≡◌, ◌+◌, ◌<◌, ◌≤◌, [], ◌∷◌, length, map, replicate, Some, pos};
+ghost use Rattle.space_raw.specs.Marks.{range_marks};
 ghost use Rattle.space_raw.specs.Slots.{run_of, IsRun, IsAway, without, with_run};
 ghost use Rattle.space_raw.specs.Span.{IsWhole};
 
-use crate::loose::Loose;
+use crate::block::Blank;
 use crate::piece::Piece;
 use crate::places::Places;
-use crate::words::Base;
+use crate::store::Store;
+use crate::words::{Base, Words};
 use std::marker::Model;
 use std::mem;
 
@@ -15,7 +17,7 @@ use std::mem;
 pub struct Rest {
     base: Base,
     size: u32,
-    loose: Loose,
+    store: Store,
     places: Places,
 }
 
@@ -23,12 +25,13 @@ impl Model for Rest {
     ghost use Rattle.std.specs.Prelude.{◌≡◌, ◌<◌, length, map, is_some};
     ghost use Rattle.space_raw.specs.Ownership.{word_limit};
     ghost use Rattle.space_raw.specs.Span.{Scattered};
+    ghost use Rattle.space_raw.specs.Stores.{IsStore, slots_of};
 
     ghost Value = { Scattered };
 
-    ghost view = { λ r. record { region = record { base = r.base.ptr; name = r.places.name; size = r.size }; slots = r.loose.slots } };
+    ghost view = { λ r. record { region = record { base = r.base.ptr; name = r.places.name; size = r.size }; slots = slots_of r.store } };
 
-    ghost invariant = { λ r. (r.base.ptr ≡ r.loose.base) × (r.size ≡ length r.loose.slots) × (r.size < word_limit) × (r.places.marks ≡ map is_some r.loose.slots) };
+    ghost invariant = { λ r. (r.base.ptr ≡ r.store.loose.base) × (r.size ≡ length (slots_of r.store)) × (r.size < word_limit) × (r.places.marks ≡ map is_some (slots_of r.store)) × IsStore r.store };
 }
 
 impl Rest {
@@ -48,9 +51,42 @@ impl Rest {
         Rest {
             base,
             size: len,
-            loose: Loose::of(words),
+            store: Store::of(words, len),
             places,
         }
+    }
+
+    // All words of a region, of which none was written.
+    pub(crate) fn of_blank(base: Base, none: Words, blank: Blank, len: u32, places: Places) -> Rest
+        requires none { (none.base ≡ base.ptr) × (none.place ≡ 0) × (none.items ≡ []) }
+        requires blank { (blank.base ≡ base.ptr) × (blank.place ≡ 0) × (blank.len ≡ len) }
+        requires places { places.marks ≡ range_marks len 0 len }
+        ensures region { result.region ≡ record { base = base.ptr; name = places.name; size = len } }
+        ensures zeros { result.slots ≡ map Some (replicate len (pos 0)) }
+    {
+        Rest {
+            base,
+            size: len,
+            store: Store::of_blank(none, blank, len),
+            places,
+        }
+    }
+
+    // The words that were written, and the room of those that never were.
+    pub(crate) fn end(self) -> (Base, u32, Words, Blank)
+        requires there { IsRun self.slots 0 (length self.slots) }
+        ensures region { (result.0.ptr ≡ self.region.base) × (result.1 ≡ self.region.size) }
+        ensures words { (result.2.base ≡ result.0.ptr) × (result.2.place ≡ 0) }
+        ensures blank { (result.3.base ≡ result.0.ptr) × (result.3.place ≡ length result.2.items) × (length result.2.items + result.3.len ≡ result.1) }
+    {
+        let Rest {
+            base,
+            size,
+            store,
+            places: _none,
+        } = self;
+        let (words, blank) = store.end();
+        (base, size, words, blank)
     }
 
     /// `len` words from the place on leave the rest, as a piece. They are kept.
@@ -61,11 +97,9 @@ impl Rest {
         ensures rest { (self.new.region ≡ self.old.region) × (self.new.slots ≡ without self.old.slots place len) }
     {
         let base = self.base;
-        let loose = mem::replace(&mut self.loose, Loose::nowhere());
         let places = mem::replace(&mut self.places, Places::make(0));
-        let (words, loose) = loose.carve(place as usize, len as usize);
+        let words = self.store.carve(base, place, len);
         let (inner, outer) = places.part(place as usize, len as usize);
-        self.loose = loose;
         self.places = outer;
         Piece {
             base,
@@ -83,15 +117,14 @@ impl Rest {
         ensures words { self.new.slots ≡ with_run self.old.slots piece.place piece.words }
     {
         let Piece {
-            base: _,
-            place: _,
-            len: _,
+            base,
+            place,
+            len,
             words,
             places,
         } = piece;
-        let loose = mem::replace(&mut self.loose, Loose::nowhere());
         let others = mem::replace(&mut self.places, Places::make(0));
-        self.loose = loose.absorb(words);
+        self.store.absorb(base, words, place + len);
         self.places = others.unite(places);
     }
 
@@ -100,8 +133,7 @@ impl Rest {
         requires there { IsRun self.now.slots place 2 }
         ensures words { run_of self.now.slots place 2 ≡ result.0 ∷ result.1 ∷ [] }
     {
-        let words = self.loose.run(self.base, place as usize, 2);
-        (words[0], words[1])
+        self.store.pair(self.base, place)
     }
 
     /// Those two words are written, and no others.
@@ -110,9 +142,7 @@ impl Rest {
         ensures region { self.new.region ≡ self.old.region }
         ensures words { self.new.slots ≡ with_run self.old.slots place (tag.0 ∷ tag.1 ∷ []) }
     {
-        let words = self.loose.run_mut(self.base, place as usize, 2);
-        words[0] = tag.0;
-        words[1] = tag.1;
+        self.store.set_pair(self.base, place, tag);
     }
 
     /// The whole region as one piece, where no other piece is left.
@@ -124,10 +154,11 @@ impl Rest {
         let Rest {
             base,
             size,
-            loose,
+            store,
             places,
         } = self;
-        let (words, _none) = loose.carve(0, size as usize);
+        let mut store = store;
+        let words = store.carve(base, 0, size);
         let (all, _others) = places.part(0, size as usize);
         Piece {
             base,

@@ -4,6 +4,7 @@ ghost use Rattle.std.specs.Borrow.{sem};
 ghost use denote.RawPtr.{Ptr};
 ghost use Rattle.space_raw.specs.Ownership.{words_own, words_lent, word_limit};
 
+use crate::block::Blank;
 use std::alloc::AllocError;
 use std::marker::Model;
 use std::slice;
@@ -72,5 +73,14 @@ impl Words {
         let Words {} = self;
         let Words {} = next;
         Words {}
+    }
+
+    // The words, and the room of no words behind them.
+    pub(crate) fn end(self) -> (Words, Blank)
+        ensures words { result.0 ≡ self }
+        ensures blank { (result.1.base ≡ self.base) × (result.1.place ≡ self.place + length self.items) × (result.1.len ≡ 0) }
+    {
+        let Words {} = self;
+        (Words {}, Blank {})
     }
 }

@@ -3,11 +3,12 @@ use Rattle.std.proofs.Common.{rules, ◌≡◌, length, ap, arith, subst, ◌∙
 use Rattle.space_raw.specs.Marks.{Disjoint, range_marks}
 use Rattle.space_raw.specs.Slots.{IsAway}
 use Rattle.space_raw.proofs.Marks.{held_apart, held}
+use Rattle.space_raw.specs.Stores.{slots_of}
 use Rattle.space_raw.proofs.rest.Rest.apart.Goals as goal
 
 pub returns-clause-apart : goal.returns-clause-apart
 returns-clause-apart c =
-    let cs = c.self.inside.loose.slots in let p = c.piece.inside in
+    let cs = slots_of c.self.inside.store in let p = c.piece.inside in
     let size : length p.places.marks ≡ length cs = search rules in
     let mine = ap (λ x. x.marks) c.replace-places.ensures.value ∙ c.self.invariant.3 in
     let other = ap (λ x. x.marks) c.replace-others.ensures.value ∙ c.piece.invariant.3 ∙ ap (λ k. range_marks k p.place p.len) size in

@@ -12,8 +12,9 @@ invariant_of-result c =
     let start : s.place ≡ 0 = search rules in
     let whole : s.len ≡ size = search rules in (
       search rules,
-      omega (arith, length-map s.words.items Some, ap length c.of.ensures.words.1, c.all.invariant),
+      omega (arith, length-map s.words.items Some, ap length c.of.ensures.slots, c.all.invariant),
       search rules,
       c.all.invariant.3 ∙ ap (λ p. range_marks size p s.len) start ∙ ap (λ n. range_marks size 0 n) whole
-          ∙ all_held s.words.items size (search (rules, whole)) ∙ ap (λ l. map is_some l) (sym c.of.ensures.words.1),
+          ∙ all_held s.words.items size (search (rules, whole)) ∙ ap (λ l. map is_some l) (sym c.of.ensures.slots),
+      c.of.ensures.store.0,
     )

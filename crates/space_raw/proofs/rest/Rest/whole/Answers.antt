@@ -5,11 +5,12 @@ use Rattle.std.specs.Prelude.{is_some}
 use Rattle.space_raw.specs.Slots.{IsRun, run_of}
 use Rattle.space_raw.proofs.Marks.{carved_places}
 use Rattle.space_raw.proofs.Slots.{run_long}
+use Rattle.space_raw.specs.Stores.{slots_of}
 use Rattle.space_raw.proofs.rest.Rest.whole.Goals as goal
 
 pub invariant_of-result : goal.invariant_of-result
 invariant_of-result c =
-    let cs = c.self.inside.loose.slots in let n = c.self.inside.size in
+    let cs = slots_of c.self.inside.store in let n = c.self.inside.size in
     let all : IsRun cs 0 (length cs) = subst (λ s. IsRun s.slots 0 (length s.slots)) (sym c.self.view_is) c.requires.there in
     let there : IsRun cs 0 n = subst (λ k. IsRun cs 0 k) (sym c.self.invariant.1) all in
     let size = c.part-all.ensures.inner.2 ∙ ap length c.self.invariant.3 ∙ length-map cs is_some in (
