@@ -7,7 +7,7 @@ use crate::ports::{Listener, ReplyPort, ScriptPort};
 use dsp_arguments::Arguments;
 use dsp_console::{CHANNELS, Config, Fault, PortIn, PortOut, Reading, Summary, run};
 use ialg::{Ialg, Named};
-use octet_ports::{Journal, JournalOutput, JournalReplies, Passing, pass_on_all};
+use octet_ports::{Journal, JournalOutput, JournalReplies, Marks, Passing, pass_on_all};
 use port_files::{InFile, OpenFault, OutFile, ReplyFile, Role, RunFiles, Troubles};
 use std::alloc::Global;
 use std::cell::RefCell;
@@ -135,8 +135,9 @@ fn serve_files<'p, M: Ialg + Named, R: Files + Print + Eprint + AllocGlobal>(
     let mut script = ScriptPort::new(file, listener);
     let mut inputs = Vec::new(rt.alloc());
     let replies = ReplyFile::new(io::writer(rt), files.troubles());
+    let marks = Marks::new(rt.alloc()).map_err(|_| Fault::Memory)?;
     // It is made in its cell: moved there, all its room would be copied.
-    let mut journal = RefCell::new(Journal::new(rt.alloc(), replies, passing));
+    let mut journal = RefCell::new(Journal::new(rt.alloc(), marks, replies, passing));
     let pairs = arguments.ports.as_slice();
     open_pairs(files, pairs, &mut inputs, journal.get_mut())?;
     let ended = serve_ports::<M, R, _, _, _, _>(
@@ -157,19 +158,14 @@ fn serve_files<'p, M: Ialg + Named, R: Files + Print + Eprint + AllocGlobal>(
 
 /// Opens the files and serves the script over them. A run that ends before something of the script was read leaves all files as they
 /// were.
-pub(crate) fn serve<M: Ialg + Named, R: Files + Print + Eprint + AllocGlobal>(
+fn serve_heard<M: Ialg + Named, R: Files + Print + Eprint + AllocGlobal>(
     rt: &R,
     arguments: &Arguments<'_>,
+    listener: Listener<'_, '_, R>,
 ) -> Result<Summary, Fault>
     requires { 1 ≤ length arguments.now.ports.items }
 {
     let troubles = RefCell::new(Troubles::default());
-    let explainer = RefCell::new(Explainer::new(rt, arguments));
-    let listener = if arguments.explain {
-        Some(&explainer)
-    } else {
-        None
-    };
     let mut begun = false;
     let mut files = RunFiles::new(rt, &troubles).map_err(fault_of)?;
     let ended = serve_files::<M, R>(rt, arguments, &mut files, listener, &mut begun);
@@ -183,4 +179,30 @@ pub(crate) fn serve<M: Ialg + Named, R: Files + Print + Eprint + AllocGlobal>(
         explain_fault(rt, arguments, fault, &troubles);
     }
     ended
+}
+
+/// Serves as [`serve`] does, where reasons are asked for. It is a call of its own, since the room of what explains is cleared.
+#[inline(never)]
+fn serve_explained<M: Ialg + Named, R: Files + Print + Eprint + AllocGlobal>(
+    rt: &R,
+    arguments: &Arguments<'_>,
+) -> Result<Summary, Fault>
+    requires { 1 ≤ length arguments.now.ports.items }
+{
+    let explainer = RefCell::new(Explainer::new(rt, arguments));
+    serve_heard::<M, R>(rt, arguments, Some(&explainer))
+}
+
+/// Serves the script over files, and tells why lines were refused where that is asked for.
+pub(crate) fn serve<M: Ialg + Named, R: Files + Print + Eprint + AllocGlobal>(
+    rt: &R,
+    arguments: &Arguments<'_>,
+) -> Result<Summary, Fault>
+    requires { 1 ≤ length arguments.now.ports.items }
+{
+    if arguments.explain {
+        serve_explained::<M, R>(rt, arguments)
+    } else {
+        serve_heard::<M, R>(rt, arguments, None)
+    }
 }

@@ -5,10 +5,9 @@ ghost use Rattle.octet_ports.specs.Passing.{EachDoes, EndsLine, Gets, GetsAt, Ha
 ghost use Rattle.octet_ports.specs.Marks.{IsMarked, MarksOneMore, Remembers, TellsTruth};
 ghost use Rattle.octet_ports.specs.declared.waiting.Waiting.{Waiting};
 
-use crate::marks::{MARKS, Mark, true_octets};
+use crate::marks::{MARKS, Mark, Marks, true_octets};
 use crate::waiting::{Waiting, forget_outputs, pass_outputs};
 use crate::{LINE_FEED, PortFault};
-use arrayvec::ArrayVec;
 use std::alloc::{AllocError, Global};
 use std::io::Write;
 
@@ -27,14 +26,15 @@ pub enum Passing {
 pub struct Journal<W, R> {
     outputs: Vec<Waiting<W>>,
     replies: Waiting<R>,
-    marks: ArrayVec<Mark, MARKS>,
+    marks: Marks,
     passing: Passing,
     failed: bool,
 }
 
 impl<W: Write, R: Write> Journal<W, R> {
-    /// Nothing waits, and there is no output yet.
-    pub fn new(alloc: Global, replies: R, passing: Passing) -> Self
+    /// Nothing waits, and there is no output yet. Of the marks there are none.
+    pub fn new(alloc: Global, marks: Marks, replies: R, passing: Passing) -> Self
+        requires none { marks.items ≡ [] }
         ensures none { result.outputs.items ≡ [] }
         ensures nothing { HasNothing result.replies × (result.marks.items ≡ []) }
         ensures replies { result.replies.writer ≡ replies }
@@ -44,7 +44,7 @@ impl<W: Write, R: Write> Journal<W, R> {
         Journal {
             outputs: Vec::new(alloc),
             replies: Waiting::new(replies),
-            marks: ArrayVec::new(),
+            marks,
             passing,
             failed: false,
         }

@@ -16,7 +16,7 @@ mod waiting;
 pub use device::{Reading, Writing};
 pub use handles::{JournalOutput, JournalReplies, pass_on_all};
 pub use journal::{Journal, Passing};
-pub use marks::MARKS;
+pub use marks::{MARKS, Marks};
 pub use octets::{read_octets, write_octets};
 pub use port::{PortFault, PortIn, PortOut};
 pub use reader::{BUFFER_OCTETS, LineFault, LineReader, ReadLine};

@@ -1,7 +1,7 @@
 //! What reaches devices that fail, and in which order.
 use crate::ports::numbered;
 use octet_ports::{
-    JOURNAL_OCTETS, Journal, JournalOutput, JournalReplies, MARKS, Passing, PortOut, pass_on_all,
+    JOURNAL_OCTETS, Journal, JournalOutput, JournalReplies, MARKS, Marks, Passing, PortOut, pass_on_all,
     write_octets,
 };
 use std::cell::RefCell;
@@ -52,7 +52,8 @@ fn two_outputs<'a>(
     room: usize,
     passing: Passing,
 ) -> Result<Scribes<'a>, Fail> {
-    let mut journal = Journal::new(rt.alloc(), Scribe { page, room: WIDE }, passing);
+    let marks = Marks::new(rt.alloc())?;
+    let mut journal = Journal::new(rt.alloc(), marks, Scribe { page, room: WIDE }, passing);
     journal.push_output(Scribe { page, room })?;
     journal.push_output(Scribe { page, room: WIDE })?;
     Ok(RefCell::new(journal))
@@ -189,7 +190,8 @@ fn a_failed_flush_leaves_no_reply(rt: HostRuntime) -> Result<(), Fail> {
         page: &page,
         room: WIDE,
     };
-    let mut journal = Journal::new(rt.alloc(), replies, Passing::WhereFull);
+    let marks = Marks::new(rt.alloc())?;
+    let mut journal = Journal::new(rt.alloc(), marks, replies, Passing::WhereFull);
     journal.push_output(Shaky::new(b"", WIDE, 1))?;
     let journal = RefCell::new(journal);
     let mut first = JournalOutput::new(&journal, 0);
