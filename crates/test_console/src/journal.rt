@@ -1,8 +1,8 @@
 //! What reaches devices that fail, and in which order.
 use crate::ports::numbered;
 use octet_ports::{
-    JOURNAL_OCTETS, Journal, JournalOutput, JournalReplies, MARKS, Marks, Passing, PortOut, pass_on_all,
-    write_octets,
+    JOURNAL_OCTETS, Journal, JournalOutput, JournalReplies, MARKS, Marks, Passing, PortOut,
+    pass_on_all, write_octets,
 };
 use std::cell::RefCell;
 use std::io;
