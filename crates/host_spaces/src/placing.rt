@@ -1,5 +1,5 @@
 //! Places for all that is needed, or for nothing.
-ghost use Rattle.std.specs.Prelude.{◌≡◌, ◌≢◌, ℕ, ◌+◌, ◌<◌, ◌≤◌, length, drop, Some, IfSome, IfNone, OnOk, OnErr};
+ghost use Rattle.std.specs.Prelude.{◌≡◌, ◌≢◌, ℕ, ◌+◌, ◌<◌, ◌≤◌, length, drop, Some, IsSome, IfSome, IfNone, OnOk, OnErr};
 ghost use Rattle.std.specs.Option.{option_map};
 ghost use Rattle.mem_rec.specs.declared.Space.{Space};
 ghost use Rattle.relocate.specs.Places.{least_place, placed_size};
@@ -42,8 +42,52 @@ fn place_filled(spaces: &mut Spaces, want: Wanted, poison: Option<i16>) -> Optio
     Some(piece)
 }
 
+// Places what entry `k` wants, and then what is wanted behind it, as `place_from` does. It is a call of its own, and reads the entry itself: so
+// `place_from` has nothing to lend, and passes over entries that want nothing in a loop.
+#[cycle(placing)]
+#[inline(never)]
+fn place_at(
+    spaces: &mut Spaces,
+    wants: &[Option<Wanted>],
+    k: usize,
+    poison: Option<i16>,
+    granted: &mut Granted,
+) -> Result<(), Space>
+    requires seven { length wants.now ≡ WANTS }
+    requires number { k < WANTS }
+    requires wanted { IsSome (want_at wants.now k) }
+    requires limits { (j : ℕ) (w : Wanted) → want_at wants.now j ≡ Some w → IsWithinLimits w }
+    requires apart { AreApartWants wants.now }
+    requires room { (space : Space) → length (space_in spaces.old space).blocks + count_in space (drop k wants.now) ≤ SPACE_BLOCKS }
+    requires none { granted.old ≡ none_granted }
+    ensures exact { all_placed (sizes_of spaces.old) (map_of spaces.old) (somes (drop k wants.now)) ≡ result_map (λ _. map_of spaces.new) result }
+    ensures granted { OnOk result (IsGranted spaces.old spaces.new poison k wants.now granted.new) }
+    ensures refused { OnErr result ((spaces.new ≡ spaces.old) × (granted.new ≡ none_granted)) }
+    ensures stays { AreSameSpaces spaces.old spaces.new }
+{
+    let want = match wants[k] {
+        Some(want) => want,
+        None => unreachable!(),
+    };
+    let piece = match place_filled(spaces, want, poison) {
+        Some(piece) => piece,
+        None => return Err(want.space),
+    };
+    match place_from(spaces, wants, k + 1, poison, granted) {
+        Ok(()) => {
+            granted.put(k, piece);
+            Ok(())
+        }
+        Err(space) => {
+            spaces.take_out(want.space, piece);
+            Err(space)
+        }
+    }
+}
+
 // Places for what is wanted from entry `k` on, in this order; or the space of the first that has none, and then nothing has happened. The
 // pieces are put where the caller has room for them: given back by value they would be copied at each entry.
+#[cycle(placing)]
 pub(crate) fn place_from(
     spaces: &mut Spaces,
     wants: &[Option<Wanted>],
@@ -64,22 +108,8 @@ pub(crate) fn place_from(
     if k >= wants.len() {
         return Ok(());
     }
-    let want = match wants[k] {
-        Some(want) => want,
-        None => return place_from(spaces, wants, k + 1, poison, granted),
-    };
-    let piece = match place_filled(spaces, want, poison) {
-        Some(piece) => piece,
-        None => return Err(want.space),
-    };
-    match place_from(spaces, wants, k + 1, poison, granted) {
-        Ok(()) => {
-            granted.put(k, piece);
-            Ok(())
-        }
-        Err(space) => {
-            spaces.take_out(want.space, piece);
-            Err(space)
-        }
+    match wants[k] {
+        Some(_) => place_at(spaces, wants, k, poison, granted),
+        None => place_from(spaces, wants, k + 1, poison, granted),
     }
 }

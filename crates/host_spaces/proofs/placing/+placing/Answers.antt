@@ -1,0 +1,145 @@
+-- The rest is placed after the first, and where it isn't the first is taken out again.
+use Rattle.std.proofs.Common.{◌≤◌, ◌+◌, ◌<◌, ℤ, suc, length, drop, Option, Some, None, refl, sym, ◌∙◌, ap, subst, add-one, arith}
+use Rattle.mem_rec.specs.declared.Space.{Space}
+use Rattle.host_map.specs.declared.TheConstants.{SPACE_BLOCKS}
+use Rattle.host_spaces.specs.declared.granted.Granted.{Granted}
+use Rattle.host_spaces.specs.MemoryMap.{map_of, sizes_of, space_in}
+use Rattle.host_map.specs.Creation.{all_placed}
+use Rattle.std.specs.Prelude.{IsSome}
+use Rattle.host_spaces.specs.Wants.{IsGranted, count_in, somes, want_at}
+use Rattle.host_spaces.proofs.OnePlaced.{IsOne, after_some, at_none, exact_one, granted_next, granted_skip, its_owner, on_ok, room_next, taken_back}
+use Rattle.host_spaces.proofs.placing.+placing.Goals as goal
+
+pub place_from-returns-in-None-clause-granted : goal.place_from-returns-in-None-clause-granted
+place_from-returns-in-None-clause-granted g c =
+    let old = c.args.spaces.now in let new = c.place_from.new.spaces in let wants = c.args.wants.now in let k = c.args.k in let word : Option ℤ = c.args.poison in
+    let made = c.place_from.new.granted in
+    on_ok c.place_from.result (IsGranted old new word (k + 1) wants made) (IsGranted old new word k wants made)
+    (λ it. granted_skip old new word k wants made (at_none wants k _ None c.if-k-wants.false c.in-None.is)
+    (subst (λ n. IsGranted old new word n wants made) (add-one k) it)) c.place_from.ensures.granted
+
+pub place_from-place_at-requires : goal.place_from-place_at-requires
+place_from-place_at-requires g c =
+    let wanted : IsSome (want_at c.args.wants.now c.args.k) = subst IsSome (sym (at_none c.args.wants.now c.args.k _ _ c.if-k-wants.false c.in-Some.is)) refl in
+    let number : c.args.k < 7 = (let s = c.requires.seven in let n = c.if-k-wants.false in omega arith) in
+    ((let d = c.decreases in omega arith), (c.requires.seven, (number, (wanted, (c.requires.limits, (c.requires.apart, (c.requires.room, c.requires.none)))))))
+
+pub place_at-place_filled-requires-clause-limits : goal.place_at-place_filled-requires-clause-limits
+place_at-place_filled-requires-clause-limits g c = c.requires.limits c.args.k c.in-Some.want (at_none c.args.wants.now c.args.k _ (Some c.in-Some.want) (let s = c.requires.seven in let n = c.requires.number in omega arith) c.in-Some.is)
+
+pub place_at-place_from-requires : goal.place_at-place_from-requires
+place_at-place_from-requires g c =
+    let old = c.args.spaces.now in let mid = c.place_filled.new.spaces in let wants = c.args.wants.now in let k = c.args.k in let w = c.in-Some.want in let p = c.in-Some-place_filled.piece in
+    let is = at_none c.args.wants.now c.args.k _ (Some c.in-Some.want) (let s = c.requires.seven in let n = c.requires.number in omega arith) c.in-Some.is in
+    let told = c.in-Some-place_filled.ensures in
+    let one : IsOne old mid w p = record {
+      place = told.place;
+      piece = told.piece;
+      blocks = told.blocks;
+      its = told.owned;
+      others = told.others;
+      elsewhere = told.elsewhere;
+      back = told.back;
+      stays = told.stays;
+    } in
+    let lt : k < length wants = (let s = c.requires.seven in let n = c.requires.number in omega arith) in
+    let fits : (space : Space) → length (space_in mid space).blocks + count_in space (drop (k + 1) wants) ≤ SPACE_BLOCKS =
+    λ space. subst (λ n. length (space_in mid space).blocks + count_in space (drop n wants) ≤ SPACE_BLOCKS) (sym (add-one k))
+    (room_next old mid w p one wants k lt is c.requires.room space) in
+    ((let d = c.decreases in let s = c.requires.seven in let n = c.requires.number in omega arith), (c.requires.seven, (c.requires.limits, (c.requires.apart, (fits, c.requires.none)))))
+
+pub place_at-take_out-requires-clause-owner : goal.place_at-take_out-requires-clause-owner
+place_at-take_out-requires-clause-owner g c =
+    let old = c.args.spaces.now in let mid = c.place_filled.new.spaces in let wants = c.args.wants.now in let k = c.args.k in let w = c.in-Some.want in let p = c.in-Some-place_filled.piece in
+    let is = at_none c.args.wants.now c.args.k _ (Some c.in-Some.want) (let s = c.requires.seven in let n = c.requires.number in omega arith) c.in-Some.is in
+    let told = c.in-Some-place_filled.ensures in
+    let one : IsOne old mid w p = record {
+      place = told.place;
+      piece = told.piece;
+      blocks = told.blocks;
+      its = told.owned;
+      others = told.others;
+      elsewhere = told.elsewhere;
+      back = told.back;
+      stays = told.stays;
+    } in
+    its_owner old mid c.place_from.new.spaces w p one c.in-Err.ensures.refused.0
+
+pub place_at-returns-in-Ok-clause-exact : goal.place_at-returns-in-Ok-clause-exact
+place_at-returns-in-Ok-clause-exact g c =
+    let old = c.args.spaces.now in let mid = c.place_filled.new.spaces in let wants = c.args.wants.now in let k = c.args.k in let w = c.in-Some.want in let p = c.in-Some-place_filled.piece in
+    let is = at_none c.args.wants.now c.args.k _ (Some c.in-Some.want) (let s = c.requires.seven in let n = c.requires.number in omega arith) c.in-Some.is in
+    let told = c.in-Some-place_filled.ensures in
+    let one : IsOne old mid w p = record {
+      place = told.place;
+      piece = told.piece;
+      blocks = told.blocks;
+      its = told.owned;
+      others = told.others;
+      elsewhere = told.elsewhere;
+      back = told.back;
+      stays = told.stays;
+    } in
+    let lt : k < length wants = (let s = c.requires.seven in let n = c.requires.number in omega arith) in
+    ap (all_placed (sizes_of old) (map_of old)) (after_some wants k w lt is)
+    ∙ exact_one old mid w p one (c.requires.limits k w is) (somes (drop (suc k) wants))
+    ∙ ap (λ n. all_placed (sizes_of mid) (map_of mid) (somes (drop n wants))) (sym (add-one k))
+    ∙ c.in-Ok.ensures.exact
+
+pub place_at-returns-in-Ok-clause-granted : goal.place_at-returns-in-Ok-clause-granted
+place_at-returns-in-Ok-clause-granted g c =
+    let old = c.args.spaces.now in let mid = c.place_filled.new.spaces in let wants = c.args.wants.now in let k = c.args.k in let w = c.in-Some.want in let p = c.in-Some-place_filled.piece in
+    let is = at_none c.args.wants.now c.args.k _ (Some c.in-Some.want) (let s = c.requires.seven in let n = c.requires.number in omega arith) c.in-Some.is in
+    let told = c.in-Some-place_filled.ensures in
+    let one : IsOne old mid w p = record {
+      place = told.place;
+      piece = told.piece;
+      blocks = told.blocks;
+      its = told.owned;
+      others = told.others;
+      elsewhere = told.elsewhere;
+      back = told.back;
+      stays = told.stays;
+    } in
+    let new = c.place_from.new.spaces in let made = c.place_from.new.granted in let word : Option ℤ = c.args.poison in
+    subst (λ (x : Granted). IsGranted old new word k wants x) (sym c.put.ensures)
+    (granted_next old mid new word k wants made w p c.requires.number is (c.requires.limits k w is) one told.poison c.requires.apart
+    (subst (λ n. IsGranted mid new word n wants made) (add-one k) c.in-Ok.ensures.granted))
+
+pub place_at-returns-in-Err-clause-exact : goal.place_at-returns-in-Err-clause-exact
+place_at-returns-in-Err-clause-exact g c =
+    let old = c.args.spaces.now in let mid = c.place_filled.new.spaces in let wants = c.args.wants.now in let k = c.args.k in let w = c.in-Some.want in let p = c.in-Some-place_filled.piece in
+    let is = at_none c.args.wants.now c.args.k _ (Some c.in-Some.want) (let s = c.requires.seven in let n = c.requires.number in omega arith) c.in-Some.is in
+    let told = c.in-Some-place_filled.ensures in
+    let one : IsOne old mid w p = record {
+      place = told.place;
+      piece = told.piece;
+      blocks = told.blocks;
+      its = told.owned;
+      others = told.others;
+      elsewhere = told.elsewhere;
+      back = told.back;
+      stays = told.stays;
+    } in
+    let lt : k < length wants = (let s = c.requires.seven in let n = c.requires.number in omega arith) in
+    ap (all_placed (sizes_of old) (map_of old)) (after_some wants k w lt is)
+    ∙ exact_one old mid w p one (c.requires.limits k w is) (somes (drop (suc k) wants))
+    ∙ ap (λ n. all_placed (sizes_of mid) (map_of mid) (somes (drop n wants))) (sym (add-one k))
+    ∙ c.in-Err.ensures.exact
+
+pub place_at-returns-in-Err-clause-refused : goal.place_at-returns-in-Err-clause-refused
+place_at-returns-in-Err-clause-refused g c =
+    let old = c.args.spaces.now in let mid = c.place_filled.new.spaces in let wants = c.args.wants.now in let k = c.args.k in let w = c.in-Some.want in let p = c.in-Some-place_filled.piece in
+    let is = at_none c.args.wants.now c.args.k _ (Some c.in-Some.want) (let s = c.requires.seven in let n = c.requires.number in omega arith) c.in-Some.is in
+    let told = c.in-Some-place_filled.ensures in
+    let one : IsOne old mid w p = record {
+      place = told.place;
+      piece = told.piece;
+      blocks = told.blocks;
+      its = told.owned;
+      others = told.others;
+      elsewhere = told.elsewhere;
+      back = told.back;
+      stays = told.stays;
+    } in
+    (taken_back old mid c.place_from.new.spaces c.take_out.new.self w p one c.in-Err.ensures.refused.0 c.take_out.ensures.blocks c.take_out.ensures.elsewhere c.take_out.ensures.stays, c.in-Err.ensures.refused.1)
