@@ -49,6 +49,15 @@ at_none (w ∷ ws) (suc k) d o lt e = at_none ws k d o (omega arith) e
 next_want : (wants : List (Option Wanted)) (k : ℕ) (o : Option Wanted) → k < length wants → want_at wants k ≡ o → drop k wants ≡ o ∷ drop (suc k) wants
 next_want wants k o lt e = drop-cons wants k None lt ∙ ap (λ (x : Option Wanted). x ∷ drop (suc k) wants) e
 
+-- an entry that wants nothing
+after_none : (wants : List (Option Wanted)) (k : ℕ) → k < length wants → want_at wants k ≡ None → somes (drop k wants) ≡ somes (drop (suc k) wants)
+after_none wants k lt e = ap somes (next_want wants k None lt e)
+
+count_none : (space : Space) (wants : List (Option Wanted)) (k : ℕ) → k < length wants → want_at wants k ≡ None → count_in space (drop k wants) ≡ count_in space (drop (suc k) wants)
+count_none space wants k lt e =
+    let counted : count_in space (drop k wants) ≡ 0 + count_in space (drop (suc k) wants) = ap (count_in space) (next_want wants k None lt e) in
+    omega (arith, counted)
+
 pub after_some : (wants : List (Option Wanted)) (k : ℕ) (w : Wanted) → k < length wants → want_at wants k ≡ Some w → somes (drop k wants) ≡ w ∷ somes (drop (suc k) wants)
 after_some wants k w lt e = ap somes (next_want wants k (Some w) lt e)
 
@@ -187,6 +196,36 @@ granted_skip old new word k wants made none g = record {
   ];
   others = λ o space apart. g.others o space (λ j w more is there. apart j w (omega arith) is there);
 }
+
+-- entries k to r that want nothing
+module _ (wants : List (Option Wanted)) where
+  pub somes_passed : (r k : ℕ) → k ≤ r → r ≤ length wants → ((j : ℕ) → k ≤ j → j < r → want_at wants j ≡ None) → somes (drop k wants) ≡ somes (drop r wants)
+  somes_passed zero k le long none = let same : k ≡ zero = omega (arith, le) in ap (λ m. somes (drop m wants)) same
+  somes_passed (suc r) k le long none = elim (or_more k (suc r) le) [
+    | inl same ↦ ap (λ m. somes (drop m wants)) (sym same)
+    | inr more ↦
+        somes_passed r k (omega (arith, more)) (omega (arith, long)) (λ j from to. none j from (omega (arith, to)))
+        ∙ after_none wants r (omega (arith, long)) (none r (omega (arith, more)) (omega arith))
+  ]
+
+  pub count_passed : (space : Space) (r k : ℕ) → k ≤ r → r ≤ length wants → ((j : ℕ) → k ≤ j → j < r → want_at wants j ≡ None) → count_in space (drop k wants) ≡ count_in space (drop r wants)
+  count_passed space zero k le long none = let same : k ≡ zero = omega (arith, le) in ap (λ m. count_in space (drop m wants)) same
+  count_passed space (suc r) k le long none = elim (or_more k (suc r) le) [
+    | inl same ↦ ap (λ m. count_in space (drop m wants)) (sym same)
+    | inr more ↦
+        count_passed space r k (omega (arith, more)) (omega (arith, long)) (λ j from to. none j from (omega (arith, to)))
+        ∙ count_none space wants r (omega (arith, long)) (none r (omega (arith, more)) (omega arith))
+  ]
+
+  pub granted_passed : (old new : Spaces) (word : Option ℤ) (made : Granted) (r k : ℕ) → k ≤ r → ((j : ℕ) → k ≤ j → j < r → want_at wants j ≡ None)
+      → IsGranted old new word r wants made → IsGranted old new word k wants made
+  granted_passed old new word made zero k le none it = let same : k ≡ zero = omega (arith, le) in subst (λ m. IsGranted old new word m wants made) (sym same) it
+  granted_passed old new word made (suc r) k le none it = elim (or_more k (suc r) le) [
+    | inl same ↦ subst (λ m. IsGranted old new word m wants made) same it
+    | inr more ↦
+        granted_passed old new word made r k (omega (arith, more)) (λ j from to. none j from (omega (arith, to)))
+        (granted_skip old new word r wants made (none r (omega (arith, more)) (omega arith)) it)
+  ]
 
 module _ (old mid new : Spaces) (word : Option ℤ) (k : ℕ) (wants : List (Option Wanted)) (made : Granted) (w : Wanted) (p : Span) (lt : k < 7) (is : want_at wants k ≡ Some w)
     (limits : IsWithinLimits w) (m : IsOne old mid w p) (filled : ArePoison word p.words) (apart : AreApartWants wants) (g : IsGranted mid new word (suc k) wants made) where

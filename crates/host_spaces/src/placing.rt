@@ -1,5 +1,5 @@
 //! Places for all that is needed, or for nothing.
-ghost use Rattle.std.specs.Prelude.{◌≡◌, ◌≢◌, ℕ, ◌+◌, ◌<◌, ◌≤◌, length, drop, Some, IsSome, IfSome, IfNone, OnOk, OnErr};
+ghost use Rattle.std.specs.Prelude.{◌≡◌, ◌≢◌, ℕ, ◌+◌, ◌<◌, ◌≤◌, length, drop, Some, None, IsSome, IfSome, IfNone, OnOk, OnErr};
 ghost use Rattle.std.specs.Option.{option_map};
 ghost use Rattle.mem_rec.specs.declared.Space.{Space};
 ghost use Rattle.relocate.specs.Places.{least_place, placed_size};
@@ -42,8 +42,20 @@ fn place_filled(spaces: &mut Spaces, want: Wanted, poison: Option<i16>) -> Optio
     Some(piece)
 }
 
-// Places what entry `k` wants, and then what is wanted behind it, as `place_from` does. It is a call of its own, and reads the entry itself: so
-// `place_from` has nothing to lend, and passes over entries that want nothing in a loop.
+// The first entry from `k` on that wants something, or the end.
+fn next_wanted(wants: &[Option<Wanted>], k: usize) -> usize
+    requires { k ≤ length wants.now }
+    ensures within { (k ≤ result) × (result ≤ length wants.now) }
+    ensures passed { (j : ℕ) → k ≤ j → j < result → want_at wants.now j ≡ None }
+    ensures found { result < length wants.now → IsSome (want_at wants.now result) }
+{
+    if k >= wants.len() || wants[k].is_some() {
+        return k;
+    }
+    next_wanted(wants, k + 1)
+}
+
+// Places what entry `k` wants, and then what is wanted behind it, as `place_from` does.
 #[cycle(placing)]
 #[inline(never)]
 fn place_at(
@@ -96,6 +108,7 @@ pub(crate) fn place_from(
     granted: &mut Granted,
 ) -> Result<(), Space>
     requires seven { length wants.now ≡ WANTS }
+    requires number { k ≤ WANTS }
     requires limits { (j : ℕ) (w : Wanted) → want_at wants.now j ≡ Some w → IsWithinLimits w }
     requires apart { AreApartWants wants.now }
     requires room { (space : Space) → length (space_in spaces.old space).blocks + count_in space (drop k wants.now) ≤ SPACE_BLOCKS }
@@ -105,11 +118,9 @@ pub(crate) fn place_from(
     ensures refused { OnErr result ((spaces.new ≡ spaces.old) × (granted.new ≡ none_granted)) }
     ensures stays { AreSameSpaces spaces.old spaces.new }
 {
-    if k >= wants.len() {
+    let first = next_wanted(wants, k);
+    if first >= wants.len() {
         return Ok(());
     }
-    match wants[k] {
-        Some(_) => place_at(spaces, wants, k, poison, granted),
-        None => place_from(spaces, wants, k + 1, poison, granted),
-    }
+    place_at(spaces, wants, first, poison, granted)
 }
