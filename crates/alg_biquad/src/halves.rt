@@ -1,6 +1,8 @@
 //! Sums of products that don't saturate, as halves of G.191's sums, whose products are doubled.
-ghost use Rattle.std.specs.Prelude.{◌≡◌, ◌≤◌, ◌<◌, ◌^◌, ◌+ℤ◌, ◌*ℤ◌, pos, true, unsigned_abs, IfSome};
-ghost use Rattle.basic_op.specs.Operators.{l_mult_of, l_mac_of, l_msu_of, l_shl_of, round_of};
+ghost use Rattle.std.specs.Prelude.{◌≡◌, ◌≤◌, ◌<◌, ◌-◌, ◌^◌, ◌+ℤ◌, ◌-ℤ◌, ◌*ℤ◌, pos, true, unsigned_abs, IfSome};
+ghost use Rattle.std.specs.Int.{saturate_to_bits};
+ghost use lib.Signed.{shr_z};
+ghost use Rattle.basic_op.specs.Operators.{l_mult_of, l_mac_of, l_shl_of, round_of, saturate32};
 ghost use Rattle.alg_biquad.specs.Halves.{AreAboveLeast, IsHalfOf};
 
 /// Halves of sums are less than this in magnitude: twice of them a Word32 has.
@@ -23,14 +25,15 @@ pub(crate) fn are_above_least(coefficients: &[i16]) -> bool
 #[inline]
 pub(crate) fn half_product(c: i16, v: i16) -> i32
     requires { unsigned_abs c ≤ 32767 }
-    ensures { IsHalfOf result (l_mult_of c v) }
+    ensures half { IsHalfOf result (l_mult_of c v) }
+    ensures within { unsigned_abs result ≤ 2 ^ 30 - 2 ^ 15 }
 {
     i32::from(c) * i32::from(v)
 }
 
 /// The half sum, where it is less than the limit.
 #[inline]
-fn within(sum: i32) -> Option<i32>
+pub(crate) fn within(sum: i32) -> Option<i32>
     ensures { IfSome result (λ s. (s ≡ sum) × (unsigned_abs s < 2 ^ 30)) }
 {
     if -LIMIT < sum && sum < LIMIT {
@@ -50,21 +53,37 @@ pub(crate) fn plus_product(sum: i32, c: i16, v: i16) -> Option<i32>
     within(sum + half_product(c, v))
 }
 
-/// Half of what G.191's `L_msu` gives, and None where that saturates.
-#[inline]
-pub(crate) fn less_product(sum: i32, c: i16, v: i16) -> Option<i32>
-    requires above { unsigned_abs c ≤ 32767 }
-    requires small { unsigned_abs sum < 2 ^ 30 }
-    ensures { IfSome result (λ s. IsHalfOf s (l_msu_of (sum +ℤ sum) c v)) }
+/// The sum less the product, in Q15, where it is beyond words. Few are.
+#[cold]
+#[inline(never)]
+fn limited_less(ahead: i32, newer: i32) -> i16
+    requires { unsigned_abs (ahead -ℤ newer) < 2 ^ 31 }
+    ensures { result ≡ saturate_to_bits 15 (shr_z (ahead -ℤ newer) 16384) }
 {
-    within(sum - half_product(c, v))
+    ((ahead - newer) >> HALF_BITS).clamp(i32::from(i16::MIN), i32::from(i16::MAX)) as i16
 }
 
-/// The sum in Q15, rounded and limited once, in place of a doubling, a shift and a sum that are limited each.
+/// The sum less the product, in Q15, limited. Where it is beyond words it is made once more, from its two parts: if it alone were passed on,
+/// the compiler would add up all products before.
 #[inline]
-pub(crate) fn rounded(half: i32) -> i16
-    requires { unsigned_abs half < 2 ^ 30 }
-    ensures { result ≡ round_of (l_shl_of (pos 2 *ℤ half) (pos 1)) }
+fn nearest_less(ahead: i32, newer: i32) -> i16
+    requires { unsigned_abs (ahead -ℤ newer) < 2 ^ 31 }
+    ensures { result ≡ saturate_to_bits 15 (shr_z (ahead -ℤ newer) 16384) }
 {
-    ((half + HALF_STEP) >> HALF_BITS).clamp(i32::from(i16::MIN), i32::from(i16::MAX)) as i16
+    match i16::try_from((ahead - newer) >> HALF_BITS) {
+        Ok(word) => word,
+        Err(_) => limited_less(ahead, newer),
+    }
+}
+
+/// The half sum less both products, in Q15, rounded and limited once, in place of a last difference, a doubling, a shift and a sum that are
+/// limited each. The newer product is taken off last: it is made of the output before, and nothing else is to be waited for.
+#[inline]
+pub(crate) fn rounded_less(half: i32, newer: i32, older: i32) -> i16
+    requires half { unsigned_abs half < 2 ^ 30 }
+    requires newer { unsigned_abs (half -ℤ newer) < 2 ^ 30 }
+    requires older { unsigned_abs older ≤ 2 ^ 30 - 2 ^ 15 }
+    ensures { result ≡ round_of (l_shl_of (saturate32 (pos 2 *ℤ ((half -ℤ newer) -ℤ older))) (pos 1)) }
+{
+    nearest_less(half + HALF_STEP - older, newer)
 }

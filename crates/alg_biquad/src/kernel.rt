@@ -6,10 +6,13 @@ ghost use Rattle.alg_biquad.specs.Equation.{biquad_value};
 ghost use Rattle.alg_biquad.specs.Halves.{AreAboveLeast};
 ghost use Rattle.alg_biquad.specs.Keeps.{state_after, Gives, IsNewest, Ran};
 
-use crate::halves::{are_above_least, half_product, less_product, plus_product, rounded};
+use crate::halves::{are_above_least, half_product, plus_product, rounded_less, within};
 use crate::{COEFFICIENTS, STATE_WORDS};
 use basic_op::{l_mac, l_msu, l_mult, l_shl, round};
 use ialg::{BLOCK_SAMPLES, Block};
+
+/// The samples of the shortest block that is run as long as no step saturates. What comes before such a run costs as much as the limits of a few samples.
+const LEAST_RUN: usize = 4;
 
 /// The two newest samples and the two newest outputs, in Q15.
 #[derive(Clone, Copy)]
@@ -45,19 +48,18 @@ impl State {
         words.copy_from_slice(&[self.x1, self.x2, self.y1, self.y2]);
     }
 
-    /// The state after the sample `x` with the output `y`.
-    fn after(self, x: i16, y: i16) -> State
-        ensures x1 { result.x1 ≡ x }
-        ensures x2 { result.x2 ≡ self.x1 }
-        ensures y1 { result.y1 ≡ y }
-        ensures y2 { result.y2 ≡ self.y1 }
+    /// Takes the sample `x` with the output `y` in.
+    #[inline]
+    fn shift(&mut self, x: i16, y: i16)
+        ensures x1 { self.new.x1 ≡ x }
+        ensures x2 { self.new.x2 ≡ self.old.x1 }
+        ensures y1 { self.new.y1 ≡ y }
+        ensures y2 { self.new.y2 ≡ self.old.y1 }
     {
-        State {
-            x1: x,
-            x2: self.x1,
-            y1: y,
-            y2: self.y1,
-        }
+        self.x2 = self.x1;
+        self.x1 = x;
+        self.y2 = self.y1;
+        self.y1 = y;
     }
 }
 
@@ -73,25 +75,26 @@ fn limited_output(c: &[i16], state: State, x: i16) -> i16
     round(l_shl(sum, 1))
 }
 
-/// The output where no step saturates, and None where one does. Sums are halves of G.191's, which are doubled.
+/// The output where no step but the last saturates, and None where one does. Sums are halves of G.191's, which are doubled.
 #[inline]
-fn plain_output(c: &[i16], state: State, x: i16) -> Option<i16>
+fn plain_output(c: &[i16], state: &State, x: i16) -> Option<i16>
     requires five { length c.now ≡ COEFFICIENTS }
     requires above { AreAboveLeast c.now }
-    ensures { IfSome result (λ y. y ≡ biquad_value (word_at c.now) x state.x1 state.x2 state.y1 state.y2) }
+    ensures { IfSome result (λ y. y ≡ biquad_value (word_at c.now) x state.now.x1 state.now.x2 state.now.y1 state.now.y2) }
 {
     let first = half_product(c[0], x);
     let second = plus_product(first, c[1], state.x1)?;
     let third = plus_product(second, c[2], state.x2)?;
-    let fourth = less_product(third, c[3], state.y1)?;
-    let sum = less_product(fourth, c[4], state.y2)?;
-    Some(rounded(sum))
+    let newer = half_product(c[3], state.y1);
+    let _fourth = within(third - newer)?;
+    let older = half_product(c[4], state.y2);
+    Some(rounded_less(third, newer, older))
 }
 
-/// Runs samples as long as no step saturates: there are as many outputs. Gives the state after them.
+/// Runs samples as long as no step saturates: there are as many outputs. Gives the state after them. It is a call of its own, so that what the loop has is in registers.
+#[inline(never)]
 fn run_plain(coefficients: &[i16], state: State, input: &[i16], out: &mut Block) -> State
     requires five { length coefficients.now ≡ COEFFICIENTS }
-    requires above { AreAboveLeast coefficients.now }
     requires within { length input.now ≤ BLOCK_SAMPLES }
     requires empty { out.old.items ≡ [] }
     ensures count { length out.new.items ≤ length input.now }
@@ -99,6 +102,9 @@ fn run_plain(coefficients: &[i16], state: State, input: &[i16], out: &mut Block)
     ensures law { (p : List ℤ) (h : History) → coefficients.now ≡ words_in_force p h → IsNewest p h state
         → Gives p h (take (length out.new.items) input.now) result out.new.items }
 {
+    if !are_above_least(coefficients) {
+        return state;
+    }
     // A copy: the caller's words would be read anew at each sample, since the output might lie over them.
     let own = [
         coefficients[0],
@@ -107,15 +113,18 @@ fn run_plain(coefficients: &[i16], state: State, input: &[i16], out: &mut Block)
         coefficients[3],
         coefficients[4],
     ];
-    let mut newest = state;
+    // Field by field, here and at the end: a state that is moved as one value is put together and taken apart at each sample.
+    let State { x1, x2, y1, y2 } = state;
+    let mut newest = State { x1, x2, y1, y2 };
     for x in input {
-        let Some(y) = plain_output(&own, newest, *x) else {
+        let Some(y) = plain_output(&own, &newest, *x) else {
             break;
         };
-        newest = newest.after(*x, y);
+        newest.shift(*x, y);
         out.push(y);
     }
-    newest
+    let State { x1, x2, y1, y2 } = newest;
+    State { x1, x2, y1, y2 }
 }
 
 /// Runs the filter over a block; `state` has the two newest samples and outputs before and after. Where a step saturates, others soon will:
@@ -130,13 +139,13 @@ pub(crate) fn filter(coefficients: &[i16], state: &mut [i16], input: &[i16], out
         → Ran p h input.now state.new out.new.items }
 {
     let mut newest = State::read(state);
-    if are_above_least(coefficients) {
+    if input.len() >= LEAST_RUN {
         newest = run_plain(coefficients, newest, input, out);
     }
     let rest = &input[out.len()..];
     for x in rest {
         let y = limited_output(coefficients, newest, *x);
-        newest = newest.after(*x, y);
+        newest.shift(*x, y);
         out.push(y);
     }
     newest.write(state);

@@ -20,18 +20,18 @@ loop-x-preserved c =
     let ex : to_z w16 (of_z w16 (word_at xs i)) ≡ word_at xs i = to_z-of_z w16 (word_at xs i) fx in
     let ey : to_z w16 (of_z w16 y) ≡ y = to_z-of_z w16 y fy in
     let s = c.loop-x.newest in
+    let after = c.shift.ensures in
     let own : (k : ℕ) → SFits w16 (word_at cs k) → to_z w16 (of_z w16 (word_at cs k)) ≡ word_at cs k = λ k. to_z-of_z w16 (word_at cs k) in
     let value : y ≡ biquad_value (word_at cs) (word_at xs i) s.x1 s.x2 s.y1 s.y2 =
     rw (ex, own 0 (search rules), own 1 (search rules), own 2 (search rules), own 3 (search rules), own 4 (search rules)) at c.in-Some.ensures in
     let pushed = rw ey at c.push.ensures.items in
-    let after = c.after-newest.ensures in
     record {
       count = c.push.ensures.len ∙ ap (λ n. n + 1) c.loop-x.invariant.count;
       fit = fits_more xs i c.loop-x.invariant.fit fx;
       ran = λ p h in_force newest.
-          let more = gives_more p h cs xs c.loop-x.out.items i s c.after-newest.result y
+          let more = gives_more p h cs xs c.loop-x.out.items i s c.shift.new.self y
           c.loop-x-test.true in_force (c.loop-x.invariant.ran p h in_force newest) value
           (after.x1 ∙ ex) after.x2 (after.y1 ∙ ey) after.y2 in
-          let P : List ℤ → Type 0 = λ ys. Gives p h (take (i + 1) xs) c.after-newest.result ys in
+          let P : List ℤ → Type 0 = λ ys. Gives p h (take (i + 1) xs) c.shift.new.self ys in
           subst P (sym pushed) (rw add-one more);
     }
