@@ -1,12 +1,10 @@
 //! What is said on the standard error where it is asked for: why lines were refused, and why a file failed.
-use crate::reasons::Reason;
-use crate::shown::Shown;
-use crate::unanswered::Unanswered;
 use arrayvec::ArrayVec;
 use dsp_arguments::Arguments;
 use dsp_console::Fault;
 use octet_ports::LINE_FEED;
 use port_files::{Role, Trouble, Troubles};
+use script_server::{Reason, Shown, Unanswered};
 
 /// The most octets of a reply that are kept: no refusal has more.
 const KEPT_OCTETS: usize = 16;

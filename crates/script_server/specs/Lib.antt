@@ -1,2 +1,3 @@
 pub mod LineRuns
+pub mod Ranges
 pub mod Runs

@@ -44,7 +44,7 @@ pub(crate) const WORD: Range = Range {
 };
 
 impl Range {
-    ghost use Rattle.dsp_program.specs.Ranges.{is_in};
+    ghost use Rattle.script_server.specs.Ranges.{is_in};
 
     /// A channel, one of so many.
     pub(crate) fn of_channels(channels: u8) -> Range {

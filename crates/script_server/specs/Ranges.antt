@@ -1,7 +1,7 @@
 -- The numbers of a line, and whether they are in their ranges.
 use Rattle.std.specs.Prelude.{ℕ, Bool, List, ◌&&◌}
 use Rattle.voice_script.specs.Script.{is_between, is_number, value_of}
-use Rattle.dsp_program.specs.declared.numbers.Range.{Range}
+use Rattle.script_server.specs.declared.numbers.Range.{Range}
 
 -- the word is a number of the range
 abbrev pub is_in : Range → List ℕ → Bool

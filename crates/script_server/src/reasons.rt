@@ -1,6 +1,6 @@
 //! The reasons of refusals.
 ghost use Rattle.std.specs.Prelude.{◌≡◌, false, IfSome};
-ghost use Rattle.dsp_program.specs.Ranges.{is_in};
+ghost use Rattle.script_server.specs.Ranges.{is_in};
 
 use crate::numbers::Range;
 use crate::shown::Shown;
