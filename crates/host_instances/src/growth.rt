@@ -64,12 +64,7 @@ fn tell_where<M: Ialg>(tables: &mut Tables<M>, g: u8, replaced: bool)
     ensures keeps { AllHistoriesStay M.law tables.old tables.new }
 {
     if replaced {
-        call_moved_in_group(
-            &mut tables.instances,
-            &mut tables.sharing,
-            &mut tables.groups,
-            g,
-        );
+        call_moved_in_group(tables, g);
     }
 }
 

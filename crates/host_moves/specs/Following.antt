@@ -1,4 +1,4 @@
--- An idle instance that goes by the places as they are now.
+-- An instance that goes by the places as they are now.
 use Rattle.std.specs.Prelude.{ℕ, ℤ, Option}
 use Rattle.space_raw.specs.Span.{Span}
 use Rattle.ialg.specs.History.{History}
@@ -6,14 +6,24 @@ use Rattle.ialg.specs.Laws.{Laws}
 use Rattle.record_loans.specs.declared.pieces.Pieces.{Pieces}
 use Rattle.record_loans.specs.Pieces.{SamePieces}
 use Rattle.scratch_group.specs.declared.group.Group.{Group}
+use Rattle.scratch_group.specs.Blocks.{SameGroup}
 use Rattle.lifecycle.specs.declared.instance.Instance.{Instance}
 use Rattle.lifecycle.specs.Moves.{settled, with_back}
-use Rattle.lifecycle.specs.States.{Fits, SameInstance, SameOnce, IdleKeeps}
+use Rattle.lifecycle.specs.States.{ActiveKeeps, Fits, SameInstance, SameOnce, IdleKeeps}
 
--- the instance was told, with the piece that comes back
+-- an idle instance was told, with the piece that comes back
 pub record Follows {M : Type 0} (laws : Laws M) (back : Option (ℕ × Span)) (old new : Instance M) (shared shared' : Pieces) (g : Group) : Type 0 where
   pub same : SameInstance (settled (with_back old back) shared g) new
   pub pieces : SamePieces shared shared'
   pub written : SameOnce new.table shared shared'
   pub fits : Fits new.table new.own shared' g
   pub keeps : (w : Option ℤ) (h : History) → IdleKeeps laws (with_back old back) w shared h → IdleKeeps laws new w shared' h
+
+-- an active instance was told, with the piece that comes back: it works in the same scratch memory
+pub record ActiveFollows {M : Type 0} (laws : Laws M) (back : Option (ℕ × Span)) (old new : Instance M) (shared shared' : Pieces) (g g' : Group) : Type 0 where
+  pub same : SameInstance (settled (with_back old back) shared g) new
+  pub pieces : SamePieces shared shared'
+  pub written : SameOnce new.table shared shared'
+  pub group : SameGroup g g'
+  pub fits : Fits new.table new.own shared' g'
+  pub keeps : (w : Option ℤ) (h : History) → ActiveKeeps laws (with_back old back) w shared g h → ActiveKeeps laws new w shared' g' h

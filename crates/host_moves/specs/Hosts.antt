@@ -1,11 +1,16 @@
 -- When tables and spaces keep a state of the machine.
-use Rattle.std.specs.Prelude.{◌≡◌, List, Option}
+use Rattle.std.specs.Prelude.{◌≡◌, ◌+◌, Bool, true, List, Option}
+use Rattle.mem_rec.specs.declared.Space.{Space}
+use Rattle.relocate.specs.Packing.{unpacked_count}
+use Rattle.host_map.specs.MemoryMap.{blocks_in}
+use Rattle.host_map.specs.Moves.{spots_of}
 use Rattle.scratch_group.specs.declared.group.Group.{Group}
 use Rattle.host_table.specs.declared.member.Member.{Member}
 use Rattle.host_shared.specs.declared.locations.Locations.{Locations}
 use Rattle.host_spaces.specs.declared.spaces.Spaces.{Spaces}
 use Rattle.host_spaces.specs.MemoryMap.{copied_in, map_of, sizes_of}
 use Rattle.host_spec.specs.State.{State}
+use Rattle.host_spec.specs.Steps as steps
 use Rattle.host_table.specs.View.{View}
 use Rattle.host_moves.specs.Kept.{TablesKeep}
 use Rattle.ialg.specs.Laws.{Laws}
@@ -21,3 +26,9 @@ pub record HostKeeps {M : Type 0} (laws : Laws M)
 -- the same, of all that the tables hold: tables and spaces refine the state
 abbrev pub Refines : {M : Type 0} → Laws M → View M → Spaces → State M → Type 0
 Refines laws t spaces state = HostKeeps laws t.instances t.sharing t.groups spaces state
+
+-- one step of a compaction of the space, as the machine's: its answer says whether a block moved, and one block fewer has its move before it then
+pub record Stepped {M : Type 0} (laws : Laws M) (space : Space) (moved : Bool) (old : View M) (spaces : Spaces) (new : View M) (spaces' : Spaces) : Type 0 where
+  pub fewer : moved ≡ true → unpacked_count (spots_of (blocks_in (map_of spaces') space)) + 1 ≡ unpacked_count (spots_of (blocks_in (map_of spaces) space))
+  pub machine : (before : State M) → Refines laws old spaces before
+      → ((moved, (steps.step before space).1) ≡ steps.step before space) × Refines laws new spaces' (steps.step before space).1

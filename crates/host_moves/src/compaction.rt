@@ -1,8 +1,6 @@
 //! Moves, as the machine's.
-ghost use Rattle.std.specs.Prelude.{◌≡◌, ◌+◌, ℤ, Option, true};
+ghost use Rattle.std.specs.Prelude.{◌≡◌, ℤ, Option};
 ghost use Rattle.host_table.specs.Table.{ArePoisoned};
-ghost use Rattle.relocate.specs.Packing.{unpacked_count};
-ghost use Rattle.host_map.specs.Moves.{spots_of};
 ghost use Rattle.host_map.specs.MemoryMap.{blocks_in};
 ghost use Rattle.host_spaces.specs.MemoryMap.{map_of};
 ghost use Rattle.host_spaces.specs.Spaces.{HasFront};
@@ -10,7 +8,7 @@ ghost use Rattle.host_spec.specs.State.{State};
 ghost use Rattle.host_spec.specs.Steps as steps;
 ghost use Rattle.host_table.specs.Steps.{AreConsistent};
 ghost use Rattle.host_moves.specs.Standing.{MapAgrees};
-ghost use Rattle.host_moves.specs.Hosts.{Refines};
+ghost use Rattle.host_moves.specs.Hosts.{Refines, Stepped};
 
 use crate::moves::make_next_move;
 use crate::order::in_order;
@@ -33,10 +31,7 @@ fn step_behind<M: Ialg>(
     ensures ok { AreConsistent tables.new }
     ensures standing { MapAgrees tables.new spaces.new }
     ensures poisoned { (w : Option ℤ) → ArePoisoned w tables.old.groups → ArePoisoned w tables.new.groups }
-    ensures fewer { result ≡ true → unpacked_count (spots_of (blocks_in (map_of spaces.new) space)) + 1 ≡ unpacked_count (spots_of (blocks_in (map_of spaces.old) space)) }
-    ensures machine { (before : State M) → Refines M.law tables.old spaces.old before
-        → ((result, (steps.step before space).1) ≡ steps.step before space)
-        × Refines M.law tables.new spaces.new (steps.step before space).1 }
+    ensures stepped { Stepped M.law space result tables.old spaces.old tables.new spaces.new }
     ensures front { HasFront packed.new (blocks_in (map_of spaces.new) space) }
 {
     make_next_move(tables, spaces, space, packed)
@@ -49,10 +44,7 @@ pub fn step<M: Ialg>(tables: &mut Tables<M>, spaces: &mut Spaces, space: Space) 
     ensures ok { AreConsistent tables.new }
     ensures standing { MapAgrees tables.new spaces.new }
     ensures poisoned { (w : Option ℤ) → ArePoisoned w tables.old.groups → ArePoisoned w tables.new.groups }
-    ensures fewer { result ≡ true → unpacked_count (spots_of (blocks_in (map_of spaces.new) space)) + 1 ≡ unpacked_count (spots_of (blocks_in (map_of spaces.old) space)) }
-    ensures machine { (before : State M) → Refines M.law tables.old spaces.old before
-        → ((result, (steps.step before space).1) ≡ steps.step before space)
-        × Refines M.law tables.new spaces.new (steps.step before space).1 }
+    ensures stepped { Stepped M.law space result tables.old spaces.old tables.new spaces.new }
 {
     // of no block it is known where it belongs
     let mut packed = 0;

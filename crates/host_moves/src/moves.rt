@@ -94,12 +94,7 @@ fn move_block<M: Ialg>(
             in_order(spaces);
             let old = put_block(&mut tables.groups, g, space, moved, align);
             end_none(old);
-            call_moved_in_group(
-                &mut tables.instances,
-                &mut tables.sharing,
-                &mut tables.groups,
-                g,
-            );
+            call_moved_in_group(tables, g);
         }
         None => unreachable!(),
     }

@@ -2,10 +2,7 @@
 ghost use Rattle.std.specs.Prelude.{◌≡◌, ◌+◌, ◌<◌, ℕ, ℤ, Bool, length, Option, Some, IsSome};
 ghost use Rattle.mem_rec.specs.declared.TheConstants.{TABLE_RECORDS, INSTANCES};
 ghost use Rattle.ialg.specs.History.{History};
-ghost use Rattle.record_loans.specs.Pieces.{SamePieces};
-ghost use Rattle.scratch_group.specs.Blocks.{SameGroup};
-ghost use Rattle.lifecycle.specs.Moves.{restored, settled, CanRestore, with_back, HasRoom};
-ghost use Rattle.lifecycle.specs.States.{ActiveKeeps, Fits, SameInstance, SameOnce};
+ghost use Rattle.lifecycle.specs.Moves.{restored, CanRestore, with_back, HasRoom};
 ghost use Rattle.host_table.specs.declared.member.Member.{Member};
 ghost use Rattle.host_table.specs.Table.{slot_at, group_at, own_of, instance_of, SameActivities};
 ghost use Rattle.host_shared.specs.Locations.{owner_of, shared_at};
@@ -13,7 +10,7 @@ ghost use Rattle.host_shared.specs.Owners.{HasOwners, with_pieces_of};
 ghost use Rattle.host_shared.specs.Sharing.{AreLeast};
 ghost use Rattle.host_table.specs.Steps.{AreKept, AreConsistent, MembersStay, AllHistoriesStay};
 ghost use Rattle.host_table.specs.Frames.{InactiveGroupsStay, SameMembers};
-ghost use Rattle.host_moves.specs.Following.{Follows};
+ghost use Rattle.host_moves.specs.Following.{ActiveFollows, Follows};
 ghost use Rattle.host_moves.specs.Waiting.{own_set, all_but, all_from, holds_with, TablesThere, TablesBut, TablesWaiting, TablesWaitingBut};
 
 use host_shared::{Locations, borrow_pieces, end_absent, give_back_pieces, next_with_owner};
@@ -85,13 +82,7 @@ fn follow_active<M: Ialg>(
     requires owners { HasOwners sharing.old.items i }
     requires fits { HasRoom (with_back active.old.instance back) (shared_at sharing.old.items i) group.old }
     ensures seen { sharing.new.items ≡ with_pieces_of sharing.old.items i (shared_at sharing.new.items i) }
-    ensures same { SameInstance (settled (with_back active.old.instance back) (shared_at sharing.old.items i) group.old) active.new.instance }
-    ensures pieces { SamePieces (shared_at sharing.old.items i) (shared_at sharing.new.items i) }
-    ensures once { SameOnce active.new.instance.table (shared_at sharing.old.items i) (shared_at sharing.new.items i) }
-    ensures group { SameGroup group.old group.new }
-    ensures fits { Fits active.new.instance.table active.new.instance.own (shared_at sharing.new.items i) group.new }
-    ensures keeps { (w : Option ℤ) (h : History) → ActiveKeeps M.law (with_back active.old.instance back) w (shared_at sharing.old.items i) group.old h
-        → ActiveKeeps M.law active.new.instance w (shared_at sharing.new.items i) group.new h }
+    ensures follows { ActiveFollows M.law back active.old.instance active.new.instance (shared_at sharing.old.items i) (shared_at sharing.new.items i) group.old group.new }
 {
     let mut shared = borrow_pieces(sharing, i as usize);
     active.moved(back, &mut shared, group);

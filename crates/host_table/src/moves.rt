@@ -1,59 +1,50 @@
 //! What becomes of instances when a block of their group lies elsewhere.
-ghost use Rattle.std.specs.Prelude.{◌≡◌, ◌<◌, ◌+◌, ℕ, ℤ, Option, Some, None, length, true};
-ghost use Rattle.ialg.specs.History.{History};
+ghost use Rattle.std.specs.Prelude.{◌≡◌, ◌<◌, ◌+◌, length, true};
 ghost use Rattle.mem_rec.specs.declared.TheConstants.{INSTANCES, GROUPS};
-ghost use Rattle.host_table.specs.Table.{slot_at, is_member_of, TablesOk, TablesTold, SameActivities};
-ghost use Rattle.host_table.specs.Keeps.{Keeps};
-ghost use Rattle.host_table.specs.Frames.{InactiveGroupsStay, SameMembers};
+ghost use Rattle.host_table.specs.Table.{slot_at, is_member_of, TablesTold, SameActivities};
+ghost use Rattle.host_table.specs.Frames.{InactiveGroupsStay};
+ghost use Rattle.host_table.specs.Steps.{AreConsistent, AllHistoriesStay, MembersStay};
 
-use crate::Member;
-use host_shared::{Locations, borrow_pieces, give_back_pieces};
+use crate::Tables;
+use host_shared::{borrow_pieces, give_back_pieces};
 use ialg::Ialg;
 use lifecycle::Inst;
 use mem_rec::INSTANCES;
-use scratch_group::Group;
 
 /// Whether the slot has a member of the group.
-fn is_member<M: Ialg>(instances: &Vec<Option<Member<M>>>, g: u8, i: usize) -> bool
-    requires { i < length instances.now.items }
-    ensures { result ≡ is_member_of g (slot_at instances.now.items i) }
+fn is_member<M: Ialg>(tables: &Tables<M>, g: u8, i: usize) -> bool
+    requires { i < length tables.now.instances }
+    ensures { result ≡ is_member_of g (slot_at tables.now.instances i) }
 {
-    match &instances[i] {
+    match &tables.instances[i] {
         Some(member) => member.group == g,
         None => false,
     }
 }
 
 /// Tells a member of the group where its records lie now.
-fn call_moved_of_member<M: Ialg>(
-    instances: &mut Vec<Option<Member<M>>>,
-    sharing: &mut Vec<Locations>,
-    groups: &mut Vec<Group>,
-    g: u8,
-    i: usize,
-)
+fn call_moved_of_member<M: Ialg>(tables: &mut Tables<M>, g: u8, i: usize)
     requires range { g < GROUPS }
     requires number { i < INSTANCES }
-    requires member { is_member_of g (slot_at instances.old.items i) ≡ true }
-    requires told { TablesTold g i instances.old.items sharing.old.items groups.old.items }
-    ensures told { TablesTold g (i + 1) instances.new.items sharing.new.items groups.new.items }
-    ensures inactive { InactiveGroupsStay groups.old.items groups.new.items }
-    ensures same { SameMembers instances.old.items sharing.old.items groups.old.items instances.new.items sharing.new.items groups.new.items }
-    ensures activity { SameActivities groups.old.items groups.new.items }
-    ensures keeps { (w : Option ℤ) (histories : ℕ → History) → Keeps M.law w instances.old.items sharing.old.items groups.old.items histories
-        → Keeps M.law w instances.new.items sharing.new.items groups.new.items histories }
+    requires member { is_member_of g (slot_at tables.old.instances i) ≡ true }
+    requires told { TablesTold g i tables.old.instances tables.old.sharing tables.old.groups }
+    ensures told { TablesTold g (i + 1) tables.new.instances tables.new.sharing tables.new.groups }
+    ensures inactive { InactiveGroupsStay tables.old.groups tables.new.groups }
+    ensures same { MembersStay tables.old tables.new }
+    ensures activity { SameActivities tables.old.groups tables.new.groups }
+    ensures keeps { AllHistoriesStay M.law tables.old tables.new }
 {
-    match &mut instances[i] {
+    match &mut tables.instances[i] {
         Some(member) => match &mut member.inst {
             Inst::Idling(idle) => {
-                let mut shared = borrow_pieces(sharing, i);
-                idle.moved(None, &mut shared, &groups[g as usize]);
-                give_back_pieces(sharing, i, shared);
+                let mut shared = borrow_pieces(&mut tables.sharing, i);
+                idle.moved(None, &mut shared, &tables.groups[g as usize]);
+                give_back_pieces(&mut tables.sharing, i, shared);
             }
             Inst::Running(active) => {
-                let mut shared = borrow_pieces(sharing, i);
-                active.moved(None, &mut shared, &mut groups[g as usize]);
-                give_back_pieces(sharing, i, shared);
+                let mut shared = borrow_pieces(&mut tables.sharing, i);
+                active.moved(None, &mut shared, &mut tables.groups[g as usize]);
+                give_back_pieces(&mut tables.sharing, i, shared);
             }
         },
         None => unreachable!(),
@@ -61,45 +52,32 @@ fn call_moved_of_member<M: Ialg>(
 }
 
 /// Tells the instance in the slot where its records lie now, if it is a member of the group.
-fn call_moved_in_slot<M: Ialg>(
-    instances: &mut Vec<Option<Member<M>>>,
-    sharing: &mut Vec<Locations>,
-    groups: &mut Vec<Group>,
-    g: u8,
-    i: usize,
-)
+fn call_moved_in_slot<M: Ialg>(tables: &mut Tables<M>, g: u8, i: usize)
     requires range { g < GROUPS }
     requires number { i < INSTANCES }
-    requires told { TablesTold g i instances.old.items sharing.old.items groups.old.items }
-    ensures told { TablesTold g (i + 1) instances.new.items sharing.new.items groups.new.items }
-    ensures inactive { InactiveGroupsStay groups.old.items groups.new.items }
-    ensures same { SameMembers instances.old.items sharing.old.items groups.old.items instances.new.items sharing.new.items groups.new.items }
-    ensures activity { SameActivities groups.old.items groups.new.items }
-    ensures keeps { (w : Option ℤ) (histories : ℕ → History) → Keeps M.law w instances.old.items sharing.old.items groups.old.items histories
-        → Keeps M.law w instances.new.items sharing.new.items groups.new.items histories }
+    requires told { TablesTold g i tables.old.instances tables.old.sharing tables.old.groups }
+    ensures told { TablesTold g (i + 1) tables.new.instances tables.new.sharing tables.new.groups }
+    ensures inactive { InactiveGroupsStay tables.old.groups tables.new.groups }
+    ensures same { MembersStay tables.old tables.new }
+    ensures activity { SameActivities tables.old.groups tables.new.groups }
+    ensures keeps { AllHistoriesStay M.law tables.old tables.new }
 {
-    if is_member(instances, g, i) {
-        call_moved_of_member(instances, sharing, groups, g, i);
+    if is_member(tables, g, i) {
+        call_moved_of_member(tables, g, i);
     }
 }
 
 /// Tells each member of the group, in ascending number, where its records lie now. An active member stays active.
-pub fn call_moved_in_group<M: Ialg>(
-    instances: &mut Vec<Option<Member<M>>>,
-    sharing: &mut Vec<Locations>,
-    groups: &mut Vec<Group>,
-    g: u8,
-)
+pub fn call_moved_in_group<M: Ialg>(tables: &mut Tables<M>, g: u8)
     requires range { g < GROUPS }
-    requires told { TablesTold g 0 instances.old.items sharing.old.items groups.old.items }
-    ensures ok { TablesOk instances.new.items sharing.new.items groups.new.items }
-    ensures inactive { InactiveGroupsStay groups.old.items groups.new.items }
-    ensures same { SameMembers instances.old.items sharing.old.items groups.old.items instances.new.items sharing.new.items groups.new.items }
-    ensures activity { SameActivities groups.old.items groups.new.items }
-    ensures keeps { (w : Option ℤ) (histories : ℕ → History) → Keeps M.law w instances.old.items sharing.old.items groups.old.items histories
-        → Keeps M.law w instances.new.items sharing.new.items groups.new.items histories }
+    requires told { TablesTold g 0 tables.old.instances tables.old.sharing tables.old.groups }
+    ensures ok { AreConsistent tables.new }
+    ensures inactive { InactiveGroupsStay tables.old.groups tables.new.groups }
+    ensures same { MembersStay tables.old tables.new }
+    ensures activity { SameActivities tables.old.groups tables.new.groups }
+    ensures keeps { AllHistoriesStay M.law tables.old tables.new }
 {
     for i in 0..INSTANCES {
-        call_moved_in_slot(instances, sharing, groups, g, i);
+        call_moved_in_slot(tables, g, i);
     }
 }

@@ -19,10 +19,10 @@ loop-space-preserved g c = record {
   standing = c.step_behind.ensures.standing;
   front = c.step_behind.ensures.front;
   poisoned = λ w before. c.step_behind.ensures.poisoned w (c.loop-space.invariant.poisoned w before);
-  counted = counted_on c.loop-space.moved _ _ _ c.loop-space.invariant.counted (c.step_behind.ensures.fewer c.loop-space-test.true);
+  counted = counted_on c.loop-space.moved _ _ _ c.loop-space.invariant.counted (c.step_behind.ensures.stepped.fewer c.loop-space-test.true);
   amid = λ before kept.
       let amid = c.loop-space.invariant.amid before kept in
-      let next = c.step_behind.ensures.machine amid.now amid.kept in
+      let next = c.step_behind.ensures.stepped.machine amid.now amid.kept in
       amid_next g.M.Ialg.law c.args.space _ _ _ _ _ _ _ _ c.loop-space.moved before amid (rw c.loop-space-test.true at next.0) next.1;
 }
 
@@ -32,5 +32,5 @@ returns-clause-poisoned g c w before = c.step_behind.ensures.poisoned w (c.loop-
 pub returns-clause-machine : goal.returns-clause-machine
 returns-clause-machine g c before kept =
     let amid = c.loop-space.invariant.amid before kept in
-    let next = c.step_behind.ensures.machine amid.now amid.kept in
+    let next = c.step_behind.ensures.stepped.machine amid.now amid.kept in
     amid_end g.M.Ialg.law c.args.space _ _ _ _ _ _ _ _ c.loop-space.moved before amid (rw c.loop-space-test.false at next.0) next.1

@@ -12,31 +12,18 @@ pub returns-clause-seen : goal.returns-clause-seen
 returns-clause-seen g c =
     locations_back c.args.i c.args.sharing.now.items c.borrow_pieces-shared.new.sharing.items c.give_back_pieces.new.sharing.items c.requires.owners c.moved.new.shared c.borrow_pieces-shared.ensures.left c.give_back_pieces.ensures
 
-pub returns-clause-same : goal.returns-clause-same
-returns-clause-same g c = rw (← c.borrow_pieces-shared.ensures.pieces) c.moved.ensures.same
-
-pub returns-clause-pieces : goal.returns-clause-pieces
-returns-clause-pieces g c =
-    rw (
-      seen_back c.args.i c.args.sharing.now.items c.borrow_pieces-shared.new.sharing.items c.give_back_pieces.new.sharing.items c.requires.owners c.moved.new.shared c.borrow_pieces-shared.ensures.left c.give_back_pieces.ensures,
-      ← c.borrow_pieces-shared.ensures.pieces,
-    ) c.moved.ensures.shared
-
-pub returns-clause-once : goal.returns-clause-once
-returns-clause-once g c =
-    rw (
-      seen_back c.args.i c.args.sharing.now.items c.borrow_pieces-shared.new.sharing.items c.give_back_pieces.new.sharing.items c.requires.owners c.moved.new.shared c.borrow_pieces-shared.ensures.left c.give_back_pieces.ensures,
-      ← c.borrow_pieces-shared.ensures.pieces,
-    ) c.moved.ensures.once
-
-pub returns-clause-fits : goal.returns-clause-fits
-returns-clause-fits g c =
-    rw (seen_back c.args.i c.args.sharing.now.items c.borrow_pieces-shared.new.sharing.items c.give_back_pieces.new.sharing.items c.requires.owners c.moved.new.shared c.borrow_pieces-shared.ensures.left c.give_back_pieces.ensures)
-    c.moved.ensures.fits
-
-pub returns-clause-keeps : goal.returns-clause-keeps
-returns-clause-keeps g c w h before =
-    subst (λ (x : Pieces). ActiveKeeps g.M.Ialg.law c.moved.new.self.instance w x c.moved.new.group h)
-    (sym (seen_back c.args.i c.args.sharing.now.items c.borrow_pieces-shared.new.sharing.items c.give_back_pieces.new.sharing.items c.requires.owners c.moved.new.shared c.borrow_pieces-shared.ensures.left c.give_back_pieces.ensures))
-    (c.moved.ensures.keeps w h
-    (subst (λ (x : Pieces). ActiveKeeps g.M.Ialg.law (with_back c.args.active.now.instance c.args.back) w x c.args.group.now h) (sym c.borrow_pieces-shared.ensures.pieces) before))
+pub returns-clause-follows : goal.returns-clause-follows
+returns-clause-follows g c =
+    let lent = c.borrow_pieces-shared.ensures.pieces in
+    let back =
+    seen_back c.args.i c.args.sharing.now.items c.borrow_pieces-shared.new.sharing.items c.give_back_pieces.new.sharing.items c.requires.owners c.moved.new.shared c.borrow_pieces-shared.ensures.left c.give_back_pieces.ensures in
+    record {
+      same = rw (← lent) c.moved.ensures.same;
+      pieces = rw (back, ← lent) c.moved.ensures.shared;
+      written = rw (back, ← lent) c.moved.ensures.once;
+      group = c.moved.ensures.group;
+      fits = rw back c.moved.ensures.fits;
+      keeps = λ w h before.
+          subst (λ (x : Pieces). ActiveKeeps g.M.Ialg.law c.moved.new.self.instance w x c.moved.new.group h) (sym back)
+          (c.moved.ensures.keeps w h (subst (λ (x : Pieces). ActiveKeeps g.M.Ialg.law (with_back c.args.active.now.instance c.args.back) w x c.args.group.now h) (sym lent) before));
+    }

@@ -126,26 +126,26 @@ module _ (g : Over) (c : After-tables-in-Running-2-1 g) where
   active_alone j other = same_Some j c.args.i (sym other ∙ active_known)
 
   active_now : c.follow_active.new.group.active ≡ Some c.args.i
-  active_now = c.follow_active.ensures.group.active ∙ rw active_group_is at active_known
+  active_now = c.follow_active.ensures.follows.group.active ∙ rw active_group_is at active_known
 
   active_same : SameMember (member_back c.args.back c.in-Some.member) (record { group = c.in-Some.member.group; inst = Running c.follow_active.new.active })
   active_same =
-      told_member (member_back c.args.back c.in-Some.member) (Running c.follow_active.new.active) (shared_at c.tables.inside.sharing.items c.args.i) c.index_mut-in-Running.result.now (rw c.in-Running.is c.follow_active.ensures.same)
+      told_member (member_back c.args.back c.in-Some.member) (Running c.follow_active.new.active) (shared_at c.tables.inside.sharing.items c.args.i) c.index_mut-in-Running.result.now (rw c.in-Running.is c.follow_active.ensures.follows.same)
 
   active_pieces : SamePieces (shared_at c.tables.inside.sharing.items c.args.i) (shared_at c.follow_active.new.sharing.items c.args.i)
-  active_pieces = c.follow_active.ensures.pieces
+  active_pieces = c.follow_active.ensures.follows.pieces
 
   active_written : SameOnce (instance_of (member_back c.args.back c.in-Some.member).inst).table (shared_at c.tables.inside.sharing.items c.args.i) (shared_at c.follow_active.new.sharing.items c.args.i)
-  active_written = once_unplaced _ c.follow_active.new.active.instance.table _ _ active_same.table c.follow_active.ensures.once
+  active_written = once_unplaced _ c.follow_active.new.active.instance.table _ _ active_same.table c.follow_active.ensures.follows.written
 
   active_blocks : (space : Space) → IsSameBlock (block_in (group_at c.tables.inside.groups.items c.in-Some.member.group) space) (block_in c.follow_active.new.group space)
-  active_blocks space = rw active_group_is (same_blocks _ _ c.follow_active.ensures.group space)
+  active_blocks space = rw active_group_is (same_blocks _ _ c.follow_active.ensures.follows.group space)
 
   active_housed : IsHoused c.follow_active.new.active.instance (shared_at c.follow_active.new.sharing.items c.args.i) c.follow_active.new.group
   active_housed = record {
-    fits = c.follow_active.ensures.fits;
+    fits = c.follow_active.ensures.follows.fits;
     settled = settled_at (with_back c.in-Running.active.instance c.args.back) c.follow_active.new.active.instance _ _ c.index_mut-in-Running.result.now c.follow_active.new.group
-        c.follow_active.ensures.same c.follow_active.ensures.pieces (λ space. same_blocks _ _ c.follow_active.ensures.group space);
+        c.follow_active.ensures.follows.same c.follow_active.ensures.follows.pieces (λ space. same_blocks _ _ c.follow_active.ensures.follows.group space);
   }
 
 pub returns-in-Running-clause-ok : goal.returns-in-Running-clause-ok
@@ -187,7 +187,7 @@ returns-in-Running-clause-activity g c =
     rw (← c.tables.view_is)
     (λ k.
     group_change c.tables.inside.groups.items c.in-Some.member.group _ (omega (arith, (active_range g c), (rw (← c.tables.view_is) at c.requires.there).group_count)) k
-    ∙ activity_stays (activity_at c.tables.inside.groups.items) c.in-Some.member.group _ (rw (active_group_is g c) c.follow_active.ensures.group.active) (rw (active_group_is g c) c.follow_active.ensures.group.activations) k)
+    ∙ activity_stays (activity_at c.tables.inside.groups.items) c.in-Some.member.group _ (rw (active_group_is g c) c.follow_active.ensures.follows.group.active) (rw (active_group_is g c) c.follow_active.ensures.follows.group.activations) k)
 
 pub returns-in-Running-clause-keeps : goal.returns-in-Running-clause-keeps
 returns-in-Running-clause-keeps g c =
@@ -196,4 +196,4 @@ returns-in-Running-clause-keeps g c =
     rw c.follow_active.ensures.seen
     (keeps_of_active _ _ _ c.args.i c.in-Some.member c.args.back (rw (← c.tables.view_is) at c.requires.there) (active_in_slot g c) c.requires.number (Running c.follow_active.new.active) _ _ (active_alone g c) (active_now g c) (active_same g c) (active_pieces g c) (active_written g c) (active_blocks g c)
     g.M.Ialg.law w histories
-    (λ before. c.follow_active.ensures.keeps w (histories c.args.i) (rw (active_group_is g c, c.in-Running.is) at before)) keeps))
+    (λ before. c.follow_active.ensures.follows.keeps w (histories c.args.i) (rw (active_group_is g c, c.in-Running.is) at before)) keeps))

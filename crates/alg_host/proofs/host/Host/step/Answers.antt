@@ -15,6 +15,6 @@ pub returns : goal.returns
 returns g c = record {
   machine = λ before keeps.
       let kept = subst (λ h. Keeps g.M.Ialg.law h before) (sym c.self.view_is) keeps in
-      let did = c.step.ensures.machine before kept.kept in
+      let did = c.step.ensures.stepped.machine before kept.kept in
       ((step before c.args.space).1, did.0, record { kept = did.1; poison = step_poison before c.args.space ∙ kept.poison });
 }
