@@ -22,13 +22,12 @@ Exit status:
 
 The commands and their replies: docs/SCRIPTS.md, or man dsp_console.";
 
-/// An option for the size of a space.
+/// An option for the size of a space. Its default stands in its help alone, since `clap` would read it at each start.
 fn space_option(alloc: Global, space: &'static str, help: &'static str) -> Arg<'static> {
     Arg::new(alloc, space)
         .long(space)
         .value_name("WORDS")
         .help(help)
-        .default_value("65536")
         .action(ArgAction::Set)
         .value_parser(clap::value_parser!(u32))
 }
@@ -51,7 +50,6 @@ fn mask_option(alloc: Global, name: &'static str, help: &'static str) -> Arg<'st
         .long(name)
         .value_name("MASK")
         .help(help)
-        .default_value("0")
         .action(ArgAction::Set)
         .value_parser(clap::value_parser!(u16))
 }
@@ -93,20 +91,24 @@ fn accepted(alloc: Global) -> Result<Vec<Arg<'static>>, Error> {
         space_option(
             alloc,
             "daram",
-            "Size of the space daram in 16-bit words, a multiple of 4 up to 65536"
+            "Size of the space daram in 16-bit words, a multiple of 4 up to 65536 [default: 65536]"
         ),
-        space_option(alloc, "saram", "Size of the space saram"),
-        space_option(alloc, "external", "Size of the space external"),
+        space_option(alloc, "saram", "Size of the space saram [default: 65536]"),
+        space_option(
+            alloc,
+            "external",
+            "Size of the space external [default: 65536]"
+        ),
         poison_option(alloc),
         mask_option(
             alloc,
             "in8",
-            "Channels whose IN has one byte a sample, 0 to 255: bit n is channel n",
+            "Channels whose IN has one byte a sample, 0 to 255: bit n is channel n [default: 0]",
         ),
         mask_option(
             alloc,
             "out8",
-            "Channels whose OUT gets one byte a sample, its low eight bits: bit n is channel n",
+            "Channels whose OUT gets one byte a sample, its low eight bits: bit n is channel n [default: 0]",
         ),
         explain_option(alloc),
         script_argument(alloc),
