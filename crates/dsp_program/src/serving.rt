@@ -1,5 +1,5 @@
 //! A run over files.
-ghost use Rattle.std.specs.Prelude.{◌≡◌, ◌+◌, ◌≤◌, false, length, map, All, IfOk, IsOk};
+ghost use Rattle.std.specs.Prelude.{◌≡◌, ◌+◌, ◌≤◌, [], false, length, map, All, IfOk, IsOk};
 ghost use Rattle.script_server.specs.Runs.{IsReadyIn, IsReadyOut};
 
 use crate::explaining::{Explainer, explain_fault};
@@ -119,9 +119,11 @@ fn serve_files<'p, M: Ialg + Named, R: Files + Print + Eprint + AllocGlobal>(
     arguments: &Arguments<'p>,
     files: &mut RunFiles<'_, 'p, R>,
     listener: Listener<'_, '_, R>,
+    marks: Marks,
     begun: &mut bool,
 ) -> Result<Summary, Fault>
-    requires { 1 ≤ length arguments.now.ports.items }
+    requires some { 1 ≤ length arguments.now.ports.items }
+    requires none { marks.items ≡ [] }
 {
     let (file, is_regular) = files
         .open_in(arguments.script, Role::Script)
@@ -135,7 +137,6 @@ fn serve_files<'p, M: Ialg + Named, R: Files + Print + Eprint + AllocGlobal>(
     let mut script = ScriptPort::new(file, listener);
     let mut inputs = Vec::new(rt.alloc());
     let replies = ReplyFile::new(io::writer(rt), files.troubles());
-    let marks = Marks::new(rt.alloc()).map_err(|_| Fault::Memory)?;
     // It is made in its cell: moved there, all its room would be copied.
     let mut journal = RefCell::new(Journal::new(rt.alloc(), marks, replies, passing));
     let pairs = arguments.ports.as_slice();
@@ -168,7 +169,8 @@ fn serve_heard<M: Ialg + Named, R: Files + Print + Eprint + AllocGlobal>(
     let troubles = RefCell::new(Troubles::default());
     let mut begun = false;
     let mut files = RunFiles::new(rt, &troubles).map_err(fault_of)?;
-    let ended = serve_files::<M, R>(rt, arguments, &mut files, listener, &mut begun);
+    let marks = Marks::new(rt.alloc()).map_err(|_| Fault::Memory)?;
+    let ended = serve_files::<M, R>(rt, arguments, &mut files, listener, marks, &mut begun);
     if !begun {
         files.take_back();
     }
