@@ -56,11 +56,10 @@ same_copied spaces spaces' same =
     ∙ ap (λ (n : ℕ). min ((space_in spaces Daram).slid + (space_in spaces Saram).slid + n) (2 ^ 64 - 1)) (same External).slid
 
 -- a lawful kind asked for the memory that it means
-pub asks : {M : Type 0} (meaning : Meaning M) (w : Option ℤ) (kind : M) (p q : List ℤ) (table : List MemRec) → q ≡ p → MayAsk meaning w kind p (Some table)
-    → (IsTrue (meaning.lawful kind p w) → unplaced table ≡ table) → IsTrue (meaning.lawful kind q w) → meaning.table kind q ≡ Some (unplaced table)
-asks meaning w kind p q table same asked without lawful =
-    let its = subst (λ (xs : List ℤ). IsTrue (meaning.lawful kind xs w)) same lawful in
-    ap (meaning.table kind) same ∙ sym (asked.told (or_left (meaning.lawful kind p w) (meaning.declares kind p) its)) ∙ ap Some (sym (without its))
+pub asks : {M : Type 0} (meaning : Meaning M) (w : Option ℤ) (kind : M) (p : List ℤ) (table : List MemRec) → MayAsk meaning w kind p (Some table)
+    → (IsTrue (meaning.lawful kind p w) → unplaced table ≡ table) → IsTrue (meaning.lawful kind p w) → meaning.table kind p ≡ Some (unplaced table)
+asks meaning w kind p table asked without lawful =
+    sym (asked.told (or_left (meaning.lawful kind p w) (meaning.declares kind p) lawful)) ∙ ap Some (sym (without lawful))
 
 module _ {M : Type 0} (laws : Laws M) (instances : List (Option (Member M))) (sharing : List Locations) (groups : List Group) (spaces : Spaces) (before : State M)
     (kept : HostKeeps laws instances sharing groups spaces before) (i g : ℕ) (kind : M) (p : List ℤ) (table : List MemRec) where

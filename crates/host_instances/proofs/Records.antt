@@ -1,5 +1,5 @@
 -- The records of an instance go.
-use Rattle.std.proofs.Common.{◌≡◌, ◌≢◌, ℕ, inl, inr, Bool, true, false, List, [], ◌∷◌, Option, Some, None, IsSome, refl, sym, ◌∙◌, ap, subst}
+use Rattle.std.proofs.Common.{◌≡◌, ◌≢◌, ℕ, inl, inr, Bool, true, false, List, [], ◌∷◌, Option, Some, None, refl, sym, ◌∙◌, ap, subst}
 use Rattle.std.proofs.lemmas.Option.{none-some}
 use Rattle.std.proofs.lemmas.Bool.{eq-eqb, true≢false}
 use Rattle.std.proofs.lemmas.Bool.Decides.{eqb_tells}
@@ -62,14 +62,6 @@ owned_gone gone o spaces spaces' space is map =
     ap (λ p. owned o (blocks_in p space)) map ∙ ap (owned o) (blocks_left gone (map_of spaces) space) ∙ owned_without gone o (blocks_in (map_of spaces) space) is
 
 -- ---- the pieces that go back
-
-in_slot : {M : Type 0} (slot : Option (Member M)) → IsSome slot → (m : Member M) × (slot ≡ Some m)
-in_slot None e = absurd (true≢false (sym e))
-in_slot (Some m) e = (m, refl)
-
--- the instance in a slot
-pub member_of : {M : Type 0} (instances : List (Option (Member M))) (i : ℕ) → IsSome (slot_at instances i) → (m : Member M) × (slot_at instances i ≡ Some m)
-member_of instances i some = in_slot (slot_at instances i) some
 
 module _ (spaces : Spaces) (i : ℕ) (rs : List MemRec) (own shared : Pieces) where
   pub records_by_table : HasRecords (map_of spaces) i (unplaced rs) own shared → HasRecords (map_of spaces) i rs own shared

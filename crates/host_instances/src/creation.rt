@@ -14,7 +14,7 @@ use crate::starting::start_in_spaces;
 use host_spaces::Spaces;
 use host_spec::creations_answer_in_order;
 use host_table::{NewInstance, Tables};
-use ialg::{Ialg, Params, Refusal, copied};
+use ialg::{Ialg, Params, Refusal};
 use mem_rec::{GROUPS, INSTANCES, MemTab};
 
 /// The memory that the kind asks for with these parameters, None where it refuses them.
@@ -66,12 +66,11 @@ pub fn create<M: Ialg>(
     let Some(table) = asked else {
         return Err(Refusal::Params);
     };
-    let params = copied(p.as_slice());
     let instance = NewInstance {
         number: i,
         group,
         kind,
-        params,
+        params: p,
         table,
     };
     match start_in_spaces(tables, spaces, poison, instance) {

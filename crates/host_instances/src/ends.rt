@@ -6,9 +6,9 @@ ghost use Rattle.host_table.specs.Steps.{AreConsistent};
 ghost use Rattle.host_moves.specs.Standing.{MapAgrees};
 
 use crate::leaving::{give_blocks, give_records};
-use crate::members::{group_number, members_left};
+use crate::members::members_left;
 use host_spaces::Spaces;
-use host_table::Tables;
+use host_table::{Tables, group_number};
 use ialg::Ialg;
 
 /// Ends an instance. Its records are given back, and its group's blocks where no other member is left. An active one is deactivated

@@ -48,7 +48,7 @@ fn rest_where<M: Ialg>(tables: &mut Tables<M>, poison: Option<i16>, g: u8, repla
     ensures keeps { HistoriesStay M.law poison tables.old tables.new }
 {
     if replaced {
-        let _was_active = tables.deactivate_in(poison, g);
+        let _was_active = tables.deactivate_by_call(poison, g);
     }
 }
 

@@ -4,13 +4,11 @@ ghost use Rattle.mem_rec.specs.declared.Space.{Space};
 ghost use Rattle.ialg.specs.History.{History};
 ghost use Rattle.record_loans.specs.Blocks.{block_piece};
 ghost use Rattle.scratch_group.specs.Blocks.{block_in};
-ghost use Rattle.mem_rec.specs.declared.TheConstants.{GROUPS, INSTANCES};
+ghost use Rattle.mem_rec.specs.declared.TheConstants.{GROUPS};
 ghost use Rattle.host_table.specs.Table.{slot_at, group_at, group_of, is_member_of, deactivated_by, TablesOk, ArePoisoned, SameActivities, ActivitiesAre};
-ghost use Rattle.host_shared.specs.Owners.{HoldsForOthers};
-ghost use Rattle.host_shared.specs.Sharing.{next_sharer};
 ghost use Rattle.host_table.specs.Sharers.{asked_by};
 ghost use Rattle.host_table.specs.Keeps.{Keeps};
-ghost use Rattle.host_map.specs.Creation.{handed_on, sharer_at};
+ghost use Rattle.host_map.specs.Creation.{handed_on};
 ghost use Rattle.host_spaces.specs.MemoryMap.{AreSameSpaces, map_of};
 ghost use Rattle.host_map.specs.MemoryMap.{is_group's, is_instance's, renamed, without_owners};
 ghost use Rattle.host_spaces.specs.Pieces.{old_piece};
@@ -21,28 +19,14 @@ ghost use Rattle.host_table.specs.Steps.{AreConsistent, HistoriesStay};
 ghost use Rattle.host_table.specs.Frames.{OtherGroupsStay};
 
 use crate::members::table_copied;
+use crate::starting::listed;
 use host_moves::take_block;
-use host_shared::{Locations, next_sharer};
-use host_spaces::{OldBlocks, Sharers, Spaces};
+use host_shared::{Locations, next_sharers};
+use host_spaces::{OldBlocks, Spaces};
 use host_table::{Member, Tables, end};
 use ialg::Ialg;
 use mem_rec::Space;
 use scratch_group::Group;
-
-/// For each record of an instance the next one that holds it.
-fn next_sharers(sharing: &Vec<Locations>, i: u8) -> Sharers
-    requires count { length sharing.now.items ≡ INSTANCES }
-    requires number { i < INSTANCES }
-    requires held { (k : ℕ) → HoldsForOthers sharing.now.items i k }
-    ensures { (k : ℕ) → sharer_at result k ≡ next_sharer sharing.now.items i k }
-{
-    [
-        next_sharer(sharing, i, 0),
-        next_sharer(sharing, i, 1),
-        next_sharer(sharing, i, 2),
-        next_sharer(sharing, i, 3),
-    ]
-}
 
 /// Ends an instance, and gives back its records that no other instance holds. The others are their next owners' from then on.
 pub(crate) fn give_records<M: Ialg>(
@@ -68,8 +52,9 @@ pub(crate) fn give_records<M: Ialg>(
 {
     let table = table_copied(&tables.instances, i);
     let next = next_sharers(&tables.sharing, i);
-    let (own, shared) = end(tables, poison, i);
-    spaces.hand_on(i, &next);
+    let (own, shared) = end(tables, poison, i, &next);
+    let list = listed(&next);
+    spaces.hand_on(i, &list);
     spaces.take_out_records(i, &table, own, shared);
 }
 
@@ -93,6 +78,7 @@ fn take_blocks(groups: &mut Vec<Group>, g: u8) -> OldBlocks
 }
 
 /// Gives back the blocks of a group without members.
+#[inline(never)]
 pub(crate) fn give_blocks<M: Ialg>(
     instances: &Vec<Option<Member<M>>>,
     sharing: &Vec<Locations>,

@@ -2,24 +2,13 @@
 ghost use Rattle.std.specs.Prelude.{◌≡◌, ◌<◌, ℕ, length, Some, IsSome};
 ghost use Rattle.mem_rec.specs.declared.TheConstants.{INSTANCES};
 ghost use Rattle.host_table.specs.declared.member.Member.{Member};
-ghost use Rattle.host_table.specs.Table.{slot_at, group_of, instance_of, is_member_of};
+ghost use Rattle.host_table.specs.Table.{slot_at, instance_of, is_member_of};
 ghost use Rattle.host_instances.specs.Ends.{has_members};
 
 use host_table::Member;
 use ialg::Ialg;
 use lifecycle::Inst;
 use mem_rec::{INSTANCES, MemTab};
-
-/// The group of an instance.
-pub(crate) fn group_number<M: Ialg>(instances: &Vec<Option<Member<M>>>, i: u8) -> u8
-    requires { IsSome (slot_at instances.now.items i) }
-    ensures { result ≡ group_of (slot_at instances.now.items i) }
-{
-    match &instances[i as usize] {
-        Some(member) => member.group,
-        None => unreachable!(),
-    }
-}
 
 /// The table of an instance.
 pub(crate) fn table_copied<M: Ialg>(instances: &Vec<Option<Member<M>>>, i: u8) -> MemTab

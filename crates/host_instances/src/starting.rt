@@ -35,7 +35,7 @@ use record_loans::Pieces;
 use scratch_group::Group;
 
 /// The sharers as a list, by the numbers of records.
-fn listed(sharers: &Sharers) -> host_spaces::Sharers
+pub(crate) fn listed(sharers: &Sharers) -> host_spaces::Sharers
     ensures { (k : ℕ) → listed_at result k ≡ sharer_at sharers.now k }
 {
     [sharers.t0, sharers.t1, sharers.t2, sharers.t3]
@@ -76,7 +76,7 @@ fn place(
 fn begin<M: Ialg>(
     tables: &mut Tables<M>,
     spaces: &mut Spaces,
-    instance: NewInstance<M>,
+    instance: NewInstance<'_, M>,
     own: Pieces,
     shared: Pieces,
     sharers: Sharers,
@@ -92,11 +92,11 @@ fn begin<M: Ialg>(
     ensures groups { tables.new.groups ≡ tables.old.groups }
     ensures ok { AreConsistent tables.new }
     ensures standing { MapAgrees tables.new spaces.new }
-    ensures others { (j : ℕ) → j ≢ instance.number → slot_at tables.new.instances j ≡ slot_at tables.old.instances j }
-    ensures newborn { IsNewborn instance.group instance.kind instance.params.items instance.table (slot_at tables.new.instances instance.number) }
-    ensures map { map_of spaces.new ≡ renamed (taken_over (sharer_at sharers) instance.number) (map_of spaces.old) }
+    ensures others { (j : ℕ) → j ≢ instance.entry.number → slot_at tables.new.instances j ≡ slot_at tables.old.instances j }
+    ensures newborn { IsNewborn instance.entry.group instance.entry.kind instance.entry.params.now.items instance.entry.table (slot_at tables.new.instances instance.entry.number) }
+    ensures map { map_of spaces.new ≡ renamed (taken_over (sharer_at sharers) instance.entry.number) (map_of spaces.old) }
     ensures stays { AreSameSpaces spaces.old spaces.new }
-    ensures keeps { BeginsHistory M.law instance own shared tables.old tables.new }
+    ensures keeps { BeginsHistory M.law instance.entry own shared tables.old tables.new }
 {
     let list = listed(&sharers);
     spaces.take_over(instance.number, &list);
@@ -111,7 +111,7 @@ pub fn start_in_spaces<M: Ialg>(
     tables: &mut Tables<M>,
     spaces: &mut Spaces,
     poison: Option<i16>,
-    instance: NewInstance<M>,
+    instance: NewInstance<'_, M>,
 ) -> Result<(), Space>
     requires number { instance.number < INSTANCES }
     requires group { instance.group < GROUPS }
@@ -122,17 +122,17 @@ pub fn start_in_spaces<M: Ialg>(
     ensures ok { AreConsistent tables.new }
     ensures standing { MapAgrees tables.new spaces.new }
     ensures poisoned { ArePoisoned poison tables.new.groups }
-    ensures exact { created_map (sizes_of spaces.old) (map_of spaces.old) instance.number instance.group instance.table (sharer_of M.law.meaning.same (λ j. asked_by (slot_at tables.old.instances j)) (asked instance.kind instance.params.items instance.table))
+    ensures exact { created_map (sizes_of spaces.old) (map_of spaces.old) instance.entry.number instance.entry.group instance.entry.table (sharer_of M.law.meaning.same (λ j. asked_by (slot_at tables.old.instances j)) (asked instance.entry.kind instance.entry.params.now.items instance.entry.table))
         ≡ result_map (λ _. map_of spaces.new) result }
     ensures refused { OnErr result ((tables.new ≡ tables.old) × (spaces.new ≡ spaces.old)) }
     ensures stays { AreSameSpaces spaces.old spaces.new }
-    ensures others { OnOk result (OthersAreSame instance.number tables.old.instances tables.new.instances) }
-    ensures newborn { OnOk result (IsNewborn instance.group instance.kind instance.params.items instance.table (slot_at tables.new.instances instance.number)) }
-    ensures activity { OnOk result ((k : ℕ) → activity_at tables.new.groups k ≡ activity_grown (replaces (map_of spaces.old) instance.group instance.table) tables.old.groups instance.group k) }
+    ensures others { OnOk result (OthersAreSame instance.entry.number tables.old.instances tables.new.instances) }
+    ensures newborn { OnOk result (IsNewborn instance.entry.group instance.entry.kind instance.entry.params.now.items instance.entry.table (slot_at tables.new.instances instance.entry.number)) }
+    ensures activity { OnOk result ((k : ℕ) → activity_at tables.new.groups k ≡ activity_grown (replaces (map_of spaces.old) instance.entry.group instance.entry.table) tables.old.groups instance.entry.group k) }
     ensures keeps { OnOk result ((histories : ℕ → History)
-        → (IsTrue (M.law.meaning.lawful instance.kind instance.params.items poison) → M.law.meaning.table instance.kind instance.params.items ≡ Some (unplaced instance.table))
+        → (IsTrue (M.law.meaning.lawful instance.entry.kind instance.entry.params.now.items poison) → M.law.meaning.table instance.entry.kind instance.entry.params.now.items ≡ Some (unplaced instance.entry.table))
         → AreKept M.law poison tables.old histories
-        → AreKept M.law poison tables.new (with_history histories instance.number [])) }
+        → AreKept M.law poison tables.new (with_history histories instance.entry.number [])) }
 {
     maps_have_room::<M>();
     blocks_are_few();
@@ -142,7 +142,7 @@ pub fn start_in_spaces<M: Ialg>(
     let sharers = find_sharers(
         &tables.instances,
         instance.kind,
-        &instance.params,
+        instance.params,
         &instance.table,
     );
     let list = listed(&sharers);

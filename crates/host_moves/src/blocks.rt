@@ -11,6 +11,7 @@ use scratch_group::Group;
 use space_raw::Piece;
 
 /// Puts a block of this alignment into a space of a group, and gives back the one that stood there.
+#[inline(never)]
 pub fn put_block(
     groups: &mut Vec<Group>,
     g: u8,

@@ -118,15 +118,18 @@ next_there h s j apart =
       | inr e ↦ rw e.0 refl
     ]
 
+pub next_column : (a b : List Locations) (i k : ℕ) → length a ≡ length b → ((l : ℕ) → location_at (locations_at a l) k ≡ location_at (locations_at b l) k)
+    → next_sharer a i k ≡ next_sharer b i k
+next_column a b i k count same = next_same 0 i k a b count (λ l. ap (is_at i) (same l))
+
 pub without_column : (a b : List Locations) (i k j : ℕ) → length a ≡ length b → ((l : ℕ) → location_at (locations_at a l) k ≡ location_at (locations_at b l) k) → location_without a i k j ≡ location_without b i k j
 without_column a b i k j count same =
-    let next : next_sharer a i k ≡ next_sharer b i k = next_same 0 i k a b count (λ l. ap (is_at i) (same l)) in
-    rw (same j, same i, next) refl
+    rw (same j, same i, next_column a b i k count same) refl
 
 pub left_column : (a b : List Locations) (i k : ℕ) → length a ≡ length b → ((l : ℕ) → location_at (locations_at a l) k ≡ location_at (locations_at b l) k)
     → piece_left (next_sharer a i k) (location_at (locations_at a i) k) ≡ piece_left (next_sharer b i k) (location_at (locations_at b i) k)
 left_column a b i k count same =
-    ap (λ (o : Option ℕ). piece_left o (location_at (locations_at a i) k)) (next_same 0 i k a b count (λ l. ap (is_at i) (same l)))
+    ap (λ (o : Option ℕ). piece_left o (location_at (locations_at a i) k)) (next_column a b i k count same)
     ∙ ap (piece_left (next_sharer b i k)) (same i)
 
 -- where each piece stands where it stood, the same pieces are left
@@ -134,6 +137,9 @@ with_stays : (i : ℕ) (s t : Location) → IsSameLocation s t → is_at i s ≡
 with_stays i (Here p) (Here q) same = refl
 with_stays i (Here p) (At h) same = absurd same
 with_stays i (At h) t same = sym (ap (is_at i) same)
+
+pub sharer_stays : (a b : List Locations) (i k : ℕ) → length a ≡ length b → SameLocations a b → next_sharer a i k ≡ next_sharer b i k
+sharer_stays a b i k count stands = next_same 0 i k a b count (λ l. with_stays i (location_at (locations_at a l) k) (location_at (locations_at b l) k) (stands l k))
 
 piece_stays : (o : Option ℕ) (s t : Location) → IsSameLocation s t → IsSamePiece (piece_left o s) (piece_left o t)
 piece_stays (Some h) s t same = refl
@@ -144,7 +150,7 @@ piece_stays None (At h) t same = rw same refl
 pub left_stays : (a b : List Locations) (i : ℕ) → length a ≡ length b → SameLocations a b → SamePieces (left_with a i) (left_with b i)
 left_stays a b i count stands =
     let at = λ (k : ℕ). subst (λ (o : Option ℕ). IsSamePiece (piece_left (next_sharer a i k) (location_at (locations_at a i) k)) (piece_left o (location_at (locations_at b i) k)))
-    (next_same 0 i k a b count (λ l. with_stays i (location_at (locations_at a l) k) (location_at (locations_at b l) k) (stands l k)))
+    (sharer_stays a b i k count stands)
     (piece_stays (next_sharer a i k) (location_at (locations_at a i) k) (location_at (locations_at b i) k) (stands i k)) in
     record { p0 = at 0; p1 = at 1; p2 = at 2; p3 = at 3 }
 
@@ -159,7 +165,7 @@ next_stays (Some h) s t j same =
 
 pub without_stays : (a b : List Locations) (i k j : ℕ) → length a ≡ length b → SameLocations a b → IsSameLocation (location_without a i k j) (location_without b i k j)
 without_stays a b i k j count stands =
-    let next : next_sharer a i k ≡ next_sharer b i k = next_same 0 i k a b count (λ l. with_stays i (location_at (locations_at a l) k) (location_at (locations_at b l) k) (stands l k)) in
+    let next = sharer_stays a b i k count stands in
     let told : is_at i (location_at (locations_at a j) k) ≡ is_at i (location_at (locations_at b j) k) = with_stays i (location_at (locations_at a j) k) (location_at (locations_at b j) k) (stands j k) in
     elim (eqb_tells j i) [
       | inl e ↦ rw e.0 refl

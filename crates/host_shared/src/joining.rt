@@ -39,6 +39,7 @@ fn take_over(sharing: &mut Vec<Locations>, i: u8, k: usize, sharer: u8)
 }
 
 /// Shares record `k` of a new instance with `sharer`. The owner is the one with the lower number.
+#[inline(never)]
 fn join_sharer(sharing: &mut Vec<Locations>, i: u8, k: usize, sharer: u8)
     requires count { length sharing.old.items ≡ INSTANCES }
     requires number { i < INSTANCES }

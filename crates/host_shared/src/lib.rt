@@ -14,5 +14,5 @@ pub use joining::{Sharers, join};
 pub use locations::{
     Location, Locations, borrow_pieces, end_absent, give_back_pieces, next_with_owner, owner, sees,
 };
-pub use sharers::{hand_on, next_sharer};
+pub use sharers::{hand_on, next_sharers};
 pub use tables::{empty_sharing, end_sharing};

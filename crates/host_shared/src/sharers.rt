@@ -3,8 +3,10 @@ ghost use Rattle.std.specs.Prelude.{◌≡◌, ◌≢◌, ◌<◌, ℕ, length, 
 ghost use Rattle.mem_rec.specs.declared.TheConstants.{TABLE_RECORDS, INSTANCES};
 ghost use Rattle.host_shared.specs.Locations.{location_at, piece_here, no_locations, locations_at, shared_at, OtherRecordsStay};
 ghost use Rattle.host_shared.specs.Owners.{set_location, AllHaveOwners, HoldsForOthers};
+ghost use Rattle.host_shared.specs.Joining.{sharer_at};
 ghost use Rattle.host_shared.specs.Sharing.{next_sharer, pointed, piece_left, left_with, location_without};
 
+use crate::joining::Sharers;
 use crate::locations::{Location, Locations, replace_location};
 use mem_rec::INSTANCES;
 use record_loans::Pieces;
@@ -25,7 +27,7 @@ fn find_next_sharer(sharing: &Vec<Locations>, i: u8, k: usize) -> Option<u8>
 }
 
 /// The least-numbered instance that shares record `k` with its owner `i`. Where there is no piece, none is looked for.
-pub fn next_sharer(sharing: &Vec<Locations>, i: u8, k: usize) -> Option<u8>
+fn next_sharer(sharing: &Vec<Locations>, i: u8, k: usize) -> Option<u8>
     requires count { length sharing.now.items ≡ INSTANCES }
     requires number { i < INSTANCES }
     requires record { k < TABLE_RECORDS }
@@ -36,6 +38,21 @@ pub fn next_sharer(sharing: &Vec<Locations>, i: u8, k: usize) -> Option<u8>
         return None;
     }
     find_next_sharer(sharing, i, k)
+}
+
+/// For each record the least-numbered instance that shares it with its owner `i`.
+pub fn next_sharers(sharing: &Vec<Locations>, i: u8) -> Sharers
+    requires count { length sharing.now.items ≡ INSTANCES }
+    requires number { i < INSTANCES }
+    requires held { (k : ℕ) → HoldsForOthers sharing.now.items i k }
+    ensures { (k : ℕ) → sharer_at result k ≡ next_sharer sharing.now.items i k }
+{
+    Sharers {
+        t0: next_sharer(sharing, i, 0),
+        t1: next_sharer(sharing, i, 1),
+        t2: next_sharer(sharing, i, 2),
+        t3: next_sharer(sharing, i, 3),
+    }
 }
 
 /// Replaces the location of record `k` of an instance, which had no piece.
@@ -74,17 +91,17 @@ pub(crate) fn point_all(sharing: &mut Vec<Locations>, i: u8, k: usize, next: u8)
 
 /// Makes the next sharer the owner of record `k`, which has a piece. Where there is none, the piece comes back.
 #[inline(never)]
-fn hand_piece(sharing: &mut Vec<Locations>, i: u8, k: usize) -> Option<Piece>
+fn hand_piece(sharing: &mut Vec<Locations>, i: u8, k: usize, next: Option<u8>) -> Option<Piece>
     requires count { length sharing.old.items ≡ INSTANCES }
     requires number { i < INSTANCES }
     requires record { k < TABLE_RECORDS }
     requires held { HoldsForOthers sharing.old.items i k }
+    requires next { next ≡ next_sharer sharing.old.items i k }
     ensures left { result ≡ piece_left (next_sharer sharing.old.items i k) (location_at (locations_at sharing.old.items i) k) }
     ensures count { length sharing.new.items ≡ INSTANCES }
     ensures handed { (j : ℕ) → location_at (locations_at sharing.new.items j) k ≡ location_without sharing.old.items i k j }
     ensures beside { OtherRecordsStay k sharing.old.items sharing.new.items }
 {
-    let next = find_next_sharer(sharing, i, k);
     let location = replace_location(sharing, i as usize, k, Location::Here(None));
     match next {
         Some(next) => {
@@ -98,11 +115,12 @@ fn hand_piece(sharing: &mut Vec<Locations>, i: u8, k: usize) -> Option<Piece>
 
 /// Makes the next sharer the owner of record `k`. Where there is none, the piece comes back. Most records have no piece.
 #[inline(always)]
-fn hand_record(sharing: &mut Vec<Locations>, i: u8, k: usize) -> Option<Piece>
+fn hand_record(sharing: &mut Vec<Locations>, i: u8, k: usize, next: Option<u8>) -> Option<Piece>
     requires count { length sharing.old.items ≡ INSTANCES }
     requires number { i < INSTANCES }
     requires record { k < TABLE_RECORDS }
     requires held { HoldsForOthers sharing.old.items i k }
+    requires next { next ≡ next_sharer sharing.old.items i k }
     ensures left { result ≡ piece_left (next_sharer sharing.old.items i k) (location_at (locations_at sharing.old.items i) k) }
     ensures count { length sharing.new.items ≡ INSTANCES }
     ensures handed { (j : ℕ) → location_at (locations_at sharing.new.items j) k ≡ location_without sharing.old.items i k j }
@@ -111,14 +129,15 @@ fn hand_record(sharing: &mut Vec<Locations>, i: u8, k: usize) -> Option<Piece>
     if sharing[i as usize].location(k).is_nothing() {
         return None;
     }
-    hand_piece(sharing, i, k)
+    hand_piece(sharing, i, k, next)
 }
 
-/// Makes the next sharers the owners of the records of an instance that is deleted. The pieces that nobody shares come back.
-pub fn hand_on(sharing: &mut Vec<Locations>, i: u8) -> Pieces
+/// Makes the next sharers, which are known, the owners of the records of an instance that is deleted. The pieces that nobody shares come back.
+pub fn hand_on(sharing: &mut Vec<Locations>, i: u8, next: &Sharers) -> Pieces
     requires count { length sharing.old.items ≡ INSTANCES }
     requires number { i < INSTANCES }
     requires owners { AllHaveOwners sharing.old.items }
+    requires next { (k : ℕ) → sharer_at next.now k ≡ next_sharer sharing.old.items i k }
     ensures left { result ≡ left_with sharing.old.items i }
     ensures count { length sharing.new.items ≡ INSTANCES }
     ensures gone { locations_at sharing.new.items i ≡ no_locations }
@@ -126,9 +145,9 @@ pub fn hand_on(sharing: &mut Vec<Locations>, i: u8) -> Pieces
     ensures others { (j : ℕ) → j ≢ i → shared_at sharing.new.items j ≡ shared_at sharing.old.items j }
 {
     Pieces {
-        p0: hand_record(sharing, i, 0),
-        p1: hand_record(sharing, i, 1),
-        p2: hand_record(sharing, i, 2),
-        p3: hand_record(sharing, i, 3),
+        p0: hand_record(sharing, i, 0, next.t0),
+        p1: hand_record(sharing, i, 1, next.t1),
+        p2: hand_record(sharing, i, 2, next.t2),
+        p3: hand_record(sharing, i, 3, next.t3),
     }
 }

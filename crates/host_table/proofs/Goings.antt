@@ -1,17 +1,15 @@
 -- An instance goes: its pieces were put back, and what stands with it was handed on.
-use Rattle.std.proofs.Common.{◌≡◌, ◌≢◌, ℕ, ◌<◌, List, length, Option, Some, None, set, refl, sym, ◌∙◌, ap}
-use Rattle.std.proofs.lemmas.Option.{none-some}
+use Rattle.std.proofs.Common.{◌≡◌, ◌≢◌, ℕ, ◌<◌, true, false, List, length, Option, Some, None, set, refl, sym, ◌∙◌, ap}
+use Rattle.std.specs.Prelude.{IsSome}
 use Rattle.record_loans.specs.declared.pieces.Pieces.{Pieces}
 use Rattle.record_loans.specs.Pieces.{SamePieces}
-use Rattle.lifecycle.specs.declared.instance.Inst.{Inst}
-use Rattle.lifecycle.specs.declared.instance.Inst.TheVariants.{Idling, Running}
 use Rattle.lifecycle.specs.States.{SameOnce}
 use Rattle.host_table.specs.declared.member.Member.{Member}
 use Rattle.host_shared.specs.declared.locations.Locations.{Locations}
 use Rattle.host_shared.specs.Locations.{location_at, no_locations, locations_at, shared_at, no_pieces}
 use Rattle.host_shared.specs.Owners.{with_pieces_of, AllHaveOwners, SameLocations}
 use Rattle.host_shared.specs.Sharing.{left_with, location_without}
-use Rattle.host_table.specs.Table.{slot_at, instance_of, active_in, AreHeld, AreBare}
+use Rattle.host_table.specs.Table.{slot_at, instance_of, AreHeld, AreBare}
 use Rattle.host_shared.proofs.Stands.{seen_of}
 use Rattle.host_shared.proofs.Owners.{count_seen}
 use Rattle.host_shared.proofs.Lent.{stands_lent, owners_of_all}
@@ -20,10 +18,13 @@ use Rattle.host_table.proofs.Sights.{Sees, sees_lent}
 use Rattle.host_table.proofs.HeldOn.{held_handed, bare_handed}
 use Rattle.host_shared.proofs.Handing.{once_handed, left_stays}
 
--- an idle instance is active in no group
-pub idle_in_any : {M : Type 0} (g k : ℕ) (inst : Inst M) → active_in g inst ≡ None → active_in k inst ≡ None
-idle_in_any g k (Idling s) idle = refl
-idle_in_any g k (Running s) idle = absurd (none-some g (sym idle))
+in_slot : {M : Type 0} (slot : Option (Member M)) → IsSome slot → (m : Member M) × (slot ≡ Some m)
+in_slot None some = let bad : false ≡ true = some in cc
+in_slot (Some m) some = (m, refl)
+
+-- the instance in a slot
+pub member_of : {M : Type 0} (instances : List (Option (Member M))) (i : ℕ) → IsSome (slot_at instances i) → (m : Member M) × (slot_at instances i ≡ Some m)
+member_of instances i some = in_slot (slot_at instances i) some
 
 -- its pieces were put back
 module _ {M : Type 0} (instances : List (Option (Member M))) (sharing : List Locations) (i : ℕ) (m : Member M) (o : Pieces) (sharing' : List Locations) (held : AreHeld instances sharing) (inside : i < length sharing)

@@ -1,5 +1,6 @@
 -- What a call of the tables does, put together of its parts.
-use Rattle.std.proofs.Common.{◌≡◌, ℕ, ℤ, inl, inr, true, List, Option, Some, None, set, refl, sym, ◌∙◌, ap, subst}
+use Rattle.std.proofs.Common.{◌≡◌, ℕ, ℤ, inl, inr, true, false, List, Option, Some, None, set, refl, sym, ◌∙◌, ap, subst}
+use Rattle.std.specs.Prelude.{IsSome}
 use Rattle.std.proofs.lemmas.Bool.Decides.{eqb_tells}
 use Rattle.mem_rec.specs.declared.Space.{Space}
 use Rattle.ialg.specs.History.{History}
@@ -19,6 +20,7 @@ use Rattle.host_shared.specs.Owners.{with_pieces_of}
 use Rattle.host_table.specs.declared.member.Member.{Member}
 use Rattle.host_table.specs.Table.{slot_at, group_at, instance_of, group_of, active_in, slot_active_in, EachIsHoused, TablesOk, ArePoisoned, activity_at}
 use Rattle.host_map.specs.Activity.{Activity, is_active, activated, with_activity}
+use Rattle.host_table.specs.Frames.{SameSlot}
 use Rattle.host_table.specs.Keeps.{InstKeeps, with_history}
 use Rattle.host_table.specs.View.{View}
 use Rattle.host_table.specs.Steps.{Stays, Steps, AreKept, unchanged}
@@ -115,7 +117,17 @@ touched_stays all g i active k = rw (is_active_there (all g).active i active) (s
 pub stays_of : {M : Type 0} {laws : Laws M} {w : Option ℤ} {a b : View M} {activities : ℕ → Activity} {goes : (ℕ → History) → ℕ → History} → Steps laws w a b activities goes → Stays w a b
 stays_of steps = record { ok = steps.ok; poisoned = steps.poisoned; same = steps.same }
 
--- where a slot was set between two calls, and the tables were opened then
-pub steps_beside : {M : Type 0} {laws : Laws M} {w : Option ℤ} {old q : View M} {activities : ℕ → Activity} {goes : (ℕ → History) → ℕ → History} {instances instances' : List (Option (Member M))} {sharing : List Locations} {groups : List Group}
-    → tables instances sharing groups ≡ record q { instances = instances' } → Steps laws w old q activities goes → Steps laws w old (tables q.instances sharing groups) activities goes
-steps_beside {M = M} {q = q} is steps = rw (ap (λ (v : View M). v.sharing) is, ap (λ (v : View M). v.groups) is) steps
+-- the tables were opened after a step
+pub steps_in : {M : Type 0} {laws : Laws M} {w : Option ℤ} {old q : View M} {activities : ℕ → Activity} {goes : (ℕ → History) → ℕ → History} {instances : List (Option (Member M))} {sharing : List Locations} {groups : List Group}
+    → tables instances sharing groups ≡ q → Steps laws w old q activities goes → Steps laws w old (tables instances sharing groups) activities goes
+steps_in is steps = rw is steps
+
+still_there : {M : Type 0} (x y : Option (Member M)) → IsSome x → SameSlot x y → (m : Member M) × (y ≡ Some m)
+still_there None y some same = let bad : false ≡ true = some in cc
+still_there (Some n) None some same = absurd same
+still_there (Some n) (Some m) some same = (m, refl)
+
+-- an instance is in its slot after a step
+pub there_in : {M : Type 0} {laws : Laws M} {w : Option ℤ} {old q : View M} {activities : ℕ → Activity} {goes : (ℕ → History) → ℕ → History} {instances : List (Option (Member M))} {sharing : List Locations} {groups : List Group}
+    → tables instances sharing groups ≡ q → Steps laws w old q activities goes → (i : ℕ) → IsSome (slot_at old.instances i) → (m : Member M) × (slot_at instances i ≡ Some m)
+there_in {old = old} {instances = instances} is steps i some = still_there (slot_at old.instances i) (slot_at instances i) some ((steps_in is steps).same.slot i)

@@ -14,7 +14,7 @@ use Rattle.host_table.specs.declared.member.Member.{Member}
 use Rattle.host_shared.specs.declared.locations.Locations.{Locations}
 use Rattle.host_shared.specs.Owners.{SameLocations}
 use Rattle.host_table.specs.Table.{slot_at, group_at, instance_of}
-use Rattle.host_shared.specs.Locations.{shared_at}
+use Rattle.host_shared.specs.Locations.{no_pieces, shared_at}
 
 -- the same instance in the same group, in either state, at the same places
 abbrev pub SameSlot : {M : Type 0} → Option (Member M) → Option (Member M) → Type 0
@@ -46,6 +46,11 @@ IsIdle s (Running active) = ⊥
 abbrev pub IsStarted : {M : Type 0} → ℕ → Instance M → Option (Member M) → Type 0
 IsStarted g s None = ⊥
 IsStarted g s (Some m) = (m.group ≡ g) × IsIdle s m.inst
+
+-- an idle one whose own pieces were taken out
+abbrev pub IsEnded : {M : Type 0} → Inst M → Type 0
+IsEnded (Idling idle) = idle.instance.own ≡ no_pieces
+IsEnded (Running active) = ⊥
 
 -- all other instances and the blocks are the same, all at the same places
 pub record OthersSame {M : Type 0} (i : ℕ) (instances : List (Option (Member M))) (sharing : List Locations) (groups : List Group)

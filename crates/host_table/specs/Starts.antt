@@ -13,13 +13,13 @@ use Rattle.host_table.specs.declared.life.NewInstance.{NewInstance}
 
 -- what a new instance asks for
 abbrev pub asked_for : {M : Type 0} → NewInstance M → Asked M
-asked_for n = asked n.kind n.params.items n.table
+asked_for n = asked n.kind n.params.now.items n.table
 
 -- where the table is the one that its kind asks for, and its records are new ones, a new instance begins its history, and each other
 -- instance keeps the history that it kept
 abbrev pub BeginsHistory : {M : Type 0} → Laws M → NewInstance M → Pieces → Pieces → View M → View M → Type 0
 BeginsHistory laws n own shared old new = (w : Option ℤ) (histories : ℕ → History)
-    → (IsTrue (laws.meaning.lawful n.kind n.params.items w) → laws.meaning.table n.kind n.params.items ≡ Some (unplaced n.table))
-    → AreNew w (laws.meaning.fill n.kind n.params.items) n.table (idle_words n.table own shared)
+    → (IsTrue (laws.meaning.lawful n.kind n.params.now.items w) → laws.meaning.table n.kind n.params.now.items ≡ Some (unplaced n.table))
+    → AreNew w (laws.meaning.fill n.kind n.params.now.items) n.table (idle_words n.table own shared)
     → AreKept laws w old histories
     → AreKept laws w new (with_history histories n.number [])

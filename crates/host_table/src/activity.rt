@@ -120,6 +120,18 @@ impl<M: Ialg> Tables<M> {
         }
     }
 
+    /// Deactivates the active member of a group, as [`deactivate_in`](Tables::deactivate_in) does. It is a call of its own, for those that
+    /// hardly ever come to it: a creation and a deletion.
+    #[inline(never)]
+    pub fn deactivate_by_call(&mut self, poison: Option<i16>, g: u8) -> bool
+        requires range { g < GROUPS }
+        requires ready { Ready poison self.old }
+        ensures active { result ≡ is_some (group_at self.old.groups g).active }
+        ensures step { Steps M.law poison self.old self.new (with_activity (activity_at self.old.groups) g (deactivated (activity_at self.old.groups g))) unchanged }
+    {
+        self.deactivate_in(poison, g)
+    }
+
     /// Activates the instance, unless it is active; another active member of its group is deactivated first.
     pub fn activate(&mut self, poison: Option<i16>, i: u8)
         requires living { IsSome (slot_at self.old.instances i) }
@@ -154,7 +166,7 @@ impl<M: Ialg> Tables<M> {
     {
         let active = active_group(&self.instances, i);
         if let Some(g) = active {
-            let _was_active = self.deactivate_in(poison, g);
+            let _was_active = self.deactivate_by_call(poison, g);
         }
     }
 }

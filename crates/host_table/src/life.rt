@@ -1,38 +1,41 @@
 //! The start and the end of instances.
-ghost use Rattle.std.specs.Prelude.{◌≡◌, ◌≢◌, ◌<◌, ℕ, Option, Some, None, IsSome};
+ghost use Rattle.std.specs.Prelude.{◌≡◌, ◌≢◌, ◌<◌, ℕ, Option, Some, None, IsSome, slice_set};
 ghost use Rattle.record_loans.specs.Pieces.{piece_at, SamePieces};
 ghost use Rattle.lifecycle.specs.States.{Fits, SameOnce};
 ghost use Rattle.lifecycle.specs.Moves.{HasRoom, settled};
 ghost use Rattle.mem_rec.specs.declared.TheConstants.{INSTANCES, GROUPS};
 ghost use Rattle.host_table.specs.declared.member.Member.{Member};
 ghost use Rattle.host_shared.specs.Locations.{location_at, locations_at, owner_of, shared_at, no_pieces};
-ghost use Rattle.host_shared.specs.Owners.{IsSameLocation};
+ghost use Rattle.host_shared.specs.Owners.{IsSameLocation, with_pieces_of};
 ghost use Rattle.host_shared.specs.Sharing.{left_with, next_sharer, location_without, AreLeast};
-ghost use Rattle.host_table.specs.Table.{slot_at, group_at, own_of, instance_of, active_in, deactivated_by, ActivitiesAre};
+ghost use Rattle.host_table.specs.Table.{slot_at, group_at, own_of, instance_of, active_in, slot_active_in, deactivated_by, ActivitiesAre};
 ghost use Rattle.host_map.specs.Sharers.{asked, sharer_of};
 ghost use Rattle.host_table.specs.Sharers.{asked_by, AreLeastSharers, AreTogether};
 ghost use Rattle.host_shared.specs.Joining.{sharer_at, location_joined, pieces_joined};
 ghost use Rattle.host_table.specs.Steps.{Ready, AreConsistent, HistoriesStay};
-ghost use Rattle.host_table.specs.Frames.{OthersStay, OthersSame, IsStarted};
+ghost use Rattle.host_table.specs.Frames.{OthersStay, OthersSame, IsStarted, IsEnded};
 ghost use Rattle.host_table.specs.Starts.{asked_for, BeginsHistory};
+ghost use Rattle.host_table.specs.Turns.{CanBeLent};
 
+use crate::member::group_number;
 use crate::{Member, Tables};
-use host_shared::{Sharers, borrow_pieces, give_back_pieces, hand_on, join};
+use host_shared::{Locations, Sharers, borrow_pieces, end_absent, give_back_pieces, hand_on, join};
 use ialg::{Ialg, Params};
 use lifecycle::{Idle, Inst};
 use mem_rec::MemTab;
 use record_loans::Pieces;
-use scratch_group::Group;
+use scratch_group::{Group, is_filter};
+use std::mem;
 
 /// An instance that is to be created.
 #[derive(Drop)]
-pub struct NewInstance<M> {
+pub struct NewInstance<'a, M> {
     /// Its number, which is free.
     pub number: u8,
     /// Its scratch group.
     pub group: u8,
     pub kind: M,
-    pub params: Params,
+    pub params: &'a Params,
     /// The memory that its kind asks for.
     pub table: MemTab,
 }
@@ -41,7 +44,7 @@ pub struct NewInstance<M> {
 /// idle.
 pub fn start<M: Ialg>(
     tables: &mut Tables<M>,
-    instance: NewInstance<M>,
+    instance: NewInstance<'_, M>,
     own: Pieces,
     shared: Pieces,
     sharers: Sharers,
@@ -55,16 +58,16 @@ pub fn start<M: Ialg>(
     requires together { AreTogether tables.old.instances tables.old.sharing }
     requires sharers { AreLeastSharers M.law.meaning.same tables.old.instances (asked_for instance) sharers }
     requires placed { (k : ℕ) → IsSome (sharer_at sharers k) → piece_at shared k ≡ None }
-    requires fits { HasRoom (record { kind = instance.kind; params = instance.params; table = instance.table; own = own }) (pieces_joined tables.old.sharing sharers shared) (group_at tables.old.groups instance.group) }
+    requires fits { HasRoom (record { kind = instance.kind; params = instance.params.now; table = instance.table; own = own }) (pieces_joined tables.old.sharing sharers shared) (group_at tables.old.groups instance.group) }
     ensures ok { AreConsistent tables.new }
     ensures groups { tables.new.groups ≡ tables.old.groups }
-    ensures others { OthersStay instance.number tables.old.instances tables.old.sharing tables.new.instances tables.new.sharing }
-    ensures stands { (j k : ℕ) → IsSameLocation (location_joined tables.old.sharing instance.number k (sharer_at sharers k) (piece_at shared k) j) (location_at (locations_at tables.new.sharing j) k) }
+    ensures others { OthersStay instance.entry.number tables.old.instances tables.old.sharing tables.new.instances tables.new.sharing }
+    ensures stands { (j k : ℕ) → IsSameLocation (location_joined tables.old.sharing instance.entry.number k (sharer_at sharers k) (piece_at shared k) j) (location_at (locations_at tables.new.sharing j) k) }
     ensures least { AreLeast tables.new.sharing }
     ensures together { AreTogether tables.new.instances tables.new.sharing }
-    ensures started { IsStarted instance.group (settled (record { kind = instance.kind; params = instance.params; table = instance.table; own = own }) (pieces_joined tables.old.sharing sharers shared) (group_at tables.old.groups instance.group)) (slot_at tables.new.instances instance.number) }
-    ensures pieces { SamePieces (pieces_joined tables.old.sharing sharers shared) (shared_at tables.new.sharing instance.number) }
-    ensures keeps { BeginsHistory M.law instance own shared tables.old tables.new }
+    ensures started { IsStarted instance.entry.group (settled (record { kind = instance.entry.kind; params = instance.entry.params.now; table = instance.entry.table; own = own }) (pieces_joined tables.old.sharing sharers shared) (group_at tables.old.groups instance.entry.group)) (slot_at tables.new.instances instance.entry.number) }
+    ensures pieces { SamePieces (pieces_joined tables.old.sharing sharers shared) (shared_at tables.new.sharing instance.entry.number) }
+    ensures keeps { BeginsHistory M.law instance.entry own shared tables.old tables.new }
 {
     let NewInstance {
         number: i,
@@ -95,10 +98,16 @@ pub fn start<M: Ialg>(
 }
 
 /// Ends an instance, and gives back the pieces of its own records and those of its write-once records that no other instance shares: the
-/// others get a new owner. An active one is deactivated first. All these pieces come back, whatever its kind answers to algFree.
-pub fn end<M: Ialg>(tables: &mut Tables<M>, poison: Option<i16>, i: u8) -> (Pieces, Pieces)
+/// others get a new owner, the next one. An active one is deactivated first. All these pieces come back, whatever its kind answers to algFree.
+pub fn end<M: Ialg>(
+    tables: &mut Tables<M>,
+    poison: Option<i16>,
+    i: u8,
+    next: &Sharers,
+) -> (Pieces, Pieces)
     requires living { IsSome (slot_at tables.old.instances i) }
     requires ready { Ready poison tables.old }
+    requires next { (k : ℕ) → sharer_at next.now k ≡ next_sharer tables.old.sharing i k }
     ensures ready { Ready poison tables.new }
     ensures gone { slot_at tables.new.instances i ≡ None }
     ensures none { shared_at tables.new.sharing i ≡ no_pieces }
@@ -114,27 +123,136 @@ pub fn end<M: Ialg>(tables: &mut Tables<M>, poison: Option<i16>, i: u8) -> (Piec
     ensures keeps { HistoriesStay M.law poison tables.old tables.new }
 {
     tables.deactivate(poison, i);
-    let Member { group: g, inst } = tables.take_out(i);
-    let mut shared = borrow_pieces(&mut tables.sharing, i as usize);
-    let own = end_idle(inst, &mut shared, &tables.groups[g as usize]);
-    give_back_pieces(&mut tables.sharing, i as usize, shared);
-    (own, hand_on(&mut tables.sharing, i))
+    let g = group_number(&tables.instances, i);
+    let own = end_idle(
+        &mut tables.instances,
+        &mut tables.sharing,
+        i,
+        &tables.groups[g as usize],
+    );
+    (own, hand_on(&mut tables.sharing, i, next))
 }
 
-/// Ends an idle instance, once its kind has been told by algFree.
-fn end_idle<M: Ialg>(inst: Inst<M>, shared: &mut Pieces, group: &Group) -> Pieces
-    requires idle { (g : ℕ) → active_in g inst ≡ None }
-    requires fits { Fits (instance_of inst).table (instance_of inst).own shared.old group.now }
-    ensures own { SamePieces (instance_of inst).own result }
+/// Tells the kind of an idle instance by algFree that it ends, and takes its own pieces out of it.
+///
+/// Inlined, so that for an instance without write-once records the compiler drops the empty `Pieces`.
+#[inline(always)]
+fn free_lent<M: Ialg>(idle: &mut Idle<M>, shared: &mut Pieces, group: &Group) -> Pieces
+    requires fits { Fits idle.old.instance.table idle.old.instance.own shared.old group.now }
+    ensures own { SamePieces idle.old.instance.own result }
     ensures shared { SamePieces shared.old shared.new }
-    ensures once { SameOnce (instance_of inst).table shared.old shared.new }
+    ensures once { SameOnce idle.old.instance.table shared.old shared.new }
+    ensures left { idle.new.instance.own ≡ no_pieces }
+{
+    let _told = idle.freed(shared, group);
+    mem::replace(&mut idle.instance.own, Pieces::none())
+}
+
+/// Tells the kind of an idle instance that it ends, as [`free_lent`] does, with its write-once records borrowed from their owners.
+#[inline(never)]
+fn free_sharing<M: Ialg>(
+    idle: &mut Idle<M>,
+    sharing: &mut Vec<Locations>,
+    i: u8,
+    group: &Group,
+) -> Pieces
+    requires lent { CanBeLent idle.old.instance sharing.old.items i group.now }
+    ensures own { SamePieces idle.old.instance.own result }
+    ensures seen { sharing.new.items ≡ with_pieces_of sharing.old.items i (shared_at sharing.new.items i) }
+    ensures shared { SamePieces (shared_at sharing.old.items i) (shared_at sharing.new.items i) }
+    ensures once { SameOnce idle.old.instance.table (shared_at sharing.old.items i) (shared_at sharing.new.items i) }
+    ensures left { idle.new.instance.own ≡ no_pieces }
+{
+    let mut shared = borrow_pieces(sharing, i as usize);
+    let own = free_lent(idle, &mut shared, group);
+    give_back_pieces(sharing, i as usize, shared);
+    own
+}
+
+/// Tells the kind of an idle instance that it ends, as [`free_sharing`] does. A filter has no write-once record, so nothing is borrowed for
+/// it: most instances are filters.
+fn free_idle<M: Ialg>(
+    idle: &mut Idle<M>,
+    sharing: &mut Vec<Locations>,
+    i: u8,
+    group: &Group,
+) -> Pieces
+    requires lent { CanBeLent idle.old.instance sharing.old.items i group.now }
+    ensures own { SamePieces idle.old.instance.own result }
+    ensures seen { sharing.new.items ≡ with_pieces_of sharing.old.items i (shared_at sharing.new.items i) }
+    ensures shared { SamePieces (shared_at sharing.old.items i) (shared_at sharing.new.items i) }
+    ensures once { SameOnce idle.old.instance.table (shared_at sharing.old.items i) (shared_at sharing.new.items i) }
+    ensures left { idle.new.instance.own ≡ no_pieces }
+{
+    if is_filter(&idle.instance.table) {
+        let mut none = Pieces::none();
+        let own = free_lent(idle, &mut none, group);
+        end_absent(none);
+        own
+    } else {
+        free_sharing(idle, sharing, i, group)
+    }
+}
+
+/// Tells the kind of an instance that is idle that it ends, and takes its own pieces out of it.
+fn free_member<M: Ialg>(
+    inst: &mut Inst<M>,
+    sharing: &mut Vec<Locations>,
+    i: u8,
+    group: &Group,
+) -> Pieces
+    requires idle { (g : ℕ) → active_in g inst.old ≡ None }
+    requires lent { CanBeLent (instance_of inst.old) sharing.old.items i group.now }
+    ensures own { SamePieces (instance_of inst.old).own result }
+    ensures seen { sharing.new.items ≡ with_pieces_of sharing.old.items i (shared_at sharing.new.items i) }
+    ensures shared { SamePieces (shared_at sharing.old.items i) (shared_at sharing.new.items i) }
+    ensures once { SameOnce (instance_of inst.old).table (shared_at sharing.old.items i) (shared_at sharing.new.items i) }
+    ensures left { IsEnded inst.new }
 {
     match inst {
-        Inst::Idling(idle) => {
-            let mut idle = idle;
-            let _told = idle.freed(shared, group);
-            idle.finish()
-        }
+        Inst::Idling(idle) => free_idle(idle, sharing, i, group),
         Inst::Running(_active) => unreachable!(),
     }
+}
+
+/// Empties the slot of an idle instance whose own pieces were taken out.
+fn empty_slot<M: Ialg>(instances: &mut Vec<Option<Member<M>>>, i: u8)
+    requires { (m : Member M) × (slot_at instances.old.items i ≡ Some m) × IsEnded m.inst }
+    ensures { instances.new.items ≡ slice_set instances.old.items i None }
+{
+    match mem::replace(&mut instances[i as usize], None) {
+        Some(Member { group: _, inst }) => match inst {
+            Inst::Idling(idle) => end_absent(idle.finish()),
+            Inst::Running(_active) => unreachable!(),
+        },
+        None => unreachable!(),
+    }
+}
+
+/// Ends the idle instance of a slot where it stands, once its kind has been told by algFree, and gives its own pieces back. The slot is
+/// empty then. Moved out of it first, the instance would be copied whole.
+fn end_idle<M: Ialg>(
+    instances: &mut Vec<Option<Member<M>>>,
+    sharing: &mut Vec<Locations>,
+    i: u8,
+    group: &Group,
+) -> Pieces
+    requires living { IsSome (slot_at instances.old.items i) }
+    requires idle { slot_active_in (slot_at instances.old.items i) ≡ None }
+    requires lent { (m : Member M) → slot_at instances.old.items i ≡ Some m → CanBeLent (instance_of m.inst) sharing.old.items i group.now }
+    ensures emptied { instances.new.items ≡ slice_set instances.old.items i None }
+    ensures gone { slot_at instances.new.items i ≡ None }
+    ensures others { (j : ℕ) → j ≢ i → slot_at instances.new.items j ≡ slot_at instances.old.items j }
+    ensures own { SamePieces (own_of (slot_at instances.old.items i)) result }
+    ensures seen { sharing.new.items ≡ with_pieces_of sharing.old.items i (shared_at sharing.new.items i) }
+    ensures shared { SamePieces (shared_at sharing.old.items i) (shared_at sharing.new.items i) }
+    ensures once { (m : Member M) → slot_at instances.old.items i ≡ Some m
+        → SameOnce (instance_of m.inst).table (shared_at sharing.old.items i) (shared_at sharing.new.items i) }
+{
+    let own = match &mut instances[i as usize] {
+        Some(member) => free_member(&mut member.inst, sharing, i, group),
+        None => unreachable!(),
+    };
+    empty_slot(instances, i);
+    own
 }

@@ -58,6 +58,17 @@ pub(crate) fn make_active<M: Ialg>(instances: &mut Vec<Option<Member<M>>>, i: u8
     }
 }
 
+/// The group of an instance.
+pub fn group_number<M: Ialg>(instances: &Vec<Option<Member<M>>>, i: u8) -> u8
+    requires { IsSome (slot_at instances.now.items i) }
+    ensures { result ≡ group_of (slot_at instances.now.items i) }
+{
+    match &instances[i as usize] {
+        Some(member) => member.group,
+        None => unreachable!(),
+    }
+}
+
 /// The group of an idle instance, or None where the instance is active.
 pub(crate) fn idle_in<M: Ialg>(instances: &Vec<Option<Member<M>>>, i: u8) -> Option<u8>
     requires { IsSome (slot_at instances.now.items i) }

@@ -12,7 +12,7 @@ ghost use Rattle.lifecycle.specs.States.{Fits, SameInstance, SameOnce, IsLawful,
 use crate::Active;
 use crate::instance::{Instance, restore};
 use crate::steps::{Activate, ActivateAndProcess, Free, Init, Move};
-use ialg::{BLOCK_SAMPLES, Block, Ctl, Ialg, Params};
+use ialg::{BLOCK_SAMPLES, Block, Ctl, Ialg, Params, copied};
 use mem_rec::MemTab;
 use record_loans::Pieces;
 use scratch_group::{Group, lend_lasting, rebase};
@@ -24,36 +24,33 @@ pub struct Idle<M> {
 }
 
 impl<M: Ialg> Idle<M> {
-    /// Starts an instance, which owns a piece for each of its persistent records. It goes by the places of the pieces and of its
-    /// group's blocks, and its write-once records may be written this once.
+    /// Starts an instance, which owns a piece for each of its persistent records and keeps a copy of the parameters. It goes by the places of
+    /// the pieces and of its group's blocks, and its write-once records may be written this once.
     pub fn init(
         kind: M,
-        params: Params,
+        params: &Params,
         table: MemTab,
         own: Pieces,
         shared: &mut Pieces,
         group: &Group,
     ) -> Idle<M>
-        requires fits { HasRoom (record { kind = kind; params = params; table = table; own = own }) shared.old group.now }
-        ensures same { SameInstance (settled (record { kind = kind; params = params; table = table; own = own }) shared.old group.now) result.instance }
+        requires fits { HasRoom (record { kind = kind; params = params.now; table = table; own = own }) shared.old group.now }
+        ensures same { SameInstance (settled (record { kind = kind; params = params.now; table = table; own = own }) shared.old group.now) result.instance }
         ensures shared { SamePieces shared.old shared.new }
         ensures fits { Fits result.instance.table result.instance.own shared.new group.now }
-        ensures keeps { (w : Option ℤ) → M.law.meaning.table kind params.items ≡ Some (unplaced table)
-            → AreNew w (M.law.meaning.fill kind params.items) table (idle_words table own shared.old)
+        ensures keeps { (w : Option ℤ) → M.law.meaning.table kind params.now.items ≡ Some (unplaced table)
+            → AreNew w (M.law.meaning.fill kind params.now.items) table (idle_words table own shared.old)
             → IdleKeeps M.law result.instance w shared.new [] }
     {
         let mut table = table;
         rebase(&mut table, &own, shared, group);
         let mut own = own;
-        let step = Init {
-            kind,
-            params: &params,
-        };
+        let step = Init { kind, params };
         lend_lasting(&step, &table, true, &mut own, shared, &mut ());
         Idle {
             instance: Instance {
                 kind,
-                params,
+                params: copied(params.as_slice()),
                 table,
                 own,
             },

@@ -59,7 +59,7 @@ pub(crate) fn filter(
         p2: None,
         p3: None,
     };
-    Idle::init(Fir, p, table, own, none, group)
+    Idle::init(Fir, &p, table, own, none, group)
 }
 
 /// An idle instance is active for one control that it accepts.

@@ -48,7 +48,6 @@ returns-in-Ok-clause-machine g c =
     let below : c.args.i < 64 = omega arith in
     let small : c.args.group < 8 = omega arith in
     let empty : slot_at c.args.tables.now.instances c.args.i ≡ None = search rules in
-    let same : c.copied-params.result.items ≡ c.args.p.now.items = c.copied-params.ensures ∙ c.as_slice.ensures.value in
     λ before e kept. (
       created before c.args.i (newborn c.args.kind c.args.group c.args.p.now.items c.in-Some.table) c.in-Some.table (map_of c.start_in_spaces.new.spaces),
       record {
@@ -57,16 +56,15 @@ returns-in-Ok-clause-machine g c =
         outcome = sym (c.creations_answer_in_order.ensures.granted g.M.Ialg.law.meaning before c.args.i c.args.group c.args.kind c.args.p.now.items c.in-Some.table (map_of c.start_in_spaces.new.spaces) below small
             (is_free g.M.Ialg.law _ _ _ c.args.spaces.now before kept c.args.i c.args.group c.args.kind c.args.p.now.items c.in-Some.table empty)
             (map_is g.M.Ialg.law _ _ _ c.args.spaces.now before kept c.args.i c.args.group c.args.kind c.args.p.now.items c.in-Some.table _
-            (subst (λ (xs : List ℤ). created_map (sizes_of c.args.spaces.now) (map_of c.args.spaces.now) c.args.i c.args.group c.in-Some.table
-            (sharer_of g.M.Ialg.law.meaning.same (λ j. asked_by (slot_at c.args.tables.now.instances j)) (asked c.args.kind xs c.in-Some.table)) ≡ Ok (map_of c.start_in_spaces.new.spaces)) same c.in-Ok.ensures.exact)));
+            c.in-Ok.ensures.exact));
       },
       created_kept g.M.Ialg.law _ _ _ c.args.spaces.now before kept c.args.i c.args.group c.args.kind c.args.p.now.items c.in-Some.table
           _ _ _ c.start_in_spaces.new.spaces c.in-Ok.ensures.others
-          (subst (λ (xs : List ℤ). IsNewborn c.args.group c.args.kind xs c.in-Some.table (slot_at c.start_in_spaces.new.tables.instances c.args.i)) same c.in-Ok.ensures.newborn)
+          c.in-Ok.ensures.newborn
           c.in-Ok.ensures.activity
           (subst (λ (w : Option ℤ). Keeps g.M.Ialg.law w c.start_in_spaces.new.tables.instances c.start_in_spaces.new.tables.sharing c.start_in_spaces.new.tables.groups (with_history (λ j. history_of (before.living j)) c.args.i [])) (sym e)
           (c.in-Ok.ensures.keeps (λ j. history_of (before.living j))
-          (asks g.M.Ialg.law.meaning c.args.poison c.args.kind c.args.p.now.items c.copied-params.result.items c.in-Some.table same (c.in-Some.ensures.allowed c.args.poison) (c.in-Some.ensures.unplaced c.args.poison))
+          (asks g.M.Ialg.law.meaning c.args.poison c.args.kind c.args.p.now.items c.in-Some.table (c.in-Some.ensures.allowed c.args.poison) (c.in-Some.ensures.unplaced c.args.poison))
           (subst (λ (w : Option ℤ). Keeps g.M.Ialg.law w c.args.tables.now.instances c.args.tables.now.sharing c.args.tables.now.groups (λ j. history_of (before.living j))) e kept.tables.histories)))
           c.start_in_spaces.ensures.stays,
     )
@@ -76,7 +74,6 @@ returns-in-Err-clause-machine g c =
     let below : c.args.i < 64 = omega arith in
     let small : c.args.group < 8 = omega arith in
     let empty : slot_at c.args.tables.now.instances c.args.i ≡ None = search rules in
-    let same : c.copied-params.result.items ≡ c.args.p.now.items = c.copied-params.ensures ∙ c.as_slice.ensures.value in
     let still = c.in-Err.ensures.refused in
     λ before e kept. (
       before,
@@ -86,8 +83,7 @@ returns-in-Err-clause-machine g c =
         outcome = sym (c.creations_answer_in_order.ensures.room g.M.Ialg.law.meaning before c.args.i c.args.group c.args.kind c.args.p.now.items c.in-Some.table c.in-Err.space below small
             (is_free g.M.Ialg.law _ _ _ c.args.spaces.now before kept c.args.i c.args.group c.args.kind c.args.p.now.items c.in-Some.table empty)
             (map_is g.M.Ialg.law _ _ _ c.args.spaces.now before kept c.args.i c.args.group c.args.kind c.args.p.now.items c.in-Some.table _
-            (subst (λ (xs : List ℤ). created_map (sizes_of c.args.spaces.now) (map_of c.args.spaces.now) c.args.i c.args.group c.in-Some.table
-            (sharer_of g.M.Ialg.law.meaning.same (λ j. asked_by (slot_at c.args.tables.now.instances j)) (asked c.args.kind xs c.in-Some.table)) ≡ Err c.in-Err.space) same c.in-Err.ensures.exact)));
+            c.in-Err.ensures.exact));
       },
       rw (still.0, still.1) kept,
     )

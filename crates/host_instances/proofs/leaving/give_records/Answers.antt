@@ -1,5 +1,6 @@
 use Rattle.std.proofs.Common.{◌≡◌, ◌<◌, ℕ, length, ◌∙◌, ap, arith}
 use Rattle.host_table.proofs.Changes.{slot_in}
+use Rattle.host_table.proofs.Goings.{member_of}
 use Rattle.host_table.proofs.Held.{owners_of_held}
 use Rattle.host_map.specs.Creation.{handed_on, sharer_at}
 use Rattle.host_shared.specs.Sharing.{next_sharer}
@@ -7,7 +8,7 @@ use Rattle.host_map.specs.MemoryMap.{is_instance's, renamed, without_owners}
 use Rattle.host_spaces.specs.MemoryMap.{map_of}
 use Rattle.std.specs.Prelude.{Option}
 use Rattle.host_instances.proofs.Ended.{handed_same, stay_then}
-use Rattle.host_instances.proofs.Records.{Going, member_of, records_back, pieces_back, location_beside, same_beside}
+use Rattle.host_instances.proofs.Records.{Going, records_back, pieces_back, location_beside, same_beside}
 use Rattle.host_instances.proofs.leaving.give_records.Goals as goal
 
 pub next_sharers-next-requires-clause-number : goal.next_sharers-next-requires-clause-number
@@ -23,10 +24,10 @@ pub take_out_records-requires-clause-pieces : goal.take_out_records-requires-cla
 take_out_records-requires-clause-pieces g c =
     let its = member_of c.args.tables.now.instances c.args.i c.requires.living in
     let going : Going c.args.i c.args.tables.now.instances c.args.tables.now.sharing c.args.tables.now.groups c.args.spaces.now c.hand_on.new.self = record {
-      next = (λ k. sharer_at c.next_sharers-next.result k);
+      next = (λ k. sharer_at c.listed-list.result k);
       standing = c.requires.standing;
       held = c.requires.ok.held;
-      is_next = rw (← c.tables.view_is) c.next_sharers-next.ensures;
+      is_next = rw (← c.tables.view_is) (λ k. c.listed-list.ensures k ∙ c.next_sharers-next.ensures k);
       others = c.hand_on.ensures.others;
       handed = c.hand_on.ensures.handed;
       left = c.hand_on.ensures.left;
@@ -39,10 +40,10 @@ pub take_out_records-requires-clause-records : goal.take_out_records-requires-cl
 take_out_records-requires-clause-records g c =
     let its = member_of c.args.tables.now.instances c.args.i c.requires.living in
     let going : Going c.args.i c.args.tables.now.instances c.args.tables.now.sharing c.args.tables.now.groups c.args.spaces.now c.hand_on.new.self = record {
-      next = (λ k. sharer_at c.next_sharers-next.result k);
+      next = (λ k. sharer_at c.listed-list.result k);
       standing = c.requires.standing;
       held = c.requires.ok.held;
-      is_next = rw (← c.tables.view_is) c.next_sharers-next.ensures;
+      is_next = rw (← c.tables.view_is) (λ k. c.listed-list.ensures k ∙ c.next_sharers-next.ensures k);
       others = c.hand_on.ensures.others;
       handed = c.hand_on.ensures.handed;
       left = c.hand_on.ensures.left;
@@ -54,10 +55,10 @@ take_out_records-requires-clause-records g c =
 pub returns-clause-standing : goal.returns-clause-standing
 returns-clause-standing g c =
     let going : Going c.args.i c.args.tables.now.instances c.args.tables.now.sharing c.args.tables.now.groups c.args.spaces.now c.hand_on.new.self = record {
-      next = (λ k. sharer_at c.next_sharers-next.result k);
+      next = (λ k. sharer_at c.listed-list.result k);
       standing = c.requires.standing;
       held = c.requires.ok.held;
-      is_next = rw (← c.tables.view_is) c.next_sharers-next.ensures;
+      is_next = rw (← c.tables.view_is) (λ k. c.listed-list.ensures k ∙ c.next_sharers-next.ensures k);
       others = c.hand_on.ensures.others;
       handed = c.hand_on.ensures.handed;
       left = c.hand_on.ensures.left;
@@ -73,8 +74,8 @@ returns-clause-others g c = same_beside c.args.i _ _ _ _ _ _ c.end-own.ensures.o
 pub returns-clause-map : goal.returns-clause-map
 returns-clause-map g c =
     let its = member_of c.args.tables.now.instances c.args.i c.requires.living in
-    let next_is : (k : ℕ) → sharer_at c.next_sharers-next.result k ≡ next_sharer c.args.tables.now.sharing c.args.i k = rw (← c.tables.view_is) c.next_sharers-next.ensures in
-    let same : ◌≡◌ {A = ℕ → Option ℕ} (λ k. sharer_at c.next_sharers-next.result k) (λ k. next_sharer c.args.tables.now.sharing c.args.i k) = λ t k. next_is k t in
+    let next_is : (k : ℕ) → sharer_at c.listed-list.result k ≡ next_sharer c.args.tables.now.sharing c.args.i k = rw (← c.tables.view_is) (λ k. c.listed-list.ensures k ∙ c.next_sharers-next.ensures k) in
+    let same : ◌≡◌ {A = ℕ → Option ℕ} (λ k. sharer_at c.listed-list.result k) (λ k. next_sharer c.args.tables.now.sharing c.args.i k) = λ t k. next_is k t in
     c.take_out_records.ensures.map
     ∙ ap (without_owners (is_instance's c.args.i)) (c.hand_on.ensures.map
     ∙ ap (λ (next : ℕ → Option ℕ). renamed (handed_on next c.args.i) (map_of c.args.spaces.now)) same

@@ -9,7 +9,7 @@ use Rattle.host_instances.proofs.starting.begin.Goals as goal
 pub start-requires-clause-placed : goal.start-requires-clause-placed
 start-requires-clause-placed g c =
     let joins : Joins c.args.instance.number c.args.instance.group c.args.tables.now.instances c.args.tables.now.sharing c.args.tables.now.groups c.args.spaces.now c.take_over.new.self
-    (record { kind = c.args.instance.kind; params = c.args.instance.params; table = c.args.instance.table; own = c.args.own }) c.args.shared c.args.sharers =
+    (record { kind = c.args.instance.kind; params = c.args.instance.params.now; table = c.args.instance.table; own = c.args.own }) c.args.shared c.args.sharers =
     joining g.M.Ialg.law.meaning.same (λ a b told. g.met.M.Ialg.same a b (g.met.M.Ialg.compared a b ∙ told)) (λ a. sym (g.met.M.Ialg.compared a a) ∙ g.met.M.Eq.laws.refl a)
     c.args.instance.number c.args.instance.group _ _ _ c.args.spaces.now c.take_over.new.self _ c.args.shared c.args.sharers _ c.listed-list.ensures c.requires.ok c.requires.empty c.requires.grown c.requires.sharers c.requires.placed
     c.take_over.ensures.taken c.take_over.ensures.left c.take_over.ensures.others c.take_over.ensures.stays in
@@ -18,7 +18,7 @@ start-requires-clause-placed g c =
 pub start-requires-clause-fits : goal.start-requires-clause-fits
 start-requires-clause-fits g c =
     let joins : Joins c.args.instance.number c.args.instance.group c.args.tables.now.instances c.args.tables.now.sharing c.args.tables.now.groups c.args.spaces.now c.take_over.new.self
-    (record { kind = c.args.instance.kind; params = c.args.instance.params; table = c.args.instance.table; own = c.args.own }) c.args.shared c.args.sharers =
+    (record { kind = c.args.instance.kind; params = c.args.instance.params.now; table = c.args.instance.table; own = c.args.own }) c.args.shared c.args.sharers =
     joining g.M.Ialg.law.meaning.same (λ a b told. g.met.M.Ialg.same a b (g.met.M.Ialg.compared a b ∙ told)) (λ a. sym (g.met.M.Ialg.compared a a) ∙ g.met.M.Eq.laws.refl a)
     c.args.instance.number c.args.instance.group _ _ _ c.args.spaces.now c.take_over.new.self _ c.args.shared c.args.sharers _ c.listed-list.ensures c.requires.ok c.requires.empty c.requires.grown c.requires.sharers c.requires.placed
     c.take_over.ensures.taken c.take_over.ensures.left c.take_over.ensures.others c.take_over.ensures.stays in
@@ -27,7 +27,7 @@ start-requires-clause-fits g c =
 pub returns-clause-standing : goal.returns-clause-standing
 returns-clause-standing g c =
     let joins : Joins c.args.instance.number c.args.instance.group c.args.tables.now.instances c.args.tables.now.sharing c.args.tables.now.groups c.args.spaces.now c.take_over.new.self
-    (record { kind = c.args.instance.kind; params = c.args.instance.params; table = c.args.instance.table; own = c.args.own }) c.args.shared c.args.sharers =
+    (record { kind = c.args.instance.kind; params = c.args.instance.params.now; table = c.args.instance.table; own = c.args.own }) c.args.shared c.args.sharers =
     joining g.M.Ialg.law.meaning.same (λ a b told. g.met.M.Ialg.same a b (g.met.M.Ialg.compared a b ∙ told)) (λ a. sym (g.met.M.Ialg.compared a a) ∙ g.met.M.Eq.laws.refl a)
     c.args.instance.number c.args.instance.group _ _ _ c.args.spaces.now c.take_over.new.self _ c.args.shared c.args.sharers _ c.listed-list.ensures c.requires.ok c.requires.empty c.requires.grown c.requires.sharers c.requires.placed
     c.take_over.ensures.taken c.take_over.ensures.left c.take_over.ensures.others c.take_over.ensures.stays in
@@ -38,7 +38,7 @@ returns-clause-standing g c =
 pub returns-clause-newborn : goal.returns-clause-newborn
 returns-clause-newborn g c =
     let joins : Joins c.args.instance.number c.args.instance.group c.args.tables.now.instances c.args.tables.now.sharing c.args.tables.now.groups c.args.spaces.now c.take_over.new.self
-    (record { kind = c.args.instance.kind; params = c.args.instance.params; table = c.args.instance.table; own = c.args.own }) c.args.shared c.args.sharers =
+    (record { kind = c.args.instance.kind; params = c.args.instance.params.now; table = c.args.instance.table; own = c.args.own }) c.args.shared c.args.sharers =
     joining g.M.Ialg.law.meaning.same (λ a b told. g.met.M.Ialg.same a b (g.met.M.Ialg.compared a b ∙ told)) (λ a. sym (g.met.M.Ialg.compared a a) ∙ g.met.M.Eq.laws.refl a)
     c.args.instance.number c.args.instance.group _ _ _ c.args.spaces.now c.take_over.new.self _ c.args.shared c.args.sharers _ c.listed-list.ensures c.requires.ok c.requires.empty c.requires.grown c.requires.sharers c.requires.placed
     c.take_over.ensures.taken c.take_over.ensures.left c.take_over.ensures.others c.take_over.ensures.stays in

@@ -76,12 +76,12 @@ returns-clause-others g c j apart =
 pub place-requires-clause-sharers : goal.place-requires-clause-sharers
 place-requires-clause-sharers g c k j is =
     sharable g.M.Ialg.law.meaning.same (λ a b told. g.met.M.Ialg.same a b (g.met.M.Ialg.compared a b ∙ told)) (λ a. sym (g.met.M.Ialg.compared a a) ∙ g.met.M.Eq.laws.refl a)
-    c.args.tables.now.instances c.args.tables.now.sharing c.args.tables.now.groups c.requires.ok (record { kind = c.args.instance.kind; params = c.args.instance.params; table = c.args.instance.table; own = no_pieces })
+    c.args.tables.now.instances c.args.tables.now.sharing c.args.tables.now.groups c.requires.ok (record { kind = c.args.instance.kind; params = c.args.instance.params.now; table = c.args.instance.table; own = no_pieces })
     c.find_sharers-sharers.result (rw (← c.tables.view_is) c.find_sharers-sharers.ensures) k j (sym (c.listed-list.ensures k) ∙ is)
 
 pub begin-requires-clause-sharers : goal.begin-requires-clause-sharers
 begin-requires-clause-sharers g c =
-    sharers_stay g.M.Ialg.law.meaning.same c.args.tables.now.instances c.grow.new.tables.instances (asked c.args.instance.kind c.args.instance.params.items c.args.instance.table) c.find_sharers-sharers.result c.grow.ensures.same (rw (← c.tables.view_is) c.find_sharers-sharers.ensures)
+    sharers_stay g.M.Ialg.law.meaning.same c.args.tables.now.instances c.grow.new.tables.instances (asked c.args.instance.kind c.args.instance.params.now.items c.args.instance.table) c.find_sharers-sharers.result c.grow.ensures.same (rw (← c.tables.view_is) c.find_sharers-sharers.ensures)
 
 pub begin-requires-clause-placed : goal.begin-requires-clause-placed
 begin-requires-clause-placed g c =
@@ -94,9 +94,9 @@ begin-requires-clause-placed g c =
 
 pub returns-clause-exact : goal.returns-clause-exact
 returns-clause-exact g c =
-    let at_sharers : (k : ℕ) → sharer_at c.find_sharers-sharers.result k ≡ sharer_of g.M.Ialg.law.meaning.same (λ j. asked_by (slot_at c.args.tables.now.instances j)) (asked c.args.instance.kind c.args.instance.params.items c.args.instance.table) k = rw (← c.tables.view_is) c.find_sharers-sharers.ensures in
+    let at_sharers : (k : ℕ) → sharer_at c.find_sharers-sharers.result k ≡ sharer_of g.M.Ialg.law.meaning.same (λ j. asked_by (slot_at c.args.tables.now.instances j)) (asked c.args.instance.kind c.args.instance.params.now.items c.args.instance.table) k = rw (← c.tables.view_is) c.find_sharers-sharers.ensures in
     let sharers : ℕ → Option ℕ = λ k. listed_at c.listed-list.result k in
-    let asked_for : ℕ → Option ℕ = λ k. sharer_of g.M.Ialg.law.meaning.same (λ j. asked_by (slot_at c.args.tables.now.instances j)) (asked c.args.instance.kind c.args.instance.params.items c.args.instance.table) k in
+    let asked_for : ℕ → Option ℕ = λ k. sharer_of g.M.Ialg.law.meaning.same (λ j. asked_by (slot_at c.args.tables.now.instances j)) (asked c.args.instance.kind c.args.instance.params.now.items c.args.instance.table) k in
     let same : ◌≡◌ {A = ℕ → Option ℕ} sharers asked_for = λ t k. (c.listed-list.ensures k ∙ at_sharers k) t in
     let made : created_map (sizes_of c.args.spaces.now) (map_of c.args.spaces.now) c.args.instance.number c.args.instance.group c.args.instance.table sharers
     ≡ Ok (renamed (taken_over sharers c.args.instance.number) (without_pieces (map_of c.place.new.spaces) (replaced_pieces c.in-Ok.placed.blocks (group_at c.args.tables.now.groups c.args.instance.group)))) =
@@ -122,7 +122,7 @@ returns-clause-activity g c k =
 pub returns-clause-keeps : goal.returns-clause-keeps
 returns-clause-keeps g c histories lawful before =
     c.begin.ensures.keeps c.args.poison histories lawful
-    (are_new c.args.poison (g.M.Ialg.law.meaning.fill c.args.instance.kind c.args.instance.params.items) c.args.instance.table c.in-Ok.placed.own c.in-Ok.placed.shared c.in-Ok.ensures.poison.own (λ k. inl (c.in-Ok.ensures.poison.shared k)))
+    (are_new c.args.poison (g.M.Ialg.law.meaning.fill c.args.instance.kind c.args.instance.params.now.items) c.args.instance.table c.in-Ok.placed.own c.in-Ok.placed.shared c.in-Ok.ensures.poison.own (λ k. inl (c.in-Ok.ensures.poison.shared k)))
     (c.grow.ensures.keeps histories before)
 
 pub returns-clause-stays : goal.returns-clause-stays
@@ -133,9 +133,9 @@ returns-clause-stays g c space = record {
 
 pub returns-in-Err-clause-exact : goal.returns-in-Err-clause-exact
 returns-in-Err-clause-exact g c =
-    let at_sharers : (k : ℕ) → sharer_at c.find_sharers-sharers.result k ≡ sharer_of g.M.Ialg.law.meaning.same (λ j. asked_by (slot_at c.args.tables.now.instances j)) (asked c.args.instance.kind c.args.instance.params.items c.args.instance.table) k = rw (← c.tables.view_is) c.find_sharers-sharers.ensures in
+    let at_sharers : (k : ℕ) → sharer_at c.find_sharers-sharers.result k ≡ sharer_of g.M.Ialg.law.meaning.same (λ j. asked_by (slot_at c.args.tables.now.instances j)) (asked c.args.instance.kind c.args.instance.params.now.items c.args.instance.table) k = rw (← c.tables.view_is) c.find_sharers-sharers.ensures in
     let sharers : ℕ → Option ℕ = λ k. listed_at c.listed-list.result k in
-    let asked_for : ℕ → Option ℕ = λ k. sharer_of g.M.Ialg.law.meaning.same (λ j. asked_by (slot_at c.args.tables.now.instances j)) (asked c.args.instance.kind c.args.instance.params.items c.args.instance.table) k in
+    let asked_for : ℕ → Option ℕ = λ k. sharer_of g.M.Ialg.law.meaning.same (λ j. asked_by (slot_at c.args.tables.now.instances j)) (asked c.args.instance.kind c.args.instance.params.now.items c.args.instance.table) k in
     let same : ◌≡◌ {A = ℕ → Option ℕ} sharers asked_for = λ t k. (c.listed-list.ensures k ∙ at_sharers k) t in
     ap (created_map (sizes_of c.args.spaces.now) (map_of c.args.spaces.now) c.args.instance.number c.args.instance.group c.args.instance.table) (sym same)
     ∙ c.creations.ensures.refused (sizes_of c.args.spaces.now) (map_of c.args.spaces.now) c.args.instance.number c.args.instance.group c.args.instance.table sharers c.in-Err.space c.in-Err.ensures.exact

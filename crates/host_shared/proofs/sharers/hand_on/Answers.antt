@@ -1,7 +1,7 @@
 use Rattle.std.proofs.Common.{sym, ◌∙◌, arith}
 use Rattle.host_shared.specs.Sharing.{left_with}
 use Rattle.host_shared.proofs.Stands.{four_pieces}
-use Rattle.host_shared.proofs.Handing.{held_column, HandsOn, left1, left2, left3, all_handed, all_gone, once_handed}
+use Rattle.host_shared.proofs.Handing.{held_column, next_column, HandsOn, left1, left2, left3, all_handed, all_gone, once_handed}
 use Rattle.host_shared.proofs.sharers.hand_on.Goals as goal
 
 pub hand_record-requires-clause-held : goal.hand_record-requires-clause-held
@@ -20,6 +20,26 @@ pub hand_record-requires-4-clause-held : goal.hand_record-requires-4-clause-held
 hand_record-requires-4-clause-held c =
     held_column c.args.sharing.now.items c.hand_record-3.new.sharing.items c.args.i 3
     (λ j. c.hand_record-3.ensures.beside j 3 (omega arith) ∙ c.hand_record-2.ensures.beside j 3 (omega arith) ∙ c.hand_record.ensures.beside j 3 (omega arith)) (λ j. c.requires.owners j 3 c.args.i)
+
+pub hand_record-requires-clause-next : goal.hand_record-requires-clause-next
+hand_record-requires-clause-next c = c.requires.next 0
+
+pub hand_record-requires-2-clause-next : goal.hand_record-requires-2-clause-next
+hand_record-requires-2-clause-next c =
+    c.requires.next 1
+    ∙ next_column c.args.sharing.now.items c.hand_record.new.sharing.items c.args.i 1 (c.requires.count ∙ sym c.hand_record.ensures.count) (λ j. sym (c.hand_record.ensures.beside j 1 (omega arith)))
+
+pub hand_record-requires-3-clause-next : goal.hand_record-requires-3-clause-next
+hand_record-requires-3-clause-next c =
+    c.requires.next 2
+    ∙ next_column c.args.sharing.now.items c.hand_record-2.new.sharing.items c.args.i 2 (c.requires.count ∙ sym c.hand_record-2.ensures.count)
+    (λ j. sym (c.hand_record-2.ensures.beside j 2 (omega arith) ∙ c.hand_record.ensures.beside j 2 (omega arith)))
+
+pub hand_record-requires-4-clause-next : goal.hand_record-requires-4-clause-next
+hand_record-requires-4-clause-next c =
+    c.requires.next 3
+    ∙ next_column c.args.sharing.now.items c.hand_record-3.new.sharing.items c.args.i 3 (c.requires.count ∙ sym c.hand_record-3.ensures.count)
+    (λ j. sym (c.hand_record-3.ensures.beside j 3 (omega arith) ∙ c.hand_record-2.ensures.beside j 3 (omega arith) ∙ c.hand_record.ensures.beside j 3 (omega arith)))
 
 pub returns : goal.returns
 returns c =

@@ -8,13 +8,13 @@ use Rattle.host_shared.proofs.sharers.hand_piece.Goals as goal
 
 pub put_location-requires-clause-number : goal.put_location-requires-clause-number
 put_location-requires-clause-number c =
-    let next : next_sharer c.args.sharing.now.items c.args.i c.args.k ≡ Some c.in-Some.next = sym c.find_next_sharer-next.ensures ∙ c.in-Some.is in
+    let next : next_sharer c.args.sharing.now.items c.args.i c.args.k ≡ Some c.in-Some.next = sym c.requires.next ∙ c.in-Some.is in
     let inside = with_inside c.args.sharing.now.items c.in-Some.next c.args.k c.args.i (next_is c.args.sharing.now.items c.args.i c.args.k c.in-Some.next next) in
     omega (arith, inside, c.requires.count, c.point_all.ensures.count)
 
 pub put_location-requires-clause-none : goal.put_location-requires-clause-none
 put_location-requires-clause-none c =
-    let next : next_sharer c.args.sharing.now.items c.args.i c.args.k ≡ Some c.in-Some.next = sym c.find_next_sharer-next.ensures ∙ c.in-Some.is in
+    let next : next_sharer c.args.sharing.now.items c.args.i c.args.k ≡ Some c.in-Some.next = sym c.requires.next ∙ c.in-Some.is in
     let old = c.args.sharing.now.items in
     let left = c.replace_location-location.new.sharing.items in
     let there = replaced_there old left c.args.i c.args.k (Here None) c.replace_location-location.ensures.new in
@@ -23,7 +23,7 @@ put_location-requires-clause-none c =
 
 pub returns-in-Some-clause-handed : goal.returns-in-Some-clause-handed
 returns-in-Some-clause-handed c =
-    let next : next_sharer c.args.sharing.now.items c.args.i c.args.k ≡ Some c.in-Some.next = sym c.find_next_sharer-next.ensures ∙ c.in-Some.is in
+    let next : next_sharer c.args.sharing.now.items c.args.i c.args.k ≡ Some c.in-Some.next = sym c.requires.next ∙ c.in-Some.is in
     let old = c.args.sharing.now.items in
     let left = c.replace_location-location.new.sharing.items in
     let others = c.point_all.new.sharing.items in
@@ -38,7 +38,7 @@ returns-in-Some-clause-handed c =
 
 pub returns-in-Some-clause-beside : goal.returns-in-Some-clause-beside
 returns-in-Some-clause-beside c j l apart =
-    let next : next_sharer c.args.sharing.now.items c.args.i c.args.k ≡ Some c.in-Some.next = sym c.find_next_sharer-next.ensures ∙ c.in-Some.is in
+    let next : next_sharer c.args.sharing.now.items c.args.i c.args.k ≡ Some c.in-Some.next = sym c.requires.next ∙ c.in-Some.is in
     let old = c.args.sharing.now.items in
     let others = c.point_all.new.sharing.items in
     let least = with_inside old c.in-Some.next c.args.k c.args.i (next_is old c.args.i c.args.k c.in-Some.next next) in
@@ -51,7 +51,7 @@ pub returns-in-None-clause-handed : goal.returns-in-None-clause-handed
 returns-in-None-clause-handed c =
     let old = c.args.sharing.now.items in
     let left = c.replace_location-location.new.sharing.items in
-    handed_none old left c.args.i c.args.k (sym c.find_next_sharer-next.ensures ∙ c.in-None.is)
+    handed_none old left c.args.i c.args.k (sym c.requires.next ∙ c.in-None.is)
     (replaced_there old left c.args.i c.args.k (Here None) c.replace_location-location.ensures.new)
     (replaced_here old left c.args.i c.args.k (Here None) c.replace_location-location.ensures.new (omega (arith, c.requires.number, c.requires.count)) (omega (arith, c.requires.record)))
 

@@ -1,12 +1,13 @@
-use Rattle.std.proofs.Common.{sym}
-use Rattle.std.proofs.lemmas.Option.{none-some}
-use Rattle.host_table.proofs.life.end_idle.Goals as goal
+use Rattle.std.proofs.Common.{sym, ◌∙◌}
+use Rattle.scratch_group.proofs.Filters.{none_once}
+use Rattle.host_shared.specs.Locations.{shared_at}
+use Rattle.host_shared.proofs.Bare.{seen_again}
+use Rattle.host_table.proofs.Lendings.{fits_without}
+use Rattle.host_table.proofs.life.free_idle.Goals as goal
 
-pub unreachable-requires : goal.unreachable-requires
-unreachable-requires g c = none-some 0 (sym (rw c.in-Running.is at (c.requires.idle 0)))
+pub free_lent-own-requires : goal.free_lent-own-requires
+free_lent-own-requires g c =
+    record { fits = rw c.none-none.ensures (fits_without c.args.idle.now.instance.table (none_once c.args.idle.now.instance.table c.is_filter.ensures.table (sym c.is_filter.ensures.exact ∙ c.if-is_filter.true)) c.args.idle.now.instance.own (shared_at c.args.sharing.now.items c.args.i) c.args.group.now c.requires.lent.fits) }
 
-pub returns-clause-once : goal.returns-clause-once
-returns-clause-once g c = rw c.in-Idling.is c.freed-told.ensures.once
-
-pub returns-clause-own : goal.returns-clause-own
-returns-clause-own g c = rw (c.in-Idling.is, c.finish.ensures) c.freed-told.ensures.same.own
+pub returns-then-is_filter-clause-seen : goal.returns-then-is_filter-clause-seen
+returns-then-is_filter-clause-seen g c = sym (seen_again c.args.sharing.now.items c.args.i c.requires.lent.owners)

@@ -32,7 +32,7 @@ pub join-requires-clause-sharers : goal.join-requires-clause-sharers
 join-requires-clause-sharers g c k =
     can_join g.M.Ialg.law.meaning.same (λ a b told. g.met.M.Ialg.same a b (g.met.M.Ialg.compared a b ∙ told)) (λ a. sym (g.met.M.Ialg.compared a a) ∙ g.met.M.Eq.laws.refl a)
     c.tables.inside.instances.items (ok_in c.tables.view_is c.requires.ok).slot_count c.tables.inside.sharing.items c.tables.inside.groups.items (ok_in c.tables.view_is c.requires.ok) (rw (← c.tables.view_is) at c.requires.least)
-    (record { kind = c.args.instance.kind; params = c.args.instance.params; table = c.args.instance.table; own = c.args.own }) c.records-records.ensures.table
+    (record { kind = c.args.instance.kind; params = c.args.instance.params.now; table = c.args.instance.table; own = c.args.own }) c.records-records.ensures.table
     k (sharer_at c.args.sharers k) (piece_at c.args.shared k) ((rw (← c.tables.view_is) at c.requires.sharers) k) (c.requires.placed k)
 
 pub borrow_pieces-seen-requires-clause-owners : goal.borrow_pieces-seen-requires-clause-owners
@@ -49,7 +49,7 @@ init-idle-requires g c =
     let group_is = read_ok_group _ _ _ (ok_in c.tables.view_is c.requires.ok) c.args.instance.group c.requires.group _ c.index.ensures in
     record {
       fits =
-          room_at (record { kind = c.args.instance.kind; params = c.args.instance.params; table = c.args.instance.table; own = c.args.own }) _ _ _ _
+          room_at (record { kind = c.args.instance.kind; params = c.args.instance.params.now; table = c.args.instance.table; own = c.args.own }) _ _ _ _
           (c.borrow_pieces-seen.ensures.pieces ∙ c.join.ensures.pieces) group_is (rw (← c.tables.view_is) at c.requires.fits);
     }
 
@@ -82,13 +82,13 @@ module _ (g : Over) (c : After-put_in g) where
   can k =
       can_join g.M.Ialg.law.meaning.same (λ x y told. g.met.M.Ialg.same x y (g.met.M.Ialg.compared x y ∙ told)) (λ x. sym (g.met.M.Ialg.compared x x) ∙ g.met.M.Eq.laws.refl x)
       c.tables.inside.instances.items (ok_in c.tables.view_is c.requires.ok).slot_count c.tables.inside.sharing.items c.tables.inside.groups.items (ok_in c.tables.view_is c.requires.ok) (rw (← c.tables.view_is) at c.requires.least)
-      (record { kind = c.args.instance.kind; params = c.args.instance.params; table = c.args.instance.table; own = c.args.own }) c.records-records.ensures.table
+      (record { kind = c.args.instance.kind; params = c.args.instance.params.now; table = c.args.instance.table; own = c.args.own }) c.records-records.ensures.table
       k (sharer_at c.args.sharers k) (piece_at c.args.shared k) ((rw (← c.tables.view_is) at c.requires.sharers) k) (c.requires.placed k)
 
   tells : (k : ℕ) → TellsSharer c.tables.inside.instances.items k c.init-idle.result.instance (sharer_at c.args.sharers k)
   tells k =
       tells_sharer_as g.M.Ialg.law.meaning.same (λ x y told. g.met.M.Ialg.same x y (g.met.M.Ialg.compared x y ∙ told)) (λ x. sym (g.met.M.Ialg.compared x x) ∙ g.met.M.Eq.laws.refl x)
-      c.tables.inside.instances.items (ok_in c.tables.view_is c.requires.ok).slot_count (record { kind = c.args.instance.kind; params = c.args.instance.params; table = c.args.instance.table; own = c.args.own }) c.init-idle.result.instance
+      c.tables.inside.instances.items (ok_in c.tables.view_is c.requires.ok).slot_count (record { kind = c.args.instance.kind; params = c.args.instance.params.now; table = c.args.instance.table; own = c.args.own }) c.init-idle.result.instance
       c.init-idle.ensures.same.kind c.init-idle.ensures.same.params table_same k (sharer_at c.args.sharers k) ((rw (← c.tables.view_is) at c.requires.sharers) k)
 
   begins : Begins c.tables.inside.instances.items c.tables.inside.sharing.items c.tables.inside.groups.items c.args.instance.number (record { group = c.args.instance.group; inst = Idling c.init-idle.result }) c.args.sharers c.args.shared c.join.new.sharing.items
@@ -137,7 +137,7 @@ pub returns-clause-started : goal.returns-clause-started
 returns-clause-started g c =
     let group_is = read_ok_group _ _ _ (ok_in c.tables.view_is c.requires.ok) c.args.instance.group c.requires.group _ c.index.ensures in
     rw (← c.tables.view_is, c.put_in.ensures.filled.there)
-    (refl, started_at (record { kind = c.args.instance.kind; params = c.args.instance.params; table = c.args.instance.table; own = c.args.own }) c.init-idle.result.instance _ _ _ _ (seen g c) group_is c.init-idle.ensures.same)
+    (refl, started_at (record { kind = c.args.instance.kind; params = c.args.instance.params.now; table = c.args.instance.table; own = c.args.own }) c.init-idle.result.instance _ _ _ _ (seen g c) group_is c.init-idle.ensures.same)
 
 pub returns-clause-pieces : goal.returns-clause-pieces
 returns-clause-pieces g c =
@@ -150,10 +150,10 @@ pub returns-clause-keeps : goal.returns-clause-keeps
 returns-clause-keeps g c = rw (← c.tables.view_is, c.put_in.ensures.filled.is) (λ w histories table new keeps.
     let kept : IdleKeeps g.M.Ialg.law c.init-idle.result.instance w c.init-idle.new.shared [] =
     (λ lawful.
-    let before : IsTrue (g.M.Ialg.law.meaning.lawful c.args.instance.kind c.args.instance.params.items w) = rw (c.init-idle.ensures.same.kind, c.init-idle.ensures.same.params) at lawful in
+    let before : IsTrue (g.M.Ialg.law.meaning.lawful c.args.instance.kind c.args.instance.params.now.items w) = rw (c.init-idle.ensures.same.kind, c.init-idle.ensures.same.params) at lawful in
     c.init-idle.ensures.keeps w (table before)
-    (new_at g.M.Ialg.law.meaning w (record { kind = c.args.instance.kind; params = c.args.instance.params; table = c.args.instance.table; own = c.args.own }) _ _ (seen g c)
-    (new_start (begins g c) g.M.Ialg.law g.met.M.Ialg.idle_fill g.met.M.Ialg.active_fill w histories keeps (record { kind = c.args.instance.kind; params = c.args.instance.params; table = c.args.instance.table; own = c.args.own })
+    (new_at g.M.Ialg.law.meaning w (record { kind = c.args.instance.kind; params = c.args.instance.params.now; table = c.args.instance.table; own = c.args.own }) _ _ (seen g c)
+    (new_start (begins g c) g.M.Ialg.law g.met.M.Ialg.idle_fill g.met.M.Ialg.active_fill w histories keeps (record { kind = c.args.instance.kind; params = c.args.instance.params.now; table = c.args.instance.table; own = c.args.own })
     c.init-idle.ensures.same.kind c.init-idle.ensures.same.params (table_same g c) before new))
     lawful) in
     keeps_by_still EachIsHoused _ _ _ c.args.instance.number (Some (record { group = c.args.instance.group; inst = Idling c.init-idle.result })) c.init-idle.new.shared (ok_in c.tables.view_is c.requires.ok) c.requires.number (ap slot_active_in (rw (← c.tables.view_is) at c.requires.empty)) refl

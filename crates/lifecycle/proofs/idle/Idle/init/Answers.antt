@@ -19,9 +19,10 @@ returns-clause-fits g c =
     fits_stay c.rebase.new.table c.args.own c.lend_lasting.new.own c.args.shared.now c.lend_lasting.new.shared c.args.group.now c.args.group.now c.lend_lasting.ensures.own c.lend_lasting.ensures.shared (same_group c.args.group.now) fits
 
 pub returns-clause-keeps : goal.returns-clause-keeps
-returns-clause-keeps g c w is new lawful =
+returns-clause-keeps g c w is new =
     let fits = fits_settled c.args.table c.rebase.new.table c.args.own c.args.own c.args.shared.now c.args.group.now refl c.rebase.ensures c.requires.fits in
     let same = unplaced-placed c.args.table c.rebase.new.table c.args.own c.args.shared.now c.args.group.now c.rebase.ensures in
-    started g.M.Ialg.law c.args.kind c.rebase.new.table c.args.own c.lend_lasting.new.own c.args.shared.now c.lend_lasting.new.shared c.args.group.now c.args.params.items
+    rw (c.copied.ensures, c.as_slice.ensures.value) (λ lawful.
+    started g.M.Ialg.law c.args.kind c.rebase.new.table c.args.own c.lend_lasting.new.own c.args.shared.now c.lend_lasting.new.shared c.args.group.now c.args.params.now.items
     fits c.lend_lasting.ensures.done w lawful (is ∙ ap Some same)
-    (are_new-same w (g.M.Ialg.law.meaning.fill c.args.kind c.args.params.items) c.args.table c.rebase.new.table c.args.own c.args.shared.now (sym same) new)
+    (are_new-same w (g.M.Ialg.law.meaning.fill c.args.kind c.args.params.now.items) c.args.table c.rebase.new.table c.args.own c.args.shared.now (sym same) new))
