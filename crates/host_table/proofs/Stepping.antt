@@ -1,5 +1,5 @@
 -- What a call of the tables does, put together of its parts.
-use Rattle.std.proofs.Common.{◌≡◌, ℕ, ℤ, inl, inr, true, false, List, Option, Some, None, set, refl, sym, ◌∙◌, ap, subst}
+use Rattle.std.proofs.Common.{◌≡◌, ℕ, ℤ, inl, inr, true, false, List, Option, Some, None, set, refl, sym, ◌∙◌, subst}
 use Rattle.std.specs.Prelude.{IsSome}
 use Rattle.std.proofs.lemmas.Bool.Decides.{eqb_tells}
 use Rattle.mem_rec.specs.declared.Space.{Space}

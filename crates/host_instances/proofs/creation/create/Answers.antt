@@ -1,12 +1,8 @@
-use Rattle.std.proofs.Common.{◌≡◌, ◌<◌, ℤ, List, [], Option, Some, None, Ok, Err, true, is_some, rules, sym, ◌∙◌, subst, arith}
-use Rattle.host_map.specs.Creation.{created_map}
-use Rattle.host_spaces.specs.MemoryMap.{map_of, sizes_of}
-use Rattle.host_map.specs.Sharers.{asked, sharer_of}
-use Rattle.host_table.specs.Sharers.{asked_by}
+use Rattle.std.proofs.Common.{◌≡◌, ◌<◌, ℤ, [], Option, Some, None, true, is_some, rules, sym, subst, arith}
+use Rattle.host_spaces.specs.MemoryMap.{map_of}
 use Rattle.host_table.specs.Table.{slot_at}
 use Rattle.host_table.specs.Keeps.{Keeps, with_history}
 use Rattle.host_spec.specs.Steps.{created, newborn}
-use Rattle.host_instances.specs.Started.{IsNewborn}
 use Rattle.host_moves.specs.Kept.{history_of}
 use Rattle.host_instances.proofs.CreationsKept.{asks, created_kept, is_free, is_taken, map_is}
 use Rattle.host_instances.proofs.creation.create.Goals as goal

@@ -5,7 +5,7 @@ use Rattle.lifecycle.specs.States.{SameOnce}
 use Rattle.mem_rec.specs.declared.TheConstants.{GROUPS, INSTANCES}
 use Rattle.host_shared.specs.Owners.{AllHaveOwners, SameLocations}
 use Rattle.host_shared.specs.Sharing.{left_with}
-use Rattle.host_table.specs.Table.{slot_at, group_of, own_of, instance_of, AreHeld, AreBare}
+use Rattle.host_table.specs.Table.{slot_at, group_of, instance_of, AreHeld, AreBare}
 use Rattle.host_shared.specs.Locations.{shared_at, no_pieces}
 use Rattle.host_table.proofs.Changes.{slot_in, owners_of_slot, read_ok_group, fits_in_slot, own_stays, pieces_then, locations_then}
 use Rattle.host_table.proofs.Stepping.{steps_in, there_in}
