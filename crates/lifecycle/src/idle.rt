@@ -150,6 +150,9 @@ impl<M: Ialg> Idle<M> {
     }
 
     /// The records that the instance holds, as its kind answers.
+    ///
+    /// Inlined, so that of an instance without write-once records the compiler drops the empty `Pieces`.
+    #[inline(always)]
     pub fn freed(&mut self, shared: &mut Pieces, group: &Group) -> MemTab
         requires fits { Fits self.old.instance.table self.old.instance.own shared.old group.now }
         ensures same { SameInstance self.old.instance self.new.instance }
