@@ -1,6 +1,7 @@
 //! One space.
 ghost use Rattle.std.specs.Prelude.{◌≡◌, ◌≢◌, ℕ, ◌+◌, ◌-◌, ◌<◌, ◌≤◌, ◌^◌, [], ◌∷◌, length, min, Some, None, IsSome, Contains, slice_index_or, IfOk, IfErr, IfSome, IfNone, IsErrOf};
 ghost use Rattle.std.specs.Option.{option_map};
+ghost use Rattle.std.specs.Vec.{vec_capacity};
 ghost use Rattle.relocate.specs.Places.{least_place, placed_size, IsAlignment, IsSpaceSize};
 ghost use Rattle.space_heap.specs.Maps.{range_of};
 ghost use Rattle.relocate.specs.declared.limits.TheConstants.{GREATEST_NEED};
@@ -25,35 +26,45 @@ use std::marker::Model;
 /// be copied, and must be given back by `close`.
 pub struct SpaceBlocks<A: Allocator = Global> {
     heap: Heap<A>,
-    blocks: ArrayVec<Placed, SPACE_BLOCKS>,
+    // Its room is asked for once, and lies apart: so a space is passed on without a copy of its blocks.
+    blocks: Vec<Placed, A>,
 }
 
 impl<A: Allocator> Model for SpaceBlocks<A> {
+    ghost use Rattle.std.specs.Prelude.{◌≡◌};
+    ghost use Rattle.std.specs.Vec.{vec_capacity};
+    ghost use Rattle.host_map.specs.declared.TheConstants.{SPACE_BLOCKS};
     ghost use Rattle.host_spaces.specs.Spaces.{AreKept, SpaceState};
 
     ghost Value = { SpaceState };
 
     ghost view = { λ s. record { region = s.heap.region; slid = s.heap.slid; blocks = s.blocks.items } };
 
-    ghost invariant = { λ s. AreKept s.heap s.blocks.items };
+    ghost invariant = { λ s. AreKept s.heap s.blocks.items × (vec_capacity s.blocks ≡ SPACE_BLOCKS) };
 }
 
-impl<A: Allocator> SpaceBlocks<A> {
-    /// A space of that many words, all of them free. The one request for memory of its life is made here.
+impl<A: Allocator + Copy> SpaceBlocks<A> {
+    /// A space of that many words, all of them free. Both requests for memory of its life are made here, for its words and for its blocks.
     pub fn new(alloc: A, words: u32) -> Result<SpaceBlocks<A>, HeapError>
         ensures bad_size { ¬ IsSpaceSize words → IsErrOf result HeapError.BadSize }
         ensures memory { IsSpaceSize words → IfErr result (λ e. e ≡ HeapError.Memory) }
         ensures space { IfOk result (λ s. (s.region.size ≡ words) × (s.slid ≡ 0) × (s.blocks ≡ [])) }
     {
-        match Heap::new(alloc, words) {
-            Ok(heap) => Ok(SpaceBlocks {
-                heap,
-                blocks: ArrayVec::new(),
-            }),
-            Err(refusal) => Err(refusal),
+        let heap = match Heap::new(alloc, words) {
+            Ok(heap) => heap,
+            Err(refusal) => return Err(refusal),
+        };
+        match Vec::with_capacity(alloc, SPACE_BLOCKS) {
+            Ok(blocks) => Ok(SpaceBlocks { heap, blocks }),
+            Err(_refused) => {
+                heap.close();
+                Err(HeapError::Memory)
+            }
         }
     }
+}
 
+impl<A: Allocator> SpaceBlocks<A> {
     /// The space goes back to the allocator. All blocks were taken out.
     pub fn close(self)
         requires none { self.blocks ≡ [] }
@@ -187,13 +198,14 @@ impl SpaceBlocks {
 }
 
 // One block more, in place order.
-fn enter(blocks: &mut ArrayVec<Placed, SPACE_BLOCKS>, block: Placed)
-    requires room { length blocks.old.items < SPACE_BLOCKS }
+fn enter(blocks: &mut Vec<Placed>, block: Placed)
+    requires room { length blocks.old.items < vec_capacity blocks.old }
     requires order { AreSpots (spots_of blocks.old.items) }
     ensures items { blocks.new.items ≡ with_block block blocks.old.items }
+    ensures capacity { vec_capacity blocks.new ≡ vec_capacity blocks.old }
 {
     let index = count_before(blocks.as_slice(), block.place);
-    blocks.insert(index, block);
+    let _there_is_room = blocks.insert(index, block);
 }
 
 // How many blocks begin before the place.
@@ -266,9 +278,10 @@ fn align_of(blocks: &[Placed], index: usize) -> u32
 }
 
 // A block begins at this place from now on.
-fn put_at(blocks: &mut ArrayVec<Placed, SPACE_BLOCKS>, index: usize, place: u32)
+fn put_at(blocks: &mut Vec<Placed>, index: usize, place: u32)
     requires within { index < length blocks.old.items }
     ensures items { blocks.new.items ≡ moved_to blocks.old.items index place }
+    ensures capacity { vec_capacity blocks.new ≡ vec_capacity blocks.old }
 {
     let mut block = blocks.as_slice()[index];
     block.place = place;

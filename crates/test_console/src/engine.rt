@@ -469,8 +469,8 @@ fn ask(alloc: Global, sizes: Sizes, refused: u64) -> Asked {
 fn each_request_is_refused_in_turn(rt: HostRuntime) {
     let granted = ask(rt.alloc(), FULL, u64::MAX);
     assert!(rt; granted.answer.is_ok());
-    assert!(rt; (granted.requests, granted.returned) == (6, 6));
-    for number in 0..6 {
+    assert!(rt; (granted.requests, granted.returned) == (9, 9));
+    for number in 0..9 {
         let refused = ask(rt.alloc(), FULL, number);
         assert!(rt; refused.answer == Err(Fault::Memory));
         assert!(rt; (refused.requests, refused.returned) == (number + 1, number));

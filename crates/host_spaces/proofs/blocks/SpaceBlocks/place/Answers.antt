@@ -18,14 +18,16 @@ items c =
 pub invariant_of-self-2 : goal.invariant_of-self-2
 invariant_of-self-2 c =
     let bs = c.self.inside.blocks.items in let p = c.in_ok-piece.piece in let told = c.in_ok-piece.ensures in
-    let place = least_place_multiple c.self.inside.heap.region.size (ranges bs) (placed_size c.args.words) c.args.align p.place (told.place (ranges bs) c.self.invariant.held) in
-    subst (λ (xs : List Placed). AreKept c.take.new.self xs) (sym (items c))
-    (kept_with c.self.inside.heap c.take.new.self told.stays.0 told.stays.1 bs c.self.invariant (block_of c.args.owner c.args.align p) c.requires.align place told.taken)
+    let place = least_place_multiple c.self.inside.heap.region.size (ranges bs) (placed_size c.args.words) c.args.align p.place (told.place (ranges bs) c.self.invariant.0.held) in (
+      subst (λ (xs : List Placed). AreKept c.take.new.self xs) (sym (items c))
+          (kept_with c.self.inside.heap c.take.new.self told.stays.0 told.stays.1 bs c.self.invariant.0 (block_of c.args.owner c.args.align p) c.requires.align place told.taken),
+      c.enter.ensures.capacity ∙ c.self.invariant.1,
+    )
 
 pub returns-clause-owned : goal.returns-clause-owned
 returns-clause-owned c =
     let bs = c.self.inside.blocks.items in let b = block_of c.args.owner c.args.align c.in_ok-piece.piece in
-    ap (λ xs. owned c.args.owner xs) (items c) ∙ owned_with 0 b bs (kept_sorted c.self.inside.heap bs c.self.invariant)
+    ap (λ xs. owned c.args.owner xs) (items c) ∙ owned_with 0 b bs (kept_sorted c.self.inside.heap bs c.self.invariant.0)
     ∙ ap (λ (v : SpaceState). with_block b (owned c.args.owner v.blocks)) c.self.view_is
 
 pub returns-clause-others : goal.returns-clause-others
@@ -37,5 +39,5 @@ pub returns-clause-back : goal.returns-clause-back
 returns-clause-back c =
     let bs = c.self.inside.blocks.items in let b = block_of c.args.owner c.args.align c.in_ok-piece.piece in
     ap (without_at b.place) (items c)
-    ∙ taken_back c.take.new.self bs b (subst (λ (xs : List Placed). AreKept c.take.new.self xs) (items c) (invariant_of-self-2 c))
+    ∙ taken_back c.take.new.self bs b (subst (λ (xs : List Placed). AreKept c.take.new.self xs) (items c) (invariant_of-self-2 c).0)
     ∙ ap (λ (v : SpaceState). v.blocks) c.self.view_is

@@ -14,15 +14,18 @@ use Rattle.host_spaces.proofs.blocks.SpaceBlocks.rename.Goals.{After-self-1}
 as_named : (bs ws : List Placed) (from to : Owner) → ws ≡ renamed_blocks (renaming from to) bs → refill (length bs) bs ws ≡ renamed_blocks (renaming from to) bs
 as_named bs ws from to is = all_kept bs ws (ap length is ∙ length-map bs (renamed_block (renaming from to))) ∙ is
 
-items : (c : After-self-1) → refill (length c.self.inside.blocks.items) c.self.inside.blocks.items c.rename_each.new.blocks ≡ renamed_blocks (renaming c.args.from c.args.to) c.self.inside.blocks.items
+items : (c : After-self-1) → refill c.self.inside.blocks.len c.self.inside.blocks.items c.rename_each.new.blocks ≡ renamed_blocks (renaming c.args.from c.args.to) c.self.inside.blocks.items
 items c =
-    as_named c.self.inside.blocks.items c.rename_each.new.blocks c.args.from c.args.to
+    ap (λ n. refill n c.self.inside.blocks.items c.rename_each.new.blocks) c.self.inside.blocks.ok.0
+    ∙ as_named c.self.inside.blocks.items c.rename_each.new.blocks c.args.from c.args.to
     (c.rename_each.ensures ∙ ap (renamed_blocks (renaming c.args.from c.args.to)) c.as_mut_slice.ensures.value)
 
 pub invariant_of-self : goal.invariant_of-self
-invariant_of-self c =
-    subst (λ (bs : List Placed). AreKept c.self.inside.heap bs) (sym (items c))
-    (kept_renamed (renaming c.args.from c.args.to) c.self.inside.heap c.self.inside.blocks.items c.self.invariant)
+invariant_of-self c = (
+  subst (λ (bs : List Placed). AreKept c.self.inside.heap bs) (sym (items c))
+      (kept_renamed (renaming c.args.from c.args.to) c.self.inside.heap c.self.inside.blocks.items c.self.invariant.0),
+  c.self.invariant.1,
+)
 
 pub returns-clause-blocks : goal.returns-clause-blocks
 returns-clause-blocks c = items c ∙ ap (λ (v : SpaceState). renamed_blocks (renaming c.args.from c.args.to) v.blocks) c.self.view_is

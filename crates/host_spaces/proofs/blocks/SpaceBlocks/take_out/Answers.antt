@@ -24,7 +24,7 @@ position-index-requires-clause-there c =
     stands_there bs c.as_slice.result.now owner c.args.piece c.place.result owns c.as_slice.ensures.value c.place.ensures.value
 
 pub position-index-requires-clause-order : goal.position-index-requires-clause-order
-position-index-requires-clause-order c = subst (λ (xs : List Placed). AreSpots (spots_of xs)) (sym c.as_slice.ensures.value) c.self.invariant.order
+position-index-requires-clause-order c = subst (λ (xs : List Placed). AreSpots (spots_of xs)) (sym c.as_slice.ensures.value) c.self.invariant.0.order
 
 pub give-requires-clause-block : goal.give-requires-clause-block
 give-requires-clause-block c =
@@ -33,7 +33,7 @@ give-requires-clause-block c =
     let lt : k < length bs = subst (λ (xs : List Placed). k < length xs) c.as_slice.ensures.value c.position-index.ensures.within in
     let at : (d : Placed) → (get_or bs k d).place ≡ c.args.piece.place =
     λ d. subst (λ (xs : List Placed). (get_or xs k d).place ≡ c.place.result) c.as_slice.ensures.value (c.position-index.ensures.found d) ∙ c.place.ensures.value in
-    piece_block c.self.inside.heap bs c.self.invariant owner c.args.piece owns k lt at
+    piece_block c.self.inside.heap bs c.self.invariant.0 owner c.args.piece owns k lt at
 
 owns : (c : After-give) (owner : Owner) → Owns c.args.self.now.blocks owner c.args.piece → Owns c.self.inside.blocks.items owner c.args.piece
 owns c owner it = subst (λ (v : SpaceState). Owns v.blocks owner c.args.piece) (sym c.self.view_is) it
@@ -48,14 +48,16 @@ there c d =
 
 without : (c : After-give) → remove c.self.inside.blocks.items c.position-index.result ≡ without_at c.args.piece.place c.self.inside.blocks.items
 without c =
-    is_without c.self.inside.heap c.self.inside.blocks.items c.self.invariant c.requires.owner.0 c.args.piece (owns c c.requires.owner.0 c.requires.owner.1)
+    is_without c.self.inside.heap c.self.inside.blocks.items c.self.invariant.0 c.requires.owner.0 c.args.piece (owns c c.requires.owner.0 c.requires.owner.1)
     c.position-index.result (inside c) (there c)
 
 pub invariant_of-self : goal.invariant_of-self
-invariant_of-self c =
-    subst (λ (xs : List Placed). AreKept c.give.new.self xs) (sym c.remove-block.ensures.items)
-    (kept_given c.self.inside.heap c.self.inside.blocks.items c.self.invariant c.requires.owner.0 c.args.piece (owns c c.requires.owner.0 c.requires.owner.1)
-    c.position-index.result (inside c) (there c) c.give.new.self c.give.ensures.stays.0 c.give.ensures.stays.1 c.give.ensures.taken)
+invariant_of-self c = (
+  subst (λ (xs : List Placed). AreKept c.give.new.self xs) (sym c.remove-block.ensures.items)
+      (kept_given c.self.inside.heap c.self.inside.blocks.items c.self.invariant.0 c.requires.owner.0 c.args.piece (owns c c.requires.owner.0 c.requires.owner.1)
+      c.position-index.result (inside c) (there c) c.give.new.self c.give.ensures.stays.0 c.give.ensures.stays.1 c.give.ensures.taken),
+  c.remove-block.ensures.capacity ∙ c.self.invariant.1,
+)
 
 pub returns-clause-blocks : goal.returns-clause-blocks
 returns-clause-blocks c = c.remove-block.ensures.items ∙ without c ∙ ap (λ (v : SpaceState). without_at c.args.piece.place v.blocks) c.self.view_is
@@ -65,7 +67,7 @@ returns-clause-only c =
     let bs = c.self.inside.blocks.items in
     λ owner align one.
     c.remove-block.ensures.items
-    ∙ removed_only bs owner align c.args.piece c.position-index.result (inside c) (there c) (kept_sorted c.self.inside.heap bs c.self.invariant)
+    ∙ removed_only bs owner align c.args.piece c.position-index.result (inside c) (there c) (kept_sorted c.self.inside.heap bs c.self.invariant.0)
     (ap (λ (v : SpaceState). owned owner v.blocks) c.self.view_is ∙ one)
     ∙ ap (λ (v : SpaceState). disowned owner v.blocks) c.self.view_is
 
@@ -74,5 +76,5 @@ returns-clause-others c =
     let bs = c.self.inside.blocks.items in
     λ owner o it apart.
     ap (λ xs. owned o xs) c.remove-block.ensures.items
-    ∙ others_without 0 bs (kept_sorted c.self.inside.heap bs c.self.invariant) owner o c.args.piece (owns c owner it) c.position-index.result blank (inside c) (there c blank) apart
+    ∙ others_without 0 bs (kept_sorted c.self.inside.heap bs c.self.invariant.0) owner o c.args.piece (owns c owner it) c.position-index.result blank (inside c) (there c blank) apart
     ∙ ap (λ (v : SpaceState). owned o v.blocks) c.self.view_is
