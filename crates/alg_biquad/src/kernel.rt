@@ -11,9 +11,6 @@ use crate::{COEFFICIENTS, STATE_WORDS};
 use basic_op::{l_mac, l_msu, l_mult, l_shl, round};
 use ialg::{BLOCK_SAMPLES, Block};
 
-/// The samples of the shortest block that is run as long as no step saturates. What comes before such a run costs as much as the limits of a few samples.
-const LEAST_RUN: usize = 4;
-
 /// The two newest samples and the two newest outputs, in Q15.
 #[derive(Clone, Copy)]
 struct State {
@@ -91,8 +88,8 @@ fn plain_output(c: &[i16], state: &State, x: i16) -> Option<i16>
     Some(rounded_less(third, newer, older))
 }
 
-/// Runs samples as long as no step saturates: there are as many outputs. Gives the state after them. It is a call of its own, so that what the loop has is in registers.
-#[inline(never)]
+/// Runs samples as long as no step saturates, and none where a coefficient is the least word: there are as many outputs. Gives the state after
+/// them.
 fn run_plain(coefficients: &[i16], state: State, input: &[i16], out: &mut Block) -> State
     requires five { length coefficients.now ≡ COEFFICIENTS }
     requires within { length input.now ≤ BLOCK_SAMPLES }
@@ -139,9 +136,7 @@ pub(crate) fn filter(coefficients: &[i16], state: &mut [i16], input: &[i16], out
         → Ran p h input.now state.new out.new.items }
 {
     let mut newest = State::read(state);
-    if input.len() >= LEAST_RUN {
-        newest = run_plain(coefficients, newest, input, out);
-    }
+    newest = run_plain(coefficients, newest, input, out);
     let rest = &input[out.len()..];
     for x in rest {
         let y = limited_output(coefficients, newest, *x);
