@@ -1,8 +1,10 @@
--- For private clauses alone: what a line did to the ports.
+-- For private clauses alone: what a line did to the ports, and what a fault ended.
 use Rattle.std.specs.Prelude.{◌≡◌, ℕ, ◌<◌, ◌≤◌, Bool, true, List, [], ◌++◌, map, length, slice_index_or, if◌then◌else◌}
 use Rattle.octet_ports.specs.Ports.{Source, Sink}
-use Rattle.voice_script.specs.Served.{Machine, Answer, Octet, order_of, refusals, Feed}
-use Rattle.script_server.specs.Runs.{IsHonest, Writes, StepsAt, FailsWithin, no_source}
+use Rattle.voice_script.specs.Served.{Machine, Run, Answer, Octet, order_of, refusals, Feed}
+use Rattle.script_server.specs.Runs.{IsHonest, Writes, StepsAt, FailsWithin, Devices, EndsByRead, EndsByWrite, no_source}
+use Rattle.script_server.specs.declared.serving.PortsFault.{PortsFault}
+use Rattle.script_server.specs.declared.serving.PortsFault.TheVariants.{Read, Write}
 use Rattle.voice_script.specs.declared.limits.TheConstants.{LINE_OCTETS}
 
 -- those of the inputs that are said to be honest are
@@ -44,3 +46,8 @@ pub record IsUnfed {S : Type 0} (machine : Machine S) (state : S) (line : List �
   pub asks : machine.Asks state line (Feed channel count) after
   pub input : StepsAt (FailsWithin count) channel no_source sources new_sources
   pub writes : Writes [] outputs new_outputs replies new_replies
+
+-- a run ended by this fault
+abbrev pub EndsBy : {S : Type 0} → Machine S → Run S → PortsFault → Devices → Devices → Type 0
+EndsBy machine start Read old new = EndsByRead machine start old new
+EndsBy machine start Write old new = EndsByWrite machine start old new

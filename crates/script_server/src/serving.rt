@@ -1,6 +1,7 @@
 //! Serves a script.
-ghost use Rattle.std.specs.Prelude.{◌≡◌, ◌+◌, false, map, length, IfOk, IsErrOf};
+ghost use Rattle.std.specs.Prelude.{◌≡◌, ◌+◌, false, map, length, IfOk, IfErr, IsErrOf};
 ghost use Rattle.octet_ports.specs.Ports.{GivesWithin};
+ghost use Rattle.script_server.specs.LineRuns.{EndsBy};
 ghost use Rattle.script_server.specs.Runs.{NothingPassed, Ready, ServesAll, EndsWell, EndsByRead, EndsByWrite, known_of, run_of};
 
 use crate::limits::SCRIPT_OCTETS;
@@ -39,12 +40,9 @@ fn serve_script<T: LineMachine, S: PortIn, I: PortIn, O: PortOut, P: PortOut>(
     ensures ok { IfOk result (λ refused. ServesAll (T.machine (T.widths machine.old)) (run_of state (map I.source inputs.old.items)) refused
         (known_of S.source I.source O.sink P.sink script.old inputs.old.items outputs.old.items replies.old)
         (known_of S.source I.source O.sink P.sink script.new inputs.new.items outputs.new.items replies.new)) }
-    ensures read { IsErrOf result PortsFault.Read → EndsByRead (T.machine (T.widths machine.old)) (run_of state (map I.source inputs.old.items))
+    ensures fault { IfErr result (λ fault. EndsBy (T.machine (T.widths machine.old)) (run_of state (map I.source inputs.old.items)) fault
         (known_of S.source I.source O.sink P.sink script.old inputs.old.items outputs.old.items replies.old)
-        (known_of S.source I.source O.sink P.sink script.new inputs.new.items outputs.new.items replies.new) }
-    ensures write { IsErrOf result PortsFault.Write → EndsByWrite (T.machine (T.widths machine.old)) (run_of state (map I.source inputs.old.items))
-        (known_of S.source I.source O.sink P.sink script.old inputs.old.items outputs.old.items replies.old)
-        (known_of S.source I.source O.sink P.sink script.new inputs.new.items outputs.new.items replies.new) }
+        (known_of S.source I.source O.sink P.sink script.new inputs.new.items outputs.new.items replies.new)) }
 {
     let mut reader = LineReader::new(SCRIPT_OCTETS);
     let mut refused: u64 = 0;

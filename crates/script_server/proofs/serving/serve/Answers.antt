@@ -1,8 +1,27 @@
-use Rattle.std.proofs.Common.{map, ◌∙◌, sym, inl, inr}
-use Rattle.script_server.specs.Runs.{run_of}
+use Rattle.std.proofs.Common.{◌≡◌, map, ◌∙◌, sym, inl, inr}
+use Rattle.voice_script.specs.Served.{Machine, Run}
+use Rattle.script_server.specs.Runs.{Devices, EndsByRead, EndsByWrite, run_of}
+use Rattle.script_server.specs.LineRuns.{EndsBy}
+use Rattle.script_server.specs.declared.serving.PortsFault.{PortsFault}
+use Rattle.script_server.specs.declared.serving.PortsFault.TheVariants.{Read, Write}
 use Rattle.script_server.proofs.Writes.{writes_more, writes_reply, order_after}
 use Rattle.script_server.proofs.Ends.{all_passed_on, all_is_first}
 use Rattle.script_server.proofs.serving.serve.Goals as goal
+
+-- a line's fault ended the run
+by_read : {S : Type 0} (machine : Machine S) (start : Run S) (fault : PortsFault) (old new : Devices) → fault ≡ Read → EndsBy machine start fault old new → EndsByRead machine start old new
+by_read machine start Read old new is ended = ended
+by_read machine start Write old new is ended = cc
+
+by_write : {S : Type 0} (machine : Machine S) (start : Run S) (fault : PortsFault) (old new : Devices) → fault ≡ Write → EndsBy machine start fault old new → EndsByWrite machine start old new
+by_write machine start Write old new is ended = ended
+by_write machine start Read old new is ended = cc
+
+pub returns-in-Err-clause-read : goal.returns-in-Err-clause-read
+returns-in-Err-clause-read g c = λ is. let e : c.in-Err.fault ≡ Read = cc in by_read _ _ c.in-Err.fault _ _ e c.in-Err.ensures.fault
+
+pub returns-in-Err-clause-write : goal.returns-in-Err-clause-write
+returns-in-Err-clause-write g c = λ is. let e : c.in-Err.fault ≡ Write = cc in by_write _ _ c.in-Err.fault _ _ e c.in-Err.ensures.fault
 
 -- an output's flush failed
 pub returns-then-is_err-clause-write : goal.returns-then-is_err-clause-write

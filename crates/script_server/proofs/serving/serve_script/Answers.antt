@@ -5,7 +5,10 @@ use Rattle.script_server.proofs.Scripts.{served_none, consumes_more}
 use Rattle.script_server.proofs.Honest.{honest_first}
 use Rattle.script_server.proofs.Writes.{wait_none, wait_more, order_waits}
 use Rattle.script_server.proofs.Ends.{served_more, served_all, script_cut, stops_in_script, stops_in_feed, why_failed, consumes_within, consumes_then}
-use Rattle.script_server.specs.Runs.{honest_at}
+use Rattle.voice_script.specs.Served.{Machine, Run}
+use Rattle.script_server.specs.Runs.{Devices, EndsByRead, EndsByWrite, honest_at}
+use Rattle.script_server.specs.LineRuns.{EndsBy}
+use Rattle.script_server.specs.declared.serving.PortsFault.{PortsFault}
 use Rattle.script_server.specs.declared.serving.PortsFault.TheVariants.{Read, Write}
 use Rattle.script_server.proofs.serving.serve_script.Goals as goal
 use Rattle.script_server.proofs.serving.serve_script.Goals.{then-is_refused, else-is_refused}
@@ -25,37 +28,36 @@ lines-init g c = record {
       (search rules) (honest_first (map g.I.PortIn.source c.args.inputs.now.items)));
 }
 
-pub returns-in-Err-clause-read : goal.returns-in-Err-clause-read
-returns-in-Err-clause-read g c = λ is. record {
+-- by either fault
+ends_by : {S : Type 0} (machine : Machine S) (start : Run S) (fault : PortsFault) (old new : Devices) → (fault ≡ Read → EndsByRead machine start old new)
+    → (fault ≡ Write → EndsByWrite machine start old new) → EndsBy machine start fault old new
+ends_by machine start Read old new by_read by_write = by_read refl
+ends_by machine start Write old new by_read by_write = by_write refl
+
+pub returns-in-Err-clause-fault : goal.returns-in-Err-clause-fault
+returns-in-Err-clause-fault g c = record {
   failed = why_failed _ c.in-Err.field-0 c.lines.invariant.came c.in-Err.ensures.err;
   passed = c.lines.invariant.waits;
   served = stops_in_script (g.T.LineMachine.machine (g.T.LineMachine.widths c.args.machine.now)) _ _ _ c.lines.invariant.served c.in-Err.field-0 c.in-Err.ensures.err;
 }
 
-pub returns-in-Err-serve_line-clause-write : goal.returns-in-Err-serve_line-clause-write
-returns-in-Err-serve_line-clause-write g c = λ is.
-    let e : c.in-Err-serve_line.fault ≡ Write = cc in
+pub returns-in-Err-serve_line-clause-fault : goal.returns-in-Err-serve_line-clause-fault
+returns-in-Err-serve_line-clause-fault g c =
     let came = c.in-Ok.ensures.ok in
-    record {
+    ends_by _ _ c.in-Err-serve_line.fault _ _ (λ e. record {
+      failed = inr (inl (c.in-Err-serve_line.ensures.read (ap Err e)));
+      passed = wait_more c.lines.invariant.waits c.in-Err-serve_line.ensures.waits;
+      served = let served = c.lines.invariant.served in
+          stops_in_feed (g.T.LineMachine.machine (g.T.LineMachine.widths c.args.machine.now)) _ _ _ c.read_line.new.self.octets served came c.in-Ok.ensures.last c.in-Ok.ensures.few
+          (rw c.lines.invariant.widths at (c.in-Err-serve_line.ensures.unfed (ap Err e) came.octets _ (rw (c.as_slice.ensures.value) came.line) served.kept));
+    }) (λ e. record {
       failed = c.in-Err-serve_line.ensures.write (ap Err e);
       passed = inl (wait_more c.lines.invariant.waits c.in-Err-serve_line.ensures.waits).reply;
       order = order_waits (wait_more c.lines.invariant.waits c.in-Err-serve_line.ensures.waits);
       served = λ honest. let served = c.lines.invariant.served in
           script_cut (g.T.LineMachine.machine (g.T.LineMachine.widths c.args.machine.now)) _ _ _ honest served came
           (rw c.lines.invariant.widths at (c.in-Err-serve_line.ensures.cut (ap Err e) came.octets _ _ (rw (c.as_slice.ensures.value) came.line) served.kept served.still));
-    }
-
-pub returns-in-Err-serve_line-clause-read : goal.returns-in-Err-serve_line-clause-read
-returns-in-Err-serve_line-clause-read g c = λ is.
-    let e : c.in-Err-serve_line.fault ≡ Read = cc in
-    let came = c.in-Ok.ensures.ok in
-    record {
-      failed = inr (inl (c.in-Err-serve_line.ensures.read (ap Err e)));
-      passed = wait_more c.lines.invariant.waits c.in-Err-serve_line.ensures.waits;
-      served = let served = c.lines.invariant.served in
-          stops_in_feed (g.T.LineMachine.machine (g.T.LineMachine.widths c.args.machine.now)) _ _ _ c.read_line.new.self.octets served came c.in-Ok.ensures.last c.in-Ok.ensures.few
-          (rw c.lines.invariant.widths at (c.in-Err-serve_line.ensures.unfed (ap Err e) came.octets _ (rw (c.as_slice.ensures.value) came.line) served.kept));
-    }
+    })
 
 pub returns-then-line-clause-ok : goal.returns-then-line-clause-ok
 returns-then-line-clause-ok g c =
