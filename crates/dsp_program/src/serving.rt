@@ -195,6 +195,11 @@ fn serve_explained<M: Ialg + Named, R: Files + Print + Eprint + AllocGlobal>(
     serve_heard::<M, R>(rt, arguments, Some(&explainer))
 }
 
+/// Nobody listens. It has one lifetime in place of two: of a bare `None` nothing would show that the explainer outlives what listens.
+fn nobody<'e, R: Eprint>() -> Listener<'e, 'e, R> {
+    None
+}
+
 /// Serves the script over files, and tells why lines were refused where that is asked for.
 pub(crate) fn serve<M: Ialg + Named, R: Files + Print + Eprint + AllocGlobal>(
     rt: &R,
@@ -205,6 +210,6 @@ pub(crate) fn serve<M: Ialg + Named, R: Files + Print + Eprint + AllocGlobal>(
     if arguments.explain {
         serve_explained::<M, R>(rt, arguments)
     } else {
-        serve_heard::<M, R>(rt, arguments, None)
+        serve_heard::<M, R>(rt, arguments, nobody())
     }
 }
