@@ -49,10 +49,10 @@ static const struct {
     void (*run)(void);
     size_t most;
 } calls[] = {
-    {"open", open_host, 64 << 10}, {"create, a filter", create, 12 << 10}, {"create, a decimator", create_decimator, 12 << 10},
+    {"open", open_host, 16 << 10}, {"create, a filter", create, 12 << 10}, {"create, a decimator", create_decimator, 12 << 10},
     {"create, digits", create_digits, 12 << 10}, {"chain, digits", chain_digits, 12 << 10}, {"feed, digits", feed_digits, 12 << 10},
     {"unchain, digits", unchain_digits, 12 << 10}, {"chain", chain, 12 << 10}, {"feed", feed, 12 << 10}, {"set", set, 12 << 10}, {"get", get, 12 << 10}, {"map", map, 20 << 10},
-    {"compact", compact, 12 << 10}, {"stat", stat, 12 << 10}, {"unchain", unchain, 12 << 10}, {"delete", delete, 12 << 10}, {"close", close_host, 48 << 10},
+    {"compact", compact, 12 << 10}, {"stat", stat, 12 << 10}, {"unchain", unchain, 12 << 10}, {"delete", delete, 12 << 10}, {"close", close_host, 16 << 10},
 };
 
 static void *on_a_stack(void *call)
