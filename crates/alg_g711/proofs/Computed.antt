@@ -6,7 +6,8 @@ use Rattle.std.proofs.lemmas.Bool.Decides.{nat_tests}
 use Rattle.alg_g711.specs.declared.TheConstants.{INTERVALS, CODES}
 use Rattle.alg_g711.specs.declared.companding.Law.{Law}
 use Rattle.alg_g711.specs.declared.companding.Law.TheVariants.{A, Mu}
-use Rattle.alg_g711.specs.Companding.{turned, encoded, decoded, interval_of, sample_of, middle_of}
+use Rattle.alg_g711.specs.Companding.{turned, encoded, decoded, interval_of, sample_of, middle_of, samples_of_codes}
+use Rattle.alg_g711.specs.declared.tables.TheConstants.{A_SAMPLES, MU_SAMPLES}
 use Rattle.alg_g711.specs.Intervals.{IsMonotone, CodesComeBack}
 use Rattle.alg_g711.proofs.Dividing.{both, all_in}
 
@@ -136,3 +137,13 @@ middle law number b =
     let e = all_in (has_middle law) 0 INTERVALS (all_have_middles law) number (omega arith) (omega arith) in
     let parts = both (nat_le (sample_of law (middle_of law number)) 32767) (nat_le 33 (middle_of Mu number)) e in
     record { fits = at_most (sample_of law (middle_of law number)) 32767 parts.0; biased = at_most 33 (middle_of Mu number) parts.1 }
+
+-- ---- the tables
+
+pub a_samples : A_SAMPLES ≡ samples_of_codes A
+unfolding samples_of_codes
+a_samples = refl
+
+pub mu_samples : MU_SAMPLES ≡ samples_of_codes Mu
+unfolding samples_of_codes
+mu_samples = refl

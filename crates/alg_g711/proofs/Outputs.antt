@@ -4,7 +4,6 @@ use Rattle.std.specs.Int.{w16, cast_unsigned}
 use Rattle.std.proofs.lemmas.List.{take_at}
 use Rattle.std.proofs.lemmas.List.FromFn.{length-map-range_with_len, get_or-map-range_with_len}
 use Rattle.ialg.specs.History.{History, Sample, with_samples, word_at, outputs_by}
-use Rattle.ialg.proofs.Histories.{same_by_words}
 use Rattle.alg_g711.specs.declared.TheConstants.{CODES}
 use Rattle.alg_g711.specs.declared.companding.Law.{Law}
 use Rattle.alg_g711.specs.declared.coder.Direction.TheVariants.{Decode}
@@ -20,12 +19,6 @@ sample_at law code b = get_or-map-range_with_len (decoded law) 0 CODES code code
 pub length-samples_of_codes : (law : Law) → length (samples_of_codes law) ≡ CODES
 unfolding samples_of_codes
 length-samples_of_codes law = length-map-range_with_len (decoded law) 0 CODES
-
-pub samples_written : (law : Law) (ws : List ℤ) → length ws ≡ CODES
-    → ((j : ℕ) → j < CODES → word_at ws j ≡ decoded law j) → ws ≡ samples_of_codes law
-samples_written law ws size at =
-    let l = length-samples_of_codes law in
-    same_by_words ws (samples_of_codes law) (size ∙ sym l) (λ j b. let few : j < CODES = omega (arith, b, l) in at j few ∙ sym (sample_at law j few))
 
 pub is_map : (f : ℤ → ℤ) (xs ys : List ℤ) → length ys ≡ length xs
     → ((k : ℕ) → k < length xs → word_at ys k ≡ f (word_at xs k)) → ys ≡ map f xs

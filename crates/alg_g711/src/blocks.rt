@@ -6,7 +6,8 @@ ghost use Rattle.ialg.specs.History.{word_at};
 ghost use Rattle.alg_g711.specs.Companding.{encoded, samples_of_codes};
 
 use crate::CODES;
-use crate::companding::{Law, decode, encode};
+use crate::companding::{Law, encode};
+use crate::tables::{A_SAMPLES, MU_SAMPLES};
 
 /// How many codes are looked up in a run.
 const RUN: usize = 16;
@@ -65,13 +66,22 @@ fn look_up(table: &[i16], codes: &[i16], samples: &mut [i16], start: usize, coun
     }
 }
 
+/// The samples of all codes of a law, in the codes' order.
+fn all_samples(law: Law) -> &'static [i16]
+    ensures samples { result.now ≡ samples_of_codes law }
+    ensures count { length result.now ≡ CODES }
+{
+    match law {
+        Law::A => &A_SAMPLES,
+        Law::Mu => &MU_SAMPLES,
+    }
+}
+
 /// Writes the samples of all codes of a law, where there is room for them and no more.
 pub(crate) fn write_samples(law: Law, table: &mut [i16])
     ensures { length table.old ≡ CODES → table.new ≡ samples_of_codes law }
 {
     if table.len() == CODES {
-        for code in 0..CODES {
-            table[code] = decode(law, code as u8);
-        }
+        table.copy_from_slice(all_samples(law));
     }
 }

@@ -8,6 +8,7 @@ mod companding;
 mod kind;
 mod laws;
 mod rows;
+mod tables;
 
 pub use companding::{Law, decode, encode};
 pub use kind::G711;

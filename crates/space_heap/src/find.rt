@@ -46,6 +46,7 @@ pub(crate) fn find(rest: &Rest, first: Option<u32>, words: u32, align: u32) -> O
 }
 
 // The last hole that begins before the place.
+#[inline(always)]
 pub(crate) fn last_before(rest: &Rest, first: Option<u32>, place: u32) -> Option<Found>
     requires holes { HasHoles rest.now.slots first }
     ensures found { IfSome result (λ f. IsFound rest.now.slots first f × (f.hole.place < place) × IsFromOn place f.hole.next) }

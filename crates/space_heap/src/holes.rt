@@ -51,6 +51,7 @@ fn relink(rest: &mut Rest, first: &mut Option<u32>, before: Option<u32>, next: O
 }
 
 // The words are taken out of the hole that they are in.
+#[inline(always)]
 pub(crate) fn carve(rest: &mut Rest, first: &mut Option<u32>, fit: Fit, words: u32) -> Piece
     requires fit { IsFit rest.old.slots first.old words fit }
     requires words { (0 < words) × (words % LEAST_ALIGNMENT ≡ 0) }
@@ -164,6 +165,7 @@ pub(crate) fn put_back(rest: &mut Rest, first: &mut Option<u32>, piece: Piece)
 }
 
 // The same, where it is known what stands before the piece.
+#[inline(always)]
 pub(crate) fn put_behind(rest: &mut Rest, first: &mut Option<u32>, front: Front, piece: Piece)
     requires region { piece.region ≡ rest.old.region }
     requires block { IsBlock (length rest.old.slots) (range_of piece) }
