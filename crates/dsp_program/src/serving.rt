@@ -112,8 +112,46 @@ fn serve_ports<M: Ialg + Named, R: Eprint + AllocGlobal, S: PortIn, I: PortIn, W
     run::<M, _, _, _, _>(alloc, config, script, inputs, &mut outputs, &mut replies)
 }
 
-/// Serves the script over files that are opened, and notes in `begun` that something of the script was read: before that no OUT is
-/// touched. The INs are read through buffers; the OUTs and the replies are written through a journal.
+/// Serves the script over the pairs of files, which are opened. The INs are read through buffers; the OUTs and the replies are written
+/// through a journal.
+///
+/// A call of its own: made behind a call that may fail, the journal would have all its room cleared twice.
+fn serve_pairs<'t, 'p, M: Ialg + Named, R: Files + Print + Eprint + AllocGlobal>(
+    rt: &R,
+    arguments: &Arguments<'p>,
+    files: &mut RunFiles<'t, 'p, R>,
+    listener: Listener<'_, '_, R>,
+    marks: Marks,
+    passing: Passing,
+    script: &mut ScriptPort<'t, '_, '_, R>,
+) -> Result<Summary, Fault>
+    requires some { 1 ≤ length arguments.now.ports.items }
+    requires ready { script.old.failed ≡ false }
+    requires none { marks.items ≡ [] }
+{
+    let replies = ReplyFile::new(io::writer(rt), files.troubles());
+    // It is made in its cell: moved there, all its room would be copied.
+    let mut journal = RefCell::new(Journal::new(rt.alloc(), marks, replies, passing));
+    let mut inputs = Vec::new(rt.alloc());
+    let pairs = arguments.ports.as_slice();
+    open_pairs(files, pairs, &mut inputs, journal.get_mut())?;
+    let ended = serve_ports::<M, R, _, _, _, _>(
+        arguments,
+        script,
+        &mut inputs,
+        &journal,
+        listener,
+        rt.alloc(),
+    );
+    // What was served before a fault of the script or of an input is passed on all the same.
+    if script.has_begun() && ended == Err(Fault::Read) && pass_on_all(&journal).is_err() {
+        return Err(Fault::Write);
+    }
+    ended
+}
+
+/// Opens the script, serves it over the pairs of files, and notes in `begun` that something of it was read: before that no OUT is
+/// touched.
 fn serve_files<'p, M: Ialg + Named, R: Files + Print + Eprint + AllocGlobal>(
     rt: &R,
     arguments: &Arguments<'p>,
@@ -135,25 +173,8 @@ fn serve_files<'p, M: Ialg + Named, R: Files + Print + Eprint + AllocGlobal>(
         Passing::EachLine
     };
     let mut script = ScriptPort::new(file, listener);
-    let mut inputs = Vec::new(rt.alloc());
-    let replies = ReplyFile::new(io::writer(rt), files.troubles());
-    // It is made in its cell: moved there, all its room would be copied.
-    let mut journal = RefCell::new(Journal::new(rt.alloc(), marks, replies, passing));
-    let pairs = arguments.ports.as_slice();
-    open_pairs(files, pairs, &mut inputs, journal.get_mut())?;
-    let ended = serve_ports::<M, R, _, _, _, _>(
-        arguments,
-        &mut script,
-        &mut inputs,
-        &journal,
-        listener,
-        rt.alloc(),
-    );
+    let ended = serve_pairs::<M, R>(rt, arguments, files, listener, marks, passing, &mut script);
     *begun = script.has_begun();
-    // What was served before a fault of the script or of an input is passed on all the same.
-    if *begun && ended == Err(Fault::Read) && pass_on_all(&journal).is_err() {
-        return Err(Fault::Write);
-    }
     ended
 }
 
