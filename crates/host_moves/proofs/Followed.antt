@@ -1,46 +1,19 @@
 -- An instance without a write-once record goes by its places, whatever pieces are lent to it.
-use Rattle.std.proofs.Common.{◌≡◌, ℕ, ◌+◌, List, Option, refl, ap, ◌∙◌, subst}
+use Rattle.std.proofs.Common.{◌≡◌, ℕ, Option, refl, ◌∙◌}
 use Rattle.space_raw.specs.Span.{Span}
-use Rattle.mem_rec.specs.declared.MemRec.{MemRec}
-use Rattle.mem_rec.specs.declared.Attr.{Attr}
-use Rattle.mem_rec.specs.declared.Attr.TheVariants.{Scratch, Persist, WriteOnce}
+use Rattle.mem_rec.specs.declared.Attr.TheVariants.{WriteOnce}
 use Rattle.ialg.specs.Laws.{Laws}
 use Rattle.ialg.specs.Records.{record_at}
 use Rattle.record_loans.specs.declared.pieces.Pieces.{Pieces}
-use Rattle.record_loans.specs.Pieces.{piece_at, piece_place}
-use Rattle.record_loans.specs.Blocks.{block_piece}
 use Rattle.record_loans.proofs.PieceLemmas.{same_pieces}
 use Rattle.scratch_group.specs.declared.group.Group.{Group}
-use Rattle.scratch_group.specs.Blocks.{block_in}
-use Rattle.scratch_group.specs.Words.{place_by, placed, scratch_offset, with_bases}
 use Rattle.lifecycle.specs.declared.instance.Instance.{Instance}
 use Rattle.lifecycle.specs.Moves.{restored, with_back, HasRoom}
-use Rattle.lifecycle.specs.States.{Fits}
-use Rattle.lifecycle.proofs.Frames.{unplaced-placed}
 use Rattle.host_shared.specs.Locations.{no_pieces}
-use Rattle.host_table.proofs.Held.{same_shape}
-use Rattle.host_table.proofs.Lendings.{any_pieces, fits_without, idle_any}
+use Rattle.host_table.proofs.Lendings.{any_pieces, idle_any}
 use Rattle.host_table.proofs.Sights.{active_written}
+use Rattle.host_table.proofs.Unshared.{none_after, placed_any, room_any}
 use Rattle.host_moves.specs.Following.{Follows}
-
-place_by_any : (a : Attr) (o s s' b : ℕ) → (a ≡ WriteOnce → ⊥) → place_by a o s b ≡ place_by a o s' b
-place_by_any Scratch o s s' b none = refl
-place_by_any Persist o s s' b none = refl
-place_by_any WriteOnce o s s' b none = absurd (none refl)
-
-module _ (rs : List MemRec) (none : (k : ℕ) → (record_at rs k).attr ≡ WriteOnce → ⊥) where
-  placed_any : (own a b : Pieces) (g : Group) → placed rs own a g ≡ placed rs own b g
-  placed_any own a b g =
-      ap (with_bases rs) (λ i k. place_by_any (record_at rs k).attr (piece_place (piece_at own k)) (piece_place (piece_at a k)) (piece_place (piece_at b k))
-      (piece_place (block_piece (block_in g (record_at rs k).space)) + scratch_offset rs k) (none k) i)
-
-  none_after : (ts : List MemRec) (own a : Pieces) (g : Group) → ts ≡ placed rs own a g → (k : ℕ) → (record_at ts k).attr ≡ WriteOnce → ⊥
-  none_after ts own a g is k attr = none k (ap (λ (r : MemRec). r.attr) (same_shape ts rs k (unplaced-placed rs ts own a g is)) ∙ attr)
-
-  room_any : (own a : Pieces) (g : Group) → Fits (placed rs own a g) own a g → Fits (placed rs own no_pieces g) own no_pieces g
-  room_any own a g fits =
-      subst (λ (ts : List MemRec). Fits ts own no_pieces g) (placed_any own a no_pieces g)
-      (fits_without (placed rs own a g) (none_after (placed rs own a g) own a g refl) own a g fits)
 
 module _ {M : Type 0} (laws : Laws M) (back : Option (ℕ × Span)) (s s' : Instance M) (g : Group) (none : (k : ℕ) → (record_at s.table k).attr ≡ WriteOnce → ⊥) where
   -- it has room with no pieces lent

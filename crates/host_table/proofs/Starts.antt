@@ -1,12 +1,11 @@
 -- An instance is started in an empty slot: it joins its sharers, and the others see what they saw.
-use Rattle.std.proofs.Common.{◌≡◌, ◌≢◌, ◌⊎◌, ℕ, zero, suc, ℤ, ◌<◌, inl, inr, List, length, take, Option, Some, None, set, get_or-set_same, get_or-set_other, refl, sym, ◌∙◌, ap, subst, arith}
+use Rattle.std.proofs.Common.{◌≡◌, ◌≢◌, ◌⊎◌, ℕ, zero, suc, ℤ, ◌<◌, inl, inr, List, length, slice_index_or, take, Option, Some, None, set, get_or-set_same, get_or-set_other, refl, sym, ◌∙◌, ap, subst, arith}
 use Rattle.std.proofs.lemmas.Bool.Decides.{eqb_tells}
-use Rattle.std.proofs.lemmas.Option.{none-some}
+use Rattle.std.proofs.lemmas.Option.{none-some, same_Some}
 use Rattle.space_raw.specs.Span.{Span}
 use Rattle.arrayvec.specs.ArrayVec.{ArrayVec}
 use Rattle.mem_rec.specs.declared.MemRec.{MemRec}
 use Rattle.mem_rec.specs.declared.Attr.TheVariants.{WriteOnce}
-use Rattle.ialg.specs.Meaning.{Meaning}
 use Rattle.ialg.specs.History.{History}
 use Rattle.ialg.specs.Records.{record_at, words_of, unplaced, AreNew, ArePoison}
 use Rattle.ialg.specs.Laws.{Laws}
@@ -15,8 +14,7 @@ use Rattle.record_loans.specs.Pieces.{piece_at, piece_words, SamePieces}
 use Rattle.scratch_group.specs.declared.group.Group.{Group}
 use Rattle.scratch_group.specs.Words.{idle_words, lasting_words_by}
 use Rattle.lifecycle.specs.declared.instance.Instance.{Instance}
-use Rattle.lifecycle.specs.States.{SameInstance, SameOnce, IsLawful}
-use Rattle.lifecycle.specs.Moves.{settled, HasRoom}
+use Rattle.lifecycle.specs.States.{SameOnce, IsLawful, IdleKeeps}
 use Rattle.mem_rec.specs.declared.TheConstants.{INSTANCES}
 use Rattle.host_table.specs.declared.member.Member.{Member}
 use Rattle.host_shared.specs.declared.locations.Locations.{Locations}
@@ -31,6 +29,10 @@ use Rattle.host_shared.specs.Sharing.{AreLeast}
 use Rattle.host_table.specs.Sharers.{AreTogether}
 use Rattle.host_shared.proofs.Owners.{count_seen, lent_here, seen_shared, seen_apart}
 use Rattle.host_shared.proofs.Lent.{four_locations, no_location, seen_at, stands_lent, pieces_lent, owners_of_all}
+use Rattle.lifecycle.specs.declared.instance.Inst.{Inst}
+use Rattle.lifecycle.specs.declared.instance.Inst.TheVariants.{Idling}
+use Rattle.host_table.specs.Turns.{HasBegun}
+use Rattle.host_table.proofs.Changes.{read_there}
 use Rattle.host_table.proofs.Held.{same_shape, same_members_slot, sharer_of_member, owners_of_held, held_stays, bare_stays, alike_at}
 use Rattle.host_table.proofs.Sights.{Views}
 use Rattle.host_shared.proofs.Joined.{bare_at, others_all, owners_all, least_all}
@@ -43,17 +45,21 @@ pub keeps_slot : {M : Type 0} (groups : List Group) (laws : Laws M) (w : Option 
     → slot ≡ Some m → SlotKeeps laws w slot o groups h → InstKeeps laws w m.inst o (group_at groups m.group) h
 keeps_slot groups laws w slot m o h is kept = rw is at kept
 
--- the same pieces and the same group
-pub room_at : {M : Type 0} (s : Instance M) (o o' : Pieces) (y y' : Group) → o ≡ o' → y' ≡ y → HasRoom s o' y' → HasRoom s o y
-room_at s o o' y y' pieces group room = subst (λ (x : Pieces). HasRoom s x y) (sym pieces) (subst (λ (x : Group). HasRoom s o' x) group room)
+-- what is said of a start of the instance in the slot, of the instance that was put there
+pub begun_at : {M : Type 0} (laws : Laws M) (s a n : Instance M) (o o' p : Pieces) (y y' : Group) → s ≡ a → o ≡ o' → y ≡ y' → HasBegun laws s n o p y → HasBegun laws a n o' p y'
+begun_at {M = M} laws s a n o o' p y y' is pieces group begun =
+    subst (λ (x : Instance M). HasBegun laws x n o' p y') is
+    (subst (λ (x : Pieces). HasBegun laws s n x p y') pieces (subst (λ (x : Group). HasBegun laws s n o p x) group begun))
 
-pub started_at : {M : Type 0} (s n : Instance M) (o o' : Pieces) (y y' : Group) → o ≡ o' → y' ≡ y → SameInstance (settled s o y) n → SameInstance (settled s o' y') n
-started_at s n o o' y y' pieces group same =
-    subst (λ (x : Pieces). SameInstance (settled s x y') n) pieces (subst (λ (x : Group). SameInstance (settled s o x) n) (sym group) same)
+pub put_there : {M : Type 0} (instances instances' : List (Option (Member M))) (i : ℕ) (m n : Member M) (r : Option (Member M)) → i < length instances → instances' ≡ set instances i (Some n)
+    → r ≡ slice_index_or instances' i r → r ≡ Some m → m ≡ n
+put_there {M = M} instances instances' i m n r inside put read is =
+    let at : slot_at instances' i ≡ Some n = ap (λ (l : List (Option (Member M))). slot_at l i) put ∙ get_or-set_same instances i (Some n) None inside in
+    same_Some _ _ (sym (read_there instances' i n at r read ∙ is) ∙ at)
 
-pub new_at : {M : Type 0} (meaning : Meaning M) (w : Option ℤ) (a : Instance M) (o o' : Pieces) → o ≡ o' → AreNew w (meaning.fill a.kind a.params.items) a.table (idle_words a.table a.own o')
-    → AreNew w (meaning.fill a.kind a.params.items) a.table (idle_words a.table a.own o)
-new_at meaning w a o o' pieces new = subst (λ (x : Pieces). AreNew w (meaning.fill a.kind a.params.items) a.table (idle_words a.table a.own x)) (sym pieces) new
+pub idle_inst : {M : Type 0} (laws : Laws M) (w : Option ℤ) (inst : Inst M) (o : Pieces) (y : Group) (h : History) → inst ≡ Idling (record { instance = instance_of inst })
+    → IdleKeeps laws (instance_of inst) w o h → InstKeeps laws w inst o y h
+idle_inst {M = M} laws w inst o y h idle kept = subst (λ (x : Inst M). InstKeeps laws w x o y h) (sym idle) kept
 
 -- a new instance n has joined its sharers, with the pieces that were placed for it
 pub record Begins {M : Type 0} (instances : List (Option (Member M))) (sharing : List Locations) (groups : List Group) (i : ℕ) (n : Member M) (sharers : Sharers) (placed : Pieces) (sharing1 : List Locations) : Type 0 where

@@ -1,5 +1,5 @@
 -- What a call of the tables does, put together of its parts.
-use Rattle.std.proofs.Common.{◌≡◌, ℕ, ℤ, inl, inr, true, false, List, Option, Some, None, set, refl, sym, ◌∙◌, subst}
+use Rattle.std.proofs.Common.{ap, ◌≡◌, ℕ, ℤ, inl, inr, true, false, List, Option, Some, None, set, refl, sym, ◌∙◌, subst}
 use Rattle.std.specs.Prelude.{IsSome}
 use Rattle.std.proofs.lemmas.Bool.Decides.{eqb_tells}
 use Rattle.mem_rec.specs.declared.Space.{Space}
@@ -34,6 +34,16 @@ tables instances sharing groups = record { instances = instances; sharing = shar
 -- what holds of the tables holds of the fields that the code opened
 pub ok_in : {M : Type 0} {instances : List (Option (Member M))} {sharing : List Locations} {groups : List Group} {t : View M} → tables instances sharing groups ≡ t → TablesOk t.instances t.sharing t.groups → TablesOk instances sharing groups
 ok_in {M = M} is ok = subst (λ (x : View M). TablesOk x.instances x.sharing x.groups) (sym is) ok
+
+-- the parts of equal views
+pub same_instances : {M : Type 0} {instances instances' : List (Option (Member M))} {sharing sharing' : List Locations} {groups groups' : List Group} → tables instances sharing groups ≡ tables instances' sharing' groups' → instances ≡ instances'
+same_instances {M = M} same = ap (λ (x : View M). x.instances) same
+
+pub same_sharing : {M : Type 0} {instances instances' : List (Option (Member M))} {sharing sharing' : List Locations} {groups groups' : List Group} → tables instances sharing groups ≡ tables instances' sharing' groups' → sharing ≡ sharing'
+same_sharing {M = M} same = ap (λ (x : View M). x.sharing) same
+
+pub same_groups : {M : Type 0} {instances instances' : List (Option (Member M))} {sharing sharing' : List Locations} {groups groups' : List Group} → tables instances sharing groups ≡ tables instances' sharing' groups' → groups ≡ groups'
+same_groups {M = M} same = ap (λ (x : View M). x.groups) same
 
 -- with lists that are equal
 pub steps_to : {M : Type 0} {instances instances' : List (Option (Member M))} {sharing sharing' : List Locations} {groups : List Group} {laws : Laws M} {w : Option ℤ} {old : View M} {activities : ℕ → Activity} {goes : (ℕ → History) → ℕ → History}

@@ -1,15 +1,18 @@
 -- What a call of one instance does, with its pieces and its group. No public contract speaks of it.
-use Rattle.std.specs.Prelude.{ℕ, ℤ, ◌≡◌, ◌++◌, ◌<◌, ◌≤◌, List, length, Option, Some, None}
+use Rattle.std.specs.Prelude.{ℕ, ℤ, ◌≡◌, ◌++◌, ◌<◌, ◌≤◌, List, [], length, Option, Some, None}
 use Rattle.mem_rec.specs.declared.Space.{Space}
 use Rattle.ialg.specs.History.{History, with_samples}
 use Rattle.ialg.specs.Laws.{Laws}
+use Rattle.ialg.specs.Records.{unplaced, AreNew}
 use Rattle.record_loans.specs.declared.pieces.Pieces.{Pieces}
 use Rattle.record_loans.specs.Pieces.{SamePieces}
 use Rattle.record_loans.specs.Blocks.{IsSameBlock}
 use Rattle.scratch_group.specs.declared.group.Group.{Group}
 use Rattle.scratch_group.specs.Blocks.{block_in, BlocksArePoison, SameGroup}
+use Rattle.scratch_group.specs.Words.{idle_words}
 use Rattle.host_map.specs.Activity.{count_after}
 use Rattle.lifecycle.specs.declared.instance.Instance.{Instance}
+use Rattle.lifecycle.specs.Moves.{settled}
 use Rattle.lifecycle.specs.States.{Fits, SameInstance, SameOnce, IsLawful, IdleKeeps, ActiveKeeps, all_outputs}
 use Rattle.host_shared.specs.declared.locations.Locations.{Locations}
 use Rattle.host_shared.specs.Locations.{shared_at}
@@ -20,6 +23,15 @@ pub record CanBeLent {M : Type 0} (s : Instance M) (sharing : List Locations) (i
   pub number : i < length sharing
   pub owners : HasOwners sharing i
   pub fits : Fits s.table s.own (shared_at sharing i) g
+
+-- an idle instance was started: where the table is the one that its kind asks for, and its records are new ones, it begins its history
+pub record HasBegun {M : Type 0} (laws : Laws M) (old new : Instance M) (shared shared' : Pieces) (g : Group) : Type 0 where
+  pub same : SameInstance (settled old shared g) new
+  pub pieces : SamePieces shared shared'
+  pub fits : Fits new.table new.own shared' g
+  pub keeps : (w : Option ℤ) → laws.meaning.table old.kind old.params.items ≡ Some (unplaced old.table)
+      → AreNew w (laws.meaning.fill old.kind old.params.items) old.table (idle_words old.table old.own shared)
+      → IdleKeeps laws new w shared' []
 
 -- an active instance was deactivated
 pub record Deactivated {M : Type 0} (laws : Laws M) (poison : Option ℤ) (old new : Instance M) (shared shared' : Pieces) (g g' : Group) : Type 0 where

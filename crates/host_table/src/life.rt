@@ -1,12 +1,13 @@
 //! The start and the end of instances.
-ghost use Rattle.std.specs.Prelude.{◌≡◌, ◌≢◌, ◌<◌, ℕ, Option, Some, None, IsSome, slice_set};
+ghost use Rattle.std.specs.Prelude.{◌≡◌, ◌≢◌, ◌<◌, ℕ, Option, Some, None, IsSome, length, slice_set};
 ghost use Rattle.record_loans.specs.Pieces.{piece_at, SamePieces};
 ghost use Rattle.lifecycle.specs.States.{Fits, SameOnce};
 ghost use Rattle.lifecycle.specs.Moves.{HasRoom, settled};
+ghost use Rattle.lifecycle.specs.declared.instance.Inst.TheVariants.{Idling};
 ghost use Rattle.mem_rec.specs.declared.TheConstants.{INSTANCES, GROUPS};
 ghost use Rattle.host_table.specs.declared.member.Member.{Member};
 ghost use Rattle.host_shared.specs.Locations.{location_at, locations_at, owner_of, shared_at, no_pieces};
-ghost use Rattle.host_shared.specs.Owners.{IsSameLocation, with_pieces_of};
+ghost use Rattle.host_shared.specs.Owners.{HasOwners, IsSameLocation, with_pieces_of};
 ghost use Rattle.host_shared.specs.Sharing.{left_with, next_sharer, location_without, AreLeast};
 ghost use Rattle.host_table.specs.Table.{slot_at, group_at, own_of, instance_of, active_in, slot_active_in, deactivated_by, ActivitiesAre};
 ghost use Rattle.host_map.specs.Sharers.{asked, sharer_of};
@@ -15,7 +16,7 @@ ghost use Rattle.host_shared.specs.Joining.{sharer_at, location_joined, pieces_j
 ghost use Rattle.host_table.specs.Steps.{Ready, AreConsistent, HistoriesStay};
 ghost use Rattle.host_table.specs.Frames.{OthersStay, OthersSame, IsStarted, IsEnded};
 ghost use Rattle.host_table.specs.Starts.{asked_for, BeginsHistory};
-ghost use Rattle.host_table.specs.Turns.{CanBeLent};
+ghost use Rattle.host_table.specs.Turns.{CanBeLent, HasBegun};
 
 use crate::member::group_number;
 use crate::{Member, Tables};
@@ -78,23 +79,70 @@ pub fn start<M: Ialg>(
     } = instance;
     let _records = table.records();
     join(&mut tables.sharing, i, shared, sharers);
-    let mut seen = borrow_pieces(&mut tables.sharing, i as usize);
-    let idle = Idle::init(
-        kind,
-        params,
-        table,
-        own,
-        &mut seen,
-        &tables.groups[g as usize],
-    );
-    give_back_pieces(&mut tables.sharing, i as usize, seen);
     tables.put_in(
         i,
         Member {
             group: g,
-            inst: Inst::Idling(idle),
+            inst: Inst::Idling(Idle::new(kind, params, table, own)),
         },
     );
+    match &mut tables.instances[i as usize] {
+        Some(member) => start_member(
+            &mut member.inst,
+            &mut tables.sharing,
+            i,
+            &tables.groups[g as usize],
+        ),
+        None => unreachable!(),
+    }
+}
+
+/// Starts an idle instance, with its write-once records borrowed from their owners.
+#[inline(never)]
+fn start_sharing<M: Ialg>(idle: &mut Idle<M>, sharing: &mut Vec<Locations>, i: u8, group: &Group)
+    requires number { i < length sharing.old.items }
+    requires owners { HasOwners sharing.old.items i }
+    requires room { HasRoom idle.old.instance (shared_at sharing.old.items i) group.now }
+    ensures seen { sharing.new.items ≡ with_pieces_of sharing.old.items i (shared_at sharing.new.items i) }
+    ensures begun { HasBegun M.law idle.old.instance idle.new.instance (shared_at sharing.old.items i) (shared_at sharing.new.items i) group.now }
+{
+    let mut shared = borrow_pieces(sharing, i as usize);
+    idle.start(&mut shared, group);
+    give_back_pieces(sharing, i as usize, shared);
+}
+
+/// Starts an idle instance, as [`start_sharing`] does. A filter has no write-once record, so nothing is borrowed for it: most instances are
+/// filters.
+fn start_idle<M: Ialg>(idle: &mut Idle<M>, sharing: &mut Vec<Locations>, i: u8, group: &Group)
+    requires number { i < length sharing.old.items }
+    requires owners { HasOwners sharing.old.items i }
+    requires room { HasRoom idle.old.instance (shared_at sharing.old.items i) group.now }
+    ensures seen { sharing.new.items ≡ with_pieces_of sharing.old.items i (shared_at sharing.new.items i) }
+    ensures begun { HasBegun M.law idle.old.instance idle.new.instance (shared_at sharing.old.items i) (shared_at sharing.new.items i) group.now }
+{
+    if is_filter(&idle.instance.table) {
+        let mut none = Pieces::none();
+        idle.start(&mut none, group);
+        end_absent(none);
+    } else {
+        start_sharing(idle, sharing, i, group);
+    }
+}
+
+/// Starts an instance that is idle, in its slot. Moved into the slot once it was started, it would be copied whole.
+fn start_member<M: Ialg>(inst: &mut Inst<M>, sharing: &mut Vec<Locations>, i: u8, group: &Group)
+    requires idle { (g : ℕ) → active_in g inst.old ≡ None }
+    requires number { i < length sharing.old.items }
+    requires owners { HasOwners sharing.old.items i }
+    requires room { HasRoom (instance_of inst.old) (shared_at sharing.old.items i) group.now }
+    ensures idle { inst.new ≡ Idling (record { instance = instance_of inst.new }) }
+    ensures seen { sharing.new.items ≡ with_pieces_of sharing.old.items i (shared_at sharing.new.items i) }
+    ensures begun { HasBegun M.law (instance_of inst.old) (instance_of inst.new) (shared_at sharing.old.items i) (shared_at sharing.new.items i) group.now }
+{
+    match inst {
+        Inst::Idling(idle) => start_idle(idle, sharing, i, group),
+        Inst::Running(_active) => unreachable!(),
+    }
 }
 
 /// Ends an instance, and gives back the pieces of its own records and those of its write-once records that no other instance shares: the

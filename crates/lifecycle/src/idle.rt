@@ -42,11 +42,16 @@ impl<M: Ialg> Idle<M> {
             → AreNew w (M.law.meaning.fill kind params.now.items) table (idle_words table own shared.old)
             → IdleKeeps M.law result.instance w shared.new [] }
     {
-        let mut table = table;
-        rebase(&mut table, &own, shared, group);
-        let mut own = own;
-        let step = Init { kind, params };
-        lend_lasting(&step, &table, true, &mut own, shared, &mut ());
+        let mut idle = Idle::new(kind, params, table, own);
+        idle.start(shared, group);
+        idle
+    }
+
+    /// An instance that owns these pieces and keeps a copy of the parameters: [`start`](Idle::start) has to follow.
+    #[inline(always)]
+    pub fn new(kind: M, params: &Params, table: MemTab, own: Pieces) -> Idle<M>
+        ensures { result.instance ≡ record { kind = kind; params = params.now; table = table; own = own } }
+    {
         Idle {
             instance: Instance {
                 kind,
@@ -55,6 +60,36 @@ impl<M: Ialg> Idle<M> {
                 own,
             },
         }
+    }
+
+    /// Starts the instance, in place: it goes by the places of its pieces and of its group's blocks from now on, and its write-once records may
+    /// be written this once.
+    ///
+    /// Inlined, so that of an instance without write-once records the compiler drops the empty `Pieces`.
+    #[inline(always)]
+    pub fn start(&mut self, shared: &mut Pieces, group: &Group)
+        requires fits { HasRoom self.old.instance shared.old group.now }
+        ensures same { SameInstance (settled self.old.instance shared.old group.now) self.new.instance }
+        ensures shared { SamePieces shared.old shared.new }
+        ensures fits { Fits self.new.instance.table self.new.instance.own shared.new group.now }
+        ensures keeps { (w : Option ℤ) → M.law.meaning.table self.old.instance.kind self.old.instance.params.items ≡ Some (unplaced self.old.instance.table)
+            → AreNew w (M.law.meaning.fill self.old.instance.kind self.old.instance.params.items) self.old.instance.table
+            (idle_words self.old.instance.table self.old.instance.own shared.old)
+            → IdleKeeps M.law self.new.instance w shared.new [] }
+    {
+        rebase(&mut self.instance.table, &self.instance.own, shared, group);
+        let step = Init {
+            kind: self.instance.kind,
+            params: &self.instance.params,
+        };
+        lend_lasting(
+            &step,
+            &self.instance.table,
+            true,
+            &mut self.instance.own,
+            shared,
+            &mut (),
+        );
     }
 
     /// Prepares the scratch records, which are lent to the instance from now on: [`into_active`](Idle::into_active) has to follow.

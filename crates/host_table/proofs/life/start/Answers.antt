@@ -1,29 +1,29 @@
-use Rattle.std.proofs.Common.{◌≡◌, ◌<◌, ℕ, IsTrue, [], Some, length, sym, ap, subst, refl, ◌∙◌, arith}
+use Rattle.std.proofs.Common.{◌≡◌, ℕ, IsTrue, List, [], Some, None, set, set-set, get_or-set_other, slice_index_or, sym, ap, subst, ◌∙◌, arith}
 use Rattle.lifecycle.specs.declared.instance.Inst.TheVariants.{Idling}
 use Rattle.lifecycle.specs.States.{IdleKeeps}
 use Rattle.ialg.specs.Records.{unplaced}
 use Rattle.record_loans.specs.declared.pieces.Pieces.{Pieces}
+use Rattle.scratch_group.specs.declared.group.Group.{Group}
 use Rattle.scratch_group.proofs.Tables.{unplaced-with_bases}
 use Rattle.record_loans.specs.Pieces.{piece_at, SamePieces}
+use Rattle.host_shared.specs.declared.locations.Locations.{Locations}
 use Rattle.host_shared.specs.Owners.{with_pieces_of}
-use Rattle.host_table.specs.Table.{IsHoused, EachIsHoused, group_at, slot_active_in}
+use Rattle.host_table.specs.Table.{IsHoused, EachIsHoused, group_at, instance_of, active_in, slot_active_in}
+use Rattle.host_table.specs.Turns.{HasBegun}
 use Rattle.host_shared.specs.Locations.{shared_at}
 use Rattle.host_shared.specs.Joining.{sharer_at, pieces_joined, CanJoin}
 use Rattle.host_table.proofs.Housing.{settled_stays}
-use Rattle.host_shared.proofs.Lent.{put_back, owners_of_all}
+use Rattle.host_shared.proofs.Lent.{owners_of_all}
 use Rattle.host_table.proofs.Held.{owners_of_held}
 use Rattle.host_table.proofs.Changes.{read_ok_group}
-use Rattle.host_table.proofs.Stepping.{ok_in}
+use Rattle.host_table.proofs.Stepping.{ok_in, tables, same_instances, same_sharing, same_groups}
 use Rattle.host_table.proofs.Idles.{is_new, ok_after_still, keeps_by_still}
 use Rattle.host_table.proofs.Shared.{tells_sharer_as, can_join}
 use Rattle.host_table.proofs.Sharing.{TellsSharer}
-use Rattle.host_table.proofs.Starts.{Begins, stands_joined, held_start, bare_start, least_start, together_start, views_start, written_start, new_start, new_at, room_at, started_at, keeps_slot}
+use Rattle.host_table.proofs.Starts.{Begins, begun_at, put_there, idle_inst, stands_joined, held_start, bare_start, least_start, together_start, views_start, written_start, new_start, keeps_slot}
 use Rattle.host_table.proofs.life.start.Goals as goal
-use Rattle.host_table.proofs.life.start.Goals.{After-put_in}
+use Rattle.host_table.proofs.life.start.Goals.{After-tables-1}
 use Rattle.host_table.proofs.life.start.Given.{Over}
-
-pub join-requires-clause-count : goal.join-requires-clause-count
-join-requires-clause-count g c = (ok_in c.tables.view_is c.requires.ok).sharing_count
 
 pub join-requires-clause-owners : goal.join-requires-clause-owners
 join-requires-clause-owners g c = owners_of_held c.tables.inside.instances.items c.tables.inside.sharing.items (ok_in c.tables.view_is c.requires.ok).held
@@ -35,48 +35,44 @@ join-requires-clause-sharers g c k =
     (record { kind = c.args.instance.kind; params = c.args.instance.params.now; table = c.args.instance.table; own = c.args.own }) c.records-records.ensures.table
     k (sharer_at c.args.sharers k) (piece_at c.args.shared k) ((rw (← c.tables.view_is) at c.requires.sharers) k) (c.requires.placed k)
 
-pub borrow_pieces-seen-requires-clause-owners : goal.borrow_pieces-seen-requires-clause-owners
-borrow_pieces-seen-requires-clause-owners g c = owners_of_all c.join.new.sharing.items c.args.instance.number c.join.ensures.owners (omega (arith, c.requires.number, c.join.ensures.count))
+pub start_member-requires-clause-owners : goal.start_member-requires-clause-owners
+start_member-requires-clause-owners g c =
+    rw (same_sharing (c.tables-2.view_is ∙ c.put_in.ensures.filled.is)) (owners_of_all c.join.new.sharing.items c.args.instance.number c.join.ensures.owners (omega (arith, c.requires.number, c.join.ensures.count)))
 
-pub borrow_pieces-seen-requires-clause-number : goal.borrow_pieces-seen-requires-clause-number
-borrow_pieces-seen-requires-clause-number g c = omega (arith, c.requires.number, c.join.ensures.count)
+-- the instance has joined its sharers, and was started in its slot
+module _ (g : Over) (c : After-tables-1 g) where
+  view : tables c.tables-2.inside.instances.items c.tables-2.inside.sharing.items c.tables-2.inside.groups.items ≡ tables (set c.tables.inside.instances.items c.args.instance.number (Some (record { group = c.args.instance.group; inst = Idling c.new.result }))) c.join.new.sharing.items c.tables.inside.groups.items
+  view = c.tables-2.view_is ∙ c.put_in.ensures.filled.is
 
-pub index-requires : goal.index-requires
-index-requires g c = omega (arith, c.requires.group, (ok_in c.tables.view_is c.requires.ok).group_count)
+  member : c.in-Some.member ≡ (record { group = c.args.instance.group; inst = Idling c.new.result })
+  member =
+      put_there c.tables.inside.instances.items c.tables-2.inside.instances.items c.args.instance.number c.in-Some.member (record { group = c.args.instance.group; inst = Idling c.new.result }) _ (omega (arith, c.requires.number, (ok_in c.tables.view_is c.requires.ok).slot_count)) (same_instances view)
+      c.index_mut.ensures.value c.in-Some.is
 
-pub init-idle-requires : goal.init-idle-requires
-init-idle-requires g c =
-    let group_is = read_ok_group _ _ _ (ok_in c.tables.view_is c.requires.ok) c.args.instance.group c.requires.group _ c.index.ensures in
-    record {
-      fits =
-          room_at (record { kind = c.args.instance.kind; params = c.args.instance.params.now; table = c.args.instance.table; own = c.args.own }) _ _ _ _
-          (c.borrow_pieces-seen.ensures.pieces ∙ c.join.ensures.pieces) group_is (rw (← c.tables.view_is) at c.requires.fits);
-    }
+  group : c.in-Some.member.group ≡ c.args.instance.group
+  group = ap (λ m. m.group) member
 
-pub give_back_pieces-requires-clause-number : goal.give_back_pieces-requires-clause-number
-give_back_pieces-requires-clause-number g c = omega (arith, c.requires.number, c.join.ensures.count, c.borrow_pieces-seen.ensures.length)
+  filled : set c.tables-2.inside.instances.items c.args.instance.number (Some (record { group = c.in-Some.member.group; inst = c.start_member.new.inst })) ≡ set c.tables.inside.instances.items c.args.instance.number (Some (record { group = c.in-Some.member.group; inst = c.start_member.new.inst }))
+  filled = ap (λ l. set l c.args.instance.number (Some (record { group = c.in-Some.member.group; inst = c.start_member.new.inst }))) (same_instances view) ∙ set-set c.tables.inside.instances.items c.args.instance.number _ (Some (record { group = c.in-Some.member.group; inst = c.start_member.new.inst }))
 
-pub put_in-requires-clause-room : goal.put_in-requires-clause-room
-put_in-requires-clause-room g c = omega (arith, c.requires.number, (ok_in c.tables.view_is c.requires.ok).slot_count)
+  group_is : group_at c.tables.inside.groups.items c.args.instance.group ≡ c.index.result.now
+  group_is =
+      read_ok_group _ _ _ (ok_in c.tables.view_is c.requires.ok) c.args.instance.group c.requires.group _
+      (subst (λ (l : List Group). c.index.result.now ≡ slice_index_or l c.args.instance.group c.index.result.now) (same_groups view) c.index.ensures)
 
--- the instance has joined its sharers, and was started
-module _ (g : Over) (c : After-put_in g) where
-  once_inside : c.args.instance.number < length c.join.new.sharing.items
-  once_inside = omega (arith, c.requires.number, c.join.ensures.count)
+  begun : HasBegun g.M.Ialg.law (record { kind = c.args.instance.kind; params = c.args.instance.params.now; table = c.args.instance.table; own = c.args.own }) (instance_of c.start_member.new.inst) (pieces_joined c.tables.inside.sharing.items c.args.sharers c.args.shared) (shared_at c.start_member.new.sharing.items c.args.instance.number) (group_at c.tables.inside.groups.items c.args.instance.group)
+  begun =
+      begun_at g.M.Ialg.law _ (record { kind = c.args.instance.kind; params = c.args.instance.params.now; table = c.args.instance.table; own = c.args.own }) (instance_of c.start_member.new.inst) _ _ (shared_at c.start_member.new.sharing.items c.args.instance.number) _ _ (ap (λ m. instance_of m.inst) member ∙ c.new.ensures)
+      (ap (λ (l : List Locations). shared_at l c.args.instance.number) (same_sharing view) ∙ c.join.ensures.pieces) (sym group_is) c.start_member.ensures.begun
 
-  put : c.give_back_pieces.new.sharing.items ≡ with_pieces_of c.join.new.sharing.items c.args.instance.number c.init-idle.new.shared
-  put =
-      put_back c.join.new.sharing.items c.args.instance.number (owners_of_all c.join.new.sharing.items c.args.instance.number c.join.ensures.owners once_inside) c.borrow_pieces-seen.new.sharing.items c.give_back_pieces.new.sharing.items c.init-idle.new.shared
-      c.borrow_pieces-seen.ensures.left c.give_back_pieces.ensures
+  put : c.start_member.new.sharing.items ≡ with_pieces_of c.join.new.sharing.items c.args.instance.number (shared_at c.start_member.new.sharing.items c.args.instance.number)
+  put = c.start_member.ensures.seen ∙ ap (λ (l : List Locations). with_pieces_of l c.args.instance.number (shared_at c.start_member.new.sharing.items c.args.instance.number)) (same_sharing view)
 
-  pieces : SamePieces (shared_at c.join.new.sharing.items c.args.instance.number) c.init-idle.new.shared
-  pieces = rw (← c.borrow_pieces-seen.ensures.pieces) c.init-idle.ensures.shared
+  pieces : SamePieces (shared_at c.join.new.sharing.items c.args.instance.number) (shared_at c.start_member.new.sharing.items c.args.instance.number)
+  pieces = subst (λ (x : Pieces). SamePieces x (shared_at c.start_member.new.sharing.items c.args.instance.number)) (sym c.join.ensures.pieces) begun.pieces
 
-  seen : c.borrow_pieces-seen.result ≡ pieces_joined c.tables.inside.sharing.items c.args.sharers c.args.shared
-  seen = c.borrow_pieces-seen.ensures.pieces ∙ c.join.ensures.pieces
-
-  table_same : unplaced c.init-idle.result.instance.table ≡ unplaced c.args.instance.table
-  table_same = ap unplaced c.init-idle.ensures.same.table ∙ unplaced-with_bases c.args.instance.table _
+  table_same : unplaced (instance_of c.start_member.new.inst).table ≡ unplaced c.args.instance.table
+  table_same = ap unplaced begun.same.table ∙ unplaced-with_bases c.args.instance.table _
 
   can : (k : ℕ) → CanJoin c.tables.inside.sharing.items k (sharer_at c.args.sharers k) (piece_at c.args.shared k)
   can k =
@@ -85,13 +81,13 @@ module _ (g : Over) (c : After-put_in g) where
       (record { kind = c.args.instance.kind; params = c.args.instance.params.now; table = c.args.instance.table; own = c.args.own }) c.records-records.ensures.table
       k (sharer_at c.args.sharers k) (piece_at c.args.shared k) ((rw (← c.tables.view_is) at c.requires.sharers) k) (c.requires.placed k)
 
-  tells : (k : ℕ) → TellsSharer c.tables.inside.instances.items k c.init-idle.result.instance (sharer_at c.args.sharers k)
+  tells : (k : ℕ) → TellsSharer c.tables.inside.instances.items k (instance_of c.start_member.new.inst) (sharer_at c.args.sharers k)
   tells k =
       tells_sharer_as g.M.Ialg.law.meaning.same (λ x y told. g.met.M.Ialg.same x y (g.met.M.Ialg.compared x y ∙ told)) (λ x. sym (g.met.M.Ialg.compared x x) ∙ g.met.M.Eq.laws.refl x)
-      c.tables.inside.instances.items (ok_in c.tables.view_is c.requires.ok).slot_count (record { kind = c.args.instance.kind; params = c.args.instance.params.now; table = c.args.instance.table; own = c.args.own }) c.init-idle.result.instance
-      c.init-idle.ensures.same.kind c.init-idle.ensures.same.params table_same k (sharer_at c.args.sharers k) ((rw (← c.tables.view_is) at c.requires.sharers) k)
+      c.tables.inside.instances.items (ok_in c.tables.view_is c.requires.ok).slot_count (record { kind = c.args.instance.kind; params = c.args.instance.params.now; table = c.args.instance.table; own = c.args.own }) (instance_of c.start_member.new.inst)
+      begun.same.kind begun.same.params table_same k (sharer_at c.args.sharers k) ((rw (← c.tables.view_is) at c.requires.sharers) k)
 
-  begins : Begins c.tables.inside.instances.items c.tables.inside.sharing.items c.tables.inside.groups.items c.args.instance.number (record { group = c.args.instance.group; inst = Idling c.init-idle.result }) c.args.sharers c.args.shared c.join.new.sharing.items
+  begins : Begins c.tables.inside.instances.items c.tables.inside.sharing.items c.tables.inside.groups.items c.args.instance.number (record { group = c.in-Some.member.group; inst = c.start_member.new.inst }) c.args.sharers c.args.shared c.join.new.sharing.items
   begins = record {
     ok = (ok_in c.tables.view_is c.requires.ok);
     inside = c.requires.number;
@@ -102,64 +98,51 @@ module _ (g : Over) (c : After-put_in g) where
     joined = c.join.ensures.joined;
   }
 
+  at_rest : slot_active_in (Some (record { group = c.in-Some.member.group; inst = c.start_member.new.inst })) ≡ None
+  at_rest = ap (active_in c.in-Some.member.group) c.start_member.ensures.idle
+
+  housed : IsHoused (instance_of c.start_member.new.inst) (shared_at c.start_member.new.sharing.items c.args.instance.number) (group_at c.tables.inside.groups.items c.in-Some.member.group)
+  housed = rw group (record { fits = begun.fits; settled = settled_stays (record { kind = c.args.instance.kind; params = c.args.instance.params.now; table = c.args.instance.table; own = c.args.own }) (instance_of c.start_member.new.inst) (pieces_joined c.tables.inside.sharing.items c.args.sharers c.args.shared) (shared_at c.start_member.new.sharing.items c.args.instance.number) (group_at c.tables.inside.groups.items c.args.instance.group) begun.same begun.pieces })
+
 pub returns-clause-ok : goal.returns-clause-ok
 returns-clause-ok g c =
-    let group_is = read_ok_group _ _ _ (ok_in c.tables.view_is c.requires.ok) c.args.instance.group c.requires.group _ c.index.ensures in
-    let s = c.init-idle.result.instance in
-    let housed : IsHoused s c.init-idle.new.shared (group_at c.tables.inside.groups.items c.args.instance.group) = record {
-      fits = rw group_is c.init-idle.ensures.fits;
-      settled = rw group_is (settled_stays _ s _ _ c.index.result.now c.init-idle.ensures.same c.init-idle.ensures.shared);
-    } in
-    rw c.put_in.ensures.filled.is
-    (ok_after_still _ _ _ c.args.instance.number (Some (record { group = c.args.instance.group; inst = Idling c.init-idle.result })) c.init-idle.new.shared c.give_back_pieces.new.sharing.items
-    (views_start (begins g c) c.init-idle.new.shared (pieces g c) c.give_back_pieces.new.sharing.items (put g c))
-    (held_start (begins g c) c.init-idle.new.shared (pieces g c) c.give_back_pieces.new.sharing.items (put g c))
-    (bare_start (begins g c) c.init-idle.new.shared (pieces g c) c.give_back_pieces.new.sharing.items (put g c))
-    (ok_in c.tables.view_is c.requires.ok) c.requires.number (ap slot_active_in (rw (← c.tables.view_is) at c.requires.empty)) refl
-    (is_new EachIsHoused _ c.args.instance.number _ _ c.requires.group housed))
+    rw (filled g c, same_groups (view g c))
+    (ok_after_still _ _ _ c.args.instance.number (Some (record { group = c.in-Some.member.group; inst = c.start_member.new.inst })) (shared_at c.start_member.new.sharing.items c.args.instance.number) c.start_member.new.sharing.items
+    (views_start (begins g c) (shared_at c.start_member.new.sharing.items c.args.instance.number) (pieces g c) c.start_member.new.sharing.items (put g c))
+    (held_start (begins g c) (shared_at c.start_member.new.sharing.items c.args.instance.number) (pieces g c) c.start_member.new.sharing.items (put g c))
+    (bare_start (begins g c) (shared_at c.start_member.new.sharing.items c.args.instance.number) (pieces g c) c.start_member.new.sharing.items (put g c))
+    (ok_in c.tables.view_is c.requires.ok) c.requires.number (ap slot_active_in (rw (← c.tables.view_is) at c.requires.empty)) (at_rest g c)
+    (is_new EachIsHoused _ c.args.instance.number (shared_at c.start_member.new.sharing.items c.args.instance.number) (record { group = c.in-Some.member.group; inst = c.start_member.new.inst }) (rw (group g c) c.requires.group) (housed g c)))
 
 pub returns-clause-others : goal.returns-clause-others
-returns-clause-others g c = record {
-  slot = rw (← c.tables.view_is) c.put_in.ensures.filled.others;
-  pieces = rw (← c.tables.view_is, c.put_in.ensures.filled.is) (λ j apart. (views_start (begins g c) c.init-idle.new.shared (pieces g c) c.give_back_pieces.new.sharing.items (put g c)).others j apart);
-}
+returns-clause-others g c = rw (filled g c, ← c.tables.view_is) (record {
+  slot = λ j apart. get_or-set_other c.tables.inside.instances.items c.args.instance.number j (Some (record { group = c.in-Some.member.group; inst = c.start_member.new.inst })) None apart;
+  pieces = λ j apart. (views_start (begins g c) (shared_at c.start_member.new.sharing.items c.args.instance.number) (pieces g c) c.start_member.new.sharing.items (put g c)).others j apart;
+})
 
 pub returns-clause-stands : goal.returns-clause-stands
-returns-clause-stands g c j k = rw (← c.tables.view_is, c.put_in.ensures.filled.is) (stands_joined (begins g c) c.init-idle.new.shared (pieces g c) c.give_back_pieces.new.sharing.items (put g c) j k)
+returns-clause-stands g c j k = rw (← c.tables.view_is) (stands_joined (begins g c) (shared_at c.start_member.new.sharing.items c.args.instance.number) (pieces g c) c.start_member.new.sharing.items (put g c) j k)
 
 pub returns-clause-least : goal.returns-clause-least
-returns-clause-least g c = rw c.put_in.ensures.filled.is (least_start (begins g c) c.init-idle.new.shared (pieces g c) c.give_back_pieces.new.sharing.items (put g c) (rw (← c.tables.view_is) at c.requires.least))
+returns-clause-least g c = least_start (begins g c) (shared_at c.start_member.new.sharing.items c.args.instance.number) (pieces g c) c.start_member.new.sharing.items (put g c) (rw (← c.tables.view_is) at c.requires.least)
 
 pub returns-clause-together : goal.returns-clause-together
-returns-clause-together g c = rw c.put_in.ensures.filled.is (together_start (begins g c) c.init-idle.new.shared (pieces g c) c.give_back_pieces.new.sharing.items (put g c) (rw (← c.tables.view_is) at c.requires.together))
-
-pub returns-clause-started : goal.returns-clause-started
-returns-clause-started g c =
-    let group_is = read_ok_group _ _ _ (ok_in c.tables.view_is c.requires.ok) c.args.instance.group c.requires.group _ c.index.ensures in
-    rw (← c.tables.view_is, c.put_in.ensures.filled.there)
-    (refl, started_at (record { kind = c.args.instance.kind; params = c.args.instance.params.now; table = c.args.instance.table; own = c.args.own }) c.init-idle.result.instance _ _ _ _ (seen g c) group_is c.init-idle.ensures.same)
-
-pub returns-clause-pieces : goal.returns-clause-pieces
-returns-clause-pieces g c =
-    rw (← c.tables.view_is, c.put_in.ensures.filled.is)
-    (subst (λ (x : Pieces). SamePieces x (shared_at c.give_back_pieces.new.sharing.items c.args.instance.number)) c.join.ensures.pieces
-    (subst (λ (x : Pieces). SamePieces (shared_at c.join.new.sharing.items c.args.instance.number) x)
-    (sym (views_start (begins g c) c.init-idle.new.shared (pieces g c) c.give_back_pieces.new.sharing.items (put g c)).here) (pieces g c)))
+returns-clause-together g c = rw (filled g c) (together_start (begins g c) (shared_at c.start_member.new.sharing.items c.args.instance.number) (pieces g c) c.start_member.new.sharing.items (put g c) (rw (← c.tables.view_is) at c.requires.together))
 
 pub returns-clause-keeps : goal.returns-clause-keeps
-returns-clause-keeps g c = rw (← c.tables.view_is, c.put_in.ensures.filled.is) (λ w histories table new keeps.
-    let kept : IdleKeeps g.M.Ialg.law c.init-idle.result.instance w c.init-idle.new.shared [] =
+returns-clause-keeps g c = rw (← c.tables.view_is, filled g c, same_groups (view g c)) (λ w histories table new keeps.
+    let kept : IdleKeeps g.M.Ialg.law (instance_of c.start_member.new.inst) w (shared_at c.start_member.new.sharing.items c.args.instance.number) [] =
     (λ lawful.
-    let before : IsTrue (g.M.Ialg.law.meaning.lawful c.args.instance.kind c.args.instance.params.now.items w) = rw (c.init-idle.ensures.same.kind, c.init-idle.ensures.same.params) at lawful in
-    c.init-idle.ensures.keeps w (table before)
-    (new_at g.M.Ialg.law.meaning w (record { kind = c.args.instance.kind; params = c.args.instance.params.now; table = c.args.instance.table; own = c.args.own }) _ _ (seen g c)
+    let before : IsTrue (g.M.Ialg.law.meaning.lawful c.args.instance.kind c.args.instance.params.now.items w) = rw ((begun g c).same.kind, (begun g c).same.params) at lawful in
+    (begun g c).keeps w (table before)
     (new_start (begins g c) g.M.Ialg.law g.met.M.Ialg.idle_fill g.met.M.Ialg.active_fill w histories keeps (record { kind = c.args.instance.kind; params = c.args.instance.params.now; table = c.args.instance.table; own = c.args.own })
-    c.init-idle.ensures.same.kind c.init-idle.ensures.same.params (table_same g c) before new))
+    (begun g c).same.kind (begun g c).same.params (table_same g c) before new)
     lawful) in
-    keeps_by_still EachIsHoused _ _ _ c.args.instance.number (Some (record { group = c.args.instance.group; inst = Idling c.init-idle.result })) c.init-idle.new.shared (ok_in c.tables.view_is c.requires.ok) c.requires.number (ap slot_active_in (rw (← c.tables.view_is) at c.requires.empty)) refl
-    c.give_back_pieces.new.sharing.items (views_start (begins g c) c.init-idle.new.shared (pieces g c) c.give_back_pieces.new.sharing.items (put g c))
+    let known = idle_inst g.M.Ialg.law w c.start_member.new.inst (shared_at c.start_member.new.sharing.items c.args.instance.number) (group_at c.tables.inside.groups.items c.in-Some.member.group) [] c.start_member.ensures.idle kept in
+    keeps_by_still EachIsHoused _ _ _ c.args.instance.number (Some (record { group = c.in-Some.member.group; inst = c.start_member.new.inst })) (shared_at c.start_member.new.sharing.items c.args.instance.number) (ok_in c.tables.view_is c.requires.ok) c.requires.number (ap slot_active_in (rw (← c.tables.view_is) at c.requires.empty)) (at_rest g c)
+    c.start_member.new.sharing.items (views_start (begins g c) (shared_at c.start_member.new.sharing.items c.args.instance.number) (pieces g c) c.start_member.new.sharing.items (put g c))
     g.M.Ialg.law w histories []
     (λ j m apart slot lawful.
-    written_start (begins g c) c.init-idle.new.shared (pieces g c) c.give_back_pieces.new.sharing.items (put g c) g.M.Ialg.law
-    g.met.M.Ialg.idle_fill g.met.M.Ialg.active_fill w (group_at c.tables.inside.groups.items c.args.instance.group) [] kept j m (group_at c.tables.inside.groups.items m.group) (histories j) apart slot lawful (keeps_slot c.tables.inside.groups.items g.M.Ialg.law w _ m (shared_at c.tables.inside.sharing.items j) (histories j) slot (keeps j)))
-    kept keeps)
+    written_start (begins g c) (shared_at c.start_member.new.sharing.items c.args.instance.number) (pieces g c) c.start_member.new.sharing.items (put g c) g.M.Ialg.law
+    g.met.M.Ialg.idle_fill g.met.M.Ialg.active_fill w (group_at c.tables.inside.groups.items c.in-Some.member.group) [] known j m (group_at c.tables.inside.groups.items m.group) (histories j) apart slot lawful (keeps_slot c.tables.inside.groups.items g.M.Ialg.law w _ m (shared_at c.tables.inside.sharing.items j) (histories j) slot (keeps j)))
+    known keeps)

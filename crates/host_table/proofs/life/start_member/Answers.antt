@@ -1,0 +1,6 @@
+use Rattle.std.proofs.Common.{sym}
+use Rattle.std.proofs.lemmas.Option.{none-some}
+use Rattle.host_table.proofs.life.start_member.Goals as goal
+
+pub unreachable-requires : goal.unreachable-requires
+unreachable-requires g c = none-some 0 (sym (rw c.in-Running.is at (c.requires.idle 0)))
