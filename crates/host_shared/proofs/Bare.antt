@@ -29,21 +29,29 @@ pub seen_again : (sharing : List Locations) (i : ℕ) → HasOwners sharing i �
 unfolding with_pieces_of
 seen_again sharing i owners = rw (put_again sharing i 0 (owners 0), put_again sharing i 1 (owners 1), put_again sharing i 2 (owners 2), put_again sharing i 3 (owners 3)) refl
 
--- of an instance that sees no piece but maybe that of record 1, one is put alone
+-- a record without a piece
 put_nothing : (sharing : List Locations) (i k : ℕ) → HasOwner sharing i k → piece_seen sharing i k ≡ None → put_piece sharing i k None ≡ sharing
 put_nothing sharing i k owner none = ap (put_piece sharing i k) (sym none) ∙ put_again sharing i k owner
 
-module _ (sharing : List Locations) (i : ℕ) (p : Option Span) (owners : HasOwners sharing i) where
-  put_beside_one : (l : ℕ) → l ≢ 1 → piece_seen sharing i l ≡ None → put_piece (put_piece sharing i 1 p) i l None ≡ put_piece sharing i 1 p
-  put_beside_one l apart none =
-      put_nothing (put_piece sharing i 1 p) i l (owner_after sharing i 1 p (owners 1) (omega arith) l (owners l)) (seen_beside sharing i 1 p (owners 1) (omega arith) l apart ∙ none)
+-- of an instance that sees no piece but maybe those of records 1 and 2, these are put alone
+module _ (sharing : List Locations) (i : ℕ) (p q : Option Span) (owners : HasOwners sharing i) where
+  pub owner_then : (l : ℕ) → HasOwner (put_piece sharing i 1 p) i l
+  owner_then l = owner_after sharing i 1 p (owners 1) (omega arith) l (owners l)
 
-  pub one_put : (o : Pieces) → o.p0 ≡ None → o.p1 ≡ p → o.p2 ≡ None → o.p3 ≡ None
-      → piece_seen sharing i 0 ≡ None → piece_seen sharing i 2 ≡ None → piece_seen sharing i 3 ≡ None
-      → with_pieces_of sharing i o ≡ put_piece sharing i 1 p
+  pub seen_then : (l : ℕ) → l ≢ 1 → piece_seen (put_piece sharing i 1 p) i l ≡ piece_seen sharing i l
+  seen_then l apart = seen_beside sharing i 1 p (owners 1) (omega arith) l apart
+
+  third_put : piece_seen sharing i 3 ≡ None → put_piece (put_piece (put_piece sharing i 1 p) i 2 q) i 3 None ≡ put_piece (put_piece sharing i 1 p) i 2 q
+  third_put none =
+      put_nothing (put_piece (put_piece sharing i 1 p) i 2 q) i 3
+      (owner_after (put_piece sharing i 1 p) i 2 q (owner_then 2) (omega arith) 3 (owner_then 3))
+      (seen_beside (put_piece sharing i 1 p) i 2 q (owner_then 2) (omega arith) 3 (omega arith) ∙ seen_then 3 (omega arith) ∙ none)
+
+  pub two_put : (o : Pieces) → o.p0 ≡ None → o.p1 ≡ p → o.p2 ≡ q → o.p3 ≡ None
+      → piece_seen sharing i 0 ≡ None → piece_seen sharing i 3 ≡ None
+      → with_pieces_of sharing i o ≡ put_piece (put_piece sharing i 1 p) i 2 q
   unfolding with_pieces_of
-  one_put o e0 e1 e2 e3 n0 n2 n3 =
-      rw (e0, e1, e2, e3, put_nothing sharing i 0 (owners 0) n0, put_beside_one 2 (omega arith) n2, put_beside_one 3 (omega arith) n3) refl
+  two_put o e0 e1 e2 e3 n0 n3 = rw (e0, e1, e2, e3, put_nothing sharing i 0 (owners 0) n0, third_put n3) refl
 
 -- of an instance that keeps what it sees but the piece of record 1, that one is put alone
 module _ (sharing : List Locations) (i : ℕ) (p : Option Span) (owners : HasOwners sharing i) where

@@ -72,13 +72,12 @@ impl Locations {
         }
     }
 
-    /// Whether its instance has no piece but maybe that of record 1: most kinds have no write-once record, or one behind the object.
-    fn is_bare_but_one(&self) -> bool
+    /// Whether its instance has no piece but maybe those of records 1 and 2: most kinds have no write-once record, or one of these.
+    fn is_bare_but_two(&self) -> bool
         ensures s0 { result ≡ true → self.now.s0 ≡ Here None }
-        ensures s2 { result ≡ true → self.now.s2 ≡ Here None }
         ensures s3 { result ≡ true → self.now.s3 ≡ Here None }
     {
-        self.s0.is_nothing() && self.s2.is_nothing() && self.s3.is_nothing()
+        self.s0.is_nothing() && self.s3.is_nothing()
     }
 
     /// Where the piece of record `k` is.
@@ -229,11 +228,11 @@ pub fn borrow_pieces(sharing: &mut Vec<Locations>, i: usize) -> Pieces
     ensures owners { HasOwners sharing.new.items i }
     ensures none { shared_at sharing.new.items i ≡ no_pieces }
 {
-    if sharing[i].is_bare_but_one() {
+    if sharing[i].is_bare_but_two() {
         return Pieces {
             p0: None,
             p1: take_record(sharing, i, 1),
-            p2: None,
+            p2: take_record(sharing, i, 2),
             p3: None,
         };
     }
@@ -255,13 +254,12 @@ fn put_each(sharing: &mut Vec<Locations>, i: usize, pieces: Pieces)
     put_record(sharing, i, 3, p3);
 }
 
-/// Whether there is no piece among these but maybe that of record 1.
-fn has_none_but_one(pieces: &Pieces) -> bool
+/// Whether there is no piece among these but maybe those of records 1 and 2.
+fn has_none_but_two(pieces: &Pieces) -> bool
     ensures p0 { result ≡ true → pieces.now.p0 ≡ None }
-    ensures p2 { result ≡ true → pieces.now.p2 ≡ None }
     ensures p3 { result ≡ true → pieces.now.p3 ≡ None }
 {
-    pieces.p0.is_none() && pieces.p2.is_none() && pieces.p3.is_none()
+    pieces.p0.is_none() && pieces.p3.is_none()
 }
 
 /// Gives the pieces of an instance's write-once records back, each to its owner, who has none.
@@ -272,12 +270,12 @@ pub fn give_back_pieces(sharing: &mut Vec<Locations>, i: usize, pieces: Pieces)
     requires none { shared_at sharing.old.items i ≡ no_pieces }
     ensures { sharing.new.items ≡ with_pieces_of sharing.old.items i pieces }
 {
-    if has_none_but_one(&pieces) {
+    if has_none_but_two(&pieces) {
         let Pieces { p0, p1, p2, p3 } = pieces;
         end_none(p0);
-        end_none(p2);
         end_none(p3);
         put_record(sharing, i, 1, p1);
+        put_record(sharing, i, 2, p2);
         return;
     }
     put_each(sharing, i, pieces);
