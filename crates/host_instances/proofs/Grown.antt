@@ -27,7 +27,8 @@ use Rattle.host_spaces.specs.declared.pieces.OldBlocks.{OldBlocks}
 use Rattle.host_spaces.specs.declared.spaces.Spaces.{Spaces}
 use Rattle.host_map.specs.MemoryMap.{MemoryMap, blocks_in}
 use Rattle.host_spaces.specs.MemoryMap.{map_of, space_in}
-use Rattle.host_spaces.specs.Pieces.{HasBlocks, new_block, old_piece, with_new, without_pieces}
+use Rattle.host_spaces.specs.Pieces.{HasBlocks, IsNeeded, new_block, old_piece, with_new, without_pieces}
+use Rattle.host_spaces.specs.Wants.{block_need}
 use Rattle.host_table.specs.declared.member.Member.{Member}
 use Rattle.host_shared.specs.declared.locations.Locations.{Locations}
 use Rattle.host_shared.specs.Locations.{location_at, locations_at, owner_of, shared_at}
@@ -40,10 +41,10 @@ use Rattle.host_moves.specs.Standing.{IsPieceThere, IsOf, AreOrdered, table_of}
 use Rattle.host_moves.proofs.Owners.{owner_by_same, alike_same, owner_elsewhere, owner_stays, before, none_before, member_before, pieces_none, is_of_same, none_same, align_same, standing_stays}
 use Rattle.host_moves.proofs.Rooms.{room_at_owner}
 use Rattle.host_moves.proofs.Instances.{not_a_group, other_group}
-use Rattle.host_instances.specs.Blocks.{newer, replaced_piece}
+use Rattle.host_instances.specs.Blocks.{newer, no_blocks, replaced_piece, replaced_pieces}
 use Rattle.host_instances.specs.Growth.{IsLarger, ArePlaced, AreGrown}
 use Rattle.host_instances.proofs.Replaced.{block_left}
-use Rattle.host_instances.proofs.Needed.{larger_serves}
+use Rattle.host_instances.proofs.Needed.{larger_serves, needed_serves}
 
 owner_of_new : (owner : Extent) (new old : Option ScratchBlock) → IsOf owner (block_piece new) → IsOf owner (block_piece old) → IsOf owner (block_piece (newer new old))
 owner_of_new owner None old is was = was
@@ -119,6 +120,31 @@ module _ {M : Type 0} (g : ℕ) (blocks : NewBlocks) (instances : List (Option (
     regions = all_regions;
     unused = λ h space apart none. same h space apart ∙ placed.standing.unused h space none;
   }
+
+-- ---- no new block
+
+none_old : (y : Group) (space : Space) → old_piece (replaced_pieces no_blocks y) space ≡ replaced_piece (new_block no_blocks space) (block_in y space)
+none_old y Daram = refl
+none_old y Saram = refl
+none_old y External = refl
+
+none_new : (y : Group) (space : Space) → block_in y space ≡ newer (new_block no_blocks space) (block_in y space)
+none_new y Daram = refl
+none_new y Saram = refl
+none_new y External = refl
+
+-- the group stands as it stood
+pub grown_still : {M : Type 0} (g : ℕ) (instances : List (Option (Member M))) (sharing : List Locations) (groups : List Group) (spaces : Spaces)
+    → ArePlaced g no_blocks instances sharing groups spaces → AreOrdered spaces → AreHeld instances sharing → AreGrown g instances sharing groups spaces
+grown_still g instances sharing groups spaces placed ordered held =
+    grown_now g no_blocks instances sharing groups groups spaces spaces (replaced_pieces no_blocks (group_at groups g)) placed ordered
+    (none_old (group_at groups g)) (none_new (group_at groups g)) (λ h space apart. refl) refl (λ o space apart. refl) (λ space. refl) held
+
+-- it has all that is needed
+pub need_still : (rs : List MemRec) (y : Group) (owners : Space → Extent) → ((space : Space) → IsNeeded (owners space) (block_need rs y space) (new_block no_blocks space)) → NoNeed rs y
+need_still rs y owners needed Daram = needed_serves (owners Daram) (block_in y Daram) None (scratch_need rs Daram) (scratch_align rs Daram) (needed Daram)
+need_still rs y owners needed Saram = needed_serves (owners Saram) (block_in y Saram) None (scratch_need rs Saram) (scratch_align rs Saram) (needed Saram)
+need_still rs y owners needed External = needed_serves (owners External) (block_in y External) None (scratch_need rs External) (scratch_align rs External) (needed External)
 
 -- each instance has room
 pub room_of_grown : {M : Type 0} (g : ℕ) (instances : List (Option (Member M))) (sharing : List Locations) (groups : List Group) (spaces : Spaces) → AreOrdered spaces → AreGrown g instances sharing groups spaces

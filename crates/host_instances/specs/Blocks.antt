@@ -32,3 +32,7 @@ replaced_pieces blocks y = record {
   saram = replaced_piece blocks.saram y.saram;
   external = replaced_piece blocks.external y.external;
 }
+
+-- no new block in any space
+abbrev pub no_blocks : NewBlocks
+no_blocks = record { daram = None; saram = None; external = None }

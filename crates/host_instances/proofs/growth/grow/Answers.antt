@@ -1,150 +1,68 @@
-use Rattle.std.proofs.Common.{◌≡◌, ◌⊎◌, Bool, inl, inr, false, None, sym, ap, ◌∙◌}
-use Rattle.host_map.specs.MemoryMap.{blocks_in}
-use Rattle.host_spaces.specs.MemoryMap.{map_of, space_in}
-use Rattle.host_spaces.specs.Pieces.{new_block, with_new}
-use Rattle.host_table.specs.Table.{group_at}
-use Rattle.scratch_group.specs.Blocks.{block_in}
-use Rattle.host_moves.proofs.Seen.{words_seen}
-use Rattle.host_moves.proofs.Owners.{alike_same, need_alike}
-use Rattle.host_moves.proofs.Rooms.{either}
-use Rattle.host_instances.specs.Blocks.{replaced_in}
-use Rattle.host_instances.specs.Growth.{activity_grown}
-use Rattle.host_instances.proofs.Grown.{grown_stays, placed_stays}
-use Rattle.host_table.proofs.Activities.{poisoned_stays}
-use Rattle.host_instances.proofs.Told.{Renewed, need_new, ok_now, poisoned_now, region_of, replaced_at, replaced_owner, stands, told_now, without_replaced_pieces, words_now}
+-- Where there is no new block all stays as it was.
+use Rattle.std.proofs.Common.{◌≡◌, refl, subst}
+use Rattle.host_spaces.specs.declared.pieces.NewBlocks.{NewBlocks}
+use Rattle.host_spaces.specs.MemoryMap.{space_in}
+use Rattle.host_table.specs.Table.{slot_at, group_at}
+use Rattle.host_moves.proofs.OwnMoves.{kind_itself}
+use Rattle.host_instances.specs.Blocks.{no_blocks}
+use Rattle.host_instances.specs.Growth.{ArePlaced}
+use Rattle.host_instances.proofs.Grown.{grown_still, need_still}
 use Rattle.host_instances.proofs.growth.grow.Goals as goal
 
-pub take_out_blocks-requires-clause-regions : goal.take_out_blocks-requires-clause-regions
-take_out_blocks-requires-clause-regions g c space =
-    let placed = placed_stays c.args.g c.args.blocks _ _ _ _ _ _ c.args.spaces.now (rw (← c.tables-2.view_is) at c.rest_where.ensures.same) c.requires.placed in
-    region_of (space_in c.args.spaces.now space).region (new_block c.args.blocks space) (block_in (group_at c.tables-2.inside.groups.items c.args.g) space) _
-    (c.put_new_blocks-old.ensures.old space) (rw (placed.regions space) (placed.standing.regions c.args.g space))
+pub returns-then-has_none-clause-ok : goal.returns-then-has_none-clause-ok
+returns-then-has_none-clause-ok g c = c.requires.ok
 
-pub take_out_blocks-requires-clause-owner : goal.take_out_blocks-requires-clause-owner
-take_out_blocks-requires-clause-owner g c space =
-    let placed = placed_stays c.args.g c.args.blocks _ _ _ _ _ _ c.args.spaces.now (rw (← c.tables-2.view_is) at c.rest_where.ensures.same) c.requires.placed in
-    replaced_owner c.args.g (blocks_in (map_of c.args.spaces.now) space) (new_block c.args.blocks space) (block_in (group_at c.tables-2.inside.groups.items c.args.g) space) _
-    (c.put_new_blocks-old.ensures.old space) (placed.placed space ∙ ap (with_new c.args.g (new_block c.args.blocks space)) (placed.standing.blocks c.args.g space))
+pub returns-then-has_none-clause-poisoned : goal.returns-then-has_none-clause-poisoned
+returns-then-has_none-clause-poisoned g c = c.requires.poisoned
 
-pub tell_where-requires-clause-told : goal.tell_where-requires-clause-told
-tell_where-requires-clause-told g c replaced =
-    let renewed : Renewed c.args.g c.args.blocks c.tables-2.inside.instances.items c.tables-2.inside.sharing.items c.tables-2.inside.groups.items c.put_new_blocks-old.new.groups.items c.args.spaces.now c.take_out_blocks.new.self = record {
-      old = c.put_new_blocks-old.result;
-      placed = placed_stays c.args.g c.args.blocks _ _ _ _ _ _ c.args.spaces.now (rw (← c.tables-2.view_is) at c.rest_where.ensures.same) c.requires.placed;
-      ordered = c.in_order.ensures;
-      ordered_now = c.in_order-2.ensures;
-      is_old = c.put_new_blocks-old.ensures.old;
-      is_new = c.put_new_blocks-old.ensures.new;
-      same = c.put_new_blocks-old.ensures.others;
-      activity = c.put_new_blocks-old.ensures.activity;
-      count = c.put_new_blocks-old.ensures.length;
-      map = c.take_out_blocks.ensures.map;
-      others = c.take_out_blocks.ensures.others;
-      regions = c.take_out_blocks.ensures.stays;
-    } in
-    told_now c.args.g c.args.blocks _ _ _ _ c.args.spaces.now c.take_out_blocks.new.self renewed (rw (← c.tables-2.view_is) at c.rest_where.ensures.ok)
+pub returns-then-has_none-clause-grown : goal.returns-then-has_none-clause-grown
+returns-then-has_none-clause-grown g c =
+    grown_still c.args.g c.args.tables.now.instances c.args.tables.now.sharing c.args.tables.now.groups c.args.spaces.now
+    (subst (λ (b : NewBlocks). ArePlaced c.args.g b c.args.tables.now.instances c.args.tables.now.sharing c.args.tables.now.groups c.args.spaces.now) (c.has_none.ensures c.if-has_none.true) c.requires.placed)
+    c.in_order.ensures c.requires.ok.held
 
-pub tell_where-requires-clause-ok : goal.tell_where-requires-clause-ok
-tell_where-requires-clause-ok g c none =
-    let renewed : Renewed c.args.g c.args.blocks c.tables-2.inside.instances.items c.tables-2.inside.sharing.items c.tables-2.inside.groups.items c.put_new_blocks-old.new.groups.items c.args.spaces.now c.take_out_blocks.new.self = record {
-      old = c.put_new_blocks-old.result;
-      placed = placed_stays c.args.g c.args.blocks _ _ _ _ _ _ c.args.spaces.now (rw (← c.tables-2.view_is) at c.rest_where.ensures.same) c.requires.placed;
-      ordered = c.in_order.ensures;
-      ordered_now = c.in_order-2.ensures;
-      is_old = c.put_new_blocks-old.ensures.old;
-      is_new = c.put_new_blocks-old.ensures.new;
-      same = c.put_new_blocks-old.ensures.others;
-      activity = c.put_new_blocks-old.ensures.activity;
-      count = c.put_new_blocks-old.ensures.length;
-      map = c.take_out_blocks.ensures.map;
-      others = c.take_out_blocks.ensures.others;
-      regions = c.take_out_blocks.ensures.stays;
-    } in
-    ok_now c.args.g c.args.blocks _ _ _ _ c.args.spaces.now c.take_out_blocks.new.self renewed (rw (← c.tables-2.view_is) at c.rest_where.ensures.ok)
-    (replaced_at c.args.blocks (group_at c.args.tables.now.groups c.args.g) (group_at c.tables-2.inside.groups.items c.args.g) ((rw (← c.tables-2.view_is) at c.rest_where.ensures.same).blocks c.args.g) ∙ sym (let replaced_is : c.replaces_in-replaced.result ≡ replaced_in c.args.blocks (group_at c.args.tables.now.groups c.args.g) = rw (← c.tables.view_is) c.replaces_in-replaced.ensures in replaced_is) ∙ none)
+pub returns-then-has_none-clause-need : goal.returns-then-has_none-clause-need
+returns-then-has_none-clause-need g c rs needed =
+    need_still rs (group_at c.args.tables.now.groups c.args.g) (λ space. (space_in c.args.spaces.now space).region) (rw (c.has_none.ensures c.if-has_none.true) at needed)
+
+pub returns-then-has_none-clause-same : goal.returns-then-has_none-clause-same
+returns-then-has_none-clause-same g c i = kind_itself (slot_at c.args.tables.now.instances i)
+
+pub returns-then-has_none-clause-activity : goal.returns-then-has_none-clause-activity
+returns-then-has_none-clause-activity g c k = rw (c.has_none.ensures c.if-has_none.true) refl
+
+pub returns-then-has_none-clause-map : goal.returns-then-has_none-clause-map
+returns-then-has_none-clause-map g c = rw (c.has_none.ensures c.if-has_none.true) refl
+
+pub returns-then-has_none-clause-keeps : goal.returns-then-has_none-clause-keeps
+returns-then-has_none-clause-keeps g c histories before = before
+
+pub returns-clause-ok : goal.returns-clause-ok
+returns-clause-ok g c = c.grow_by_blocks.ensures.ok
 
 pub returns-clause-poisoned : goal.returns-clause-poisoned
-returns-clause-poisoned g c =
-    let renewed : Renewed c.args.g c.args.blocks c.tables-2.inside.instances.items c.tables-2.inside.sharing.items c.tables-2.inside.groups.items c.put_new_blocks-old.new.groups.items c.args.spaces.now c.take_out_blocks.new.self = record {
-      old = c.put_new_blocks-old.result;
-      placed = placed_stays c.args.g c.args.blocks _ _ _ _ _ _ c.args.spaces.now (rw (← c.tables-2.view_is) at c.rest_where.ensures.same) c.requires.placed;
-      ordered = c.in_order.ensures;
-      ordered_now = c.in_order-2.ensures;
-      is_old = c.put_new_blocks-old.ensures.old;
-      is_new = c.put_new_blocks-old.ensures.new;
-      same = c.put_new_blocks-old.ensures.others;
-      activity = c.put_new_blocks-old.ensures.activity;
-      count = c.put_new_blocks-old.ensures.length;
-      map = c.take_out_blocks.ensures.map;
-      others = c.take_out_blocks.ensures.others;
-      regions = c.take_out_blocks.ensures.stays;
-    } in
-    poisoned_stays c.args.poison _ _ c.tell_where.ensures.inactive c.tell_where.ensures.activity (poisoned_now c.args.g c.args.blocks _ _ _ _ c.args.spaces.now c.take_out_blocks.new.self renewed (rw (← c.tables-2.view_is) at c.rest_where.ensures.ok) c.args.poison c.requires.words (rw (← c.tables-2.view_is) at c.rest_where.ensures.poisoned))
+returns-clause-poisoned g c = c.grow_by_blocks.ensures.poisoned
 
 pub returns-clause-grown : goal.returns-clause-grown
-returns-clause-grown g c =
-    let renewed : Renewed c.args.g c.args.blocks c.tables-2.inside.instances.items c.tables-2.inside.sharing.items c.tables-2.inside.groups.items c.put_new_blocks-old.new.groups.items c.args.spaces.now c.take_out_blocks.new.self = record {
-      old = c.put_new_blocks-old.result;
-      placed = placed_stays c.args.g c.args.blocks _ _ _ _ _ _ c.args.spaces.now (rw (← c.tables-2.view_is) at c.rest_where.ensures.same) c.requires.placed;
-      ordered = c.in_order.ensures;
-      ordered_now = c.in_order-2.ensures;
-      is_old = c.put_new_blocks-old.ensures.old;
-      is_new = c.put_new_blocks-old.ensures.new;
-      same = c.put_new_blocks-old.ensures.others;
-      activity = c.put_new_blocks-old.ensures.activity;
-      count = c.put_new_blocks-old.ensures.length;
-      map = c.take_out_blocks.ensures.map;
-      others = c.take_out_blocks.ensures.others;
-      regions = c.take_out_blocks.ensures.stays;
-    } in
-    grown_stays c.args.g _ _ _ _ _ _ c.take_out_blocks.new.self c.tell_where.ensures.same (stands c.args.g c.args.blocks _ _ _ _ c.args.spaces.now c.take_out_blocks.new.self renewed (rw (← c.tables-2.view_is) at c.rest_where.ensures.ok))
+returns-clause-grown g c = c.grow_by_blocks.ensures.grown
 
 pub returns-clause-need : goal.returns-clause-need
-returns-clause-need g c rs needed =
-    need_alike rs (group_at c.put_new_blocks-old.new.groups.items c.args.g) (group_at c.tell_where.new.tables.groups c.args.g) (λ space. alike_same _ _ (c.tell_where.ensures.same.blocks c.args.g space))
-    (need_new rs c.args.blocks (group_at c.args.tables.now.groups c.args.g) (group_at c.tables-2.inside.groups.items c.args.g) (group_at c.put_new_blocks-old.new.groups.items c.args.g)
-    (λ space. (space_in c.args.spaces.now space).region) ((rw (← c.tables-2.view_is) at c.rest_where.ensures.same).blocks c.args.g) c.put_new_blocks-old.ensures.new needed)
+returns-clause-need g c = c.grow_by_blocks.ensures.need
+
+pub returns-clause-same : goal.returns-clause-same
+returns-clause-same g c = c.grow_by_blocks.ensures.same
 
 pub returns-clause-activity : goal.returns-clause-activity
-returns-clause-activity g c k =
-    let replaced_is : c.replaces_in-replaced.result ≡ replaced_in c.args.blocks (group_at c.args.tables.now.groups c.args.g) =
-    rw (← c.tables.view_is) c.replaces_in-replaced.ensures in
-    c.tell_where.ensures.activity k ∙ c.put_new_blocks-old.ensures.activity k ∙ (rw (← c.tables-2.view_is) at c.rest_where.ensures.activity) k
-    ∙ ap (λ (t : Bool). activity_grown t c.args.tables.now.groups c.args.g k) replaced_is
-
-pub returns-clause-others : goal.returns-clause-others
-returns-clause-others g c = c.take_out_blocks.ensures.others
-
-pub returns-clause-stays : goal.returns-clause-stays
-returns-clause-stays g c = c.take_out_blocks.ensures.stays
+returns-clause-activity g c = c.grow_by_blocks.ensures.activity
 
 pub returns-clause-map : goal.returns-clause-map
-returns-clause-map g c =
-    c.take_out_blocks.ensures.map
-    ∙ without_replaced_pieces (map_of c.args.spaces.now) c.args.blocks (group_at c.args.tables.now.groups c.args.g) (group_at c.tables-2.inside.groups.items c.args.g)
-    c.put_new_blocks-old.result ((rw (← c.tables-2.view_is) at c.rest_where.ensures.same).blocks c.args.g) c.put_new_blocks-old.ensures.old
+returns-clause-map g c = c.grow_by_blocks.ensures.map
+
+pub returns-clause-others : goal.returns-clause-others
+returns-clause-others g c = c.grow_by_blocks.ensures.others
+
+pub returns-clause-stays : goal.returns-clause-stays
+returns-clause-stays g c = c.grow_by_blocks.ensures.stays
 
 pub returns-clause-keeps : goal.returns-clause-keeps
-returns-clause-keeps g c histories before =
-    let renewed : Renewed c.args.g c.args.blocks c.tables-2.inside.instances.items c.tables-2.inside.sharing.items c.tables-2.inside.groups.items c.put_new_blocks-old.new.groups.items c.args.spaces.now c.take_out_blocks.new.self = record {
-      old = c.put_new_blocks-old.result;
-      placed = placed_stays c.args.g c.args.blocks _ _ _ _ _ _ c.args.spaces.now (rw (← c.tables-2.view_is) at c.rest_where.ensures.same) c.requires.placed;
-      ordered = c.in_order.ensures;
-      ordered_now = c.in_order-2.ensures;
-      is_old = c.put_new_blocks-old.ensures.old;
-      is_new = c.put_new_blocks-old.ensures.new;
-      same = c.put_new_blocks-old.ensures.others;
-      activity = c.put_new_blocks-old.ensures.activity;
-      count = c.put_new_blocks-old.ensures.length;
-      map = c.take_out_blocks.ensures.map;
-      others = c.take_out_blocks.ensures.others;
-      regions = c.take_out_blocks.ensures.stays;
-    } in
-    let unseen : (replaced_in c.args.blocks (group_at c.tables-2.inside.groups.items c.args.g) ≡ false) ⊎ ((group_at c.tables-2.inside.groups.items c.args.g).active ≡ None) =
-    elim (either c.replaces_in-replaced.result) [
-      | inl some ↦ inr ((rw (← c.tables-2.view_is) at c.rest_where.ensures.idle) some)
-      | inr none ↦ inl (replaced_at c.args.blocks (group_at c.args.tables.now.groups c.args.g) (group_at c.tables-2.inside.groups.items c.args.g) ((rw (← c.tables-2.view_is) at c.rest_where.ensures.same).blocks c.args.g) ∙ sym (let replaced_is : c.replaces_in-replaced.result ≡ replaced_in c.args.blocks (group_at c.args.tables.now.groups c.args.g) = rw (← c.tables.view_is) c.replaces_in-replaced.ensures in replaced_is) ∙ none)
-    ] in
-    c.tell_where.ensures.keeps c.args.poison histories
-    (words_seen g.M.Ialg.law c.args.poison histories _ _ _ _ _ _ (rw (← c.tables-2.view_is) at c.rest_where.ensures.ok)
-    (words_now c.args.g c.args.blocks _ _ _ _ c.args.spaces.now c.take_out_blocks.new.self renewed (rw (← c.tables-2.view_is) at c.rest_where.ensures.ok) unseen) ((rw (← c.tables-2.view_is) at c.rest_where.ensures.keeps) histories before))
+returns-clause-keeps g c = c.grow_by_blocks.ensures.keeps
