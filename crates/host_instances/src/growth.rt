@@ -71,7 +71,8 @@ fn tell_where<M: Ialg>(tables: &mut Tables<M>, g: u8, replaced: bool)
 
 /// Whether there is no new block.
 fn has_none(blocks: &NewBlocks) -> bool
-    ensures { result ≡ true → blocks.now ≡ no_blocks }
+    ensures none { result ≡ true → blocks.now ≡ no_blocks }
+    ensures some { result ≡ false → blocks.now ≢ no_blocks }
 {
     blocks.daram.is_none() && blocks.saram.is_none() && blocks.external.is_none()
 }

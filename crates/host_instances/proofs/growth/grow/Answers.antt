@@ -18,21 +18,21 @@ returns-then-has_none-clause-poisoned g c = c.requires.poisoned
 pub returns-then-has_none-clause-grown : goal.returns-then-has_none-clause-grown
 returns-then-has_none-clause-grown g c =
     grown_still c.args.g c.args.tables.now.instances c.args.tables.now.sharing c.args.tables.now.groups c.args.spaces.now
-    (subst (λ (b : NewBlocks). ArePlaced c.args.g b c.args.tables.now.instances c.args.tables.now.sharing c.args.tables.now.groups c.args.spaces.now) (c.has_none.ensures c.if-has_none.true) c.requires.placed)
+    (subst (λ (b : NewBlocks). ArePlaced c.args.g b c.args.tables.now.instances c.args.tables.now.sharing c.args.tables.now.groups c.args.spaces.now) (c.has_none.ensures.none c.if-has_none.true) c.requires.placed)
     c.in_order.ensures c.requires.ok.held
 
 pub returns-then-has_none-clause-need : goal.returns-then-has_none-clause-need
 returns-then-has_none-clause-need g c rs needed =
-    need_still rs (group_at c.args.tables.now.groups c.args.g) (λ space. (space_in c.args.spaces.now space).region) (rw (c.has_none.ensures c.if-has_none.true) at needed)
+    need_still rs (group_at c.args.tables.now.groups c.args.g) (λ space. (space_in c.args.spaces.now space).region) (rw (c.has_none.ensures.none c.if-has_none.true) at needed)
 
 pub returns-then-has_none-clause-same : goal.returns-then-has_none-clause-same
 returns-then-has_none-clause-same g c i = kind_itself (slot_at c.args.tables.now.instances i)
 
 pub returns-then-has_none-clause-activity : goal.returns-then-has_none-clause-activity
-returns-then-has_none-clause-activity g c k = rw (c.has_none.ensures c.if-has_none.true) refl
+returns-then-has_none-clause-activity g c k = rw (c.has_none.ensures.none c.if-has_none.true) refl
 
 pub returns-then-has_none-clause-map : goal.returns-then-has_none-clause-map
-returns-then-has_none-clause-map g c = rw (c.has_none.ensures c.if-has_none.true) refl
+returns-then-has_none-clause-map g c = rw (c.has_none.ensures.none c.if-has_none.true) refl
 
 pub returns-then-has_none-clause-keeps : goal.returns-then-has_none-clause-keeps
 returns-then-has_none-clause-keeps g c histories before = before
