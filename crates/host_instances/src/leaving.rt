@@ -18,7 +18,7 @@ ghost use Rattle.host_instances.specs.Leaving.{AgreeWithMapBut};
 ghost use Rattle.host_table.specs.Steps.{AreConsistent, HistoriesStay};
 ghost use Rattle.host_table.specs.Frames.{OtherGroupsStay};
 
-use crate::members::table_copied;
+use crate::members::spaces_of_records;
 use crate::starting::listed;
 use host_moves::take_block;
 use host_shared::{Locations, next_sharers};
@@ -50,12 +50,12 @@ pub(crate) fn give_records<M: Ialg>(
     ensures spaces { AreSameSpaces spaces.old spaces.new }
     ensures keeps { HistoriesStay M.law poison tables.old tables.new }
 {
-    let table = table_copied(&tables.instances, i);
+    let places = spaces_of_records(&tables.instances, i);
     let next = next_sharers(&tables.sharing, i);
     let (own, shared) = end(tables, poison, i, &next);
     let list = listed(&next);
     spaces.hand_on(i, &list);
-    spaces.take_out_records(i, &table, own, shared);
+    spaces.take_out_records(i, &places, own, shared);
 }
 
 /// Takes all blocks out of a group.

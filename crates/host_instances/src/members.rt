@@ -3,22 +3,27 @@ ghost use Rattle.std.specs.Prelude.{◌≡◌, ◌<◌, ℕ, length, Some, IsSom
 ghost use Rattle.mem_rec.specs.declared.TheConstants.{INSTANCES};
 ghost use Rattle.host_table.specs.declared.member.Member.{Member};
 ghost use Rattle.host_table.specs.Table.{slot_at, instance_of, is_member_of};
+ghost use Rattle.host_spaces.specs.Pieces.{spaces_of};
 ghost use Rattle.host_instances.specs.Ends.{has_members};
 
+use host_spaces::record_spaces;
 use host_table::Member;
 use ialg::Ialg;
 use lifecycle::Inst;
-use mem_rec::{INSTANCES, MemTab};
+use mem_rec::{INSTANCES, Space, TABLE_RECORDS};
 
-/// The table of an instance.
-pub(crate) fn table_copied<M: Ialg>(instances: &Vec<Option<Member<M>>>, i: u8) -> MemTab
+/// The spaces of an instance's records.
+pub(crate) fn spaces_of_records<M: Ialg>(
+    instances: &Vec<Option<Member<M>>>,
+    i: u8,
+) -> [Space; TABLE_RECORDS]
     requires { IsSome (slot_at instances.now.items i) }
-    ensures { (m : Member M) → slot_at instances.now.items i ≡ Some m → result ≡ (instance_of m.inst).table }
+    ensures { (m : Member M) → slot_at instances.now.items i ≡ Some m → result ≡ spaces_of (instance_of m.inst).table }
 {
     match &instances[i as usize] {
         Some(member) => match &member.inst {
-            Inst::Idling(idle) => idle.instance.table.copied(),
-            Inst::Running(active) => active.instance.table.copied(),
+            Inst::Idling(idle) => record_spaces(&idle.instance.table),
+            Inst::Running(active) => record_spaces(&active.instance.table),
         },
         None => unreachable!(),
     }

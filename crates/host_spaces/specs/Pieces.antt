@@ -1,5 +1,5 @@
 -- The pieces of an instance's records and of a group's blocks, and the blocks that they are.
-use Rattle.std.specs.Prelude.{◌≡◌, ℕ, ℤ, Bool, true, false, List, [], length, Option, Some, None, if◌then◌else◌}
+use Rattle.std.specs.Prelude.{◌≡◌, ℕ, ℤ, Bool, true, false, List, [], ◌∷◌, length, Option, Some, None, if◌then◌else◌}
 use Rattle.mem_rec.specs.declared.MemRec.{MemRec}
 use Rattle.mem_rec.specs.declared.Space.{Space}
 use Rattle.mem_rec.specs.declared.Space.TheVariants.{Daram, Saram, External}
@@ -28,7 +28,7 @@ use Rattle.host_spaces.specs.declared.pieces.Placement.{Placement}
 use Rattle.host_spaces.specs.declared.pieces.OldBlocks.{OldBlocks}
 use Rattle.host_spaces.specs.declared.spaces.Spaces.{Spaces}
 use Rattle.host_map.specs.MemoryMap.{MemoryMap, blocks_in, each_space}
-use Rattle.host_spaces.specs.MemoryMap.{space_in}
+use Rattle.host_spaces.specs.MemoryMap.{map_of, space_in}
 use Rattle.host_spaces.specs.Wants.{want_at}
 
 -- the block of record k of instance i in the space, none if it is in another
@@ -73,6 +73,17 @@ pub record ArePlacedPieces (spaces : Spaces) (table : List MemRec) (sharers : �
       (is_persistent (record_at table k).attr) (piece_at own k)
   pub write_once : (k : ℕ) → IsPieceOf (space_in spaces (record_at table k).space).region (placed_size (record_at table k).size)
       (is_placed_once (sharers k) (record_at table k).attr) (piece_at shared k)
+
+-- the spaces of a table's records
+abbrev pub spaces_of : List MemRec → List Space
+spaces_of table = (record_at table 0).space ∷ (record_at table 1).space ∷ (record_at table 2).space ∷ (record_at table 3).space ∷ []
+
+-- all pieces of instance i in the memory map, whose records lie in these spaces: those that no other instance shares
+pub record AreRecordsOf (spaces : Spaces) (i : ℕ) (places : List Space) (own shared : Pieces) : Type 0 where
+  pub table : List MemRec
+  pub there : places ≡ spaces_of table
+  pub pieces : (sharers : ℕ → Option ℕ) × ArePlacedPieces spaces table sharers own shared
+  pub records : HasRecords (map_of spaces) i table own shared
 
 -- write-once records alone have sharers
 abbrev pub AreSharable : List MemRec → (ℕ → Option ℕ) → Type 0

@@ -1,7 +1,9 @@
 //! Blocks that go back.
-ghost use Rattle.std.specs.Prelude.{◌≡◌, ◌≢◌, ℕ, Option, None, IfSome, IsSome};
+ghost use Rattle.std.specs.Prelude.{◌≡◌, ◌≢◌, ◌<◌, ℕ, None, IfSome, IsSome, slice_index_or};
 ghost use Rattle.std.specs.Option.{option_or};
 ghost use Rattle.mem_rec.specs.declared.Space.{Space};
+ghost use Rattle.mem_rec.specs.declared.Space.TheVariants.{Daram};
+ghost use Rattle.mem_rec.specs.declared.TheConstants.{TABLE_RECORDS};
 ghost use Rattle.host_map.specs.declared.placed.Owner.{Owner};
 ghost use Rattle.host_map.specs.declared.placed.Owner.TheVariants.{Record, Scratch};
 ghost use Rattle.host_spaces.specs.Blocks.{Owns, block_of_piece, without_piece};
@@ -9,11 +11,11 @@ ghost use Rattle.host_map.specs.Blocks.{disowned, owned};
 ghost use Rattle.ialg.specs.Records.{record_at};
 ghost use Rattle.host_spaces.specs.MemoryMap.{AreSameSpaces, map_of, space_in};
 ghost use Rattle.host_map.specs.MemoryMap.{blocks_in, is_group's, is_instance's, without_owners};
-ghost use Rattle.host_spaces.specs.Pieces.{ArePlacedPieces, HasRecords, old_piece, without_pieces};
+ghost use Rattle.host_spaces.specs.Pieces.{AreRecordsOf, old_piece, spaces_of, without_pieces};
 
 use crate::pieces::OldBlocks;
 use crate::spaces::Spaces;
-use mem_rec::{MemTab, Space};
+use mem_rec::{MemTab, Space, TABLE_RECORDS};
 use record_loans::Pieces;
 use space_raw::Piece;
 
@@ -56,10 +58,15 @@ impl Spaces {
         self.give_back(Space::External, external);
     }
 
-    /// The pieces of the records of instance `i`, which has this table, go back: those that no other instance shares.
-    pub fn take_out_records(&mut self, i: u8, table: &MemTab, own: Pieces, shared: Pieces)
-        requires pieces { (sharers : ℕ → Option ℕ) × ArePlacedPieces self.old table.now sharers own shared }
-        requires records { HasRecords (map_of self.old) i table.now own shared }
+    /// The pieces of the records of instance `i`, which lie in these spaces, go back: those that no other instance shares.
+    pub fn take_out_records(
+        &mut self,
+        i: u8,
+        spaces: &[Space; TABLE_RECORDS],
+        own: Pieces,
+        shared: Pieces,
+    )
+        requires leaving { AreRecordsOf self.old i spaces.now own shared }
         ensures map { map_of self.new ≡ without_owners (is_instance's i) (map_of self.old) }
         ensures others { (o : Owner) (space : Space) → ((k : ℕ) → o ≢ Record i k) → owned o (blocks_in (map_of self.new) space) ≡ owned o (blocks_in (map_of self.old) space) }
         ensures stays { AreSameSpaces self.old self.new }
@@ -71,11 +78,31 @@ impl Spaces {
             p2: once2,
             p3: once3,
         } = shared;
-        self.give_back(space_of(table, 0), either_piece(p0, once0));
-        self.give_back(space_of(table, 1), either_piece(p1, once1));
-        self.give_back(space_of(table, 2), either_piece(p2, once2));
-        self.give_back(space_of(table, 3), either_piece(p3, once3));
+        self.give_back(space_at(spaces, 0), either_piece(p0, once0));
+        self.give_back(space_at(spaces, 1), either_piece(p1, once1));
+        self.give_back(space_at(spaces, 2), either_piece(p2, once2));
+        self.give_back(space_at(spaces, 3), either_piece(p3, once3));
     }
+}
+
+/// The spaces of a table's records.
+pub fn record_spaces(table: &MemTab) -> [Space; TABLE_RECORDS]
+    ensures { result ≡ spaces_of table.now }
+{
+    [
+        space_of(table, 0),
+        space_of(table, 1),
+        space_of(table, 2),
+        space_of(table, 3),
+    ]
+}
+
+// One of the spaces.
+fn space_at(spaces: &[Space; TABLE_RECORDS], k: usize) -> Space
+    requires { k < TABLE_RECORDS }
+    ensures { result ≡ slice_index_or spaces.now k Daram }
+{
+    spaces[k]
 }
 
 // The space of record `k`.

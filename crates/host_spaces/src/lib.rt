@@ -20,6 +20,7 @@ mod start;
 mod wants;
 
 pub use blocks::SpaceBlocks;
+pub use deletion::record_spaces;
 pub use laws::creations;
 pub use pieces::{NewBlocks, OldBlocks, Placement};
 pub use space_laws::{blocks_are_apart, blocks_are_few, moves_pack};

@@ -1,4 +1,8 @@
-use Rattle.std.proofs.Common.{◌≡◌, ◌<◌, ℕ, length, ◌∙◌, ap, arith}
+use Rattle.std.proofs.Common.{◌≡◌, ◌<◌, ℕ, List, length, Some, sym, ◌∙◌, ap, arith}
+use Rattle.std.proofs.lemmas.Option.{same_Some}
+use Rattle.mem_rec.specs.declared.MemRec.{MemRec}
+use Rattle.host_table.specs.declared.member.Member.{Member}
+use Rattle.host_table.specs.Table.{slot_at, instance_of}
 use Rattle.host_table.proofs.Changes.{slot_in}
 use Rattle.host_table.proofs.Goings.{member_of}
 use Rattle.host_table.proofs.Held.{owners_of_held}
@@ -6,6 +10,7 @@ use Rattle.host_map.specs.Creation.{handed_on, sharer_at}
 use Rattle.host_shared.specs.Sharing.{next_sharer}
 use Rattle.host_map.specs.MemoryMap.{is_instance's, renamed, without_owners}
 use Rattle.host_spaces.specs.MemoryMap.{map_of}
+use Rattle.host_spaces.specs.Pieces.{spaces_of}
 use Rattle.std.specs.Prelude.{Option}
 use Rattle.host_instances.proofs.Ended.{handed_same, stay_then}
 use Rattle.host_instances.proofs.Records.{Going, records_back, pieces_back, location_beside, same_beside}
@@ -20,25 +25,14 @@ next_sharers-next-requires-clause-number g c =
 pub next_sharers-next-requires-clause-held : goal.next_sharers-next-requires-clause-held
 next_sharers-next-requires-clause-held g c k j = owners_of_held _ _ (rw (← c.tables.view_is) at c.requires.ok).held j k c.args.i
 
-pub take_out_records-requires-clause-pieces : goal.take_out_records-requires-clause-pieces
-take_out_records-requires-clause-pieces g c =
-    let its = member_of c.args.tables.now.instances c.args.i c.requires.living in
-    let going : Going c.args.i c.args.tables.now.instances c.args.tables.now.sharing c.args.tables.now.groups c.args.spaces.now c.hand_on.new.self = record {
-      next = (λ k. sharer_at c.listed-list.result k);
-      standing = c.requires.standing;
-      held = c.requires.ok.held;
-      is_next = rw (← c.tables.view_is) (λ k. c.listed-list.ensures k ∙ c.next_sharers-next.ensures k);
-      others = c.hand_on.ensures.others;
-      handed = c.hand_on.ensures.handed;
-      left = c.hand_on.ensures.left;
-      stays = c.hand_on.ensures.stays;
-    } in
-    pieces_back c.args.i _ _ _ c.args.spaces.now c.hand_on.new.self c.end-own.result.0 c.end-own.result.1 c.table_copied-table.result going
-    c.end-own.ensures.own c.end-own.ensures.shared (rw (← c.tables.view_is) c.table_copied-table.ensures) its.0 its.1
+same_table : {M : Type 0} (m n : Member M) → ◌≡◌ {A = Option (Member M)} (Some m) (Some n) → (instance_of m.inst).table ≡ (instance_of n.inst).table
+same_table m n e = ap (λ (o : Member _). (instance_of o.inst).table) (same_Some m n e)
 
-pub take_out_records-requires-clause-records : goal.take_out_records-requires-clause-records
-take_out_records-requires-clause-records g c =
+pub take_out_records-requires : goal.take_out_records-requires
+take_out_records-requires g c =
     let its = member_of c.args.tables.now.instances c.args.i c.requires.living in
+    let places_are : (m : Member _) → slot_at c.args.tables.now.instances c.args.i ≡ Some m → c.spaces_of_records-places.result ≡ spaces_of (instance_of m.inst).table = rw (← c.tables.view_is) c.spaces_of_records-places.ensures in
+    let table : List MemRec = (instance_of its.0.inst).table in
     let going : Going c.args.i c.args.tables.now.instances c.args.tables.now.sharing c.args.tables.now.groups c.args.spaces.now c.hand_on.new.self = record {
       next = (λ k. sharer_at c.listed-list.result k);
       standing = c.requires.standing;
@@ -49,8 +43,16 @@ take_out_records-requires-clause-records g c =
       left = c.hand_on.ensures.left;
       stays = c.hand_on.ensures.stays;
     } in
-    records_back c.args.i _ _ _ c.args.spaces.now c.hand_on.new.self c.end-own.result.0 c.end-own.result.1 c.table_copied-table.result going
-    c.end-own.ensures.own c.end-own.ensures.shared (rw (← c.tables.view_is) c.table_copied-table.ensures) its.0 its.1
+    record {
+      leaving = record {
+        table = table;
+        there = places_are its.0 its.1;
+        pieces = pieces_back c.args.i _ _ _ c.args.spaces.now c.hand_on.new.self c.end-own.result.0 c.end-own.result.1 table going
+            c.end-own.ensures.own c.end-own.ensures.shared (λ m at. same_table its.0 m (sym its.1 ∙ at)) its.0 its.1;
+        records = records_back c.args.i _ _ _ c.args.spaces.now c.hand_on.new.self c.end-own.result.0 c.end-own.result.1 table going
+            c.end-own.ensures.own c.end-own.ensures.shared (λ m at. same_table its.0 m (sym its.1 ∙ at)) its.0 its.1;
+      };
+    }
 
 pub returns-clause-standing : goal.returns-clause-standing
 returns-clause-standing g c =
