@@ -110,7 +110,7 @@ fn run_plain(coefficients: &[i16], state: State, input: &[i16], out: &mut Block)
         coefficients[3],
         coefficients[4],
     ];
-    // Field by field, here and at the end: a state that is moved as one value is put together and taken apart at each sample.
+    // Field by field, here and at the end: the four are words of their own while the loop runs.
     let State { x1, x2, y1, y2 } = state;
     let mut newest = State { x1, x2, y1, y2 };
     for x in input {

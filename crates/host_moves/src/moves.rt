@@ -33,7 +33,7 @@ fn move_own<M: Ialg>(
     space: Space,
     i: u8,
     k: u8,
-    guess: usize,
+    hint: usize,
 )
     requires ok { AreConsistent tables.old }
     requires standing { MapAgrees tables.old spaces.old }
@@ -42,7 +42,7 @@ fn move_own<M: Ialg>(
     ensures { Moved M.law space tables.old spaces.old tables.new spaces.new }
 {
     let piece = take_own(&mut tables.instances, i, k as usize);
-    let moved = spaces.make_move(space, piece, guess);
+    let moved = spaces.make_move(space, piece, hint);
     in_order(spaces);
     tell(tables, i, Some((k as usize, moved)));
 }
@@ -55,7 +55,7 @@ fn move_once<M: Ialg>(
     space: Space,
     i: u8,
     k: u8,
-    guess: usize,
+    hint: usize,
 )
     requires ok { AreConsistent tables.old }
     requires standing { MapAgrees tables.old spaces.old }
@@ -65,7 +65,7 @@ fn move_once<M: Ialg>(
     ensures { Moved M.law space tables.old spaces.old tables.new spaces.new }
 {
     let piece = take_once(&mut tables.sharing, i, k as usize);
-    let moved = spaces.make_move(space, piece, guess);
+    let moved = spaces.make_move(space, piece, hint);
     in_order(spaces);
     put_once(&mut tables.sharing, i, k as usize, moved);
     call_moved_of_sharers(tables, i, k as usize);
@@ -79,7 +79,7 @@ fn move_block<M: Ialg>(
     space: Space,
     g: u8,
     align: u32,
-    guess: usize,
+    hint: usize,
 )
     requires ok { AreConsistent tables.old }
     requires standing { MapAgrees tables.old spaces.old }
@@ -90,7 +90,7 @@ fn move_block<M: Ialg>(
 {
     match take_block(&mut tables.groups, g, space) {
         Some(piece) => {
-            let moved = spaces.make_move(space, piece, guess);
+            let moved = spaces.make_move(space, piece, hint);
             in_order(spaces);
             let old = put_block(&mut tables.groups, g, space, moved, align);
             end_none(old);
@@ -121,16 +121,16 @@ pub fn make_next_move<M: Ialg>(
         return false;
     };
     // it is the last of those that are packed once it has moved
-    let guess = packed.saturating_sub(1);
+    let hint = packed.saturating_sub(1);
     match block.owner {
         Owner::Record(i, k) => {
             if sees(&tables.sharing, i as usize, k as usize) {
-                move_once(tables, spaces, space, i, k, guess);
+                move_once(tables, spaces, space, i, k, hint);
             } else {
-                move_own(tables, spaces, space, i, k, guess);
+                move_own(tables, spaces, space, i, k, hint);
             }
         }
-        Owner::Scratch(g) => move_block(tables, spaces, space, g, block.align, guess),
+        Owner::Scratch(g) => move_block(tables, spaces, space, g, block.align, hint),
     }
     true
 }

@@ -145,8 +145,8 @@ impl SpaceBlocks {
     }
 
     /// The next move is made, of the block that this piece is. It is slid down to its packed place with its words. The block is looked for at the
-    /// index `guess` first.
-    pub fn make_move(&mut self, piece: Piece, guess: usize) -> Piece
+    /// index `hint` first.
+    pub fn make_move(&mut self, piece: Piece, hint: usize) -> Piece
         requires region { piece.region ≡ self.old.region }
         requires next { option_map block_range (next_block self.old.blocks) ≡ Some (range_of piece) }
         ensures blocks { self.new.blocks ≡ moved self.old.blocks }
@@ -157,7 +157,7 @@ impl SpaceBlocks {
         ensures slid { self.new.slid ≡ min (self.old.slid + length piece.words) (2 ^ 64 - 1) }
         ensures stays { self.new.region ≡ self.old.region }
     {
-        let index = position_near(self.blocks.as_slice(), piece.place(), guess);
+        let index = position_near(self.blocks.as_slice(), piece.place(), hint);
         let align = align_of(self.blocks.as_slice(), index);
         let moved = self.heap.lower(piece, align);
         put_at(&mut self.blocks, index, moved.place());
@@ -256,15 +256,15 @@ fn position(blocks: &[Placed], place: u32) -> usize
     count_before(blocks, place)
 }
 
-// The same, where it may be known: at `guess` it is looked for first.
-fn position_near(blocks: &[Placed], place: u32, guess: usize) -> usize
+// The same, where it may be known: at `hint` it is looked for first.
+fn position_near(blocks: &[Placed], place: u32, hint: usize) -> usize
     requires order { AreSpots (spots_of blocks.now) }
     requires there { (b : Placed) × Contains blocks.now b × (b.place ≡ place) }
     ensures within { result < length blocks.now }
     ensures found { (d : Placed) → (slice_index_or blocks.now result d).place ≡ place }
 {
-    if guess < blocks.len() && blocks[guess].place == place {
-        return guess;
+    if hint < blocks.len() && blocks[hint].place == place {
+        return hint;
     }
     position(blocks, place)
 }

@@ -97,8 +97,8 @@ impl Spaces {
     }
 
     /// The next move of a space is made, of the block that this piece is. It is slid down to its packed place with its words. The block is looked for
-    /// at the index `guess` first.
-    pub fn make_move(&mut self, space: Space, piece: Piece, guess: usize) -> Piece
+    /// at the index `hint` first.
+    pub fn make_move(&mut self, space: Space, piece: Piece, hint: usize) -> Piece
         requires region { piece.region ≡ (space_in self.old space).region }
         requires next { option_map block_range (next_block (blocks_in (map_of self.old) space)) ≡ Some (range_of piece) }
         ensures map { map_of self.new ≡ moved_in (map_of self.old) space }
@@ -113,9 +113,9 @@ impl Spaces {
         ensures regions { (any : Space) → (space_in self.new any).region ≡ (space_in self.old any).region }
     {
         match space {
-            Space::Daram => self.daram.make_move(piece, guess),
-            Space::Saram => self.saram.make_move(piece, guess),
-            Space::External => self.external.make_move(piece, guess),
+            Space::Daram => self.daram.make_move(piece, hint),
+            Space::Saram => self.saram.make_move(piece, hint),
+            Space::External => self.external.make_move(piece, hint),
         }
     }
 
