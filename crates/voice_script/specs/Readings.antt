@@ -41,6 +41,13 @@ pub record BeginsWithDigits (line : List ℕ) (count value : ℕ) : Type 0 where
 abbrev pub feed_word : List ℕ
 feed_word = codes "feed"
 
+-- words that many lines begin with
+abbrev pub create_word : List ℕ
+create_word = codes "create"
+
+abbrev pub delete_word : List ℕ
+delete_word = codes "delete"
+
 abbrev pub begins_with_number : List (List ℕ) → Bool
 begins_with_number [] = false
 begins_with_number (w ∷ ws) = script.is_number w

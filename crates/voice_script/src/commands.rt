@@ -76,6 +76,7 @@ pub enum Command<'a, M> {
 }
 
 /// `create` I KIND G W*
+#[inline(always)]
 fn create_row<'a, M: Named + Copy>(
     mut words: Words<'_>,
     room: &'a mut Params,
@@ -239,6 +240,15 @@ pub fn parse<'a, M: Named + Copy>(
     // most lines are feeds
     if words.skip_feed() {
         return Ok(Some(feed_row(words)?));
+    }
+    // and many make or end an instance
+    if words.skip_create() {
+        return Ok(Some(create_row(words, room)?));
+    }
+    if words.skip_delete() {
+        return Ok(Some(Command::Delete {
+            instance: words.only_number()?,
+        }));
     }
     let Some(name) = words.next() else {
         return Ok(None);

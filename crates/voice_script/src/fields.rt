@@ -53,6 +53,7 @@ fn space_named(word: &[u8]) -> Result<Space, Refusal>
 
 impl<'a> Words<'a> {
     /// The next word, a number: `syntax` where it is none, or there is none.
+    #[inline(always)]
     pub(crate) fn number(&mut self) -> Result<Number<'a>, Refusal>
         ensures number { IfOk result (λ number. to_come self.old ≡ number.word.now ∷ to_come self.new) }
         ensures none { IsErr result → begins_with_number (to_come self.old) ≡ false }

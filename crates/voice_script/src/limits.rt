@@ -26,6 +26,9 @@ pub(crate) const ENTRY_OCTETS: usize = 32;
 /// No number is told from others beyond this magnitude, which no range reaches.
 pub const GREATEST_MAGNITUDE: u32 = 100_000;
 
+/// A number of so many digits isn't beyond the greatest magnitude: most numbers have no more.
+pub(crate) const SHORT_DIGITS: usize = 5;
+
 /// A feed takes as many samples as a block has, at most.
 pub const FEED_SAMPLES: u16 = BLOCK_SAMPLES as u16;
 

@@ -3,7 +3,7 @@ ghost use Rattle.std.specs.Prelude.{◌≡◌, ◌≤◌, ◌<◌, ◌+◌, ◌�
 ghost use Rattle.voice_script.specs.Script.{is_digits, digits_value, is_number, value_of, words_of};
 ghost use Rattle.voice_script.specs.Readings.{Limits, BeginsWithDigits};
 
-use crate::limits::{FEED_SAMPLES, GREATEST_MAGNITUDE};
+use crate::limits::{FEED_SAMPLES, GREATEST_MAGNITUDE, SHORT_DIGITS};
 use crate::samples::FeedSamples;
 use crate::words::is_blank;
 use ialg::Refusal;
@@ -37,9 +37,32 @@ pub fn value_of(word: &[u8]) -> Option<i32>
     }
 }
 
-/// How many digits a line begins with, and their value, where they are a word: a blank stands behind them, or the line ends. None for every other
-/// line, and where the value is beyond the greatest magnitude.
-fn leading_digits(line: &[u8]) -> Option<(usize, u32)>
+/// How many digits a line begins with, and their value, where a space stands behind them. None for every other line, and for more than
+/// [`SHORT_DIGITS`].
+#[inline(always)]
+fn short_digits(line: &[u8]) -> Option<(usize, u32)>
+    requires { SHORT_DIGITS < length line.now }
+    ensures { IfSome result (λ digits. BeginsWithDigits line.now digits.0 digits.1) }
+{
+    let mut value = 0;
+    for count in 0..SHORT_DIGITS + 1 {
+        let octet = line[count];
+        if !octet.is_ascii_digit() {
+            return if count > 0 && octet == b' ' {
+                Some((count, value))
+            } else {
+                None
+            };
+        }
+        value = 10 * value + u32::from(octet.saturating_sub(b'0'));
+    }
+    None
+}
+
+/// As [`short_digits`] does, for a line of no more octets than that, also where it ends behind the digits, and where the blank is a tab.
+#[inline(always)]
+fn last_digits(line: &[u8]) -> Option<(usize, u32)>
+    requires { length line.now ≤ SHORT_DIGITS }
     ensures { IfSome result (λ digits. BeginsWithDigits line.now digits.0 digits.1) }
 {
     let mut value = 0;
@@ -52,14 +75,24 @@ fn leading_digits(line: &[u8]) -> Option<(usize, u32)>
             };
         }
         value = 10 * value + u32::from(octet.saturating_sub(b'0'));
-        if value > GREATEST_MAGNITUDE {
-            return None;
-        }
     }
     if line.is_empty() {
         None
     } else {
         Some((line.len(), value))
+    }
+}
+
+/// How many digits a line begins with, and their value, where they are a word: a blank stands behind them, or the line ends. None for every other
+/// line, and where the value is beyond the greatest magnitude.
+#[inline(always)]
+fn leading_digits(line: &[u8]) -> Option<(usize, u32)>
+    ensures { IfSome result (λ digits. BeginsWithDigits line.now digits.0 digits.1) }
+{
+    if line.len() > SHORT_DIGITS {
+        short_digits(line)
+    } else {
+        last_digits(line)
     }
 }
 
@@ -86,6 +119,7 @@ impl<'a> Number<'a> {
     }
 
     /// The first so many octets of a line as a number of this value, and what stands behind the one after them.
+    #[inline(always)]
     fn part(line: &'a [u8], end: usize, value: i32) -> (Number<'a>, &'a [u8])
         requires within { end ≤ length line.now }
         requires numeric { is_number (take end line.now) ≡ true }
@@ -107,11 +141,13 @@ impl<'a> Number<'a> {
 
     /// The number that a line begins with, where it is a word, and what stands behind the blank that follows it. None for every other line, and
     /// for a number beyond the greatest magnitude.
+    #[inline(always)]
     pub(crate) fn leading(line: &'a [u8]) -> Option<(Number<'a>, &'a [u8])>
         ensures word { IfSome result (λ parts. words_of line.now ≡ parts.0.word.now ∷ words_of parts.1.now) }
         ensures shorter { IfSome result (λ parts. length parts.1.now < length line.now) }
     {
         match line {
+            [] => None,
             [b'-', digits @ ..] => {
                 let (count, magnitude) = leading_digits(digits)?;
                 Some(Number::part(line, count + 1, -(magnitude as i32)))

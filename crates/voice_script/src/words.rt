@@ -2,7 +2,7 @@
 ghost use Rattle.std.specs.Prelude.{◌≡◌, ◌<◌, ◌∷◌, true, false, length, All, MatchOption, IsSome, IfSome, IfNone};
 ghost use Rattle.std.specs.Iterator.{YieldsFirstRef, item_count};
 ghost use Rattle.voice_script.specs.Script.{without_return, is_blank};
-ghost use Rattle.voice_script.specs.Readings.{IsNoBlank, PartsAtBlank, feed_word, to_come};
+ghost use Rattle.voice_script.specs.Readings.{IsNoBlank, PartsAtBlank, feed_word, create_word, delete_word, to_come};
 
 use crate::numbers::Number;
 
@@ -27,7 +27,8 @@ fn split_at_blank(line: &[u8]) -> Option<(&[u8], &[u8])>
     ensures { MatchOption result (All IsNoBlank line.now) (λ parts. PartsAtBlank line.now parts.0.now parts.1.now) }
 {
     for (end, octet) in line.iter().enumerate() {
-        if is_blank(*octet) {
+        // most octets are beyond every blank
+        if *octet <= b' ' && is_blank(*octet) {
             return Some((&line[..end], &line[end + 1..]));
         }
     }
@@ -62,8 +63,33 @@ impl<'a> Words<'a> {
         true
     }
 
+    /// Reads the word `create`, as [`skip_feed`](Self::skip_feed) does `feed`.
+    pub(crate) fn skip_create(&mut self) -> bool
+        ensures create { result ≡ true → to_come self.old ≡ create_word ∷ to_come self.new }
+        ensures other { result ≡ false → self.new ≡ self.old }
+    {
+        let [b'c', b'r', b'e', b'a', b't', b'e', b' ', after @ ..] = self.line else {
+            return false;
+        };
+        self.line = after;
+        true
+    }
+
+    /// Reads the word `delete`, as [`skip_feed`](Self::skip_feed) does `feed`.
+    pub(crate) fn skip_delete(&mut self) -> bool
+        ensures delete { result ≡ true → to_come self.old ≡ delete_word ∷ to_come self.new }
+        ensures other { result ≡ false → self.new ≡ self.old }
+    {
+        let [b'd', b'e', b'l', b'e', b't', b'e', b' ', after @ ..] = self.line else {
+            return false;
+        };
+        self.line = after;
+        true
+    }
+
     /// The next word, where the rest of the line begins with it and it is a number that isn't beyond the greatest magnitude. Otherwise None, and
     /// nothing is read.
+    #[inline(always)]
     pub(crate) fn leading_number(&mut self) -> Option<Number<'a>>
         ensures number { IfSome result (λ number. to_come self.old ≡ number.word.now ∷ to_come self.new) }
         ensures shorter { IsSome result → length self.new.line.now < length self.old.line.now }
