@@ -59,13 +59,14 @@ impl<'a> Words<'a> {
         ensures none { IsErr result → begins_with_number (to_come self.old) ≡ false }
         ensures refusal { IfErr result (λ refusal. refusal ≡ Refusal.Syntax) }
     {
-        if let Some(number) = self.leading_number() {
+        // no number of a row has a minus and is in its range
+        if let Some(number) = self.leading_natural() {
             return Ok(number);
         }
         self.other_number()
     }
 
-    /// As [`number`](Self::number) does, also for words with more blanks before them, and for numbers beyond the greatest magnitude.
+    /// As [`number`](Self::number) does, also for words with more blanks before them, and for numbers with a minus or beyond the greatest magnitude.
     #[inline(never)]
     fn other_number(&mut self) -> Result<Number<'a>, Refusal>
         ensures number { IfOk result (λ number. to_come self.old ≡ number.word.now ∷ to_come self.new) }
@@ -79,6 +80,7 @@ impl<'a> Words<'a> {
     }
 
     /// The next word, a kind's name: `syntax` where it is none, or there is none.
+    #[inline(always)]
     pub(crate) fn kind<M: Named + Copy>(&mut self) -> Result<M, Refusal>
         ensures kind { IfOk result (λ kind. kind_first M.named (to_come self.old) ≡ Ok (kind, to_come self.new)) }
         ensures refusal { IfErr result (λ refusal. kind_first M.named (to_come self.old) ≡ Err refusal) }
@@ -147,6 +149,7 @@ impl<'a> Words<'a> {
     }
 
     /// The only word that is left, the number of an instance, a group or a channel.
+    #[inline(always)]
     pub(crate) fn only_number(mut self) -> Result<u8, Refusal>
         ensures { result ≡ only_number (to_come self.entry) }
     {

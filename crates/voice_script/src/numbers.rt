@@ -139,6 +139,16 @@ impl<'a> Number<'a> {
         (number, after)
     }
 
+    /// As [`leading`](Self::leading) does, for a number without a minus: None where the line begins with one.
+    #[inline(always)]
+    pub(crate) fn leading_natural(line: &'a [u8]) -> Option<(Number<'a>, &'a [u8])>
+        ensures word { IfSome result (λ parts. words_of line.now ≡ parts.0.word.now ∷ words_of parts.1.now) }
+        ensures shorter { IfSome result (λ parts. length parts.1.now < length line.now) }
+    {
+        let (count, magnitude) = leading_digits(line)?;
+        Some(Number::part(line, count, magnitude as i32))
+    }
+
     /// The number that a line begins with, where it is a word, and what stands behind the blank that follows it. None for every other line, and
     /// for a number beyond the greatest magnitude.
     #[inline(always)]
@@ -152,10 +162,7 @@ impl<'a> Number<'a> {
                 let (count, magnitude) = leading_digits(digits)?;
                 Some(Number::part(line, count + 1, -(magnitude as i32)))
             }
-            _ => {
-                let (count, magnitude) = leading_digits(line)?;
-                Some(Number::part(line, count, magnitude as i32))
-            }
+            _ => Number::leading_natural(line),
         }
     }
 

@@ -87,6 +87,17 @@ impl<'a> Words<'a> {
         true
     }
 
+    /// As [`leading_number`](Self::leading_number) does, for a number without a minus.
+    #[inline(always)]
+    pub(crate) fn leading_natural(&mut self) -> Option<Number<'a>>
+        ensures number { IfSome result (λ number. to_come self.old ≡ number.word.now ∷ to_come self.new) }
+        ensures none { IfNone result (self.new ≡ self.old) }
+    {
+        let (number, after) = Number::leading_natural(self.line)?;
+        self.line = after;
+        Some(number)
+    }
+
     /// The next word, where the rest of the line begins with it and it is a number that isn't beyond the greatest magnitude. Otherwise None, and
     /// nothing is read.
     #[inline(always)]

@@ -1,5 +1,5 @@
 use Rattle.std.proofs.Common.{◌≡◌, ◌≤◌, ◌∙◌, get_or, length, refl, rules}
-use Rattle.voice_script.proofs.WordLemmas.{words_of-digits, words_of-minus}
+use Rattle.voice_script.proofs.WordLemmas.{words_of-minus}
 use Rattle.voice_script.proofs.numbers.Number.leading.Goals as goal
 
 pub returns-in_ok-count-in-45-clause-word : goal.returns-in_ok-count-in-45-clause-word
@@ -8,8 +8,3 @@ returns-in_ok-count-in-45-clause-word c =
     let minus : get_or c.args.line.now 0 0 ≡ 45 = search rules in
     words_of-minus c.args.line.now c.in_ok-count-in-45.count c.in_ok-count-in-45.magnitude some minus c.in_ok-count-in-45.ensures
     ∙ rw (c.part.ensures.word, c.part.ensures.after) refl
-
-pub returns-in_ok-count-in_default-clause-word : goal.returns-in_ok-count-in_default-clause-word
-returns-in_ok-count-in_default-clause-word c =
-    words_of-digits c.args.line.now c.in_ok-count-in_default.count c.in_ok-count-in_default.magnitude c.in_ok-count-in_default.ensures
-    ∙ rw (c.part-in_default.ensures.word, c.part-in_default.ensures.after) refl
