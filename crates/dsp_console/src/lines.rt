@@ -68,6 +68,18 @@ impl<M: Ialg + Named> LineMachine for Console<M> {
         match parse(line, parameters) {
             // most lines are feeds, for which no room for another command's words is cleared
             Ok(Some(Command::Feed { channel, samples })) => self.feed_asked(channel, samples),
+            // instances come and go without the command being moved to `obey`
+            Ok(
+                Some(
+                    Command::Create {
+                        instance,
+                        kind,
+                        group,
+                        parameters,
+                    },
+                ),
+            ) => Ask::Tell(self.create(instance, kind, group, parameters)),
+            Ok(Some(Command::Delete { instance })) => Ask::Tell(self.delete(instance)),
             Ok(Some(command)) => self.obey(command, map, words),
             Ok(None) => Ask::Nothing,
             Err(refusal) => Ask::Tell(Reply::No(refusal)),

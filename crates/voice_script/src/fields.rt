@@ -59,7 +59,7 @@ impl<'a> Words<'a> {
         ensures none { IsErr result → begins_with_number (to_come self.old) ≡ false }
         ensures refusal { IfErr result (λ refusal. refusal ≡ Refusal.Syntax) }
     {
-        // no number of a row has a minus and is in its range
+        // numbers of a row hardly ever have a minus
         if let Some(number) = self.leading_natural() {
             return Ok(number);
         }

@@ -9,6 +9,16 @@ returns-in-Ok-Some-Feed-clause-asks g c =
     lined g.M.Ialg.law (port_widths_of c.args.self.now) _ _ _ _ _
     (ap (λ k. line_of (Ok (Some k))) (sym c.in-Ok-Some-Feed.field-0-0-is) ∙ ap (λ o. line_of (Ok o)) (sym c.in-Ok-Some-Feed.field-0-is) ∙ c.in-Ok-Some-Feed.ensures) c.feed_asked.ensures.asks
 
+pub returns-in-Ok-Some-Create-clause-asks : goal.returns-in-Ok-Some-Create-clause-asks
+returns-in-Ok-Some-Create-clause-asks g c =
+    lined g.M.Ialg.law (port_widths_of c.args.self.now) _ _ _ _ _
+    (ap (λ k. line_of (Ok (Some k))) (sym c.in-Ok-Some-Create.field-0-0-is) ∙ ap (λ o. line_of (Ok o)) (sym c.in-Ok-Some-Create.field-0-is) ∙ c.in-Ok-Some-Create.ensures) c.create.ensures.asks
+
+pub returns-in-Ok-Some-Delete-clause-asks : goal.returns-in-Ok-Some-Delete-clause-asks
+returns-in-Ok-Some-Delete-clause-asks g c =
+    lined g.M.Ialg.law (port_widths_of c.args.self.now) _ _ _ _ _
+    (ap (λ k. line_of (Ok (Some k))) (sym c.in-Ok-Some-Delete.field-0-0-is) ∙ ap (λ o. line_of (Ok o)) (sym c.in-Ok-Some-Delete.field-0-is) ∙ c.in-Ok-Some-Delete.ensures) c.delete.ensures.asks
+
 pub returns-in-Ok-Some-clause-asks : goal.returns-in-Ok-Some-clause-asks
 returns-in-Ok-Some-clause-asks g c =
     lined g.M.Ialg.law (port_widths_of c.args.self.now) _ _ _ _ _ (ap (λ o. line_of (Ok o)) (sym c.in-Ok-Some.field-0-is) ∙ c.in-Ok-Some.ensures) c.obey.ensures.asks
