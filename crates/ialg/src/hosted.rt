@@ -59,7 +59,6 @@ impl<K: Filter> Ialg for K {
         mem.put(k, words);
     }
 
-    #[inline(always)]
     fn process(&self, mem: &mut Lent<'_>, input: &[i16], out: &mut Block)
         requires empty { out.old.items ≡ [] }
         requires some { 1 ≤ length input.now }
