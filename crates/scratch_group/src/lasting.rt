@@ -13,6 +13,7 @@ use space_raw::Piece;
 
 /// Performs the step with the records of an idle instance: its persistent records in its own pieces, and its write-once records in
 /// those that are lent to it. Write-once records may be written where `writable` says so.
+#[inline(always)]
 pub fn lend_lasting<O, S: Step<O>>(
     step: &S,
     table: &MemTab,
@@ -47,6 +48,7 @@ pub fn lend_lasting<O, S: Step<O>>(
 }
 
 /// Performs the step as [`lend_lasting`] does, whatever the table.
+#[inline(never)]
 fn lend_lasting_by_plan<O, S: Step<O>>(
     loan: &Lending<'_, S>,
     own: &mut Pieces,
