@@ -1,11 +1,11 @@
 //! algMoved: instances follow their records to where these lie now.
-ghost use Rattle.std.specs.Prelude.{◌≡◌, ◌+◌, ◌<◌, ℕ, ℤ, Bool, length, Option, Some, IsSome};
+ghost use Rattle.std.specs.Prelude.{◌≡◌, ◌+◌, ◌<◌, ℕ, ℤ, Bool, length, Option, Some, None, IsSome};
 ghost use Rattle.mem_rec.specs.declared.TheConstants.{TABLE_RECORDS, INSTANCES};
 ghost use Rattle.ialg.specs.History.{History};
 ghost use Rattle.lifecycle.specs.Moves.{restored, CanRestore, with_back, HasRoom};
 ghost use Rattle.host_table.specs.declared.member.Member.{Member};
 ghost use Rattle.host_table.specs.Table.{slot_at, group_at, own_of, instance_of, SameActivities};
-ghost use Rattle.host_shared.specs.Locations.{owner_of, shared_at};
+ghost use Rattle.host_shared.specs.Locations.{owner_of, piece_seen, shared_at};
 ghost use Rattle.host_shared.specs.Owners.{HasOwners, with_pieces_of};
 ghost use Rattle.host_shared.specs.Sharing.{AreLeast};
 ghost use Rattle.host_table.specs.Steps.{AreKept, AreConsistent, MembersStay, AllHistoriesStay};
@@ -13,7 +13,10 @@ ghost use Rattle.host_table.specs.Frames.{InactiveGroupsStay, SameMembers};
 ghost use Rattle.host_moves.specs.Following.{ActiveFollows, Follows};
 ghost use Rattle.host_moves.specs.Waiting.{own_set, all_but, all_from, holds_with, TablesThere, TablesBut, TablesWaiting, TablesWaitingBut};
 
-use host_shared::{Locations, borrow_pieces, end_absent, give_back_pieces, next_with_owner};
+use host_shared::{
+    Locations, borrow_pieces, end_absent, exchange_third, give_back_pieces, has_none_but_third,
+    next_with_owner,
+};
 use host_table::Tables;
 use ialg::Ialg;
 use lifecycle::{Active, Idle, Inst};
@@ -24,7 +27,7 @@ use space_raw::Piece;
 
 /// Calls algMoved of an idle instance, with its write-once records borrowed from their owners.
 #[inline(never)]
-fn follow_sharing<M: Ialg>(
+fn follow_each<M: Ialg>(
     idle: &mut Idle<M>,
     back: Option<(usize, Piece)>,
     sharing: &mut Vec<Locations>,
@@ -41,6 +44,55 @@ fn follow_sharing<M: Ialg>(
     let mut shared = borrow_pieces(sharing, i as usize);
     idle.moved(back, &mut shared, group);
     give_back_pieces(sharing, i as usize, shared);
+}
+
+/// Calls algMoved of an idle instance, as [`follow_each`] does, that has no write-once record but maybe record 2: its piece alone is borrowed.
+#[inline(always)]
+fn follow_third<M: Ialg>(
+    idle: &mut Idle<M>,
+    back: Option<(usize, Piece)>,
+    sharing: &mut Vec<Locations>,
+    i: u8,
+    group: &Group,
+)
+    requires back { CanRestore back idle.old.instance.own }
+    requires number { i < length sharing.old.items }
+    requires owners { HasOwners sharing.old.items i }
+    requires fits { HasRoom (with_back idle.old.instance back) (shared_at sharing.old.items i) group.now }
+    requires seen0 { piece_seen sharing.old.items i 0 ≡ None }
+    requires seen1 { piece_seen sharing.old.items i 1 ≡ None }
+    requires seen3 { piece_seen sharing.old.items i 3 ≡ None }
+    ensures seen { sharing.new.items ≡ with_pieces_of sharing.old.items i (shared_at sharing.new.items i) }
+    ensures follows { Follows M.law back idle.old.instance idle.new.instance (shared_at sharing.old.items i) (shared_at sharing.new.items i) group.now }
+{
+    let mut shared = Pieces::none();
+    exchange_third(sharing, i as usize, &mut shared);
+    idle.moved(back, &mut shared, group);
+    exchange_third(sharing, i as usize, &mut shared);
+    end_absent(shared);
+}
+
+/// Calls algMoved of an idle instance, with its write-once records borrowed from their owners. Most that have any have record 2 alone.
+#[inline(never)]
+fn follow_sharing<M: Ialg>(
+    idle: &mut Idle<M>,
+    back: Option<(usize, Piece)>,
+    sharing: &mut Vec<Locations>,
+    i: u8,
+    group: &Group,
+)
+    requires back { CanRestore back idle.old.instance.own }
+    requires number { i < length sharing.old.items }
+    requires owners { HasOwners sharing.old.items i }
+    requires fits { HasRoom (with_back idle.old.instance back) (shared_at sharing.old.items i) group.now }
+    ensures seen { sharing.new.items ≡ with_pieces_of sharing.old.items i (shared_at sharing.new.items i) }
+    ensures follows { Follows M.law back idle.old.instance idle.new.instance (shared_at sharing.old.items i) (shared_at sharing.new.items i) group.now }
+{
+    if has_none_but_third(sharing, i as usize) {
+        follow_third(idle, back, sharing, i, group);
+    } else {
+        follow_each(idle, back, sharing, i, group);
+    }
 }
 
 /// Calls algMoved of an idle instance. A filter has no write-once record, so nothing is borrowed for it: most instances are filters.

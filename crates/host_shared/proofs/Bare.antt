@@ -53,6 +53,23 @@ module _ (sharing : List Locations) (i : ℕ) (p q : Option Span) (owners : HasO
   unfolding with_pieces_of
   two_put o e0 e1 e2 e3 n0 n3 = rw (e0, e1, e2, e3, put_nothing sharing i 0 (owners 0) n0, third_put n3) refl
 
+-- of an instance that sees no piece but maybe that of record 2, this one is put alone
+pub third_put_alone : (sharing : List Locations) (i : ℕ) → HasOwners sharing i → (o : Pieces) → o.p0 ≡ None → o.p1 ≡ None → o.p3 ≡ None
+    → piece_seen sharing i 0 ≡ None → piece_seen sharing i 1 ≡ None → piece_seen sharing i 3 ≡ None
+    → with_pieces_of sharing i o ≡ put_piece sharing i 2 o.p2
+unfolding with_pieces_of
+third_put_alone sharing i owners o e0 e1 e3 n0 n1 n3 =
+    rw (
+      e0,
+      e1,
+      e3,
+      put_nothing sharing i 0 (owners 0) n0,
+      put_nothing sharing i 1 (owners 1) n1,
+      put_nothing (put_piece sharing i 2 o.p2) i 3
+          (owner_after sharing i 2 o.p2 (owners 2) (omega arith) 3 (owners 3))
+          (seen_beside sharing i 2 o.p2 (owners 2) (omega arith) 3 (omega arith) ∙ n3),
+    ) refl
+
 -- of an instance that keeps what it sees but the piece of record 1, that one is put alone
 module _ (sharing : List Locations) (i : ℕ) (p : Option Span) (owners : HasOwners sharing i) where
   abbrev over_one : Pieces

@@ -12,7 +12,8 @@ mod tables;
 
 pub use joining::{Sharers, join};
 pub use locations::{
-    Location, Locations, borrow_pieces, end_absent, give_back_pieces, next_with_owner, owner, sees,
+    Location, Locations, borrow_pieces, end_absent, exchange_third, give_back_pieces,
+    has_none_but_third, next_with_owner, owner, sees,
 };
 pub use sharers::{hand_on, next_sharers};
 pub use tables::{empty_sharing, end_sharing};

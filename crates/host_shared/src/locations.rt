@@ -29,6 +29,18 @@ impl Location {
         }
     }
 
+    /// Exchanges the piece, which is here, for this one, in place: no piece is moved from hand to hand.
+    fn exchange(&mut self, piece: &mut Option<Piece>)
+        requires here { self.old ≡ Here (piece_here self.old) }
+        ensures piece { piece.new ≡ piece_here self.old }
+        ensures here { self.new ≡ Here piece.old }
+    {
+        match self {
+            Location::Here(own) => mem::swap(own, piece),
+            Location::At(_owner) => unreachable!(),
+        }
+    }
+
     /// Whether there is no piece, neither here nor at an owner.
     pub(crate) fn is_nothing(&self) -> bool
         ensures { result ≡ true → self.now ≡ Here None }
@@ -78,6 +90,15 @@ impl Locations {
         ensures s3 { result ≡ true → self.now.s3 ≡ Here None }
     {
         self.s0.is_nothing() && self.s3.is_nothing()
+    }
+
+    /// Whether its instance has no piece but maybe that of record 2.
+    fn is_bare_but_third(&self) -> bool
+        ensures s0 { result ≡ true → self.now.s0 ≡ Here None }
+        ensures s1 { result ≡ true → self.now.s1 ≡ Here None }
+        ensures s3 { result ≡ true → self.now.s3 ≡ Here None }
+    {
+        self.s1.is_nothing() && self.s0.is_nothing() && self.s3.is_nothing()
     }
 
     /// Where the piece of record `k` is.
@@ -279,6 +300,39 @@ pub fn give_back_pieces(sharing: &mut Vec<Locations>, i: usize, pieces: Pieces)
         return;
     }
     put_each(sharing, i, pieces);
+}
+
+/// Whether an instance has no piece but maybe that of record 2: of the kinds with a write-once record, most have it there.
+#[inline(always)]
+pub fn has_none_but_third(sharing: &Vec<Locations>, i: usize) -> bool
+    requires number { i < length sharing.now.items }
+    ensures p0 { result ≡ true → piece_seen sharing.now.items i 0 ≡ None }
+    ensures p1 { result ≡ true → piece_seen sharing.now.items i 1 ≡ None }
+    ensures p3 { result ≡ true → piece_seen sharing.now.items i 3 ≡ None }
+{
+    sharing[i].is_bare_but_third()
+}
+
+/// Exchanges the piece of record 2 of an instance, which its owner has, for that of these pieces, in place: where the instance has no other,
+/// its pieces are borrowed for none, and given back for none.
+#[inline(always)]
+pub fn exchange_third(sharing: &mut Vec<Locations>, i: usize, pieces: &mut Pieces)
+    requires number { i < length sharing.old.items }
+    requires owners { HasOwners sharing.old.items i }
+    requires seen0 { piece_seen sharing.old.items i 0 ≡ None }
+    requires seen1 { piece_seen sharing.old.items i 1 ≡ None }
+    requires seen3 { piece_seen sharing.old.items i 3 ≡ None }
+    requires p0 { pieces.old.p0 ≡ None }
+    requires p1 { pieces.old.p1 ≡ None }
+    requires p3 { pieces.old.p3 ≡ None }
+    ensures pieces { pieces.new ≡ shared_at sharing.old.items i }
+    ensures left { sharing.new.items ≡ with_pieces_of sharing.old.items i pieces.old }
+    ensures length { length sharing.new.items ≡ length sharing.old.items }
+    ensures owners { HasOwners sharing.new.items i }
+    ensures seen { shared_at sharing.new.items i ≡ pieces.old }
+{
+    let at = owner(sharing, i, 2);
+    sharing[at].s2.exchange(&mut pieces.p2);
 }
 
 /// Whether the owner of record `k` has its piece.

@@ -1,5 +1,5 @@
 use Rattle.host_table.proofs.Lendings.{seen_back, locations_back}
-use Rattle.host_moves.proofs.told.follow_sharing.Goals as goal
+use Rattle.host_moves.proofs.told.follow_each.Goals as goal
 
 pub moved-requires-clause-fits : goal.moved-requires-clause-fits
 moved-requires-clause-fits g c = rw c.borrow_pieces-shared.ensures.pieces c.requires.fits
