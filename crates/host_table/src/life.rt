@@ -6,7 +6,7 @@ ghost use Rattle.lifecycle.specs.Moves.{HasRoom, settled};
 ghost use Rattle.lifecycle.specs.declared.instance.Inst.TheVariants.{Idling};
 ghost use Rattle.mem_rec.specs.declared.TheConstants.{INSTANCES, GROUPS};
 ghost use Rattle.host_table.specs.declared.member.Member.{Member};
-ghost use Rattle.host_shared.specs.Locations.{location_at, locations_at, owner_of, shared_at, no_pieces};
+ghost use Rattle.host_shared.specs.Locations.{location_at, locations_at, owner_of, piece_seen, shared_at, no_pieces};
 ghost use Rattle.host_shared.specs.Owners.{HasOwners, IsSameLocation, with_pieces_of};
 ghost use Rattle.host_shared.specs.Sharing.{left_with, next_sharer, location_without, AreLeast};
 ghost use Rattle.host_table.specs.Table.{slot_at, group_at, own_of, instance_of, active_in, slot_active_in, deactivated_by, ActivitiesAre};
@@ -20,7 +20,10 @@ ghost use Rattle.host_table.specs.Turns.{CanBeLent, HasBegun};
 
 use crate::member::group_number;
 use crate::{Member, Tables};
-use host_shared::{Locations, Sharers, borrow_pieces, end_absent, give_back_pieces, hand_on, join};
+use host_shared::{
+    Locations, Sharers, borrow_pieces, end_absent, exchange_third, give_back_pieces, hand_on,
+    has_none_but_third, join,
+};
 use ialg::{Ialg, Params};
 use lifecycle::{Idle, Inst};
 use mem_rec::MemTab;
@@ -99,7 +102,7 @@ pub fn start<M: Ialg>(
 
 /// Starts an idle instance, with its write-once records borrowed from their owners.
 #[inline(never)]
-fn start_sharing<M: Ialg>(idle: &mut Idle<M>, sharing: &mut Vec<Locations>, i: u8, group: &Group)
+fn start_each<M: Ialg>(idle: &mut Idle<M>, sharing: &mut Vec<Locations>, i: u8, group: &Group)
     requires number { i < length sharing.old.items }
     requires owners { HasOwners sharing.old.items i }
     requires room { HasRoom idle.old.instance (shared_at sharing.old.items i) group.now }
@@ -109,6 +112,41 @@ fn start_sharing<M: Ialg>(idle: &mut Idle<M>, sharing: &mut Vec<Locations>, i: u
     let mut shared = borrow_pieces(sharing, i as usize);
     idle.start(&mut shared, group);
     give_back_pieces(sharing, i as usize, shared);
+}
+
+/// Starts an idle instance, as [`start_each`] does, that has no write-once record but maybe record 2: its piece alone is borrowed.
+#[inline(always)]
+fn start_third<M: Ialg>(idle: &mut Idle<M>, sharing: &mut Vec<Locations>, i: u8, group: &Group)
+    requires number { i < length sharing.old.items }
+    requires owners { HasOwners sharing.old.items i }
+    requires room { HasRoom idle.old.instance (shared_at sharing.old.items i) group.now }
+    requires seen0 { piece_seen sharing.old.items i 0 ≡ None }
+    requires seen1 { piece_seen sharing.old.items i 1 ≡ None }
+    requires seen3 { piece_seen sharing.old.items i 3 ≡ None }
+    ensures seen { sharing.new.items ≡ with_pieces_of sharing.old.items i (shared_at sharing.new.items i) }
+    ensures begun { HasBegun M.law idle.old.instance idle.new.instance (shared_at sharing.old.items i) (shared_at sharing.new.items i) group.now }
+{
+    let mut shared = Pieces::none();
+    exchange_third(sharing, i as usize, &mut shared);
+    idle.start(&mut shared, group);
+    exchange_third(sharing, i as usize, &mut shared);
+    end_absent(shared);
+}
+
+/// Starts an idle instance, with its write-once records borrowed from their owners. Most that have any have record 2 alone.
+#[inline(never)]
+fn start_sharing<M: Ialg>(idle: &mut Idle<M>, sharing: &mut Vec<Locations>, i: u8, group: &Group)
+    requires number { i < length sharing.old.items }
+    requires owners { HasOwners sharing.old.items i }
+    requires room { HasRoom idle.old.instance (shared_at sharing.old.items i) group.now }
+    ensures seen { sharing.new.items ≡ with_pieces_of sharing.old.items i (shared_at sharing.new.items i) }
+    ensures begun { HasBegun M.law idle.old.instance idle.new.instance (shared_at sharing.old.items i) (shared_at sharing.new.items i) group.now }
+{
+    if has_none_but_third(sharing, i as usize) {
+        start_third(idle, sharing, i, group);
+    } else {
+        start_each(idle, sharing, i, group);
+    }
 }
 
 /// Starts an idle instance, as [`start_sharing`] does. A filter has no write-once record, so nothing is borrowed for it: most instances are
@@ -198,7 +236,7 @@ fn free_lent<M: Ialg>(idle: &mut Idle<M>, shared: &mut Pieces, group: &Group) ->
 
 /// Tells the kind of an idle instance that it ends, as [`free_lent`] does, with its write-once records borrowed from their owners.
 #[inline(never)]
-fn free_sharing<M: Ialg>(
+fn free_each<M: Ialg>(
     idle: &mut Idle<M>,
     sharing: &mut Vec<Locations>,
     i: u8,
@@ -215,6 +253,56 @@ fn free_sharing<M: Ialg>(
     let own = free_lent(idle, &mut shared, group);
     give_back_pieces(sharing, i as usize, shared);
     own
+}
+
+/// Tells the kind of an idle instance that it ends, as [`free_each`] does, that has no write-once record but maybe record 2: its piece alone
+/// is borrowed.
+#[inline(always)]
+fn free_third<M: Ialg>(
+    idle: &mut Idle<M>,
+    sharing: &mut Vec<Locations>,
+    i: u8,
+    group: &Group,
+) -> Pieces
+    requires lent { CanBeLent idle.old.instance sharing.old.items i group.now }
+    requires seen0 { piece_seen sharing.old.items i 0 ≡ None }
+    requires seen1 { piece_seen sharing.old.items i 1 ≡ None }
+    requires seen3 { piece_seen sharing.old.items i 3 ≡ None }
+    ensures own { SamePieces idle.old.instance.own result }
+    ensures seen { sharing.new.items ≡ with_pieces_of sharing.old.items i (shared_at sharing.new.items i) }
+    ensures shared { SamePieces (shared_at sharing.old.items i) (shared_at sharing.new.items i) }
+    ensures once { SameOnce idle.old.instance.table (shared_at sharing.old.items i) (shared_at sharing.new.items i) }
+    ensures left { idle.new.instance.own ≡ no_pieces }
+{
+    let mut shared = Pieces::none();
+    exchange_third(sharing, i as usize, &mut shared);
+    let own = free_lent(idle, &mut shared, group);
+    exchange_third(sharing, i as usize, &mut shared);
+    end_absent(shared);
+    own
+}
+
+/// Tells the kind of an idle instance that it ends, as [`free_lent`] does, with its write-once records borrowed from their owners. Most that have
+/// any have record 2 alone.
+#[inline(never)]
+fn free_sharing<M: Ialg>(
+    idle: &mut Idle<M>,
+    sharing: &mut Vec<Locations>,
+    i: u8,
+    group: &Group,
+) -> Pieces
+    requires lent { CanBeLent idle.old.instance sharing.old.items i group.now }
+    ensures own { SamePieces idle.old.instance.own result }
+    ensures seen { sharing.new.items ≡ with_pieces_of sharing.old.items i (shared_at sharing.new.items i) }
+    ensures shared { SamePieces (shared_at sharing.old.items i) (shared_at sharing.new.items i) }
+    ensures once { SameOnce idle.old.instance.table (shared_at sharing.old.items i) (shared_at sharing.new.items i) }
+    ensures left { idle.new.instance.own ≡ no_pieces }
+{
+    if has_none_but_third(sharing, i as usize) {
+        free_third(idle, sharing, i, group)
+    } else {
+        free_each(idle, sharing, i, group)
+    }
 }
 
 /// Tells the kind of an idle instance that it ends, as [`free_sharing`] does. A filter has no write-once record, so nothing is borrowed for

@@ -1,5 +1,5 @@
 use Rattle.host_table.proofs.Lendings.{seen_back, locations_back}
-use Rattle.host_table.proofs.life.start_sharing.Goals as goal
+use Rattle.host_table.proofs.life.start_each.Goals as goal
 
 pub start-requires : goal.start-requires
 start-requires g c = record { fits = rw c.borrow_pieces-shared.ensures.pieces c.requires.room }

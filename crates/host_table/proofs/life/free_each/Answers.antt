@@ -1,5 +1,5 @@
 use Rattle.host_table.proofs.Lendings.{seen_back, locations_back}
-use Rattle.host_table.proofs.life.free_sharing.Goals as goal
+use Rattle.host_table.proofs.life.free_each.Goals as goal
 
 pub returns-clause-seen : goal.returns-clause-seen
 returns-clause-seen g c =
