@@ -42,7 +42,8 @@ pub fn value_of(word: &[u8]) -> Option<i32>
 #[inline(always)]
 fn short_digits(line: &[u8]) -> Option<(usize, u32)>
     requires { SHORT_DIGITS < length line.now }
-    ensures { IfSome result (λ digits. BeginsWithDigits line.now digits.0 digits.1) }
+    ensures digits { IfSome result (λ digits. BeginsWithDigits line.now digits.0 digits.1) }
+    ensures few { IfSome result (λ digits. digits.0 ≤ SHORT_DIGITS) }
 {
     let mut value = 0;
     for count in 0..SHORT_DIGITS + 1 {
@@ -80,19 +81,6 @@ fn last_digits(line: &[u8]) -> Option<(usize, u32)>
         None
     } else {
         Some((line.len(), value))
-    }
-}
-
-/// How many digits a line begins with, and their value, where they are a word: a blank stands behind them, or the line ends. None for every other
-/// line, and where the value is beyond the greatest magnitude.
-#[inline(always)]
-fn leading_digits(line: &[u8]) -> Option<(usize, u32)>
-    ensures { IfSome result (λ digits. BeginsWithDigits line.now digits.0 digits.1) }
-{
-    if line.len() > SHORT_DIGITS {
-        short_digits(line)
-    } else {
-        last_digits(line)
     }
 }
 
@@ -139,13 +127,33 @@ impl<'a> Number<'a> {
         (number, after)
     }
 
+    /// As [`part`](Self::part) does, where an octet stands behind those first ones.
+    #[inline(always)]
+    fn part_before(line: &'a [u8], end: usize, value: i32) -> (Number<'a>, &'a [u8])
+        requires within { end < length line.now }
+        requires numeric { is_number (take end line.now) ≡ true }
+        requires limits { Limits (value_of (take end line.now)) value }
+        ensures word { result.0.word.now ≡ take end line.now }
+        ensures after { result.1.now ≡ drop (end + 1) line.now }
+    {
+        let number = Number {
+            word: &line[..end],
+            value,
+        };
+        (number, &line[end + 1..])
+    }
+
     /// As [`leading`](Self::leading) does, for a number without a minus: None where the line begins with one.
     #[inline(always)]
     pub(crate) fn leading_natural(line: &'a [u8]) -> Option<(Number<'a>, &'a [u8])>
         ensures word { IfSome result (λ parts. words_of line.now ≡ parts.0.word.now ∷ words_of parts.1.now) }
         ensures shorter { IfSome result (λ parts. length parts.1.now < length line.now) }
     {
-        let (count, magnitude) = leading_digits(line)?;
+        if line.len() > SHORT_DIGITS {
+            let (count, magnitude) = short_digits(line)?;
+            return Some(Number::part_before(line, count, magnitude as i32));
+        }
+        let (count, magnitude) = last_digits(line)?;
         Some(Number::part(line, count, magnitude as i32))
     }
 
@@ -159,7 +167,11 @@ impl<'a> Number<'a> {
         match line {
             [] => None,
             [b'-', digits @ ..] => {
-                let (count, magnitude) = leading_digits(digits)?;
+                if digits.len() > SHORT_DIGITS {
+                    let (count, magnitude) = short_digits(digits)?;
+                    return Some(Number::part_before(line, count + 1, -(magnitude as i32)));
+                }
+                let (count, magnitude) = last_digits(digits)?;
                 Some(Number::part(line, count + 1, -(magnitude as i32)))
             }
             _ => Number::leading_natural(line),
