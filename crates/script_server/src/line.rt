@@ -16,7 +16,7 @@ use host_map::Map;
 use ialg::{Params, Refusal, Words};
 use octet_ports::{PortFault, PortIn, PortOut, read_octets, write_octets};
 use voice_script::{
-    Ask, BLOCK_OCTETS, FeedSamples, LINE_OCTETS, LineMachine, Reply, ReplyText, write_reply,
+    Ask, BLOCK_OCTETS, FeedSamples, LINE_OCTETS, LineMachine, Reply, ReplyText, line_of,
 };
 
 /// Room for the words of a line, for a map and for words that are told of, and the buffers of replies and feeds. To make them clears thousands of
@@ -83,8 +83,7 @@ fn tell<P: PortOut>(
     ensures failed { (P.sink replies.new).failed ≡ is_err result }
     ensures write { is_err result ≡ true → IsErrOf result PortsFault.Write }
 {
-    write_reply(reply, text);
-    if write_octets(replies, text.as_slice()).is_err() {
+    if write_octets(replies, line_of(reply, text)).is_err() {
         return Err(PortsFault::Write);
     }
     Ok(())

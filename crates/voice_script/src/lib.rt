@@ -22,7 +22,7 @@ pub use machine::{Ask, LineMachine};
 pub use members::Members;
 pub use numbers::value_of;
 pub use octets::{BLOCK_OCTETS, WORD_OCTETS};
-pub use replies::{Reply, ReplyText, reply_text, write_reply};
+pub use replies::{Reply, ReplyText, line_of, reply_text, write_reply};
 pub use rows::grammar_rows;
 pub use samples::FeedSamples;
 pub use width::{PortWidths, Width};

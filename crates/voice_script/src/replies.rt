@@ -219,6 +219,18 @@ pub fn write_reply(reply: &Reply<'_>, text: &mut ReplyText)
     text.push(b'\n');
 }
 
+/// The line of a reply, with its line feed. It is put in place of what the text held, but for the one that most commands have.
+#[inline(always)]
+pub fn line_of<'x>(reply: &Reply<'_>, text: &'x mut ReplyText) -> &'x [u8]
+    ensures { result.now ≡ reply_text (reply_of reply.now) }
+{
+    if matches!(reply, Reply::Done) {
+        return b"ok\n";
+    }
+    write_reply(reply, text);
+    text.as_slice()
+}
+
 /// The line that is written for a reply, with its line feed.
 pub fn reply_text(reply: &Reply<'_>) -> ReplyText
     ensures { result.items ≡ reply_text (reply_of reply.now) }
