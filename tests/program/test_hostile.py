@@ -45,7 +45,7 @@ feed 1 64
 unknown
 """
 # What docs/SCRIPTS.md says that a run takes, in bytes.
-STACK = 256 * 1024
+STACK = 128 * 1024
 ADDRESS_SPACE = 8 * 1024 * 1024
 
 
