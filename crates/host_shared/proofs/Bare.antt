@@ -3,6 +3,7 @@ use Rattle.std.proofs.Common.{◌≡◌, ◌≢◌, ◌<◌, ℕ, zero, suc, Lis
 use Rattle.std.proofs.lemmas.List.{set-get_or}
 use Rattle.space_raw.specs.Span.{Span}
 use Rattle.record_loans.specs.declared.pieces.Pieces.{Pieces}
+use Rattle.record_loans.specs.Pieces.{with_piece}
 use Rattle.host_shared.specs.declared.locations.Location.{Location}
 use Rattle.host_shared.specs.declared.locations.Location.TheVariants.{Here}
 use Rattle.host_shared.specs.declared.locations.Locations.{Locations}
@@ -70,25 +71,28 @@ third_put_alone sharing i owners o e0 e1 e3 n0 n1 n3 =
           (seen_beside sharing i 2 o.p2 (owners 2) (omega arith) 3 (omega arith) ∙ n3),
     ) refl
 
--- of an instance that keeps what it sees but the piece of record 1, that one is put alone
-module _ (sharing : List Locations) (i : ℕ) (p : Option Span) (owners : HasOwners sharing i) where
-  abbrev over_one : Pieces
-  over_one = let seen : Pieces = shared_at sharing i in record seen { p1 = p }
+-- of an instance that keeps what it sees but the piece of one record, that one is put alone
+module _ (sharing : List Locations) (i k : ℕ) (p : Option Span) (owners : HasOwners sharing i) (below : k < 4) where
+  put_over : (l : ℕ) → l ≢ k → put_piece (put_piece sharing i k p) i l (piece_seen sharing i l) ≡ put_piece sharing i k p
+  put_over l apart =
+      ap (put_piece (put_piece sharing i k p) i l) (sym (seen_beside sharing i k p (owners k) below l apart))
+      ∙ put_again (put_piece sharing i k p) i l (owner_after sharing i k p (owners k) below l (owners l))
 
-  put_over_one : (l : ℕ) → l ≢ 1 → put_piece (put_piece sharing i 1 p) i l (piece_seen sharing i l) ≡ put_piece sharing i 1 p
-  put_over_one l apart =
-      ap (put_piece (put_piece sharing i 1 p) i l) (sym (seen_beside sharing i 1 p (owners 1) (omega arith) l apart))
-      ∙ put_again (put_piece sharing i 1 p) i l (owner_after sharing i 1 p (owners 1) (omega arith) l (owners l))
+-- the same, record by record
+pub over_put : (sharing : List Locations) (i k : ℕ) (p : Option Span) → HasOwners sharing i → k < 4 → with_pieces_of sharing i (with_piece (shared_at sharing i) k p) ≡ put_piece sharing i k p
+unfolding with_pieces_of
+over_put sharing i zero p owners below = rw (put_over sharing i 0 p owners below 1 (omega arith), put_over sharing i 0 p owners below 2 (omega arith), put_over sharing i 0 p owners below 3 (omega arith)) refl
+over_put sharing i (suc zero) p owners below = rw (put_again sharing i 0 (owners 0), put_over sharing i 1 p owners below 2 (omega arith), put_over sharing i 1 p owners below 3 (omega arith)) refl
+over_put sharing i (suc (suc zero)) p owners below = rw (put_again sharing i 0 (owners 0), put_again sharing i 1 (owners 1), put_over sharing i 2 p owners below 3 (omega arith)) refl
+over_put sharing i (suc (suc (suc zero))) p owners below = rw (put_again sharing i 0 (owners 0), put_again sharing i 1 (owners 1), put_again sharing i 2 (owners 2)) refl
+over_put sharing i (suc (suc (suc (suc k)))) p owners below = absurd (omega (arith, below))
 
-  over_put : with_pieces_of sharing i over_one ≡ put_piece sharing i 1 p
-  unfolding with_pieces_of
-  over_put = rw (put_again sharing i 0 (owners 0), put_over_one 2 (omega arith), put_over_one 3 (omega arith)) refl
+module _ (sharing : List Locations) (i k : ℕ) (p : Option Span) (owners : HasOwners sharing i) (below : k < 4) where
+  pub seen_over : (sharing' : List Locations) → sharing' ≡ put_piece sharing i k p → shared_at sharing' i ≡ with_piece (shared_at sharing i) k p
+  seen_over sharing' is = ap (λ (s : List Locations). shared_at s i) (is ∙ sym (over_put sharing i k p owners below)) ∙ lent_here sharing i owners (with_piece (shared_at sharing i) k p)
 
-  pub seen_over : (sharing' : List Locations) → sharing' ≡ put_piece sharing i 1 p → shared_at sharing' i ≡ over_one
-  seen_over sharing' is = ap (λ (s : List Locations). shared_at s i) (is ∙ sym over_put) ∙ lent_here sharing i owners over_one
-
-  pub locations_over : (sharing' : List Locations) → sharing' ≡ put_piece sharing i 1 p → sharing' ≡ with_pieces_of sharing i (shared_at sharing' i)
-  locations_over sharing' is = rw (seen_over sharing' is) (is ∙ sym over_put)
+  pub locations_over : (sharing' : List Locations) → sharing' ≡ put_piece sharing i k p → sharing' ≡ with_pieces_of sharing i (shared_at sharing' i)
+  locations_over sharing' is = rw (seen_over sharing' is) (is ∙ sym (over_put sharing i k p owners below))
 
 -- where an instance has no piece, and names no owner, it sees none
 pub nothing_seen : (sharing : List Locations) (i k : ℕ) → location_at (locations_at sharing i) k ≡ Here None → piece_seen sharing i k ≡ None

@@ -1,5 +1,5 @@
 -- Who shares a write-once record with its owner, and what becomes of the owner's pieces when it is deleted.
-use Rattle.std.specs.Prelude.{ℕ, suc, ◌≡◌, ◌<◌, Bool, false, List, [], ◌∷◌, Option, Some, None, nat_eq, if◌then◌else◌}
+use Rattle.std.specs.Prelude.{ℕ, suc, ◌≡◌, ◌<◌, Bool, true, false, List, [], ◌∷◌, Option, Some, None, nat_eq, if◌then◌else◌}
 use Rattle.space_raw.specs.Span.{Span}
 use Rattle.record_loans.specs.declared.pieces.Pieces.{Pieces}
 use Rattle.host_shared.specs.declared.locations.Location.{Location}
@@ -11,6 +11,11 @@ use Rattle.host_shared.specs.Locations.{location_at, piece_here, locations_at}
 abbrev pub is_at : ℕ → Location → Bool
 is_at i (Here p) = false
 is_at i (At owner) = nat_eq owner i
+
+-- whether the location names an owner
+abbrev pub names_owner : Location → Bool
+names_owner (Here p) = false
+names_owner (At owner) = true
 
 -- the least-numbered instance, counted from n, that shares record k with its owner i
 abbrev pub sharer_from : ℕ → List Locations → ℕ → ℕ → Option ℕ

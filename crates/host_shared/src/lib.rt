@@ -13,7 +13,7 @@ mod tables;
 pub use joining::{Sharers, join};
 pub use locations::{
     Location, Locations, borrow_pieces, end_absent, exchange_third, give_back_pieces,
-    has_none_but_third, next_with_owner, owner, sees,
+    has_none_but_third, next_with_owner, owner, put_moved, sees, take_to_move,
 };
 pub use sharers::{hand_on, next_sharers};
 pub use tables::{empty_sharing, end_sharing};

@@ -1,11 +1,11 @@
 //! Where the pieces of an instance's write-once records are.
-ghost use Rattle.std.specs.Prelude.{◌≡◌, ◌≢◌, ◌<◌, ◌≤◌, ℕ, length, true, Option, None, is_some};
+ghost use Rattle.std.specs.Prelude.{◌≡◌, ◌≢◌, ◌<◌, ◌≤◌, ◌+◌, ◌*◌, ℕ, length, true, false, Option, Some, None, IsSome, is_some};
 ghost use Rattle.host_shared.specs.declared.locations.Location.TheVariants.{Here};
 ghost use Rattle.mem_rec.specs.declared.TheConstants.{TABLE_RECORDS, INSTANCES};
-ghost use Rattle.record_loans.specs.Pieces.{piece_at};
+ghost use Rattle.record_loans.specs.Pieces.{piece_at, with_piece};
 ghost use Rattle.host_shared.specs.Locations.{location_at, piece_here, pieces_here, locations_of, no_locations, locations_at, owner_of, piece_seen, shared_at, no_pieces};
 ghost use Rattle.host_shared.specs.Owners.{with_location, set_location, put_piece, with_pieces_of, HasOwner, HasOwners};
-ghost use Rattle.host_shared.specs.Sharing.{is_at};
+ghost use Rattle.host_shared.specs.Sharing.{is_at, names_owner};
 
 use mem_rec::INSTANCES;
 use record_loans::Pieces;
@@ -48,6 +48,16 @@ impl Location {
         match self {
             Location::Here(piece) => piece.is_none(),
             Location::At(_owner) => false,
+        }
+    }
+
+    /// Whether the location names an owner.
+    fn is_elsewhere(&self) -> bool
+        ensures { result ≡ names_owner self.now }
+    {
+        match self {
+            Location::Here(_) => false,
+            Location::At(_owner) => true,
         }
     }
 
@@ -154,18 +164,61 @@ pub fn owner(sharing: &Vec<Locations>, i: usize, k: usize) -> usize
     }
 }
 
-/// The least number from `from` on of an instance whose record `k` has this owner: [`INSTANCES`] where there is none.
+/// The number of the one write-once record that filters with constants have: its table is looked through by runs of slots.
+const THIRD: usize = 2;
+
+/// How many slots make a run. The count of all is a multiple of it.
+const RUN: usize = 8;
+
+/// Whether the third records of a run of slots name no owner. LLVM writes the run out and joins its tests, so that a slot costs one instruction.
+#[inline(always)]
+fn names_no_owner(sharing: &Vec<Locations>, run: usize) -> bool
+    requires count { length sharing.now.items ≡ INSTANCES }
+    requires run { run < 8 }
+    ensures { result ≡ true → (j : ℕ) → 8 * run ≤ j → j < 8 * run + 8 → names_owner (location_at (locations_at sharing.now.items j) 2) ≡ false }
+{
+    let mut elsewhere = false;
+    for t in 0..RUN {
+        elsewhere = elsewhere | sharing[RUN * run + t].s2.is_elsewhere();
+    }
+    !elsewhere
+}
+
+/// A number from `from` on, where the third records of all before it name no owner: the least of a run in which one does, or [`INSTANCES`].
+#[inline(always)]
+fn skip_runs(sharing: &Vec<Locations>, from: usize) -> usize
+    requires count { length sharing.now.items ≡ INSTANCES }
+    requires from { from ≤ INSTANCES }
+    ensures within { (from ≤ result) × (result ≤ INSTANCES) }
+    ensures passed { (j : ℕ) → from ≤ j → j < result → names_owner (location_at (locations_at sharing.now.items j) 2) ≡ false }
+{
+    for run in from / RUN..INSTANCES / RUN {
+        if !names_no_owner(sharing, run) {
+            return from.max(RUN * run);
+        }
+    }
+    INSTANCES
+}
+
+/// The least number from `from` on of an instance that shares record `k` with its owner `i`, who has a lower one: [`INSTANCES`] where there
+/// is none.
 #[inline(never)]
 pub fn next_with_owner(sharing: &Vec<Locations>, i: u8, k: usize, from: usize) -> usize
     requires count { length sharing.now.items ≡ INSTANCES }
     requires record { k < TABLE_RECORDS }
+    requires behind { i < from }
     requires from { from ≤ INSTANCES }
     ensures within { (from ≤ result) × (result ≤ INSTANCES) }
     ensures passed { (j : ℕ) → from ≤ j → j < result → owner_of sharing.now.items j k ≢ i }
     ensures found { result < INSTANCES → owner_of sharing.now.items result k ≡ i }
 {
-    for j in from..INSTANCES {
-        if owner(sharing, j, k) == i as usize {
+    let first = if k == THIRD {
+        skip_runs(sharing, from)
+    } else {
+        from
+    };
+    for j in first..INSTANCES {
+        if sharing[j].location(k).is_at(i) {
             return j;
         }
     }
@@ -273,6 +326,39 @@ fn put_each(sharing: &mut Vec<Locations>, i: usize, pieces: Pieces)
     put_record(sharing, i, 1, p1);
     put_record(sharing, i, 2, p2);
     put_record(sharing, i, 3, p3);
+}
+
+/// Takes the piece of record `k` out of its owner, to be moved: [`put_moved`] puts it back.
+#[inline(always)]
+pub fn take_to_move(sharing: &mut Vec<Locations>, i: usize, k: usize) -> Piece
+    requires number { i < length sharing.old.items }
+    requires owners { HasOwners sharing.old.items i }
+    requires record { k < TABLE_RECORDS }
+    requires owner { owner_of sharing.old.items i k ≡ i }
+    requires there { IsSome (piece_at (shared_at sharing.old.items i) k) }
+    ensures piece { piece_at (shared_at sharing.old.items i) k ≡ Some result }
+    ensures left { sharing.new.items ≡ with_pieces_of sharing.old.items i (with_piece (shared_at sharing.old.items i) k None) }
+    ensures owners { HasOwners sharing.new.items i }
+    ensures owner { owner_of sharing.new.items i k ≡ i }
+{
+    match replace_location(sharing, i, k, Location::Here(None)).piece() {
+        Some(piece) => piece,
+        None => unreachable!(),
+    }
+}
+
+/// Puts the piece of record `k` back into its owner, who has none.
+#[inline(always)]
+pub fn put_moved(sharing: &mut Vec<Locations>, i: usize, k: usize, piece: Piece)
+    requires number { i < length sharing.old.items }
+    requires owners { HasOwners sharing.old.items i }
+    requires owner { owner_of sharing.old.items i k ≡ i }
+    requires record { k < TABLE_RECORDS }
+    requires empty { piece_at (shared_at sharing.old.items i) k ≡ None }
+    ensures back { sharing.new.items ≡ with_pieces_of sharing.old.items i (with_piece (shared_at sharing.old.items i) k (Some piece)) }
+    ensures owner { owner_of sharing.new.items i k ≡ i }
+{
+    end_none(replace_location(sharing, i, k, Location::Here(Some(piece))).piece());
 }
 
 /// Whether there is no piece among these but maybe those of records 1 and 2.
