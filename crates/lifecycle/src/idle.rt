@@ -3,8 +3,10 @@ ghost use Rattle.std.specs.Prelude.{◌≡◌, ◌≤◌, ◌++◌, ℕ, ℤ, []
 ghost use Rattle.ialg.specs.History.{History, with_samples};
 ghost use Rattle.ialg.specs.Records.{unplaced, AreNew};
 ghost use Rattle.ialg.specs.Views.{control_of};
+ghost use Rattle.mem_rec.specs.Records.{is_table};
 ghost use Rattle.scratch_group.specs.Blocks.{BlocksArePoison, SameGroup};
-ghost use Rattle.record_loans.specs.Pieces.{piece_at, SamePieces};
+ghost use Rattle.record_loans.specs.Pieces.{only_third, piece_at, IsSamePiece, SamePieces};
+ghost use Rattle.scratch_group.specs.Sharing.{IsOfSharingFilter};
 ghost use Rattle.scratch_group.specs.Words.{idle_words};
 ghost use Rattle.lifecycle.specs.Moves.{CanRestore, with_back, settled, HasRoom, without_piece};
 ghost use Rattle.lifecycle.specs.States.{Fits, SameInstance, SameOnce, IsLawful, IdleKeeps, ActiveKeeps, all_outputs, SaysWhetherAccepted};
@@ -14,9 +16,10 @@ use crate::instance::{Instance, restore};
 use crate::steps::{Activate, ActivateAndProcess, Free, Init, Move};
 use ialg::{BLOCK_SAMPLES, Block, Ctl, Ialg, Params, copied};
 use mem_rec::MemTab;
-use record_loans::Pieces;
+use record_loans::{Pieces, SharingSizes};
 use scratch_group::{Group, lend_lasting, rebase};
-use space_raw::Piece;
+use space_raw::{Piece, end_none};
+use std::mem;
 
 /// An idle instance. Its own pieces and those of its write-once records keep its history.
 pub struct Idle<M> {
@@ -260,5 +263,38 @@ impl<M: Ialg> Idle<M> {
             shared,
             &mut (),
         );
+    }
+
+    /// Goes by the places as they are now, as [`moved`](Idle::moved) does, of a filter that shares its constants: the one piece that it is
+    /// lent stays where it stands.
+    #[inline(always)]
+    pub fn moved_sharing(
+        &mut self,
+        sizes: SharingSizes,
+        back: Option<(usize, Piece)>,
+        once: &mut Option<Piece>,
+        group: &Group,
+    )
+        requires table { IsTrue (is_table self.old.instance.table) }
+        requires sharing { IsOfSharingFilter self.old.instance.table sizes }
+        requires back { CanRestore back self.old.instance.own }
+        requires fits { HasRoom (with_back self.old.instance back) (only_third once.old) group.now }
+        ensures same { SameInstance (settled (with_back self.old.instance back) (only_third once.old) group.now) self.new.instance }
+        ensures shared { IsSamePiece once.old once.new }
+        ensures once { SameOnce self.new.instance.table (only_third once.old) (only_third once.new) }
+        ensures fits { Fits self.new.instance.table self.new.instance.own (only_third once.new) group.now }
+        ensures keeps { (w : Option ℤ) (h : History) → IdleKeeps M.law (with_back self.old.instance back) w (only_third once.old) h
+            → IdleKeeps M.law self.new.instance w (only_third once.new) h }
+    {
+        let _sizes = sizes;
+        let mut shared = Pieces::none();
+        mem::swap(&mut shared.p2, once);
+        self.moved(back, &mut shared, group);
+        mem::swap(&mut shared.p2, once);
+        let Pieces { p0, p1, p2, p3 } = shared;
+        end_none(p0);
+        end_none(p1);
+        end_none(p2);
+        end_none(p3);
     }
 }

@@ -24,6 +24,10 @@ with_piece ps (suc (suc (suc (suc k)))) p = ps
 abbrev pub only_second : Option Span → Pieces
 only_second p = record { p0 = None; p1 = p; p2 = None; p3 = None }
 
+-- this piece as that of record 2, and no other
+abbrev pub only_third : Option Span → Pieces
+only_third p = record { p0 = None; p1 = None; p2 = p; p3 = None }
+
 -- the words of a piece, none where there is none
 abbrev pub piece_words : Option Span → List ℤ
 piece_words None = []

@@ -13,7 +13,7 @@ use Rattle.record_loans.specs.Pieces.{piece_words}
 use Rattle.record_loans.specs.Blocks.{block_words}
 use Rattle.scratch_group.specs.declared.group.Group.{Group}
 use Rattle.scratch_group.specs.Words.{scratch_end, scratch_offset, record_words, active_words, idle_record_words, idle_words}
-use Rattle.scratch_group.specs.Plans.{IsOfSharingFilter}
+use Rattle.scratch_group.specs.Sharing.{IsOfSharingFilter}
 use Rattle.scratch_group.proofs.Ends.{next_end, scratch_end-suc}
 use Rattle.scratch_group.proofs.Cutting.{first_end, object_words}
 use Rattle.scratch_group.proofs.Filters.{none_at_0}

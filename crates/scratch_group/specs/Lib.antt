@@ -2,3 +2,4 @@ pub mod Blocks
 pub mod Words
 pub mod Plans
 pub mod Readers
+pub mod Sharing

@@ -13,8 +13,6 @@ use Rattle.record_loans.specs.declared.plan.Source.TheVariants.{Absent, Own, Sha
 use Rattle.record_loans.specs.declared.plan.Cut.{Cut}
 use Rattle.record_loans.specs.declared.plan.Plan.{Plan}
 use Rattle.record_loans.specs.declared.plan.FilterSizes.{FilterSizes}
-use Rattle.record_loans.specs.declared.plan.SharingSizes.{SharingSizes}
-use Rattle.scratch_group.specs.declared.plan.TheConstants.{SHARING_RECORDS}
 use Rattle.scratch_group.specs.Words.{scratch_end, scratch_offset}
 
 -- a record within the limits
@@ -71,20 +69,3 @@ pub record IsOfFilter (rs : List MemRec) (n : FilterSizes) : Type 0 where
 -- the table of no filter
 abbrev pub IsOfNoFilter : List MemRec → Type 0
 IsOfNoFilter rs = (n : FilterSizes) → IsOfFilter rs n → ⊥
-
--- the table of a filter that shares its constants, with these sizes: behind the object one persistent record, one write-once record, and one scratch record in `daram`
-pub record IsOfSharingFilter (rs : List MemRec) (n : SharingSizes) : Type 0 where
-  pub four : length rs ≡ SHARING_RECORDS
-  pub some : 1 ≤ n.object × 1 ≤ n.kept × 1 ≤ n.constants × 1 ≤ n.running
-  pub object : (record_at rs 0).size ≡ n.object
-  pub persistent : (record_at rs 1).attr ≡ Persist
-  pub kept : (record_at rs 1).size ≡ n.kept
-  pub shared : (record_at rs 2).attr ≡ WriteOnce
-  pub constants : (record_at rs 2).size ≡ n.constants
-  pub scratch : (record_at rs 3).attr ≡ Scratch
-  pub space : (record_at rs 3).space ≡ Daram
-  pub running : (record_at rs 3).size ≡ n.running
-
--- the table of no such filter
-abbrev pub IsOfNoSharingFilter : List MemRec → Type 0
-IsOfNoSharingFilter rs = (n : SharingSizes) → IsOfSharingFilter rs n → ⊥

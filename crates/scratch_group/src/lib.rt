@@ -14,4 +14,4 @@ mod plan;
 pub use bases::{lends_at_the_layout, rebase};
 pub use group::{Group, Need};
 pub use lasting::lend_lasting;
-pub use plan::{is_filter, reader_sizes};
+pub use plan::{is_filter, reader_sizes, sharing_sizes};

@@ -3,8 +3,9 @@ ghost use Rattle.std.specs.Prelude.{◌≡◌, ◌≤◌, ◌<◌, ◌+◌, ◌-
 ghost use Rattle.mem_rec.specs.Records.{is_table};
 ghost use Rattle.ialg.specs.Records.{record_at};
 ghost use Rattle.scratch_group.specs.Words.{is_filter, scratch_end, scratch_offset};
-ghost use Rattle.scratch_group.specs.Plans.{cut_of, idle_cut_of, active_plan_of, idle_plan_of, IsOfFilter, IsOfNoFilter, IsOfSharingFilter, IsOfNoSharingFilter, IsWithinLimits};
+ghost use Rattle.scratch_group.specs.Plans.{cut_of, idle_cut_of, active_plan_of, idle_plan_of, IsOfFilter, IsOfNoFilter, IsWithinLimits};
 ghost use Rattle.scratch_group.specs.Readers.{IsOfNoReader, IsOfReader};
+ghost use Rattle.scratch_group.specs.Sharing.{IsOfNoSharingFilter, IsOfSharingFilter};
 
 use ialg::FILTER_RECORDS;
 use mem_rec::{Attr, GREATEST_ALIGNMENT, MemRec, MemTab, RECORD_WORDS, Space};
@@ -236,7 +237,7 @@ pub fn reader_sizes(table: &MemTab) -> Option<ReaderSizes>
 /// The sizes of the records of a filter that shares its constants, where the table is one of such: behind the object one persistent record,
 /// one write-once record and one scratch record in `daram`. None for every other table.
 #[inline(always)]
-pub(crate) fn sharing_sizes(table: &MemTab) -> Option<SharingSizes>
+pub fn sharing_sizes(table: &MemTab) -> Option<SharingSizes>
     ensures sizes { MatchOption result (IsOfNoSharingFilter table.now) (IsOfSharingFilter table.now) }
     ensures table { IsTrue (is_table table.now) }
 {

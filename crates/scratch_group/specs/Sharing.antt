@@ -1,0 +1,25 @@
+-- Tables of filters that share their constants.
+use Rattle.std.specs.Prelude.{◌≡◌, ◌≤◌, List, length}
+use Rattle.mem_rec.specs.declared.MemRec.{MemRec}
+use Rattle.mem_rec.specs.declared.Space.TheVariants.{Daram}
+use Rattle.mem_rec.specs.declared.Attr.TheVariants.{Scratch, Persist, WriteOnce}
+use Rattle.ialg.specs.Records.{record_at}
+use Rattle.record_loans.specs.declared.plan.SharingSizes.{SharingSizes}
+use Rattle.scratch_group.specs.declared.plan.TheConstants.{SHARING_RECORDS}
+
+-- the table of a filter that shares its constants, with these sizes: behind the object one persistent record, one write-once record, and one scratch record in `daram`
+pub record IsOfSharingFilter (rs : List MemRec) (n : SharingSizes) : Type 0 where
+  pub four : length rs ≡ SHARING_RECORDS
+  pub some : 1 ≤ n.object × 1 ≤ n.kept × 1 ≤ n.constants × 1 ≤ n.running
+  pub object : (record_at rs 0).size ≡ n.object
+  pub persistent : (record_at rs 1).attr ≡ Persist
+  pub kept : (record_at rs 1).size ≡ n.kept
+  pub shared : (record_at rs 2).attr ≡ WriteOnce
+  pub constants : (record_at rs 2).size ≡ n.constants
+  pub scratch : (record_at rs 3).attr ≡ Scratch
+  pub space : (record_at rs 3).space ≡ Daram
+  pub running : (record_at rs 3).size ≡ n.running
+
+-- the table of no such filter
+abbrev pub IsOfNoSharingFilter : List MemRec → Type 0
+IsOfNoSharingFilter rs = (n : SharingSizes) → IsOfSharingFilter rs n → ⊥
