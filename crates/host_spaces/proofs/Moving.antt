@@ -6,7 +6,7 @@ use Rattle.std.proofs.Math.Seq.{take-append_seam}
 use Rattle.std.proofs.lemmas.Bool.{eqb-true}
 use Rattle.std.proofs.lemmas.List.{length-map, map-append}
 use Rattle.space_raw.specs.Span.{Extent, Span}
-use Rattle.relocate.specs.Places.{lower_place, IsAlignment, IsSpaceSize}
+use Rattle.relocate.specs.Places.{Range, lower_place, IsAlignment, IsSpaceSize}
 use Rattle.space_heap.specs.Maps.{HeapState, Holds, range_of}
 use Rattle.relocate.proofs.RangeTests.{when_not}
 use Rattle.relocate.specs.declared.packing.Move.{Move}
@@ -79,6 +79,17 @@ is_next_by bs s (Some m) order e it =
 
 pub is_next : (bs : List Placed) (s : Span) → AreSpots (spots_of bs) → option_map block_range (next_block bs) ≡ Some (range_of s) → IsNext bs s
 is_next bs s order it = is_next_by bs s (next_in bs) order refl it
+
+-- its index is that of the next move
+module _ (bs : List Placed) (s : Span) (nx : IsNext bs s) (k : ℕ) (is : option_map (λ (m : Move). m.index) (next_in bs) ≡ Some k) where
+  index_is : nx.move.index ≡ k
+  index_is = let e : Some nx.move.index ≡ Some k = ap (option_map (λ (m : Move). m.index)) (sym nx.next) ∙ is in cc
+
+  pub index_inside : k < length bs
+  index_inside = subst (λ (x : ℕ). x < length bs) index_is nx.inside
+
+  pub stands_there : (d : Placed) → (get_or bs k d).place ≡ s.place
+  stands_there d = subst (λ (x : ℕ). (get_or bs x d).place ≡ s.place) index_is (ap (λ (r : Range). r.place) (nx.range d))
 
 module _ (heap : HeapState) (bs : List Placed) (kept : AreKept heap bs) (m : Move) (e : next_in bs ≡ Some m) (d : Placed) (some : 0 < (get_or bs m.index d).size) where
   down : IsMoveDown (spots_of bs) m

@@ -127,12 +127,14 @@ impl SpaceBlocks {
         rename_each(self.blocks.as_mut_slice(), from, to);
     }
 
-    /// The block that moves next, as it stands: the first one that isn't at its packed place. `None` exactly where all are packed. The search begins behind the first blocks, so many as `packed`
-    /// says, which are known to be at their packed places; from then on it says how many of them are there once the move is made.
+    /// The block that moves next, as it stands: the first one that isn't at its packed place. `None` exactly where all are packed. The search
+    /// begins behind the first blocks, so many as `packed` says, which are known to be at their packed places; from then on it says how many
+    /// of them are there once the move is made, so that the block is the last of them.
     pub fn next_move_behind(&self, packed: &mut usize) -> Option<Placed>
         requires front { HasFront packed.old self.now.blocks }
         ensures value { result ≡ next_block self.now.blocks }
         ensures front { IsSome result → HasFront packed.new (moved self.now.blocks) }
+        ensures index { IsSome result → option_map (λ m. m.index + 1) (next_in self.now.blocks) ≡ Some packed.new }
         ensures none { result ≡ None → packed.new ≡ packed.old }
     {
         match next_move_behind(self.blocks.as_slice(), *packed) {
@@ -144,11 +146,11 @@ impl SpaceBlocks {
         }
     }
 
-    /// The next move is made, of the block that this piece is. It is slid down to its packed place with its words. The block is looked for at the
-    /// index `hint` first.
-    pub fn make_move(&mut self, piece: Piece, hint: usize) -> Piece
+    /// The next move is made, of the block of this index, which the piece is. It is slid down to its packed place with its words.
+    pub fn make_move(&mut self, piece: Piece, index: usize) -> Piece
         requires region { piece.region ≡ self.old.region }
         requires next { option_map block_range (next_block self.old.blocks) ≡ Some (range_of piece) }
+        requires index { option_map (λ m. m.index) (next_in self.old.blocks) ≡ Some index }
         ensures blocks { self.new.blocks ≡ moved self.old.blocks }
         ensures place { option_map (λ m. m.to) (next_in self.old.blocks) ≡ Some result.place }
         ensures words { (result.words ≡ piece.words) × (result.region ≡ piece.region) }
@@ -157,7 +159,6 @@ impl SpaceBlocks {
         ensures slid { self.new.slid ≡ min (self.old.slid + length piece.words) (2 ^ 64 - 1) }
         ensures stays { self.new.region ≡ self.old.region }
     {
-        let index = position_near(self.blocks.as_slice(), piece.place(), hint);
         let align = align_of(self.blocks.as_slice(), index);
         let moved = self.heap.lower(piece, align);
         put_at(&mut self.blocks, index, moved.place());
@@ -254,19 +255,6 @@ fn position(blocks: &[Placed], place: u32) -> usize
     ensures found { (d : Placed) → (slice_index_or blocks.now result d).place ≡ place }
 {
     count_before(blocks, place)
-}
-
-// The same, where it may be known: at `hint` it is looked for first.
-fn position_near(blocks: &[Placed], place: u32, hint: usize) -> usize
-    requires order { AreSpots (spots_of blocks.now) }
-    requires there { (b : Placed) × Contains blocks.now b × (b.place ≡ place) }
-    ensures within { result < length blocks.now }
-    ensures found { (d : Placed) → (slice_index_or blocks.now result d).place ≡ place }
-{
-    if hint < blocks.len() && blocks[hint].place == place {
-        return hint;
-    }
-    position(blocks, place)
 }
 
 // The alignment of a block.

@@ -86,21 +86,23 @@ impl Spaces {
     }
 
     /// The block of a space that moves next, as it stands. `None` exactly where all are packed. The search begins behind the first blocks, so many
-    /// as `packed` says, which are known to be at their packed places; from then on it says how many of them are there once the move is made.
+    /// as `packed` says, which are known to be at their packed places; from then on it says how many of them are there once the move is made,
+    /// so that the block is the last of them.
     pub fn next_move_behind(&self, space: Space, packed: &mut usize) -> Option<Placed>
         requires front { HasFront packed.old (blocks_in (map_of self.now) space) }
         ensures value { result ≡ next_block (blocks_in (map_of self.now) space) }
         ensures front { IsSome result → HasFront packed.new (moved (blocks_in (map_of self.now) space)) }
+        ensures index { IsSome result → option_map (λ m. m.index + 1) (next_in (blocks_in (map_of self.now) space)) ≡ Some packed.new }
         ensures none { result ≡ None → packed.new ≡ packed.old }
     {
         self.space(space).next_move_behind(packed)
     }
 
-    /// The next move of a space is made, of the block that this piece is. It is slid down to its packed place with its words. The block is looked for
-    /// at the index `hint` first.
-    pub fn make_move(&mut self, space: Space, piece: Piece, hint: usize) -> Piece
+    /// The next move of a space is made, of the block of this index, which the piece is. It is slid down to its packed place with its words.
+    pub fn make_move(&mut self, space: Space, piece: Piece, index: usize) -> Piece
         requires region { piece.region ≡ (space_in self.old space).region }
         requires next { option_map block_range (next_block (blocks_in (map_of self.old) space)) ≡ Some (range_of piece) }
+        requires index { option_map (λ m. m.index) (next_in (blocks_in (map_of self.old) space)) ≡ Some index }
         ensures map { map_of self.new ≡ moved_in (map_of self.old) space }
         ensures place { option_map (λ m. m.to) (next_in (blocks_in (map_of self.old) space)) ≡ Some result.place }
         ensures words { (result.words ≡ piece.words) × (result.region ≡ piece.region) }
@@ -113,9 +115,9 @@ impl Spaces {
         ensures regions { (any : Space) → (space_in self.new any).region ≡ (space_in self.old any).region }
     {
         match space {
-            Space::Daram => self.daram.make_move(piece, hint),
-            Space::Saram => self.saram.make_move(piece, hint),
-            Space::External => self.external.make_move(piece, hint),
+            Space::Daram => self.daram.make_move(piece, index),
+            Space::Saram => self.saram.make_move(piece, index),
+            Space::External => self.external.make_move(piece, index),
         }
     }
 

@@ -1,5 +1,6 @@
 -- The block of the move's index.
 use Rattle.std.proofs.Common.{◌≡◌, ◌<◌, ◌+◌, List, length, Option, Some, get_or, subst, sym, ◌∙◌, ap, arith}
+use Rattle.std.specs.Option.{option_map}
 use Rattle.relocate.specs.declared.packing.Move.{Move}
 use Rattle.relocate.specs.Spots.{AreSpots}
 use Rattle.host_map.specs.declared.placed.Owner.TheVariants.{Record}
@@ -48,3 +49,9 @@ returns-in-Some-clause-front c some =
     let bs = c.self.inside.blocks.items in let m = c.in-Some.field-0 in
     subst (λ (v : SpaceState). HasFront (m.index + 1) (moved v.blocks)) c.self.view_is
     (front_moved bs m c.self.invariant.0.order (next bs c.as_slice.result.now c.next_move_behind.result m c.as_slice.ensures.value c.next_move_behind.ensures.value c.in-Some.is))
+
+pub returns-in-Some-clause-index : goal.returns-in-Some-clause-index
+returns-in-Some-clause-index c some =
+    let bs = c.self.inside.blocks.items in let m = c.in-Some.field-0 in
+    subst (λ (v : SpaceState). option_map (λ (x : Move). x.index + 1) (next_in v.blocks) ≡ Some (m.index + 1)) c.self.view_is
+    (ap (option_map (λ (x : Move). x.index + 1)) (next bs c.as_slice.result.now c.next_move_behind.result m c.as_slice.ensures.value c.next_move_behind.ensures.value c.in-Some.is))
