@@ -1,5 +1,6 @@
 -- Whose block moves next.
-use Rattle.std.proofs.Common.{◌≡◌, ◌≢◌, ℕ, zero, suc, ◌⊎◌, inl, inr, Bool, true, false, List, [], ◌∷◌, Option, Some, None, refl, ◌∙◌, ap, subst, if◌then◌else◌}
+use Rattle.std.proofs.Common.{◌≡◌, ◌≢◌, ◌≤◌, ◌+◌, ◌-◌, ℕ, zero, suc, ◌⊎◌, inl, inr, Bool, true, false, List, [], ◌∷◌, Option, Some, None, refl, ◌∙◌, ap, subst, if◌then◌else◌, arith}
+use Rattle.std.specs.Option.{option_map}
 use Rattle.std.proofs.lemmas.Bool.Decides.{eqb_tells}
 use Rattle.std.proofs.lemmas.Option.{none-some, same_Some}
 use Rattle.space_raw.specs.Span.{Span}
@@ -104,3 +105,12 @@ next_record instances sharing groups spaces space i k standing next =
     (subst (λ (xs : List Placed). IsIn b xs) (owner_record spaces i (owner_of sharing i) (table_of m) (instance_of m.inst).own (shared_at sharing i) (group_at groups m.group) owner k space i here) among) in
     let piece = next_piece b (Record i k) (record_at (table_of m) k).align (piece_of_record (table_of m) (instance_of m.inst).own (shared_at sharing i) k) block.1 in
     record { member = m; there = slot.1; of_space = block.0; here = here; piece = piece.0; its = piece.1.0; next = next.1.0 ∙ ap Some piece.1.1 }
+
+-- a count of one more than the next move's index tells the index
+pub some_before : (o : Option Move) (n : ℕ) → option_map (λ (m : Move). m.index + 1) o ≡ Some n → 1 ≤ n
+some_before None n is = absurd (none-some _ is)
+some_before (Some m) n is = let e : m.index + 1 ≡ n = same_Some _ _ is in omega (arith, e)
+
+pub index_before : (o : Option Move) (n : ℕ) → option_map (λ (m : Move). m.index + 1) o ≡ Some n → option_map (λ (m : Move). m.index) o ≡ Some (n - 1)
+index_before None n is = absurd (none-some _ is)
+index_before (Some m) n is = let e : m.index + 1 ≡ n = same_Some _ _ is in ap Some (let less : m.index ≡ n - 1 = omega (arith, e) in less)

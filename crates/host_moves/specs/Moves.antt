@@ -13,7 +13,9 @@ use Rattle.host_table.specs.Keeps.{Keeps}
 use Rattle.host_table.specs.View.{View}
 use Rattle.host_map.specs.declared.placed.Owner.{Owner}
 use Rattle.host_map.specs.declared.placed.Placed.{Placed}
-use Rattle.host_map.specs.Moves.{next_block}
+use Rattle.std.specs.Option.{option_map}
+use Rattle.relocate.specs.declared.packing.Move.{Move}
+use Rattle.host_map.specs.Moves.{next_block, next_in}
 use Rattle.host_spaces.specs.declared.spaces.Spaces.{Spaces}
 use Rattle.host_map.specs.MemoryMap.{blocks_in, moved_in}
 use Rattle.host_spaces.specs.MemoryMap.{copied_in, map_of, sizes_of}
@@ -22,6 +24,10 @@ use Rattle.host_moves.specs.Standing.{AgreeWithMap, SameInstances}
 -- the next block that moves in the space is this owner's
 abbrev pub IsNextOf : Spaces → Space → Owner → Type 0
 IsNextOf spaces space owner = (b : Placed) × ((next_block (blocks_in (map_of spaces) space) ≡ Some b) × (b.owner ≡ owner))
+
+-- the next block that moves in the space has this index
+abbrev pub IsNextIndex : Spaces → Space → ℕ → Type 0
+IsNextIndex spaces space index = option_map (λ (m : Move). m.index) (next_in (blocks_in (map_of spaces) space)) ≡ Some index
 
 -- the blocks of a group without an active member have the words that they had
 abbrev pub InactiveWordsStay : List Group → List Group → Type 0

@@ -24,5 +24,5 @@ pub use compaction::{compact, step};
 pub use held_laws::{apart, poisoned, slid, waiting, words};
 pub use laws::{loans_are_apart, maps_have_room};
 pub use order::in_order;
-pub use records::{put_once, take_once, take_own};
+pub use records::take_own;
 pub use told::{call_moved_of_sharers, tell};

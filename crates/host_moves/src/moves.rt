@@ -10,16 +10,16 @@ ghost use Rattle.host_map.specs.Moves.{next_block};
 ghost use Rattle.host_map.specs.MemoryMap.{blocks_in};
 ghost use Rattle.host_spaces.specs.MemoryMap.{map_of};
 ghost use Rattle.host_spaces.specs.Spaces.{HasFront};
-ghost use Rattle.host_moves.specs.Moves.{IsNextOf, Moved};
+ghost use Rattle.host_moves.specs.Moves.{IsNextIndex, IsNextOf, Moved};
 ghost use Rattle.host_table.specs.Steps.{AreConsistent};
 ghost use Rattle.host_moves.specs.Standing.{MapAgrees};
 
 use crate::blocks::{put_block, take_block};
 use crate::order::in_order;
-use crate::records::{put_once, take_once, take_own};
+use crate::records::take_own;
 use crate::told::{call_moved_of_sharers, tell};
 use host_map::Owner;
-use host_shared::sees;
+use host_shared::{put_moved, sees, take_to_move};
 use host_spaces::Spaces;
 use host_table::{Tables, call_moved_in_group};
 use ialg::Ialg;
@@ -33,41 +33,43 @@ fn move_own<M: Ialg>(
     space: Space,
     i: u8,
     k: u8,
-    hint: usize,
+    index: usize,
 )
     requires ok { AreConsistent tables.old }
     requires standing { MapAgrees tables.old spaces.old }
     requires next { IsNextOf spaces.old space (Owner.Record i k) }
+    requires index { IsNextIndex spaces.old space index }
     requires own { IsSome (piece_at (own_of (slot_at tables.old.instances i)) k) }
     ensures { Moved M.law space tables.old spaces.old tables.new spaces.new }
 {
     let piece = take_own(&mut tables.instances, i, k as usize);
-    let moved = spaces.make_move(space, piece, hint);
+    let moved = spaces.make_move(space, piece, index);
     in_order(spaces);
     tell(tables, i, Some((k as usize, moved)));
 }
 
 /// Moves a write-once record that instance `i` owns, and calls algMoved of every instance that shares it.
-#[inline(never)]
+#[inline(always)]
 fn move_once<M: Ialg>(
     tables: &mut Tables<M>,
     spaces: &mut Spaces,
     space: Space,
     i: u8,
     k: u8,
-    hint: usize,
+    index: usize,
 )
     requires ok { AreConsistent tables.old }
     requires standing { MapAgrees tables.old spaces.old }
     requires next { IsNextOf spaces.old space (Owner.Record i k) }
+    requires index { IsNextIndex spaces.old space index }
     requires number { i < length tables.old.sharing }
     requires shared { IsSome (piece_at (shared_at tables.old.sharing i) k) }
     ensures { Moved M.law space tables.old spaces.old tables.new spaces.new }
 {
-    let piece = take_once(&mut tables.sharing, i, k as usize);
-    let moved = spaces.make_move(space, piece, hint);
+    let piece = take_to_move(&mut tables.sharing, i as usize, k as usize);
+    let moved = spaces.make_move(space, piece, index);
     in_order(spaces);
-    put_once(&mut tables.sharing, i, k as usize, moved);
+    put_moved(&mut tables.sharing, i as usize, k as usize, moved);
     call_moved_of_sharers(tables, i, k as usize);
 }
 
@@ -79,18 +81,19 @@ fn move_block<M: Ialg>(
     space: Space,
     g: u8,
     align: u32,
-    hint: usize,
+    index: usize,
 )
     requires ok { AreConsistent tables.old }
     requires standing { MapAgrees tables.old spaces.old }
     requires number { g < GROUPS }
     requires next { IsNextOf spaces.old space (Owner.Scratch g) }
+    requires index { IsNextIndex spaces.old space index }
     requires align { (b : Placed) → next_block (blocks_in (map_of spaces.old) space) ≡ Some b → b.align ≡ align }
     ensures { Moved M.law space tables.old spaces.old tables.new spaces.new }
 {
     match take_block(&mut tables.groups, g, space) {
         Some(piece) => {
-            let moved = spaces.make_move(space, piece, hint);
+            let moved = spaces.make_move(space, piece, index);
             in_order(spaces);
             let old = put_block(&mut tables.groups, g, space, moved, align);
             end_none(old);
@@ -121,16 +124,16 @@ pub fn make_next_move<M: Ialg>(
         return false;
     };
     // it is the last of those that are packed once it has moved
-    let hint = packed.saturating_sub(1);
+    let index = *packed - 1;
     match block.owner {
         Owner::Record(i, k) => {
             if sees(&tables.sharing, i as usize, k as usize) {
-                move_once(tables, spaces, space, i, k, hint);
+                move_once(tables, spaces, space, i, k, index);
             } else {
-                move_own(tables, spaces, space, i, k, hint);
+                move_own(tables, spaces, space, i, k, index);
             }
         }
-        Owner::Scratch(g) => move_block(tables, spaces, space, g, block.align, hint),
+        Owner::Scratch(g) => move_block(tables, spaces, space, g, block.align, index),
     }
     true
 }

@@ -1,11 +1,13 @@
 //! algMoved: instances follow their records to where these lie now.
-ghost use Rattle.std.specs.Prelude.{◌≡◌, ◌+◌, ◌<◌, ℕ, ℤ, Bool, length, Option, Some, None, IsSome};
+ghost use Rattle.std.specs.Prelude.{◌≡◌, ◌+◌, ◌<◌, ℕ, ℤ, Bool, length, Option, Some, IsSome, IsTrue};
 ghost use Rattle.mem_rec.specs.declared.TheConstants.{TABLE_RECORDS, INSTANCES};
+ghost use Rattle.mem_rec.specs.Records.{is_table};
+ghost use Rattle.scratch_group.specs.Sharing.{IsOfSharingFilter};
 ghost use Rattle.ialg.specs.History.{History};
 ghost use Rattle.lifecycle.specs.Moves.{restored, CanRestore, with_back, HasRoom};
 ghost use Rattle.host_table.specs.declared.member.Member.{Member};
 ghost use Rattle.host_table.specs.Table.{slot_at, group_at, own_of, instance_of, SameActivities};
-ghost use Rattle.host_shared.specs.Locations.{owner_of, piece_seen, shared_at};
+ghost use Rattle.host_shared.specs.Locations.{owner_of, shared_at};
 ghost use Rattle.host_shared.specs.Owners.{HasOwners, with_pieces_of};
 ghost use Rattle.host_shared.specs.Sharing.{AreLeast};
 ghost use Rattle.host_table.specs.Steps.{AreKept, AreConsistent, MembersStay, AllHistoriesStay};
@@ -14,16 +16,18 @@ ghost use Rattle.host_moves.specs.Following.{ActiveFollows, Follows};
 ghost use Rattle.host_moves.specs.Waiting.{own_set, all_but, all_from, holds_with, TablesThere, TablesBut, TablesWaiting, TablesWaitingBut};
 
 use host_shared::{
-    Locations, borrow_pieces, end_absent, exchange_third, give_back_pieces, has_none_but_third,
-    next_with_owner,
+    Location, Locations, borrow_pieces, end_absent, give_back_pieces, next_with_owner, owner,
 };
 use host_table::Tables;
 use ialg::Ialg;
 use lifecycle::{Active, Idle, Inst};
 use mem_rec::INSTANCES;
-use record_loans::Pieces;
-use scratch_group::{Group, is_filter};
+use record_loans::{Pieces, SharingSizes};
+use scratch_group::{Group, is_filter, sharing_sizes};
 use space_raw::Piece;
+
+/// The number of the record of a filter's constants.
+const CONSTANTS: usize = 2;
 
 /// Calls algMoved of an idle instance, with its write-once records borrowed from their owners.
 #[inline(never)]
@@ -46,34 +50,34 @@ fn follow_each<M: Ialg>(
     give_back_pieces(sharing, i as usize, shared);
 }
 
-/// Calls algMoved of an idle instance, as [`follow_each`] does, that has no write-once record but maybe record 2: its piece alone is borrowed.
+/// Calls algMoved of an idle filter that shares its constants, as [`follow_each`] does: their piece stays at its owner.
 #[inline(always)]
-fn follow_third<M: Ialg>(
+fn follow_sharing_filter<M: Ialg>(
     idle: &mut Idle<M>,
+    sizes: SharingSizes,
     back: Option<(usize, Piece)>,
     sharing: &mut Vec<Locations>,
     i: u8,
     group: &Group,
 )
+    requires table { IsTrue (is_table idle.old.instance.table) }
+    requires sharing { IsOfSharingFilter idle.old.instance.table sizes }
     requires back { CanRestore back idle.old.instance.own }
     requires number { i < length sharing.old.items }
     requires owners { HasOwners sharing.old.items i }
     requires fits { HasRoom (with_back idle.old.instance back) (shared_at sharing.old.items i) group.now }
-    requires seen0 { piece_seen sharing.old.items i 0 ≡ None }
-    requires seen1 { piece_seen sharing.old.items i 1 ≡ None }
-    requires seen3 { piece_seen sharing.old.items i 3 ≡ None }
     ensures seen { sharing.new.items ≡ with_pieces_of sharing.old.items i (shared_at sharing.new.items i) }
     ensures follows { Follows M.law back idle.old.instance idle.new.instance (shared_at sharing.old.items i) (shared_at sharing.new.items i) group.now }
 {
-    let mut shared = Pieces::none();
-    exchange_third(sharing, i as usize, &mut shared);
-    idle.moved(back, &mut shared, group);
-    exchange_third(sharing, i as usize, &mut shared);
-    end_absent(shared);
+    let at = owner(sharing, i as usize, CONSTANTS);
+    match &mut sharing[at].s2 {
+        Location::Here(once) => idle.moved_sharing(sizes, back, once, group),
+        Location::At(_owner) => unreachable!(),
+    }
 }
 
-/// Calls algMoved of an idle instance, with its write-once records borrowed from their owners. Most that have any have record 2 alone.
-#[inline(never)]
+/// Calls algMoved of an idle instance, with its write-once records borrowed from their owners, or lent where they stand.
+#[inline(always)]
 fn follow_sharing<M: Ialg>(
     idle: &mut Idle<M>,
     back: Option<(usize, Piece)>,
@@ -88,8 +92,8 @@ fn follow_sharing<M: Ialg>(
     ensures seen { sharing.new.items ≡ with_pieces_of sharing.old.items i (shared_at sharing.new.items i) }
     ensures follows { Follows M.law back idle.old.instance idle.new.instance (shared_at sharing.old.items i) (shared_at sharing.new.items i) group.now }
 {
-    if has_none_but_third(sharing, i as usize) {
-        follow_third(idle, back, sharing, i, group);
+    if let Some(sizes) = sharing_sizes(&idle.instance.table) {
+        follow_sharing_filter(idle, sizes, back, sharing, i, group);
     } else {
         follow_each(idle, back, sharing, i, group);
     }
@@ -199,6 +203,7 @@ pub fn call_moved_of_sharers<M: Ialg>(tables: &mut Tables<M>, i: u8, k: usize)
     requires number { i < INSTANCES }
     requires least { AreLeast tables.old.sharing }
     requires record { k < TABLE_RECORDS }
+    requires owner { owner_of tables.old.sharing i k ≡ i }
     requires waiting { TablesWaiting (holds_with tables.old.sharing i k) tables.old.instances tables.old.sharing tables.old.groups }
     ensures ok { AreConsistent tables.new }
     ensures inactive { InactiveGroupsStay tables.old.groups tables.new.groups }
@@ -206,7 +211,8 @@ pub fn call_moved_of_sharers<M: Ialg>(tables: &mut Tables<M>, i: u8, k: usize)
     ensures activity { SameActivities tables.old.groups tables.new.groups }
     ensures keeps { AllHistoriesStay M.law tables.old tables.new }
 {
-    let mut j = next_with_owner(&tables.sharing, i, k, i as usize);
+    call_moved_of_sharer(tables, i, k, i);
+    let mut j = next_with_owner(&tables.sharing, i, k, i as usize + 1);
     while j < INSTANCES {
         call_moved_of_sharer(tables, i, k, j as u8);
         j = next_with_owner(&tables.sharing, i, k, j + 1);

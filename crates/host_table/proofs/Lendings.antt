@@ -15,7 +15,7 @@ use Rattle.lifecycle.specs.declared.instance.Instance.{Instance}
 use Rattle.lifecycle.specs.States.{Fits, SameOnce, IdleKeeps, ActiveKeeps}
 use Rattle.host_shared.specs.declared.locations.Locations.{Locations}
 use Rattle.host_shared.specs.declared.locations.Location.TheVariants.{Here, At}
-use Rattle.host_shared.specs.Locations.{locations_at, owner_of, piece_here, piece_seen, shared_at, no_pieces}
+use Rattle.host_shared.specs.Locations.{location_at, locations_at, owner_of, piece_here, piece_seen, shared_at, no_pieces}
 use Rattle.host_shared.specs.Owners.{with_location, put_piece, with_pieces_of, HasOwners}
 use Rattle.host_shared.proofs.Bare.{read_locations}
 use Rattle.host_shared.proofs.Owners.{lent_here}
@@ -142,20 +142,20 @@ module _ (rs : List MemRec) (second : (k : ℕ) → (record_at rs k).attr ≡ Wr
 here_there : (p : Option Span) (owner : ℕ) → Here p ≡ At owner → ⊥
 here_there p owner e = cc
 
--- the piece of record 1 is lent where it stands
-module _ (sharing : List Locations) (i at : ℕ) (owners : HasOwners sharing i) (is : at ≡ owner_of sharing i 1) (s : Locations) (read : s ≡ slice_index_or sharing at s) where
-  stands : locations_at sharing (owner_of sharing i 1) ≡ s
-  stands = ap (locations_at sharing) (sym is) ∙ read_locations sharing at s (rw is (owners 1).inside) read
+-- the piece of a record is lent where it stands
+module _ (sharing : List Locations) (i k at : ℕ) (owners : HasOwners sharing i) (is : at ≡ owner_of sharing i k) (s : Locations) (read : s ≡ slice_index_or sharing at s) where
+  stands : locations_at sharing (owner_of sharing i k) ≡ s
+  stands = ap (locations_at sharing) (sym is) ∙ read_locations sharing at s (rw is (owners k).inside) read
 
-  pub second_seen : (p : Option Span) → s.s1 ≡ Here p → p ≡ piece_seen sharing i 1
-  second_seen p here = sym (ap (λ (l : Locations). piece_here l.s1) stands ∙ ap piece_here here)
+  pub seen_there : (p : Option Span) → location_at s k ≡ Here p → p ≡ piece_seen sharing i k
+  seen_there p here = sym (ap (λ (l : Locations). piece_here (location_at l k)) stands ∙ ap piece_here here)
 
-  pub second_here : (owner : ℕ) → s.s1 ≡ At owner → ⊥
-  second_here owner there =
-      let settled = (owners 1).settled in
-      here_there settled.0 owner (sym settled.1 ∙ ap (λ (l : Locations). l.s1) stands ∙ there)
+  pub not_elsewhere : (owner : ℕ) → location_at s k ≡ At owner → ⊥
+  not_elsewhere owner there =
+      let settled = (owners k).settled in
+      here_there settled.0 owner (sym settled.1 ∙ ap (λ (l : Locations). location_at l k) stands ∙ there)
 
-  pub second_put : (q : Option Span) → slice_set sharing at (with_location s 1 (Here q)) ≡ put_piece sharing i 1 q
-  second_put q =
-      ap (λ (k : ℕ). slice_set sharing k (with_location s 1 (Here q))) is
-      ∙ ap (λ (l : Locations). slice_set sharing (owner_of sharing i 1) (with_location l 1 (Here q))) (sym stands)
+  pub put_there : (q : Option Span) → slice_set sharing at (with_location s k (Here q)) ≡ put_piece sharing i k q
+  put_there q =
+      ap (λ (h : ℕ). slice_set sharing h (with_location s k (Here q))) is
+      ∙ ap (λ (l : Locations). slice_set sharing (owner_of sharing i k) (with_location l k (Here q))) (sym stands)

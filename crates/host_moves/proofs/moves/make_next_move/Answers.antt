@@ -2,10 +2,22 @@ use Rattle.std.proofs.Common.{is_some, true≢false, sym, ap, ◌∙◌, arith}
 use Rattle.std.proofs.lemmas.Option.{same_Some}
 use Rattle.host_map.specs.declared.placed.Placed.{Placed}
 use Rattle.host_table.proofs.Changes.{slot_in, owners_of_slot}
-use Rattle.host_moves.proofs.Nexts.{next_record}
+use Rattle.host_moves.proofs.Nexts.{index_before, next_record, some_before}
 use Rattle.host_moves.proofs.BlockMoves.{record_number, own_there, group_number}
 use Rattle.host_moves.proofs.Fronts.{front_stands}
 use Rattle.host_moves.proofs.moves.make_next_move.Goals as goal
+
+pub overflow_sub-index : goal.overflow_sub-index
+overflow_sub-index g c = some_before _ _ (c.next_move_behind.ensures.index (ap is_some c.in-Some.is))
+
+pub move_once-requires-clause-index : goal.move_once-requires-clause-index
+move_once-requires-clause-index g c = index_before _ _ (c.next_move_behind.ensures.index (ap is_some c.in-Some.is))
+
+pub move_own-requires-clause-index : goal.move_own-requires-clause-index
+move_own-requires-clause-index g c = index_before _ _ (c.next_move_behind.ensures.index (ap is_some c.in-Some.is))
+
+pub move_block-requires-clause-index : goal.move_block-requires-clause-index
+move_block-requires-clause-index g c = index_before _ _ (c.next_move_behind.ensures.index (ap is_some c.in-Some.is))
 
 pub sees-requires-clause-number : goal.sees-requires-clause-number
 sees-requires-clause-number g c =

@@ -4,34 +4,43 @@ use Rattle.host_spaces.specs.MemoryMap.{map_of}
 use Rattle.host_shared.proofs.Lent.{owners_of_all}
 use Rattle.host_table.proofs.Held.{owners_of_held}
 use Rattle.host_moves.proofs.Seen.{words_seen, words_at_rest}
+use Rattle.host_moves.proofs.BlockMoves.{record_number}
+use Rattle.host_moves.proofs.Nexts.{next_record}
 use Rattle.host_moves.proofs.Owners.{standing_stays}
 use Rattle.host_moves.proofs.OwnMoves.{kind_itself, then_same, same_sizes, words_copied}
 use Rattle.host_moves.proofs.OnceMoves.{next_is, region_is, range_is, below, inside_away, empty_there, back_is, least_now, waiting_now, stands, words_now}
 use Rattle.host_moves.proofs.moves.move_once.Goals as goal
-use Rattle.host_moves.proofs.moves.move_once.Goals.{After-put_once}
+use Rattle.host_moves.proofs.moves.move_once.Goals.{After-put_moved}
 
-pub take_once-piece-requires-clause-owners : goal.take_once-piece-requires-clause-owners
-take_once-piece-requires-clause-owners g c = owners_of_all _ c.args.i (owners_of_held _ _ (rw (← c.tables.view_is) at c.requires.ok).held) (rw (← c.tables.view_is) at c.requires.number)
+pub take_to_move-piece-requires-clause-owners : goal.take_to_move-piece-requires-clause-owners
+take_to_move-piece-requires-clause-owners g c = owners_of_all _ c.args.i (owners_of_held _ _ (rw (← c.tables.view_is) at c.requires.ok).held) (rw (← c.tables.view_is) at c.requires.number)
 
-pub put_once-requires-clause-number : goal.put_once-requires-clause-number
-put_once-requires-clause-number g c = rw c.take_once-piece.ensures.left (inside_away _ _ _ _ _ c.args.i c.args.k _ (rw (← c.tables.view_is) at c.requires.ok) (rw (← c.tables.view_is) at c.requires.standing) c.requires.next (rw (← c.tables.view_is) at c.requires.number) c.take_once-piece.ensures.piece)
+pub take_to_move-piece-requires-clause-record : goal.take_to_move-piece-requires-clause-record
+take_to_move-piece-requires-clause-record g c =
+    record_number _ _ c.args.spaces.now c.args.space c.args.i c.args.k (next_record _ _ _ c.args.spaces.now c.args.space c.args.i c.args.k (rw (← c.tables.view_is) at c.requires.standing) c.requires.next)
 
-pub put_once-requires-clause-record : goal.put_once-requires-clause-record
-put_once-requires-clause-record g c = below _ _ _ _ _ c.args.i c.args.k _ (rw (← c.tables.view_is) at c.requires.ok) (rw (← c.tables.view_is) at c.requires.standing) c.requires.next (rw (← c.tables.view_is) at c.requires.number) c.take_once-piece.ensures.piece
+pub take_to_move-piece-requires-clause-owner : goal.take_to_move-piece-requires-clause-owner
+take_to_move-piece-requires-clause-owner g c = (next_record _ _ _ c.args.spaces.now c.args.space c.args.i c.args.k (rw (← c.tables.view_is) at c.requires.standing) c.requires.next).here
 
-pub put_once-requires-clause-empty : goal.put_once-requires-clause-empty
-put_once-requires-clause-empty g c = rw c.take_once-piece.ensures.left (empty_there _ _ _ _ _ c.args.i c.args.k _ (rw (← c.tables.view_is) at c.requires.ok) (rw (← c.tables.view_is) at c.requires.standing) c.requires.next (rw (← c.tables.view_is) at c.requires.number) c.take_once-piece.ensures.piece)
+pub put_moved-requires-clause-number : goal.put_moved-requires-clause-number
+put_moved-requires-clause-number g c = rw c.take_to_move-piece.ensures.left (inside_away _ _ _ _ _ c.args.i c.args.k _ (rw (← c.tables.view_is) at c.requires.ok) (rw (← c.tables.view_is) at c.requires.standing) c.requires.next (rw (← c.tables.view_is) at c.requires.number) c.take_to_move-piece.ensures.piece)
 
-pub put_once-requires-clause-owners : goal.put_once-requires-clause-owners
-put_once-requires-clause-owners g c = c.take_once-piece.ensures.owners
+pub put_moved-requires-clause-record : goal.put_moved-requires-clause-record
+put_moved-requires-clause-record g c = below _ _ _ _ _ c.args.i c.args.k _ (rw (← c.tables.view_is) at c.requires.ok) (rw (← c.tables.view_is) at c.requires.standing) c.requires.next (rw (← c.tables.view_is) at c.requires.number) c.take_to_move-piece.ensures.piece
+
+pub put_moved-requires-clause-empty : goal.put_moved-requires-clause-empty
+put_moved-requires-clause-empty g c = rw c.take_to_move-piece.ensures.left (empty_there _ _ _ _ _ c.args.i c.args.k _ (rw (← c.tables.view_is) at c.requires.ok) (rw (← c.tables.view_is) at c.requires.standing) c.requires.next (rw (← c.tables.view_is) at c.requires.number) c.take_to_move-piece.ensures.piece)
+
+pub put_moved-requires-clause-owners : goal.put_moved-requires-clause-owners
+put_moved-requires-clause-owners g c = c.take_to_move-piece.ensures.owners
 
 pub make_move-moved-requires-clause-region : goal.make_move-moved-requires-clause-region
 make_move-moved-requires-clause-region g c =
-    region_is _ _ _ _ _ c.args.i c.args.k _ (rw (← c.tables.view_is) at c.requires.ok) (rw (← c.tables.view_is) at c.requires.standing) c.requires.next (rw (← c.tables.view_is) at c.requires.number) c.take_once-piece.ensures.piece
+    region_is _ _ _ _ _ c.args.i c.args.k _ (rw (← c.tables.view_is) at c.requires.ok) (rw (← c.tables.view_is) at c.requires.standing) c.requires.next (rw (← c.tables.view_is) at c.requires.number) c.take_to_move-piece.ensures.piece
 
 pub make_move-moved-requires-clause-next : goal.make_move-moved-requires-clause-next
 make_move-moved-requires-clause-next g c =
-    range_is _ _ _ _ _ c.args.i c.args.k _ (rw (← c.tables.view_is) at c.requires.ok) (rw (← c.tables.view_is) at c.requires.standing) c.requires.next (rw (← c.tables.view_is) at c.requires.number) c.take_once-piece.ensures.piece
+    range_is _ _ _ _ _ c.args.i c.args.k _ (rw (← c.tables.view_is) at c.requires.ok) (rw (← c.tables.view_is) at c.requires.standing) c.requires.next (rw (← c.tables.view_is) at c.requires.number) c.take_to_move-piece.ensures.piece
 
 pub call_moved_of_sharers-requires-clause-number : goal.call_moved_of_sharers-requires-clause-number
 call_moved_of_sharers-requires-clause-number g c =
@@ -41,27 +50,27 @@ call_moved_of_sharers-requires-clause-number g c =
 
 pub call_moved_of_sharers-requires-clause-least : goal.call_moved_of_sharers-requires-clause-least
 call_moved_of_sharers-requires-clause-least g c =
-    rw (c.put_once.ensures, c.take_once-piece.ensures.left, back_is _ _ _ _ _ c.args.i c.args.k _ (rw (← c.tables.view_is) at c.requires.ok) (rw (← c.tables.view_is) at c.requires.standing) c.requires.next (rw (← c.tables.view_is) at c.requires.number) c.take_once-piece.ensures.piece c.make_move-moved.result)
-    (least_now _ _ _ _ _ c.args.i c.args.k _ (rw (← c.tables.view_is) at c.requires.ok) (rw (← c.tables.view_is) at c.requires.standing) c.requires.next (rw (← c.tables.view_is) at c.requires.number) c.take_once-piece.ensures.piece c.make_move-moved.result)
+    rw (c.put_moved.ensures.back, c.take_to_move-piece.ensures.left, back_is _ _ _ _ _ c.args.i c.args.k _ (rw (← c.tables.view_is) at c.requires.ok) (rw (← c.tables.view_is) at c.requires.standing) c.requires.next (rw (← c.tables.view_is) at c.requires.number) c.take_to_move-piece.ensures.piece c.make_move-moved.result)
+    (least_now _ _ _ _ _ c.args.i c.args.k _ (rw (← c.tables.view_is) at c.requires.ok) (rw (← c.tables.view_is) at c.requires.standing) c.requires.next (rw (← c.tables.view_is) at c.requires.number) c.take_to_move-piece.ensures.piece c.make_move-moved.result)
 
 pub call_moved_of_sharers-requires-clause-waiting : goal.call_moved_of_sharers-requires-clause-waiting
 call_moved_of_sharers-requires-clause-waiting g c =
-    rw (c.put_once.ensures, c.take_once-piece.ensures.left, back_is _ _ _ _ _ c.args.i c.args.k _ (rw (← c.tables.view_is) at c.requires.ok) (rw (← c.tables.view_is) at c.requires.standing) c.requires.next (rw (← c.tables.view_is) at c.requires.number) c.take_once-piece.ensures.piece c.make_move-moved.result)
-    (waiting_now _ _ _ _ _ c.args.i c.args.k _ (rw (← c.tables.view_is) at c.requires.ok) (rw (← c.tables.view_is) at c.requires.standing) c.requires.next (rw (← c.tables.view_is) at c.requires.number) c.take_once-piece.ensures.piece c.make_move-moved.result _
+    rw (c.put_moved.ensures.back, c.take_to_move-piece.ensures.left, back_is _ _ _ _ _ c.args.i c.args.k _ (rw (← c.tables.view_is) at c.requires.ok) (rw (← c.tables.view_is) at c.requires.standing) c.requires.next (rw (← c.tables.view_is) at c.requires.number) c.take_to_move-piece.ensures.piece c.make_move-moved.result)
+    (waiting_now _ _ _ _ _ c.args.i c.args.k _ (rw (← c.tables.view_is) at c.requires.ok) (rw (← c.tables.view_is) at c.requires.standing) c.requires.next (rw (← c.tables.view_is) at c.requires.number) c.take_to_move-piece.ensures.piece c.make_move-moved.result _
     c.make_move-moved.ensures.owned c.make_move-moved.ensures.others c.make_move-moved.ensures.elsewhere c.make_move-moved.ensures.regions
     c.make_move-moved.ensures.words.0 c.make_move-moved.ensures.words.1 c.in_order.ensures)
 
 pub returns : goal.returns
 returns g c =
     rw (← c.tables.view_is)
-    (let once_is = c.put_once.ensures in
-    let back = back_is _ _ _ _ _ c.args.i c.args.k _ (rw (← c.tables.view_is) at c.requires.ok) (rw (← c.tables.view_is) at c.requires.standing) c.requires.next (rw (← c.tables.view_is) at c.requires.number) c.take_once-piece.ensures.piece c.make_move-moved.result in
-    let same = rw (once_is, c.take_once-piece.ensures.left, back) at c.call_moved_of_sharers.ensures.same in
-    let keeps = rw (once_is, c.take_once-piece.ensures.left, back) at c.call_moved_of_sharers.ensures.keeps in
-    let location = stands _ _ _ _ _ c.args.i c.args.k _ (rw (← c.tables.view_is) at c.requires.ok) (rw (← c.tables.view_is) at c.requires.standing) c.requires.next (rw (← c.tables.view_is) at c.requires.number) c.take_once-piece.ensures.piece c.make_move-moved.result _
+    (let once_is = c.put_moved.ensures.back in
+    let back = back_is _ _ _ _ _ c.args.i c.args.k _ (rw (← c.tables.view_is) at c.requires.ok) (rw (← c.tables.view_is) at c.requires.standing) c.requires.next (rw (← c.tables.view_is) at c.requires.number) c.take_to_move-piece.ensures.piece c.make_move-moved.result in
+    let same = rw (once_is, c.take_to_move-piece.ensures.left, back) at c.call_moved_of_sharers.ensures.same in
+    let keeps = rw (once_is, c.take_to_move-piece.ensures.left, back) at c.call_moved_of_sharers.ensures.keeps in
+    let location = stands _ _ _ _ _ c.args.i c.args.k _ (rw (← c.tables.view_is) at c.requires.ok) (rw (← c.tables.view_is) at c.requires.standing) c.requires.next (rw (← c.tables.view_is) at c.requires.number) c.take_to_move-piece.ensures.piece c.make_move-moved.result _
     c.make_move-moved.ensures.owned c.make_move-moved.ensures.others c.make_move-moved.ensures.elsewhere c.make_move-moved.ensures.regions
     c.make_move-moved.ensures.words.0 c.make_move-moved.ensures.words.1 in
-    let words = words_now _ _ _ _ _ c.args.i c.args.k _ (rw (← c.tables.view_is) at c.requires.ok) (rw (← c.tables.view_is) at c.requires.standing) c.requires.next (rw (← c.tables.view_is) at c.requires.number) c.take_once-piece.ensures.piece c.make_move-moved.result _
+    let words = words_now _ _ _ _ _ c.args.i c.args.k _ (rw (← c.tables.view_is) at c.requires.ok) (rw (← c.tables.view_is) at c.requires.standing) c.requires.next (rw (← c.tables.view_is) at c.requires.number) c.take_to_move-piece.ensures.piece c.make_move-moved.result _
     c.make_move-moved.ensures.owned c.make_move-moved.ensures.others c.make_move-moved.ensures.elsewhere c.make_move-moved.ensures.regions
     c.make_move-moved.ensures.words.0 c.make_move-moved.ensures.words.1 in
     record {
@@ -72,6 +81,6 @@ returns g c =
       activity = c.call_moved_of_sharers.ensures.activity;
       map = c.make_move-moved.ensures.map;
       sizes = same_sizes _ _ c.make_move-moved.ensures.regions;
-      copied = words_copied (blocks_in (map_of c.args.spaces.now) c.args.space) _ _ _ _ c.take_once-piece.result (next_is _ _ _ _ _ c.args.i c.args.k _ (rw (← c.tables.view_is) at c.requires.ok) (rw (← c.tables.view_is) at c.requires.standing) c.requires.next (rw (← c.tables.view_is) at c.requires.number) c.take_once-piece.ensures.piece) c.make_move-moved.ensures.copied;
+      copied = words_copied (blocks_in (map_of c.args.spaces.now) c.args.space) _ _ _ _ c.take_to_move-piece.result (next_is _ _ _ _ _ c.args.i c.args.k _ (rw (← c.tables.view_is) at c.requires.ok) (rw (← c.tables.view_is) at c.requires.standing) c.requires.next (rw (← c.tables.view_is) at c.requires.number) c.take_to_move-piece.ensures.piece) c.make_move-moved.ensures.copied;
       keeps = λ w histories before. keeps w histories (words_seen g.M.Ialg.law w histories _ _ _ _ _ _ (rw (← c.tables.view_is) at c.requires.ok) words before);
     })

@@ -10,6 +10,7 @@ use Rattle.host_moves.proofs.told.call_moved_of_sharers.Given as goal
 
 abbrev pub invariant-loop-j : goal.invariant-loop-j
 invariant-loop-j g l = record {
+  behind : l.i < l.j;
   within : l.j ≤ INSTANCES;
   found : l.j < INSTANCES → owner_of l.tables.sharing l.j l.k ≡ l.i;
   waiting : TablesWaiting (all_from (holds_with l.tables.sharing l.i l.k) l.j) l.tables.instances l.tables.sharing l.tables.groups;
