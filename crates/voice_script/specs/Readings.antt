@@ -6,7 +6,7 @@ use Rattle.ialg.specs.declared.refusal.Refusal.{Refusal}
 use Rattle.ialg.specs.declared.refusal.Refusal.TheVariants.{Range, Syntax}
 use Rattle.voice_script.specs.Script as script
 use Rattle.voice_script.specs.declared.words.Words.{Words}
-use Rattle.voice_script.specs.declared.limits.TheConstants.{GREATEST_MAGNITUDE}
+use Rattle.voice_script.specs.declared.limits.TheConstants.{GREATEST_MAGNITUDE, SHORT_DIGITS}
 
 abbrev pub IsNoBlank : ℕ → Type 0
 IsNoBlank b = script.is_blank b ≡ false
@@ -36,6 +36,19 @@ pub record BeginsWithDigits (line : List ℕ) (count value : ℕ) : Type 0 where
   pub valued : value ≡ script.digits_value (take count line)
   pub most : value ≤ GREATEST_MAGNITUDE
   pub end : count < length line → script.is_blank (slice_index_or line count 0) ≡ true
+
+-- the line's first word is a number of so many digits, which are few. In a line of more octets than that a space stands behind it, no tab
+pub record HasShortNumber (line : List ℕ) (count : ℕ) : Type 0 where
+  pub some : 1 ≤ count
+  pub few : count ≤ SHORT_DIGITS
+  pub within : count ≤ length line
+  pub digits : list_all is_ascii_digit (take count line) ≡ true
+  pub end : count < length line → script.is_blank (slice_index_or line count 0) ≡ true
+  pub space : SHORT_DIGITS < length line → slice_index_or line count 0 ≡ 32
+
+-- the line's first word is no such number
+abbrev pub HasNoShortNumber : List ℕ → Type 0
+HasNoShortNumber line = (count : ℕ) → HasShortNumber line count → ⊥
 
 -- the word that most lines begin with
 abbrev pub feed_word : List ℕ

@@ -1,7 +1,7 @@
 //! Words that are numbers, and their ranges.
 ghost use Rattle.std.specs.Prelude.{◌≡◌, ◌≤◌, ◌<◌, ◌+◌, ◌∷◌, length, take, drop, min, MatchOption, IfSome, IfOk, IfErr, is_ok, false, true};
 ghost use Rattle.voice_script.specs.Script.{is_digits, digits_value, is_number, value_of, words_of};
-ghost use Rattle.voice_script.specs.Readings.{Limits, BeginsWithDigits};
+ghost use Rattle.voice_script.specs.Readings.{Limits, BeginsWithDigits, HasShortNumber, HasNoShortNumber};
 
 use crate::limits::{FEED_SAMPLES, GREATEST_MAGNITUDE, SHORT_DIGITS};
 use crate::samples::FeedSamples;
@@ -44,6 +44,7 @@ fn short_digits(line: &[u8]) -> Option<(usize, u32)>
     requires { SHORT_DIGITS < length line.now }
     ensures digits { IfSome result (λ digits. BeginsWithDigits line.now digits.0 digits.1) }
     ensures few { IfSome result (λ digits. digits.0 ≤ SHORT_DIGITS) }
+    ensures short { MatchOption result (HasNoShortNumber line.now) (λ part. HasShortNumber line.now part.0) }
 {
     let mut value = 0;
     for count in 0..SHORT_DIGITS + 1 {
@@ -64,7 +65,8 @@ fn short_digits(line: &[u8]) -> Option<(usize, u32)>
 #[inline(always)]
 fn last_digits(line: &[u8]) -> Option<(usize, u32)>
     requires { length line.now ≤ SHORT_DIGITS }
-    ensures { IfSome result (λ digits. BeginsWithDigits line.now digits.0 digits.1) }
+    ensures digits { IfSome result (λ digits. BeginsWithDigits line.now digits.0 digits.1) }
+    ensures short { MatchOption result (HasNoShortNumber line.now) (λ part. HasShortNumber line.now part.0) }
 {
     let mut value = 0;
     for (count, octet) in line.iter().enumerate() {
@@ -143,11 +145,13 @@ impl<'a> Number<'a> {
         (number, &line[end + 1..])
     }
 
-    /// As [`leading`](Self::leading) does, for a number without a minus: None where the line begins with one.
+    /// As [`leading`](Self::leading) does, for a number without a minus and of no more than [`SHORT_DIGITS`] digits, behind which a space stands
+    /// where the line has more octets than that. None for every other line.
     #[inline(always)]
     pub(crate) fn leading_natural(line: &'a [u8]) -> Option<(Number<'a>, &'a [u8])>
         ensures word { IfSome result (λ parts. words_of line.now ≡ parts.0.word.now ∷ words_of parts.1.now) }
         ensures shorter { IfSome result (λ parts. length parts.1.now < length line.now) }
+        ensures short { MatchOption result (HasNoShortNumber line.now) (λ parts. HasShortNumber line.now (length parts.0.word.now)) }
     {
         if line.len() > SHORT_DIGITS {
             let (count, magnitude) = short_digits(line)?;

@@ -13,5 +13,5 @@ pub returns-in_ok-count-in-45-2-clause-word : goal.returns-in_ok-count-in-45-2-c
 returns-in_ok-count-in-45-2-clause-word c =
     let some : 1 ≤ length c.args.line.now = search rules in
     let minus : get_or c.args.line.now 0 0 ≡ 45 = search rules in
-    words_of-minus c.args.line.now c.in_ok-count-in-45-2.count c.in_ok-count-in-45-2.magnitude some minus c.in_ok-count-in-45-2.ensures
+    words_of-minus c.args.line.now c.in_ok-count-in-45-2.count c.in_ok-count-in-45-2.magnitude some minus c.in_ok-count-in-45-2.ensures.digits
     ∙ rw (c.part.ensures.word, c.part.ensures.after) refl

@@ -9,5 +9,5 @@ returns-then-line-gt-SHORT_DIGITS-clause-word c =
 
 pub returns-clause-word : goal.returns-clause-word
 returns-clause-word c =
-    words_of-digits c.args.line.now c.in_ok-count-2.count c.in_ok-count-2.magnitude c.in_ok-count-2.ensures
+    words_of-digits c.args.line.now c.in_ok-count-2.count c.in_ok-count-2.magnitude c.in_ok-count-2.ensures.digits
     ∙ rw (c.part.ensures.word, c.part.ensures.after) refl
