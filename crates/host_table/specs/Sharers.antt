@@ -1,5 +1,5 @@
 -- Which instances share the block of a write-once record.
-use Rattle.std.specs.Prelude.{ℕ, ℤ, ◌≡◌, Bool, List, Option, Some, None}
+use Rattle.std.specs.Prelude.{ℕ, ◌≡◌, Bool, List, Option, Some, None}
 use Rattle.host_table.specs.declared.member.Member.{Member}
 use Rattle.host_shared.specs.declared.locations.Locations.{Locations}
 use Rattle.host_shared.specs.declared.joining.Sharers.{Sharers}
@@ -7,11 +7,16 @@ use Rattle.host_shared.specs.Joining.{sharer_at}
 use Rattle.host_shared.specs.Locations.{owner_of}
 use Rattle.host_table.specs.Table.{slot_at, instance_of, AreAlike}
 use Rattle.host_map.specs.Sharers.{Asked, asked, sharer_of}
+use Rattle.ialg.specs.Laws.{Laws}
 
 -- what stands in a slot, as it was asked for
 abbrev pub asked_by : {M : Type 0} → Option (Member M) → Option (Asked M)
 asked_by None = None
 asked_by (Some m) = Some (asked (instance_of m.inst).kind (instance_of m.inst).params.items (instance_of m.inst).table)
+
+-- the least instance in the slots that shares record k of what is asked for, by the laws of the kinds
+abbrev pub sharer_in : {M : Type 0} → Laws M → List (Option (Member M)) → Asked M → ℕ → Option ℕ
+sharer_in laws instances x k = sharer_of laws.meaning.same (λ j. asked_by (slot_at instances j)) x k
 
 -- these are the sharers of what is asked for, among the instances in the slots
 abbrev pub AreLeastSharers : {M : Type 0} → (M → M → Bool) → List (Option (Member M)) → Asked M → Sharers → Type 0

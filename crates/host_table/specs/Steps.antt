@@ -5,7 +5,7 @@ use Rattle.ialg.specs.History.{History, Ctl, Control, with_samples}
 use Rattle.ialg.specs.Laws.{Laws}
 use Rattle.lifecycle.specs.States.{IsLawful, all_outputs, status_after}
 use Rattle.host_table.specs.declared.member.Member.{Member}
-use Rattle.host_table.specs.Table.{slot_at, instance_of, activity_at, TablesOk, ArePoisoned}
+use Rattle.host_table.specs.Table.{slot_at, instance_of, activity_at, deactivated_by, TablesOk, ArePoisoned, ActivitiesAre}
 use Rattle.host_map.specs.Activity.{Activity}
 use Rattle.host_table.specs.Keeps.{Keeps, with_history}
 use Rattle.host_table.specs.Frames.{SameMembers, SameTables}
@@ -42,7 +42,11 @@ pub record Stays {M : Type 0} (w : Option ℤ) (old new : View M) : Type 0 where
 abbrev pub MembersStay : {M : Type 0} → View M → View M → Type 0
 MembersStay old new = SameMembers old.instances old.sharing old.groups new.instances new.sharing new.groups
 
--- and the groups have these activities, and each instance's history went on so
+-- instance i was deactivated, where it was active, and but for that each group has the activity that it had
+abbrev pub WasDeactivated : {M : Type 0} → ℕ → View M → View M → Type 0
+WasDeactivated i old new = ActivitiesAre new.groups (deactivated_by old.instances old.groups i)
+
+-- the same instances and blocks, all at the same places, and the groups have these activities, and each instance's history went on so
 pub record Steps {M : Type 0} (laws : Laws M) (w : Option ℤ) (old new : View M) (activities : ℕ → Activity) (goes : (ℕ → History) → ℕ → History) : Type 0 where
   pub ok : TablesOk new.instances new.sharing new.groups
   pub poisoned : ArePoisoned w new.groups

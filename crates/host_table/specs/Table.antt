@@ -5,7 +5,7 @@ use Rattle.mem_rec.specs.declared.Attr.TheVariants.{WriteOnce}
 use Rattle.ialg.specs.Records.{record_at}
 use Rattle.record_loans.specs.declared.pieces.Pieces.{Pieces}
 use Rattle.scratch_group.specs.declared.group.Group.{Group}
-use Rattle.host_map.specs.Activity.{Activity, without_active, activated, with_activity}
+use Rattle.host_map.specs.Activity.{Activity, without_active, activated, deactivated, with_activity}
 use Rattle.scratch_group.specs.Blocks.{BlocksArePoison}
 use Rattle.scratch_group.specs.Words.{placed}
 use Rattle.lifecycle.specs.declared.instance.Instance.{Instance}
@@ -147,3 +147,7 @@ abbrev pub deactivated_by : {M : Type 0} → List (Option (Member M)) → List G
 deactivated_by instances groups i =
     let g = group_of (slot_at instances i) in
     with_activity (activity_at groups) g (without_active i (activity_at groups g))
+
+-- the activities after the active member of group g was deactivated, where it has one
+abbrev pub deactivated_in : List Group → ℕ → ℕ → Activity
+deactivated_in groups g = with_activity (activity_at groups) g (deactivated (activity_at groups g))

@@ -12,17 +12,30 @@ use Rattle.scratch_group.specs.Blocks.{block_in, BlocksArePoison, SameGroup}
 use Rattle.scratch_group.specs.Words.{idle_words}
 use Rattle.host_map.specs.Activity.{count_after}
 use Rattle.lifecycle.specs.declared.instance.Instance.{Instance}
-use Rattle.lifecycle.specs.Moves.{settled}
+use Rattle.lifecycle.specs.declared.instance.Inst.{Inst}
+use Rattle.lifecycle.specs.declared.idle.Idle.{Idle}
+use Rattle.lifecycle.specs.Moves.{HasRoom, settled}
 use Rattle.lifecycle.specs.States.{Fits, SameInstance, SameOnce, IsLawful, IdleKeeps, ActiveKeeps, all_outputs}
 use Rattle.host_shared.specs.declared.locations.Locations.{Locations}
-use Rattle.host_shared.specs.Locations.{shared_at}
-use Rattle.host_shared.specs.Owners.{HasOwners}
+use Rattle.host_shared.specs.Locations.{shared_at, no_pieces}
+use Rattle.host_shared.specs.Owners.{HasOwners, with_pieces_of}
+use Rattle.host_table.specs.Table.{instance_of}
 
 -- the instance of this number has a locations and owners for its records, which fit
 pub record CanBeLent {M : Type 0} (s : Instance M) (sharing : List Locations) (i : ℕ) (g : Group) : Type 0 where
   pub number : i < length sharing
   pub owners : HasOwners sharing i
   pub fits : Fits s.table s.own (shared_at sharing i) g
+
+-- the new instance of this number has locations and owners for its records, which have their places
+pub record CanBegin {M : Type 0} (s : Instance M) (sharing : List Locations) (i : ℕ) (g : Group) : Type 0 where
+  pub number : i < length sharing
+  pub owners : HasOwners sharing i
+  pub room : HasRoom s (shared_at sharing i) g
+
+-- an instance, idle
+abbrev pub idle_of : {M : Type 0} → Inst M → Idle M
+idle_of inst = record { instance = instance_of inst }
 
 -- an idle instance was started: where the table is the one that its kind asks for, and its records are new ones, it begins its history
 pub record HasBegun {M : Type 0} (laws : Laws M) (old new : Instance M) (shared shared' : Pieces) (g : Group) : Type 0 where
@@ -32,6 +45,19 @@ pub record HasBegun {M : Type 0} (laws : Laws M) (old new : Instance M) (shared 
   pub keeps : (w : Option ℤ) → laws.meaning.table old.kind old.params.items ≡ Some (unplaced old.table)
       → AreNew w (laws.meaning.fill old.kind old.params.items) old.table (idle_words old.table old.own shared)
       → IdleKeeps laws new w shared' []
+
+-- the idle instance of this number was started, and its pieces are back at their owners
+pub record WasStarted {M : Type 0} (laws : Laws M) (i : ℕ) (old new : Idle M) (sharing sharing' : List Locations) (g : Group) : Type 0 where
+  pub seen : sharing' ≡ with_pieces_of sharing i (shared_at sharing' i)
+  pub begun : HasBegun laws old.instance new.instance (shared_at sharing i) (shared_at sharing' i) g
+
+-- the idle instance of this number was told that it ends, these pieces of its own were taken out of it, and the others are back at their owners
+pub record WasFreed {M : Type 0} (i : ℕ) (old new : Idle M) (sharing sharing' : List Locations) (taken : Pieces) : Type 0 where
+  pub own : SamePieces old.instance.own taken
+  pub seen : sharing' ≡ with_pieces_of sharing i (shared_at sharing' i)
+  pub shared : SamePieces (shared_at sharing i) (shared_at sharing' i)
+  pub once : SameOnce old.instance.table (shared_at sharing i) (shared_at sharing' i)
+  pub left : new.instance.own ≡ no_pieces
 
 -- an active instance was deactivated
 pub record Deactivated {M : Type 0} (laws : Laws M) (poison : Option ℤ) (old new : Instance M) (shared shared' : Pieces) (g g' : Group) : Type 0 where

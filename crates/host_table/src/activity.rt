@@ -2,8 +2,7 @@
 ghost use Rattle.std.specs.Prelude.{◌≡◌, ◌<◌, Option, Some, None, IsSome, is_some};
 ghost use Rattle.lifecycle.specs.States.{Fits};
 ghost use Rattle.mem_rec.specs.declared.TheConstants.{GROUPS};
-ghost use Rattle.host_table.specs.Table.{slot_at, group_at, slot_active_in, activity_at, activated_by, deactivated_by, IsActiveAt};
-ghost use Rattle.host_map.specs.Activity.{deactivated, with_activity};
+ghost use Rattle.host_table.specs.Table.{slot_at, group_at, slot_active_in, activated_by, deactivated_by, deactivated_in, IsActiveAt};
 ghost use Rattle.host_shared.specs.Locations.{shared_at};
 ghost use Rattle.host_shared.specs.Owners.{with_pieces_of};
 ghost use Rattle.host_table.specs.Turns.{CanBeLent, Deactivated, Activated};
@@ -96,7 +95,7 @@ impl<M: Ialg> Tables<M> {
         requires range { g < GROUPS }
         requires ready { Ready poison self.old }
         ensures active { result ≡ is_some (group_at self.old.groups g).active }
-        ensures step { Steps M.law poison self.old self.new (with_activity (activity_at self.old.groups) g (deactivated (activity_at self.old.groups g))) unchanged }
+        ensures step { Steps M.law poison self.old self.new (deactivated_in self.old.groups g) unchanged }
     {
         let Some(i) = self.groups[g as usize].active() else {
             return false;
@@ -127,7 +126,7 @@ impl<M: Ialg> Tables<M> {
         requires range { g < GROUPS }
         requires ready { Ready poison self.old }
         ensures active { result ≡ is_some (group_at self.old.groups g).active }
-        ensures step { Steps M.law poison self.old self.new (with_activity (activity_at self.old.groups) g (deactivated (activity_at self.old.groups g))) unchanged }
+        ensures step { Steps M.law poison self.old self.new (deactivated_in self.old.groups g) unchanged }
     {
         self.deactivate_in(poison, g)
     }

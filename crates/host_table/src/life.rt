@@ -7,16 +7,16 @@ ghost use Rattle.lifecycle.specs.declared.instance.Inst.TheVariants.{Idling};
 ghost use Rattle.mem_rec.specs.declared.TheConstants.{INSTANCES, GROUPS};
 ghost use Rattle.host_table.specs.declared.member.Member.{Member};
 ghost use Rattle.host_shared.specs.Locations.{location_at, locations_at, owner_of, piece_seen, shared_at, no_pieces};
-ghost use Rattle.host_shared.specs.Owners.{HasOwners, IsSameLocation, with_pieces_of};
+ghost use Rattle.host_shared.specs.Owners.{IsSameLocation, with_pieces_of};
 ghost use Rattle.host_shared.specs.Sharing.{left_with, next_sharer, location_without, AreLeast};
-ghost use Rattle.host_table.specs.Table.{slot_at, group_at, own_of, instance_of, active_in, slot_active_in, deactivated_by, ActivitiesAre};
-ghost use Rattle.host_map.specs.Sharers.{asked, sharer_of};
-ghost use Rattle.host_table.specs.Sharers.{asked_by, AreLeastSharers, AreTogether};
+ghost use Rattle.host_table.specs.Table.{slot_at, group_at, own_of, instance_of, active_in, slot_active_in};
+ghost use Rattle.host_map.specs.Sharers.{asked};
+ghost use Rattle.host_table.specs.Sharers.{sharer_in, AreLeastSharers, AreTogether};
 ghost use Rattle.host_shared.specs.Joining.{sharer_at, location_joined, pieces_joined};
-ghost use Rattle.host_table.specs.Steps.{Ready, AreConsistent, HistoriesStay};
+ghost use Rattle.host_table.specs.Steps.{Ready, AreConsistent, HistoriesStay, WasDeactivated};
 ghost use Rattle.host_table.specs.Frames.{OthersStay, OthersSame, IsStarted, IsEnded};
 ghost use Rattle.host_table.specs.Starts.{asked_for, BeginsHistory};
-ghost use Rattle.host_table.specs.Turns.{CanBeLent, HasBegun};
+ghost use Rattle.host_table.specs.Turns.{CanBeLent, CanBegin, WasStarted, WasFreed, idle_of};
 
 use crate::member::group_number;
 use crate::{Member, Tables};
@@ -103,11 +103,8 @@ pub fn start<M: Ialg>(
 /// Starts an idle instance, with its write-once records borrowed from their owners.
 #[inline(never)]
 fn start_each<M: Ialg>(idle: &mut Idle<M>, sharing: &mut Vec<Locations>, i: u8, group: &Group)
-    requires number { i < length sharing.old.items }
-    requires owners { HasOwners sharing.old.items i }
-    requires room { HasRoom idle.old.instance (shared_at sharing.old.items i) group.now }
-    ensures seen { sharing.new.items ≡ with_pieces_of sharing.old.items i (shared_at sharing.new.items i) }
-    ensures begun { HasBegun M.law idle.old.instance idle.new.instance (shared_at sharing.old.items i) (shared_at sharing.new.items i) group.now }
+    requires { CanBegin idle.old.instance sharing.old.items i group.now }
+    ensures { WasStarted M.law i idle.old idle.new sharing.old.items sharing.new.items group.now }
 {
     let mut shared = borrow_pieces(sharing, i as usize);
     idle.start(&mut shared, group);
@@ -117,14 +114,11 @@ fn start_each<M: Ialg>(idle: &mut Idle<M>, sharing: &mut Vec<Locations>, i: u8, 
 /// Starts an idle instance, as [`start_each`] does, that has no write-once record but maybe record 2: its piece alone is borrowed.
 #[inline(always)]
 fn start_third<M: Ialg>(idle: &mut Idle<M>, sharing: &mut Vec<Locations>, i: u8, group: &Group)
-    requires number { i < length sharing.old.items }
-    requires owners { HasOwners sharing.old.items i }
-    requires room { HasRoom idle.old.instance (shared_at sharing.old.items i) group.now }
+    requires can { CanBegin idle.old.instance sharing.old.items i group.now }
     requires seen0 { piece_seen sharing.old.items i 0 ≡ None }
     requires seen1 { piece_seen sharing.old.items i 1 ≡ None }
     requires seen3 { piece_seen sharing.old.items i 3 ≡ None }
-    ensures seen { sharing.new.items ≡ with_pieces_of sharing.old.items i (shared_at sharing.new.items i) }
-    ensures begun { HasBegun M.law idle.old.instance idle.new.instance (shared_at sharing.old.items i) (shared_at sharing.new.items i) group.now }
+    ensures { WasStarted M.law i idle.old idle.new sharing.old.items sharing.new.items group.now }
 {
     let mut shared = Pieces::none();
     exchange_third(sharing, i as usize, &mut shared);
@@ -136,11 +130,8 @@ fn start_third<M: Ialg>(idle: &mut Idle<M>, sharing: &mut Vec<Locations>, i: u8,
 /// Starts an idle instance, with its write-once records borrowed from their owners. Most that have any have record 2 alone.
 #[inline(never)]
 fn start_sharing<M: Ialg>(idle: &mut Idle<M>, sharing: &mut Vec<Locations>, i: u8, group: &Group)
-    requires number { i < length sharing.old.items }
-    requires owners { HasOwners sharing.old.items i }
-    requires room { HasRoom idle.old.instance (shared_at sharing.old.items i) group.now }
-    ensures seen { sharing.new.items ≡ with_pieces_of sharing.old.items i (shared_at sharing.new.items i) }
-    ensures begun { HasBegun M.law idle.old.instance idle.new.instance (shared_at sharing.old.items i) (shared_at sharing.new.items i) group.now }
+    requires { CanBegin idle.old.instance sharing.old.items i group.now }
+    ensures { WasStarted M.law i idle.old idle.new sharing.old.items sharing.new.items group.now }
 {
     if has_none_but_third(sharing, i as usize) {
         start_third(idle, sharing, i, group);
@@ -152,11 +143,8 @@ fn start_sharing<M: Ialg>(idle: &mut Idle<M>, sharing: &mut Vec<Locations>, i: u
 /// Starts an idle instance, as [`start_sharing`] does. A filter has no write-once record, so nothing is borrowed for it: most instances are
 /// filters.
 fn start_idle<M: Ialg>(idle: &mut Idle<M>, sharing: &mut Vec<Locations>, i: u8, group: &Group)
-    requires number { i < length sharing.old.items }
-    requires owners { HasOwners sharing.old.items i }
-    requires room { HasRoom idle.old.instance (shared_at sharing.old.items i) group.now }
-    ensures seen { sharing.new.items ≡ with_pieces_of sharing.old.items i (shared_at sharing.new.items i) }
-    ensures begun { HasBegun M.law idle.old.instance idle.new.instance (shared_at sharing.old.items i) (shared_at sharing.new.items i) group.now }
+    requires { CanBegin idle.old.instance sharing.old.items i group.now }
+    ensures { WasStarted M.law i idle.old idle.new sharing.old.items sharing.new.items group.now }
 {
     if is_filter(&idle.instance.table) {
         let mut none = Pieces::none();
@@ -170,12 +158,9 @@ fn start_idle<M: Ialg>(idle: &mut Idle<M>, sharing: &mut Vec<Locations>, i: u8, 
 /// Starts an instance that is idle, in its slot. Moved into the slot once it was started, it would be copied whole.
 fn start_member<M: Ialg>(inst: &mut Inst<M>, sharing: &mut Vec<Locations>, i: u8, group: &Group)
     requires idle { (g : ℕ) → active_in g inst.old ≡ None }
-    requires number { i < length sharing.old.items }
-    requires owners { HasOwners sharing.old.items i }
-    requires room { HasRoom (instance_of inst.old) (shared_at sharing.old.items i) group.now }
-    ensures idle { inst.new ≡ Idling (record { instance = instance_of inst.new }) }
-    ensures seen { sharing.new.items ≡ with_pieces_of sharing.old.items i (shared_at sharing.new.items i) }
-    ensures begun { HasBegun M.law (instance_of inst.old) (instance_of inst.new) (shared_at sharing.old.items i) (shared_at sharing.new.items i) group.now }
+    requires can { CanBegin (instance_of inst.old) sharing.old.items i group.now }
+    ensures idle { inst.new ≡ Idling (idle_of inst.new) }
+    ensures started { WasStarted M.law i (idle_of inst.old) (idle_of inst.new) sharing.old.items sharing.new.items group.now }
 {
     match inst {
         Inst::Idling(idle) => start_idle(idle, sharing, i, group),
@@ -204,8 +189,8 @@ pub fn end<M: Ialg>(
     ensures least { AreLeast tables.old.sharing → AreLeast tables.new.sharing }
     ensures together { AreTogether tables.old.instances tables.old.sharing → AreTogether tables.new.instances tables.new.sharing }
     ensures next { AreLeast tables.old.sharing → AreTogether tables.old.instances tables.old.sharing → (k : ℕ) (m : Member M) → slot_at tables.old.instances i ≡ Some m → owner_of tables.old.sharing i k ≡ i
-        → next_sharer tables.old.sharing i k ≡ sharer_of M.law.meaning.same (λ j. asked_by (slot_at tables.new.instances j)) (asked (instance_of m.inst).kind (instance_of m.inst).params.items (instance_of m.inst).table) k }
-    ensures activity { ActivitiesAre tables.new.groups (deactivated_by tables.old.instances tables.old.groups i) }
+        → next_sharer tables.old.sharing i k ≡ sharer_in M.law tables.new.instances (asked (instance_of m.inst).kind (instance_of m.inst).params.items (instance_of m.inst).table) k }
+    ensures activity { WasDeactivated i tables.old tables.new }
     ensures keeps { HistoriesStay M.law poison tables.old tables.new }
 {
     tables.deactivate(poison, i);
@@ -243,11 +228,7 @@ fn free_each<M: Ialg>(
     group: &Group,
 ) -> Pieces
     requires lent { CanBeLent idle.old.instance sharing.old.items i group.now }
-    ensures own { SamePieces idle.old.instance.own result }
-    ensures seen { sharing.new.items ≡ with_pieces_of sharing.old.items i (shared_at sharing.new.items i) }
-    ensures shared { SamePieces (shared_at sharing.old.items i) (shared_at sharing.new.items i) }
-    ensures once { SameOnce idle.old.instance.table (shared_at sharing.old.items i) (shared_at sharing.new.items i) }
-    ensures left { idle.new.instance.own ≡ no_pieces }
+    ensures { WasFreed i idle.old idle.new sharing.old.items sharing.new.items result }
 {
     let mut shared = borrow_pieces(sharing, i as usize);
     let own = free_lent(idle, &mut shared, group);
@@ -268,11 +249,7 @@ fn free_third<M: Ialg>(
     requires seen0 { piece_seen sharing.old.items i 0 ≡ None }
     requires seen1 { piece_seen sharing.old.items i 1 ≡ None }
     requires seen3 { piece_seen sharing.old.items i 3 ≡ None }
-    ensures own { SamePieces idle.old.instance.own result }
-    ensures seen { sharing.new.items ≡ with_pieces_of sharing.old.items i (shared_at sharing.new.items i) }
-    ensures shared { SamePieces (shared_at sharing.old.items i) (shared_at sharing.new.items i) }
-    ensures once { SameOnce idle.old.instance.table (shared_at sharing.old.items i) (shared_at sharing.new.items i) }
-    ensures left { idle.new.instance.own ≡ no_pieces }
+    ensures { WasFreed i idle.old idle.new sharing.old.items sharing.new.items result }
 {
     let mut shared = Pieces::none();
     exchange_third(sharing, i as usize, &mut shared);
@@ -292,11 +269,7 @@ fn free_sharing<M: Ialg>(
     group: &Group,
 ) -> Pieces
     requires lent { CanBeLent idle.old.instance sharing.old.items i group.now }
-    ensures own { SamePieces idle.old.instance.own result }
-    ensures seen { sharing.new.items ≡ with_pieces_of sharing.old.items i (shared_at sharing.new.items i) }
-    ensures shared { SamePieces (shared_at sharing.old.items i) (shared_at sharing.new.items i) }
-    ensures once { SameOnce idle.old.instance.table (shared_at sharing.old.items i) (shared_at sharing.new.items i) }
-    ensures left { idle.new.instance.own ≡ no_pieces }
+    ensures { WasFreed i idle.old idle.new sharing.old.items sharing.new.items result }
 {
     if has_none_but_third(sharing, i as usize) {
         free_third(idle, sharing, i, group)
@@ -314,11 +287,7 @@ fn free_idle<M: Ialg>(
     group: &Group,
 ) -> Pieces
     requires lent { CanBeLent idle.old.instance sharing.old.items i group.now }
-    ensures own { SamePieces idle.old.instance.own result }
-    ensures seen { sharing.new.items ≡ with_pieces_of sharing.old.items i (shared_at sharing.new.items i) }
-    ensures shared { SamePieces (shared_at sharing.old.items i) (shared_at sharing.new.items i) }
-    ensures once { SameOnce idle.old.instance.table (shared_at sharing.old.items i) (shared_at sharing.new.items i) }
-    ensures left { idle.new.instance.own ≡ no_pieces }
+    ensures { WasFreed i idle.old idle.new sharing.old.items sharing.new.items result }
 {
     if is_filter(&idle.instance.table) {
         let mut none = Pieces::none();
@@ -339,10 +308,7 @@ fn free_member<M: Ialg>(
 ) -> Pieces
     requires idle { (g : ℕ) → active_in g inst.old ≡ None }
     requires lent { CanBeLent (instance_of inst.old) sharing.old.items i group.now }
-    ensures own { SamePieces (instance_of inst.old).own result }
-    ensures seen { sharing.new.items ≡ with_pieces_of sharing.old.items i (shared_at sharing.new.items i) }
-    ensures shared { SamePieces (shared_at sharing.old.items i) (shared_at sharing.new.items i) }
-    ensures once { SameOnce (instance_of inst.old).table (shared_at sharing.old.items i) (shared_at sharing.new.items i) }
+    ensures freed { WasFreed i (idle_of inst.old) (idle_of inst.new) sharing.old.items sharing.new.items result }
     ensures left { IsEnded inst.new }
 {
     match inst {

@@ -3,8 +3,8 @@ ghost use Rattle.std.specs.Prelude.{◌≡◌, ◌<◌, length, Some};
 ghost use Rattle.ialg.specs.Records.{record_at, unplaced};
 ghost use Rattle.mem_rec.specs.declared.TheConstants.{INSTANCES};
 ghost use Rattle.host_table.specs.Table.{slot_at};
-ghost use Rattle.host_map.specs.Sharers.{asked, is_once, is_same_once, is_sharer, sharer_of};
-ghost use Rattle.host_table.specs.Sharers.{asked_by, AreLeastSharers};
+ghost use Rattle.host_map.specs.Sharers.{asked, is_once, is_same_once, is_sharer};
+ghost use Rattle.host_table.specs.Sharers.{asked_by, sharer_in, AreLeastSharers};
 
 use crate::Member;
 use host_shared::Sharers;
@@ -106,7 +106,7 @@ fn find_once_sharer<M: Ialg>(
     k: usize,
 ) -> Option<u8>
     requires { length instances.now.items ≡ INSTANCES }
-    ensures { result ≡ sharer_of M.law.meaning.same (λ j. asked_by (slot_at instances.now.items j)) (asked kind params.now.items table.now) k }
+    ensures { result ≡ sharer_in M.law instances.now.items (asked kind params.now.items table.now) k }
 {
     for j in 0..INSTANCES {
         if shares(instances, j, kind, params, table, k) {
@@ -126,7 +126,7 @@ fn find_sharer<M: Ialg>(
     k: usize,
 ) -> Option<u8>
     requires { length instances.now.items ≡ INSTANCES }
-    ensures { result ≡ sharer_of M.law.meaning.same (λ j. asked_by (slot_at instances.now.items j)) (asked kind params.now.items table.now) k }
+    ensures { result ≡ sharer_in M.law instances.now.items (asked kind params.now.items table.now) k }
 {
     if !is_once(table, k) {
         return None;

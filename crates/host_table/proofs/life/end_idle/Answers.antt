@@ -24,11 +24,11 @@ pub returns-clause-own : goal.returns-clause-own
 returns-clause-own g c =
     let there = member_of c.args.instances.now.items c.args.i c.requires.living in
     let at : slot_at c.args.instances.now.items c.args.i ≡ Some c.in-Some.member = read_there c.args.instances.now.items c.args.i there.0 there.1 _ c.index_mut.ensures.value ∙ c.in-Some.is in
-    rw at c.free_member-own.ensures.own
+    rw at c.free_member-own.ensures.freed.own
 
 pub returns-clause-once : goal.returns-clause-once
 returns-clause-once g c m in_slot =
     let there = member_of c.args.instances.now.items c.args.i c.requires.living in
     let at : slot_at c.args.instances.now.items c.args.i ≡ Some c.in-Some.member = read_there c.args.instances.now.items c.args.i there.0 there.1 _ c.index_mut.ensures.value ∙ c.in-Some.is in
     let same : c.in-Some.member ≡ m = same_Some _ _ (sym at ∙ in_slot) in
-    rw (← same) c.free_member-own.ensures.once
+    rw (← same) c.free_member-own.ensures.freed.once

@@ -30,23 +30,14 @@ exchange_third-requires-2-clause-p3 g c =
 pub end_absent-requires : goal.end_absent-requires
 end_absent-requires g c = c.exchange_third-2.ensures.pieces ∙ c.exchange_third.ensures.seen ∙ c.none-shared.ensures
 
-pub returns-clause-seen : goal.returns-clause-seen
-returns-clause-seen g c =
-    locations_back c.args.i c.args.sharing.now.items c.exchange_third.new.sharing.items c.exchange_third-2.new.sharing.items c.requires.lent.owners c.free_lent-own.new.shared
-    (c.exchange_third.ensures.left ∙ ap (λ (o : Pieces). with_pieces_of c.args.sharing.now.items c.args.i o) c.none-shared.ensures) c.exchange_third-2.ensures.left
-
-pub returns-clause-shared : goal.returns-clause-shared
-returns-clause-shared g c =
-    rw (
-      seen_back c.args.i c.args.sharing.now.items c.exchange_third.new.sharing.items c.exchange_third-2.new.sharing.items c.requires.lent.owners c.free_lent-own.new.shared
-          (c.exchange_third.ensures.left ∙ ap (λ (o : Pieces). with_pieces_of c.args.sharing.now.items c.args.i o) c.none-shared.ensures) c.exchange_third-2.ensures.left,
-      ← c.exchange_third.ensures.pieces,
-    ) c.free_lent-own.ensures.shared
-
-pub returns-clause-once : goal.returns-clause-once
-returns-clause-once g c =
-    rw (
-      seen_back c.args.i c.args.sharing.now.items c.exchange_third.new.sharing.items c.exchange_third-2.new.sharing.items c.requires.lent.owners c.free_lent-own.new.shared
-          (c.exchange_third.ensures.left ∙ ap (λ (o : Pieces). with_pieces_of c.args.sharing.now.items c.args.i o) c.none-shared.ensures) c.exchange_third-2.ensures.left,
-      ← c.exchange_third.ensures.pieces,
-    ) c.free_lent-own.ensures.once
+pub returns : goal.returns
+returns g c =
+    let taken = c.exchange_third.ensures.left ∙ ap (λ (o : Pieces). with_pieces_of c.args.sharing.now.items c.args.i o) c.none-shared.ensures in
+    let back = seen_back c.args.i c.args.sharing.now.items c.exchange_third.new.sharing.items c.exchange_third-2.new.sharing.items c.requires.lent.owners c.free_lent-own.new.shared taken c.exchange_third-2.ensures.left in
+    record {
+      own = c.free_lent-own.ensures.own;
+      seen = locations_back c.args.i c.args.sharing.now.items c.exchange_third.new.sharing.items c.exchange_third-2.new.sharing.items c.requires.lent.owners c.free_lent-own.new.shared taken c.exchange_third-2.ensures.left;
+      shared = rw (back, ← c.exchange_third.ensures.pieces) c.free_lent-own.ensures.shared;
+      once = rw (back, ← c.exchange_third.ensures.pieces) c.free_lent-own.ensures.once;
+      left = c.free_lent-own.ensures.left;
+    }

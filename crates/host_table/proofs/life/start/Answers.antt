@@ -1,4 +1,5 @@
-use Rattle.std.proofs.Common.{◌≡◌, ℕ, IsTrue, List, [], Some, None, set, set-set, get_or-set_other, slice_index_or, sym, ap, subst, ◌∙◌, arith}
+use Rattle.std.proofs.Common.{◌≡◌, ℕ, IsTrue, List, [], Some, None, rules, set, set-set, get_or-set_other, slice_index_or, sym, ap, subst, ◌∙◌, arith}
+use Rattle.std.proofs.lemmas.Grind.{common_steps}
 use Rattle.lifecycle.specs.declared.instance.Inst.TheVariants.{Idling}
 use Rattle.lifecycle.specs.States.{IdleKeeps}
 use Rattle.ialg.specs.Records.{unplaced}
@@ -35,9 +36,12 @@ join-requires-clause-sharers g c k =
     (record { kind = c.args.instance.kind; params = c.args.instance.params.now; table = c.args.instance.table; own = c.args.own }) c.records-records.ensures.table
     k (sharer_at c.args.sharers k) (piece_at c.args.shared k) ((rw (← c.tables.view_is) at c.requires.sharers) k) (c.requires.placed k)
 
-pub start_member-requires-clause-owners : goal.start_member-requires-clause-owners
-start_member-requires-clause-owners g c =
-    rw (same_sharing (c.tables-2.view_is ∙ c.put_in.ensures.filled.is)) (owners_of_all c.join.new.sharing.items c.args.instance.number c.join.ensures.owners (omega (arith, c.requires.number, c.join.ensures.count)))
+pub start_member-requires-clause-can : goal.start_member-requires-clause-can
+start_member-requires-clause-can g c = record {
+  number = search rules;
+  owners = rw (same_sharing (c.tables-2.view_is ∙ c.put_in.ensures.filled.is)) (owners_of_all c.join.new.sharing.items c.args.instance.number c.join.ensures.owners (omega (arith, c.requires.number, c.join.ensures.count)));
+  room = grind (arith, common_steps);
+}
 
 -- the instance has joined its sharers, and was started in its slot
 module _ (g : Over) (c : After-tables-1 g) where
@@ -63,10 +67,10 @@ module _ (g : Over) (c : After-tables-1 g) where
   begun : HasBegun g.M.Ialg.law (record { kind = c.args.instance.kind; params = c.args.instance.params.now; table = c.args.instance.table; own = c.args.own }) (instance_of c.start_member.new.inst) (pieces_joined c.tables.inside.sharing.items c.args.sharers c.args.shared) (shared_at c.start_member.new.sharing.items c.args.instance.number) (group_at c.tables.inside.groups.items c.args.instance.group)
   begun =
       begun_at g.M.Ialg.law _ (record { kind = c.args.instance.kind; params = c.args.instance.params.now; table = c.args.instance.table; own = c.args.own }) (instance_of c.start_member.new.inst) _ _ (shared_at c.start_member.new.sharing.items c.args.instance.number) _ _ (ap (λ m. instance_of m.inst) member ∙ c.new.ensures)
-      (ap (λ (l : List Locations). shared_at l c.args.instance.number) (same_sharing view) ∙ c.join.ensures.pieces) (sym group_is) c.start_member.ensures.begun
+      (ap (λ (l : List Locations). shared_at l c.args.instance.number) (same_sharing view) ∙ c.join.ensures.pieces) (sym group_is) c.start_member.ensures.started.begun
 
   put : c.start_member.new.sharing.items ≡ with_pieces_of c.join.new.sharing.items c.args.instance.number (shared_at c.start_member.new.sharing.items c.args.instance.number)
-  put = c.start_member.ensures.seen ∙ ap (λ (l : List Locations). with_pieces_of l c.args.instance.number (shared_at c.start_member.new.sharing.items c.args.instance.number)) (same_sharing view)
+  put = c.start_member.ensures.started.seen ∙ ap (λ (l : List Locations). with_pieces_of l c.args.instance.number (shared_at c.start_member.new.sharing.items c.args.instance.number)) (same_sharing view)
 
   pieces : SamePieces (shared_at c.join.new.sharing.items c.args.instance.number) (shared_at c.start_member.new.sharing.items c.args.instance.number)
   pieces = subst (λ (x : Pieces). SamePieces x (shared_at c.start_member.new.sharing.items c.args.instance.number)) (sym c.join.ensures.pieces) begun.pieces

@@ -14,12 +14,12 @@ start-requires g c = record {
       c.args.idle.now.instance.own (shared_at c.args.sharing.now.items c.args.i) c.args.group.now c.requires.room);
 }
 
-pub returns-then-is_filter-clause-seen : goal.returns-then-is_filter-clause-seen
-returns-then-is_filter-clause-seen g c = sym (seen_again c.args.sharing.now.items c.args.i c.requires.owners)
-
-pub returns-then-is_filter-clause-begun : goal.returns-then-is_filter-clause-begun
-returns-then-is_filter-clause-begun g c =
-    begun_any g.M.Ialg.law c.args.idle.now.instance c.start.new.self.instance c.args.group.now
-    (none_once c.args.idle.now.instance.table c.is_filter.ensures.table (sym c.is_filter.ensures.exact ∙ c.if-is_filter.true))
-    c.none-none.result c.start.new.shared (shared_at c.args.sharing.now.items c.args.i) c.requires.room
-    (record { same = c.start.ensures.same; pieces = c.start.ensures.shared; fits = c.start.ensures.fits; keeps = c.start.ensures.keeps })
+pub returns-then-is_filter : goal.returns-then-is_filter
+returns-then-is_filter g c = record {
+  seen = sym (seen_again c.args.sharing.now.items c.args.i c.requires.owners);
+  begun =
+      begun_any g.M.Ialg.law c.args.idle.now.instance c.start.new.self.instance c.args.group.now
+      (none_once c.args.idle.now.instance.table c.is_filter.ensures.table (sym c.is_filter.ensures.exact ∙ c.if-is_filter.true))
+      c.none-none.result c.start.new.shared (shared_at c.args.sharing.now.items c.args.i) c.requires.room
+      (record { same = c.start.ensures.same; pieces = c.start.ensures.shared; fits = c.start.ensures.fits; keeps = c.start.ensures.keeps });
+}

@@ -7,7 +7,7 @@ use Rattle.host_table.proofs.Lendings.{seen_back, locations_back}
 use Rattle.host_table.proofs.life.start_third.Goals as goal
 
 pub start-requires : goal.start-requires
-start-requires g c = record { fits = rw c.exchange_third.ensures.pieces c.requires.room }
+start-requires g c = record { fits = rw c.exchange_third.ensures.pieces c.requires.can.room }
 
 pub exchange_third-requires-2-clause-seen0 : goal.exchange_third-requires-2-clause-seen0
 exchange_third-requires-2-clause-seen0 g c = ap (λ (o : Pieces). o.p0) (c.exchange_third.ensures.seen ∙ c.none-shared.ensures)
@@ -33,15 +33,13 @@ exchange_third-requires-2-clause-p3 g c =
 pub end_absent-requires : goal.end_absent-requires
 end_absent-requires g c = c.exchange_third-2.ensures.pieces ∙ c.exchange_third.ensures.seen ∙ c.none-shared.ensures
 
-pub returns-clause-seen : goal.returns-clause-seen
-returns-clause-seen g c =
-    locations_back c.args.i c.args.sharing.now.items c.exchange_third.new.sharing.items c.exchange_third-2.new.sharing.items c.requires.owners c.start.new.shared
-    (c.exchange_third.ensures.left ∙ ap (λ (o : Pieces). with_pieces_of c.args.sharing.now.items c.args.i o) c.none-shared.ensures) c.exchange_third-2.ensures.left
-
-pub returns-clause-begun : goal.returns-clause-begun
-returns-clause-begun g c =
-    rw (
-      seen_back c.args.i c.args.sharing.now.items c.exchange_third.new.sharing.items c.exchange_third-2.new.sharing.items c.requires.owners c.start.new.shared
-          (c.exchange_third.ensures.left ∙ ap (λ (o : Pieces). with_pieces_of c.args.sharing.now.items c.args.i o) c.none-shared.ensures) c.exchange_third-2.ensures.left,
-      ← c.exchange_third.ensures.pieces,
-    ) (record { same = c.start.ensures.same; pieces = c.start.ensures.shared; fits = c.start.ensures.fits; keeps = c.start.ensures.keeps })
+pub returns : goal.returns
+returns g c =
+    let taken = c.exchange_third.ensures.left ∙ ap (λ (o : Pieces). with_pieces_of c.args.sharing.now.items c.args.i o) c.none-shared.ensures in
+    let back = seen_back c.args.i c.args.sharing.now.items c.exchange_third.new.sharing.items c.exchange_third-2.new.sharing.items c.requires.can.owners c.start.new.shared taken c.exchange_third-2.ensures.left in
+    record {
+      seen = locations_back c.args.i c.args.sharing.now.items c.exchange_third.new.sharing.items c.exchange_third-2.new.sharing.items c.requires.can.owners c.start.new.shared taken c.exchange_third-2.ensures.left;
+      begun =
+          rw (back, ← c.exchange_third.ensures.pieces)
+          (record { same = c.start.ensures.same; pieces = c.start.ensures.shared; fits = c.start.ensures.fits; keeps = c.start.ensures.keeps });
+    }
