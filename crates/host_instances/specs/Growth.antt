@@ -1,6 +1,10 @@
 -- A group that gets the blocks for a new member.
-use Rattle.std.specs.Prelude.{ℕ, ◌≡◌, ◌≢◌, ◌≤◌, Bool, false, List, length, Option, Some, None, if◌then◌else◌}
+use Rattle.std.specs.Prelude.{ℕ, ℤ, ◌≡◌, ◌≢◌, ◌≤◌, ◌<◌, Bool, false, List, length, Option, Some, None, if◌then◌else◌}
 use Rattle.mem_rec.specs.declared.Space.{Space}
+use Rattle.mem_rec.specs.declared.MemRec.{MemRec}
+use Rattle.mem_rec.specs.declared.TheConstants.{GROUPS}
+use Rattle.ialg.specs.Laws.{Laws}
+use Rattle.ialg.specs.Records.{ArePoison}
 use Rattle.record_loans.specs.declared.block.ScratchBlock.{ScratchBlock}
 use Rattle.record_loans.specs.Blocks.{block_align, block_piece, block_words}
 use Rattle.scratch_group.specs.declared.group.Group.{Group}
@@ -8,18 +12,24 @@ use Rattle.scratch_group.specs.Blocks.{block_in}
 use Rattle.host_table.specs.declared.member.Member.{Member}
 use Rattle.host_shared.specs.declared.locations.Locations.{Locations}
 use Rattle.host_shared.specs.Locations.{owner_of, shared_at, no_pieces}
-use Rattle.host_table.specs.Table.{slot_at, group_at, instance_of, is_member_of, activity_at}
-use Rattle.host_map.specs.Activity.{Activity, deactivated, with_activity}
+use Rattle.host_table.specs.Table.{slot_at, group_at, instance_of, is_member_of, activity_at, deactivated_in, ArePoisoned}
+use Rattle.host_table.specs.Steps.{AreConsistent, HistoriesStay}
+use Rattle.host_table.specs.View.{View}
+use Rattle.host_map.specs.Activity.{Activity}
 use Rattle.host_shared.specs.Sharing.{AreLeast}
 use Rattle.host_table.specs.Sharers.{AreTogether}
+use Rattle.host_map.specs.declared.placed.Owner.{Owner}
 use Rattle.host_map.specs.declared.placed.Owner.TheVariants.{Record, Scratch}
 use Rattle.host_map.specs.Blocks.{owned}
 use Rattle.host_spaces.specs.declared.pieces.NewBlocks.{NewBlocks}
 use Rattle.host_spaces.specs.declared.spaces.Spaces.{Spaces}
 use Rattle.host_map.specs.MemoryMap.{blocks_in}
-use Rattle.host_spaces.specs.MemoryMap.{map_of, space_in}
-use Rattle.host_spaces.specs.Pieces.{HasBlocks, new_block, with_new}
-use Rattle.host_moves.specs.Standing.{AgreeWithMap, IsPieceThere, IsOf, table_of}
+use Rattle.host_spaces.specs.MemoryMap.{AreSameSpaces, map_of, space_in}
+use Rattle.host_spaces.specs.Pieces.{HasBlocks, IsNeeded, new_block, with_new, without_pieces}
+use Rattle.host_spaces.specs.Wants.{block_need}
+use Rattle.host_moves.specs.Standing.{AgreeWithMap, IsPieceThere, IsOf, SameInstances, table_of}
+use Rattle.host_instances.specs.Blocks.{replaced_in, replaced_pieces}
+use Rattle.lifecycle.specs.Rooms.{NoNeed}
 
 -- a new block is no smaller than the old one, and of no lower alignment
 abbrev pub IsLarger : Option ScratchBlock → Option ScratchBlock → Type 0
@@ -50,4 +60,28 @@ pub record AreGrown {M : Type 0} (g : ℕ) (instances : List (Option (Member M))
 
 -- no member of group g is active where a block was replaced
 abbrev pub activity_grown : Bool → List Group → ℕ → ℕ → Activity
-activity_grown replaced groups g = if replaced then with_activity (activity_at groups) g (deactivated (activity_at groups g)) else activity_at groups
+activity_grown replaced groups g = if replaced then deactivated_in groups g else activity_at groups
+
+-- group g can get these blocks, in a host of this poison word or of none
+pub record CanGrow {M : Type 0} (poison : Option ℤ) (g : ℕ) (blocks : NewBlocks) (t : View M) (spaces : Spaces) : Type 0 where
+  pub range : g < GROUPS
+  pub ok : AreConsistent t
+  pub poisoned : ArePoisoned poison t.groups
+  pub placed : ArePlaced g blocks t.instances t.sharing t.groups spaces
+  pub words : (space : Space) → ArePoison poison (block_words (new_block blocks space))
+
+-- group g got these blocks, and the pieces of those that stood in their place are free
+pub record HasGrown {M : Type 0} (laws : Laws M) (poison : Option ℤ) (g : ℕ) (blocks : NewBlocks) (old new : View M) (spaces spaces' : Spaces) : Type 0 where
+  pub ok : AreConsistent new
+  pub poisoned : ArePoisoned poison new.groups
+  pub grown : AreGrown g new.instances new.sharing new.groups spaces'
+  -- records whose need the blocks were placed for need no more
+  pub need : (rs : List MemRec)
+      → ((space : Space) → IsNeeded (space_in spaces space).region (block_need rs (group_at old.groups g) space) (new_block blocks space))
+      → NoNeed rs (group_at new.groups g)
+  pub same : SameInstances old.instances new.instances
+  pub activity : (k : ℕ) → activity_at new.groups k ≡ activity_grown (replaced_in blocks (group_at old.groups g)) old.groups g k
+  pub map : map_of spaces' ≡ without_pieces (map_of spaces) (replaced_pieces blocks (group_at old.groups g))
+  pub others : (o : Owner) (space : Space) → o ≢ Scratch g → owned o (blocks_in (map_of spaces') space) ≡ owned o (blocks_in (map_of spaces) space)
+  pub stays : AreSameSpaces spaces spaces'
+  pub keeps : HistoriesStay laws poison old new

@@ -1,23 +1,10 @@
 //! A group grows.
-ghost use Rattle.std.specs.Prelude.{◌≡◌, ◌≢◌, ◌<◌, ℕ, length, List, Option, Some, None, true, false};
-ghost use Rattle.mem_rec.specs.declared.MemRec.{MemRec};
-ghost use Rattle.mem_rec.specs.declared.Space.{Space};
-ghost use Rattle.ialg.specs.Records.{ArePoison};
-ghost use Rattle.record_loans.specs.Blocks.{block_words};
-ghost use Rattle.lifecycle.specs.Rooms.{NoNeed};
+ghost use Rattle.std.specs.Prelude.{◌≡◌, ◌≢◌, ◌<◌, length, None, true, false};
 ghost use Rattle.mem_rec.specs.declared.TheConstants.{GROUPS};
-ghost use Rattle.host_table.specs.Table.{group_at, activity_at, TablesTold, ArePoisoned, SameActivities, ActivitiesAre};
+ghost use Rattle.host_table.specs.Table.{group_at, TablesTold, ArePoisoned, SameActivities, ActivitiesAre};
 ghost use Rattle.host_table.specs.Frames.{InactiveGroupsStay};
-ghost use Rattle.host_map.specs.declared.placed.Owner.{Owner};
-ghost use Rattle.host_map.specs.declared.placed.Owner.TheVariants.{Scratch};
-ghost use Rattle.host_map.specs.Blocks.{owned};
-ghost use Rattle.host_spaces.specs.MemoryMap.{AreSameSpaces, map_of, space_in};
-ghost use Rattle.host_map.specs.MemoryMap.{blocks_in};
-ghost use Rattle.host_spaces.specs.Pieces.{IsNeeded, new_block, without_pieces};
-ghost use Rattle.host_spaces.specs.Wants.{block_need};
-ghost use Rattle.host_moves.specs.Standing.{SameInstances};
-ghost use Rattle.host_instances.specs.Blocks.{no_blocks, replaced_in, replaced_pieces};
-ghost use Rattle.host_instances.specs.Growth.{ArePlaced, AreGrown, activity_grown};
+ghost use Rattle.host_instances.specs.Blocks.{no_blocks, replaced_in};
+ghost use Rattle.host_instances.specs.Growth.{CanGrow, HasGrown, activity_grown};
 ghost use Rattle.host_table.specs.Steps.{AreConsistent, MembersStay, HistoriesStay, AllHistoriesStay};
 
 use crate::blocks::{put_new_blocks, replaces_any};
@@ -25,8 +12,8 @@ use host_moves::in_order;
 use host_spaces::{NewBlocks, Spaces};
 use host_table::{Tables, call_moved_in_group};
 use ialg::Ialg;
-use record_loans::ScratchBlock;
 use scratch_group::Group;
+use space_raw::end_none;
 
 /// Whether a new block stands in place of an old one of the group.
 fn replaces_in(groups: &Vec<Group>, g: u8, blocks: &NewBlocks) -> bool
@@ -86,19 +73,9 @@ fn end_no_blocks(blocks: NewBlocks)
         saram,
         external,
     } = blocks;
-    end_no_block(daram);
-    end_no_block(saram);
-    end_no_block(external);
-}
-
-/// Ends a new block where there is none.
-fn end_no_block(block: Option<ScratchBlock>)
-    requires { block ≡ None }
-{
-    match block {
-        Some(_block) => unreachable!(),
-        None => {}
-    }
+    end_none(daram);
+    end_none(saram);
+    end_none(external);
 }
 
 /// Puts new blocks into the group, as [`grow`] does.
@@ -110,22 +87,8 @@ fn grow_by_blocks<M: Ialg>(
     g: u8,
     blocks: NewBlocks,
 )
-    requires range { g < GROUPS }
-    requires ok { AreConsistent tables.old }
-    requires poisoned { ArePoisoned poison tables.old.groups }
-    requires placed { ArePlaced g blocks tables.old.instances tables.old.sharing tables.old.groups spaces.old }
-    requires words { (space : Space) → ArePoison poison (block_words (new_block blocks space)) }
-    ensures ok { AreConsistent tables.new }
-    ensures poisoned { ArePoisoned poison tables.new.groups }
-    ensures grown { AreGrown g tables.new.instances tables.new.sharing tables.new.groups spaces.new }
-    ensures need { (rs : List MemRec) → ((space : Space) → IsNeeded (space_in spaces.old space).region (block_need rs (group_at tables.old.groups g) space) (new_block blocks space))
-        → NoNeed rs (group_at tables.new.groups g) }
-    ensures same { SameInstances tables.old.instances tables.new.instances }
-    ensures activity { (k : ℕ) → activity_at tables.new.groups k ≡ activity_grown (replaced_in blocks (group_at tables.old.groups g)) tables.old.groups g k }
-    ensures map { map_of spaces.new ≡ without_pieces (map_of spaces.old) (replaced_pieces blocks (group_at tables.old.groups g)) }
-    ensures others { (o : Owner) (space : Space) → o ≢ Scratch g → owned o (blocks_in (map_of spaces.new) space) ≡ owned o (blocks_in (map_of spaces.old) space) }
-    ensures stays { AreSameSpaces spaces.old spaces.new }
-    ensures keeps { HistoriesStay M.law poison tables.old tables.new }
+    requires { CanGrow poison g blocks tables.old spaces.old }
+    ensures { HasGrown M.law poison g blocks tables.old tables.new spaces.old spaces.new }
 {
     let replaced = replaces_in(&tables.groups, g, &blocks);
     rest_where(tables, poison, g, replaced);
@@ -147,22 +110,8 @@ pub fn grow<M: Ialg>(
     g: u8,
     blocks: NewBlocks,
 )
-    requires range { g < GROUPS }
-    requires ok { AreConsistent tables.old }
-    requires poisoned { ArePoisoned poison tables.old.groups }
-    requires placed { ArePlaced g blocks tables.old.instances tables.old.sharing tables.old.groups spaces.old }
-    requires words { (space : Space) → ArePoison poison (block_words (new_block blocks space)) }
-    ensures ok { AreConsistent tables.new }
-    ensures poisoned { ArePoisoned poison tables.new.groups }
-    ensures grown { AreGrown g tables.new.instances tables.new.sharing tables.new.groups spaces.new }
-    ensures need { (rs : List MemRec) → ((space : Space) → IsNeeded (space_in spaces.old space).region (block_need rs (group_at tables.old.groups g) space) (new_block blocks space))
-        → NoNeed rs (group_at tables.new.groups g) }
-    ensures same { SameInstances tables.old.instances tables.new.instances }
-    ensures activity { (k : ℕ) → activity_at tables.new.groups k ≡ activity_grown (replaced_in blocks (group_at tables.old.groups g)) tables.old.groups g k }
-    ensures map { map_of spaces.new ≡ without_pieces (map_of spaces.old) (replaced_pieces blocks (group_at tables.old.groups g)) }
-    ensures others { (o : Owner) (space : Space) → o ≢ Scratch g → owned o (blocks_in (map_of spaces.new) space) ≡ owned o (blocks_in (map_of spaces.old) space) }
-    ensures stays { AreSameSpaces spaces.old spaces.new }
-    ensures keeps { HistoriesStay M.law poison tables.old tables.new }
+    requires { CanGrow poison g blocks tables.old spaces.old }
+    ensures { HasGrown M.law poison g blocks tables.old tables.new spaces.old spaces.new }
 {
     if has_none(&blocks) {
         in_order(spaces);

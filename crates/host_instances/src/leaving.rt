@@ -5,7 +5,7 @@ ghost use Rattle.ialg.specs.History.{History};
 ghost use Rattle.record_loans.specs.Blocks.{block_piece};
 ghost use Rattle.scratch_group.specs.Blocks.{block_in};
 ghost use Rattle.mem_rec.specs.declared.TheConstants.{GROUPS};
-ghost use Rattle.host_table.specs.Table.{slot_at, group_at, group_of, is_member_of, deactivated_by, TablesOk, ArePoisoned, SameActivities, ActivitiesAre};
+ghost use Rattle.host_table.specs.Table.{slot_at, group_at, group_of, is_member_of, TablesOk, ArePoisoned, SameActivities};
 ghost use Rattle.host_table.specs.Sharers.{asked_by};
 ghost use Rattle.host_table.specs.Keeps.{Keeps};
 ghost use Rattle.host_map.specs.Creation.{handed_on};
@@ -15,7 +15,7 @@ ghost use Rattle.host_spaces.specs.Pieces.{old_piece};
 ghost use Rattle.host_moves.specs.Standing.{AgreeWithMap, MapAgrees};
 ghost use Rattle.host_instances.specs.Ends.{sharers_among, OtherSlotsSame};
 ghost use Rattle.host_instances.specs.Leaving.{AgreeWithMapBut};
-ghost use Rattle.host_table.specs.Steps.{AreConsistent, HistoriesStay};
+ghost use Rattle.host_table.specs.Steps.{AreConsistent, HistoriesStay, WasDeactivated};
 ghost use Rattle.host_table.specs.Frames.{OtherGroupsStay};
 
 use crate::members::spaces_of_records;
@@ -44,7 +44,7 @@ pub(crate) fn give_records<M: Ialg>(
     ensures poisoned { ArePoisoned poison tables.new.groups }
     ensures gone { slot_at tables.new.instances i ≡ None }
     ensures others { OtherSlotsSame i tables.old.instances tables.new.instances }
-    ensures activity { ActivitiesAre tables.new.groups (deactivated_by tables.old.instances tables.old.groups i) }
+    ensures activity { WasDeactivated i tables.old tables.new }
     ensures map { map_of spaces.new ≡ without_owners (is_instance's i)
         (renamed (handed_on (sharers_among M.law.meaning.same tables.new.instances (asked_by (slot_at tables.old.instances i))) i) (map_of spaces.old)) }
     ensures spaces { AreSameSpaces spaces.old spaces.new }

@@ -5,8 +5,7 @@ ghost use Rattle.mem_rec.specs.declared.TheConstants.{TABLE_RECORDS, INSTANCES, 
 ghost use Rattle.ialg.specs.History.{History};
 ghost use Rattle.ialg.specs.Records.{unplaced};
 ghost use Rattle.host_table.specs.Table.{slot_at, group_at, activity_at, ArePoisoned};
-ghost use Rattle.host_map.specs.Sharers.{asked, sharer_of};
-ghost use Rattle.host_table.specs.Sharers.{asked_by, AreLeastSharers};
+ghost use Rattle.host_table.specs.Sharers.{sharer_in, AreLeastSharers};
 ghost use Rattle.host_shared.specs.Joining.{sharer_at};
 ghost use Rattle.host_table.specs.Keeps.{with_history};
 ghost use Rattle.host_map.specs.declared.TheConstants.{SPACE_BLOCKS};
@@ -122,7 +121,7 @@ pub fn start_in_spaces<M: Ialg>(
     ensures ok { AreConsistent tables.new }
     ensures standing { MapAgrees tables.new spaces.new }
     ensures poisoned { ArePoisoned poison tables.new.groups }
-    ensures exact { created_map (sizes_of spaces.old) (map_of spaces.old) instance.entry.number instance.entry.group instance.entry.table (sharer_of M.law.meaning.same (λ j. asked_by (slot_at tables.old.instances j)) (asked instance.entry.kind instance.entry.params.now.items instance.entry.table))
+    ensures exact { created_map (sizes_of spaces.old) (map_of spaces.old) instance.entry.number instance.entry.group instance.entry.table (sharer_in M.law tables.old.instances (asked_for instance.entry))
         ≡ result_map (λ _. map_of spaces.new) result }
     ensures refused { OnErr result ((tables.new ≡ tables.old) × (spaces.new ≡ spaces.old)) }
     ensures stays { AreSameSpaces spaces.old spaces.new }

@@ -1,4 +1,4 @@
-use Rattle.std.proofs.Common.{◌≡◌, ◌⊎◌, Bool, inl, inr, false, None, sym, ap, ◌∙◌}
+use Rattle.std.proofs.Common.{rules, ◌≡◌, ◌⊎◌, Bool, inl, inr, false, None, sym, ap, ◌∙◌}
 use Rattle.host_map.specs.MemoryMap.{blocks_in}
 use Rattle.host_spaces.specs.MemoryMap.{map_of, space_in}
 use Rattle.host_spaces.specs.Pieces.{new_block, with_new}
@@ -63,8 +63,8 @@ tell_where-requires-clause-ok g c none =
     ok_now c.args.g c.args.blocks _ _ _ _ c.args.spaces.now c.take_out_blocks.new.self renewed (rw (← c.tables-2.view_is) at c.rest_where.ensures.ok)
     (replaced_at c.args.blocks (group_at c.args.tables.now.groups c.args.g) (group_at c.tables-2.inside.groups.items c.args.g) ((rw (← c.tables-2.view_is) at c.rest_where.ensures.same).blocks c.args.g) ∙ sym (let replaced_is : c.replaces_in-replaced.result ≡ replaced_in c.args.blocks (group_at c.args.tables.now.groups c.args.g) = rw (← c.tables.view_is) c.replaces_in-replaced.ensures in replaced_is) ∙ none)
 
-pub returns-clause-poisoned : goal.returns-clause-poisoned
-returns-clause-poisoned g c =
+pub returns : goal.returns
+returns g c =
     let renewed : Renewed c.args.g c.args.blocks c.tables-2.inside.instances.items c.tables-2.inside.sharing.items c.tables-2.inside.groups.items c.put_new_blocks-old.new.groups.items c.args.spaces.now c.take_out_blocks.new.self = record {
       old = c.put_new_blocks-old.result;
       placed = placed_stays c.args.g c.args.blocks _ _ _ _ _ _ c.args.spaces.now (rw (← c.tables-2.view_is) at c.rest_where.ensures.same) c.requires.placed;
@@ -79,72 +79,32 @@ returns-clause-poisoned g c =
       others = c.take_out_blocks.ensures.others;
       regions = c.take_out_blocks.ensures.stays;
     } in
-    poisoned_stays c.args.poison _ _ c.tell_where.ensures.inactive c.tell_where.ensures.activity (poisoned_now c.args.g c.args.blocks _ _ _ _ c.args.spaces.now c.take_out_blocks.new.self renewed (rw (← c.tables-2.view_is) at c.rest_where.ensures.ok) c.args.poison c.requires.words (rw (← c.tables-2.view_is) at c.rest_where.ensures.poisoned))
-
-pub returns-clause-grown : goal.returns-clause-grown
-returns-clause-grown g c =
-    let renewed : Renewed c.args.g c.args.blocks c.tables-2.inside.instances.items c.tables-2.inside.sharing.items c.tables-2.inside.groups.items c.put_new_blocks-old.new.groups.items c.args.spaces.now c.take_out_blocks.new.self = record {
-      old = c.put_new_blocks-old.result;
-      placed = placed_stays c.args.g c.args.blocks _ _ _ _ _ _ c.args.spaces.now (rw (← c.tables-2.view_is) at c.rest_where.ensures.same) c.requires.placed;
-      ordered = c.in_order.ensures;
-      ordered_now = c.in_order-2.ensures;
-      is_old = c.put_new_blocks-old.ensures.old;
-      is_new = c.put_new_blocks-old.ensures.new;
-      same = c.put_new_blocks-old.ensures.others;
-      activity = c.put_new_blocks-old.ensures.activity;
-      count = c.put_new_blocks-old.ensures.length;
-      map = c.take_out_blocks.ensures.map;
+    let replaced_is : c.replaces_in-replaced.result ≡ replaced_in c.args.blocks (group_at c.args.tables.now.groups c.args.g) = rw (← c.tables.view_is) c.replaces_in-replaced.ensures in
+    record {
+      ok = c.tell_where.ensures.ok;
+      same = search rules;
+      poisoned = poisoned_stays c.args.poison _ _ c.tell_where.ensures.inactive c.tell_where.ensures.activity (poisoned_now c.args.g c.args.blocks _ _ _ _ c.args.spaces.now c.take_out_blocks.new.self renewed (rw (← c.tables-2.view_is) at c.rest_where.ensures.ok) c.args.poison c.requires.words (rw (← c.tables-2.view_is) at c.rest_where.ensures.poisoned));
+      grown = grown_stays c.args.g _ _ _ _ _ _ c.take_out_blocks.new.self c.tell_where.ensures.same (stands c.args.g c.args.blocks _ _ _ _ c.args.spaces.now c.take_out_blocks.new.self renewed (rw (← c.tables-2.view_is) at c.rest_where.ensures.ok));
+      need = λ rs needed.
+          need_alike rs (group_at c.put_new_blocks-old.new.groups.items c.args.g) (group_at c.tell_where.new.tables.groups c.args.g) (λ space. alike_same _ _ (c.tell_where.ensures.same.blocks c.args.g space))
+          (need_new rs c.args.blocks (group_at c.args.tables.now.groups c.args.g) (group_at c.tables-2.inside.groups.items c.args.g) (group_at c.put_new_blocks-old.new.groups.items c.args.g)
+          (λ space. (space_in c.args.spaces.now space).region) ((rw (← c.tables-2.view_is) at c.rest_where.ensures.same).blocks c.args.g) c.put_new_blocks-old.ensures.new needed);
+      activity = λ k.
+          c.tell_where.ensures.activity k ∙ c.put_new_blocks-old.ensures.activity k ∙ (rw (← c.tables-2.view_is) at c.rest_where.ensures.activity) k
+          ∙ ap (λ (t : Bool). activity_grown t c.args.tables.now.groups c.args.g k) replaced_is;
       others = c.take_out_blocks.ensures.others;
-      regions = c.take_out_blocks.ensures.stays;
-    } in
-    grown_stays c.args.g _ _ _ _ _ _ c.take_out_blocks.new.self c.tell_where.ensures.same (stands c.args.g c.args.blocks _ _ _ _ c.args.spaces.now c.take_out_blocks.new.self renewed (rw (← c.tables-2.view_is) at c.rest_where.ensures.ok))
-
-pub returns-clause-need : goal.returns-clause-need
-returns-clause-need g c rs needed =
-    need_alike rs (group_at c.put_new_blocks-old.new.groups.items c.args.g) (group_at c.tell_where.new.tables.groups c.args.g) (λ space. alike_same _ _ (c.tell_where.ensures.same.blocks c.args.g space))
-    (need_new rs c.args.blocks (group_at c.args.tables.now.groups c.args.g) (group_at c.tables-2.inside.groups.items c.args.g) (group_at c.put_new_blocks-old.new.groups.items c.args.g)
-    (λ space. (space_in c.args.spaces.now space).region) ((rw (← c.tables-2.view_is) at c.rest_where.ensures.same).blocks c.args.g) c.put_new_blocks-old.ensures.new needed)
-
-pub returns-clause-activity : goal.returns-clause-activity
-returns-clause-activity g c k =
-    let replaced_is : c.replaces_in-replaced.result ≡ replaced_in c.args.blocks (group_at c.args.tables.now.groups c.args.g) =
-    rw (← c.tables.view_is) c.replaces_in-replaced.ensures in
-    c.tell_where.ensures.activity k ∙ c.put_new_blocks-old.ensures.activity k ∙ (rw (← c.tables-2.view_is) at c.rest_where.ensures.activity) k
-    ∙ ap (λ (t : Bool). activity_grown t c.args.tables.now.groups c.args.g k) replaced_is
-
-pub returns-clause-others : goal.returns-clause-others
-returns-clause-others g c = c.take_out_blocks.ensures.others
-
-pub returns-clause-stays : goal.returns-clause-stays
-returns-clause-stays g c = c.take_out_blocks.ensures.stays
-
-pub returns-clause-map : goal.returns-clause-map
-returns-clause-map g c =
-    c.take_out_blocks.ensures.map
-    ∙ without_replaced_pieces (map_of c.args.spaces.now) c.args.blocks (group_at c.args.tables.now.groups c.args.g) (group_at c.tables-2.inside.groups.items c.args.g)
-    c.put_new_blocks-old.result ((rw (← c.tables-2.view_is) at c.rest_where.ensures.same).blocks c.args.g) c.put_new_blocks-old.ensures.old
-
-pub returns-clause-keeps : goal.returns-clause-keeps
-returns-clause-keeps g c histories before =
-    let renewed : Renewed c.args.g c.args.blocks c.tables-2.inside.instances.items c.tables-2.inside.sharing.items c.tables-2.inside.groups.items c.put_new_blocks-old.new.groups.items c.args.spaces.now c.take_out_blocks.new.self = record {
-      old = c.put_new_blocks-old.result;
-      placed = placed_stays c.args.g c.args.blocks _ _ _ _ _ _ c.args.spaces.now (rw (← c.tables-2.view_is) at c.rest_where.ensures.same) c.requires.placed;
-      ordered = c.in_order.ensures;
-      ordered_now = c.in_order-2.ensures;
-      is_old = c.put_new_blocks-old.ensures.old;
-      is_new = c.put_new_blocks-old.ensures.new;
-      same = c.put_new_blocks-old.ensures.others;
-      activity = c.put_new_blocks-old.ensures.activity;
-      count = c.put_new_blocks-old.ensures.length;
-      map = c.take_out_blocks.ensures.map;
-      others = c.take_out_blocks.ensures.others;
-      regions = c.take_out_blocks.ensures.stays;
-    } in
-    let unseen : (replaced_in c.args.blocks (group_at c.tables-2.inside.groups.items c.args.g) ≡ false) ⊎ ((group_at c.tables-2.inside.groups.items c.args.g).active ≡ None) =
-    elim (either c.replaces_in-replaced.result) [
-      | inl some ↦ inr ((rw (← c.tables-2.view_is) at c.rest_where.ensures.idle) some)
-      | inr none ↦ inl (replaced_at c.args.blocks (group_at c.args.tables.now.groups c.args.g) (group_at c.tables-2.inside.groups.items c.args.g) ((rw (← c.tables-2.view_is) at c.rest_where.ensures.same).blocks c.args.g) ∙ sym (let replaced_is : c.replaces_in-replaced.result ≡ replaced_in c.args.blocks (group_at c.args.tables.now.groups c.args.g) = rw (← c.tables.view_is) c.replaces_in-replaced.ensures in replaced_is) ∙ none)
-    ] in
-    c.tell_where.ensures.keeps c.args.poison histories
-    (words_seen g.M.Ialg.law c.args.poison histories _ _ _ _ _ _ (rw (← c.tables-2.view_is) at c.rest_where.ensures.ok)
-    (words_now c.args.g c.args.blocks _ _ _ _ c.args.spaces.now c.take_out_blocks.new.self renewed (rw (← c.tables-2.view_is) at c.rest_where.ensures.ok) unseen) ((rw (← c.tables-2.view_is) at c.rest_where.ensures.keeps) histories before))
+      stays = c.take_out_blocks.ensures.stays;
+      map =
+          c.take_out_blocks.ensures.map
+          ∙ without_replaced_pieces (map_of c.args.spaces.now) c.args.blocks (group_at c.args.tables.now.groups c.args.g) (group_at c.tables-2.inside.groups.items c.args.g)
+          c.put_new_blocks-old.result ((rw (← c.tables-2.view_is) at c.rest_where.ensures.same).blocks c.args.g) c.put_new_blocks-old.ensures.old;
+      keeps = λ histories before.
+          let unseen : (replaced_in c.args.blocks (group_at c.tables-2.inside.groups.items c.args.g) ≡ false) ⊎ ((group_at c.tables-2.inside.groups.items c.args.g).active ≡ None) =
+          elim (either c.replaces_in-replaced.result) [
+            | inl some ↦ inr ((rw (← c.tables-2.view_is) at c.rest_where.ensures.idle) some)
+            | inr none ↦ inl (replaced_at c.args.blocks (group_at c.args.tables.now.groups c.args.g) (group_at c.tables-2.inside.groups.items c.args.g) ((rw (← c.tables-2.view_is) at c.rest_where.ensures.same).blocks c.args.g) ∙ sym replaced_is ∙ none)
+          ] in
+          c.tell_where.ensures.keeps c.args.poison histories
+          (words_seen g.M.Ialg.law c.args.poison histories _ _ _ _ _ _ (rw (← c.tables-2.view_is) at c.rest_where.ensures.ok)
+          (words_now c.args.g c.args.blocks _ _ _ _ c.args.spaces.now c.take_out_blocks.new.self renewed (rw (← c.tables-2.view_is) at c.rest_where.ensures.ok) unseen) ((rw (← c.tables-2.view_is) at c.rest_where.ensures.keeps) histories before));
+    }

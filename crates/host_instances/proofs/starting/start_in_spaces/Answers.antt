@@ -31,19 +31,16 @@ place-requires-clause-room g c space =
     let few = c.blocks_are_few.ensures.room (blocks_in (map_of c.args.spaces.now) space) c.args.instance.number (c.maps_have_room.ensures.single c.args.tables.now.instances c.args.tables.now.sharing c.args.tables.now.groups c.args.spaces.now space c.requires.ok c.requires.standing) c.requires.number (λ k. c.requires.standing.gone c.args.instance.number k space c.requires.empty) in
     omega (arith, few)
 
-pub grow-requires-clause-ok : goal.grow-requires-clause-ok
-grow-requires-clause-ok g c = c.requires.ok
-
-pub grow-requires-clause-poisoned : goal.grow-requires-clause-poisoned
-grow-requires-clause-poisoned g c = c.requires.poisoned
-
-pub grow-requires-clause-words : goal.grow-requires-clause-words
-grow-requires-clause-words g c = c.in-Ok.ensures.poison.blocks
-
-pub grow-requires-clause-placed : goal.grow-requires-clause-placed
-grow-requires-clause-placed g c =
-    are_placed c.args.instance.number c.args.instance.group c.args.instance.table c.in-Ok.placed.blocks _ _ _ c.args.spaces.now c.place.new.spaces c.requires.empty c.requires.standing (rw (← c.tables.view_is) c.in-Ok.ensures.needed) c.in-Ok.ensures.blocks
-    c.in-Ok.ensures.others c.place.ensures.stays
+pub grow-requires : goal.grow-requires
+grow-requires g c = record {
+  range = c.requires.group;
+  ok = c.requires.ok;
+  poisoned = c.requires.poisoned;
+  placed =
+      are_placed c.args.instance.number c.args.instance.group c.args.instance.table c.in-Ok.placed.blocks _ _ _ c.args.spaces.now c.place.new.spaces c.requires.empty c.requires.standing (rw (← c.tables.view_is) c.in-Ok.ensures.needed) c.in-Ok.ensures.blocks
+      c.in-Ok.ensures.others c.place.ensures.stays;
+  words = c.in-Ok.ensures.poison.blocks;
+}
 
 pub begin-requires-clause-ok : goal.begin-requires-clause-ok
 begin-requires-clause-ok g c = c.grow.ensures.ok
