@@ -16,5 +16,5 @@ pub use loans::{
     PlannedLoan, lend_filter, lend_reader, lend_sharing_filter, lend_with_blocks,
     lend_without_blocks,
 };
-pub use pieces::Pieces;
+pub use pieces::{Pieces, place_of};
 pub use plan::{Cut, FilterSizes, Plan, ReaderSizes, SharingSizes, Source};

@@ -46,14 +46,7 @@ impl Pieces {
         requires space { IsInSpace (piece_at self.now k) }
         ensures { result ≡ piece_place (piece_at self.now k) }
     {
-        match self.piece(k) {
-            Some(p) => {
-                // the piece lies within its region, as its length says
-                let _len = p.len();
-                p.place() as u16
-            }
-            None => 0,
-        }
+        place_of(self.piece(k))
     }
 
     /// Takes the piece of record `k` out.
@@ -90,5 +83,21 @@ impl Pieces {
             Some(_piece) => unreachable!(),
             None => {}
         }
+    }
+}
+
+/// Where a piece begins, which is there.
+pub fn place_of(piece: &Option<Piece>) -> u16
+    requires some { 1 ≤ length (piece_words piece.now) }
+    requires space { IsInSpace piece.now }
+    ensures { result ≡ piece_place piece.now }
+{
+    match piece {
+        Some(p) => {
+            // the piece lies within its region, as its length says
+            let _len = p.len();
+            p.place() as u16
+        }
+        None => unreachable!(),
     }
 }

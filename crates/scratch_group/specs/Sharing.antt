@@ -7,7 +7,8 @@ use Rattle.ialg.specs.Records.{record_at}
 use Rattle.record_loans.specs.declared.plan.SharingSizes.{SharingSizes}
 use Rattle.scratch_group.specs.declared.plan.TheConstants.{SHARING_RECORDS}
 
--- the table of a filter that shares its constants, with these sizes: behind the object one persistent record, one write-once record, and one scratch record in `daram`
+-- the table of a filter that shares its constants, with these sizes: behind the object one persistent record, one write-once record,
+-- and one scratch record in `daram`
 pub record IsOfSharingFilter (rs : List MemRec) (n : SharingSizes) : Type 0 where
   pub four : length rs ≡ SHARING_RECORDS
   pub some : 1 ≤ n.object × 1 ≤ n.kept × 1 ≤ n.constants × 1 ≤ n.running
@@ -23,3 +24,7 @@ pub record IsOfSharingFilter (rs : List MemRec) (n : SharingSizes) : Type 0 wher
 -- the table of no such filter
 abbrev pub IsOfNoSharingFilter : List MemRec → Type 0
 IsOfNoSharingFilter rs = (n : SharingSizes) → IsOfSharingFilter rs n → ⊥
+
+-- the sizes of the first four records
+abbrev pub sizes_in : List MemRec → SharingSizes
+sizes_in rs = record { object = (record_at rs 0).size; kept = (record_at rs 1).size; constants = (record_at rs 2).size; running = (record_at rs 3).size }

@@ -1,13 +1,16 @@
 //! The bases of a table, by the places of its records.
-ghost use Rattle.std.specs.Prelude.{◌≡◌, ◌<◌, ℕ, List, length};
+ghost use Rattle.std.specs.Prelude.{◌≡◌, ◌<◌, ℕ, IsTrue, List, length};
 ghost use Rattle.mem_rec.specs.declared.MemRec.{MemRec};
-ghost use Rattle.mem_rec.specs.Records.{with_base};
+ghost use Rattle.mem_rec.specs.Records.{is_table, with_base};
+ghost use Rattle.record_loans.specs.Pieces.{only_third};
+ghost use Rattle.scratch_group.specs.Sharing.{sizes_in, IsOfSharingFilter};
 ghost use Rattle.scratch_group.specs.Words.{record_place, placed, StandsAtLayout, HasWords, InSpaces};
 
 use crate::group::Group;
 use crate::plan::{end_before, offset_behind, record};
-use mem_rec::{Attr, MemTab};
-use record_loans::Pieces;
+use mem_rec::{Attr, MemTab, Space};
+use record_loans::{Pieces, place_of};
+use space_raw::Piece;
 
 /// The base of each record is its place from now on.
 ///
@@ -28,6 +31,26 @@ pub fn rebase(table: &mut MemTab, own: &Pieces, shared: &Pieces, group: &Group)
     put_base(table, 1, second);
     put_base(table, 2, third);
     put_base(table, 3, fourth);
+}
+
+/// The base of each record is its place from now on, as [`rebase`] has it, of a filter that shares its constants: the one scratch record
+/// begins where the block in `daram` does, and the constants where the one piece does that is lent.
+#[inline(always)]
+pub fn rebase_sharing(table: &mut MemTab, own: &Pieces, once: &Option<Piece>, group: &Group)
+    requires table { IsTrue (is_table table.old) }
+    requires sharing { IsOfSharingFilter table.old (sizes_in table.old) }
+    requires sizes { HasWords table.old own.now (only_third once.now) group.now }
+    requires spaces { InSpaces own.now (only_third once.now) group.now }
+    ensures { table.new ≡ placed table.old own.now (only_third once.now) group.now }
+{
+    let object = own.place(0);
+    let kept = own.place(1);
+    let constants = place_of(once);
+    let running = group.place_in(Space::Daram, 0);
+    table.set_base(0, object);
+    table.set_base(1, kept);
+    table.set_base(2, constants);
+    table.set_base(3, running);
 }
 
 /// Record `k`, if there is one, is at `base` from now on.

@@ -143,7 +143,7 @@ impl Group {
                 let _len = b.piece.len();
                 (b.piece.place() + offset) as u16
             }
-            None => 0,
+            None => unreachable!(),
         }
     }
 

@@ -1,6 +1,8 @@
 //! The records that last are lent to idle instances.
-ghost use Rattle.std.specs.Prelude.{◌≡◌, ◌≤◌, [], ◌∷◌, length, take};
-ghost use Rattle.record_loans.specs.Pieces.{piece_words, IsSamePiece, SamePieces};
+ghost use Rattle.std.specs.Prelude.{◌≡◌, ◌≤◌, [], ◌∷◌, length, take, false, IsTrue};
+ghost use Rattle.mem_rec.specs.Records.{is_table};
+ghost use Rattle.record_loans.specs.Pieces.{only_third, piece_words, IsSamePiece, SamePieces};
+ghost use Rattle.scratch_group.specs.Sharing.{IsOfSharingFilter};
 ghost use Rattle.scratch_group.specs.Words.{idle_words, HasPieces};
 
 use crate::plan::{filter_sizes, idle_plan, reader_sizes, sharing_sizes};
@@ -45,6 +47,36 @@ pub fn lend_lasting<O, S: Step<O>>(
             },
         },
     }
+}
+
+/// Performs the step with the records of an idle filter that shares its constants, as [`lend_lasting`] does, out of its own pieces and the
+/// one that is lent to it: for reading alone, and where it stands.
+#[inline(always)]
+pub fn lend_lasting_sharing<O, S: Step<O>>(
+    step: &S,
+    table: &MemTab,
+    sizes: SharingSizes,
+    own: &mut Pieces,
+    once: &mut Option<Piece>,
+    out: &mut O,
+)
+    requires can { S.can step.now out.old }
+    requires table { IsTrue (is_table table.now) }
+    requires sharing { IsOfSharingFilter table.now sizes }
+    requires sizes { HasPieces table.now own.old (only_third once.old) }
+    ensures done { S.done step.now table.now false
+        (idle_words table.now own.old (only_third once.old)) (idle_words table.now own.new (only_third once.new)) out.old out.new }
+    ensures own { SamePieces own.old own.new }
+    ensures once { IsSamePiece once.old once.new }
+{
+    // write-once records are for reading alone
+    let writable = false;
+    let lending = Lending {
+        step,
+        table,
+        writable,
+    };
+    lend_sharing_filter_at_rest(&lending, sizes, own, once, out);
 }
 
 /// Performs the step as [`lend_lasting`] does, whatever the table.
