@@ -10,8 +10,7 @@ use Rattle.record_loans.specs.declared.pieces.Pieces.{Pieces}
 use Rattle.scratch_group.specs.Blocks.{BlocksArePoison}
 use Rattle.scratch_group.specs.Words.{active_words, idle_words}
 use Rattle.lifecycle.specs.Laws.{Started, Activated, ActivatedAndRan, Deactivated, Moved, Freed}
-use Rattle.lifecycle.specs.declared.instance.Instance.{Instance}
-use Rattle.lifecycle.specs.States.{Fits, IdleKeeps}
+use Rattle.lifecycle.specs.States.{Fits}
 use Rattle.lifecycle.proofs.Words.{lasting_active, lasting_idle, lasting_lent, scratch_is_poison, active_words-same, idle_words-same}
 
 module _ {M : Type 0} (laws : Laws M) (kind : M) (rs : List MemRec) where
@@ -71,12 +70,3 @@ module _ {M : Type 0} (laws : Laws M) (kind : M) (rs : List MemRec) where
   freed own shared g answer f done p w h lawful keeps =
       done p w h lawful refl (lasting_lent rs own shared g f.lent)
       (subst (λ (wss : List (List ℤ)). laws.idle_keeps kind p rs wss h) (sym (lasting_idle rs own shared)) keeps)
-
--- what a new instance keeps once it is started
-abbrev BeginsAs : {M : Type 0} → Laws M → Instance M → Pieces → Pieces → Instance M → Type 0
-BeginsAs laws new shared shared' s = (w : Option ℤ) → laws.meaning.table s.kind s.params.items ≡ Some (unplaced s.table)
-    → AreNew w (laws.meaning.fill s.kind s.params.items) s.table (idle_words s.table s.own shared)
-    → IdleKeeps laws new w shared' []
-
-pub begins_as : {M : Type 0} (laws : Laws M) (new : Instance M) (shared shared' : Pieces) (s s' : Instance M) → s ≡ s' → BeginsAs laws new shared shared' s → BeginsAs laws new shared shared' s'
-begins_as laws new shared shared' s s' same keeps = subst (BeginsAs laws new shared shared') same keeps

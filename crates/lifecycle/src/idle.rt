@@ -17,9 +17,8 @@ use crate::steps::{Activate, ActivateAndProcess, Free, Init, Move};
 use ialg::{BLOCK_SAMPLES, Block, Ctl, Ialg, Params, copied};
 use mem_rec::MemTab;
 use record_loans::{Pieces, SharingSizes};
-use scratch_group::{Group, lend_lasting, rebase};
-use space_raw::{Piece, end_none};
-use std::mem;
+use scratch_group::{Group, lend_lasting, lend_lasting_sharing, rebase, rebase_sharing};
+use space_raw::Piece;
 
 /// An idle instance. Its own pieces and those of its write-once records keep its history.
 pub struct Idle<M> {
@@ -27,29 +26,6 @@ pub struct Idle<M> {
 }
 
 impl<M: Ialg> Idle<M> {
-    /// Starts an instance, which owns a piece for each of its persistent records and keeps a copy of the parameters. It goes by the places of
-    /// the pieces and of its group's blocks, and its write-once records may be written this once.
-    pub fn init(
-        kind: M,
-        params: &Params,
-        table: MemTab,
-        own: Pieces,
-        shared: &mut Pieces,
-        group: &Group,
-    ) -> Idle<M>
-        requires fits { HasRoom (record { kind = kind; params = params.now; table = table; own = own }) shared.old group.now }
-        ensures same { SameInstance (settled (record { kind = kind; params = params.now; table = table; own = own }) shared.old group.now) result.instance }
-        ensures shared { SamePieces shared.old shared.new }
-        ensures fits { Fits result.instance.table result.instance.own shared.new group.now }
-        ensures keeps { (w : Option ℤ) → M.law.meaning.table kind params.now.items ≡ Some (unplaced table)
-            → AreNew w (M.law.meaning.fill kind params.now.items) table (idle_words table own shared.old)
-            → IdleKeeps M.law result.instance w shared.new [] }
-    {
-        let mut idle = Idle::new(kind, params, table, own);
-        idle.start(shared, group);
-        idle
-    }
-
     /// An instance that owns these pieces and keeps a copy of the parameters: [`start`](Idle::start) has to follow.
     #[inline(always)]
     pub fn new(kind: M, params: &Params, table: MemTab, own: Pieces) -> Idle<M>
@@ -286,15 +262,19 @@ impl<M: Ialg> Idle<M> {
         ensures keeps { (w : Option ℤ) (h : History) → IdleKeeps M.law (with_back self.old.instance back) w (only_third once.old) h
             → IdleKeeps M.law self.new.instance w (only_third once.new) h }
     {
-        let _sizes = sizes;
-        let mut shared = Pieces::none();
-        mem::swap(&mut shared.p2, once);
-        self.moved(back, &mut shared, group);
-        mem::swap(&mut shared.p2, once);
-        let Pieces { p0, p1, p2, p3 } = shared;
-        end_none(p0);
-        end_none(p1);
-        end_none(p2);
-        end_none(p3);
+        let instance = &mut self.instance;
+        restore(&mut instance.own, back);
+        rebase_sharing(&mut instance.table, &instance.own, once, group);
+        let step = Move {
+            kind: instance.kind,
+        };
+        lend_lasting_sharing(
+            &step,
+            &instance.table,
+            sizes,
+            &mut instance.own,
+            once,
+            &mut (),
+        );
     }
 }

@@ -59,7 +59,9 @@ pub(crate) fn filter(
         p2: None,
         p3: None,
     };
-    Idle::init(Fir, &p, table, own, none, group)
+    let mut member = Idle::new(Fir, &p, table, own);
+    member.start(none, group);
+    member
 }
 
 /// An idle instance is active for one control that it accepts.

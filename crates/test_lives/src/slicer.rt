@@ -45,7 +45,8 @@ pub fn live(
     ensures group { SameGroup group.old group.new }
     ensures fits { Fits result.0.instance.table result.0.instance.own shared.new group.new }
 {
-    let member = Idle::init(Slicer, &levels, table, own, shared, group);
+    let mut member = Idle::new(Slicer, &levels, table, own);
+    member.start(shared, group);
     let mut active = member.activated(shared, group);
     active.run(shared, group, input, out);
     let status = active.control(shared, group, &Ctl::Get);

@@ -1,6 +1,12 @@
+use Rattle.std.proofs.Common.{sym, subst}
+use Rattle.alg_fir.specs.declared.Fir.{Fir}
+use Rattle.lifecycle.specs.declared.instance.Instance.{Instance}
+use Rattle.lifecycle.specs.Moves.{HasRoom}
 use Rattle.test_lives.proofs.Housing.{filter_fits}
 use Rattle.test_lives.proofs.neighbour_tests.filter.Goals as goal
 
-pub init-requires : goal.init-requires
-init-requires g c =
-    record { fits = filter_fits c.table-table.result c.args.none.now c.args.object c.args.kept c.args.group.now c.table-table.ensures c.requires.none c.requires.object c.requires.kept c.requires.ready }
+pub start-requires : goal.start-requires
+start-requires g c =
+    let fits = filter_fits c.table-table.result c.args.none.now c.args.object c.args.kept c.args.group.now
+    c.table-table.ensures c.requires.none c.requires.object c.requires.kept c.requires.ready in
+    record { fits = subst (λ (s : Instance Fir). HasRoom s c.args.none.now c.args.group.now) (sym c.new-member.ensures) fits }
