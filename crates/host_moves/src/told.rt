@@ -182,6 +182,7 @@ pub fn tell<M: Ialg>(tables: &mut Tables<M>, i: u8, back: Option<(usize, Piece)>
 }
 
 /// Calls algMoved of instance `j`, which shares record `k` with its owner `i` or is the owner.
+#[inline(always)]
 fn call_moved_of_sharer<M: Ialg>(tables: &mut Tables<M>, i: u8, k: usize, j: u8)
     requires number { j < INSTANCES }
     requires record { k < TABLE_RECORDS }
