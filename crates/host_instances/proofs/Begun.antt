@@ -7,7 +7,7 @@ use Rattle.mem_rec.specs.declared.MemRec.{MemRec}
 use Rattle.mem_rec.specs.declared.Space.{Space}
 use Rattle.ialg.specs.Records.{unplaced}
 use Rattle.record_loans.specs.declared.pieces.Pieces.{Pieces}
-use Rattle.record_loans.specs.Pieces.{piece_at, SamePieces}
+use Rattle.record_loans.specs.Pieces.{piece_at, SamePieces, no_pieces}
 use Rattle.record_loans.specs.Blocks.{block_piece}
 use Rattle.scratch_group.specs.declared.group.Group.{Group}
 use Rattle.scratch_group.specs.Blocks.{block_in}
@@ -22,7 +22,7 @@ use Rattle.record_loans.proofs.PieceLemmas.{same_pieces}
 use Rattle.host_table.specs.declared.member.Member.{Member}
 use Rattle.host_shared.specs.declared.locations.Locations.{Locations}
 use Rattle.host_shared.specs.declared.joining.Sharers.{Sharers}
-use Rattle.host_shared.specs.Locations.{location_at, locations_at, owner_of, shared_at, no_pieces}
+use Rattle.host_shared.specs.Locations.{location_at, locations_at, owner_of, shared_at}
 use Rattle.host_shared.specs.Owners.{IsSameLocation}
 use Rattle.host_table.specs.Table.{slot_at, group_at, instance_of, active_in, is_member_of, AreHeld, TablesOk}
 use Rattle.host_map.specs.Sharers.{Asked, asked, sharer_of}

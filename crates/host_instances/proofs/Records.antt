@@ -12,7 +12,7 @@ use Rattle.relocate.proofs.RangeTests.{true_or_false}
 use Rattle.ialg.specs.Records.{unplaced}
 use Rattle.ialg.proofs.Tables.{record_at-unplaced}
 use Rattle.record_loans.specs.declared.pieces.Pieces.{Pieces}
-use Rattle.record_loans.specs.Pieces.{piece_at, SamePieces}
+use Rattle.record_loans.specs.Pieces.{piece_at, SamePieces, no_pieces}
 use Rattle.scratch_group.specs.declared.group.Group.{Group}
 use Rattle.scratch_group.specs.Blocks.{block_in}
 use Rattle.lifecycle.specs.Rooms.{lasting_piece}
@@ -27,7 +27,7 @@ use Rattle.host_spaces.specs.MemoryMap.{AreSameSpaces, map_of, space_in}
 use Rattle.host_spaces.specs.Pieces.{HasRecords, ArePlacedPieces, IsPieceOf, is_placed_once, record_block}
 use Rattle.host_table.specs.declared.member.Member.{Member}
 use Rattle.host_shared.specs.declared.locations.Locations.{Locations}
-use Rattle.host_shared.specs.Locations.{location_at, locations_at, owner_of, shared_at, no_pieces}
+use Rattle.host_shared.specs.Locations.{location_at, locations_at, owner_of, shared_at}
 use Rattle.host_shared.specs.Owners.{IsSameLocation}
 use Rattle.host_shared.specs.Sharing.{next_sharer, left_with, location_without, AreLeast}
 use Rattle.host_table.specs.Table.{slot_at, AreHeld, group_at, group_of, own_of, instance_of, is_member_of}

@@ -6,7 +6,8 @@ use Rattle.scratch_group.specs.declared.group.Group.{Group}
 use Rattle.scratch_group.specs.Blocks.{block_in}
 use Rattle.host_table.specs.declared.member.Member.{Member}
 use Rattle.host_shared.specs.declared.locations.Locations.{Locations}
-use Rattle.host_shared.specs.Locations.{owner_of, shared_at, no_pieces}
+use Rattle.record_loans.specs.Pieces.{no_pieces}
+use Rattle.host_shared.specs.Locations.{owner_of, shared_at}
 use Rattle.host_table.specs.Table.{slot_at, group_at, instance_of, is_member_of}
 use Rattle.host_shared.specs.Sharing.{AreLeast}
 use Rattle.host_table.specs.Sharers.{AreTogether}

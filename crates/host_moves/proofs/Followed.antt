@@ -8,7 +8,7 @@ use Rattle.ialg.specs.History.{History}
 use Rattle.ialg.specs.Laws.{Laws}
 use Rattle.ialg.specs.Records.{record_at}
 use Rattle.record_loans.specs.declared.pieces.Pieces.{Pieces}
-use Rattle.record_loans.specs.Pieces.{only_third, piece_at, piece_place, with_piece, IsInSpace, IsSamePiece}
+use Rattle.record_loans.specs.Pieces.{only_third, piece_at, piece_place, with_piece, IsInSpace, IsSamePiece, no_pieces}
 use Rattle.record_loans.specs.Blocks.{block_piece}
 use Rattle.record_loans.proofs.PieceLemmas.{same_pieces}
 use Rattle.scratch_group.specs.declared.group.Group.{Group}
@@ -18,7 +18,6 @@ use Rattle.lifecycle.specs.declared.instance.Instance.{Instance}
 use Rattle.lifecycle.specs.Moves.{restored, with_back, HasRoom}
 use Rattle.lifecycle.specs.States.{Fits, IdleKeeps, SameOnce}
 use Rattle.lifecycle.proofs.Frames.{unplaced-placed}
-use Rattle.host_shared.specs.Locations.{no_pieces}
 use Rattle.host_table.proofs.Held.{same_shape}
 use Rattle.host_table.proofs.Lendings.{any_pieces, idle_any}
 use Rattle.host_table.proofs.Sights.{active_written, idle_written}

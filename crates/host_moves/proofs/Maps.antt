@@ -11,7 +11,7 @@ use Rattle.mem_rec.specs.declared.Attr.TheVariants.{Scratch, Persist, WriteOnce}
 use Rattle.mem_rec.specs.Records.{same_space}
 use Rattle.ialg.specs.Records.{record_at}
 use Rattle.record_loans.specs.declared.pieces.Pieces.{Pieces}
-use Rattle.record_loans.specs.Pieces.{piece_at}
+use Rattle.record_loans.specs.Pieces.{piece_at, no_pieces}
 use Rattle.record_loans.specs.Blocks.{block_align, block_piece}
 use Rattle.scratch_group.specs.declared.group.Group.{Group}
 use Rattle.scratch_group.specs.Blocks.{block_in}
@@ -29,7 +29,7 @@ use Rattle.host_spaces.specs.Pieces.{record_block}
 use Rattle.host_table.specs.declared.member.Member.{Member}
 use Rattle.host_shared.specs.declared.locations.Locations.{Locations}
 use Rattle.host_shared.specs.declared.locations.Location.TheVariants.{Here, At}
-use Rattle.host_shared.specs.Locations.{location_at, no_locations, locations_at, owner_of, shared_at, no_pieces}
+use Rattle.host_shared.specs.Locations.{location_at, no_locations, locations_at, owner_of, shared_at}
 use Rattle.host_table.specs.Table.{TablesOk, slot_at, group_at, no_group, instance_of}
 use Rattle.host_shared.proofs.Stands.{seen_of}
 use Rattle.host_shared.proofs.Lent.{no_location}

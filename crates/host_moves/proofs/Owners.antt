@@ -12,7 +12,7 @@ use Rattle.mem_rec.specs.Layout.{scratch_need, scratch_align}
 use Rattle.ialg.specs.Records.{record_at, unplaced}
 use Rattle.record_loans.specs.declared.pieces.Pieces.{Pieces}
 use Rattle.record_loans.specs.declared.block.ScratchBlock.{ScratchBlock}
-use Rattle.record_loans.specs.Pieces.{piece_at, IsSamePiece, SamePieces}
+use Rattle.record_loans.specs.Pieces.{piece_at, IsSamePiece, SamePieces, no_pieces}
 use Rattle.record_loans.specs.Blocks.{block_piece, block_align, IsSameBlock}
 use Rattle.scratch_group.specs.declared.group.Group.{Group}
 use Rattle.scratch_group.specs.Blocks.{block_in, block_needed}
@@ -29,7 +29,7 @@ use Rattle.host_spaces.specs.MemoryMap.{map_of, space_in}
 use Rattle.host_spaces.specs.Pieces.{IsPieceOf, record_block}
 use Rattle.host_table.specs.declared.member.Member.{Member}
 use Rattle.host_shared.specs.declared.locations.Locations.{Locations}
-use Rattle.host_shared.specs.Locations.{location_at, locations_at, owner_of, shared_at, no_pieces}
+use Rattle.host_shared.specs.Locations.{location_at, locations_at, owner_of, shared_at}
 use Rattle.host_table.specs.Table.{slot_at, group_at, instance_of, is_member_of}
 use Rattle.host_table.specs.Frames.{SameSlot, SameMember, IsSameMember, SameMembers, SameTables}
 use Rattle.host_table.proofs.Leasts.{least_stays, together_members}

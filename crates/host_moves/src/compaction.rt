@@ -52,6 +52,9 @@ pub fn step<M: Ialg>(tables: &mut Tables<M>, spaces: &mut Spaces, space: Space) 
 }
 
 /// Makes next moves of the space until all its blocks are packed, as the machine does, and says how many blocks moved: each moves once.
+///
+/// Not inlined, so that its loop has the processor's registers for itself.
+#[inline(never)]
 pub fn compact<M: Ialg>(tables: &mut Tables<M>, spaces: &mut Spaces, space: Space) -> u32
     requires ok { AreConsistent tables.old }
     requires standing { MapAgrees tables.old spaces.old }

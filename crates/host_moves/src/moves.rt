@@ -27,6 +27,7 @@ use mem_rec::Space;
 use space_raw::end_none;
 
 /// Moves a record that an instance has for its own.
+#[inline(always)]
 fn move_own<M: Ialg>(
     tables: &mut Tables<M>,
     spaces: &mut Spaces,
@@ -106,6 +107,7 @@ fn move_block<M: Ialg>(
 /// Makes the next move of a space: its first block that isn't at its packed place is slid down to it, with its words, and each instance that
 /// has words in it is told, in ascending number: its owner, and all that share the record with it, or each member of its group. Says whether
 /// a block moved. So many of the first blocks as `packed` says are known to be at their packed places, and it says so of the moved ones too.
+#[inline(always)]
 pub fn make_next_move<M: Ialg>(
     tables: &mut Tables<M>,
     spaces: &mut Spaces,

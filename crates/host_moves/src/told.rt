@@ -15,19 +15,14 @@ ghost use Rattle.host_table.specs.Frames.{InactiveGroupsStay, SameMembers};
 ghost use Rattle.host_moves.specs.Following.{ActiveFollows, Follows};
 ghost use Rattle.host_moves.specs.Waiting.{own_set, all_but, all_from, holds_with, TablesThere, TablesBut, TablesWaiting, TablesWaitingBut};
 
-use host_shared::{
-    Location, Locations, borrow_pieces, end_absent, give_back_pieces, next_with_owner, owner,
-};
+use host_shared::{Location, Locations, borrow_pieces, give_back_pieces, next_with_owner, owner};
 use host_table::Tables;
 use ialg::Ialg;
 use lifecycle::{Active, Idle, Inst};
 use mem_rec::INSTANCES;
-use record_loans::{Pieces, SharingSizes};
-use scratch_group::{Group, is_filter, sharing_sizes};
+use record_loans::{CONSTANTS, SharingSizes};
+use scratch_group::{Group, filter_sizes, sharing_sizes};
 use space_raw::Piece;
-
-/// The number of the record of a filter's constants.
-const CONSTANTS: usize = 2;
 
 /// Calls algMoved of an idle instance, with its write-once records borrowed from their owners.
 #[inline(never)]
@@ -115,10 +110,8 @@ fn follow<M: Ialg>(
     ensures seen { sharing.new.items ≡ with_pieces_of sharing.old.items i (shared_at sharing.new.items i) }
     ensures follows { Follows M.law back idle.old.instance idle.new.instance (shared_at sharing.old.items i) (shared_at sharing.new.items i) group.now }
 {
-    if is_filter(&idle.instance.table) {
-        let mut none = Pieces::none();
-        idle.moved(back, &mut none, group);
-        end_absent(none);
+    if let Some(sizes) = filter_sizes(&idle.instance.table) {
+        idle.moved_filter(sizes, back, group);
     } else {
         follow_sharing(idle, back, sharing, i, group);
     }

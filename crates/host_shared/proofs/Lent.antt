@@ -3,12 +3,12 @@ use Rattle.std.proofs.Common.{◌≡◌, ℕ, zero, suc, ◌<◌, inl, inr, List
 use Rattle.std.proofs.lemmas.Bool.Decides.{eqb_tells}
 use Rattle.space_raw.specs.Span.{Span}
 use Rattle.record_loans.specs.declared.pieces.Pieces.{Pieces}
-use Rattle.record_loans.specs.Pieces.{piece_at, IsSamePiece, SamePieces}
+use Rattle.record_loans.specs.Pieces.{piece_at, IsSamePiece, SamePieces, no_pieces}
 use Rattle.record_loans.proofs.PieceLemmas.{reflexive, piece_same}
 use Rattle.host_shared.specs.declared.locations.Location.{Location}
 use Rattle.host_shared.specs.declared.locations.Location.TheVariants.{Here, At}
 use Rattle.host_shared.specs.declared.locations.Locations.{Locations}
-use Rattle.host_shared.specs.Locations.{location_at, piece_here, no_locations, locations_at, owner_by, owner_of, piece_seen, shared_at, no_pieces}
+use Rattle.host_shared.specs.Locations.{location_at, piece_here, no_locations, locations_at, owner_by, owner_of, piece_seen, shared_at}
 use Rattle.host_shared.specs.Owners.{with_pieces_of, HasOwner, HasOwners, AllHaveOwners, IsSameLocation, SameLocations}
 use Rattle.host_shared.proofs.Owners.{lent_location, lent_by, location_seen, count_seen, owners_lent, owner_lent, seen_shared, seen_apart}
 

@@ -49,11 +49,7 @@ owner_of sharing i k = owner_by i (location_at (locations_at sharing i) k)
 abbrev pub piece_seen : List Locations → ℕ → ℕ → Option Span
 piece_seen sharing i k = piece_here (location_at (locations_at sharing (owner_of sharing i k)) k)
 
--- the pieces of an instance's write-once records
-abbrev pub no_pieces : Pieces
-no_pieces = record { p0 = None; p1 = None; p2 = None; p3 = None }
-
--- the pieces of instance i, each at its record's owner
+-- the pieces of an instance's write-once records, each at its record's owner
 abbrev pub shared_at : List Locations → ℕ → Pieces
 shared_at sharing i = record { p0 = piece_seen sharing i 0; p1 = piece_seen sharing i 1; p2 = piece_seen sharing i 2; p3 = piece_seen sharing i 3 }
 

@@ -2,13 +2,14 @@
 ghost use Rattle.std.specs.Prelude.{◌≡◌, ◌≢◌, ◌<◌, ◌≤◌, ◌+◌, ◌*◌, ℕ, length, true, false, Option, Some, None, IsSome, is_some};
 ghost use Rattle.host_shared.specs.declared.locations.Location.TheVariants.{Here};
 ghost use Rattle.mem_rec.specs.declared.TheConstants.{TABLE_RECORDS, INSTANCES};
-ghost use Rattle.record_loans.specs.Pieces.{piece_at, with_piece};
-ghost use Rattle.host_shared.specs.Locations.{location_at, piece_here, pieces_here, locations_of, no_locations, locations_at, owner_of, piece_seen, shared_at, no_pieces};
+ghost use Rattle.host_shared.specs.declared.locations.TheConstants.{RUN};
+ghost use Rattle.record_loans.specs.Pieces.{piece_at, with_piece, no_pieces};
+ghost use Rattle.host_shared.specs.Locations.{location_at, piece_here, pieces_here, locations_of, no_locations, locations_at, owner_of, piece_seen, shared_at};
 ghost use Rattle.host_shared.specs.Owners.{with_location, set_location, put_piece, with_pieces_of, HasOwner, HasOwners};
 ghost use Rattle.host_shared.specs.Sharing.{is_at, names_owner};
 
 use mem_rec::INSTANCES;
-use record_loans::Pieces;
+use record_loans::{CONSTANTS, Pieces};
 use space_raw::{Piece, end_none};
 use std::mem;
 
@@ -164,18 +165,15 @@ pub fn owner(sharing: &Vec<Locations>, i: usize, k: usize) -> usize
     }
 }
 
-/// The number of the one write-once record that filters with constants have: its table is looked through by runs of slots.
-const THIRD: usize = 2;
-
 /// How many slots make a run. The count of all is a multiple of it.
-const RUN: usize = 8;
+pub(crate) const RUN: usize = 16;
 
 /// Whether the third records of a run of slots name no owner. LLVM writes the run out and joins its tests, so that a slot costs one instruction.
 #[inline(always)]
 fn names_no_owner(sharing: &Vec<Locations>, run: usize) -> bool
     requires count { length sharing.now.items ≡ INSTANCES }
-    requires run { run < 8 }
-    ensures { result ≡ true → (j : ℕ) → 8 * run ≤ j → j < 8 * run + 8 → names_owner (location_at (locations_at sharing.now.items j) 2) ≡ false }
+    requires run { RUN * run + RUN ≤ INSTANCES }
+    ensures { result ≡ true → (j : ℕ) → RUN * run ≤ j → j < RUN * run + RUN → names_owner (location_at (locations_at sharing.now.items j) 2) ≡ false }
 {
     let mut elsewhere = false;
     for t in 0..RUN {
@@ -212,7 +210,8 @@ pub fn next_with_owner(sharing: &Vec<Locations>, i: u8, k: usize, from: usize) -
     ensures passed { (j : ℕ) → from ≤ j → j < result → owner_of sharing.now.items j k ≢ i }
     ensures found { result < INSTANCES → owner_of sharing.now.items result k ≡ i }
 {
-    let first = if k == THIRD {
+    // most write-once records are constants of filters: few slots name an owner, so they are passed by runs
+    let first = if k == CONSTANTS {
         skip_runs(sharing, from)
     } else {
         from

@@ -1,7 +1,8 @@
 //! Locations without pieces: how they are made and ended.
 ghost use Rattle.std.specs.Prelude.{◌≡◌, ℕ, length, IfOk};
 ghost use Rattle.mem_rec.specs.declared.TheConstants.{INSTANCES};
-ghost use Rattle.host_shared.specs.Locations.{no_locations, locations_at, shared_at, no_pieces, IsUnshared};
+ghost use Rattle.record_loans.specs.Pieces.{no_pieces};
+ghost use Rattle.host_shared.specs.Locations.{no_locations, locations_at, shared_at, IsUnshared};
 
 use crate::locations::{Locations, end_absent};
 use mem_rec::INSTANCES;

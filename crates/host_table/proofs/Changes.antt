@@ -10,7 +10,7 @@ use Rattle.ialg.specs.History.{History}
 use Rattle.ialg.specs.Laws.{Laws}
 use Rattle.record_loans.specs.declared.pieces.Pieces.{Pieces}
 use Rattle.space_raw.specs.Span.{Span}
-use Rattle.record_loans.specs.Pieces.{IsSamePiece, SamePieces}
+use Rattle.record_loans.specs.Pieces.{IsSamePiece, SamePieces, no_pieces}
 use Rattle.record_loans.specs.declared.block.ScratchBlock.{ScratchBlock}
 use Rattle.record_loans.specs.Blocks.{IsSameBlock}
 use Rattle.scratch_group.specs.declared.group.Group.{Group}
@@ -25,7 +25,7 @@ use Rattle.host_table.specs.declared.member.Member.{Member}
 use Rattle.host_shared.specs.declared.locations.Locations.{Locations}
 use Rattle.host_shared.specs.declared.locations.Location.{Location}
 use Rattle.host_shared.specs.declared.locations.Location.TheVariants.{Here, At}
-use Rattle.host_shared.specs.Locations.{location_at, locations_at, shared_at, no_pieces}
+use Rattle.host_shared.specs.Locations.{location_at, locations_at, shared_at}
 use Rattle.host_shared.specs.Owners.{with_pieces_of, HasOwners, AllHaveOwners, IsSameLocation, SameLocations}
 use Rattle.host_table.specs.Table.{slot_at, group_at, AreHeld, AreBare, no_group, instance_of, own_of, group_of, active_in, slot_active_in, IsHoused, EachIsHoused, Tables, TablesOk, ArePoisoned, activity_at}
 use Rattle.host_map.specs.Activity.{with_activity}

@@ -2,11 +2,11 @@
 use Rattle.std.proofs.Common.{◌≡◌, ◌≢◌, ℕ, ◌<◌, true, false, List, length, Option, Some, None, set, refl, sym, ◌∙◌, ap}
 use Rattle.std.specs.Prelude.{IsSome}
 use Rattle.record_loans.specs.declared.pieces.Pieces.{Pieces}
-use Rattle.record_loans.specs.Pieces.{SamePieces}
+use Rattle.record_loans.specs.Pieces.{SamePieces, no_pieces}
 use Rattle.lifecycle.specs.States.{SameOnce}
 use Rattle.host_table.specs.declared.member.Member.{Member}
 use Rattle.host_shared.specs.declared.locations.Locations.{Locations}
-use Rattle.host_shared.specs.Locations.{location_at, no_locations, locations_at, shared_at, no_pieces}
+use Rattle.host_shared.specs.Locations.{location_at, no_locations, locations_at, shared_at}
 use Rattle.host_shared.specs.Owners.{with_pieces_of, AllHaveOwners, SameLocations}
 use Rattle.host_shared.specs.Sharing.{left_with, location_without}
 use Rattle.host_table.specs.Table.{slot_at, instance_of, AreHeld, AreBare}

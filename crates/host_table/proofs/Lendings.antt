@@ -5,7 +5,7 @@ use Rattle.mem_rec.specs.declared.MemRec.{MemRec}
 use Rattle.mem_rec.specs.declared.Attr.TheVariants.{WriteOnce}
 use Rattle.ialg.specs.Records.{record_at}
 use Rattle.record_loans.specs.declared.pieces.Pieces.{Pieces}
-use Rattle.record_loans.specs.Pieces.{only_second, piece_at, SamePieces, IsInSpace}
+use Rattle.record_loans.specs.Pieces.{only_second, piece_at, SamePieces, IsInSpace, no_pieces}
 use Rattle.record_loans.proofs.PieceLemmas.{same_pieces}
 use Rattle.scratch_group.specs.declared.group.Group.{Group}
 use Rattle.scratch_group.specs.Words.{InSpaces}
@@ -15,7 +15,7 @@ use Rattle.lifecycle.specs.declared.instance.Instance.{Instance}
 use Rattle.lifecycle.specs.States.{Fits, SameOnce, IdleKeeps, ActiveKeeps}
 use Rattle.host_shared.specs.declared.locations.Locations.{Locations}
 use Rattle.host_shared.specs.declared.locations.Location.TheVariants.{Here, At}
-use Rattle.host_shared.specs.Locations.{location_at, locations_at, owner_of, piece_here, piece_seen, shared_at, no_pieces}
+use Rattle.host_shared.specs.Locations.{location_at, locations_at, owner_of, piece_here, piece_seen, shared_at}
 use Rattle.host_shared.specs.Owners.{with_location, put_piece, with_pieces_of, HasOwners}
 use Rattle.host_shared.proofs.Bare.{read_locations}
 use Rattle.host_shared.proofs.Owners.{lent_here}

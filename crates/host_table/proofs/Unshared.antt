@@ -6,7 +6,7 @@ use Rattle.mem_rec.specs.declared.Attr.TheVariants.{Scratch, Persist, WriteOnce}
 use Rattle.ialg.specs.Laws.{Laws}
 use Rattle.ialg.specs.Records.{record_at, AreNew}
 use Rattle.record_loans.specs.declared.pieces.Pieces.{Pieces}
-use Rattle.record_loans.specs.Pieces.{piece_at, piece_place}
+use Rattle.record_loans.specs.Pieces.{piece_at, piece_place, no_pieces}
 use Rattle.record_loans.specs.Blocks.{block_piece}
 use Rattle.record_loans.proofs.PieceLemmas.{same_pieces}
 use Rattle.scratch_group.specs.declared.group.Group.{Group}
@@ -16,7 +16,6 @@ use Rattle.lifecycle.specs.declared.instance.Instance.{Instance}
 use Rattle.lifecycle.specs.Moves.{HasRoom}
 use Rattle.lifecycle.specs.States.{Fits}
 use Rattle.lifecycle.proofs.Frames.{unplaced-placed}
-use Rattle.host_shared.specs.Locations.{no_pieces}
 use Rattle.host_table.specs.Turns.{HasBegun}
 use Rattle.host_table.proofs.Held.{same_shape}
 use Rattle.host_table.proofs.Lendings.{any_pieces, fits_without, idle_any}

@@ -1,7 +1,7 @@
 -- What stays where only states and words change.
 use Rattle.std.specs.Prelude.{ℕ, ◌≡◌, ◌≢◌, List, Option, Some, None, ◌⊎◌}
 use Rattle.mem_rec.specs.declared.Space.{Space}
-use Rattle.record_loans.specs.Pieces.{SamePieces}
+use Rattle.record_loans.specs.Pieces.{SamePieces, no_pieces}
 use Rattle.record_loans.specs.Blocks.{IsSameBlock}
 use Rattle.scratch_group.specs.declared.group.Group.{Group}
 use Rattle.scratch_group.specs.Blocks.{block_in}
@@ -14,7 +14,7 @@ use Rattle.host_table.specs.declared.member.Member.{Member}
 use Rattle.host_shared.specs.declared.locations.Locations.{Locations}
 use Rattle.host_shared.specs.Owners.{SameLocations}
 use Rattle.host_table.specs.Table.{slot_at, group_at, instance_of}
-use Rattle.host_shared.specs.Locations.{no_pieces, shared_at}
+use Rattle.host_shared.specs.Locations.{shared_at}
 
 -- the same instance in the same group, in either state, at the same places
 abbrev pub SameSlot : {M : Type 0} → Option (Member M) → Option (Member M) → Type 0

@@ -18,7 +18,8 @@ use Rattle.host_table.specs.declared.member.Member.{Member}
 use Rattle.host_shared.specs.declared.locations.Location.{Location}
 use Rattle.host_shared.specs.declared.locations.Location.TheVariants.{At}
 use Rattle.host_shared.specs.declared.locations.Locations.{Locations}
-use Rattle.host_shared.specs.Locations.{location_at, no_locations, locations_at, shared_at, no_pieces}
+use Rattle.record_loans.specs.Pieces.{no_pieces}
+use Rattle.host_shared.specs.Locations.{location_at, no_locations, locations_at, shared_at}
 use Rattle.host_shared.specs.Owners.{IsPieceHere}
 
 -- what stands in a slot, none past the end

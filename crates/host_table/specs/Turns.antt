@@ -5,7 +5,7 @@ use Rattle.ialg.specs.History.{History, with_samples}
 use Rattle.ialg.specs.Laws.{Laws}
 use Rattle.ialg.specs.Records.{unplaced, AreNew}
 use Rattle.record_loans.specs.declared.pieces.Pieces.{Pieces}
-use Rattle.record_loans.specs.Pieces.{SamePieces}
+use Rattle.record_loans.specs.Pieces.{SamePieces, no_pieces}
 use Rattle.record_loans.specs.Blocks.{IsSameBlock}
 use Rattle.scratch_group.specs.declared.group.Group.{Group}
 use Rattle.scratch_group.specs.Blocks.{block_in, BlocksArePoison, SameGroup}
@@ -17,7 +17,7 @@ use Rattle.lifecycle.specs.declared.idle.Idle.{Idle}
 use Rattle.lifecycle.specs.Moves.{HasRoom, settled}
 use Rattle.lifecycle.specs.States.{Fits, SameInstance, SameOnce, IsLawful, IdleKeeps, ActiveKeeps, all_outputs}
 use Rattle.host_shared.specs.declared.locations.Locations.{Locations}
-use Rattle.host_shared.specs.Locations.{shared_at, no_pieces}
+use Rattle.host_shared.specs.Locations.{shared_at}
 use Rattle.host_shared.specs.Owners.{HasOwners, with_pieces_of}
 use Rattle.host_table.specs.Table.{instance_of}
 

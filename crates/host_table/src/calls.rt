@@ -18,11 +18,8 @@ use crate::tables::Tables;
 use host_shared::{Location, Locations, borrow_pieces, end_absent, give_back_pieces, owner};
 use ialg::{BLOCK_SAMPLES, Block, Ctl, Ialg, Status};
 use lifecycle::{Active, Idle, Inst};
-use record_loans::{Pieces, ReaderSizes};
+use record_loans::{ONCE, Pieces, ReaderSizes};
 use scratch_group::{Group, is_filter, reader_sizes};
-
-/// The number of the write-once record of a reader.
-const ONCE: usize = 1;
 
 /// Gives the active member of a group a block of samples, with its write-once records borrowed from their owners.
 #[inline(never)]

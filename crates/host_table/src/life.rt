@@ -1,12 +1,12 @@
 //! The start and the end of instances.
 ghost use Rattle.std.specs.Prelude.{◌≡◌, ◌≢◌, ◌<◌, ℕ, Option, Some, None, IsSome, length, slice_set};
-ghost use Rattle.record_loans.specs.Pieces.{piece_at, SamePieces};
+ghost use Rattle.record_loans.specs.Pieces.{piece_at, SamePieces, no_pieces};
 ghost use Rattle.lifecycle.specs.States.{Fits, SameOnce};
 ghost use Rattle.lifecycle.specs.Moves.{HasRoom, settled};
 ghost use Rattle.lifecycle.specs.declared.instance.Inst.TheVariants.{Idling};
 ghost use Rattle.mem_rec.specs.declared.TheConstants.{INSTANCES, GROUPS};
 ghost use Rattle.host_table.specs.declared.member.Member.{Member};
-ghost use Rattle.host_shared.specs.Locations.{location_at, locations_at, owner_of, piece_seen, shared_at, no_pieces};
+ghost use Rattle.host_shared.specs.Locations.{location_at, locations_at, owner_of, piece_seen, shared_at};
 ghost use Rattle.host_shared.specs.Owners.{IsSameLocation, with_pieces_of};
 ghost use Rattle.host_shared.specs.Sharing.{left_with, next_sharer, location_without, AreLeast};
 ghost use Rattle.host_table.specs.Table.{slot_at, group_at, own_of, instance_of, active_in, slot_active_in};

@@ -5,7 +5,8 @@ ghost use Rattle.ialg.specs.Records.{unplaced, AreNew};
 ghost use Rattle.ialg.specs.Views.{control_of};
 ghost use Rattle.mem_rec.specs.Records.{is_table};
 ghost use Rattle.scratch_group.specs.Blocks.{BlocksArePoison, SameGroup};
-ghost use Rattle.record_loans.specs.Pieces.{only_third, piece_at, IsSamePiece, SamePieces};
+ghost use Rattle.record_loans.specs.Pieces.{no_pieces, only_third, piece_at, IsSamePiece, SamePieces};
+ghost use Rattle.scratch_group.specs.Filters.{IsOfFilter};
 ghost use Rattle.scratch_group.specs.Sharing.{IsOfSharingFilter};
 ghost use Rattle.scratch_group.specs.Words.{idle_words};
 ghost use Rattle.lifecycle.specs.Moves.{CanRestore, with_back, settled, HasRoom, without_piece};
@@ -16,8 +17,11 @@ use crate::instance::{Instance, restore};
 use crate::steps::{Activate, ActivateAndProcess, Free, Init, Move};
 use ialg::{BLOCK_SAMPLES, Block, Ctl, Ialg, Params, copied};
 use mem_rec::MemTab;
-use record_loans::{Pieces, SharingSizes};
-use scratch_group::{Group, lend_lasting, lend_lasting_sharing, rebase, rebase_sharing};
+use record_loans::{FilterSizes, Pieces, SharingSizes};
+use scratch_group::{
+    Group, lend_lasting, lend_lasting_filter, lend_lasting_sharing, rebase, rebase_filter,
+    rebase_sharing,
+};
 use space_raw::Piece;
 
 /// An idle instance. Its own pieces and those of its write-once records keep its history.
@@ -239,6 +243,26 @@ impl<M: Ialg> Idle<M> {
             shared,
             &mut (),
         );
+    }
+
+    /// Goes by the places as they are now, as [`moved`](Idle::moved) does, of a filter: no piece is lent to it.
+    #[inline(always)]
+    pub fn moved_filter(&mut self, sizes: FilterSizes, back: Option<(usize, Piece)>, group: &Group)
+        requires table { IsTrue (is_table self.old.instance.table) }
+        requires filter { IsOfFilter self.old.instance.table sizes }
+        requires back { CanRestore back self.old.instance.own }
+        requires fits { HasRoom (with_back self.old.instance back) no_pieces group.now }
+        ensures same { SameInstance (settled (with_back self.old.instance back) no_pieces group.now) self.new.instance }
+        ensures fits { Fits self.new.instance.table self.new.instance.own no_pieces group.now }
+        ensures keeps { (w : Option ℤ) (h : History) → IdleKeeps M.law (with_back self.old.instance back) w no_pieces h
+            → IdleKeeps M.law self.new.instance w no_pieces h }
+    {
+        let instance = &mut self.instance;
+        let kind = instance.kind;
+        restore(&mut instance.own, back);
+        rebase_filter(&mut instance.table, &instance.own, group);
+        let moving = Move { kind };
+        lend_lasting_filter(&moving, &instance.table, sizes, &mut instance.own, &mut ());
     }
 
     /// Goes by the places as they are now, as [`moved`](Idle::moved) does, of a filter that shares its constants: the one piece that it is

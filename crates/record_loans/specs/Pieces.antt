@@ -20,6 +20,10 @@ with_piece ps (suc (suc zero)) p = record ps { p2 = p }
 with_piece ps (suc (suc (suc zero))) p = record ps { p3 = p }
 with_piece ps (suc (suc (suc (suc k)))) p = ps
 
+-- no piece
+abbrev pub no_pieces : Pieces
+no_pieces = record { p0 = None; p1 = None; p2 = None; p3 = None }
+
 -- this piece as that of record 1, and no other
 abbrev pub only_second : Option Span → Pieces
 only_second p = record { p0 = None; p1 = p; p2 = None; p3 = None }

@@ -17,4 +17,4 @@ pub use loans::{
     lend_without_blocks,
 };
 pub use pieces::{Pieces, place_of};
-pub use plan::{Cut, FilterSizes, Plan, ReaderSizes, SharingSizes, Source};
+pub use plan::{CONSTANTS, Cut, FilterSizes, ONCE, Plan, ReaderSizes, SharingSizes, Source};

@@ -1,6 +1,6 @@
 //! The pieces of an instance's records.
 ghost use Rattle.std.specs.Prelude.{◌≡◌, ◌≤◌, ◌<◌, Option, Some, None, IsSome, length};
-ghost use Rattle.record_loans.specs.Pieces.{piece_at, with_piece, piece_words, piece_place, IsInSpace};
+ghost use Rattle.record_loans.specs.Pieces.{no_pieces, piece_at, with_piece, piece_words, piece_place, IsInSpace};
 
 use space_raw::Piece;
 
@@ -16,7 +16,7 @@ pub struct Pieces {
 impl Pieces {
     /// No pieces.
     pub fn none() -> Pieces
-        ensures { result ≡ record { p0 = None; p1 = None; p2 = None; p3 = None } }
+        ensures { result ≡ no_pieces }
     {
         Pieces {
             p0: None,

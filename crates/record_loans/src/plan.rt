@@ -60,6 +60,12 @@ pub struct FilterSizes {
     pub running: usize,
 }
 
+/// The number of the write-once record of a reader, behind the object.
+pub const ONCE: usize = 1;
+
+/// The number of the write-once record of a filter that shares its constants.
+pub const CONSTANTS: usize = 2;
+
 /// How many words each record of a filter that shares its constants has: those of a filter, and the write-once constants between the kept
 /// words and the running ones.
 #[derive(Clone, Copy, PartialEq, Eq, Debug)]

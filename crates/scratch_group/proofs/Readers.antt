@@ -13,7 +13,7 @@ use Rattle.scratch_group.specs.declared.group.Group.{Group}
 use Rattle.scratch_group.specs.Blocks.{block_in}
 use Rattle.scratch_group.specs.Words.{scratch_offset, words_by, record_words, active_words, lasting_words_by, idle_record_words, idle_words}
 use Rattle.scratch_group.specs.Readers.{IsOfReader}
-use Rattle.scratch_group.proofs.Ends.{blank_at}
+use Rattle.scratch_group.proofs.Ends.{blank_at, persistent_once, blank_once}
 use Rattle.ialg.proofs.Tables.{object_attr}
 use Rattle.scratch_group.proofs.Cutting.{either, object_words}
 
@@ -64,15 +64,8 @@ module _ (rs : List MemRec) (n : ReaderSizes) (t : IsTrue (is_table rs)) (f : Is
   pub reader_at_rest : idle_words rs own shared ≡ reader_words n (piece_words own.p0) (piece_words shared.p1)
   reader_at_rest = rw (object_at_rest, once_at_rest, third_at_rest, last_at_rest) refl
 
-persistent_once : Persist ≡ WriteOnce → ⊥
-persistent_once e = cc
-
-scratch_once : Scratch ≡ WriteOnce → ⊥
-scratch_once e = cc
-
 -- no other record than the second is write-once
 pub once_second : (rs : List MemRec) (n : ReaderSizes) → IsTrue (is_table rs) → IsOfReader rs n → (k : ℕ) → (record_at rs k).attr ≡ WriteOnce → k ≡ 1
 once_second rs n t f zero attr = absurd (persistent_once (sym (object_attr rs t) ∙ attr))
 once_second rs n t f (suc zero) attr = refl
-once_second rs n t f (suc (suc k)) attr =
-    absurd (scratch_once (sym (ap (λ (r : MemRec). r.attr) (blank_at rs (suc (suc k)) (let e = f.few in omega (arith, e)))) ∙ attr))
+once_second rs n t f (suc (suc k)) attr = absurd (blank_once rs (suc (suc k)) (let e = f.few in omega (arith, e)) attr)

@@ -1,5 +1,5 @@
 -- What is lent to a filter that shares its constants is each record's words.
-use Rattle.std.proofs.Common.{◌≡◌, ℕ, ℤ, ◌+◌, ◌<◌, ◌≤◌, IsTrue, List, [], ◌∷◌, length, take, refl, ap, sym, ◌∙◌, arith, length-take}
+use Rattle.std.proofs.Common.{◌≡◌, ℕ, ℤ, ◌+◌, ◌<◌, ◌≤◌, IsTrue, List, [], ◌∷◌, length, take, refl, ap, sym, ◌∙◌, arith}
 use Rattle.std.specs.Int.{next_multiple_of}
 use Rattle.mem_rec.specs.declared.MemRec.{MemRec}
 use Rattle.mem_rec.specs.declared.Space.TheVariants.{Daram}
@@ -14,14 +14,11 @@ use Rattle.record_loans.specs.Blocks.{block_piece, block_words}
 use Rattle.scratch_group.specs.declared.group.Group.{Group}
 use Rattle.scratch_group.specs.Words.{scratch_end, scratch_offset, record_words, active_words, idle_record_words, idle_words}
 use Rattle.scratch_group.specs.Words.{record_place, with_bases, HasWords}
-use Rattle.scratch_group.specs.Sharing.{sizes_in, IsOfSharingFilter}
+use Rattle.scratch_group.specs.Sharing.{sharing_sizes_in, IsOfSharingFilter}
 use Rattle.scratch_group.proofs.Ends.{next_end, scratch_end-suc}
 use Rattle.scratch_group.proofs.Cutting.{first_end, object_words}
-use Rattle.scratch_group.proofs.Filters.{none_at_0}
+use Rattle.scratch_group.proofs.Filters.{none_at_0, some_there}
 use Rattle.scratch_group.proofs.Tables.{length-with_bases, record_at-with_bases}
-
-some_there : (n size : ℕ) (ws lent : List ℤ) → lent ≡ take n ws → length lent ≡ size → size ≡ n → 1 ≤ n → 1 ≤ length ws
-some_there n size ws lent is has same some = omega (arith, length-take n ws, ap length is)
 
 module _ (rs : List MemRec) (n : SharingSizes) (t : IsTrue (is_table rs)) (f : IsOfSharingFilter rs n) (own shared : Pieces) (g : Group) where
   second_end : scratch_end rs 2 Daram ≡ 0
@@ -105,7 +102,7 @@ module _ (rs : List MemRec) (n : SharingSizes) (t : IsTrue (is_table rs)) (f : I
   sharing_at_rest = rw (object_at_rest, kept_at_rest, constants_at_rest, running_at_rest) refl
 
 -- its sizes are those of its records
-pub sizes_of : (rs : List MemRec) (n : SharingSizes) → IsOfSharingFilter rs n → IsOfSharingFilter rs (sizes_in rs)
+pub sizes_of : (rs : List MemRec) (n : SharingSizes) → IsOfSharingFilter rs n → IsOfSharingFilter rs (sharing_sizes_in rs)
 sizes_of rs n f = record {
   four = f.four;
   some = rw (f.object, f.kept, f.constants, f.running) f.some;

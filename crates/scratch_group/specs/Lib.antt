@@ -1,5 +1,6 @@
 pub mod Blocks
 pub mod Words
 pub mod Plans
+pub mod Filters
 pub mod Readers
 pub mod Sharing

@@ -6,13 +6,11 @@ use Rattle.mem_rec.specs.declared.Space.{Space}
 use Rattle.mem_rec.specs.declared.Space.TheVariants.{Daram, Saram, External}
 use Rattle.mem_rec.specs.declared.Attr.{Attr}
 use Rattle.mem_rec.specs.declared.Attr.TheVariants.{Scratch, Persist, WriteOnce}
-use Rattle.ialg.specs.declared.TheConstants.{FILTER_RECORDS}
 use Rattle.ialg.specs.Records.{record_at}
 use Rattle.record_loans.specs.declared.plan.Source.{Source}
 use Rattle.record_loans.specs.declared.plan.Source.TheVariants.{Absent, Own, Shared, InDaram, InSaram, InExternal}
 use Rattle.record_loans.specs.declared.plan.Cut.{Cut}
 use Rattle.record_loans.specs.declared.plan.Plan.{Plan}
-use Rattle.record_loans.specs.declared.plan.FilterSizes.{FilterSizes}
 use Rattle.scratch_group.specs.Words.{scratch_end, scratch_offset}
 
 -- a record within the limits
@@ -54,18 +52,3 @@ idle_cut_of rs k = idle_cut_by (record_at rs k).attr (record_at rs k).size
 -- the plan by which an idle instance is lent its records
 abbrev pub idle_plan_of : List MemRec → Plan
 idle_plan_of rs = record { object = (record_at rs 0).size; first = idle_cut_of rs 1; second = idle_cut_of rs 2; third = idle_cut_of rs 3 }
-
--- the table of a filter, with these sizes: behind the object one persistent record, and one scratch record in `daram`
-pub record IsOfFilter (rs : List MemRec) (n : FilterSizes) : Type 0 where
-  pub three : length rs ≡ FILTER_RECORDS
-  pub some : 1 ≤ n.object × 1 ≤ n.kept × 1 ≤ n.running
-  pub object : (record_at rs 0).size ≡ n.object
-  pub persistent : (record_at rs 1).attr ≡ Persist
-  pub kept : (record_at rs 1).size ≡ n.kept
-  pub scratch : (record_at rs 2).attr ≡ Scratch
-  pub space : (record_at rs 2).space ≡ Daram
-  pub running : (record_at rs 2).size ≡ n.running
-
--- the table of no filter
-abbrev pub IsOfNoFilter : List MemRec → Type 0
-IsOfNoFilter rs = (n : FilterSizes) → IsOfFilter rs n → ⊥

@@ -26,5 +26,5 @@ abbrev pub IsOfNoSharingFilter : List MemRec → Type 0
 IsOfNoSharingFilter rs = (n : SharingSizes) → IsOfSharingFilter rs n → ⊥
 
 -- the sizes of the first four records
-abbrev pub sizes_in : List MemRec → SharingSizes
-sizes_in rs = record { object = (record_at rs 0).size; kept = (record_at rs 1).size; constants = (record_at rs 2).size; running = (record_at rs 3).size }
+abbrev pub sharing_sizes_in : List MemRec → SharingSizes
+sharing_sizes_in rs = record { object = (record_at rs 0).size; kept = (record_at rs 1).size; constants = (record_at rs 2).size; running = (record_at rs 3).size }

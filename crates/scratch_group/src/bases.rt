@@ -2,8 +2,9 @@
 ghost use Rattle.std.specs.Prelude.{◌≡◌, ◌<◌, ℕ, IsTrue, List, length};
 ghost use Rattle.mem_rec.specs.declared.MemRec.{MemRec};
 ghost use Rattle.mem_rec.specs.Records.{is_table, with_base};
-ghost use Rattle.record_loans.specs.Pieces.{only_third};
-ghost use Rattle.scratch_group.specs.Sharing.{sizes_in, IsOfSharingFilter};
+ghost use Rattle.record_loans.specs.Pieces.{no_pieces, only_third};
+ghost use Rattle.scratch_group.specs.Filters.{filter_sizes_in, IsOfFilter};
+ghost use Rattle.scratch_group.specs.Sharing.{sharing_sizes_in, IsOfSharingFilter};
 ghost use Rattle.scratch_group.specs.Words.{record_place, placed, StandsAtLayout, HasWords, InSpaces};
 
 use crate::group::Group;
@@ -33,12 +34,30 @@ pub fn rebase(table: &mut MemTab, own: &Pieces, shared: &Pieces, group: &Group)
     put_base(table, 3, fourth);
 }
 
+/// The base of each record is its place from now on, as [`rebase`] has it, of a filter: the one scratch record begins where the block in
+/// `daram` does, and no piece is shared.
+#[inline(always)]
+pub fn rebase_filter(table: &mut MemTab, own: &Pieces, group: &Group)
+    requires table { IsTrue (is_table table.old) }
+    requires filter { IsOfFilter table.old (filter_sizes_in table.old) }
+    requires sizes { HasWords table.old own.now no_pieces group.now }
+    requires spaces { InSpaces own.now no_pieces group.now }
+    ensures { table.new ≡ placed table.old own.now no_pieces group.now }
+{
+    let object = own.place(0);
+    let kept = own.place(1);
+    let running = group.place_in(Space::Daram, 0);
+    table.set_base(0, object);
+    table.set_base(1, kept);
+    table.set_base(2, running);
+}
+
 /// The base of each record is its place from now on, as [`rebase`] has it, of a filter that shares its constants: the one scratch record
 /// begins where the block in `daram` does, and the constants where the one piece does that is lent.
 #[inline(always)]
 pub fn rebase_sharing(table: &mut MemTab, own: &Pieces, once: &Option<Piece>, group: &Group)
     requires table { IsTrue (is_table table.old) }
-    requires sharing { IsOfSharingFilter table.old (sizes_in table.old) }
+    requires sharing { IsOfSharingFilter table.old (sharing_sizes_in table.old) }
     requires sizes { HasWords table.old own.now (only_third once.now) group.now }
     requires spaces { InSpaces own.now (only_third once.now) group.now }
     ensures { table.new ≡ placed table.old own.now (only_third once.now) group.now }

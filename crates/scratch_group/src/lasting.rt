@@ -1,7 +1,8 @@
 //! The records that last are lent to idle instances.
 ghost use Rattle.std.specs.Prelude.{◌≡◌, ◌≤◌, [], ◌∷◌, length, take, false, IsTrue};
 ghost use Rattle.mem_rec.specs.Records.{is_table};
-ghost use Rattle.record_loans.specs.Pieces.{only_third, piece_words, IsSamePiece, SamePieces};
+ghost use Rattle.record_loans.specs.Pieces.{no_pieces, only_third, piece_words, IsSamePiece, SamePieces};
+ghost use Rattle.scratch_group.specs.Filters.{IsOfFilter};
 ghost use Rattle.scratch_group.specs.Sharing.{IsOfSharingFilter};
 ghost use Rattle.scratch_group.specs.Words.{idle_words, HasPieces};
 
@@ -47,6 +48,31 @@ pub fn lend_lasting<O, S: Step<O>>(
             },
         },
     }
+}
+
+/// Performs the step with the records of an idle filter, as [`lend_lasting`] does, out of its own pieces alone.
+#[inline(always)]
+pub fn lend_lasting_filter<O, S: Step<O>>(
+    step: &S,
+    table: &MemTab,
+    sizes: FilterSizes,
+    own: &mut Pieces,
+    out: &mut O,
+)
+    requires can { S.can step.now out.old }
+    requires table { IsTrue (is_table table.now) }
+    requires filter { IsOfFilter table.now sizes }
+    requires sizes { HasPieces table.now own.old no_pieces }
+    ensures done { S.done step.now table.now false (idle_words table.now own.old no_pieces) (idle_words table.now own.new no_pieces) out.old out.new }
+    ensures own { SamePieces own.old own.new }
+{
+    // a filter has no write-once record
+    let lending = Lending {
+        step,
+        table,
+        writable: false,
+    };
+    lend_filter_at_rest(&lending, sizes, own, out);
 }
 
 /// Performs the step with the records of an idle filter that shares its constants, as [`lend_lasting`] does, out of its own pieces and the

@@ -11,7 +11,7 @@ mod group;
 mod lasting;
 mod plan;
 
-pub use bases::{lends_at_the_layout, rebase, rebase_sharing};
+pub use bases::{lends_at_the_layout, rebase, rebase_filter, rebase_sharing};
 pub use group::{Group, Need};
-pub use lasting::{lend_lasting, lend_lasting_sharing};
-pub use plan::{is_filter, reader_sizes, sharing_sizes};
+pub use lasting::{lend_lasting, lend_lasting_filter, lend_lasting_sharing};
+pub use plan::{filter_sizes, is_filter, reader_sizes, sharing_sizes};

@@ -3,7 +3,8 @@ ghost use Rattle.std.specs.Prelude.{◌≡◌, ◌≤◌, ◌<◌, ◌+◌, ◌-
 ghost use Rattle.mem_rec.specs.Records.{is_table};
 ghost use Rattle.ialg.specs.Records.{record_at};
 ghost use Rattle.scratch_group.specs.Words.{is_filter, scratch_end, scratch_offset};
-ghost use Rattle.scratch_group.specs.Plans.{cut_of, idle_cut_of, active_plan_of, idle_plan_of, IsOfFilter, IsOfNoFilter, IsWithinLimits};
+ghost use Rattle.scratch_group.specs.Plans.{cut_of, idle_cut_of, active_plan_of, idle_plan_of, IsWithinLimits};
+ghost use Rattle.scratch_group.specs.Filters.{IsOfFilter, IsOfNoFilter};
 ghost use Rattle.scratch_group.specs.Readers.{IsOfNoReader, IsOfReader};
 ghost use Rattle.scratch_group.specs.Sharing.{IsOfNoSharingFilter, IsOfSharingFilter};
 
@@ -189,7 +190,7 @@ pub fn is_filter(table: &MemTab) -> bool
 /// The sizes of a filter's records, where the table is one of a filter: behind the object one persistent record, and one scratch record in
 /// `daram`. None for every other table.
 #[inline(always)]
-pub(crate) fn filter_sizes(table: &MemTab) -> Option<FilterSizes>
+pub fn filter_sizes(table: &MemTab) -> Option<FilterSizes>
     ensures sizes { MatchOption result (IsOfNoFilter table.now) (IsOfFilter table.now) }
     ensures table { IsTrue (is_table table.now) }
 {

@@ -13,7 +13,7 @@ use Rattle.alg_fir.specs.Meaning.{fir_memory}
 use Rattle.record_loans.specs.declared.block.ScratchBlock.{ScratchBlock}
 use Rattle.record_loans.specs.declared.pieces.Pieces.{Pieces}
 use Rattle.record_loans.specs.Blocks.{block_piece, IsSameBlock}
-use Rattle.record_loans.specs.Pieces.{piece_at, IsInSpace, IsSamePiece, SamePieces}
+use Rattle.record_loans.specs.Pieces.{piece_at, IsInSpace, IsSamePiece, SamePieces, no_pieces}
 use Rattle.scratch_group.specs.declared.group.Group.{Group}
 use Rattle.scratch_group.specs.declared.group.Need.{Need}
 use Rattle.scratch_group.specs.Blocks.{block_in, block_needed, SameBut, SameGroup}
@@ -21,7 +21,7 @@ use Rattle.scratch_group.specs.Words.{placed, HasPieces}
 use Rattle.lifecycle.specs.Rooms.{NoNeed, AreSeparate, piece_of_record}
 use Rattle.lifecycle.specs.States.{Fits}
 use Rattle.lifecycle.proofs.Places.{there_is_room}
-use Rattle.test_lives.specs.Owners.{two_taps, no_pieces, IsPieceThere, IsReady}
+use Rattle.test_lives.specs.Owners.{two_taps, IsPieceThere, IsReady}
 
 none_needed : (t : Bool) (x : Need) → t ≡ true → (if t then None else Some x) ≡ None
 none_needed true x h = refl

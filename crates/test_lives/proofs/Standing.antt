@@ -10,7 +10,7 @@ use Rattle.ialg.specs.Records.{unplaced}
 use Rattle.record_loans.specs.declared.block.ScratchBlock.{ScratchBlock}
 use Rattle.record_loans.specs.declared.pieces.Pieces.{Pieces}
 use Rattle.record_loans.specs.Blocks.{block_piece, block_align, block_words}
-use Rattle.record_loans.specs.Pieces.{with_piece, IsSamePiece, SamePieces}
+use Rattle.record_loans.specs.Pieces.{with_piece, IsSamePiece, SamePieces, no_pieces}
 use Rattle.scratch_group.specs.declared.group.Group.{Group}
 use Rattle.scratch_group.specs.Blocks.{block_in, SameBut, SameGroup}
 use Rattle.scratch_group.specs.Words.{placed, record_place}
@@ -19,7 +19,7 @@ use Rattle.lifecycle.specs.declared.instance.Instance.{Instance}
 use Rattle.lifecycle.specs.Moves.{settled, HasRoom}
 use Rattle.lifecycle.specs.States.{Fits, SameInstance}
 use Rattle.lifecycle.proofs.Frames.{fits_by_places}
-use Rattle.test_lives.specs.Owners.{two_taps, no_pieces, IsPieceThere, IsReady, IsAt, Stands}
+use Rattle.test_lives.specs.Owners.{two_taps, IsPieceThere, IsReady, IsAt, Stands}
 use Rattle.test_lives.proofs.Housing.{filter_fits, none_stays, saram_is_not_daram, external_is_not_daram}
 
 owner_at : (r : Extent) (place n size : ℕ) (s : Span) → r.size ≡ size → size ≤ RECORD_WORDS → IsAt r place n (Some s) → IsPieceThere n s

@@ -6,6 +6,7 @@ use Rattle.mem_rec.specs.declared.MemRec.{MemRec}
 use Rattle.ialg.specs.Filters.{filter_records}
 use Rattle.ialg.specs.Records.{unplaced}
 use Rattle.record_loans.specs.declared.pieces.Pieces.{Pieces}
+use Rattle.record_loans.specs.Pieces.{no_pieces}
 use Rattle.record_loans.specs.Blocks.{block_piece, block_align}
 use Rattle.scratch_group.specs.declared.group.Group.{Group}
 use Rattle.lifecycle.specs.declared.instance.Instance.{Instance}
@@ -13,9 +14,6 @@ use Rattle.lifecycle.specs.declared.instance.Instance.{Instance}
 -- the records of a filter of two coefficients
 abbrev pub two_taps : List MemRec
 two_taps = filter_records (record { kept = 3; running = 1025; align = 16 })
-
-abbrev pub no_pieces : Pieces
-no_pieces = record { p0 = None; p1 = None; p2 = None; p3 = None }
 
 -- a piece of so many words, in a region that is no larger than a space
 pub record IsPieceThere (n : ℕ) (s : Span) : Type 0 where

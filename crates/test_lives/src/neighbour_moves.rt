@@ -6,7 +6,8 @@ ghost use Rattle.mem_rec.specs.declared.Space.TheVariants.{Daram};
 ghost use Rattle.record_loans.specs.Blocks.{block_align, block_piece, block_words};
 ghost use Rattle.scratch_group.specs.Blocks.{block_in, SameBut};
 ghost use Rattle.lifecycle.specs.States.{Fits};
-ghost use Rattle.test_lives.specs.Owners.{IsAt, Stands, no_pieces};
+ghost use Rattle.record_loans.specs.Pieces.{no_pieces};
+ghost use Rattle.test_lives.specs.Owners.{IsAt, Stands};
 
 use crate::neighbour_tests::{both, end, filter, give, nothing};
 use alg_fir::Fir;

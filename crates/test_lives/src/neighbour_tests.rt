@@ -2,10 +2,10 @@
 //! between.
 ghost use Rattle.std.specs.Prelude.{◌≡◌, ◌≤◌, [], length, Some, None};
 ghost use Rattle.ialg.specs.Records.{unplaced};
-ghost use Rattle.record_loans.specs.Pieces.{IsSamePiece, SamePieces};
+ghost use Rattle.record_loans.specs.Pieces.{IsSamePiece, SamePieces, no_pieces};
 ghost use Rattle.scratch_group.specs.Blocks.{SameGroup};
 ghost use Rattle.lifecycle.specs.States.{Fits, SameInstance};
-ghost use Rattle.test_lives.specs.Owners.{IsPieceThere, IsReady, no_pieces, two_taps};
+ghost use Rattle.test_lives.specs.Owners.{IsPieceThere, IsReady, two_taps};
 
 use crate::feed;
 use alg_fir::Fir;

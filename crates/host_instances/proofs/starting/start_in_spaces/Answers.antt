@@ -7,7 +7,7 @@ use Rattle.host_map.specs.Creation.{created_map, taken_over, sharer_at as listed
 use Rattle.host_spaces.specs.Pieces.{ArePlacedPieces, without_pieces}
 use Rattle.host_table.specs.declared.member.Member.{Member}
 use Rattle.host_table.specs.Table.{slot_at, group_at}
-use Rattle.host_shared.specs.Locations.{no_pieces}
+use Rattle.record_loans.specs.Pieces.{no_pieces}
 use Rattle.host_map.specs.Sharers.{asked, sharer_of}
 use Rattle.host_table.specs.Sharers.{asked_by}
 use Rattle.host_shared.specs.Joining.{sharer_at}

@@ -1,7 +1,6 @@
 use Rattle.std.proofs.Common.{rules, ◌≡◌, ◌<◌, ℕ, zero, suc, false, Option, Some, None, IsSome, is_some, length, true≢false, refl, sym, ◌∙◌}
 use Rattle.std.proofs.lemmas.Option.{none-some}
-use Rattle.record_loans.specs.Pieces.{piece_at}
-use Rattle.host_shared.specs.Locations.{no_pieces}
+use Rattle.record_loans.specs.Pieces.{piece_at, no_pieces}
 use Rattle.host_table.specs.declared.member.Member.{Member}
 use Rattle.host_table.specs.Table.{own_of, slot_at}
 use Rattle.host_table.proofs.Changes.{read_there, slot_in}

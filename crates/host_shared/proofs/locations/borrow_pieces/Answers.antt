@@ -1,6 +1,7 @@
 use Rattle.std.proofs.Common.{◌≡◌, None, refl, sym, ◌∙◌, ap, arith}
 use Rattle.host_shared.specs.declared.locations.Locations.{Locations}
-use Rattle.host_shared.specs.Locations.{locations_at, shared_at, no_pieces}
+use Rattle.record_loans.specs.Pieces.{no_pieces}
+use Rattle.host_shared.specs.Locations.{locations_at, shared_at}
 use Rattle.host_shared.proofs.Stands.{four_pieces}
 use Rattle.host_shared.proofs.Bare.{read_locations, nothing_seen, owner_then, seen_then, two_put}
 use Rattle.host_shared.proofs.Owners.{owners_lent, lent_here}

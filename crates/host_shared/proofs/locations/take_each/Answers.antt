@@ -1,6 +1,7 @@
 use Rattle.std.proofs.Common.{◌∙◌, arith}
 use Rattle.host_shared.specs.Owners.{with_pieces_of}
-use Rattle.host_shared.specs.Locations.{shared_at, no_pieces}
+use Rattle.record_loans.specs.Pieces.{no_pieces}
+use Rattle.host_shared.specs.Locations.{shared_at}
 use Rattle.host_shared.proofs.Stands.{four_pieces}
 use Rattle.host_shared.proofs.Owners.{owners1, owners2, owners3, owners_lent, count_seen, seen1, seen2, seen3, lent_here}
 use Rattle.host_shared.proofs.locations.take_each.Goals as goal

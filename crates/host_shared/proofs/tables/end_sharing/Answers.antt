@@ -1,6 +1,7 @@
 use Rattle.std.proofs.Common.{◌≡◌, refl}
 use Rattle.host_shared.specs.declared.locations.Locations.{Locations}
-use Rattle.host_shared.specs.Locations.{no_locations, pieces_here, no_pieces}
+use Rattle.record_loans.specs.Pieces.{no_pieces}
+use Rattle.host_shared.specs.Locations.{no_locations, pieces_here}
 use Rattle.host_shared.proofs.Ends.{front_of}
 use Rattle.host_shared.proofs.tables.end_sharing.Goals as goal
 

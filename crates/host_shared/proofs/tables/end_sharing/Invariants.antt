@@ -1,5 +1,6 @@
 use Rattle.std.proofs.Common.{◌≡◌, ℕ, length}
-use Rattle.host_shared.specs.Locations.{pieces_here, locations_at, no_pieces}
+use Rattle.record_loans.specs.Pieces.{no_pieces}
+use Rattle.host_shared.specs.Locations.{pieces_here, locations_at}
 use Rattle.host_shared.proofs.tables.end_sharing.Given as goal
 
 abbrev pub invariant-loop-locations : goal.invariant-loop-locations

@@ -1,12 +1,12 @@
 use Rattle.std.proofs.Common.{◌≡◌, ◌<◌, None, length, set, sym, subst, ◌∙◌, ap, refl, arith}
 use Rattle.std.proofs.lemmas.Option.{none-some}
-use Rattle.record_loans.specs.Pieces.{SamePieces}
+use Rattle.record_loans.specs.Pieces.{SamePieces, no_pieces}
 use Rattle.lifecycle.specs.States.{SameOnce}
 use Rattle.mem_rec.specs.declared.TheConstants.{GROUPS, INSTANCES}
 use Rattle.host_shared.specs.Owners.{AllHaveOwners, SameLocations}
 use Rattle.host_shared.specs.Sharing.{left_with}
 use Rattle.host_table.specs.Table.{slot_at, group_of, instance_of, AreHeld, AreBare}
-use Rattle.host_shared.specs.Locations.{shared_at, no_pieces}
+use Rattle.host_shared.specs.Locations.{shared_at}
 use Rattle.host_table.proofs.Changes.{slot_in, owners_of_slot, read_ok_group, fits_in_slot, own_stays, pieces_then, locations_then}
 use Rattle.host_table.proofs.Stepping.{steps_in, there_in}
 use Rattle.host_table.proofs.Sights.{Views, Sees, views_of}

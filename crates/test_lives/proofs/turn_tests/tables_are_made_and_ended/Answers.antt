@@ -1,5 +1,5 @@
 use Rattle.std.proofs.Common.{◌≡◌, ℕ, None}
-use Rattle.host_shared.specs.Locations.{no_pieces}
+use Rattle.record_loans.specs.Pieces.{no_pieces}
 use Rattle.host_shared.proofs.Stands.{seen_of}
 use Rattle.host_table.specs.Table.{slot_at}
 use Rattle.test_lives.proofs.turn_tests.tables_are_made_and_ended.Goals as goal
