@@ -76,28 +76,10 @@ PlanFits p o0 o1 o2 o3 d s e = (p.object ≤ o0) × CutsFit (p.first ∷ p.secon
 abbrev pub filter_words : FilterSizes → List ℤ → List ℤ → List ℤ → List (List ℤ)
 filter_words n o0 o1 d = take n.object o0 ∷ take n.kept o1 ∷ take n.running d ∷ [] ∷ []
 
--- the pieces and the block have enough words for a filter
-pub record FilterFits (n : FilterSizes) (o0 o1 d : ℕ) : Type 0 where
-  pub object : n.object ≤ o0
-  pub kept : n.kept ≤ o1
-  pub running : n.running ≤ d
-
 -- the words of each record of a reader, with those of its own piece and of the one that is lent to it
 abbrev pub reader_words : ReaderSizes → List ℤ → List ℤ → List (List ℤ)
 reader_words n o0 s1 = take n.object o0 ∷ take n.once s1 ∷ [] ∷ [] ∷ []
 
--- the pieces have enough words for a reader
-pub record ReaderFits (n : ReaderSizes) (o0 s1 : ℕ) : Type 0 where
-  pub object : n.object ≤ o0
-  pub once : n.once ≤ s1
-
 -- the words of each record of a filter that shares its constants, with those of its own pieces, of the one that is lent to it and of the block in `daram`
 abbrev pub sharing_words : SharingSizes → List ℤ → List ℤ → List ℤ → List ℤ → List (List ℤ)
 sharing_words n o0 o1 s2 d = take n.object o0 ∷ take n.kept o1 ∷ take n.constants s2 ∷ take n.running d ∷ []
-
--- the pieces and the block have enough words for such a filter
-pub record SharingFits (n : SharingSizes) (o0 o1 s2 d : ℕ) : Type 0 where
-  pub object : n.object ≤ o0
-  pub kept : n.kept ≤ o1
-  pub constants : n.constants ≤ s2
-  pub running : n.running ≤ d

@@ -1,9 +1,9 @@
 //! Records are lent: blocks become slices, and each record is cut out of its piece or out of what is left of its block.
-ghost use Rattle.std.specs.Prelude.{◌≡◌, ◌≤◌, [], ◌∷◌, length, None};
+ghost use Rattle.std.specs.Prelude.{◌≡◌, ◌≤◌, None};
 ghost use Rattle.record_loans.specs.Blocks.{block_words, IsSameBlock};
-ghost use Rattle.record_loans.specs.Pieces.{piece_words, IsSamePiece, SamePieces};
-ghost use Rattle.record_loans.specs.Cuts.{cut_words, CutsFit, filter_words, plan_words, reader_words, sharing_words, FilterFits, PlanFits, ReaderFits, SharingFits};
-ghost use Rattle.record_loans.specs.Loans.{held, lent_by, LentFits};
+ghost use Rattle.record_loans.specs.Pieces.{IsSamePiece, SamePieces};
+ghost use Rattle.record_loans.specs.Loans.{held, lent_from, cut_from, first_words, second_words, third_words, LentFits, CutsFitIn, FirstFits, SecondFits, ThirdFits, filter_words_in, reader_words_in, sharing_words_in, FilterFits, ReaderFits, SharingFits};
+ghost use Rattle.record_loans.specs.Performed.{Performed, PerformedBy};
 
 use crate::block::ScratchBlock;
 use crate::pieces::Pieces;
@@ -29,7 +29,7 @@ pub fn lend_without_blocks<O, S: Step<O>>(
 )
     requires can { S.can loan.now.lending.now.step.now out.old }
     requires fit { LentFits loan.now.plan.now own.old shared.old None None None }
-    ensures done { S.done loan.now.lending.now.step.now loan.now.lending.now.table.now loan.now.lending.now.writable (lent_by loan.now.plan.now own.old shared.old None None None) (lent_by loan.now.plan.now own.new shared.new None None None) out.old out.new }
+    ensures done { PerformedBy S.done loan.now (lent_from own.old shared.old None None None) (lent_from own.new shared.new None None None) out.old out.new }
     ensures own { SamePieces own.old own.new }
     ensures shared { SamePieces shared.old shared.new }
 {
@@ -63,9 +63,9 @@ pub fn lend_with_blocks<O, S: Step<O>>(
 )
     requires can { S.can loan.now.lending.now.step.now out.old }
     requires fit { LentFits loan.now.plan.now own.old shared.old daram.old saram.old external.old }
-    ensures done { S.done loan.now.lending.now.step.now loan.now.lending.now.table.now loan.now.lending.now.writable
-        (lent_by loan.now.plan.now own.old shared.old daram.old saram.old external.old)
-        (lent_by loan.now.plan.now own.new shared.new daram.new saram.new external.new) out.old out.new }
+    ensures done { PerformedBy S.done loan.now
+        (lent_from own.old shared.old daram.old saram.old external.old)
+        (lent_from own.new shared.new daram.new saram.new external.new) out.old out.new }
     ensures own { SamePieces own.old own.new }
     ensures shared { SamePieces shared.old shared.new }
     ensures daram { IsSameBlock daram.old daram.new }
@@ -116,10 +116,10 @@ pub fn lend_filter<O, S: Step<O>>(
 )
     requires can { S.can loan.now.step.now out.old }
     requires some { 1 ≤ sizes.object × 1 ≤ sizes.kept × 1 ≤ sizes.running }
-    requires fit { FilterFits sizes (length (piece_words own.old.p0)) (length (piece_words own.old.p1)) (length (block_words daram.old)) }
-    ensures done { S.done loan.now.step.now loan.now.table.now loan.now.writable
-        (filter_words sizes (piece_words own.old.p0) (piece_words own.old.p1) (block_words daram.old))
-        (filter_words sizes (piece_words own.new.p0) (piece_words own.new.p1) (block_words daram.new)) out.old out.new }
+    requires fit { FilterFits sizes own.old daram.old }
+    ensures done { Performed S.done loan.now
+        (filter_words_in sizes own.old daram.old)
+        (filter_words_in sizes own.new daram.new) out.old out.new }
     ensures own { SamePieces own.old own.new }
     ensures daram { IsSameBlock daram.old daram.new }
 {
@@ -154,10 +154,10 @@ pub fn lend_sharing_filter<O, S: Step<O>>(
 )
     requires can { S.can loan.now.step.now out.old }
     requires some { 1 ≤ sizes.object × 1 ≤ sizes.kept × 1 ≤ sizes.constants × 1 ≤ sizes.running }
-    requires fit { SharingFits sizes (length (piece_words own.old.p0)) (length (piece_words own.old.p1)) (length (piece_words once.old)) (length (block_words daram.old)) }
-    ensures done { S.done loan.now.step.now loan.now.table.now loan.now.writable
-        (sharing_words sizes (piece_words own.old.p0) (piece_words own.old.p1) (piece_words once.old) (block_words daram.old))
-        (sharing_words sizes (piece_words own.new.p0) (piece_words own.new.p1) (piece_words once.new) (block_words daram.new)) out.old out.new }
+    requires fit { SharingFits sizes own.old once.old daram.old }
+    ensures done { Performed S.done loan.now
+        (sharing_words_in sizes own.old once.old daram.old)
+        (sharing_words_in sizes own.new once.new daram.new) out.old out.new }
     ensures own { SamePieces own.old own.new }
     ensures once { IsSamePiece once.old once.new }
     ensures daram { IsSameBlock daram.old daram.new }
@@ -196,10 +196,10 @@ pub fn lend_reader<O, S: Step<O>>(
 )
     requires can { S.can loan.now.step.now out.old }
     requires some { 1 ≤ sizes.object }
-    requires fit { ReaderFits sizes (length (piece_words own.old.p0)) (length (piece_words once.old)) }
-    ensures done { S.done loan.now.step.now loan.now.table.now loan.now.writable
-        (reader_words sizes (piece_words own.old.p0) (piece_words once.old))
-        (reader_words sizes (piece_words own.new.p0) (piece_words once.new)) out.old out.new }
+    requires fit { ReaderFits sizes own.old once.old }
+    ensures done { Performed S.done loan.now
+        (reader_words_in sizes own.old once.old)
+        (reader_words_in sizes own.new once.new) out.old out.new }
     ensures own { SamePieces own.old own.new }
     ensures once { IsSamePiece once.old once.new }
 {
@@ -230,10 +230,10 @@ fn cut_object<O, S: Step<O>>(
     out: &mut O,
 )
     requires can { S.can loan.now.lending.now.step.now out.old }
-    requires fit { PlanFits loan.now.plan.now (length (piece_words own.old.p0)) (length (piece_words own.old.p1)) (length (piece_words own.old.p2)) (length (piece_words own.old.p3)) (length daram.old) (length saram.old) (length external.old) }
-    ensures done { S.done loan.now.lending.now.step.now loan.now.lending.now.table.now loan.now.lending.now.writable
-        (plan_words loan.now.plan.now (piece_words own.old.p0) (piece_words own.old.p1) (piece_words own.old.p2) (piece_words own.old.p3) daram.old saram.old external.old)
-        (plan_words loan.now.plan.now (piece_words own.new.p0) (piece_words own.new.p1) (piece_words own.new.p2) (piece_words own.new.p3) daram.new saram.new external.new) out.old out.new }
+    requires fit { CutsFitIn own.old daram.old saram.old external.old loan.now.plan.now }
+    ensures done { PerformedBy S.done loan.now
+        (cut_from own.old daram.old saram.old external.old)
+        (cut_from own.new daram.new saram.new external.new) out.old out.new }
     ensures own { SamePieces own.old own.new }
 {
     match &mut own.p0 {
@@ -276,10 +276,10 @@ fn lend_external<O, S: Step<O>>(
     out: &mut O,
 )
     requires can { S.can loan.now.lending.now.step.now out.old }
-    requires fit { PlanFits loan.now.plan.now (length (piece_words own.old.p0)) (length (piece_words own.old.p1)) (length (piece_words own.old.p2)) (length (piece_words own.old.p3)) (length daram.old) (length saram.old) (length (block_words external.old)) }
-    ensures done { S.done loan.now.lending.now.step.now loan.now.lending.now.table.now loan.now.lending.now.writable
-        (plan_words loan.now.plan.now (piece_words own.old.p0) (piece_words own.old.p1) (piece_words own.old.p2) (piece_words own.old.p3) daram.old saram.old (block_words external.old))
-        (plan_words loan.now.plan.now (piece_words own.new.p0) (piece_words own.new.p1) (piece_words own.new.p2) (piece_words own.new.p3) daram.new saram.new (block_words external.new)) out.old out.new }
+    requires fit { CutsFitIn own.old daram.old saram.old (block_words external.old) loan.now.plan.now }
+    ensures done { PerformedBy S.done loan.now
+        (cut_from own.old daram.old saram.old (block_words external.old))
+        (cut_from own.new daram.new saram.new (block_words external.new)) out.old out.new }
     ensures own { SamePieces own.old own.new }
     ensures external { IsSameBlock external.old external.new }
 {
@@ -300,10 +300,10 @@ fn lend_saram<O, S: Step<O>>(
     out: &mut O,
 )
     requires can { S.can loan.now.lending.now.step.now out.old }
-    requires fit { PlanFits loan.now.plan.now (length (piece_words own.old.p0)) (length (piece_words own.old.p1)) (length (piece_words own.old.p2)) (length (piece_words own.old.p3)) (length daram.old) (length (block_words saram.old)) (length (block_words external.old)) }
-    ensures done { S.done loan.now.lending.now.step.now loan.now.lending.now.table.now loan.now.lending.now.writable
-        (plan_words loan.now.plan.now (piece_words own.old.p0) (piece_words own.old.p1) (piece_words own.old.p2) (piece_words own.old.p3) daram.old (block_words saram.old) (block_words external.old))
-        (plan_words loan.now.plan.now (piece_words own.new.p0) (piece_words own.new.p1) (piece_words own.new.p2) (piece_words own.new.p3) daram.new (block_words saram.new) (block_words external.new)) out.old out.new }
+    requires fit { CutsFitIn own.old daram.old (block_words saram.old) (block_words external.old) loan.now.plan.now }
+    ensures done { PerformedBy S.done loan.now
+        (cut_from own.old daram.old (block_words saram.old) (block_words external.old))
+        (cut_from own.new daram.new (block_words saram.new) (block_words external.new)) out.old out.new }
     ensures own { SamePieces own.old own.new }
     ensures saram { IsSameBlock saram.old saram.new }
     ensures external { IsSameBlock external.old external.new }
@@ -325,10 +325,10 @@ fn lend_daram<O, S: Step<O>>(
     out: &mut O,
 )
     requires can { S.can loan.now.lending.now.step.now out.old }
-    requires fit { PlanFits loan.now.plan.now (length (piece_words own.old.p0)) (length (piece_words own.old.p1)) (length (piece_words own.old.p2)) (length (piece_words own.old.p3)) (length (block_words daram.old)) (length (block_words saram.old)) (length (block_words external.old)) }
-    ensures done { S.done loan.now.lending.now.step.now loan.now.lending.now.table.now loan.now.lending.now.writable
-        (plan_words loan.now.plan.now (piece_words own.old.p0) (piece_words own.old.p1) (piece_words own.old.p2) (piece_words own.old.p3) (block_words daram.old) (block_words saram.old) (block_words external.old))
-        (plan_words loan.now.plan.now (piece_words own.new.p0) (piece_words own.new.p1) (piece_words own.new.p2) (piece_words own.new.p3) (block_words daram.new) (block_words saram.new) (block_words external.new)) out.old out.new }
+    requires fit { CutsFitIn own.old (block_words daram.old) (block_words saram.old) (block_words external.old) loan.now.plan.now }
+    ensures done { PerformedBy S.done loan.now
+        (cut_from own.old (block_words daram.old) (block_words saram.old) (block_words external.old))
+        (cut_from own.new (block_words daram.new) (block_words saram.new) (block_words external.new)) out.old out.new }
     ensures own { SamePieces own.old own.new }
     ensures daram { IsSameBlock daram.old daram.new }
     ensures saram { IsSameBlock saram.old saram.new }
@@ -354,10 +354,10 @@ fn cut_first<O, S: Step<O>>(
     out: &mut O,
 )
     requires can { S.can loan.now.lending.now.step.now out.old }
-    requires fit { CutsFit (loan.now.plan.now.first ∷ loan.now.plan.now.second ∷ loan.now.plan.now.third ∷ []) (length (piece_words p1.old) ∷ length (piece_words p2.old) ∷ length (piece_words p3.old) ∷ []) (length daram.old) (length saram.old) (length external.old) }
-    ensures done { S.done loan.now.lending.now.step.now loan.now.lending.now.table.now loan.now.lending.now.writable
-        (r0.old ∷ cut_words (loan.now.plan.now.first ∷ loan.now.plan.now.second ∷ loan.now.plan.now.third ∷ []) (piece_words p1.old ∷ piece_words p2.old ∷ piece_words p3.old ∷ []) daram.old saram.old external.old)
-        (r0.new ∷ cut_words (loan.now.plan.now.first ∷ loan.now.plan.now.second ∷ loan.now.plan.now.third ∷ []) (piece_words p1.new ∷ piece_words p2.new ∷ piece_words p3.new ∷ []) daram.new saram.new external.new) out.old out.new }
+    requires fit { FirstFits p1.old p2.old p3.old daram.old saram.old external.old loan.now.plan.now }
+    ensures done { PerformedBy S.done loan.now
+        (first_words r0.old p1.old p2.old p3.old daram.old saram.old external.old)
+        (first_words r0.new p1.new p2.new p3.new daram.new saram.new external.new) out.old out.new }
     ensures p1 { IsSamePiece p1.old p1.new }
     ensures p2 { IsSamePiece p2.old p2.new }
     ensures p3 { IsSamePiece p3.old p3.new }
@@ -403,10 +403,10 @@ fn cut_second<O, S: Step<O>>(
     out: &mut O,
 )
     requires can { S.can loan.now.lending.now.step.now out.old }
-    requires fit { CutsFit (loan.now.plan.now.second ∷ loan.now.plan.now.third ∷ []) (length (piece_words p2.old) ∷ length (piece_words p3.old) ∷ []) (length daram.old) (length saram.old) (length external.old) }
-    ensures done { S.done loan.now.lending.now.step.now loan.now.lending.now.table.now loan.now.lending.now.writable
-        (r0.old ∷ r1.old ∷ cut_words (loan.now.plan.now.second ∷ loan.now.plan.now.third ∷ []) (piece_words p2.old ∷ piece_words p3.old ∷ []) daram.old saram.old external.old)
-        (r0.new ∷ r1.new ∷ cut_words (loan.now.plan.now.second ∷ loan.now.plan.now.third ∷ []) (piece_words p2.new ∷ piece_words p3.new ∷ []) daram.new saram.new external.new) out.old out.new }
+    requires fit { SecondFits p2.old p3.old daram.old saram.old external.old loan.now.plan.now }
+    ensures done { PerformedBy S.done loan.now
+        (second_words r0.old r1.old p2.old p3.old daram.old saram.old external.old)
+        (second_words r0.new r1.new p2.new p3.new daram.new saram.new external.new) out.old out.new }
     ensures p2 { IsSamePiece p2.old p2.new }
     ensures p3 { IsSamePiece p3.old p3.new }
 {
@@ -451,10 +451,10 @@ fn cut_third<O, S: Step<O>>(
     out: &mut O,
 )
     requires can { S.can loan.now.lending.now.step.now out.old }
-    requires fit { CutsFit (loan.now.plan.now.third ∷ []) (length (piece_words p3.old) ∷ []) (length daram.old) (length saram.old) (length external.old) }
-    ensures done { S.done loan.now.lending.now.step.now loan.now.lending.now.table.now loan.now.lending.now.writable
-        (r0.old ∷ r1.old ∷ r2.old ∷ cut_words (loan.now.plan.now.third ∷ []) (piece_words p3.old ∷ []) daram.old saram.old external.old)
-        (r0.new ∷ r1.new ∷ r2.new ∷ cut_words (loan.now.plan.now.third ∷ []) (piece_words p3.new ∷ []) daram.new saram.new external.new) out.old out.new }
+    requires fit { ThirdFits p3.old daram.old saram.old external.old loan.now.plan.now }
+    ensures done { PerformedBy S.done loan.now
+        (third_words r0.old r1.old r2.old p3.old daram.old saram.old external.old)
+        (third_words r0.new r1.new r2.new p3.new daram.new saram.new external.new) out.old out.new }
     ensures p3 { IsSamePiece p3.old p3.new }
 {
     match loan.plan.third.source {
