@@ -2,3 +2,4 @@ pub mod States
 pub mod Laws
 pub mod Moves
 pub mod Rooms
+pub mod Keeping

@@ -6,7 +6,7 @@ use Rattle.record_loans.specs.declared.pieces.Pieces.{Pieces}
 use Rattle.record_loans.specs.Pieces.{piece_at, with_piece}
 use Rattle.scratch_group.specs.Words.{placed}
 use Rattle.lifecycle.specs.declared.instance.Instance.{Instance}
-use Rattle.lifecycle.specs.States.{Fits}
+use Rattle.lifecycle.specs.States.{Fits, SameInstance}
 
 -- these pieces, with the one that comes back
 abbrev pub restored : Option (ℕ × Span) → Pieces → Pieces
@@ -33,3 +33,7 @@ settled s shared g = record s { table = placed s.table s.own shared g }
 -- the instance fits at its places
 abbrev pub HasRoom : {M : Type 0} → Instance M → Pieces → Group → Type 0
 HasRoom s shared g = Fits (placed s.table s.own shared g) s.own shared g
+
+-- the instance with the piece that comes back, and with its places for bases, whose words may differ
+abbrev pub ComesBack : {M : Type 0} → Instance M → Option (ℕ × Span) → Pieces → Group → Instance M → Type 0
+ComesBack s back shared g s' = SameInstance (settled (with_back s back) shared g) s'

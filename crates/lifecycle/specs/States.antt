@@ -17,6 +17,10 @@ pub record Fits (rs : List MemRec) (own shared : Pieces) (g : Group) : Type 0 wh
   pub lent : AllLent rs (active_words rs own shared g)
   pub spaces : InSpaces own shared g
 
+-- the instance fits with these shared pieces and this group
+abbrev pub FitsIn : {M : Type 0} → Instance M → Pieces → Group → Type 0
+FitsIn s shared g = Fits s.table s.own shared g
+
 -- the same instance, whose words may differ
 pub record SameInstance {M : Type 0} (old new : Instance M) : Type 0 where
   pub kind : new.kind ≡ old.kind

@@ -1,13 +1,13 @@
 //! Active instances.
-ghost use Rattle.std.specs.Prelude.{◌≡◌, ◌≤◌, ◌++◌, ◌∷◌, ℕ, ℤ, [], List, length, Option, Some, IsSome, IsTrue};
-ghost use Rattle.ialg.specs.History.{History, Control, with_samples};
+ghost use Rattle.std.specs.Prelude.{◌≡◌, ◌≤◌, [], length, Some, IsSome, IsTrue};
 ghost use Rattle.ialg.specs.Views.{control_of, answer_of};
 ghost use Rattle.mem_rec.specs.Records.{is_table};
 ghost use Rattle.scratch_group.specs.Blocks.{SameGroup};
 ghost use Rattle.scratch_group.specs.Readers.{IsOfReader};
 ghost use Rattle.record_loans.specs.Pieces.{only_second, piece_at, IsSamePiece, SamePieces};
-ghost use Rattle.lifecycle.specs.Moves.{CanRestore, with_back, settled, HasRoom, without_piece};
-ghost use Rattle.lifecycle.specs.States.{Fits, SameInstance, SameOnce, IsLawful, Accepts, all_outputs, status_after, IdleKeeps, ActiveKeeps, SaysWhetherAccepted};
+ghost use Rattle.lifecycle.specs.Moves.{CanRestore, with_back, HasRoom, without_piece, ComesBack};
+ghost use Rattle.lifecycle.specs.States.{FitsIn, SameInstance, SameOnce, SaysWhetherAccepted};
+ghost use Rattle.lifecycle.specs.Keeping.{StaysActive, BecomesIdle, Takes, GivesOut, Obeys, Answers};
 
 use crate::Idle;
 use crate::instance::{Instance, restore};
@@ -27,7 +27,7 @@ impl<M: Ialg> Active<M> {
     /// Gives the instance a block of samples, and puts what they give into `out`.
     #[inline(always)]
     pub fn run(&mut self, shared: &mut Pieces, group: &mut Group, input: &[i16], out: &mut Block)
-        requires fits { Fits self.old.instance.table self.old.instance.own shared.old group.old }
+        requires fits { FitsIn self.old.instance shared.old group.old }
         requires empty { out.old.items ≡ [] }
         requires some { 1 ≤ length input.now }
         requires within { length input.now ≤ BLOCK_SAMPLES }
@@ -35,14 +35,10 @@ impl<M: Ialg> Active<M> {
         ensures shared { SamePieces shared.old shared.new }
         ensures once { SameOnce self.old.instance.table shared.old shared.new }
         ensures group { SameGroup group.old group.new }
-        ensures fits { Fits self.new.instance.table self.new.instance.own shared.new group.new }
+        ensures fits { FitsIn self.new.instance shared.new group.new }
         ensures bounded { length out.new.items ≤ length input.now }
-        ensures keeps { (w : Option ℤ) (h : History) → ActiveKeeps M.law self.old.instance w shared.old group.old h
-            → ActiveKeeps M.law self.new.instance w shared.new group.new (with_samples h input.now) }
-        ensures output { (w : Option ℤ) (h : History) → IsLawful M.law.meaning self.old.instance w
-            → ActiveKeeps M.law self.old.instance w shared.old group.old h
-            → all_outputs M.law.meaning self.old.instance (with_samples h input.now)
-            ≡ all_outputs M.law.meaning self.old.instance h ++ out.new.items }
+        ensures keeps { Takes M.law self.old.instance shared.old group.old input.now self.new.instance shared.new group.new }
+        ensures output { GivesOut M.law self.old.instance shared.old group.old input.now out.new.items }
     {
         let kind = self.instance.kind;
         let step = Process { kind, input };
@@ -68,21 +64,17 @@ impl<M: Ialg> Active<M> {
     )
         requires reader { IsOfReader self.old.instance.table sizes }
         requires table { IsTrue (is_table self.old.instance.table) }
-        requires fits { Fits self.old.instance.table self.old.instance.own (only_second once.old) group.now }
+        requires fits { FitsIn self.old.instance (only_second once.old) group.now }
         requires empty { out.old.items ≡ [] }
         requires some { 1 ≤ length input.now }
         requires within { length input.now ≤ BLOCK_SAMPLES }
         ensures same { SameInstance self.old.instance self.new.instance }
         ensures shared { IsSamePiece once.old once.new }
         ensures once { SameOnce self.old.instance.table (only_second once.old) (only_second once.new) }
-        ensures fits { Fits self.new.instance.table self.new.instance.own (only_second once.new) group.now }
+        ensures fits { FitsIn self.new.instance (only_second once.new) group.now }
         ensures bounded { length out.new.items ≤ length input.now }
-        ensures keeps { (w : Option ℤ) (h : History) → ActiveKeeps M.law self.old.instance w (only_second once.old) group.now h
-            → ActiveKeeps M.law self.new.instance w (only_second once.new) group.now (with_samples h input.now) }
-        ensures output { (w : Option ℤ) (h : History) → IsLawful M.law.meaning self.old.instance w
-            → ActiveKeeps M.law self.old.instance w (only_second once.old) group.now h
-            → all_outputs M.law.meaning self.old.instance (with_samples h input.now)
-            ≡ all_outputs M.law.meaning self.old.instance h ++ out.new.items }
+        ensures keeps { Takes M.law self.old.instance (only_second once.old) group.now input.now self.new.instance (only_second once.new) group.now }
+        ensures output { GivesOut M.law self.old.instance (only_second once.old) group.now input.now out.new.items }
     {
         let kind = self.instance.kind;
         let step = Process { kind, input };
@@ -105,19 +97,14 @@ impl<M: Ialg> Active<M> {
 
     /// Gives the instance a control that it accepts.
     pub fn control(&mut self, shared: &mut Pieces, group: &mut Group, c: &Ctl) -> Status
-        requires fits { Fits self.old.instance.table self.old.instance.own shared.old group.old }
+        requires fits { FitsIn self.old.instance shared.old group.old }
         ensures same { SameInstance self.old.instance self.new.instance }
         ensures shared { SamePieces shared.old shared.new }
         ensures once { SameOnce self.old.instance.table shared.old shared.new }
         ensures group { SameGroup group.old group.new }
-        ensures fits { Fits self.new.instance.table self.new.instance.own shared.new group.new }
-        ensures keeps { (w : Option ℤ) (h : History) → Accepts M.law.meaning self.old.instance (control_of c.now)
-            → ActiveKeeps M.law self.old.instance w shared.old group.old h
-            → ActiveKeeps M.law self.new.instance w shared.new group.new (Control (control_of c.now) ∷ h) }
-        ensures status { (w : Option ℤ) (h : History) → IsLawful M.law.meaning self.old.instance w
-            → Accepts M.law.meaning self.old.instance (control_of c.now)
-            → ActiveKeeps M.law self.old.instance w shared.old group.old h
-            → answer_of result ≡ status_after M.law.meaning self.old.instance h (control_of c.now) }
+        ensures fits { FitsIn self.new.instance shared.new group.new }
+        ensures keeps { Obeys M.law self.old.instance shared.old group.old (control_of c.now) self.new.instance shared.new group.new }
+        ensures status { Answers M.law self.old.instance shared.old group.old (control_of c.now) (answer_of result) }
     {
         let kind = self.instance.kind;
         let mut answer = Status::Done;
@@ -134,14 +121,13 @@ impl<M: Ialg> Active<M> {
     /// Saves what has to last of the scratch records, which are lent to the instance no longer: [`into_idle`](Active::into_idle) has to follow.
     #[inline(always)]
     pub fn deactivate(&mut self, shared: &mut Pieces, group: &mut Group)
-        requires fits { Fits self.old.instance.table self.old.instance.own shared.old group.old }
+        requires fits { FitsIn self.old.instance shared.old group.old }
         ensures same { SameInstance self.old.instance self.new.instance }
         ensures shared { SamePieces shared.old shared.new }
         ensures once { SameOnce self.old.instance.table shared.old shared.new }
         ensures group { SameGroup group.old group.new }
-        ensures fits { Fits self.new.instance.table self.new.instance.own shared.new group.new }
-        ensures keeps { (w : Option ℤ) (h : History) → ActiveKeeps M.law self.old.instance w shared.old group.old h
-            → IdleKeeps M.law self.new.instance w shared.new h }
+        ensures fits { FitsIn self.new.instance shared.new group.new }
+        ensures keeps { BecomesIdle M.law self.old.instance shared.old group.old self.new.instance shared.new }
     {
         let kind = self.instance.kind;
         group.lend(
@@ -163,14 +149,13 @@ impl<M: Ialg> Active<M> {
 
     /// Deactivates the instance: its scratch records are lent to it no longer.
     pub fn deactivated(self, shared: &mut Pieces, group: &mut Group) -> Idle<M>
-        requires fits { Fits self.instance.table self.instance.own shared.old group.old }
+        requires fits { FitsIn self.instance shared.old group.old }
         ensures same { SameInstance self.instance result.instance }
         ensures shared { SamePieces shared.old shared.new }
         ensures once { SameOnce self.instance.table shared.old shared.new }
         ensures group { SameGroup group.old group.new }
-        ensures fits { Fits result.instance.table result.instance.own shared.new group.new }
-        ensures keeps { (w : Option ℤ) (h : History) → ActiveKeeps M.law self.instance w shared.old group.old h
-            → IdleKeeps M.law result.instance w shared.new h }
+        ensures fits { FitsIn result.instance shared.new group.new }
+        ensures keeps { BecomesIdle M.law self.instance shared.old group.old result.instance shared.new }
     {
         let mut active = self;
         active.deactivate(shared, group);
@@ -190,13 +175,12 @@ impl<M: Ialg> Active<M> {
     pub fn moved(&mut self, back: Option<(usize, Piece)>, shared: &mut Pieces, group: &mut Group)
         requires back { CanRestore back self.old.instance.own }
         requires fits { HasRoom (with_back self.old.instance back) shared.old group.old }
-        ensures same { SameInstance (settled (with_back self.old.instance back) shared.old group.old) self.new.instance }
+        ensures same { ComesBack self.old.instance back shared.old group.old self.new.instance }
         ensures shared { SamePieces shared.old shared.new }
         ensures once { SameOnce self.new.instance.table shared.old shared.new }
         ensures group { SameGroup group.old group.new }
-        ensures fits { Fits self.new.instance.table self.new.instance.own shared.new group.new }
-        ensures keeps { (w : Option ℤ) (h : History) → ActiveKeeps M.law (with_back self.old.instance back) w shared.old group.old h
-            → ActiveKeeps M.law self.new.instance w shared.new group.new h }
+        ensures fits { FitsIn self.new.instance shared.new group.new }
+        ensures keeps { StaysActive M.law (with_back self.old.instance back) shared.old group.old self.new.instance shared.new group.new }
     {
         restore(&mut self.instance.own, back);
         rebase(&mut self.instance.table, &self.instance.own, shared, group);

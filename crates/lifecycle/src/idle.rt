@@ -1,16 +1,14 @@
 //! Idle instances.
-ghost use Rattle.std.specs.Prelude.{◌≡◌, ◌≤◌, ◌++◌, ℕ, ℤ, [], length, Option, Some, IsSome, IsTrue};
-ghost use Rattle.ialg.specs.History.{History, with_samples};
-ghost use Rattle.ialg.specs.Records.{unplaced, AreNew};
+ghost use Rattle.std.specs.Prelude.{◌≡◌, ◌≤◌, [], length, Some, IsSome, IsTrue};
 ghost use Rattle.ialg.specs.Views.{control_of};
 ghost use Rattle.mem_rec.specs.Records.{is_table};
-ghost use Rattle.scratch_group.specs.Blocks.{BlocksArePoison, SameGroup};
+ghost use Rattle.scratch_group.specs.Blocks.{SameGroup};
 ghost use Rattle.record_loans.specs.Pieces.{no_pieces, only_third, piece_at, IsSamePiece, SamePieces};
 ghost use Rattle.scratch_group.specs.Filters.{IsOfFilter};
 ghost use Rattle.scratch_group.specs.Sharing.{IsOfSharingFilter};
-ghost use Rattle.scratch_group.specs.Words.{idle_words};
-ghost use Rattle.lifecycle.specs.Moves.{CanRestore, with_back, settled, HasRoom, without_piece};
-ghost use Rattle.lifecycle.specs.States.{Fits, SameInstance, SameOnce, IsLawful, IdleKeeps, ActiveKeeps, all_outputs, SaysWhetherAccepted};
+ghost use Rattle.lifecycle.specs.Moves.{CanRestore, with_back, settled, HasRoom, without_piece, ComesBack};
+ghost use Rattle.lifecycle.specs.States.{FitsIn, SameInstance, SameOnce, SaysWhetherAccepted};
+ghost use Rattle.lifecycle.specs.Keeping.{Begins, StaysIdle, BecomesActive, WakesAndTakes, WakesAndGives, Ends};
 
 use crate::Active;
 use crate::instance::{Instance, restore};
@@ -54,11 +52,8 @@ impl<M: Ialg> Idle<M> {
         requires fits { HasRoom self.old.instance shared.old group.now }
         ensures same { SameInstance (settled self.old.instance shared.old group.now) self.new.instance }
         ensures shared { SamePieces shared.old shared.new }
-        ensures fits { Fits self.new.instance.table self.new.instance.own shared.new group.now }
-        ensures keeps { (w : Option ℤ) → M.law.meaning.table self.old.instance.kind self.old.instance.params.items ≡ Some (unplaced self.old.instance.table)
-            → AreNew w (M.law.meaning.fill self.old.instance.kind self.old.instance.params.items) self.old.instance.table
-            (idle_words self.old.instance.table self.old.instance.own shared.old)
-            → IdleKeeps M.law self.new.instance w shared.new [] }
+        ensures fits { FitsIn self.new.instance shared.new group.now }
+        ensures keeps { Begins M.law self.old.instance shared.old self.new.instance shared.new }
     {
         rebase(&mut self.instance.table, &self.instance.own, shared, group);
         let step = Init {
@@ -77,15 +72,13 @@ impl<M: Ialg> Idle<M> {
 
     /// Prepares the scratch records, which are lent to the instance from now on: [`into_active`](Idle::into_active) has to follow.
     pub fn activate(&mut self, shared: &mut Pieces, group: &mut Group)
-        requires fits { Fits self.old.instance.table self.old.instance.own shared.old group.old }
+        requires fits { FitsIn self.old.instance shared.old group.old }
         ensures same { SameInstance self.old.instance self.new.instance }
         ensures shared { SamePieces shared.old shared.new }
         ensures once { SameOnce self.old.instance.table shared.old shared.new }
         ensures group { SameGroup group.old group.new }
-        ensures fits { Fits self.new.instance.table self.new.instance.own shared.new group.new }
-        ensures keeps { (w : Option ℤ) (h : History) → BlocksArePoison w group.old
-            → IdleKeeps M.law self.old.instance w shared.old h
-            → ActiveKeeps M.law self.new.instance w shared.new group.new h }
+        ensures fits { FitsIn self.new.instance shared.new group.new }
+        ensures keeps { BecomesActive M.law self.old.instance shared.old group.old self.new.instance shared.new group.new }
     {
         let kind = self.instance.kind;
         group.lend(
@@ -107,7 +100,7 @@ impl<M: Ialg> Idle<M> {
         input: &[i16],
         out: &mut Block,
     )
-        requires fits { Fits self.old.instance.table self.old.instance.own shared.old group.old }
+        requires fits { FitsIn self.old.instance shared.old group.old }
         requires empty { out.old.items ≡ [] }
         requires some { 1 ≤ length input.now }
         requires within { length input.now ≤ BLOCK_SAMPLES }
@@ -115,15 +108,10 @@ impl<M: Ialg> Idle<M> {
         ensures shared { SamePieces shared.old shared.new }
         ensures once { SameOnce self.old.instance.table shared.old shared.new }
         ensures group { SameGroup group.old group.new }
-        ensures fits { Fits self.new.instance.table self.new.instance.own shared.new group.new }
+        ensures fits { FitsIn self.new.instance shared.new group.new }
         ensures bounded { length out.new.items ≤ length input.now }
-        ensures keeps { (w : Option ℤ) (h : History) → BlocksArePoison w group.old
-            → IdleKeeps M.law self.old.instance w shared.old h
-            → ActiveKeeps M.law self.new.instance w shared.new group.new (with_samples h input.now) }
-        ensures output { (w : Option ℤ) (h : History) → IsLawful M.law.meaning self.old.instance w → BlocksArePoison w group.old
-            → IdleKeeps M.law self.old.instance w shared.old h
-            → all_outputs M.law.meaning self.old.instance (with_samples h input.now)
-            ≡ all_outputs M.law.meaning self.old.instance h ++ out.new.items }
+        ensures keeps { WakesAndTakes M.law self.old.instance shared.old group.old input.now self.new.instance shared.new group.new }
+        ensures output { WakesAndGives M.law self.old.instance shared.old group.old input.now out.new.items }
     {
         let kind = self.instance.kind;
         group.lend(
@@ -145,15 +133,13 @@ impl<M: Ialg> Idle<M> {
 
     /// Activates the instance: its scratch records are lent to it from now on.
     pub fn activated(self, shared: &mut Pieces, group: &mut Group) -> Active<M>
-        requires fits { Fits self.instance.table self.instance.own shared.old group.old }
+        requires fits { FitsIn self.instance shared.old group.old }
         ensures same { SameInstance self.instance result.instance }
         ensures shared { SamePieces shared.old shared.new }
         ensures once { SameOnce self.instance.table shared.old shared.new }
         ensures group { SameGroup group.old group.new }
-        ensures fits { Fits result.instance.table result.instance.own shared.new group.new }
-        ensures keeps { (w : Option ℤ) (h : History) → BlocksArePoison w group.old
-            → IdleKeeps M.law self.instance w shared.old h
-            → ActiveKeeps M.law result.instance w shared.new group.new h }
+        ensures fits { FitsIn result.instance shared.new group.new }
+        ensures keeps { BecomesActive M.law self.instance shared.old group.old result.instance shared.new group.new }
     {
         let mut idle = self;
         idle.activate(shared, group);
@@ -172,15 +158,13 @@ impl<M: Ialg> Idle<M> {
     /// Inlined, so that of an instance without write-once records the compiler drops the empty `Pieces`.
     #[inline(always)]
     pub fn freed(&mut self, shared: &mut Pieces, group: &Group) -> MemTab
-        requires fits { Fits self.old.instance.table self.old.instance.own shared.old group.now }
+        requires fits { FitsIn self.old.instance shared.old group.now }
         ensures same { SameInstance self.old.instance self.new.instance }
         ensures shared { SamePieces shared.old shared.new }
         ensures once { SameOnce self.old.instance.table shared.old shared.new }
-        ensures fits { Fits self.new.instance.table self.new.instance.own shared.new group.now }
-        ensures keeps { (w : Option ℤ) (h : History) → IdleKeeps M.law self.old.instance w shared.old h
-            → IdleKeeps M.law self.new.instance w shared.new h }
-        ensures table { (w : Option ℤ) (h : History) → IsLawful M.law.meaning self.old.instance w
-            → IdleKeeps M.law self.old.instance w shared.old h → result ≡ self.old.instance.table }
+        ensures fits { FitsIn self.new.instance shared.new group.now }
+        ensures keeps { StaysIdle M.law self.old.instance shared.old self.new.instance shared.new }
+        ensures table { Ends M.law self.old.instance shared.old result }
     {
         let kind = self.instance.kind;
         let mut told = self.instance.table.copied();
@@ -225,12 +209,11 @@ impl<M: Ialg> Idle<M> {
     pub fn moved(&mut self, back: Option<(usize, Piece)>, shared: &mut Pieces, group: &Group)
         requires back { CanRestore back self.old.instance.own }
         requires fits { HasRoom (with_back self.old.instance back) shared.old group.now }
-        ensures same { SameInstance (settled (with_back self.old.instance back) shared.old group.now) self.new.instance }
+        ensures same { ComesBack self.old.instance back shared.old group.now self.new.instance }
         ensures shared { SamePieces shared.old shared.new }
         ensures once { SameOnce self.new.instance.table shared.old shared.new }
-        ensures fits { Fits self.new.instance.table self.new.instance.own shared.new group.now }
-        ensures keeps { (w : Option ℤ) (h : History) → IdleKeeps M.law (with_back self.old.instance back) w shared.old h
-            → IdleKeeps M.law self.new.instance w shared.new h }
+        ensures fits { FitsIn self.new.instance shared.new group.now }
+        ensures keeps { StaysIdle M.law (with_back self.old.instance back) shared.old self.new.instance shared.new }
     {
         restore(&mut self.instance.own, back);
         rebase(&mut self.instance.table, &self.instance.own, shared, group);
@@ -252,10 +235,9 @@ impl<M: Ialg> Idle<M> {
         requires filter { IsOfFilter self.old.instance.table sizes }
         requires back { CanRestore back self.old.instance.own }
         requires fits { HasRoom (with_back self.old.instance back) no_pieces group.now }
-        ensures same { SameInstance (settled (with_back self.old.instance back) no_pieces group.now) self.new.instance }
-        ensures fits { Fits self.new.instance.table self.new.instance.own no_pieces group.now }
-        ensures keeps { (w : Option ℤ) (h : History) → IdleKeeps M.law (with_back self.old.instance back) w no_pieces h
-            → IdleKeeps M.law self.new.instance w no_pieces h }
+        ensures same { ComesBack self.old.instance back no_pieces group.now self.new.instance }
+        ensures fits { FitsIn self.new.instance no_pieces group.now }
+        ensures keeps { StaysIdle M.law (with_back self.old.instance back) no_pieces self.new.instance no_pieces }
     {
         let instance = &mut self.instance;
         let kind = instance.kind;
@@ -279,12 +261,11 @@ impl<M: Ialg> Idle<M> {
         requires sharing { IsOfSharingFilter self.old.instance.table sizes }
         requires back { CanRestore back self.old.instance.own }
         requires fits { HasRoom (with_back self.old.instance back) (only_third once.old) group.now }
-        ensures same { SameInstance (settled (with_back self.old.instance back) (only_third once.old) group.now) self.new.instance }
+        ensures same { ComesBack self.old.instance back (only_third once.old) group.now self.new.instance }
         ensures shared { IsSamePiece once.old once.new }
         ensures once { SameOnce self.new.instance.table (only_third once.old) (only_third once.new) }
-        ensures fits { Fits self.new.instance.table self.new.instance.own (only_third once.new) group.now }
-        ensures keeps { (w : Option ℤ) (h : History) → IdleKeeps M.law (with_back self.old.instance back) w (only_third once.old) h
-            → IdleKeeps M.law self.new.instance w (only_third once.new) h }
+        ensures fits { FitsIn self.new.instance (only_third once.new) group.now }
+        ensures keeps { StaysIdle M.law (with_back self.old.instance back) (only_third once.old) self.new.instance (only_third once.new) }
     {
         let instance = &mut self.instance;
         restore(&mut instance.own, back);

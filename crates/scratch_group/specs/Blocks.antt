@@ -1,10 +1,12 @@
 -- The blocks of a group, one per space, and its active member.
-use Rattle.std.specs.Prelude.{ℕ, ℤ, ◌≡◌, ◌≢◌, Bool, false, ◌&&◌, ◌||◌, nat_le, nat_eq, max, length, replicate, Option, Some, None, if◌then◌else◌}
+use Rattle.std.specs.Prelude.{ℕ, ℤ, ◌≡◌, ◌≢◌, Bool, false, ◌&&◌, ◌||◌, nat_le, nat_eq, max, List, length, replicate, Option, Some, None, if◌then◌else◌}
+use Rattle.mem_rec.specs.declared.MemRec.{MemRec}
 use Rattle.mem_rec.specs.declared.Space.{Space}
 use Rattle.mem_rec.specs.declared.Space.TheVariants.{Daram, Saram, External}
 use Rattle.record_loans.specs.declared.block.ScratchBlock.{ScratchBlock}
 use Rattle.scratch_group.specs.declared.group.Need.{Need}
 use Rattle.scratch_group.specs.declared.group.Group.{Group}
+use Rattle.mem_rec.specs.Layout.{scratch_need, scratch_align}
 use Rattle.ialg.specs.Records.{ArePoison}
 use Rattle.record_loans.specs.Blocks.{block_words, block_align, IsSameBlock}
 
@@ -28,6 +30,10 @@ serves (Some b) need align = nat_le need (length b.piece.words) && nat_le align 
 abbrev pub block_needed : Option ScratchBlock → ℕ → ℕ → Option Need
 block_needed b need align = if nat_eq need 0 || serves b need align then None
     else Some (record { size = max (length (block_words b)) need; align = max (block_align b) align })
+
+-- the block that a group has to be given in a space for a table
+abbrev pub block_to_place : Group → List MemRec → Space → Option Need
+block_to_place g rs space = block_needed (block_in g space) (scratch_need rs space) (scratch_align rs space)
 
 -- a block with each word this one
 abbrev pub filled : ℤ → Option ScratchBlock → Option ScratchBlock

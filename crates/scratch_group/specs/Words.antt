@@ -57,6 +57,16 @@ idle_record_words rs own shared k = lasting_words_by (record_at rs k).attr (reco
 abbrev pub idle_words : List MemRec → Pieces → Pieces → List (List ℤ)
 idle_words rs own shared = idle_record_words rs own shared 0 ∷ idle_record_words rs own shared 1 ∷ idle_record_words rs own shared 2 ∷ idle_record_words rs own shared 3 ∷ []
 
+-- a step did what `done` says with the records of an idle instance, which had these pieces before and these after it
+abbrev pub DoneIdle : {O : Type 0} → (List MemRec → Bool → List (List ℤ) → List (List ℤ) → O → O → Type 0)
+    → List MemRec → Bool → Pieces → Pieces → Pieces → Pieces → O → O → Type 0
+DoneIdle done rs writable own shared own' shared' out given = done rs writable (idle_words rs own shared) (idle_words rs own' shared') out given
+
+-- a step did what `done` says with the records of an active instance, where these are its pieces and its group before and after it
+abbrev pub DoneActive : {O : Type 0} → (List MemRec → Bool → List (List ℤ) → List (List ℤ) → O → O → Type 0)
+    → List MemRec → Bool → Pieces → Pieces → Group → Pieces → Pieces → Group → O → O → Type 0
+DoneActive done rs writable own shared g own' shared' g' out given = done rs writable (active_words rs own shared g) (active_words rs own' shared' g') out given
+
 -- where a record begins: in its block at the offset, or where its piece begins
 abbrev pub place_by : Attr → ℕ → ℕ → ℕ → ℕ
 place_by Scratch own shared block = block

@@ -1,11 +1,10 @@
 //! The scratch memory of a group.
 ghost use Rattle.std.specs.Prelude.{◌≡◌, ◌<◌, ◌+◌, length, Option, Some, None, false, IsTrue};
-ghost use Rattle.mem_rec.specs.Layout.{scratch_need, scratch_align};
 ghost use Rattle.record_loans.specs.Blocks.{block_piece, block_words};
-ghost use Rattle.scratch_group.specs.Blocks.{block_in, block_spot, block_needed, filled, BlocksArePoison, SameBut, SameGroup};
+ghost use Rattle.scratch_group.specs.Blocks.{block_in, block_spot, block_to_place, filled, BlocksArePoison, SameBut, SameGroup};
 ghost use Rattle.host_map.specs.Activity.{count_after};
 ghost use Rattle.record_loans.specs.Pieces.{only_second, piece_place, IsInSpace, IsSamePiece, SamePieces};
-ghost use Rattle.scratch_group.specs.Words.{active_words, HasWords};
+ghost use Rattle.scratch_group.specs.Words.{DoneActive, HasWords};
 ghost use Rattle.scratch_group.specs.Readers.{IsOfReader};
 ghost use Rattle.mem_rec.specs.Records.{is_table};
 
@@ -66,7 +65,7 @@ impl Group {
     /// The block that has to be placed in a space before an instance with this table is created: None where the table has no scratch
     /// records there, or the block that stands there is large and aligned enough.
     pub fn need(&self, table: &MemTab, space: Space) -> Option<Need>
-        ensures { result ≡ block_needed (block_in self.now space) (scratch_need table.now space) (scratch_align table.now space) }
+        ensures { result ≡ block_to_place self.now table.now space }
     {
         let Layout {
             offsets: _,
@@ -197,7 +196,7 @@ impl Group {
     )
         requires can { S.can step.now out.old }
         requires sizes { HasWords table.now own.old shared.old self.old }
-        ensures done { S.done step.now table.now false (active_words table.now own.old shared.old self.old) (active_words table.now own.new shared.new self.new) out.old out.new }
+        ensures done { DoneActive (S.done step.now) table.now false own.old shared.old self.old own.new shared.new self.new out.old out.new }
         ensures own { SamePieces own.old own.new }
         ensures shared { SamePieces shared.old shared.new }
         ensures group { SameGroup self.old self.new }
@@ -242,7 +241,7 @@ impl Group {
         requires table { IsTrue (is_table table.now) }
         requires reader { IsOfReader table.now sizes }
         requires sizes { HasWords table.now own.old (only_second once.old) self.now }
-        ensures done { S.done step.now table.now false (active_words table.now own.old (only_second once.old) self.now) (active_words table.now own.new (only_second once.new) self.now) out.old out.new }
+        ensures done { DoneActive (S.done step.now) table.now false own.old (only_second once.old) self.now own.new (only_second once.new) self.now out.old out.new }
         ensures own { SamePieces own.old own.new }
         ensures once { IsSamePiece once.old once.new }
     {
@@ -266,8 +265,8 @@ impl Group {
     )
         requires can { S.can loan.now.step.now out.old }
         requires sizes { HasWords loan.now.table.now own.old shared.old self.old }
-        ensures done { S.done loan.now.step.now loan.now.table.now loan.now.writable
-            (active_words loan.now.table.now own.old shared.old self.old) (active_words loan.now.table.now own.new shared.new self.new) out.old out.new }
+        ensures done { DoneActive (S.done loan.now.step.now) loan.now.table.now loan.now.writable
+            own.old shared.old self.old own.new shared.new self.new out.old out.new }
         ensures own { SamePieces own.old own.new }
         ensures shared { SamePieces shared.old shared.new }
         ensures group { SameGroup self.old self.new }

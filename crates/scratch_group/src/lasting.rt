@@ -1,10 +1,11 @@
 //! The records that last are lent to idle instances.
-ghost use Rattle.std.specs.Prelude.{◌≡◌, ◌≤◌, [], ◌∷◌, length, take, false, IsTrue};
+ghost use Rattle.std.specs.Prelude.{◌≡◌, ◌≤◌, length, false, IsTrue};
 ghost use Rattle.mem_rec.specs.Records.{is_table};
 ghost use Rattle.record_loans.specs.Pieces.{no_pieces, only_third, piece_words, IsSamePiece, SamePieces};
-ghost use Rattle.scratch_group.specs.Filters.{IsOfFilter};
-ghost use Rattle.scratch_group.specs.Sharing.{IsOfSharingFilter};
-ghost use Rattle.scratch_group.specs.Words.{idle_words, HasPieces};
+ghost use Rattle.scratch_group.specs.Filters.{idle_filter_words, IsOfFilter};
+ghost use Rattle.scratch_group.specs.Sharing.{idle_sharing_words, IsOfSharingFilter};
+ghost use Rattle.scratch_group.specs.Words.{DoneIdle, HasPieces};
+ghost use Rattle.record_loans.specs.Performed.{Performed};
 
 use crate::plan::{filter_sizes, idle_plan, reader_sizes, sharing_sizes};
 use ialg::{Lending, Step, lend};
@@ -27,7 +28,7 @@ pub fn lend_lasting<O, S: Step<O>>(
 )
     requires can { S.can step.now out.old }
     requires sizes { HasPieces table.now own.old shared.old }
-    ensures done { S.done step.now table.now writable (idle_words table.now own.old shared.old) (idle_words table.now own.new shared.new) out.old out.new }
+    ensures done { DoneIdle (S.done step.now) table.now writable own.old shared.old own.new shared.new out.old out.new }
     ensures own { SamePieces own.old own.new }
     ensures shared { SamePieces shared.old shared.new }
 {
@@ -63,7 +64,7 @@ pub fn lend_lasting_filter<O, S: Step<O>>(
     requires table { IsTrue (is_table table.now) }
     requires filter { IsOfFilter table.now sizes }
     requires sizes { HasPieces table.now own.old no_pieces }
-    ensures done { S.done step.now table.now false (idle_words table.now own.old no_pieces) (idle_words table.now own.new no_pieces) out.old out.new }
+    ensures done { DoneIdle (S.done step.now) table.now false own.old no_pieces own.new no_pieces out.old out.new }
     ensures own { SamePieces own.old own.new }
 {
     // a filter has no write-once record
@@ -90,8 +91,8 @@ pub fn lend_lasting_sharing<O, S: Step<O>>(
     requires table { IsTrue (is_table table.now) }
     requires sharing { IsOfSharingFilter table.now sizes }
     requires sizes { HasPieces table.now own.old (only_third once.old) }
-    ensures done { S.done step.now table.now false
-        (idle_words table.now own.old (only_third once.old)) (idle_words table.now own.new (only_third once.new)) out.old out.new }
+    ensures done { DoneIdle (S.done step.now) table.now false
+        own.old (only_third once.old) own.new (only_third once.new) out.old out.new }
     ensures own { SamePieces own.old own.new }
     ensures once { IsSamePiece once.old once.new }
 {
@@ -115,8 +116,8 @@ fn lend_lasting_by_plan<O, S: Step<O>>(
 )
     requires can { S.can loan.now.step.now out.old }
     requires sizes { HasPieces loan.now.table.now own.old shared.old }
-    ensures done { S.done loan.now.step.now loan.now.table.now loan.now.writable
-        (idle_words loan.now.table.now own.old shared.old) (idle_words loan.now.table.now own.new shared.new) out.old out.new }
+    ensures done { DoneIdle (S.done loan.now.step.now) loan.now.table.now loan.now.writable
+        own.old shared.old own.new shared.new out.old out.new }
     ensures own { SamePieces own.old own.new }
     ensures shared { SamePieces shared.old shared.new }
 {
@@ -140,9 +141,7 @@ fn lend_filter_at_rest<O, S: Step<O>>(
     requires object { sizes.object ≤ length (piece_words own.old.p0) }
     requires kept { sizes.kept ≤ length (piece_words own.old.p1) }
     requires some { 1 ≤ sizes.object × 1 ≤ sizes.kept }
-    ensures done { S.done loan.now.step.now loan.now.table.now loan.now.writable
-        (take sizes.object (piece_words own.old.p0) ∷ take sizes.kept (piece_words own.old.p1) ∷ [] ∷ [] ∷ [])
-        (take sizes.object (piece_words own.new.p0) ∷ take sizes.kept (piece_words own.new.p1) ∷ [] ∷ [] ∷ []) out.old out.new }
+    ensures done { Performed S.done loan.now (idle_filter_words sizes own.old) (idle_filter_words sizes own.new) out.old out.new }
     ensures own { SamePieces own.old own.new }
 {
     match &mut own.p0 {
@@ -173,9 +172,7 @@ fn lend_sharing_filter_at_rest<O, S: Step<O>>(
     requires kept { sizes.kept ≤ length (piece_words own.old.p1) }
     requires constants { sizes.constants ≤ length (piece_words once.old) }
     requires some { 1 ≤ sizes.object × 1 ≤ sizes.kept × 1 ≤ sizes.constants }
-    ensures done { S.done loan.now.step.now loan.now.table.now loan.now.writable
-        (take sizes.object (piece_words own.old.p0) ∷ take sizes.kept (piece_words own.old.p1) ∷ take sizes.constants (piece_words once.old) ∷ [] ∷ [])
-        (take sizes.object (piece_words own.new.p0) ∷ take sizes.kept (piece_words own.new.p1) ∷ take sizes.constants (piece_words once.new) ∷ [] ∷ []) out.old out.new }
+    ensures done { Performed S.done loan.now (idle_sharing_words sizes own.old once.old) (idle_sharing_words sizes own.new once.new) out.old out.new }
     ensures own { SamePieces own.old own.new }
     ensures once { IsSamePiece once.old once.new }
 {

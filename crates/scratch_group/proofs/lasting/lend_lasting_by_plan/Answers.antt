@@ -1,3 +1,4 @@
+use Rattle.scratch_group.specs.Words.{DoneIdle}
 use Rattle.scratch_group.proofs.Cutting.{idle_lent, idle_fits}
 use Rattle.scratch_group.proofs.lasting.lend_lasting_by_plan.Goals as goal
 
@@ -13,4 +14,4 @@ returns-clause-done g c =
     let valid = c.idle_plan-plan.ensures.table in
     let before = idle_lent c.args.loan.now.table.now plan c.args.own.now c.args.shared.now value valid in
     let after = idle_lent c.args.loan.now.table.now plan c.lend_without_blocks.new.own c.lend_without_blocks.new.shared value valid in
-    rw (← before, ← after) c.lend_without_blocks.ensures.done
+    rw (← before, ← after, DoneIdle) c.lend_without_blocks.ensures.done

@@ -1,4 +1,5 @@
 use Rattle.scratch_group.specs.declared.group.Group.{Group}
+use Rattle.scratch_group.specs.Words.{DoneActive}
 use Rattle.scratch_group.proofs.Cutting.{active_lent, active_fits}
 use Rattle.scratch_group.proofs.group.Group.lend_by_plan.Goals as goal
 
@@ -15,4 +16,4 @@ returns-clause-done g c =
     let valid = c.active_plan-plan.ensures.table in
     let before = active_lent c.args.loan.now.table.now plan c.args.own.now c.args.shared.now c.args.self.now value valid in
     let after = active_lent c.args.loan.now.table.now plan c.lend_with_blocks.new.own c.lend_with_blocks.new.shared new value valid in
-    rw (← before, ← after) c.lend_with_blocks.ensures.done
+    rw (← before, ← after, DoneActive) c.lend_with_blocks.ensures.done
