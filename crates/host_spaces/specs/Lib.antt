@@ -3,3 +3,5 @@ pub mod Pieces
 pub mod Wants
 pub mod Blocks
 pub mod Spaces
+pub mod Changes
+pub mod MapChanges

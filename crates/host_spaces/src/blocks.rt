@@ -1,18 +1,19 @@
 //! One space.
-ghost use Rattle.std.specs.Prelude.{◌≡◌, ◌≢◌, ℕ, ◌+◌, ◌-◌, ◌<◌, ◌≤◌, ◌^◌, [], ◌∷◌, length, min, Some, None, IsSome, Contains, slice_index_or, IfOk, IfErr, IfSome, IfNone, IsErrOf};
+ghost use Rattle.std.specs.Prelude.{◌≡◌, ◌≢◌, ℕ, ◌+◌, ◌-◌, ◌<◌, ◌≤◌, ◌^◌, [], length, min, Some, None, IsSome, Contains, slice_index_or, IfOk, IfErr, IfNone, IsErrOf};
 ghost use Rattle.std.specs.Option.{option_map};
 ghost use Rattle.std.specs.Vec.{vec_capacity};
-ghost use Rattle.relocate.specs.Places.{least_place, placed_size, IsAlignment, IsSpaceSize};
+ghost use Rattle.relocate.specs.Places.{IsAlignment, IsSpaceSize};
 ghost use Rattle.space_heap.specs.Maps.{range_of};
 ghost use Rattle.relocate.specs.declared.limits.TheConstants.{GREATEST_NEED};
 ghost use Rattle.host_map.specs.declared.TheConstants.{MAP_BLOCKS, SPACE_BLOCKS};
 ghost use Rattle.host_map.specs.declared.placed.Owner.{Owner};
 ghost use Rattle.host_map.specs.declared.placed.Placed.{Placed};
-ghost use Rattle.host_map.specs.Blocks.{AreSingle, IsOwner, block_range, disowned, owned, ranges, renamed_block, renamed_blocks, renaming, with_block, without_at};
-ghost use Rattle.host_spaces.specs.Blocks.{Owns, block_of};
+ghost use Rattle.host_map.specs.Blocks.{AreSingle, IsOwner, block_range, owned, renamed_block, renamed_blocks, renaming, with_block, without_at};
+ghost use Rattle.host_spaces.specs.Blocks.{Owns};
 ghost use Rattle.host_map.specs.Moves.{moved, moved_to, next_block, next_in, spots_of};
 ghost use Rattle.relocate.specs.Spots.{AreSpots};
 ghost use Rattle.host_spaces.specs.Spaces.{AreInOrder, HasFront};
+ghost use Rattle.host_spaces.specs.Changes.{GoesOnAs, IsAdded, IsAllThatIsNew, IsAtLeastPlace, IsOwned, IsPieceOf, LeavesItsOwner, OthersStay, OthersStayBeside};
 
 use arrayvec::ArrayVec;
 use host_map::{MAP_BLOCKS, Map, Owner, Placed, SPACE_BLOCKS};
@@ -81,12 +82,12 @@ impl SpaceBlocks {
         requires words { (0 < words) × (words ≤ GREATEST_NEED) }
         requires align { IsAlignment align }
         requires room { length self.old.blocks < SPACE_BLOCKS }
-        ensures place { option_map (λ p. p.place) result ≡ least_place self.old.region.size (ranges self.old.blocks) (placed_size words) align }
-        ensures piece { IfSome result (λ p. (p.region ≡ self.old.region) × (length p.words ≡ placed_size words)) }
-        ensures blocks { IfSome result (λ p. self.new.blocks ≡ with_block (block_of owner align p) self.old.blocks) }
-        ensures owned { IfSome result (λ p. owned owner self.new.blocks ≡ with_block (block_of owner align p) (owned owner self.old.blocks)) }
-        ensures others { (o : Owner) → o ≢ owner → owned o self.new.blocks ≡ owned o self.old.blocks }
-        ensures back { IfSome result (λ p. without_at p.place self.new.blocks ≡ self.old.blocks) }
+        ensures place { IsAtLeastPlace result self.old words align }
+        ensures piece { IsPieceOf result self.old words }
+        ensures blocks { IsAdded result owner align self.old.blocks self.new.blocks }
+        ensures owned { IsOwned result owner align self.old.blocks self.new.blocks }
+        ensures others { OthersStay owner self.old.blocks self.new.blocks }
+        ensures back { IsAllThatIsNew result self.old.blocks self.new.blocks }
         ensures none { IfNone result (self.new ≡ self.old) }
         ensures stays { (self.new.region ≡ self.old.region) × (self.new.slid ≡ self.old.slid) }
     {
@@ -106,8 +107,8 @@ impl SpaceBlocks {
         requires region { piece.region ≡ self.old.region }
         requires owner { (owner : Owner) × Owns self.old.blocks owner piece }
         ensures blocks { self.new.blocks ≡ without_at piece.place self.old.blocks }
-        ensures only { (owner : Owner) (align : ℕ) → owned owner self.old.blocks ≡ block_of owner align piece ∷ [] → self.new.blocks ≡ disowned owner self.old.blocks }
-        ensures others { (owner o : Owner) → Owns self.old.blocks owner piece → o ≢ owner → owned o self.new.blocks ≡ owned o self.old.blocks }
+        ensures only { LeavesItsOwner piece self.old.blocks self.new.blocks }
+        ensures others { OthersStayBeside piece self.old.blocks self.new.blocks }
         ensures stays { (self.new.region ≡ self.old.region) × (self.new.slid ≡ self.old.slid) }
     {
         let index = position(self.blocks.as_slice(), piece.place());
@@ -154,8 +155,8 @@ impl SpaceBlocks {
         ensures blocks { self.new.blocks ≡ moved self.old.blocks }
         ensures place { option_map (λ m. m.to) (next_in self.old.blocks) ≡ Some result.place }
         ensures words { (result.words ≡ piece.words) × (result.region ≡ piece.region) }
-        ensures owned { (owner : Owner) (align : ℕ) → owned owner self.old.blocks ≡ block_of owner align piece ∷ [] → owned owner self.new.blocks ≡ block_of owner align result ∷ [] }
-        ensures others { (owner o : Owner) → Owns self.old.blocks owner piece → o ≢ owner → owned o self.new.blocks ≡ owned o self.old.blocks }
+        ensures owned { GoesOnAs piece result self.old.blocks self.new.blocks }
+        ensures others { OthersStayBeside piece self.old.blocks self.new.blocks }
         ensures slid { self.new.slid ≡ min (self.old.slid + length piece.words) (2 ^ 64 - 1) }
         ensures stays { self.new.region ≡ self.old.region }
     {

@@ -1,9 +1,8 @@
 //! Places for all that a new instance needs.
-ghost use Rattle.std.specs.Prelude.{◌≡◌, ◌≢◌, ℕ, ◌+◌, ◌<◌, [], length, IfOk, OnOk, OnErr};
+ghost use Rattle.std.specs.Prelude.{◌≡◌, ℕ, ◌+◌, ◌<◌, [], length, IfOk, OnOk, OnErr};
 ghost use Rattle.mem_rec.specs.declared.Space.{Space};
 ghost use Rattle.mem_rec.specs.declared.TheConstants.{TABLE_RECORDS};
 ghost use Rattle.host_map.specs.declared.TheConstants.{SPACE_BLOCKS};
-ghost use Rattle.host_map.specs.declared.placed.Owner.{Owner};
 ghost use Rattle.host_map.specs.declared.placed.Owner.TheVariants.{Record, Scratch};
 ghost use Rattle.host_map.specs.Blocks.{owned};
 ghost use Rattle.host_spaces.specs.MemoryMap.{AreSameSpaces, map_of, sizes_of, space_in};
@@ -11,6 +10,7 @@ ghost use Rattle.host_map.specs.MemoryMap.{blocks_in};
 ghost use Rattle.host_map.specs.Creation.{all_placed, result_map, sharer_at, wanted_by};
 ghost use Rattle.host_spaces.specs.Pieces.{ArePlacedPieces, AreSharable, HasBlocks, HasRecords, IsNeeded, IsPoisoned, new_block, with_new};
 ghost use Rattle.host_spaces.specs.Wants.{block_need};
+ghost use Rattle.host_spaces.specs.MapChanges.{AllButTheseStay};
 
 use crate::granted::Granted;
 use crate::pieces::{Placement, as_placement};
@@ -43,8 +43,7 @@ impl Spaces {
         ensures needed { IfOk result (λ made. (space : Space) → IsNeeded (space_in self.old space).region (block_need table.now old.now space) (new_block made.blocks space)) }
         ensures blocks { IfOk result (λ made. (space : Space) → owned (Scratch g) (blocks_in (map_of self.new) space)
             ≡ with_new g (new_block made.blocks space) (owned (Scratch g) (blocks_in (map_of self.old) space))) }
-        ensures others { OnOk result ((o : Owner) (space : Space) → o ≢ Scratch g → ((k : ℕ) → o ≢ Record i k)
-            → owned o (blocks_in (map_of self.new) space) ≡ owned o (blocks_in (map_of self.old) space)) }
+        ensures others { OnOk result (AllButTheseStay g i (map_of self.old) (map_of self.new)) }
         ensures poison { IfOk result (IsPoisoned poison) }
         ensures refused { OnErr result (self.new ≡ self.old) }
         ensures stays { AreSameSpaces self.old self.new }

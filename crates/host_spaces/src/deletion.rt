@@ -1,17 +1,19 @@
 //! Blocks that go back.
-ghost use Rattle.std.specs.Prelude.{◌≡◌, ◌≢◌, ◌<◌, ℕ, None, IfSome, IsSome, slice_index_or};
+ghost use Rattle.std.specs.Prelude.{◌≡◌, ◌<◌, ℕ, None, IfSome, IsSome, slice_index_or};
 ghost use Rattle.std.specs.Option.{option_or};
 ghost use Rattle.mem_rec.specs.declared.Space.{Space};
 ghost use Rattle.mem_rec.specs.declared.Space.TheVariants.{Daram};
 ghost use Rattle.mem_rec.specs.declared.TheConstants.{TABLE_RECORDS};
 ghost use Rattle.host_map.specs.declared.placed.Owner.{Owner};
-ghost use Rattle.host_map.specs.declared.placed.Owner.TheVariants.{Record, Scratch};
+ghost use Rattle.host_map.specs.declared.placed.Owner.TheVariants.{Scratch};
 ghost use Rattle.host_spaces.specs.Blocks.{Owns, block_of_piece, without_piece};
-ghost use Rattle.host_map.specs.Blocks.{disowned, owned};
+ghost use Rattle.host_map.specs.Blocks.{owned};
 ghost use Rattle.ialg.specs.Records.{record_at};
 ghost use Rattle.host_spaces.specs.MemoryMap.{AreSameSpaces, map_of, space_in};
 ghost use Rattle.host_map.specs.MemoryMap.{blocks_in, is_group's, is_instance's, without_owners};
 ghost use Rattle.host_spaces.specs.Pieces.{AreRecordsOf, old_piece, spaces_of, without_pieces};
+ghost use Rattle.host_spaces.specs.Changes.{LeavesAnyOwner, OthersStayBesideAny};
+ghost use Rattle.host_spaces.specs.MapChanges.{AllButGroupStay, AllButInstanceStay, OtherSpacesStay};
 
 use crate::pieces::OldBlocks;
 use crate::spaces::Spaces;
@@ -25,11 +27,9 @@ impl Spaces {
         requires region { IfSome piece (λ p. p.region ≡ (space_in self.old space).region) }
         requires owner { IfSome piece (λ p. (owner : Owner) × Owns (space_in self.old space).blocks owner p) }
         ensures blocks { (space_in self.new space).blocks ≡ without_piece piece (space_in self.old space).blocks }
-        ensures only { (owner : Owner) (align : ℕ) → owned owner (space_in self.old space).blocks ≡ block_of_piece owner align piece
-            → (space_in self.new space).blocks ≡ disowned owner (space_in self.old space).blocks }
-        ensures others { (owner o : Owner) → IfSome piece (Owns (space_in self.old space).blocks owner) → o ≢ owner
-            → owned o (space_in self.new space).blocks ≡ owned o (space_in self.old space).blocks }
-        ensures elsewhere { (other : Space) → other ≢ space → space_in self.new other ≡ space_in self.old other }
+        ensures only { LeavesAnyOwner piece (space_in self.old space).blocks (space_in self.new space).blocks }
+        ensures others { OthersStayBesideAny piece (space_in self.old space).blocks (space_in self.new space).blocks }
+        ensures elsewhere { OtherSpacesStay space self.old self.new }
         ensures stays { AreSameSpaces self.old self.new }
     {
         match piece {
@@ -45,7 +45,7 @@ impl Spaces {
         ensures map { map_of self.new ≡ without_pieces (map_of self.old) pieces }
         ensures last { (align : Space → ℕ) → ((space : Space) → owned (Scratch g) (blocks_in (map_of self.old) space) ≡ block_of_piece (Scratch g) (align space) (old_piece pieces space))
             → map_of self.new ≡ without_owners (is_group's g) (map_of self.old) }
-        ensures others { (o : Owner) (space : Space) → o ≢ Scratch g → owned o (blocks_in (map_of self.new) space) ≡ owned o (blocks_in (map_of self.old) space) }
+        ensures others { AllButGroupStay g (map_of self.old) (map_of self.new) }
         ensures stays { AreSameSpaces self.old self.new }
     {
         let OldBlocks {
@@ -68,7 +68,7 @@ impl Spaces {
     )
         requires leaving { AreRecordsOf self.old i spaces.now own shared }
         ensures map { map_of self.new ≡ without_owners (is_instance's i) (map_of self.old) }
-        ensures others { (o : Owner) (space : Space) → ((k : ℕ) → o ≢ Record i k) → owned o (blocks_in (map_of self.new) space) ≡ owned o (blocks_in (map_of self.old) space) }
+        ensures others { AllButInstanceStay i (map_of self.old) (map_of self.new) }
         ensures stays { AreSameSpaces self.old self.new }
     {
         let Pieces { p0, p1, p2, p3 } = own;

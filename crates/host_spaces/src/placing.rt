@@ -1,18 +1,15 @@
 //! Places for all that is needed, or for nothing.
-ghost use Rattle.std.specs.Prelude.{◌≡◌, ◌≢◌, ℕ, ◌+◌, ◌<◌, ◌≤◌, length, drop, Some, None, IsSome, IfSome, IfNone, OnOk, OnErr};
-ghost use Rattle.std.specs.Option.{option_map};
+ghost use Rattle.std.specs.Prelude.{◌≡◌, ℕ, ◌+◌, ◌<◌, ◌≤◌, length, drop, Some, None, IsSome, IfSome, IfNone, OnOk, OnErr};
 ghost use Rattle.mem_rec.specs.declared.Space.{Space};
-ghost use Rattle.relocate.specs.Places.{least_place, placed_size};
 ghost use Rattle.ialg.specs.Records.{ArePoison};
 ghost use Rattle.host_map.specs.declared.TheConstants.{SPACE_BLOCKS};
-ghost use Rattle.host_map.specs.declared.placed.Owner.{Owner};
-ghost use Rattle.host_spaces.specs.Blocks.{block_of};
-ghost use Rattle.host_map.specs.Blocks.{owned, ranges, with_block, without_at};
 ghost use Rattle.host_spaces.specs.declared.wants.TheConstants.{WANTS};
 ghost use Rattle.host_map.specs.declared.parts.Wanted.{Wanted};
 ghost use Rattle.host_spaces.specs.MemoryMap.{AreSameSpaces, map_of, sizes_of, space_in};
 ghost use Rattle.host_map.specs.Creation.{all_placed, result_map};
 ghost use Rattle.host_spaces.specs.Wants.{AreApartWants, IsGranted, IsWithinLimits, count_in, none_granted, somes, want_at};
+ghost use Rattle.host_spaces.specs.Changes.{IsAdded, IsAllThatIsNew, IsAtLeastPlace, IsOwned, IsPieceOf, OthersStay};
+ghost use Rattle.host_spaces.specs.MapChanges.{OtherSpacesStay, blocks_for, space_for};
 
 use crate::granted::Granted;
 use crate::spaces::Spaces;
@@ -24,13 +21,13 @@ use space_raw::Piece;
 fn place_filled(spaces: &mut Spaces, want: Wanted, poison: Option<i16>) -> Option<Piece>
     requires limits { IsWithinLimits want }
     requires room { length (space_in spaces.old want.space).blocks < SPACE_BLOCKS }
-    ensures place { option_map (λ p. p.place) result ≡ least_place (space_in spaces.old want.space).region.size (ranges (space_in spaces.old want.space).blocks) (placed_size want.size) want.align }
-    ensures piece { IfSome result (λ p. (p.region ≡ (space_in spaces.old want.space).region) × (length p.words ≡ placed_size want.size)) }
-    ensures blocks { IfSome result (λ p. (space_in spaces.new want.space).blocks ≡ with_block (block_of want.owner want.align p) (space_in spaces.old want.space).blocks) }
-    ensures owned { IfSome result (λ p. owned want.owner (space_in spaces.new want.space).blocks ≡ with_block (block_of want.owner want.align p) (owned want.owner (space_in spaces.old want.space).blocks)) }
-    ensures others { (o : Owner) → o ≢ want.owner → owned o (space_in spaces.new want.space).blocks ≡ owned o (space_in spaces.old want.space).blocks }
-    ensures elsewhere { (other : Space) → other ≢ want.space → space_in spaces.new other ≡ space_in spaces.old other }
-    ensures back { IfSome result (λ p. without_at p.place (space_in spaces.new want.space).blocks ≡ (space_in spaces.old want.space).blocks) }
+    ensures place { IsAtLeastPlace result (space_for want spaces.old) want.size want.align }
+    ensures piece { IsPieceOf result (space_for want spaces.old) want.size }
+    ensures blocks { IsAdded result want.owner want.align (blocks_for want spaces.old) (blocks_for want spaces.new) }
+    ensures owned { IsOwned result want.owner want.align (blocks_for want spaces.old) (blocks_for want spaces.new) }
+    ensures others { OthersStay want.owner (blocks_for want spaces.old) (blocks_for want spaces.new) }
+    ensures elsewhere { OtherSpacesStay want.space spaces.old spaces.new }
+    ensures back { IsAllThatIsNew result (blocks_for want spaces.old) (blocks_for want spaces.new) }
     ensures poison { IfSome result (λ p. ArePoison poison p.words) }
     ensures none { IfNone result (spaces.new ≡ spaces.old) }
     ensures stays { AreSameSpaces spaces.old spaces.new }

@@ -1,12 +1,12 @@
 //! Blocks of records that several instances share.
-ghost use Rattle.std.specs.Prelude.{◌≡◌, ◌≢◌, ◌<◌, ℕ, Some, []};
-ghost use Rattle.mem_rec.specs.declared.Space.{Space};
+ghost use Rattle.std.specs.Prelude.{◌≡◌, Some};
 ghost use Rattle.host_map.specs.declared.placed.Owner.{Owner};
 ghost use Rattle.host_map.specs.declared.placed.Owner.TheVariants.{Record};
-ghost use Rattle.host_map.specs.Blocks.{owned, renamed_blocks, renaming};
+ghost use Rattle.host_map.specs.Blocks.{renaming};
 ghost use Rattle.host_spaces.specs.MemoryMap.{AreSameSpaces, map_of};
-ghost use Rattle.host_map.specs.MemoryMap.{blocks_in, renamed};
+ghost use Rattle.host_map.specs.MemoryMap.{renamed};
 ghost use Rattle.host_map.specs.Creation.{handed_on, only, taken_over, sharer_at};
+ghost use Rattle.host_spaces.specs.MapChanges.{AllButHandedStay, AllButTakenStay, AreHanded, AreTaken, OwnerHasNone, SharersHaveNone};
 
 use crate::spaces::Spaces;
 use crate::wants::Sharers;
@@ -54,11 +54,9 @@ impl Spaces {
     /// `i` is less than the sharer, that block is `i`'s from now on.
     pub fn take_over(&mut self, i: u8, sharers: &Sharers)
         ensures map { map_of self.new ≡ renamed (taken_over (sharer_at sharers.now) i) (map_of self.old) }
-        ensures taken { (k sharer : ℕ) (space : Space) → sharer_at sharers.now k ≡ Some sharer → i < sharer → owned (Record i k) (blocks_in (map_of self.old) space) ≡ []
-            → owned (Record i k) (blocks_in (map_of self.new) space) ≡ renamed_blocks (λ _. Record i k) (owned (Record sharer k) (blocks_in (map_of self.old) space)) }
-        ensures left { (k sharer : ℕ) (space : Space) → sharer_at sharers.now k ≡ Some sharer → i < sharer → owned (Record sharer k) (blocks_in (map_of self.new) space) ≡ [] }
-        ensures others { (o : Owner) (space : Space) → ((k sharer : ℕ) → sharer_at sharers.now k ≡ Some sharer → i < sharer → (o ≢ Record i k) × (o ≢ Record sharer k))
-            → owned o (blocks_in (map_of self.new) space) ≡ owned o (blocks_in (map_of self.old) space) }
+        ensures taken { AreTaken (sharer_at sharers.now) i (map_of self.old) (map_of self.new) }
+        ensures left { SharersHaveNone (sharer_at sharers.now) i (map_of self.new) }
+        ensures others { AllButTakenStay (sharer_at sharers.now) i (map_of self.old) (map_of self.new) }
         ensures stays { AreSameSpaces self.old self.new }
     {
         for k in 0..TABLE_RECORDS {
@@ -69,11 +67,9 @@ impl Spaces {
     /// Instance `i` goes: what it shared is its sharer's from now on, the least of those that are left.
     pub fn hand_on(&mut self, i: u8, sharers: &Sharers)
         ensures map { map_of self.new ≡ renamed (handed_on (sharer_at sharers.now) i) (map_of self.old) }
-        ensures handed { (k sharer : ℕ) (space : Space) → sharer_at sharers.now k ≡ Some sharer → owned (Record sharer k) (blocks_in (map_of self.old) space) ≡ []
-            → owned (Record sharer k) (blocks_in (map_of self.new) space) ≡ renamed_blocks (λ _. Record sharer k) (owned (Record i k) (blocks_in (map_of self.old) space)) }
-        ensures left { (k sharer : ℕ) (space : Space) → sharer_at sharers.now k ≡ Some sharer → sharer ≢ i → owned (Record i k) (blocks_in (map_of self.new) space) ≡ [] }
-        ensures others { (o : Owner) (space : Space) → ((k sharer : ℕ) → sharer_at sharers.now k ≡ Some sharer → (o ≢ Record i k) × (o ≢ Record sharer k))
-            → owned o (blocks_in (map_of self.new) space) ≡ owned o (blocks_in (map_of self.old) space) }
+        ensures handed { AreHanded (sharer_at sharers.now) i (map_of self.old) (map_of self.new) }
+        ensures left { OwnerHasNone (sharer_at sharers.now) i (map_of self.new) }
+        ensures others { AllButHandedStay (sharer_at sharers.now) i (map_of self.old) (map_of self.new) }
         ensures stays { AreSameSpaces self.old self.new }
     {
         for k in 0..TABLE_RECORDS {

@@ -1,18 +1,19 @@
 //! The three spaces.
-ghost use Rattle.std.specs.Prelude.{◌≡◌, ◌≢◌, ℕ, ◌+◌, ◌-◌, ◌<◌, ◌≤◌, ◌^◌, [], ◌∷◌, length, min, Some, None, IsSome, IfOk, IfErr, IfSome, IfNone, IsErrOf};
+ghost use Rattle.std.specs.Prelude.{◌≡◌, ◌+◌, ◌-◌, ◌<◌, ◌≤◌, ◌^◌, length, min, Some, None, IsSome, IfOk, IfErr, IfNone, IsErrOf};
 ghost use Rattle.std.specs.Option.{option_map};
 ghost use Rattle.mem_rec.specs.declared.Space.{Space};
 ghost use Rattle.space_heap.specs.Maps.{range_of};
-ghost use Rattle.relocate.specs.Places.{least_place, placed_size};
 ghost use Rattle.host_map.specs.declared.TheConstants.{MAP_BLOCKS, SPACE_BLOCKS};
 ghost use Rattle.host_map.specs.declared.placed.Owner.{Owner};
-ghost use Rattle.host_spaces.specs.Blocks.{Owns, block_of};
-ghost use Rattle.host_map.specs.Blocks.{block_range, disowned, owned, ranges, with_block, without_at};
+ghost use Rattle.host_spaces.specs.Blocks.{Owns};
+ghost use Rattle.host_map.specs.Blocks.{block_range, without_at};
 ghost use Rattle.host_map.specs.Moves.{moved, next_block, next_in};
 ghost use Rattle.host_spaces.specs.Spaces.{AreInOrder, HasFront};
 ghost use Rattle.host_spaces.specs.MemoryMap.{AreSameSpaces, copied_in, map_of, sizes_of, space_in};
 ghost use Rattle.host_map.specs.MemoryMap.{AreSizes, blocks_in, empty_map, moved_in};
 ghost use Rattle.host_spaces.specs.Wants.{IsWithinLimits};
+ghost use Rattle.host_spaces.specs.Changes.{GoesOnAs, IsAdded, IsAllThatIsNew, IsAtLeastPlace, IsOwned, IsPieceOf, LeavesItsOwner, OthersStay, OthersStayBeside};
+ghost use Rattle.host_spaces.specs.MapChanges.{OtherSpacesStay, blocks_for, space_for};
 
 use crate::blocks::SpaceBlocks;
 use crate::start::{EmptySpaces, StartError};
@@ -106,11 +107,9 @@ impl Spaces {
         ensures map { map_of self.new ≡ moved_in (map_of self.old) space }
         ensures place { option_map (λ m. m.to) (next_in (blocks_in (map_of self.old) space)) ≡ Some result.place }
         ensures words { (result.words ≡ piece.words) × (result.region ≡ piece.region) }
-        ensures owned { (owner : Owner) (align : ℕ) → owned owner (blocks_in (map_of self.old) space) ≡ block_of owner align piece ∷ []
-            → owned owner (blocks_in (map_of self.new) space) ≡ block_of owner align result ∷ [] }
-        ensures others { (owner o : Owner) → Owns (blocks_in (map_of self.old) space) owner piece → o ≢ owner
-            → owned o (blocks_in (map_of self.new) space) ≡ owned o (blocks_in (map_of self.old) space) }
-        ensures elsewhere { (other : Space) → other ≢ space → space_in self.new other ≡ space_in self.old other }
+        ensures owned { GoesOnAs piece result (blocks_in (map_of self.old) space) (blocks_in (map_of self.new) space) }
+        ensures others { OthersStayBeside piece (blocks_in (map_of self.old) space) (blocks_in (map_of self.new) space) }
+        ensures elsewhere { OtherSpacesStay space self.old self.new }
         ensures copied { copied_in self.new ≡ min (copied_in self.old + length piece.words) (2 ^ 64 - 1) }
         ensures regions { (any : Space) → (space_in self.new any).region ≡ (space_in self.old any).region }
     {
@@ -125,13 +124,13 @@ impl Spaces {
     pub(crate) fn place(&mut self, want: Wanted) -> Option<Piece>
         requires limits { IsWithinLimits want }
         requires room { length (space_in self.old want.space).blocks < SPACE_BLOCKS }
-        ensures place { option_map (λ p. p.place) result ≡ least_place (space_in self.old want.space).region.size (ranges (space_in self.old want.space).blocks) (placed_size want.size) want.align }
-        ensures piece { IfSome result (λ p. (p.region ≡ (space_in self.old want.space).region) × (length p.words ≡ placed_size want.size)) }
-        ensures blocks { IfSome result (λ p. (space_in self.new want.space).blocks ≡ with_block (block_of want.owner want.align p) (space_in self.old want.space).blocks) }
-        ensures owned { IfSome result (λ p. owned want.owner (space_in self.new want.space).blocks ≡ with_block (block_of want.owner want.align p) (owned want.owner (space_in self.old want.space).blocks)) }
-        ensures others { (o : Owner) → o ≢ want.owner → owned o (space_in self.new want.space).blocks ≡ owned o (space_in self.old want.space).blocks }
-        ensures elsewhere { (other : Space) → other ≢ want.space → space_in self.new other ≡ space_in self.old other }
-        ensures back { IfSome result (λ p. without_at p.place (space_in self.new want.space).blocks ≡ (space_in self.old want.space).blocks) }
+        ensures place { IsAtLeastPlace result (space_for want self.old) want.size want.align }
+        ensures piece { IsPieceOf result (space_for want self.old) want.size }
+        ensures blocks { IsAdded result want.owner want.align (blocks_for want self.old) (blocks_for want self.new) }
+        ensures owned { IsOwned result want.owner want.align (blocks_for want self.old) (blocks_for want self.new) }
+        ensures others { OthersStay want.owner (blocks_for want self.old) (blocks_for want self.new) }
+        ensures elsewhere { OtherSpacesStay want.space self.old self.new }
+        ensures back { IsAllThatIsNew result (blocks_for want self.old) (blocks_for want self.new) }
         ensures none { IfNone result (self.new ≡ self.old) }
         ensures stays { AreSameSpaces self.old self.new }
     {
@@ -147,11 +146,9 @@ impl Spaces {
         requires region { piece.region ≡ (space_in self.old space).region }
         requires owner { (owner : Owner) × Owns (space_in self.old space).blocks owner piece }
         ensures blocks { (space_in self.new space).blocks ≡ without_at piece.place (space_in self.old space).blocks }
-        ensures only { (owner : Owner) (align : ℕ) → owned owner (space_in self.old space).blocks ≡ block_of owner align piece ∷ []
-            → (space_in self.new space).blocks ≡ disowned owner (space_in self.old space).blocks }
-        ensures others { (owner o : Owner) → Owns (space_in self.old space).blocks owner piece → o ≢ owner
-            → owned o (space_in self.new space).blocks ≡ owned o (space_in self.old space).blocks }
-        ensures elsewhere { (other : Space) → other ≢ space → space_in self.new other ≡ space_in self.old other }
+        ensures only { LeavesItsOwner piece (space_in self.old space).blocks (space_in self.new space).blocks }
+        ensures others { OthersStayBeside piece (space_in self.old space).blocks (space_in self.new space).blocks }
+        ensures elsewhere { OtherSpacesStay space self.old self.new }
         ensures stays { AreSameSpaces self.old self.new }
     {
         match space {
