@@ -5,3 +5,6 @@ pub mod Answers
 pub mod Laws
 pub mod Cuts
 pub mod Agreement
+pub mod CutLaws
+pub mod CallLaws
+pub mod OutcomeLaws
