@@ -7,3 +7,6 @@ pub mod Lines
 pub mod Room
 pub mod Sounds
 pub mod Headline
+pub mod OneAnswerLaws
+pub mod RunLaws
+pub mod MainLaw
