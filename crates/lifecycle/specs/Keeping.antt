@@ -48,14 +48,14 @@ GivesOut laws s shared g samples out = (w : Option ℤ) (h : History) → IsLawf
     ≡ all_outputs laws.meaning s h ++ out
 
 -- an idle instance becomes an active one that keeps these samples behind what it kept
-abbrev pub WakesAndTakes : {M : Type 0} → Laws M → Instance M → Pieces → Group → List ℤ → Instance M → Pieces → Group → Type 0
-WakesAndTakes laws s shared g samples s' shared' g' = (w : Option ℤ) (h : History) → BlocksArePoison w g
+abbrev pub BecomesActiveAndTakes : {M : Type 0} → Laws M → Instance M → Pieces → Group → List ℤ → Instance M → Pieces → Group → Type 0
+BecomesActiveAndTakes laws s shared g samples s' shared' g' = (w : Option ℤ) (h : History) → BlocksArePoison w g
     → IdleKeeps laws s w shared h
     → ActiveKeeps laws s' w shared' g' (with_samples h samples)
 
 -- a lawful idle instance, once it is active, gives this out for these samples
-abbrev pub WakesAndGives : {M : Type 0} → Laws M → Instance M → Pieces → Group → List ℤ → List ℤ → Type 0
-WakesAndGives laws s shared g samples out = (w : Option ℤ) (h : History) → IsLawful laws.meaning s w → BlocksArePoison w g
+abbrev pub BecomesActiveAndGives : {M : Type 0} → Laws M → Instance M → Pieces → Group → List ℤ → List ℤ → Type 0
+BecomesActiveAndGives laws s shared g samples out = (w : Option ℤ) (h : History) → IsLawful laws.meaning s w → BlocksArePoison w g
     → IdleKeeps laws s w shared h
     → all_outputs laws.meaning s (with_samples h samples)
     ≡ all_outputs laws.meaning s h ++ out

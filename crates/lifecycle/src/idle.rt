@@ -8,7 +8,7 @@ ghost use Rattle.scratch_group.specs.Filters.{IsOfFilter};
 ghost use Rattle.scratch_group.specs.Sharing.{IsOfSharingFilter};
 ghost use Rattle.lifecycle.specs.Moves.{CanRestore, with_back, settled, HasRoom, without_piece, ComesBack};
 ghost use Rattle.lifecycle.specs.States.{FitsIn, SameInstance, SameOnce, SaysWhetherAccepted};
-ghost use Rattle.lifecycle.specs.Keeping.{Begins, StaysIdle, BecomesActive, WakesAndTakes, WakesAndGives, Ends};
+ghost use Rattle.lifecycle.specs.Keeping.{Begins, StaysIdle, BecomesActive, BecomesActiveAndTakes, BecomesActiveAndGives, Ends};
 
 use crate::Active;
 use crate::instance::{Instance, restore};
@@ -110,8 +110,8 @@ impl<M: Ialg> Idle<M> {
         ensures group { SameGroup group.old group.new }
         ensures fits { FitsIn self.new.instance shared.new group.new }
         ensures bounded { length out.new.items ≤ length input.now }
-        ensures keeps { WakesAndTakes M.law self.old.instance shared.old group.old input.now self.new.instance shared.new group.new }
-        ensures output { WakesAndGives M.law self.old.instance shared.old group.old input.now out.new.items }
+        ensures keeps { BecomesActiveAndTakes M.law self.old.instance shared.old group.old input.now self.new.instance shared.new group.new }
+        ensures output { BecomesActiveAndGives M.law self.old.instance shared.old group.old input.now out.new.items }
     {
         let kind = self.instance.kind;
         group.lend(
