@@ -5,3 +5,5 @@ pub mod Blocks
 pub mod Spaces
 pub mod Changes
 pub mod MapChanges
+pub mod Placing
+pub mod Laws

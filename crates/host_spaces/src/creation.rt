@@ -3,14 +3,14 @@ ghost use Rattle.std.specs.Prelude.{◌≡◌, ℕ, ◌+◌, ◌<◌, [], length
 ghost use Rattle.mem_rec.specs.declared.Space.{Space};
 ghost use Rattle.mem_rec.specs.declared.TheConstants.{TABLE_RECORDS};
 ghost use Rattle.host_map.specs.declared.TheConstants.{SPACE_BLOCKS};
-ghost use Rattle.host_map.specs.declared.placed.Owner.TheVariants.{Record, Scratch};
+ghost use Rattle.host_map.specs.declared.placed.Owner.TheVariants.{Record};
 ghost use Rattle.host_map.specs.Blocks.{owned};
-ghost use Rattle.host_spaces.specs.MemoryMap.{AreSameSpaces, map_of, sizes_of, space_in};
+ghost use Rattle.host_spaces.specs.MemoryMap.{AreSameSpaces, map_of};
 ghost use Rattle.host_map.specs.MemoryMap.{blocks_in};
-ghost use Rattle.host_map.specs.Creation.{all_placed, result_map, sharer_at, wanted_by};
-ghost use Rattle.host_spaces.specs.Pieces.{ArePlacedPieces, AreSharable, HasBlocks, HasRecords, IsNeeded, IsPoisoned, new_block, with_new};
-ghost use Rattle.host_spaces.specs.Wants.{block_need};
+ghost use Rattle.host_map.specs.Creation.{sharer_at, wanted_by};
+ghost use Rattle.host_spaces.specs.Pieces.{ArePlacedPieces, AreSharable, HasBlocks, HasRecords, IsPoisoned};
 ghost use Rattle.host_spaces.specs.MapChanges.{AllButTheseStay};
+ghost use Rattle.host_spaces.specs.Placing.{AreNeeded, HasNew, PlacesAll};
 
 use crate::granted::Granted;
 use crate::pieces::{Placement, as_placement};
@@ -37,12 +37,11 @@ impl Spaces {
         requires sharers { AreSharable table.now (sharer_at sharers.now) }
         requires records { (k : ℕ) (space : Space) → owned (Record i k) (blocks_in (map_of self.old) space) ≡ [] }
         requires room { (space : Space) → length (blocks_in (map_of self.old) space) + TABLE_RECORDS < SPACE_BLOCKS }
-        ensures exact { all_placed (sizes_of self.old) (map_of self.old) (wanted_by (sharer_at sharers.now) (map_of self.old) i g table.now) ≡ result_map (λ _. map_of self.new) result }
+        ensures exact { PlacesAll (wanted_by (sharer_at sharers.now) (map_of self.old) i g table.now) self.old self.new result }
         ensures pieces { IfOk result (λ made. ArePlacedPieces self.old table.now (sharer_at sharers.now) made.own made.shared) }
         ensures records { IfOk result (λ made. HasRecords (map_of self.new) i table.now made.own made.shared) }
-        ensures needed { IfOk result (λ made. (space : Space) → IsNeeded (space_in self.old space).region (block_need table.now old.now space) (new_block made.blocks space)) }
-        ensures blocks { IfOk result (λ made. (space : Space) → owned (Scratch g) (blocks_in (map_of self.new) space)
-            ≡ with_new g (new_block made.blocks space) (owned (Scratch g) (blocks_in (map_of self.old) space))) }
+        ensures needed { IfOk result (λ made. AreNeeded self.old table.now old.now made.blocks) }
+        ensures blocks { IfOk result (λ made. HasNew g made.blocks (map_of self.old) (map_of self.new)) }
         ensures others { OnOk result (AllButTheseStay g i (map_of self.old) (map_of self.new)) }
         ensures poison { IfOk result (IsPoisoned poison) }
         ensures refused { OnErr result (self.new ≡ self.old) }

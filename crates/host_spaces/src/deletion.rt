@@ -1,19 +1,17 @@
 //! Blocks that go back.
-ghost use Rattle.std.specs.Prelude.{◌≡◌, ◌<◌, ℕ, None, IfSome, IsSome, slice_index_or};
+ghost use Rattle.std.specs.Prelude.{◌≡◌, ◌<◌, None, IfSome, IsSome, slice_index_or};
 ghost use Rattle.std.specs.Option.{option_or};
-ghost use Rattle.mem_rec.specs.declared.Space.{Space};
 ghost use Rattle.mem_rec.specs.declared.Space.TheVariants.{Daram};
 ghost use Rattle.mem_rec.specs.declared.TheConstants.{TABLE_RECORDS};
 ghost use Rattle.host_map.specs.declared.placed.Owner.{Owner};
-ghost use Rattle.host_map.specs.declared.placed.Owner.TheVariants.{Scratch};
-ghost use Rattle.host_spaces.specs.Blocks.{Owns, block_of_piece, without_piece};
-ghost use Rattle.host_map.specs.Blocks.{owned};
+ghost use Rattle.host_spaces.specs.Blocks.{Owns, without_piece};
 ghost use Rattle.ialg.specs.Records.{record_at};
 ghost use Rattle.host_spaces.specs.MemoryMap.{AreSameSpaces, map_of, space_in};
-ghost use Rattle.host_map.specs.MemoryMap.{blocks_in, is_group's, is_instance's, without_owners};
-ghost use Rattle.host_spaces.specs.Pieces.{AreRecordsOf, old_piece, spaces_of, without_pieces};
+ghost use Rattle.host_map.specs.MemoryMap.{is_instance's, without_owners};
+ghost use Rattle.host_spaces.specs.Pieces.{AreRecordsOf, spaces_of, without_pieces};
 ghost use Rattle.host_spaces.specs.Changes.{LeavesAnyOwner, OthersStayBesideAny};
 ghost use Rattle.host_spaces.specs.MapChanges.{AllButGroupStay, AllButInstanceStay, OtherSpacesStay};
+ghost use Rattle.host_spaces.specs.Placing.{AreInTheirSpaces, AreOfGroup, LeaveTheirGroup};
 
 use crate::pieces::OldBlocks;
 use crate::spaces::Spaces;
@@ -40,11 +38,10 @@ impl Spaces {
 
     /// The blocks of group `g` that these pieces are go back: those that new ones replace, or all of them with its last member.
     pub fn take_out_blocks(&mut self, g: u8, pieces: OldBlocks)
-        requires regions { (space : Space) → IfSome (old_piece pieces space) (λ p. p.region ≡ (space_in self.old space).region) }
-        requires owner { (space : Space) → IfSome (old_piece pieces space) (Owns (blocks_in (map_of self.old) space) (Scratch g)) }
+        requires regions { AreInTheirSpaces pieces self.old }
+        requires owner { AreOfGroup g pieces (map_of self.old) }
         ensures map { map_of self.new ≡ without_pieces (map_of self.old) pieces }
-        ensures last { (align : Space → ℕ) → ((space : Space) → owned (Scratch g) (blocks_in (map_of self.old) space) ≡ block_of_piece (Scratch g) (align space) (old_piece pieces space))
-            → map_of self.new ≡ without_owners (is_group's g) (map_of self.old) }
+        ensures last { LeaveTheirGroup g pieces (map_of self.old) (map_of self.new) }
         ensures others { AllButGroupStay g (map_of self.old) (map_of self.new) }
         ensures stays { AreSameSpaces self.old self.new }
     {

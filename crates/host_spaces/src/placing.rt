@@ -1,15 +1,14 @@
 //! Places for all that is needed, or for nothing.
-ghost use Rattle.std.specs.Prelude.{◌≡◌, ℕ, ◌+◌, ◌<◌, ◌≤◌, length, drop, Some, None, IsSome, IfSome, IfNone, OnOk, OnErr};
-ghost use Rattle.mem_rec.specs.declared.Space.{Space};
+ghost use Rattle.std.specs.Prelude.{◌≡◌, ℕ, ◌<◌, ◌≤◌, length, drop, Some, None, IsSome, IfSome, IfNone, OnOk, OnErr};
 ghost use Rattle.ialg.specs.Records.{ArePoison};
 ghost use Rattle.host_map.specs.declared.TheConstants.{SPACE_BLOCKS};
 ghost use Rattle.host_spaces.specs.declared.wants.TheConstants.{WANTS};
 ghost use Rattle.host_map.specs.declared.parts.Wanted.{Wanted};
-ghost use Rattle.host_spaces.specs.MemoryMap.{AreSameSpaces, map_of, sizes_of, space_in};
-ghost use Rattle.host_map.specs.Creation.{all_placed, result_map};
-ghost use Rattle.host_spaces.specs.Wants.{AreApartWants, IsGranted, IsWithinLimits, count_in, none_granted, somes, want_at};
+ghost use Rattle.host_spaces.specs.MemoryMap.{AreSameSpaces, space_in};
+ghost use Rattle.host_spaces.specs.Wants.{AreApartWants, IsGranted, IsWithinLimits, none_granted, somes, want_at};
 ghost use Rattle.host_spaces.specs.Changes.{IsAdded, IsAllThatIsNew, IsAtLeastPlace, IsOwned, IsPieceOf, OthersStay};
 ghost use Rattle.host_spaces.specs.MapChanges.{OtherSpacesStay, blocks_for, space_for};
+ghost use Rattle.host_spaces.specs.Placing.{HasRoomFrom, PlacesAll};
 
 use crate::granted::Granted;
 use crate::spaces::Spaces;
@@ -67,9 +66,9 @@ fn place_at(
     requires wanted { IsSome (want_at wants.now k) }
     requires limits { (j : ℕ) (w : Wanted) → want_at wants.now j ≡ Some w → IsWithinLimits w }
     requires apart { AreApartWants wants.now }
-    requires room { (space : Space) → length (space_in spaces.old space).blocks + count_in space (drop k wants.now) ≤ SPACE_BLOCKS }
+    requires room { HasRoomFrom k wants.now spaces.old }
     requires none { granted.old ≡ none_granted }
-    ensures exact { all_placed (sizes_of spaces.old) (map_of spaces.old) (somes (drop k wants.now)) ≡ result_map (λ _. map_of spaces.new) result }
+    ensures exact { PlacesAll (somes (drop k wants.now)) spaces.old spaces.new result }
     ensures granted { OnOk result (IsGranted spaces.old spaces.new poison k wants.now granted.new) }
     ensures refused { OnErr result ((spaces.new ≡ spaces.old) × (granted.new ≡ none_granted)) }
     ensures stays { AreSameSpaces spaces.old spaces.new }
@@ -108,9 +107,9 @@ pub(crate) fn place_from(
     requires number { k ≤ WANTS }
     requires limits { (j : ℕ) (w : Wanted) → want_at wants.now j ≡ Some w → IsWithinLimits w }
     requires apart { AreApartWants wants.now }
-    requires room { (space : Space) → length (space_in spaces.old space).blocks + count_in space (drop k wants.now) ≤ SPACE_BLOCKS }
+    requires room { HasRoomFrom k wants.now spaces.old }
     requires none { granted.old ≡ none_granted }
-    ensures exact { all_placed (sizes_of spaces.old) (map_of spaces.old) (somes (drop k wants.now)) ≡ result_map (λ _. map_of spaces.new) result }
+    ensures exact { PlacesAll (somes (drop k wants.now)) spaces.old spaces.new result }
     ensures granted { OnOk result (IsGranted spaces.old spaces.new poison k wants.now granted.new) }
     ensures refused { OnErr result ((spaces.new ≡ spaces.old) × (granted.new ≡ none_granted)) }
     ensures stays { AreSameSpaces spaces.old spaces.new }
