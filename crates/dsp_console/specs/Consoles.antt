@@ -2,8 +2,11 @@
 use Rattle.std.specs.Prelude.{ℕ, ◌≡◌, true, length}
 use Rattle.channel_spec.specs.Channels.{Channels, members_at, is_chained}
 use Rattle.voice_channel.specs.Channels as channels
-use Rattle.voice_script.specs.Served.{Asked}
+use Rattle.voice_script.specs.Replies.{Reply}
+use Rattle.voice_script.specs.Script.{Command}
+use Rattle.voice_script.specs.Served.{Asked, tells}
 use Rattle.voice_script.specs.Widths.{Widths, widths_in}
+use Rattle.console_spec.specs.Console.{CommandAsks}
 use Rattle.dsp_console.specs.declared.console.Console.{Console}
 use Rattle.ialg.specs.Laws.{Laws}
 
@@ -26,3 +29,11 @@ Keeps laws console state = channels.Keeps laws console.channels state
 abbrev pub Serves : {M : Type 0} → Laws M → (Channels M → Asked → Channels M → Type 0) → Asked → Console M → Console M → Type 0
 Serves {M} laws Asks asked old new = (before : Channels M) → Keeps laws old before
     → (after : Channels M) × Asks before asked after × Keeps laws new after
+
+-- this was asked, as the command may ask it
+abbrev pub AsksByCommand : {M : Type 0} → Laws M → Command M → Asked → Console M → Console M → Type 0
+AsksByCommand laws command asked old new = Serves laws (CommandAsks laws.meaning (port_widths_of old) command) asked old new
+
+-- the command was done, and this reply told of it
+abbrev pub TellsOfCommand : {M : Type 0} → Laws M → Command M → Reply → Console M → Console M → Type 0
+TellsOfCommand laws command reply old new = AsksByCommand laws command (tells reply) old new

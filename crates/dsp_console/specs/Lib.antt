@@ -4,3 +4,5 @@ pub mod Lawful
 pub mod Headline
 pub mod Consoles
 pub mod Hosts
+pub mod Runs
+pub mod HeadlineLaws

@@ -7,8 +7,8 @@ ghost use Rattle.channel_spec.specs.Calls.Call.{OfHost};
 ghost use Rattle.voice_script.specs.Asks.{asked_of, AskIsReady};
 ghost use Rattle.voice_script.specs.Served.{tells};
 ghost use Rattle.ialg.specs.Views.{control_of};
-ghost use Rattle.console_spec.specs.Console.{Calls, CommandAsks, status_reply, told_by};
-ghost use Rattle.dsp_console.specs.Consoles.{channels_of, port_widths_of, TakesFeeds, Serves};
+ghost use Rattle.console_spec.specs.Console.{Calls, status_reply, told_by};
+ghost use Rattle.dsp_console.specs.Consoles.{AsksByCommand, TellsOfCommand, channels_of, port_widths_of, TakesFeeds, Serves};
 
 use crate::console::Console;
 use crate::replies::{tell_done, tell_flag, tell_stat, tell_status};
@@ -22,7 +22,7 @@ impl<M: Ialg> Console<M> {
     pub(crate) fn create<'a>(&mut self, i: u8, kind: M, group: u8, parameters: &Params) -> Reply<'a>
         ensures channels { channels_of self.new ≡ channels_of self.old }
         ensures widths { self.new.widths ≡ self.old.widths }
-        ensures asks { Serves M.law (CommandAsks M.law.meaning (port_widths_of self.old) (script.Create i kind group parameters.now.items)) (tells (reply_of result)) self.old self.new }
+        ensures asks { TellsOfCommand M.law (script.Create i kind group parameters.now.items) (reply_of result) self.old self.new }
     {
         tell_done(self.channels.create(i, kind, group, parameters))
     }
@@ -42,7 +42,7 @@ impl<M: Ialg> Console<M> {
     pub(crate) fn set<'a>(&mut self, i: u8, words: &Params, room: &'a mut Words) -> Reply<'a>
         ensures channels { channels_of self.new ≡ channels_of self.old }
         ensures widths { self.new.widths ≡ self.old.widths }
-        ensures asks { Serves M.law (CommandAsks M.law.meaning (port_widths_of self.old) (script.Set i words.now.items)) (tells (reply_of result)) self.old self.new }
+        ensures asks { TellsOfCommand M.law (script.Set i words.now.items) (reply_of result) self.old self.new }
     {
         self.control(i, &Ctl::Set(copied(words.as_slice())), room)
     }
@@ -52,7 +52,7 @@ impl<M: Ialg> Console<M> {
     pub(crate) fn reset<'a>(&mut self, i: u8, room: &'a mut Words) -> Reply<'a>
         ensures channels { channels_of self.new ≡ channels_of self.old }
         ensures widths { self.new.widths ≡ self.old.widths }
-        ensures asks { Serves M.law (CommandAsks M.law.meaning (port_widths_of self.old) (script.Reset i)) (tells (reply_of result)) self.old self.new }
+        ensures asks { TellsOfCommand M.law (script.Reset i) (reply_of result) self.old self.new }
     {
         self.control(i, &Ctl::Reset, room)
     }
@@ -62,7 +62,7 @@ impl<M: Ialg> Console<M> {
     pub(crate) fn get<'a>(&mut self, i: u8, room: &'a mut Words) -> Reply<'a>
         ensures channels { channels_of self.new ≡ channels_of self.old }
         ensures widths { self.new.widths ≡ self.old.widths }
-        ensures asks { Serves M.law (CommandAsks M.law.meaning (port_widths_of self.old) (script.Get i)) (tells (reply_of result)) self.old self.new }
+        ensures asks { TellsOfCommand M.law (script.Get i) (reply_of result) self.old self.new }
     {
         self.control(i, &Ctl::Get, room)
     }
@@ -70,7 +70,7 @@ impl<M: Ialg> Console<M> {
     pub(crate) fn delete<'a>(&mut self, i: u8) -> Reply<'a>
         ensures channels { channels_of self.new ≡ channels_of self.old }
         ensures widths { self.new.widths ≡ self.old.widths }
-        ensures asks { Serves M.law (CommandAsks M.law.meaning (port_widths_of self.old) (script.Delete i)) (tells (reply_of result)) self.old self.new }
+        ensures asks { TellsOfCommand M.law (script.Delete i) (reply_of result) self.old self.new }
     {
         tell_done(self.channels.delete(i))
     }
@@ -78,7 +78,7 @@ impl<M: Ialg> Console<M> {
     pub(crate) fn chain<'a>(&mut self, c: u8, members: &Members) -> Reply<'a>
         ensures channels { channels_of self.new ≡ channels_of self.old }
         ensures widths { self.new.widths ≡ self.old.widths }
-        ensures asks { Serves M.law (CommandAsks M.law.meaning (port_widths_of self.old) (script.Chain c members.now.numbers.items)) (tells (reply_of result)) self.old self.new }
+        ensures asks { TellsOfCommand M.law (script.Chain c members.now.numbers.items) (reply_of result) self.old self.new }
     {
         tell_done(self.channels.chain(c, members.as_slice()))
     }
@@ -86,7 +86,7 @@ impl<M: Ialg> Console<M> {
     pub(crate) fn unchain<'a>(&mut self, c: u8) -> Reply<'a>
         ensures channels { channels_of self.new ≡ channels_of self.old }
         ensures widths { self.new.widths ≡ self.old.widths }
-        ensures asks { Serves M.law (CommandAsks M.law.meaning (port_widths_of self.old) (script.Unchain c)) (tells (reply_of result)) self.old self.new }
+        ensures asks { TellsOfCommand M.law (script.Unchain c) (reply_of result) self.old self.new }
     {
         tell_done(self.channels.unchain(c))
     }
@@ -94,7 +94,7 @@ impl<M: Ialg> Console<M> {
     /// Asks for a feed's samples, where the channel is ready.
     pub(crate) fn feed_asked<'a>(&self, c: u8, samples: FeedSamples) -> Ask<'a>
         ensures ready { AskIsReady TakesFeeds channels_of self.now result }
-        ensures asks { Serves M.law (CommandAsks M.law.meaning (port_widths_of self.now) (script.Feed c samples.number)) (asked_of (port_widths_of self.now) result) self.now self.now }
+        ensures asks { AsksByCommand M.law (script.Feed c samples.number) (asked_of (port_widths_of self.now) result) self.now self.now }
     {
         match self.channels.ready(c) {
             Ok(()) => Ask::Feed {
@@ -108,7 +108,7 @@ impl<M: Ialg> Console<M> {
     pub(crate) fn compact<'a>(&mut self, space: Space) -> Reply<'a>
         ensures channels { channels_of self.new ≡ channels_of self.old }
         ensures widths { self.new.widths ≡ self.old.widths }
-        ensures asks { Serves M.law (CommandAsks M.law.meaning (port_widths_of self.old) (script.Compact space)) (tells (reply_of result)) self.old self.new }
+        ensures asks { TellsOfCommand M.law (script.Compact space) (reply_of result) self.old self.new }
     {
         Reply::Count(self.channels.compact(space))
     }
@@ -116,7 +116,7 @@ impl<M: Ialg> Console<M> {
     pub(crate) fn step<'a>(&mut self, space: Space) -> Reply<'a>
         ensures channels { channels_of self.new ≡ channels_of self.old }
         ensures widths { self.new.widths ≡ self.old.widths }
-        ensures asks { Serves M.law (CommandAsks M.law.meaning (port_widths_of self.old) (script.Step space)) (tells (reply_of result)) self.old self.new }
+        ensures asks { TellsOfCommand M.law (script.Step space) (reply_of result) self.old self.new }
     {
         Reply::Flag(self.channels.step(space))
     }
@@ -124,14 +124,14 @@ impl<M: Ialg> Console<M> {
     pub(crate) fn release<'a>(&mut self, group: u8) -> Reply<'a>
         ensures channels { channels_of self.new ≡ channels_of self.old }
         ensures widths { self.new.widths ≡ self.old.widths }
-        ensures asks { Serves M.law (CommandAsks M.law.meaning (port_widths_of self.old) (script.Release group)) (tells (reply_of result)) self.old self.new }
+        ensures asks { TellsOfCommand M.law (script.Release group) (reply_of result) self.old self.new }
     {
         tell_flag(self.channels.release(group))
     }
 
     /// Puts the blocks of the space in place of what the map held.
     pub(crate) fn map<'a>(&self, space: Space, map: &'a mut Map) -> Reply<'a>
-        ensures asks { Serves M.law (CommandAsks M.law.meaning (port_widths_of self.now) (script.Map space)) (tells (reply_of result)) self.now self.now }
+        ensures asks { TellsOfCommand M.law (script.Map space) (reply_of result) self.now self.now }
     {
         map.clear();
         let _fits = map.try_extend_from_slice(self.channels.blocks_in(space));
@@ -139,7 +139,7 @@ impl<M: Ialg> Console<M> {
     }
 
     pub(crate) fn stat<'a>(&self, group: u8) -> Reply<'a>
-        ensures asks { Serves M.law (CommandAsks M.law.meaning (port_widths_of self.now) (script.Stat group)) (tells (reply_of result)) self.now self.now }
+        ensures asks { TellsOfCommand M.law (script.Stat group) (reply_of result) self.now self.now }
     {
         tell_stat(self.channels.stat(group))
     }

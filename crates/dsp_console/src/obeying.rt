@@ -2,8 +2,7 @@
 ghost use Rattle.std.specs.Prelude.{◌≡◌};
 ghost use Rattle.voice_script.specs.Commands.{command_of};
 ghost use Rattle.voice_script.specs.Asks.{asked_of, AskIsReady};
-ghost use Rattle.console_spec.specs.Console.{CommandAsks};
-ghost use Rattle.dsp_console.specs.Consoles.{channels_of, port_widths_of, TakesFeeds, Serves};
+ghost use Rattle.dsp_console.specs.Consoles.{AsksByCommand, channels_of, port_widths_of, TakesFeeds};
 
 use crate::console::Console;
 use ialg::{Ialg, Words};
@@ -22,7 +21,7 @@ impl<M: Ialg> Console<M> {
         ensures channels { channels_of self.new ≡ channels_of self.old }
         ensures widths { self.new.widths ≡ self.old.widths }
         ensures ready { AskIsReady TakesFeeds channels_of self.new result }
-        ensures asks { Serves M.law (CommandAsks M.law.meaning (port_widths_of self.old) (command_of command.entry)) (asked_of (port_widths_of self.old) result) self.old self.new }
+        ensures asks { AsksByCommand M.law (command_of command.entry) (asked_of (port_widths_of self.old) result) self.old self.new }
     {
         match command {
             Command::Create {

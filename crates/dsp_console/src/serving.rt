@@ -1,18 +1,13 @@
 //! Runs of the engine.
-ghost use Rattle.std.specs.Prelude.{◌≡◌, ℕ, ◌+◌, ◌≤◌, ◌⊎◌, ◌↔◌, false, map, length, All, IfOk, IfErr, IsErrOf};
-ghost use Rattle.octet_ports.specs.Ports.{GivesWithin};
+ghost use Rattle.std.specs.Prelude.{◌≡◌, ℕ, ◌≤◌, ◌⊎◌, ◌↔◌, false, map, length, IfOk, IfErr, IsErrOf};
 ghost use Rattle.host_map.specs.MemoryMap.{AreSizes};
-ghost use Rattle.host_spec.specs.Answers.{AreLawful};
 ghost use Rattle.host_spec.specs.State.{new_state};
 ghost use Rattle.dsp_console.specs.Hosts.{lives};
 ghost use Rattle.dsp_console.specs.Hosts as hosts;
-ghost use Rattle.voice_script.specs.Widths.{widths_of};
-ghost use Rattle.console_spec.specs.Console.{console_machine, start};
-ghost use Rattle.script_server.specs.Runs.{Ready, EndsWell, EndsByRead, EndsByWrite, IsHonest, IsUnused, known_of, octets_to_come, run_of};
-ghost use Rattle.dsp_console.specs.Consoles.{Keeps, channels_of, port_widths_of};
-ghost use Rattle.dsp_console.specs.Fresh.{fresh};
-ghost use Rattle.dsp_console.specs.Headline.{RunHeadline, RunSounds};
-ghost use Rattle.dsp_console.specs.Lawful.{EndsLawfully, EndsLawfullyByRead, EndsLawfullyByWrite, ServesLawfully};
+ghost use Rattle.script_server.specs.Runs.{IsUnused, Over, Ready};
+ghost use Rattle.dsp_console.specs.Consoles.{channels_of};
+ghost use Rattle.dsp_console.specs.Fresh.{FreshEndsByRead, FreshEndsByWrite, FreshEndsWell, IsFresh};
+ghost use Rattle.dsp_console.specs.Runs.{HasHeadline, HasSounds, IsNotBegun, ReadsWithinLimit, RunEndsByRead, RunEndsByWrite, RunEndsLawfully, RunEndsLawfullyByRead, RunEndsLawfullyByWrite, RunEndsWell, RunServesLawfully};
 
 use crate::console::Console;
 use crate::laws::headline;
@@ -102,22 +97,19 @@ fn serve_console<M: Ialg + Named, S: PortIn, I: PortIn, O: PortOut, P: PortOut>(
     outputs: &mut Vec<O>,
     replies: &mut P,
 ) -> Result<Summary, Fault>
-    requires kept { Keeps M.law console.old (fresh console.old (map I.source inputs.old.items)) }
+    requires kept { IsFresh M.law (map I.source inputs.old.items) console.old }
     requires script { (S.source script.old).failed ≡ false }
     requires one { length inputs.old.items ≡ channels_of console.old }
     requires pairs { length outputs.old.items ≡ channels_of console.old }
-    requires ready { Ready I.source O.sink P.sink inputs.old.items outputs.old.items replies.old }
-    ensures few { GivesWithin (SCRIPT_OCTETS + 1) (S.source script.old) (S.source script.new) }
+    requires ready { Ready I.source O.sink P.sink inputs.old outputs.old replies.old }
+    ensures few { ReadsWithinLimit S.source script.old script.new }
     ensures used { IfErr result (λ fault. (fault ≡ Fault.Read) ⊎ (fault ≡ Fault.Write)) }
-    ensures ok { IfOk result (λ summary. EndsWell (console_machine M.law.meaning M.named (port_widths_of console.old)) (run_of (fresh console.old (map I.source inputs.old.items)) (map I.source inputs.old.items)) summary.refused
-        (known_of S.source I.source O.sink P.sink script.old inputs.old.items outputs.old.items replies.old)
-        (known_of S.source I.source O.sink P.sink script.new inputs.new.items outputs.new.items replies.new)) }
-    ensures read { IsErrOf result Fault.Read → EndsByRead (console_machine M.law.meaning M.named (port_widths_of console.old)) (run_of (fresh console.old (map I.source inputs.old.items)) (map I.source inputs.old.items))
-        (known_of S.source I.source O.sink P.sink script.old inputs.old.items outputs.old.items replies.old)
-        (known_of S.source I.source O.sink P.sink script.new inputs.new.items outputs.new.items replies.new) }
-    ensures write { IsErrOf result Fault.Write → EndsByWrite (console_machine M.law.meaning M.named (port_widths_of console.old)) (run_of (fresh console.old (map I.source inputs.old.items)) (map I.source inputs.old.items))
-        (known_of S.source I.source O.sink P.sink script.old inputs.old.items outputs.old.items replies.old)
-        (known_of S.source I.source O.sink P.sink script.new inputs.new.items outputs.new.items replies.new) }
+    ensures ok { Over S.source I.source O.sink P.sink (FreshEndsWell M.law.meaning M.named console.old result)
+        script.old script.new inputs.old inputs.new outputs.old outputs.new replies.old replies.new }
+    ensures read { Over S.source I.source O.sink P.sink (FreshEndsByRead M.law.meaning M.named console.old result)
+        script.old script.new inputs.old inputs.new outputs.old outputs.new replies.old replies.new }
+    ensures write { Over S.source I.source O.sink P.sink (FreshEndsByWrite M.law.meaning M.named console.old result)
+        script.old script.new inputs.old inputs.new outputs.old outputs.new replies.old replies.new }
 {
     match serve(console, script, inputs, outputs, replies) {
         Ok(refused) => Ok(Summary { refused }),
@@ -157,54 +149,41 @@ pub fn run<M: Ialg + Named, S: PortIn, I: PortIn, O: PortOut, P: PortOut>(
     requires some { 1 ≤ length inputs.old.items }
     requires few { length inputs.old.items ≤ CHANNELS }
     requires pairs { length outputs.old.items ≡ length inputs.old.items }
-    requires ready { Ready I.source O.sink P.sink inputs.old.items outputs.old.items replies.old }
+    requires ready { Ready I.source O.sink P.sink inputs.old outputs.old replies.old }
 
     // Over any list of commands: the headline.
-    ensures headline { IsHonest (S.source script.old)
-        → IfOk result (λ summary. RunHeadline M.law.meaning M.named (widths_of config.in8 config.out8) config.sizes config.poison summary.refused
-        (known_of S.source I.source O.sink P.sink script.old inputs.old.items outputs.old.items replies.old)
-        (known_of S.source I.source O.sink P.sink script.new inputs.new.items outputs.new.items replies.new)) }
+    ensures headline { Over S.source I.source O.sink P.sink (HasHeadline M.law.meaning M.named config result)
+        script.old script.new inputs.old inputs.new outputs.old outputs.new replies.old replies.new }
 
     // Its sounds by themselves, without the memory.
-    ensures sounds { IsHonest (S.source script.old)
-        → IfOk result (λ summary. RunSounds M.law.meaning M.named (widths_of config.in8 config.out8) config.poison
-        (known_of S.source I.source O.sink P.sink script.old inputs.old.items outputs.old.items replies.old)
-        (known_of S.source I.source O.sink P.sink script.new inputs.new.items outputs.new.items replies.new)) }
+    ensures sounds { Over S.source I.source O.sink P.sink (HasSounds M.law.meaning M.named config result)
+        script.old script.new inputs.old inputs.new outputs.old outputs.new replies.old replies.new }
 
     // Before any device is used.
     ensures size { IsErrOf result Fault.Size ↔ (¬ AreSizes config.sizes) }
     ensures sizes { IsErrOf result Fault.Size ⊎ AreSizes config.sizes }
-    ensures unused { IsErrOf result Fault.Size ⊎ IsErrOf result Fault.Memory
-        → IsUnused script.old script.new inputs.old inputs.new outputs.old outputs.new replies.old replies.new }
+    ensures unused { IsNotBegun result → IsUnused script.old script.new inputs.old inputs.new outputs.old outputs.new replies.old replies.new }
 
     // Of an honest script come SCRIPT_OCTETS + 1 octets at most.
-    ensures few { GivesWithin (SCRIPT_OCTETS + 1) (S.source script.old) (S.source script.new) }
+    ensures few { ReadsWithinLimit S.source script.old script.new }
 
     // To honest ports what is served is written: all of it, or that of exactly the lines that were begun.
-    ensures ok { IfOk result (λ summary. EndsWell (console_machine M.law.meaning M.named (widths_of config.in8 config.out8)) (start config.sizes config.poison (octets_to_come (map I.source inputs.old.items))) summary.refused
-        (known_of S.source I.source O.sink P.sink script.old inputs.old.items outputs.old.items replies.old)
-        (known_of S.source I.source O.sink P.sink script.new inputs.new.items outputs.new.items replies.new)) }
-    ensures read { IsErrOf result Fault.Read → EndsByRead (console_machine M.law.meaning M.named (widths_of config.in8 config.out8)) (start config.sizes config.poison (octets_to_come (map I.source inputs.old.items)))
-        (known_of S.source I.source O.sink P.sink script.old inputs.old.items outputs.old.items replies.old)
-        (known_of S.source I.source O.sink P.sink script.new inputs.new.items outputs.new.items replies.new) }
-    ensures write { IsErrOf result Fault.Write → EndsByWrite (console_machine M.law.meaning M.named (widths_of config.in8 config.out8)) (start config.sizes config.poison (octets_to_come (map I.source inputs.old.items)))
-        (known_of S.source I.source O.sink P.sink script.old inputs.old.items outputs.old.items replies.old)
-        (known_of S.source I.source O.sink P.sink script.new inputs.new.items outputs.new.items replies.new) }
+    ensures ok { Over S.source I.source O.sink P.sink (RunEndsWell M.law.meaning M.named config result)
+        script.old script.new inputs.old inputs.new outputs.old outputs.new replies.old replies.new }
+    ensures read { Over S.source I.source O.sink P.sink (RunEndsByRead M.law.meaning M.named config result)
+        script.old script.new inputs.old inputs.new outputs.old outputs.new replies.old replies.new }
+    ensures write { Over S.source I.source O.sink P.sink (RunEndsByWrite M.law.meaning M.named config result)
+        script.old script.new inputs.old inputs.new outputs.old outputs.new replies.old replies.new }
 
     // Where the kinds are lawful, nothing is free but what inputs give that aren't honest, and the poison word tells nothing.
-    ensures lawful { AreLawful M.law.meaning config.poison → IsHonest (S.source script.old) → All IsHonest (map I.source inputs.old.items)
-        → IfOk result (λ summary. ServesLawfully M.law.meaning M.named (widths_of config.in8 config.out8) config.sizes summary.refused
-        (known_of S.source I.source O.sink P.sink script.old inputs.old.items outputs.old.items replies.old)
-        (known_of S.source I.source O.sink P.sink script.new inputs.new.items outputs.new.items replies.new)) }
-    ensures lawful_ok { AreLawful M.law.meaning config.poison → IfOk result (λ summary. EndsLawfully M.law.meaning M.named (widths_of config.in8 config.out8) config.sizes
-        (known_of S.source I.source O.sink P.sink script.old inputs.old.items outputs.old.items replies.old)
-        (known_of S.source I.source O.sink P.sink script.new inputs.new.items outputs.new.items replies.new) summary.refused) }
-    ensures lawful_read { AreLawful M.law.meaning config.poison → IsErrOf result Fault.Read → EndsLawfullyByRead M.law.meaning M.named (widths_of config.in8 config.out8) config.sizes
-        (known_of S.source I.source O.sink P.sink script.old inputs.old.items outputs.old.items replies.old)
-        (known_of S.source I.source O.sink P.sink script.new inputs.new.items outputs.new.items replies.new) }
-    ensures lawful_write { AreLawful M.law.meaning config.poison → IsErrOf result Fault.Write → EndsLawfullyByWrite M.law.meaning M.named (widths_of config.in8 config.out8) config.sizes
-        (known_of S.source I.source O.sink P.sink script.old inputs.old.items outputs.old.items replies.old)
-        (known_of S.source I.source O.sink P.sink script.new inputs.new.items outputs.new.items replies.new) }
+    ensures lawful { Over S.source I.source O.sink P.sink (RunServesLawfully M.law.meaning M.named config result)
+        script.old script.new inputs.old inputs.new outputs.old outputs.new replies.old replies.new }
+    ensures lawful_ok { Over S.source I.source O.sink P.sink (RunEndsLawfully M.law.meaning M.named config result)
+        script.old script.new inputs.old inputs.new outputs.old outputs.new replies.old replies.new }
+    ensures lawful_read { Over S.source I.source O.sink P.sink (RunEndsLawfullyByRead M.law.meaning M.named config result)
+        script.old script.new inputs.old inputs.new outputs.old outputs.new replies.old replies.new }
+    ensures lawful_write { Over S.source I.source O.sink P.sink (RunEndsLawfullyByWrite M.law.meaning M.named config result)
+        script.old script.new inputs.old inputs.new outputs.old outputs.new replies.old replies.new }
 {
     lawful_consoles_serve_one_answer::<M>();
     headline::<M>();

@@ -1,6 +1,7 @@
 -- How a run of the engine ended: what it did to its ports.
-use Rattle.std.specs.Prelude.{◌≡◌, ◌⊎◌, ℕ, ◌<◌, ◌≤◌, Bool, true, false, List, [], ◌∷◌, ◌++◌, map, length, Some, None, slice_index_or, slice_set, All, Any}
+use Rattle.std.specs.Prelude.{◌≡◌, ◌⊎◌, ℕ, ◌<◌, ◌≤◌, Bool, true, false, List, [], ◌∷◌, ◌++◌, map, length, Some, None, slice_index_or, slice_set, All, Any, IfOk, IsErrOf, Result}
 use Rattle.std.specs.List.{flat_map}
+use Rattle.std.specs.declared.vec.Vec.{Vec}
 use Rattle.octet_ports.specs.Ports.{Source, Sink, Gives, GivesWithin, Holds, Waits, IsAtEnd, HasPassedAll}
 use Rattle.octet_ports.specs.Lines.{IsNoFeed, ending, ended}
 use Rattle.octet_ports.specs.declared.reader.TheConstants.{BUFFER_OCTETS}
@@ -8,6 +9,8 @@ use Rattle.voice_script.specs.Served.{Machine, Run, Answer, Octet, held_by, orde
 use Rattle.voice_script.specs.Script.{lines_of}
 use Rattle.voice_script.specs.declared.limits.TheConstants.{LINE_OCTETS}
 use Rattle.script_server.specs.declared.limits.TheConstants.{SCRIPT_OCTETS}
+use Rattle.script_server.specs.declared.serving.PortsFault.{PortsFault}
+use Rattle.script_server.specs.declared.serving.PortsFault.TheVariants.{Read, Write}
 
 -- ---- one port
 
@@ -52,13 +55,13 @@ pub record AreReady (sources : List Source) (outputs : List Sink) (replies : Sin
   pub reply : IsReadyOut replies
 
 -- no port has failed, by what is known of each
-abbrev pub Ready : {I O P : Type 0} → (I → Source) → (O → Sink) → (P → Sink) → List I → List O → P → Type 0
+abbrev pub Ready : {I O P X Y : Type 0} → (I → Source) → (O → Sink) → (P → Sink) → Vec I X → Vec O Y → P → Type 0
 Ready source_of_input sink_of_output sink_of_replies inputs outputs replies =
-    AreReady (map source_of_input inputs) (map sink_of_output outputs) (sink_of_replies replies)
+    AreReady (map source_of_input inputs.items) (map sink_of_output outputs.items) (sink_of_replies replies)
 
 -- an output or the replies failed
-abbrev pub OneFailed : {O P : Type 0} → (O → Sink) → (P → Sink) → List O → P → Type 0
-OneFailed sink_of_output sink_of_replies outputs replies = Any HasFailedOut (map sink_of_output outputs) ⊎ HasFailedOut (sink_of_replies replies)
+abbrev pub OneFailed : {O P Y : Type 0} → (O → Sink) → (P → Sink) → Vec O Y → P → Type 0
+OneFailed sink_of_output sink_of_replies outputs replies = Any HasFailedOut (map sink_of_output outputs.items) ⊎ HasFailedOut (sink_of_replies replies)
 
 -- each port holds its octets of these more
 pub record Writes (order : List Octet) (outputs new_outputs : List Sink) (replies new_replies : Sink) : Type 0 where
@@ -74,9 +77,9 @@ pub record AllWait (outputs new_outputs : List Sink) (replies new_replies : Sink
   pub reply : Waits replies new_replies
 
 -- neither an output nor the replies passed anything on
-abbrev pub NothingPassed : {O P : Type 0} → (O → Sink) → (P → Sink) → (outputs new_outputs : List O) → (replies new_replies : P) → Type 0
+abbrev pub NothingPassed : {O P Y : Type 0} → (O → Sink) → (P → Sink) → (outputs new_outputs : Vec O Y) → (replies new_replies : P) → Type 0
 NothingPassed sink_of_output sink_of_replies outputs new_outputs replies new_replies =
-    AllWait (map sink_of_output outputs) (map sink_of_output new_outputs) (sink_of_replies replies) (sink_of_replies new_replies)
+    AllWait (map sink_of_output outputs.items) (map sink_of_output new_outputs.items) (sink_of_replies replies) (sink_of_replies new_replies)
 
 -- an output passed something on only after each of a lower number had passed all on, if it is honest
 abbrev pub InAscendingOrder : List Sink → List Sink → Type 0
@@ -103,12 +106,12 @@ pub record Devices : Type 0 where
 
 -- by the ports, of what kinds ever
 abbrev pub known_of : {S I O P : Type 0} → (S → Source) → (I → Source) → (O → Sink) → (P → Sink) → S → List I → List O → P → Devices
-known_of source_of_script source_of_input sink_of_output sink_of_replies script inputs outputs replies = record {
-  script = source_of_script script;
-  inputs = map source_of_input inputs;
-  outputs = map sink_of_output outputs;
-  replies = sink_of_replies replies;
-}
+known_of source_of_script source_of_input sink_of_output sink_of_replies script inputs outputs replies =
+    record { script = source_of_script script; inputs = map source_of_input inputs; outputs = map sink_of_output outputs; replies = sink_of_replies replies }
+
+-- this came to pass, by what was known of the ports before and what is known of them now
+abbrev pub Over : {S I O P X Y : Type 0} → (S → Source) → (I → Source) → (O → Sink) → (P → Sink) → (Devices → Devices → Type 0) → (old new : S) → (was is : Vec I X) → (had has : Vec O Y) → (before after : P) → Type 0
+Over s i o p Happens old new was is had has before after = Happens (known_of s i o p old was.items had.items before) (known_of s i o p new is.items has.items after)
 
 -- no port was used
 pub record IsUnused {S I O P : Type 0} (old_script new_script : S) (old_inputs new_inputs : I) (old_outputs new_outputs : O) (old_replies new_replies : P) : Type 0 where
@@ -201,3 +204,18 @@ module _ {S : Type 0} (machine : Machine S) (start : Run S) where
     pub failed : HasFailedIn new.script ⊎ (Any HasFailedIn new.inputs ⊎ GoesOn old.script)
     pub passed : AllWait old.outputs new.outputs old.replies new.replies
     pub served : ServedUpTo old new
+
+-- ---- what a call that serves a script answers
+
+module _ {S : Type 0} (machine : Machine S) (state : S) (result : Result ℕ PortsFault) (old new : Devices) where
+  -- where it answers so many refused lines, all was served, and passed on
+  abbrev pub AllIsServed : Type 0
+  AllIsServed = IfOk result (λ refused. EndsWell machine (run_of state old.inputs) refused old new)
+
+  -- where a script or an input failed, exactly some lines were served
+  abbrev pub IsStoppedByRead : Type 0
+  IsStoppedByRead = IsErrOf result Read → EndsByRead machine (run_of state old.inputs) old new
+
+  -- where an output or the replies failed, the first lines were served
+  abbrev pub IsStoppedByWrite : Type 0
+  IsStoppedByWrite = IsErrOf result Write → EndsByWrite machine (run_of state old.inputs) old new

@@ -1,15 +1,13 @@
 //! Serves one line.
-ghost use Rattle.std.specs.Prelude.{◌≡◌, ◌<◌, ◌≤◌, Bool, List, ℕ, [], true, false, map, length, Ok, All, Any, IfOk, IsOk, IsErrOf};
+ghost use Rattle.std.specs.Prelude.{◌≡◌, ◌<◌, ◌≤◌, [], true, false, map, length, Ok, All, IsOk, IsErrOf};
 ghost use Rattle.std.specs.Result.{is_err};
 ghost use Rattle.octet_ports.specs.Ports.{Sink, Gives, Holds, Takes, TakesFirst, HasPassedAll, EndsWithin};
-ghost use Rattle.octet_ports.specs.Lines.{IsLine};
 ghost use Rattle.voice_script.specs.Asks.{IsReady};
-ghost use Rattle.voice_script.specs.Served.{FeedAnswer, LineAnswer};
 ghost use Rattle.voice_script.specs.Widths.{octet_count};
 ghost use Rattle.voice_script.specs.Replies.{reply_text};
 ghost use Rattle.voice_script.specs.ReplyViews.{reply_of};
-ghost use Rattle.script_server.specs.Runs.{StepsAt, no_source, no_sink, IsReadyIn, IsReadyOut, HasFailedIn, HasFailedOut, Writes, NothingPassed, OneFailed, Ready, FailsWithin, run_of, InAscendingOrder};
-ghost use Rattle.script_server.specs.LineRuns.{AreHonest, IsServed, IsCut, IsUnfed};
+ghost use Rattle.script_server.specs.Runs.{Writes, NothingPassed, OneFailed, Ready, FailsWithin, InAscendingOrder};
+ghost use Rattle.script_server.specs.LineRuns.{AllReadyIn, AllReadyOut, AnyFailedIn, AnyFailedOut, FeedIsCut, FeedIsServed, InputSteps, LineIsCut, LineIsServed, LineIsUnfed, NothingWritten, OutputSteps, OverLine};
 
 use crate::serving::PortsFault;
 use host_map::Map;
@@ -43,13 +41,13 @@ fn read_from<I: PortIn>(
     octets: &mut [u8],
 ) -> Result<bool, PortFault>
     requires there { channel < length inputs.old.items }
-    requires ready { All IsReadyIn (map I.source inputs.old.items) }
-    ensures filled { result ≡ Ok true → StepsAt (Gives octets.new) channel no_source (map I.source inputs.old.items) (map I.source inputs.new.items) }
-    ensures short { result ≡ Ok false → StepsAt (EndsWithin (length octets.old)) channel no_source (map I.source inputs.old.items) (map I.source inputs.new.items) }
+    requires ready { AllReadyIn I.source inputs.old }
+    ensures filled { result ≡ Ok true → InputSteps I.source (Gives octets.new) channel inputs.old inputs.new }
+    ensures short { result ≡ Ok false → InputSteps I.source (EndsWithin (length octets.old)) channel inputs.old inputs.new }
     ensures count { length inputs.new.items ≡ length inputs.old.items }
-    ensures ready { IsOk result → All IsReadyIn (map I.source inputs.new.items) }
-    ensures fault { is_err result ≡ true → StepsAt (FailsWithin (length octets.old)) channel no_source (map I.source inputs.old.items) (map I.source inputs.new.items) }
-    ensures failed { is_err result ≡ true → Any HasFailedIn (map I.source inputs.new.items) }
+    ensures ready { IsOk result → AllReadyIn I.source inputs.new }
+    ensures fault { is_err result ≡ true → InputSteps I.source (FailsWithin (length octets.old)) channel inputs.old inputs.new }
+    ensures failed { is_err result ≡ true → AnyFailedIn I.source inputs.new }
 {
     read_octets(&mut inputs[channel], octets)
 }
@@ -61,12 +59,12 @@ fn write_to<O: PortOut>(
     octets: &[u8],
 ) -> Result<(), PortFault>
     requires there { channel < length outputs.old.items }
-    requires ready { All IsReadyOut (map O.sink outputs.old.items) }
-    ensures ok { IsOk result → StepsAt (Takes octets.now) channel no_sink (map O.sink outputs.old.items) (map O.sink outputs.new.items) }
-    ensures fault { is_err result ≡ true → StepsAt (TakesFirst octets.now) channel no_sink (map O.sink outputs.old.items) (map O.sink outputs.new.items) }
+    requires ready { AllReadyOut O.sink outputs.old }
+    ensures ok { IsOk result → OutputSteps O.sink (Takes octets.now) channel outputs.old outputs.new }
+    ensures fault { is_err result ≡ true → OutputSteps O.sink (TakesFirst octets.now) channel outputs.old outputs.new }
     ensures count { length outputs.new.items ≡ length outputs.old.items }
-    ensures ready { IsOk result → All IsReadyOut (map O.sink outputs.new.items) }
-    ensures failed { is_err result ≡ true → Any HasFailedOut (map O.sink outputs.new.items) }
+    ensures ready { IsOk result → AllReadyOut O.sink outputs.new }
+    ensures failed { is_err result ≡ true → AnyFailedOut O.sink outputs.new }
 {
     write_octets(&mut outputs[channel], octets)
 }
@@ -103,22 +101,20 @@ fn serve_feed<T: LineMachine, I: PortIn, O: PortOut, P: PortOut>(
     requires channel { IsReady T.takes_feeds T.channels machine.old channel }
     requires one { length inputs.old.items ≡ T.channels machine.old }
     requires pairs { length outputs.old.items ≡ T.channels machine.old }
-    requires ready { Ready I.source O.sink P.sink inputs.old.items outputs.old.items replies.old }
+    requires ready { Ready I.source O.sink P.sink inputs.old outputs.old replies.old }
     ensures widths { T.widths machine.new ≡ T.widths machine.old }
     ensures inputs { IsOk result → length inputs.new.items ≡ T.channels machine.new }
     ensures outputs { IsOk result → length outputs.new.items ≡ T.channels machine.new }
-    ensures ready { IsOk result → Ready I.source O.sink P.sink inputs.new.items outputs.new.items replies.new }
-    ensures read { IsErrOf result PortsFault.Read → Any HasFailedIn (map I.source inputs.new.items) }
-    ensures write { IsErrOf result PortsFault.Write → OneFailed O.sink P.sink outputs.new.items replies.new }
-    ensures waits { NothingPassed O.sink P.sink outputs.old.items outputs.new.items replies.old replies.new }
-    ensures served { IfOk result (λ refused. (s : T.State) (honest : ℕ → Bool) → T.keeps machine.old s → AreHonest honest (map I.source inputs.old.items)
-        → IsServed (T.keeps machine.new) honest (FeedAnswer (T.machine (T.widths machine.old)) honest (run_of s (map I.source inputs.old.items)) channel (octet_count ((T.widths machine.old).input channel) samples.number)) refused
-        (map I.source inputs.new.items) (map O.sink outputs.old.items) (map O.sink outputs.new.items) (P.sink replies.old) (P.sink replies.new)) }
-    ensures cut { IsErrOf result PortsFault.Write → (s : T.State) (honest : ℕ → Bool) → T.keeps machine.old s → AreHonest honest (map I.source inputs.old.items)
-        → IsCut (FeedAnswer (T.machine (T.widths machine.old)) honest (run_of s (map I.source inputs.old.items)) channel (octet_count ((T.widths machine.old).input channel) samples.number))
-        (map I.source inputs.new.items) (map O.sink outputs.old.items) (map O.sink outputs.new.items) (P.sink replies.old) (P.sink replies.new) }
-    ensures unread { IsErrOf result PortsFault.Read → StepsAt (FailsWithin (octet_count ((T.widths machine.old).input channel) samples.number)) channel no_source (map I.source inputs.old.items) (map I.source inputs.new.items) }
-    ensures unfed { IsErrOf result PortsFault.Read → Writes [] (map O.sink outputs.old.items) (map O.sink outputs.new.items) (P.sink replies.old) (P.sink replies.new) }
+    ensures ready { IsOk result → Ready I.source O.sink P.sink inputs.new outputs.new replies.new }
+    ensures read { IsErrOf result PortsFault.Read → AnyFailedIn I.source inputs.new }
+    ensures write { IsErrOf result PortsFault.Write → OneFailed O.sink P.sink outputs.new replies.new }
+    ensures waits { NothingPassed O.sink P.sink outputs.old outputs.new replies.old replies.new }
+    ensures served { OverLine I.source O.sink P.sink (FeedIsServed T.machine (T.widths machine.old) (T.keeps machine.old) (T.keeps machine.new) channel samples.number result)
+        inputs.old inputs.new outputs.old outputs.new replies.old replies.new }
+    ensures cut { OverLine I.source O.sink P.sink (FeedIsCut T.machine (T.widths machine.old) (T.keeps machine.old) channel samples.number result)
+        inputs.old inputs.new outputs.old outputs.new replies.old replies.new }
+    ensures unread { IsErrOf result PortsFault.Read → InputSteps I.source (FailsWithin (octet_count ((T.widths machine.old).input channel) samples.number)) channel inputs.old inputs.new }
+    ensures unfed { IsErrOf result PortsFault.Read → OverLine I.source O.sink P.sink NothingWritten inputs.old inputs.new outputs.old outputs.new replies.old replies.new }
 {
     let c = usize::from(channel);
     let octets = machine
@@ -158,23 +154,20 @@ pub(crate) fn serve_line<T: LineMachine, I: PortIn, O: PortOut, P: PortOut>(
     requires short { length line.now ≤ LINE_OCTETS }
     requires one { length inputs.old.items ≡ T.channels machine.old }
     requires pairs { length outputs.old.items ≡ T.channels machine.old }
-    requires ready { Ready I.source O.sink P.sink inputs.old.items outputs.old.items replies.old }
+    requires ready { Ready I.source O.sink P.sink inputs.old outputs.old replies.old }
     ensures widths { T.widths machine.new ≡ T.widths machine.old }
     ensures inputs { IsOk result → length inputs.new.items ≡ T.channels machine.new }
     ensures outputs { IsOk result → length outputs.new.items ≡ T.channels machine.new }
-    ensures ready { IsOk result → Ready I.source O.sink P.sink inputs.new.items outputs.new.items replies.new }
-    ensures read { IsErrOf result PortsFault.Read → Any HasFailedIn (map I.source inputs.new.items) }
-    ensures write { IsErrOf result PortsFault.Write → OneFailed O.sink P.sink outputs.new.items replies.new }
-    ensures waits { NothingPassed O.sink P.sink outputs.old.items outputs.new.items replies.old replies.new }
-    ensures served { IfOk result (λ refused. (octets : List ℕ) (s : T.State) (honest : ℕ → Bool) → IsLine LINE_OCTETS line.now long octets → T.keeps machine.old s → AreHonest honest (map I.source inputs.old.items)
-        → IsServed (T.keeps machine.new) honest (LineAnswer (T.machine (T.widths machine.old)) honest (run_of s (map I.source inputs.old.items)) octets) refused
-        (map I.source inputs.new.items) (map O.sink outputs.old.items) (map O.sink outputs.new.items) (P.sink replies.old) (P.sink replies.new)) }
-    ensures cut { IsErrOf result PortsFault.Write → (octets : List ℕ) (s : T.State) (honest : ℕ → Bool) → IsLine LINE_OCTETS line.now long octets → T.keeps machine.old s → AreHonest honest (map I.source inputs.old.items)
-        → IsCut (LineAnswer (T.machine (T.widths machine.old)) honest (run_of s (map I.source inputs.old.items)) octets)
-        (map I.source inputs.new.items) (map O.sink outputs.old.items) (map O.sink outputs.new.items) (P.sink replies.old) (P.sink replies.new) }
-    ensures unfed { IsErrOf result PortsFault.Read → (octets : List ℕ) (s : T.State) → IsLine LINE_OCTETS line.now long octets → T.keeps machine.old s
-        → IsUnfed (T.machine (T.widths machine.old)) s octets (map I.source inputs.old.items) (map I.source inputs.new.items)
-        (map O.sink outputs.old.items) (map O.sink outputs.new.items) (P.sink replies.old) (P.sink replies.new) }
+    ensures ready { IsOk result → Ready I.source O.sink P.sink inputs.new outputs.new replies.new }
+    ensures read { IsErrOf result PortsFault.Read → AnyFailedIn I.source inputs.new }
+    ensures write { IsErrOf result PortsFault.Write → OneFailed O.sink P.sink outputs.new replies.new }
+    ensures waits { NothingPassed O.sink P.sink outputs.old outputs.new replies.old replies.new }
+    ensures served { OverLine I.source O.sink P.sink (LineIsServed T.machine (T.widths machine.old) (T.keeps machine.old) (T.keeps machine.new) line.now long result)
+        inputs.old inputs.new outputs.old outputs.new replies.old replies.new }
+    ensures cut { OverLine I.source O.sink P.sink (LineIsCut T.machine (T.widths machine.old) (T.keeps machine.old) line.now long result)
+        inputs.old inputs.new outputs.old outputs.new replies.old replies.new }
+    ensures unfed { OverLine I.source O.sink P.sink (LineIsUnfed T.machine (T.widths machine.old) (T.keeps machine.old) line.now long result)
+        inputs.old inputs.new outputs.old outputs.new replies.old replies.new }
 {
     if long {
         return match tell(replies, &Reply::No(Refusal::Long), &mut desk.buffers.text) {
@@ -208,24 +201,24 @@ pub(crate) fn serve_line<T: LineMachine, I: PortIn, O: PortOut, P: PortOut>(
 /// Passes on what the output of this number holds back.
 fn flush_at<O: PortOut>(outputs: &mut Vec<O>, channel: usize) -> Result<(), PortFault>
     requires there { channel < length outputs.old.items }
-    requires ready { All IsReadyOut (map O.sink outputs.old.items) }
-    ensures holds { StepsAt (Holds []) channel no_sink (map O.sink outputs.old.items) (map O.sink outputs.new.items) }
-    ensures passed { IsOk result → StepsAt (λ _ new. HasPassedAll new) channel no_sink (map O.sink outputs.old.items) (map O.sink outputs.new.items) }
+    requires ready { AllReadyOut O.sink outputs.old }
+    ensures holds { OutputSteps O.sink (Holds []) channel outputs.old outputs.new }
+    ensures passed { IsOk result → OutputSteps O.sink (λ _ new. HasPassedAll new) channel outputs.old outputs.new }
     ensures count { length outputs.new.items ≡ length outputs.old.items }
-    ensures ready { IsOk result → All IsReadyOut (map O.sink outputs.new.items) }
-    ensures failed { is_err result ≡ true → Any HasFailedOut (map O.sink outputs.new.items) }
+    ensures ready { IsOk result → AllReadyOut O.sink outputs.new }
+    ensures failed { is_err result ≡ true → AnyFailedOut O.sink outputs.new }
 {
     outputs[channel].flush()
 }
 
 /// Passes on what the outputs hold back, in ascending number.
 pub(crate) fn flush_outputs<O: PortOut>(outputs: &mut Vec<O>) -> Result<(), PortFault>
-    requires ready { All IsReadyOut (map O.sink outputs.old.items) }
+    requires ready { AllReadyOut O.sink outputs.old }
     ensures holds { (replies : Sink) → Writes [] (map O.sink outputs.old.items) (map O.sink outputs.new.items) replies replies }
     ensures passed { IsOk result → All HasPassedAll (map O.sink outputs.new.items) }
     ensures order { InAscendingOrder (map O.sink outputs.old.items) (map O.sink outputs.new.items) }
-    ensures ready { IsOk result → All IsReadyOut (map O.sink outputs.new.items) }
-    ensures failed { is_err result ≡ true → Any HasFailedOut (map O.sink outputs.new.items) }
+    ensures ready { IsOk result → AllReadyOut O.sink outputs.new }
+    ensures failed { is_err result ≡ true → AnyFailedOut O.sink outputs.new }
 {
     for channel in 0..outputs.len() {
         if flush_at(outputs, channel).is_err() {

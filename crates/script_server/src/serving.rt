@@ -1,8 +1,8 @@
 //! Serves a script.
-ghost use Rattle.std.specs.Prelude.{◌≡◌, ◌+◌, false, map, length, IfOk, IfErr, IsErrOf};
+ghost use Rattle.std.specs.Prelude.{◌≡◌, ◌+◌, false, length};
 ghost use Rattle.octet_ports.specs.Ports.{GivesWithin};
-ghost use Rattle.script_server.specs.LineRuns.{EndsBy};
-ghost use Rattle.script_server.specs.Runs.{NothingPassed, Ready, ServesAll, EndsWell, EndsByRead, EndsByWrite, known_of, run_of};
+ghost use Rattle.script_server.specs.LineRuns.{AllLinesAreServed, IsStopped};
+ghost use Rattle.script_server.specs.Runs.{AllIsServed, IsStoppedByRead, IsStoppedByWrite, NothingPassed, Over, Ready};
 
 use crate::limits::SCRIPT_OCTETS;
 use crate::line::{Buffers, Desk, flush_outputs, serve_line};
@@ -34,15 +34,13 @@ fn serve_script<T: LineMachine, S: PortIn, I: PortIn, O: PortOut, P: PortOut>(
     requires script { (S.source script.old).failed ≡ false }
     requires one { length inputs.old.items ≡ T.channels machine.old }
     requires pairs { length outputs.old.items ≡ T.channels machine.old }
-    requires ready { Ready I.source O.sink P.sink inputs.old.items outputs.old.items replies.old }
+    requires ready { Ready I.source O.sink P.sink inputs.old outputs.old replies.old }
     ensures few { GivesWithin (SCRIPT_OCTETS + 1) (S.source script.old) (S.source script.new) }
-    ensures waits { NothingPassed O.sink P.sink outputs.old.items outputs.new.items replies.old replies.new }
-    ensures ok { IfOk result (λ refused. ServesAll (T.machine (T.widths machine.old)) (run_of state (map I.source inputs.old.items)) refused
-        (known_of S.source I.source O.sink P.sink script.old inputs.old.items outputs.old.items replies.old)
-        (known_of S.source I.source O.sink P.sink script.new inputs.new.items outputs.new.items replies.new)) }
-    ensures fault { IfErr result (λ fault. EndsBy (T.machine (T.widths machine.old)) (run_of state (map I.source inputs.old.items)) fault
-        (known_of S.source I.source O.sink P.sink script.old inputs.old.items outputs.old.items replies.old)
-        (known_of S.source I.source O.sink P.sink script.new inputs.new.items outputs.new.items replies.new)) }
+    ensures waits { NothingPassed O.sink P.sink outputs.old outputs.new replies.old replies.new }
+    ensures ok { Over S.source I.source O.sink P.sink (AllLinesAreServed (T.machine (T.widths machine.old)) state result)
+        script.old script.new inputs.old inputs.new outputs.old outputs.new replies.old replies.new }
+    ensures fault { Over S.source I.source O.sink P.sink (IsStopped (T.machine (T.widths machine.old)) state result)
+        script.old script.new inputs.old inputs.new outputs.old outputs.new replies.old replies.new }
 {
     let mut reader = LineReader::new(SCRIPT_OCTETS);
     let mut refused: u64 = 0;
@@ -103,17 +101,14 @@ pub fn serve<T: LineMachine, S: PortIn, I: PortIn, O: PortOut, P: PortOut>(
     requires script { (S.source script.old).failed ≡ false }
     requires one { length inputs.old.items ≡ T.channels machine.old }
     requires pairs { length outputs.old.items ≡ T.channels machine.old }
-    requires ready { Ready I.source O.sink P.sink inputs.old.items outputs.old.items replies.old }
+    requires ready { Ready I.source O.sink P.sink inputs.old outputs.old replies.old }
     ensures few { GivesWithin (SCRIPT_OCTETS + 1) (S.source script.old) (S.source script.new) }
-    ensures ok { IfOk result (λ refused. EndsWell (T.machine (T.widths machine.old)) (run_of state (map I.source inputs.old.items)) refused
-        (known_of S.source I.source O.sink P.sink script.old inputs.old.items outputs.old.items replies.old)
-        (known_of S.source I.source O.sink P.sink script.new inputs.new.items outputs.new.items replies.new)) }
-    ensures read { IsErrOf result PortsFault.Read → EndsByRead (T.machine (T.widths machine.old)) (run_of state (map I.source inputs.old.items))
-        (known_of S.source I.source O.sink P.sink script.old inputs.old.items outputs.old.items replies.old)
-        (known_of S.source I.source O.sink P.sink script.new inputs.new.items outputs.new.items replies.new) }
-    ensures write { IsErrOf result PortsFault.Write → EndsByWrite (T.machine (T.widths machine.old)) (run_of state (map I.source inputs.old.items))
-        (known_of S.source I.source O.sink P.sink script.old inputs.old.items outputs.old.items replies.old)
-        (known_of S.source I.source O.sink P.sink script.new inputs.new.items outputs.new.items replies.new) }
+    ensures ok { Over S.source I.source O.sink P.sink (AllIsServed (T.machine (T.widths machine.old)) state result)
+        script.old script.new inputs.old inputs.new outputs.old outputs.new replies.old replies.new }
+    ensures read { Over S.source I.source O.sink P.sink (IsStoppedByRead (T.machine (T.widths machine.old)) state result)
+        script.old script.new inputs.old inputs.new outputs.old outputs.new replies.old replies.new }
+    ensures write { Over S.source I.source O.sink P.sink (IsStoppedByWrite (T.machine (T.widths machine.old)) state result)
+        script.old script.new inputs.old inputs.new outputs.old outputs.new replies.old replies.new }
 {
     let refused = match serve_script(machine, script, inputs, outputs, replies) {
         Ok(refused) => refused,

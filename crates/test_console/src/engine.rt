@@ -1,11 +1,10 @@
 //! Runs over tapes and over devices that fail, and a caller that is proved from the contracts alone.
-ghost use Rattle.std.specs.Prelude.{◌≡◌, ◌<◌, ◌≤◌, ◌∷◌, [], None, Some, All, IfOk, false, length, map};
+ghost use Rattle.std.specs.Prelude.{◌≡◌, ◌<◌, ◌≤◌, ◌∷◌, [], None, Some, IfOk, false, length};
 ghost use Rattle.voice_script.specs.Served.{held_by, order_of, refusals};
 ghost use Rattle.voice_script.specs.Widths.{widths_of};
 ghost use Rattle.console_spec.specs.Answers.{served};
-ghost use Rattle.host_spec.specs.Answers.{AreLawful};
-ghost use Rattle.script_server.specs.Runs.{IsHonest, Ready, known_of};
-ghost use Rattle.dsp_console.specs.Lawful.{ServesLawfully};
+ghost use Rattle.script_server.specs.Runs.{Over, Ready};
+ghost use Rattle.dsp_console.specs.Runs.{RunServesLawfully};
 ghost use Rattle.voice_set.specs.Voices.{voice_meaning, voice_named};
 ghost use Rattle.test_console.specs.declared.engine.TheConstants.{FULL};
 
@@ -807,11 +806,9 @@ fn run_lawfully<S: PortIn, I: PortIn, O: PortOut, P: PortOut>(
     requires some { 1 ≤ length inputs.old.items }
     requires few { length inputs.old.items ≤ CHANNELS }
     requires pairs { length outputs.old.items ≡ length inputs.old.items }
-    requires ready { Ready I.source O.sink P.sink inputs.old.items outputs.old.items replies.old }
-    ensures { AreLawful voice_meaning config.poison → IsHonest (S.source script.old) → All IsHonest (map I.source inputs.old.items)
-        → IfOk result (λ summary. ServesLawfully voice_meaning voice_named (widths_of config.in8 config.out8) config.sizes summary.refused
-        (known_of S.source I.source O.sink P.sink script.old inputs.old.items outputs.old.items replies.old)
-        (known_of S.source I.source O.sink P.sink script.new inputs.new.items outputs.new.items replies.new)) }
+    requires ready { Ready I.source O.sink P.sink inputs.old outputs.old replies.old }
+    ensures { Over S.source I.source O.sink P.sink (RunServesLawfully voice_meaning voice_named config result)
+        script.old script.new inputs.old inputs.new outputs.old outputs.new replies.old replies.new }
 {
     run::<Voice, S, I, O, P>(alloc, config, script, inputs, outputs, replies)
 }

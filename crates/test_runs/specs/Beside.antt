@@ -1,5 +1,5 @@
 -- A worked row of the headline in which one input alone is honest: what the filter of that input's channel gave, whatever the other one gives.
-use Rattle.std.specs.Prelude.{◌≡◌, ◌⊎◌, ℕ, ℤ, pos, Bool, true, List, [], ◌∷◌, ◌++◌, Option, Some, Ok, slice_index_or}
+use Rattle.std.specs.Prelude.{◌≡◌, ◌⊎◌, ℕ, ℤ, pos, Bool, true, List, [], ◌∷◌, ◌++◌, Option, Some, Result, Ok, IfOk, slice_index_or}
 use Rattle.ialg.specs.History.{Sample}
 use Rattle.octet_ports.specs.Ports.{Holds}
 use Rattle.host_spec.specs.Calls.{Call}
@@ -14,6 +14,8 @@ use Rattle.console_spec.specs.Samples.{octets_of}
 use Rattle.script_server.specs.Runs.{AreReady, Devices, IsHonest, IsReadyIn, honest_at, no_sink, octets_to_come}
 use Rattle.console_spec.specs.Births.{Born}
 use Rattle.console_spec.specs.Headline.{Headline}
+use Rattle.dsp_console.specs.declared.serving.Summary.{Summary}
+use Rattle.dsp_console.specs.declared.serving.Fault.{Fault}
 use Rattle.dsp_console.specs.Headline.{RunHeadline}
 use Rattle.test_runs.specs.ConsoleRows.{script_of, words}
 use Rattle.test_runs.specs.Row.{mean, row_sizes}
@@ -60,3 +62,7 @@ pub record RanBeside (poison : Option ℤ) (refused : ℕ) (old new : Devices) :
   pub run : RunHeadline voice_meaning voice_named words row_sizes poison refused old new
   pub first : BesideGave run.says
   pub output : Holds (octets_of (pos 1 ∷ pos 3 ∷ pos 5 ∷ [])) (slice_index_or old.outputs 0 no_sink) (slice_index_or new.outputs 0 no_sink)
+
+-- where the run answers a summary, it is such a run
+abbrev pub RanBesideIt : Option ℤ → Result Summary Fault → Devices → Devices → Type 0
+RanBesideIt poison result old new = IfOk result (λ summary. RanBeside poison summary.refused old new)

@@ -1,5 +1,5 @@
 -- A worked row of the headline: a script of a few lines, and what its first filter gave.
-use Rattle.std.specs.Prelude.{◌≡◌, ℕ, ℤ, pos, Bool, List, [], ◌∷◌, Option, Some, Ok, All, slice_index_or}
+use Rattle.std.specs.Prelude.{◌≡◌, ℕ, ℤ, pos, Bool, List, [], ◌∷◌, Option, Some, Result, Ok, All, IfOk, slice_index_or}
 use Rattle.mem_rec.specs.declared.Space.TheVariants.{Daram}
 use Rattle.ialg.specs.History.{Sample}
 use Rattle.octet_ports.specs.Ports.{Holds}
@@ -17,6 +17,8 @@ use Rattle.script_server.specs.Runs.{AreReady, Devices, IsHonest, IsReadyIn, no_
 use Rattle.console_spec.specs.Births.{Born}
 use Rattle.console_spec.specs.Lines.{fed_out}
 use Rattle.console_spec.specs.Headline.{Headline}
+use Rattle.dsp_console.specs.declared.serving.Summary.{Summary}
+use Rattle.dsp_console.specs.declared.serving.Fault.{Fault}
 use Rattle.dsp_console.specs.Headline.{RunHeadline}
 use Rattle.test_runs.specs.ConsoleRows.{script_of, words}
 
@@ -68,3 +70,7 @@ pub record RowGave (poison : Option ℤ) (refused : ℕ) (old new : Devices) : T
   pub run : RunHeadline voice_meaning voice_named words row_sizes poison refused old new
   pub first : FirstGave run.says
   pub output : Holds (octets_of (pos 1 ∷ pos 3 ∷ pos 5 ∷ [])) (slice_index_or old.outputs 0 no_sink) (slice_index_or new.outputs 0 no_sink)
+
+-- where the run answers a summary, the row gave that
+abbrev pub RowGaveIt : Option ℤ → Result Summary Fault → Devices → Devices → Type 0
+RowGaveIt poison result old new = IfOk result (λ summary. RowGave poison summary.refused old new)

@@ -3,22 +3,24 @@ use Rattle.std.specs.Prelude.{ℕ, ℤ, ◌≡◌, ◌+◌, ◌≤◌, ◌⊎◌
 use Rattle.ialg.specs.declared.refusal.Refusal.{Refusal}
 use Rattle.ialg.specs.History.{Ctl}
 use Rattle.ialg.specs.Meaning.{Meaning, Status}
-use Rattle.octet_ports.specs.Ports.{GivesWithin}
+use Rattle.octet_ports.specs.Ports.{GivesWithin, Sink, Source}
 use Rattle.host_map.specs.declared.parts.Sizes.{Sizes}
 use Rattle.host_map.specs.MemoryMap.{AreSizes}
 use Rattle.host_spec.specs.Calls.{Call, refusal_in}
 use Rattle.host_spec.specs.Calls.Call.{Control}
 use Rattle.host_spec.specs.Runs.{history_of_run, outputs_in, statuses_in}
 use Rattle.script_server.specs.declared.limits.TheConstants.{SCRIPT_OCTETS}
-use Rattle.script_server.specs.Runs.{AreReady, Devices, EndsByRead, EndsByWrite, EndsWell, IsReadyIn, octets_to_come}
+use Rattle.script_server.specs.Runs.{AreReady, Devices, EndsByRead, EndsByWrite, EndsWell, IsHonest, IsReadyIn, known_of, octets_to_come}
 use Rattle.voice_channel.specs.declared.TheConstants.{CHANNELS}
-use Rattle.voice_script.specs.Widths.{Widths}
+use Rattle.voice_script.specs.Widths.{Widths, widths_of}
 use Rattle.console_spec.specs.Console.{console_machine, start}
 use Rattle.console_spec.specs.Births.{Born}
+use Rattle.dsp_console.specs.declared.serving.Config.{Config}
 use Rattle.dsp_console.specs.declared.serving.Summary.{Summary}
 use Rattle.dsp_console.specs.declared.serving.Fault.{Fault}
 use Rattle.dsp_console.specs.declared.serving.Fault.TheVariants.{Size, Memory, Read, Write}
 use Rattle.dsp_console.specs.Headline.{RunHeadline}
+use Rattle.test_runs.specs.declared.two_runs.Ports.{Ports}
 
 -- a run may begin over these ports
 pub record CanRun (devices : Devices) : Type 0 where
@@ -56,3 +58,20 @@ pub record RunsAgree {M : Type 0} (kinds : Meaning M) (named : List ℕ → Opti
       → (control : Ctl) (first rest : List (Call M)) (answer : Result Status Refusal) → later ≡ first ++ Control i control answer ∷ rest
       → (other_first other_rest : List (Call M)) (other_answer : Result Status Refusal) → since ≡ other_first ++ Control j control other_answer ∷ other_rest
       → refusal_in answer ≡ refusal_in other_answer
+
+-- what is known of the ports of a run
+abbrev pub ports_known : {S I O P : Type 0} → (S → Source) → (I → Source) → (O → Sink) → (P → Sink) → Ports S I O P → Devices
+ports_known s i o p ports = known_of s i o p ports.script ports.inputs.items ports.outputs.items ports.replies
+
+module _ {M : Type 0} (kinds : Meaning M) (named : List ℕ → Option M) where
+  -- a run that was told this configuration ended so
+  abbrev pub RunEndsBy : Config → Result Summary Fault → Devices → Devices → Type 0
+  RunEndsBy config result old new = RunEnds kinds named (widths_of config.in8 config.out8) config.sizes config.poison old new result
+
+  -- where both scripts are honest and both runs answer a summary, they agree
+  abbrev pub BothAgree : Config → Config → Result Summary Fault × Result Summary Fault → (old new other_old other_new : Devices) → Type 0
+  BothAgree config other_config results old new other_old other_new =
+      IsHonest old.script → IsHonest other_old.script
+      → IfOk results.0 (λ summary. IfOk results.1 (λ other_summary. RunsAgree kinds named
+      (widths_of config.in8 config.out8) config.sizes config.poison summary.refused old new
+      (widths_of other_config.in8 other_config.out8) other_config.sizes other_config.poison other_summary.refused other_old other_new))

@@ -1,7 +1,7 @@
 //! A script of a few lines, and what the headline says of it.
-ghost use Rattle.std.specs.Prelude.{◌≡◌, length, IfOk};
-ghost use Rattle.script_server.specs.Runs.{known_of};
-ghost use Rattle.test_runs.specs.Row.{CanRunRow, RowGave};
+ghost use Rattle.std.specs.Prelude.{◌≡◌, length};
+ghost use Rattle.script_server.specs.Runs.{Over, known_of};
+ghost use Rattle.test_runs.specs.Row.{CanRunRow, RowGaveIt};
 
 use dsp_console::{Config, Fault, Sizes, Summary, run};
 use octet_ports::{PortIn, PortOut};
@@ -24,9 +24,8 @@ pub fn run_row<S: PortIn, I: PortIn, O: PortOut, P: PortOut>(
     requires two { length inputs.old.items ≡ 2 }
     requires pairs { length outputs.old.items ≡ 2 }
     requires row { CanRunRow (known_of S.source I.source O.sink P.sink script.old inputs.old.items outputs.old.items replies.old) }
-    ensures gave { IfOk result (λ summary. RowGave poison summary.refused
-        (known_of S.source I.source O.sink P.sink script.old inputs.old.items outputs.old.items replies.old)
-        (known_of S.source I.source O.sink P.sink script.new inputs.new.items outputs.new.items replies.new)) }
+    ensures gave { Over S.source I.source O.sink P.sink (RowGaveIt poison result)
+        script.old script.new inputs.old inputs.new outputs.old outputs.new replies.old replies.new }
 {
     voices_are_lawful();
     voices_give_their_equations();

@@ -1,8 +1,5 @@
 //! Two runs, each over its own ports and from its own host.
-ghost use Rattle.std.specs.Prelude.{IfOk};
-ghost use Rattle.voice_script.specs.Widths.{widths_of};
-ghost use Rattle.script_server.specs.Runs.{IsHonest, known_of};
-ghost use Rattle.test_runs.specs.TwoRuns.{CanRun, RunEnds, RunsAgree};
+ghost use Rattle.test_runs.specs.TwoRuns.{BothAgree, CanRun, RunEndsBy, ports_known};
 
 use dsp_console::{Config, Fault, Summary, headline, run};
 use ialg::{Ialg, Named};
@@ -31,22 +28,15 @@ pub fn run_both<M: Ialg + Named, S: PortIn, I: PortIn, O: PortOut, P: PortOut>(
     other_config: Config,
     other_ports: &mut Ports<S, I, O, P>,
 ) -> (Result<Summary, Fault>, Result<Summary, Fault>)
-    requires ready { CanRun (known_of S.source I.source O.sink P.sink ports.old.script ports.old.inputs.items ports.old.outputs.items ports.old.replies) }
-    requires other_ready { CanRun (known_of S.source I.source O.sink P.sink other_ports.old.script other_ports.old.inputs.items other_ports.old.outputs.items other_ports.old.replies) }
-    ensures one { RunEnds M.law.meaning M.named (widths_of config.in8 config.out8) config.sizes config.poison
-        (known_of S.source I.source O.sink P.sink ports.old.script ports.old.inputs.items ports.old.outputs.items ports.old.replies)
-        (known_of S.source I.source O.sink P.sink ports.new.script ports.new.inputs.items ports.new.outputs.items ports.new.replies) result.0 }
-    ensures other { RunEnds M.law.meaning M.named (widths_of other_config.in8 other_config.out8) other_config.sizes other_config.poison
-        (known_of S.source I.source O.sink P.sink other_ports.old.script other_ports.old.inputs.items other_ports.old.outputs.items other_ports.old.replies)
-        (known_of S.source I.source O.sink P.sink other_ports.new.script other_ports.new.inputs.items other_ports.new.outputs.items other_ports.new.replies) result.1 }
-    ensures agree { IsHonest (S.source ports.old.script) → IsHonest (S.source other_ports.old.script)
-        → IfOk result.0 (λ summary. IfOk result.1 (λ other_summary. RunsAgree M.law.meaning M.named
-        (widths_of config.in8 config.out8) config.sizes config.poison summary.refused
-        (known_of S.source I.source O.sink P.sink ports.old.script ports.old.inputs.items ports.old.outputs.items ports.old.replies)
-        (known_of S.source I.source O.sink P.sink ports.new.script ports.new.inputs.items ports.new.outputs.items ports.new.replies)
-        (widths_of other_config.in8 other_config.out8) other_config.sizes other_config.poison other_summary.refused
-        (known_of S.source I.source O.sink P.sink other_ports.old.script other_ports.old.inputs.items other_ports.old.outputs.items other_ports.old.replies)
-        (known_of S.source I.source O.sink P.sink other_ports.new.script other_ports.new.inputs.items other_ports.new.outputs.items other_ports.new.replies))) }
+    requires ready { CanRun (ports_known S.source I.source O.sink P.sink ports.old) }
+    requires other_ready { CanRun (ports_known S.source I.source O.sink P.sink other_ports.old) }
+    ensures one { RunEndsBy M.law.meaning M.named config result.0
+        (ports_known S.source I.source O.sink P.sink ports.old) (ports_known S.source I.source O.sink P.sink ports.new) }
+    ensures other { RunEndsBy M.law.meaning M.named other_config result.1
+        (ports_known S.source I.source O.sink P.sink other_ports.old) (ports_known S.source I.source O.sink P.sink other_ports.new) }
+    ensures agree { BothAgree M.law.meaning M.named config other_config result
+        (ports_known S.source I.source O.sink P.sink ports.old) (ports_known S.source I.source O.sink P.sink ports.new)
+        (ports_known S.source I.source O.sink P.sink other_ports.old) (ports_known S.source I.source O.sink P.sink other_ports.new) }
 {
     headline::<M>();
     let ended = run::<M, S, I, O, P>(
