@@ -1,11 +1,7 @@
 //! Operators and filters over blocks of samples.
-ghost use Rattle.std.specs.Prelude.{◌≡◌, ◌≢◌, ◌<◌, ◌≤◌, ◌+◌, ℕ, length};
-ghost use Rattle.ialg.specs.History.{word_at};
-ghost use Rattle.ialg.specs.declared.TheConstants.{BLOCK_SAMPLES};
+ghost use Rattle.std.specs.Prelude.{◌≡◌, ◌≢◌, length};
 ghost use Rattle.basic_op.specs.Operators.{add_of, sub_of, mult_of, shl_of, shr_of};
-ghost use Rattle.fir_kernel.specs.Sums.{filtered_at};
-ghost use Rattle.fir_kernel.specs.declared.TheConstants.{MOST_COEFFICIENTS};
-ghost use Rattle.dsp_library.specs.Sums.{l_mac_sum, BothHave};
+ghost use Rattle.dsp_library.specs.Sums.{l_mac_sum, AreFiltered, AreOfOne, AreOfTwo, BothHave, CanFilter};
 ghost use Rattle.dsp_library.specs.declared.TheConstants.{DONE, BAD_LENGTH};
 
 use crate::{BAD_LENGTH, DONE};
@@ -16,7 +12,7 @@ use ialg::BLOCK_SAMPLES;
 fn add_all(a: &[i16], b: &[i16], out: &mut [i16])
     requires first { length a.now ≡ length out.old }
     requires second { length b.now ≡ length out.old }
-    ensures sums { (k : ℕ) → k < length out.old → word_at out.new k ≡ add_of (word_at a.now k) (word_at b.now k) }
+    ensures sums { AreOfTwo add_of a.now b.now out.old out.new }
 {
     for k in 0..a.len() {
         out[k] = basic_op::add(a[k], b[k]);
@@ -27,7 +23,7 @@ fn add_all(a: &[i16], b: &[i16], out: &mut [i16])
 fn sub_all(a: &[i16], b: &[i16], out: &mut [i16])
     requires first { length a.now ≡ length out.old }
     requires second { length b.now ≡ length out.old }
-    ensures differences { (k : ℕ) → k < length out.old → word_at out.new k ≡ sub_of (word_at a.now k) (word_at b.now k) }
+    ensures differences { AreOfTwo sub_of a.now b.now out.old out.new }
 {
     for k in 0..a.len() {
         out[k] = basic_op::sub(a[k], b[k]);
@@ -37,7 +33,7 @@ fn sub_all(a: &[i16], b: &[i16], out: &mut [i16])
 /// Writes the products.
 fn mult_all(gain: i16, samples: &[i16], out: &mut [i16])
     requires { length samples.now ≡ length out.old }
-    ensures products { (k : ℕ) → k < length out.old → word_at out.new k ≡ mult_of (word_at samples.now k) gain }
+    ensures products { AreOfOne mult_of samples.now gain out.old out.new }
 {
     for k in 0..samples.len() {
         out[k] = basic_op::mult(samples[k], gain);
@@ -47,7 +43,7 @@ fn mult_all(gain: i16, samples: &[i16], out: &mut [i16])
 /// Writes the samples, each shifted to the left.
 fn shl_all(samples: &[i16], shift: i16, out: &mut [i16])
     requires { length samples.now ≡ length out.old }
-    ensures shifted { (k : ℕ) → k < length out.old → word_at out.new k ≡ shl_of (word_at samples.now k) shift }
+    ensures shifted { AreOfOne shl_of samples.now shift out.old out.new }
 {
     for k in 0..samples.len() {
         out[k] = basic_op::shl(samples[k], shift);
@@ -57,7 +53,7 @@ fn shl_all(samples: &[i16], shift: i16, out: &mut [i16])
 /// Writes the samples, each shifted to the right.
 fn shr_all(samples: &[i16], shift: i16, out: &mut [i16])
     requires { length samples.now ≡ length out.old }
-    ensures shifted { (k : ℕ) → k < length out.old → word_at out.new k ≡ shr_of (word_at samples.now k) shift }
+    ensures shifted { AreOfOne shr_of samples.now shift out.old out.new }
 {
     for k in 0..samples.len() {
         out[k] = basic_op::shr(samples[k], shift);
@@ -81,7 +77,7 @@ fn l_mac_all(v: i32, a: &[i16], b: &[i16]) -> i32
 pub extern "C" fn rokdaum_proved_add_block(a: &[i16], b: &[i16], out: &mut [i16]) -> i32
     ensures length { ¬ BothHave (length out.old) a.now b.now → result ≡ BAD_LENGTH }
     ensures done { length a.now ≡ length out.old → length b.now ≡ length out.old → result ≡ DONE }
-    ensures sums { result ≡ DONE → (k : ℕ) → k < length out.old → word_at out.new k ≡ add_of (word_at a.now k) (word_at b.now k) }
+    ensures sums { result ≡ DONE → AreOfTwo add_of a.now b.now out.old out.new }
     ensures refused { result ≢ DONE → out.new ≡ out.old }
 {
     if a.len() != out.len() || b.len() != out.len() {
@@ -96,7 +92,7 @@ pub extern "C" fn rokdaum_proved_add_block(a: &[i16], b: &[i16], out: &mut [i16]
 pub extern "C" fn rokdaum_proved_sub_block(a: &[i16], b: &[i16], out: &mut [i16]) -> i32
     ensures length { ¬ BothHave (length out.old) a.now b.now → result ≡ BAD_LENGTH }
     ensures done { length a.now ≡ length out.old → length b.now ≡ length out.old → result ≡ DONE }
-    ensures differences { result ≡ DONE → (k : ℕ) → k < length out.old → word_at out.new k ≡ sub_of (word_at a.now k) (word_at b.now k) }
+    ensures differences { result ≡ DONE → AreOfTwo sub_of a.now b.now out.old out.new }
     ensures refused { result ≢ DONE → out.new ≡ out.old }
 {
     if a.len() != out.len() || b.len() != out.len() {
@@ -111,7 +107,7 @@ pub extern "C" fn rokdaum_proved_sub_block(a: &[i16], b: &[i16], out: &mut [i16]
 pub extern "C" fn rokdaum_proved_mult_block(gain: i16, samples: &[i16], out: &mut [i16]) -> i32
     ensures length { length samples.now ≢ length out.old → result ≡ BAD_LENGTH }
     ensures done { length samples.now ≡ length out.old → result ≡ DONE }
-    ensures products { result ≡ DONE → (k : ℕ) → k < length out.old → word_at out.new k ≡ mult_of (word_at samples.now k) gain }
+    ensures products { result ≡ DONE → AreOfOne mult_of samples.now gain out.old out.new }
     ensures refused { result ≢ DONE → out.new ≡ out.old }
 {
     if samples.len() != out.len() {
@@ -127,7 +123,7 @@ pub extern "C" fn rokdaum_proved_mult_block(gain: i16, samples: &[i16], out: &mu
 pub extern "C" fn rokdaum_proved_shl_block(samples: &[i16], shift: i16, out: &mut [i16]) -> i32
     ensures length { length samples.now ≢ length out.old → result ≡ BAD_LENGTH }
     ensures done { length samples.now ≡ length out.old → result ≡ DONE }
-    ensures shifted { result ≡ DONE → (k : ℕ) → k < length out.old → word_at out.new k ≡ shl_of (word_at samples.now k) shift }
+    ensures shifted { result ≡ DONE → AreOfOne shl_of samples.now shift out.old out.new }
     ensures refused { result ≢ DONE → out.new ≡ out.old }
 {
     if samples.len() != out.len() {
@@ -143,7 +139,7 @@ pub extern "C" fn rokdaum_proved_shl_block(samples: &[i16], shift: i16, out: &mu
 pub extern "C" fn rokdaum_proved_shr_block(samples: &[i16], shift: i16, out: &mut [i16]) -> i32
     ensures length { length samples.now ≢ length out.old → result ≡ BAD_LENGTH }
     ensures done { length samples.now ≡ length out.old → result ≡ DONE }
-    ensures shifted { result ≡ DONE → (k : ℕ) → k < length out.old → word_at out.new k ≡ shr_of (word_at samples.now k) shift }
+    ensures shifted { result ≡ DONE → AreOfOne shr_of samples.now shift out.old out.new }
     ensures refused { result ≢ DONE → out.new ≡ out.old }
 {
     if samples.len() != out.len() {
@@ -173,11 +169,9 @@ pub extern "C" fn rokdaum_proved_l_mac_block(v: i32, a: &[i16], b: &[i16], sum: 
 /// as many as fill up 63 more than there are outputs; those aren't read for an output.
 #[unsafe(no_mangle)]
 pub extern "C" fn rokdaum_proved_fir(coefficients: &[i16], line: &[i16], out: &mut [i16]) -> i32
-    ensures length { ¬ ((1 ≤ length coefficients.now) × (length coefficients.now ≤ MOST_COEFFICIENTS) × (length out.old ≤ BLOCK_SAMPLES)
-        × (length out.old + MOST_COEFFICIENTS ≤ length line.now + 1)) → result ≡ BAD_LENGTH }
-    ensures done { 1 ≤ length coefficients.now → length coefficients.now ≤ MOST_COEFFICIENTS → length out.old ≤ BLOCK_SAMPLES
-        → length out.old + MOST_COEFFICIENTS ≤ length line.now + 1 → result ≡ DONE }
-    ensures outputs { result ≡ DONE → (i : ℕ) → i < length out.old → word_at out.new i ≡ filtered_at coefficients.now line.now i }
+    ensures length { ¬ CanFilter coefficients.now line.now out.old → result ≡ BAD_LENGTH }
+    ensures done { CanFilter coefficients.now line.now out.old → result ≡ DONE }
+    ensures outputs { result ≡ DONE → AreFiltered coefficients.now line.now out.old out.new }
     ensures refused { result ≢ DONE → out.new ≡ out.old }
 {
     if coefficients.is_empty()

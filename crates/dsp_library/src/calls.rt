@@ -1,13 +1,7 @@
 //! The calls that pass no samples.
-ghost use Rattle.std.specs.Prelude.{◌≡◌, ◌≢◌, ◌≤◌, Some, None, length};
-ghost use Rattle.channel_spec.specs.Calls.Call.{Chain, Unchain, Remove};
-ghost use Rattle.ialg.specs.declared.TheConstants.{PARAMETER_WORDS};
-ghost use Rattle.gateway_kinds.specs.Kinds.{Kind};
-ghost use Rattle.voice_channel.specs.declared.TheConstants.{MEMBERS};
-ghost use Rattle.dsp_library.specs.declared.machine.Machine.{Machine as MachineOf};
-ghost use Rattle.dsp_library.specs.declared.TheConstants.{CLOSED, BAD_LENGTH, BAD_KIND, MARK};
-ghost use Rattle.dsp_library.specs.Calls.{IsHandle, Answers, Creates};
-ghost use Rattle.dsp_library.specs.Codes.{kind_numbered};
+ghost use Rattle.std.specs.Prelude.{◌≡◌, length};
+ghost use Rattle.channel_spec.specs.Calls.Call.{Unchain, Remove};
+ghost use Rattle.dsp_library.specs.Calls.{IsHandle, FitsChannel, RefusesClosed, RefusesKind, RefusesParameters, RefusesUnless, Takes, TakesChain, TakesCreation};
 
 use crate::codes::{code, kind_by, tell_space};
 use crate::handle::Handle;
@@ -31,12 +25,10 @@ pub extern "C" fn rokdaum_proved_create(
     requires handle { IsHandle handle.old }
     ensures handle { IsHandle handle.new }
     ensures mark { handle.new.mark ≡ handle.old.mark }
-    ensures closed { handle.old.mark ≢ MARK → (result ≡ CLOSED) × (handle.new ≡ handle.old) }
-    ensures kind { handle.old.mark ≡ MARK → kind_numbered kind ≡ None → (result ≡ BAD_KIND) × (handle.new ≡ handle.old) }
-    ensures length { handle.old.mark ≡ MARK → kind_numbered kind ≢ None → ¬ (length parameters.now ≤ PARAMETER_WORDS)
-        → (result ≡ BAD_LENGTH) × (handle.new ≡ handle.old) }
-    ensures machine { (m : MachineOf) (k : Kind) → handle.old.mark ≡ MARK → handle.old.held.machine ≡ Some m → kind_numbered kind ≡ Some k
-        → length parameters.now ≤ PARAMETER_WORDS → Creates i k group parameters.now m handle.new result full.old full.new }
+    ensures closed { RefusesClosed handle.old handle.new result }
+    ensures kind { RefusesKind handle.old handle.new result kind }
+    ensures length { RefusesParameters handle.old handle.new result kind parameters.now }
+    ensures machine { TakesCreation handle.old handle.new result i kind group parameters.now full.old full.new }
 {
     if handle.mark != MARK {
         return CLOSED;
@@ -66,11 +58,9 @@ pub extern "C" fn rokdaum_proved_chain(
     requires handle { IsHandle handle.old }
     ensures handle { IsHandle handle.new }
     ensures mark { handle.new.mark ≡ handle.old.mark }
-    ensures closed { handle.old.mark ≢ MARK → (result ≡ CLOSED) × (handle.new ≡ handle.old) }
-    ensures length { handle.old.mark ≡ MARK → ¬ ((1 ≤ length members.now) × (length members.now ≤ MEMBERS))
-        → (result ≡ BAD_LENGTH) × (handle.new ≡ handle.old) }
-    ensures machine { (m : MachineOf) → handle.old.mark ≡ MARK → handle.old.held.machine ≡ Some m → 1 ≤ length members.now
-        → length members.now ≤ MEMBERS → Answers (λ answer. Chain channel members.now answer) m handle.new result }
+    ensures closed { RefusesClosed handle.old handle.new result }
+    ensures length { RefusesUnless handle.old handle.new result (FitsChannel members.now) }
+    ensures machine { TakesChain handle.old handle.new result channel members.now }
 {
     if handle.mark != MARK {
         return CLOSED;
@@ -90,9 +80,8 @@ pub extern "C" fn rokdaum_proved_unchain(alloc: Global, handle: &mut Handle, cha
     requires handle { IsHandle handle.old }
     ensures handle { IsHandle handle.new }
     ensures mark { handle.new.mark ≡ handle.old.mark }
-    ensures closed { handle.old.mark ≢ MARK → (result ≡ CLOSED) × (handle.new ≡ handle.old) }
-    ensures machine { (m : MachineOf) → handle.old.mark ≡ MARK → handle.old.held.machine ≡ Some m
-        → Answers (λ answer. Unchain channel answer) m handle.new result }
+    ensures closed { RefusesClosed handle.old handle.new result }
+    ensures machine { Takes handle.old handle.new result (Unchain channel) }
 {
     if handle.mark != MARK {
         return CLOSED;
@@ -109,9 +98,8 @@ pub extern "C" fn rokdaum_proved_delete(alloc: Global, handle: &mut Handle, i: u
     requires handle { IsHandle handle.old }
     ensures handle { IsHandle handle.new }
     ensures mark { handle.new.mark ≡ handle.old.mark }
-    ensures closed { handle.old.mark ≢ MARK → (result ≡ CLOSED) × (handle.new ≡ handle.old) }
-    ensures machine { (m : MachineOf) → handle.old.mark ≡ MARK → handle.old.held.machine ≡ Some m
-        → Answers (λ answer. Remove i answer) m handle.new result }
+    ensures closed { RefusesClosed handle.old handle.new result }
+    ensures machine { Takes handle.old handle.new result (Remove i) }
 {
     if handle.mark != MARK {
         return CLOSED;

@@ -1,10 +1,7 @@
 //! Companding of blocks (ITU-T G.711).
-ghost use Rattle.std.specs.Prelude.{◌≡◌, ◌≢◌, ◌<◌, ℕ, None, Some, length, slice_index};
-ghost use Rattle.ialg.specs.History.{word_at};
-ghost use Rattle.alg_g711.specs.Companding.{encoded, decoded};
-ghost use Rattle.alg_g711.specs.declared.companding.Law.{Law as LawOf};
-ghost use Rattle.dsp_library.specs.Laws.{law_numbered};
-ghost use Rattle.dsp_library.specs.declared.TheConstants.{DONE, BAD_LAW, BAD_LENGTH};
+ghost use Rattle.std.specs.Prelude.{◌≡◌, ◌≢◌, None, length};
+ghost use Rattle.dsp_library.specs.Laws.{law_numbered, AreDecoded, AreEncoded, DecodesBy, EncodesBy, RefusesLengths, TakesLengths};
+ghost use Rattle.dsp_library.specs.declared.TheConstants.{DONE, BAD_LAW};
 
 use crate::{BAD_LAW, BAD_LENGTH, DONE};
 use alg_g711::{Law, decode, encode};
@@ -23,7 +20,7 @@ fn law_by(number: u32) -> Option<Law>
 /// Writes the codes of the samples.
 fn encode_all(law: Law, samples: &[i16], codes: &mut [u8])
     requires { length codes.old ≡ length samples.now }
-    ensures codes { (k : ℕ) → k < length samples.now → slice_index codes.new k ≡ encoded law (word_at samples.now k) }
+    ensures codes { AreEncoded law samples.now codes.new }
     ensures length { length codes.new ≡ length codes.old }
 {
     for k in 0..samples.len() {
@@ -34,7 +31,7 @@ fn encode_all(law: Law, samples: &[i16], codes: &mut [u8])
 /// Writes the samples of the codes.
 fn decode_all(law: Law, codes: &[u8], samples: &mut [i16])
     requires { length samples.old ≡ length codes.now }
-    ensures samples { (k : ℕ) → k < length codes.now → word_at samples.new k ≡ decoded law (slice_index codes.now k) }
+    ensures samples { AreDecoded law codes.now samples.new }
     ensures length { length samples.new ≡ length samples.old }
 {
     for k in 0..codes.len() {
@@ -46,10 +43,9 @@ fn decode_all(law: Law, codes: &[u8], samples: &mut [i16])
 #[unsafe(no_mangle)]
 pub extern "C" fn rokdaum_proved_g711_encode(law: u32, samples: &[i16], codes: &mut [u8]) -> i32
     ensures bad_law { law_numbered law ≡ None → result ≡ BAD_LAW }
-    ensures bad_length { law_numbered law ≢ None → length codes.old ≢ length samples.now → result ≡ BAD_LENGTH }
-    ensures done { (l : LawOf) → law_numbered law ≡ Some l → length codes.old ≡ length samples.now → result ≡ DONE }
-    ensures codes { (l : LawOf) → law_numbered law ≡ Some l → result ≡ DONE
-        → (k : ℕ) → k < length samples.now → slice_index codes.new k ≡ encoded l (word_at samples.now k) }
+    ensures bad_length { RefusesLengths law result (length codes.old) (length samples.now) }
+    ensures done { TakesLengths law result (length codes.old) (length samples.now) }
+    ensures codes { EncodesBy law result samples.now codes.new }
     ensures refused { result ≢ DONE → codes.new ≡ codes.old }
 {
     let Some(law) = law_by(law) else {
@@ -66,10 +62,9 @@ pub extern "C" fn rokdaum_proved_g711_encode(law: u32, samples: &[i16], codes: &
 #[unsafe(no_mangle)]
 pub extern "C" fn rokdaum_proved_g711_decode(law: u32, codes: &[u8], samples: &mut [i16]) -> i32
     ensures bad_law { law_numbered law ≡ None → result ≡ BAD_LAW }
-    ensures bad_length { law_numbered law ≢ None → length samples.old ≢ length codes.now → result ≡ BAD_LENGTH }
-    ensures done { (l : LawOf) → law_numbered law ≡ Some l → length samples.old ≡ length codes.now → result ≡ DONE }
-    ensures samples { (l : LawOf) → law_numbered law ≡ Some l → result ≡ DONE
-        → (k : ℕ) → k < length codes.now → word_at samples.new k ≡ decoded l (slice_index codes.now k) }
+    ensures bad_length { RefusesLengths law result (length samples.old) (length codes.now) }
+    ensures done { TakesLengths law result (length samples.old) (length codes.now) }
+    ensures samples { DecodesBy law result codes.now samples.new }
     ensures refused { result ≢ DONE → samples.new ≡ samples.old }
 {
     let Some(law) = law_by(law) else {

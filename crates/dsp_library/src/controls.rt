@@ -1,13 +1,12 @@
 //! Controls.
-ghost use Rattle.std.specs.Prelude.{◌≡◌, ◌≢◌, ◌≤◌, Some, length, take, IfOk};
-ghost use Rattle.ialg.specs.History.Ctl.{Set, Reset, Get};
+ghost use Rattle.std.specs.Prelude.{◌≡◌, ◌≢◌, ◌≤◌, length, IfOk};
+ghost use Rattle.ialg.specs.History.Ctl.{Reset};
 ghost use Rattle.ialg.specs.Views.{answer_of};
 ghost use Rattle.ialg.specs.declared.TheConstants.{PARAMETER_WORDS};
 ghost use Rattle.channel_spec.specs.Calls.Call.{OfHost};
 ghost use Rattle.host_spec.specs.Calls.Call.{Control};
-ghost use Rattle.dsp_library.specs.declared.machine.Machine.{Machine as MachineOf};
-ghost use Rattle.dsp_library.specs.declared.TheConstants.{DONE, CLOSED, BAD_LENGTH, MARK};
-ghost use Rattle.dsp_library.specs.Calls.{IsHandle, Answers, Gets, words_told};
+ghost use Rattle.dsp_library.specs.declared.TheConstants.{DONE};
+ghost use Rattle.dsp_library.specs.Calls.{IsHandle, AreTold, FitsParameters, HoldsParameters, RefusesClosed, RefusesUnless, Takes, TakesGet, TakesSet};
 ghost use Rattle.dsp_library.specs.Codes.{code_of};
 
 use crate::feeding::write_first;
@@ -37,10 +36,9 @@ pub extern "C" fn rokdaum_proved_set(
     requires handle { IsHandle handle.old }
     ensures handle { IsHandle handle.new }
     ensures mark { handle.new.mark ≡ handle.old.mark }
-    ensures closed { handle.old.mark ≢ MARK → (result ≡ CLOSED) × (handle.new ≡ handle.old) }
-    ensures length { handle.old.mark ≡ MARK → ¬ (length words.now ≤ PARAMETER_WORDS) → (result ≡ BAD_LENGTH) × (handle.new ≡ handle.old) }
-    ensures machine { (m : MachineOf) → handle.old.mark ≡ MARK → handle.old.held.machine ≡ Some m → length words.now ≤ PARAMETER_WORDS
-        → Answers (λ answer. OfHost (Control i (Set words.now) answer)) m handle.new result }
+    ensures closed { RefusesClosed handle.old handle.new result }
+    ensures length { RefusesUnless handle.old handle.new result (FitsParameters words.now) }
+    ensures machine { TakesSet handle.old handle.new result i words.now }
 {
     if handle.mark != MARK {
         return CLOSED;
@@ -61,9 +59,8 @@ pub extern "C" fn rokdaum_proved_reset(alloc: Global, handle: &mut Handle, i: u8
     requires handle { IsHandle handle.old }
     ensures handle { IsHandle handle.new }
     ensures mark { handle.new.mark ≡ handle.old.mark }
-    ensures closed { handle.old.mark ≢ MARK → (result ≡ CLOSED) × (handle.new ≡ handle.old) }
-    ensures machine { (m : MachineOf) → handle.old.mark ≡ MARK → handle.old.held.machine ≡ Some m
-        → Answers (λ answer. OfHost (Control i Reset answer)) m handle.new result }
+    ensures closed { RefusesClosed handle.old handle.new result }
+    ensures machine { Takes handle.old handle.new result (λ answer. OfHost (Control i Reset answer)) }
 {
     if handle.mark != MARK {
         return CLOSED;
@@ -87,10 +84,9 @@ pub extern "C" fn rokdaum_proved_get(
     ensures handle { IsHandle handle.new }
     ensures mark { handle.new.mark ≡ handle.old.mark }
     ensures refused { result ≢ DONE → (words.new ≡ words.old) × (count.new ≡ count.old) }
-    ensures closed { handle.old.mark ≢ MARK → (result ≡ CLOSED) × (handle.new ≡ handle.old) }
-    ensures length { handle.old.mark ≡ MARK → ¬ (PARAMETER_WORDS ≤ length words.old) → (result ≡ BAD_LENGTH) × (handle.new ≡ handle.old) }
-    ensures machine { (m : MachineOf) → handle.old.mark ≡ MARK → handle.old.held.machine ≡ Some m → PARAMETER_WORDS ≤ length words.old
-        → Gets i m handle.new result words.new count.new }
+    ensures closed { RefusesClosed handle.old handle.new result }
+    ensures length { RefusesUnless handle.old handle.new result (HoldsParameters words.old) }
+    ensures machine { TakesGet handle.old handle.new result i words.old words.new count.new }
 {
     if handle.mark != MARK {
         return CLOSED;
@@ -109,7 +105,7 @@ fn tell_words(answer: Result<Status, Refusal>, words: &mut [i16], count: &mut u3
     requires room { PARAMETER_WORDS ≤ length words.old }
     ensures refused { result ≢ DONE → (words.new ≡ words.old) × (count.new ≡ count.old) }
     ensures code { result ≡ code_of answer }
-    ensures told { IfOk answer (λ status. (count.new ≡ length (words_told (answer_of status))) × (take (length (words_told (answer_of status))) words.new ≡ words_told (answer_of status))) }
+    ensures told { IfOk answer (λ status. AreTold (answer_of status) words.new count.new) }
 {
     match answer {
         Ok(Status::Done) => {

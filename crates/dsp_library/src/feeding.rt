@@ -1,10 +1,9 @@
 //! Blocks of samples.
-ghost use Rattle.std.specs.Prelude.{◌≡◌, ◌≢◌, ◌≤◌, Some, length, take, drop};
+ghost use Rattle.std.specs.Prelude.{◌≡◌, ◌≢◌, ◌≤◌, length, take, drop};
 ghost use Rattle.ialg.specs.declared.TheConstants.{BLOCK_SAMPLES};
-ghost use Rattle.dsp_library.specs.declared.machine.Machine.{Machine as MachineOf};
-ghost use Rattle.dsp_library.specs.declared.TheConstants.{DONE, CLOSED, BAD_LENGTH, MARK};
+ghost use Rattle.dsp_library.specs.declared.TheConstants.{DONE};
 ghost use Rattle.channel_spec.specs.Calls.Call.{Ready};
-ghost use Rattle.dsp_library.specs.Calls.{IsHandle, Answers, Feeds, FeedEnds};
+ghost use Rattle.dsp_library.specs.Calls.{IsHandle, CanBeFed, FeedEnds, RefusesClosed, RefusesUnless, Takes, TakesFeed};
 
 use crate::codes::code;
 use crate::handle::Handle;
@@ -32,9 +31,8 @@ pub extern "C" fn rokdaum_proved_ready(alloc: Global, handle: &mut Handle, chann
     requires handle { IsHandle handle.old }
     ensures handle { IsHandle handle.new }
     ensures mark { handle.new.mark ≡ handle.old.mark }
-    ensures closed { handle.old.mark ≢ MARK → (result ≡ CLOSED) × (handle.new ≡ handle.old) }
-    ensures machine { (m : MachineOf) → handle.old.mark ≡ MARK → handle.old.held.machine ≡ Some m
-        → Answers (λ answer. Ready channel answer) m handle.new result }
+    ensures closed { RefusesClosed handle.old handle.new result }
+    ensures machine { Takes handle.old handle.new result (Ready channel) }
 {
     if handle.mark != MARK {
         return CLOSED;
@@ -60,12 +58,9 @@ pub extern "C" fn rokdaum_proved_feed(
     ensures handle { IsHandle handle.new }
     ensures mark { handle.new.mark ≡ handle.old.mark }
     ensures refused { result ≢ DONE → (out.new ≡ out.old) × (count.new ≡ count.old) }
-    ensures closed { handle.old.mark ≢ MARK → (result ≡ CLOSED) × (handle.new ≡ handle.old) }
-    ensures length { handle.old.mark ≡ MARK → ¬ ((1 ≤ length input.now) × (length input.now ≤ BLOCK_SAMPLES) × (length input.now ≤ length out.old))
-        → (result ≡ BAD_LENGTH) × (handle.new ≡ handle.old) }
-    ensures machine { (m : MachineOf) → handle.old.mark ≡ MARK → handle.old.held.machine ≡ Some m → 1 ≤ length input.now
-        → length input.now ≤ BLOCK_SAMPLES → length input.now ≤ length out.old
-        → Feeds channel input.now m handle.new result out.old out.new count.new }
+    ensures closed { RefusesClosed handle.old handle.new result }
+    ensures length { RefusesUnless handle.old handle.new result (CanBeFed input.now out.old) }
+    ensures machine { TakesFeed handle.old handle.new result channel input.now out.old out.new count.new }
 {
     if handle.mark != MARK {
         return CLOSED;

@@ -2,10 +2,9 @@
 ghost use Rattle.std.specs.Prelude.{◌≡◌, ◌≢◌, ◌≤◌, true, Some, None, is_some, IfOk, IfErr, IsErrOf};
 ghost use Rattle.host_map.specs.MemoryMap.{AreSizes};
 ghost use Rattle.host_spec.specs.State.{new_state};
-ghost use Rattle.dsp_library.specs.declared.machine.Machine.{Machine as MachineOf};
-ghost use Rattle.dsp_library.specs.declared.TheConstants.{DONE, BAD_SIZE, NO_MEMORY, CLOSED, OPEN, MARK};
-ghost use Rattle.dsp_library.specs.Calls.{IsHandle, Keeps};
-ghost use Rattle.dsp_library.specs.Codes.{CanBeOpened, opened_state};
+ghost use Rattle.dsp_library.specs.declared.TheConstants.{DONE, BAD_SIZE, NO_MEMORY, OPEN, MARK};
+ghost use Rattle.dsp_library.specs.Calls.{IsHandle, IsOpenedWith, IsShut, Keeps, RefusesClosed};
+ghost use Rattle.dsp_library.specs.Codes.{CanBeOpened};
 ghost use Rattle.channel_spec.specs.Channels.{unchained};
 
 use crate::held::Held;
@@ -94,8 +93,7 @@ pub extern "C" fn rokdaum_proved_open(alloc: Global, handle: &mut Handle, option
     ensures size { handle.old.mark ≢ MARK → ¬ CanBeOpened options.now → result ≡ BAD_SIZE }
     ensures memory { handle.old.mark ≢ MARK → CanBeOpened options.now → result ≢ DONE → result ≡ NO_MEMORY }
     ensures refused { result ≢ DONE → handle.new ≡ handle.old }
-    ensures opened { result ≡ DONE → (handle.new.mark ≡ MARK) × ((m : MachineOf) × (handle.new.held.machine ≡ Some m)
-        × Keeps m.channels (opened_state options.now)) }
+    ensures opened { result ≡ DONE → IsOpenedWith options.now handle.new }
 {
     if handle.mark == MARK {
         return OPEN;
@@ -128,8 +126,8 @@ pub extern "C" fn rokdaum_proved_open(alloc: Global, handle: &mut Handle, option
 pub extern "C" fn rokdaum_proved_close(alloc: Global, handle: &mut Handle) -> i32
     requires handle { IsHandle handle.old }
     ensures handle { IsHandle handle.new }
-    ensures closed { handle.old.mark ≢ MARK → (result ≡ CLOSED) × (handle.new ≡ handle.old) }
-    ensures done { handle.old.mark ≡ MARK → (result ≡ DONE) × (handle.new.mark ≢ MARK) × (handle.new.held.machine ≡ None) }
+    ensures closed { RefusesClosed handle.old handle.new result }
+    ensures done { handle.old.mark ≡ MARK → (result ≡ DONE) × IsShut handle.new }
 {
     if handle.mark != MARK {
         return CLOSED;

@@ -1,11 +1,8 @@
 //! Memory: moves, groups and maps.
-ghost use Rattle.std.specs.Prelude.{◌≡◌, ◌≢◌, ◌≤◌, Some, None, length};
-ghost use Rattle.mem_rec.specs.declared.Space.{Space as SpaceOf};
-ghost use Rattle.host_map.specs.declared.TheConstants.{MAP_BLOCKS};
-ghost use Rattle.dsp_library.specs.declared.machine.Machine.{Machine as MachineOf};
-ghost use Rattle.dsp_library.specs.declared.TheConstants.{DONE, CLOSED, BAD_SPACE, BAD_LENGTH, MARK};
-ghost use Rattle.dsp_library.specs.Calls.{IsHandle, Steps, Compacts, Releases, Stats, Copies, Maps};
-ghost use Rattle.dsp_library.specs.Codes.{space_numbered, block_of, AreShown};
+ghost use Rattle.std.specs.Prelude.{◌≡◌, ◌≢◌, ◌≤◌, length};
+ghost use Rattle.dsp_library.specs.declared.TheConstants.{DONE, CLOSED, MARK};
+ghost use Rattle.dsp_library.specs.Calls.{IsHandle, RefusesClosed, RefusesMap, RefusesSpace, TakesCompaction, TakesRelease, TakesStep, TellsCopied, TellsMap, TellsStat};
+ghost use Rattle.dsp_library.specs.Codes.{block_of, AreShown};
 
 use crate::codes::space_by;
 use crate::handle::Handle;
@@ -38,9 +35,8 @@ pub extern "C" fn rokdaum_proved_step(
     ensures mark { handle.new.mark ≡ handle.old.mark }
     ensures refused { result ≢ DONE → (handle.new ≡ handle.old) × (moved.new ≡ moved.old) }
     ensures closed { handle.old.mark ≢ MARK → result ≡ CLOSED }
-    ensures space { handle.old.mark ≡ MARK → space_numbered space ≡ None → result ≡ BAD_SPACE }
-    ensures machine { (m : MachineOf) (s : SpaceOf) → handle.old.mark ≡ MARK → handle.old.held.machine ≡ Some m → space_numbered space ≡ Some s
-        → (result ≡ DONE) × Steps s m handle.new moved.new }
+    ensures space { RefusesSpace handle.old space result }
+    ensures machine { TakesStep handle.old handle.new result space moved.new }
 {
     if handle.mark != MARK {
         return CLOSED;
@@ -68,9 +64,8 @@ pub extern "C" fn rokdaum_proved_compact(
     ensures mark { handle.new.mark ≡ handle.old.mark }
     ensures refused { result ≢ DONE → (handle.new ≡ handle.old) × (moved.new ≡ moved.old) }
     ensures closed { handle.old.mark ≢ MARK → result ≡ CLOSED }
-    ensures space { handle.old.mark ≡ MARK → space_numbered space ≡ None → result ≡ BAD_SPACE }
-    ensures machine { (m : MachineOf) (s : SpaceOf) → handle.old.mark ≡ MARK → handle.old.held.machine ≡ Some m → space_numbered space ≡ Some s
-        → (result ≡ DONE) × Compacts s m handle.new moved.new }
+    ensures space { RefusesSpace handle.old space result }
+    ensures machine { TakesCompaction handle.old handle.new result space moved.new }
 {
     if handle.mark != MARK {
         return CLOSED;
@@ -92,7 +87,7 @@ pub extern "C" fn rokdaum_proved_copied(alloc: Global, handle: &mut Handle, word
     ensures handle { IsHandle handle.new }
     ensures mark { handle.new.mark ≡ handle.old.mark }
     ensures closed { handle.old.mark ≢ MARK → (result ≡ CLOSED) × (handle.new ≡ handle.old) × (words.new ≡ words.old) }
-    ensures machine { (m : MachineOf) → handle.old.mark ≡ MARK → handle.old.held.machine ≡ Some m → (result ≡ DONE) × Copies m handle.new words.new }
+    ensures machine { TellsCopied handle.old handle.new result words.new }
 {
     if handle.mark != MARK {
         return CLOSED;
@@ -115,8 +110,8 @@ pub extern "C" fn rokdaum_proved_release(
     ensures handle { IsHandle handle.new }
     ensures mark { handle.new.mark ≡ handle.old.mark }
     ensures refused { result ≢ DONE → released.new ≡ released.old }
-    ensures closed { handle.old.mark ≢ MARK → (result ≡ CLOSED) × (handle.new ≡ handle.old) }
-    ensures machine { (m : MachineOf) → handle.old.mark ≡ MARK → handle.old.held.machine ≡ Some m → Releases group m handle.new result released.new }
+    ensures closed { RefusesClosed handle.old handle.new result }
+    ensures machine { TakesRelease handle.old handle.new result group released.new }
 {
     if handle.mark != MARK {
         return CLOSED;
@@ -146,9 +141,8 @@ pub extern "C" fn rokdaum_proved_stat(
     ensures handle { IsHandle handle.new }
     ensures mark { handle.new.mark ≡ handle.old.mark }
     ensures refused { result ≢ DONE → (active.new ≡ active.old) × (activations.new ≡ activations.old) }
-    ensures closed { handle.old.mark ≢ MARK → (result ≡ CLOSED) × (handle.new ≡ handle.old) }
-    ensures machine { (m : MachineOf) → handle.old.mark ≡ MARK → handle.old.held.machine ≡ Some m
-        → Stats group m handle.new result active.new activations.new }
+    ensures closed { RefusesClosed handle.old handle.new result }
+    ensures machine { TellsStat handle.old handle.new result group active.new activations.new }
 {
     if handle.mark != MARK {
         return CLOSED;
@@ -211,10 +205,9 @@ pub extern "C" fn rokdaum_proved_map(
     ensures mark { handle.new.mark ≡ handle.old.mark }
     ensures refused { result ≢ DONE → (handle.new ≡ handle.old) × (blocks.new ≡ blocks.old) × (count.new ≡ count.old) }
     ensures closed { handle.old.mark ≢ MARK → result ≡ CLOSED }
-    ensures space { handle.old.mark ≡ MARK → space_numbered space ≡ None → result ≡ BAD_SPACE }
-    ensures length { handle.old.mark ≡ MARK → space_numbered space ≢ None → ¬ (MAP_BLOCKS ≤ length blocks.old) → result ≡ BAD_LENGTH }
-    ensures machine { (m : MachineOf) (s : SpaceOf) → handle.old.mark ≡ MARK → handle.old.held.machine ≡ Some m → space_numbered space ≡ Some s
-        → MAP_BLOCKS ≤ length blocks.old → (result ≡ DONE) × Maps s m handle.new blocks.new count.new }
+    ensures space { RefusesSpace handle.old space result }
+    ensures length { RefusesMap handle.old space blocks.old result }
+    ensures machine { TellsMap handle.old handle.new result space blocks.old blocks.new count.new }
 {
     if handle.mark != MARK {
         return CLOSED;
