@@ -1,14 +1,9 @@
 //! What commands do: each is a call of the channels, whose answer is told.
 ghost use Rattle.std.specs.Prelude.{◌≡◌};
-ghost use Rattle.voice_script.specs.ReplyViews.{reply_of};
-ghost use Rattle.voice_script.specs.Script as script;
-ghost use Rattle.host_spec.specs.Calls.Call.{Control};
-ghost use Rattle.channel_spec.specs.Calls.Call.{OfHost};
+ghost use Rattle.voice_script.specs.Script.Command.{Chain, Compact, Create, Delete, Feed, Get, Map, Release, Reset, Set, Stat, Step, Unchain};
 ghost use Rattle.voice_script.specs.Asks.{asked_of, AskIsReady};
-ghost use Rattle.voice_script.specs.Served.{tells};
 ghost use Rattle.ialg.specs.Views.{control_of};
-ghost use Rattle.console_spec.specs.Console.{Calls, status_reply, told_by};
-ghost use Rattle.dsp_console.specs.Consoles.{AsksByCommand, TellsOfCommand, channels_of, port_widths_of, TakesFeeds, Serves};
+ghost use Rattle.dsp_console.specs.Consoles.{AsksByCommand, channels_of, port_widths_of, TakesFeeds, TellsOf, TellsOfControl};
 
 use crate::console::Console;
 use crate::replies::{tell_done, tell_flag, tell_stat, tell_status};
@@ -22,7 +17,7 @@ impl<M: Ialg> Console<M> {
     pub(crate) fn create<'a>(&mut self, i: u8, kind: M, group: u8, parameters: &Params) -> Reply<'a>
         ensures channels { channels_of self.new ≡ channels_of self.old }
         ensures widths { self.new.widths ≡ self.old.widths }
-        ensures asks { TellsOfCommand M.law (script.Create i kind group parameters.now.items) (reply_of result) self.old self.new }
+        ensures asks { TellsOf M.law (Create i kind group parameters.now.items) result self.old self.new }
     {
         tell_done(self.channels.create(i, kind, group, parameters))
     }
@@ -32,7 +27,7 @@ impl<M: Ialg> Console<M> {
     pub(crate) fn control<'a>(&mut self, i: u8, control: &Ctl, room: &'a mut Words) -> Reply<'a>
         ensures channels { channels_of self.new ≡ channels_of self.old }
         ensures widths { self.new.widths ≡ self.old.widths }
-        ensures asks { Serves M.law (Calls M.law.meaning (λ a. OfHost (Control i (control_of control.now) a)) (λ a. tells (told_by status_reply a))) (tells (reply_of result)) self.old self.new }
+        ensures asks { TellsOfControl M.law i (control_of control.now) result self.old self.new }
     {
         tell_status(self.channels.control(i, control), room)
     }
@@ -42,7 +37,7 @@ impl<M: Ialg> Console<M> {
     pub(crate) fn set<'a>(&mut self, i: u8, words: &Params, room: &'a mut Words) -> Reply<'a>
         ensures channels { channels_of self.new ≡ channels_of self.old }
         ensures widths { self.new.widths ≡ self.old.widths }
-        ensures asks { TellsOfCommand M.law (script.Set i words.now.items) (reply_of result) self.old self.new }
+        ensures asks { TellsOf M.law (Set i words.now.items) result self.old self.new }
     {
         self.control(i, &Ctl::Set(copied(words.as_slice())), room)
     }
@@ -52,7 +47,7 @@ impl<M: Ialg> Console<M> {
     pub(crate) fn reset<'a>(&mut self, i: u8, room: &'a mut Words) -> Reply<'a>
         ensures channels { channels_of self.new ≡ channels_of self.old }
         ensures widths { self.new.widths ≡ self.old.widths }
-        ensures asks { TellsOfCommand M.law (script.Reset i) (reply_of result) self.old self.new }
+        ensures asks { TellsOf M.law (Reset i) result self.old self.new }
     {
         self.control(i, &Ctl::Reset, room)
     }
@@ -62,7 +57,7 @@ impl<M: Ialg> Console<M> {
     pub(crate) fn get<'a>(&mut self, i: u8, room: &'a mut Words) -> Reply<'a>
         ensures channels { channels_of self.new ≡ channels_of self.old }
         ensures widths { self.new.widths ≡ self.old.widths }
-        ensures asks { TellsOfCommand M.law (script.Get i) (reply_of result) self.old self.new }
+        ensures asks { TellsOf M.law (Get i) result self.old self.new }
     {
         self.control(i, &Ctl::Get, room)
     }
@@ -70,7 +65,7 @@ impl<M: Ialg> Console<M> {
     pub(crate) fn delete<'a>(&mut self, i: u8) -> Reply<'a>
         ensures channels { channels_of self.new ≡ channels_of self.old }
         ensures widths { self.new.widths ≡ self.old.widths }
-        ensures asks { TellsOfCommand M.law (script.Delete i) (reply_of result) self.old self.new }
+        ensures asks { TellsOf M.law (Delete i) result self.old self.new }
     {
         tell_done(self.channels.delete(i))
     }
@@ -78,7 +73,7 @@ impl<M: Ialg> Console<M> {
     pub(crate) fn chain<'a>(&mut self, c: u8, members: &Members) -> Reply<'a>
         ensures channels { channels_of self.new ≡ channels_of self.old }
         ensures widths { self.new.widths ≡ self.old.widths }
-        ensures asks { TellsOfCommand M.law (script.Chain c members.now.numbers.items) (reply_of result) self.old self.new }
+        ensures asks { TellsOf M.law (Chain c members.now.numbers.items) result self.old self.new }
     {
         tell_done(self.channels.chain(c, members.as_slice()))
     }
@@ -86,7 +81,7 @@ impl<M: Ialg> Console<M> {
     pub(crate) fn unchain<'a>(&mut self, c: u8) -> Reply<'a>
         ensures channels { channels_of self.new ≡ channels_of self.old }
         ensures widths { self.new.widths ≡ self.old.widths }
-        ensures asks { TellsOfCommand M.law (script.Unchain c) (reply_of result) self.old self.new }
+        ensures asks { TellsOf M.law (Unchain c) result self.old self.new }
     {
         tell_done(self.channels.unchain(c))
     }
@@ -94,7 +89,7 @@ impl<M: Ialg> Console<M> {
     /// Asks for a feed's samples, where the channel is ready.
     pub(crate) fn feed_asked<'a>(&self, c: u8, samples: FeedSamples) -> Ask<'a>
         ensures ready { AskIsReady TakesFeeds channels_of self.now result }
-        ensures asks { AsksByCommand M.law (script.Feed c samples.number) (asked_of (port_widths_of self.now) result) self.now self.now }
+        ensures asks { AsksByCommand M.law (Feed c samples.number) (asked_of (port_widths_of self.now) result) self.now self.now }
     {
         match self.channels.ready(c) {
             Ok(()) => Ask::Feed {
@@ -108,7 +103,7 @@ impl<M: Ialg> Console<M> {
     pub(crate) fn compact<'a>(&mut self, space: Space) -> Reply<'a>
         ensures channels { channels_of self.new ≡ channels_of self.old }
         ensures widths { self.new.widths ≡ self.old.widths }
-        ensures asks { TellsOfCommand M.law (script.Compact space) (reply_of result) self.old self.new }
+        ensures asks { TellsOf M.law (Compact space) result self.old self.new }
     {
         Reply::Count(self.channels.compact(space))
     }
@@ -116,7 +111,7 @@ impl<M: Ialg> Console<M> {
     pub(crate) fn step<'a>(&mut self, space: Space) -> Reply<'a>
         ensures channels { channels_of self.new ≡ channels_of self.old }
         ensures widths { self.new.widths ≡ self.old.widths }
-        ensures asks { TellsOfCommand M.law (script.Step space) (reply_of result) self.old self.new }
+        ensures asks { TellsOf M.law (Step space) result self.old self.new }
     {
         Reply::Flag(self.channels.step(space))
     }
@@ -124,14 +119,14 @@ impl<M: Ialg> Console<M> {
     pub(crate) fn release<'a>(&mut self, group: u8) -> Reply<'a>
         ensures channels { channels_of self.new ≡ channels_of self.old }
         ensures widths { self.new.widths ≡ self.old.widths }
-        ensures asks { TellsOfCommand M.law (script.Release group) (reply_of result) self.old self.new }
+        ensures asks { TellsOf M.law (Release group) result self.old self.new }
     {
         tell_flag(self.channels.release(group))
     }
 
     /// Puts the blocks of the space in place of what the map held.
     pub(crate) fn map<'a>(&self, space: Space, map: &'a mut Map) -> Reply<'a>
-        ensures asks { TellsOfCommand M.law (script.Map space) (reply_of result) self.now self.now }
+        ensures asks { TellsOf M.law (Map space) result self.now self.now }
     {
         map.clear();
         let _fits = map.try_extend_from_slice(self.channels.blocks_in(space));
@@ -139,7 +134,7 @@ impl<M: Ialg> Console<M> {
     }
 
     pub(crate) fn stat<'a>(&self, group: u8) -> Reply<'a>
-        ensures asks { TellsOfCommand M.law (script.Stat group) (reply_of result) self.now self.now }
+        ensures asks { TellsOf M.law (Stat group) result self.now self.now }
     {
         tell_stat(self.channels.stat(group))
     }

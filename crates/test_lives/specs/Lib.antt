@@ -1,2 +1,3 @@
 pub mod Owners
 pub mod Blocks
+pub mod Turns

@@ -1,10 +1,11 @@
 //! Two instances of one group by turns.
-ghost use Rattle.std.specs.Prelude.{◌≡◌, ◌≤◌, ◌++◌, ℤ, [], length, Option, None};
-ghost use Rattle.ialg.specs.History.{History, with_samples};
+ghost use Rattle.std.specs.Prelude.{◌≡◌, ◌≤◌, [], length};
 ghost use Rattle.record_loans.specs.Pieces.{SamePieces};
-ghost use Rattle.scratch_group.specs.Blocks.{BlocksArePoison, SameGroup};
-ghost use Rattle.lifecycle.specs.States.{Fits, IsLawful, IdleKeeps, SameInstance, all_outputs};
+ghost use Rattle.scratch_group.specs.Blocks.{SameGroup};
+ghost use Rattle.lifecycle.specs.States.{Fits, SameInstance};
+ghost use Rattle.lifecycle.specs.Keeping.{BecomesActiveAndGives};
 ghost use Rattle.test_lives.specs.Blocks.{AreBlocks};
+ghost use Rattle.test_lives.specs.Turns.{GivesBlock, GivesBoth, TakesBlock};
 
 use ialg::{BLOCK_SAMPLES, Block, Ialg};
 use lifecycle::Idle;
@@ -27,13 +28,8 @@ pub fn feed<M: Ialg>(
     ensures shared { SamePieces shared.old shared.new }
     ensures group { SameGroup group.old group.new }
     ensures fits { Fits result.instance.table result.instance.own shared.new group.new }
-    ensures keeps { (w : Option ℤ) (h : History) → BlocksArePoison w group.old
-        → IdleKeeps M.law member.instance w shared.old h
-        → IdleKeeps M.law result.instance w shared.new (with_samples h input.now) }
-    ensures output { (w : Option ℤ) (h : History) → BlocksArePoison w group.old → IsLawful M.law.meaning member.instance w
-        → IdleKeeps M.law member.instance w shared.old h
-        → all_outputs M.law.meaning member.instance (with_samples h input.now)
-        ≡ all_outputs M.law.meaning member.instance h ++ out.new.items }
+    ensures keeps { TakesBlock M.law member.instance shared.old group.old input.now result.instance shared.new }
+    ensures output { BecomesActiveAndGives M.law member.instance shared.old group.old input.now out.new.items }
 {
     let mut active = member.activated(shared, group);
     active.run(shared, group, input, out);
@@ -60,14 +56,8 @@ pub fn interleave<M: Ialg, N: Ialg>(
     requires empty { (out.old.items ≡ []) × (other.old.items ≡ []) × (more.old.items ≡ []) }
     requires some { (1 ≤ length before.now) × (1 ≤ length between.now) × (1 ≤ length after.now) }
     requires within { AreBlocks before.now between.now after.now }
-    ensures output { (h : History) → IsLawful M.law.meaning first.instance None
-        → IdleKeeps M.law first.instance None shared.old h
-        → all_outputs M.law.meaning first.instance (with_samples (with_samples h before.now) after.now)
-        ≡ (all_outputs M.law.meaning first.instance h ++ out.new.items) ++ more.new.items }
-    ensures output_between { (h : History) → IsLawful N.law.meaning second.instance None
-        → IdleKeeps N.law second.instance None others.old h
-        → all_outputs N.law.meaning second.instance (with_samples h between.now)
-        ≡ all_outputs N.law.meaning second.instance h ++ other.new.items }
+    ensures output { GivesBoth M.law first.instance shared.old before.now after.now out.new.items more.new.items }
+    ensures output_between { GivesBlock N.law second.instance others.old between.now other.new.items }
 {
     let first = feed(first, shared, group, before, out);
     let second = feed(second, others, group, between, other);

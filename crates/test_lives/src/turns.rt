@@ -1,11 +1,9 @@
 //! Two instances of one table by turns.
-ghost use Rattle.std.specs.Prelude.{◌≡◌, ◌≢◌, ◌≤◌, ◌++◌, ℕ, [], length, IsSome, Some};
-ghost use Rattle.ialg.specs.History.{History, with_samples};
-ghost use Rattle.lifecycle.specs.States.{IsLawful, all_outputs};
-ghost use Rattle.host_table.specs.declared.member.Member.{Member};
-ghost use Rattle.host_table.specs.Table.{slot_at, instance_of};
-ghost use Rattle.host_table.specs.Steps.{Ready, Stays, AreKept};
+ghost use Rattle.std.specs.Prelude.{◌≡◌, ◌≢◌, ◌≤◌, [], length, IsSome};
+ghost use Rattle.host_table.specs.Table.{slot_at};
+ghost use Rattle.host_table.specs.Steps.{Ready, Stays};
 ghost use Rattle.test_lives.specs.Blocks.{AreBlocks};
+ghost use Rattle.test_lives.specs.Turns.{GivesBothIn};
 
 use host_table::Tables;
 use ialg::{Block, Ialg};
@@ -31,11 +29,7 @@ pub fn take_turns<M: Ialg>(
     requires some { (1 ≤ length before.now) × (1 ≤ length between.now) × (1 ≤ length after.now) }
     requires within { AreBlocks before.now between.now after.now }
     ensures stays { Stays poison tables.old tables.new }
-    ensures output { (histories : ℕ → History) (m : Member M)
-        → AreKept M.law poison tables.old histories
-        → slot_at tables.old.instances first ≡ Some m → IsLawful M.law.meaning (instance_of m.inst) poison
-        → all_outputs M.law.meaning (instance_of m.inst) (with_samples (with_samples (histories first) before.now) after.now)
-        ≡ (all_outputs M.law.meaning (instance_of m.inst) (histories first) ++ out.new.items) ++ more.new.items }
+    ensures output { GivesBothIn M.law poison tables.old first before.now after.now out.new.items more.new.items }
 {
     tables.process(poison, first, before, out);
     tables.process(poison, second, between, other);

@@ -1,11 +1,10 @@
 //! What answers lines.
-ghost use Rattle.std.specs.Prelude.{◌≡◌, ◌≤◌, ℕ, length, take};
+ghost use Rattle.std.specs.Prelude.{◌≡◌, ◌≤◌, ℕ, length};
 ghost use Rattle.ialg.specs.declared.TheConstants.{BLOCK_SAMPLES};
 ghost use Rattle.voice_script.specs.declared.limits.TheConstants.{LINE_OCTETS};
-ghost use Rattle.voice_script.specs.Replies.{Count, reply_text};
 ghost use Rattle.voice_script.specs.Served.{Machine};
-ghost use Rattle.voice_script.specs.Asks.{asked_of, IsReady, AskIsReady};
-ghost use Rattle.voice_script.specs.Widths.{Widths, octet_count};
+ghost use Rattle.voice_script.specs.Asks.{asked_of, AskIsReady, AsksForLine, GivesForFeed, IsReady};
+ghost use Rattle.voice_script.specs.Widths.{Widths};
 
 use crate::octets::BLOCK_OCTETS;
 use crate::width::Width;
@@ -65,8 +64,7 @@ pub trait LineMachine {
         ensures channels { channels self.new ≡ channels self.old }
         ensures widths { widths self.new ≡ widths self.old }
         ensures ready { AskIsReady takes_feeds channels self.new result }
-        ensures asks { (s : State) → keeps self.old s
-            → (t : State) × (machine (widths self.old)).Asks s line.now (asked_of (widths self.old) result) t × keeps self.new t };
+        ensures asks { AsksForLine (machine (widths self.old)) line.now (asked_of (widths self.old) result) (keeps self.old) (keeps self.new) };
 
     /// Gives the samples of a feed to the channel, whose octets stand at the beginning of `block`. The octets of what the channel
     /// gives stand there afterwards; it answers how many samples that are. Of the rest of `block` nothing is said.
@@ -75,8 +73,5 @@ pub trait LineMachine {
         ensures channels { channels self.new ≡ channels self.old }
         ensures widths { widths self.new ≡ widths self.old }
         ensures bounded { result ≤ BLOCK_SAMPLES }
-        ensures gives { (s : State) → keeps self.old s
-            → (t : State) × (machine (widths self.old)).Gives s channel (take (octet_count ((widths self.old).input channel) samples.number) block.old)
-            (take (octet_count ((widths self.old).output channel) result) block.new) (reply_text (Count result)) t
-            × keeps self.new t };
+        ensures gives { GivesForFeed machine (widths self.old) channel samples.number block.old result block.new (keeps self.old) (keeps self.new) };
 }

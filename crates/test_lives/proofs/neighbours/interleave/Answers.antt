@@ -14,10 +14,10 @@ pub returns : goal.returns
 returns g c = record {
   output = λ h lawful keeps.
       let same = c.feed-first.ensures.same in
-      let first = c.feed-first.ensures.output None h (λ space. tt) lawful keeps in
+      let first = c.feed-first.ensures.output None h lawful (λ space. tt) keeps in
       let kept = c.feed-first.ensures.keeps None h (λ space. tt) keeps in
-      let second = c.feed-first-2.ensures.output None (with_samples h c.args.before.now) (λ space. tt) (rw (same.kind, same.params) lawful) kept in
+      let second = c.feed-first-2.ensures.output None (with_samples h c.args.before.now) (rw (same.kind, same.params) lawful) (λ space. tt) kept in
       let both = rw (same.kind, same.params) at second in
       both ∙ ap (λ (ys : List ℤ). ys ++ c.feed-first-2.new.out.items) first;
-  output_between = λ h lawful keeps. c.feed-second.ensures.output None h (λ space. tt) lawful keeps;
+  output_between = λ h lawful keeps. c.feed-second.ensures.output None h lawful (λ space. tt) keeps;
 }
