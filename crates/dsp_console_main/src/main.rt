@@ -2,9 +2,6 @@
 //! The console over the five kinds.
 #![tactic(auto)]
 
-#[cfg(test)]
-mod tests;
-
 use dsp_program::{CONSOLE, program};
 use std::process::ExitCode;
 use voice_set::Voice;

@@ -1,5 +1,5 @@
 // SPDX-License-Identifier: Apache-2.0
-//! For tests: the grammar, the command line, ports and their devices, lines, the journal, and whole runs of the engine.
+//! For tests: the grammar, the command line, ports and their devices, lines, the journal, whole runs of the engine, and how the program ends.
 #![tactic(auto)]
 
 #[cfg(test)]
@@ -14,3 +14,5 @@ mod journal;
 mod lines;
 #[cfg(test)]
 mod ports;
+#[cfg(test)]
+mod program;
