@@ -13,7 +13,7 @@ mod name_tests;
 
 ghost use Rattle.std.specs.Prelude.{◌≡◌, ℤ, List};
 ghost use Rattle.ialg.specs.History.{History};
-ghost use Rattle.ialg.specs.Meaning.{AreAlwaysLawful, GivesBy, outputs_of};
+ghost use Rattle.ialg.specs.Meaning.{AreAlwaysLawful, GivesByRule, outputs_of};
 ghost use Rattle.kind_parts.specs.declared.mapping.Mapped.{Mapped};
 ghost use Rattle.kind_parts.specs.declared.framing.Framed.{Framed};
 ghost use Rattle.alg_gain.specs.declared.Amplifier.{Amplifier};
@@ -47,7 +47,7 @@ pub fn gateway_kinds_are_lawful()
 pub fn gateway_kinds_give_their_equations()
     ensures voices { (v : Voice) (p : List ℤ) (h : History)
         → outputs_of ⟦<GatewayKind as Ialg>⟧.law.meaning (of_voice v) p h ≡ outputs_of voice_meaning v p h }
-    ensures gains { (g : Mapped Amplifier) → GivesBy ⟦<GatewayKind as Ialg>⟧.law.meaning (of_gain g) gain_gives }
-    ensures levels { (m : Framed Meter) → GivesBy ⟦<GatewayKind as Ialg>⟧.law.meaning (of_level m) level_gives }
-    ensures digits { (d : Dtmf) → GivesBy ⟦<GatewayKind as Ialg>⟧.law.meaning (of_dtmf d) dtmf_gives }
+    ensures gains { (g : Mapped Amplifier) → GivesByRule ⟦<GatewayKind as Ialg>⟧.law.meaning (of_gain g) gain_gives }
+    ensures levels { (m : Framed Meter) → GivesByRule ⟦<GatewayKind as Ialg>⟧.law.meaning (of_level m) level_gives }
+    ensures digits { (d : Dtmf) → GivesByRule ⟦<GatewayKind as Ialg>⟧.law.meaning (of_dtmf d) dtmf_gives }
 {}

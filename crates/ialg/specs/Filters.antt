@@ -9,6 +9,7 @@ use Rattle.ialg.specs.declared.TheConstants.{FILTER_RECORDS}
 use Rattle.ialg.specs.declared.filter.FilterMemory.{FilterMemory}
 use Rattle.ialg.specs.History.{History, Ctl}
 use Rattle.ialg.specs.Meaning.{Meaning}
+use Rattle.ialg.specs.Laws.{Laws}
 use Rattle.ialg.specs.Records.{record_at, words_of}
 use Rattle.ialg.specs.Objects.{Names, object_memory}
 
@@ -65,3 +66,20 @@ pub record IsIdle (kind : ℤ) (asked : Option FilterMemory) (rests : List ℤ �
 pub record IsActive (kind : ℤ) (asked : Option FilterMemory) (runs : List ℤ → List ℤ → Type 0) (rs : List MemRec) (wss : List (List ℤ)) : Type 0 where
   pub placed : IsPlaced kind asked rs wss
   pub keeps : runs (words_of wss 1) (words_of wss 2)
+
+-- whether kept words keep a history, by the parameters
+abbrev pub KeptRelation : Type 1
+KeptRelation = List ℤ → History → List ℤ → Type 0
+
+-- whether kept and running words keep a history, by the parameters
+abbrev pub RunningRelation : Type 1
+RunningRelation = List ℤ → History → List ℤ → List ℤ → Type 0
+
+-- the laws of a filter whose objects have this kind word: `rests` says which words keep a history of an idle instance, and `runs` of an
+-- active one
+abbrev pub filter_laws : {M : Type 0} → ℤ → FilterMeaning → KeptRelation → RunningRelation → Laws M
+filter_laws kind filter rests runs = record {
+  meaning = meaning_of filter;
+  idle_keeps = λ _ p rs wss h. IsIdle kind (filter.memory p) (rests p h) rs wss;
+  active_keeps = λ _ p rs wss h. IsActive kind (filter.memory p) (runs p h) rs wss;
+}

@@ -1,10 +1,10 @@
 //! Filters: kinds whose instances have one persistent record and one scratch record beside the object.
-ghost use Rattle.std.specs.Prelude.{true, ◌≡◌, ◌≤◌, ◌++◌, ◌∷◌, ℤ, [], List, length, Option, Some, IfSome, IsTrue};
+ghost use Rattle.std.specs.Prelude.{◌≡◌, ◌≤◌, ℤ, [], List, length, Option, IfSome, IsTrue};
 ghost use Rattle.mem_rec.specs.Records.{is_table};
-ghost use Rattle.ialg.specs.declared.filter.FilterMemory.{FilterMemory};
-ghost use Rattle.ialg.specs.History.{History, Control, Set, Reset, Get, with_samples, outputs_by, IsWordHistory};
+ghost use Rattle.ialg.specs.History.{History, IsWordHistory};
 ghost use Rattle.ialg.specs.Views.{control_of};
 ghost use Rattle.ialg.specs.Filters.{FilterMeaning, filter_records};
+ghost use Rattle.ialg.specs.Filtering.{StartsKept, RestoresRunning, KeepsSamples, GivesForSamples, SavesRunning, KeepsSet, KeepsReset, AnswersGet, KeepsGet};
 
 use crate::{BLOCK_SAMPLES, Block, Ctl, Words};
 
@@ -46,27 +46,23 @@ pub trait Filter: Copy + Eq {
 
     /// Starts an instance, whatever the words were.
     fn start(p: &[i16], kept: &mut [i16])
-        ensures { (m : FilterMemory) → filter.memory p.now ≡ Some m → length kept.old ≡ m.kept
-            → rests p.now [] kept.new };
+        ensures { StartsKept filter rests p.now kept.old kept.new };
 
     /// Makes the running words from the kept words, whatever they were.
     fn restore(kept: &[i16], running: &mut [i16])
-        ensures { (p : List ℤ) (h : History) (m : FilterMemory) → filter.memory p ≡ Some m
-            → length running.old ≡ m.running → rests p h kept.now → runs p h kept.now running.new };
+        ensures { RestoresRunning filter rests runs kept.now running.old running.new };
 
     /// Takes the samples of `input`, and puts what they give into `out`. The kept words stay.
     fn run(kept: &[i16], running: &mut [i16], input: &[i16], out: &mut Block)
         requires empty { out.old.items ≡ [] }
         requires within { length input.now ≤ BLOCK_SAMPLES }
         ensures bounded { length out.new.items ≤ length input.now }
-        ensures history { (p : List ℤ) (h : History) → runs p h kept.now running.old
-            → runs p (with_samples h input.now) kept.now running.new }
-        ensures outputs { (p : List ℤ) (h : History) → runs p h kept.now running.old
-            → outputs_by (filter.gives p) (with_samples h input.now) ≡ outputs_by (filter.gives p) h ++ out.new.items };
+        ensures history { KeepsSamples runs kept.now running.old input.now running.new }
+        ensures outputs { GivesForSamples filter runs kept.now running.old input.now out.new.items };
 
     /// Makes the kept words from the running words.
     fn save(kept: &mut [i16], running: &[i16])
-        ensures { (p : List ℤ) (h : History) → runs p h kept.old running.now → rests p h kept.new };
+        ensures { SavesRunning rests runs running.now kept.old kept.new };
 
     /// Whether an instance with the parameters `p` takes the control `c`.
     fn takes(p: &[i16], c: &Ctl) -> bool
@@ -74,19 +70,16 @@ pub trait Filter: Copy + Eq {
 
     /// Puts words that the kind takes into force.
     fn set(kept: &mut [i16], words: &[i16])
-        ensures { (p : List ℤ) (h : History) (running : List ℤ) → IsTrue (filter.accepts p (Set words.now))
-            → runs p h kept.old running → runs p (Control (Set words.now) ∷ h) kept.new running };
+        ensures { KeepsSet filter runs words.now kept.old kept.new };
 
     /// Forgets the past samples.
     fn reset(running: &mut [i16])
-        ensures { (p : List ℤ) (h : History) (kept : List ℤ) → runs p h kept running.old
-            → runs p (Control Reset ∷ h) kept running.new };
+        ensures { KeepsReset runs running.old running.new };
 
     /// The answer to `get`, which changes nothing.
     fn get(kept: &[i16], running: &[i16]) -> Words
-        ensures answer { (p : List ℤ) (h : History) → runs p h kept.now running.now → result.items ≡ filter.got p h }
-        ensures history { (p : List ℤ) (h : History) → runs p h kept.now running.now
-            → runs p (Control Get ∷ h) kept.now running.now };
+        ensures answer { AnswersGet filter runs kept.now running.now result.items }
+        ensures history { KeepsGet runs kept.now running.now };
 
     // a filter is a type of one value
     ghost one: { (a b : Self) → a ≡ b };

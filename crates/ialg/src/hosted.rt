@@ -1,15 +1,13 @@
 //! Each filter is an algorithm: its calls find the records, and leave the words to the filter.
-ghost use Rattle.std.specs.Prelude.{◌≡◌, ◌≤◌, ◌++◌, ◌∷◌, Option, Some, ℤ, [], List, length, IsTrue, false};
+ghost use Rattle.std.specs.Prelude.{◌≡◌, ◌≤◌, [], length, IsTrue};
 ghost use Rattle.std.proofs.Common.{ap, ◌∙◌};
 ghost use Rattle.mem_rec.specs.Records.{is_table};
-ghost use Rattle.mem_rec.specs.declared.Space.TheVariants.{Daram, Saram};
-ghost use Rattle.ialg.specs.declared.filter.FilterMemory.{FilterMemory};
-ghost use Rattle.ialg.specs.History.{History, Control, Set, Reset, Get, with_samples, outputs_by};
-ghost use Rattle.ialg.specs.Meaning.{outputs_of};
-ghost use Rattle.ialg.specs.Records.{AllLent, lasting, unplaced};
-ghost use Rattle.ialg.specs.Loans.{lent_words, SameLoans, SameBut};
-ghost use Rattle.ialg.specs.Objects.{NamedAt, Names};
-ghost use Rattle.ialg.specs.Filters.{filter_records, meaning_of, IsIdle, IsActive};
+ghost use Rattle.ialg.specs.Loans.{SameLoans, SameBut};
+ghost use Rattle.ialg.specs.Objects.{NamesTable};
+ghost use Rattle.ialg.specs.Meaning.{AreAlwaysLawful};
+ghost use Rattle.ialg.specs.Filters.{filter_records, filter_laws};
+ghost use Rattle.ialg.specs.Calls.{ProcessesBlock};
+ghost use Rattle.ialg.specs.Hosted.{RestoresFromLent, SavesFromLent, RunsFromLent, GivesFromLent, LeavesLasting, SetsInLent, ResetsInLent, AnswersFromLent, GetsFromLent};
 
 use crate::filter::{Filter, FilterMemory};
 use crate::laws::Ialg;
@@ -25,11 +23,7 @@ const KEPT: usize = 1;
 const RUNNING: usize = 2;
 
 impl<K: Filter> Ialg for K {
-    ghost law = { record {
-      meaning = meaning_of K.filter;
-      idle_keeps = λ _ p rs wss h. IsIdle K.KIND (K.filter.memory p) (K.rests p h) rs wss;
-      active_keeps = λ _ p rs wss h. IsActive K.KIND (K.filter.memory p) (K.runs p h) rs wss;
-    } };
+    ghost law = { filter_laws K.KIND K.filter K.rests K.runs };
 
     fn alg_num_alloc(&self) -> usize {
         FILTER_RECORDS
@@ -65,18 +59,10 @@ impl<K: Filter> Ialg for K {
         requires within { length input.now ≤ BLOCK_SAMPLES }
         ensures loans { SameLoans mem.old mem.new }
         ensures bounded { length out.new.items ≤ length input.now }
-        ensures law { (p : List ℤ) (w : Option ℤ) (h : History) → IsTrue ((meaning_of {M = K} K.filter).lawful self.now p w)
-            → mem.old.writable ≡ false
-            → AllLent mem.old.table.now (lent_words mem.old)
-            → IsActive K.KIND (K.filter.memory p) (K.runs p h) mem.old.table.now (lent_words mem.old)
-            → IsActive K.KIND (K.filter.memory p) (K.runs p (with_samples h input.now)) mem.old.table.now (lent_words mem.new)
-            × (outputs_of (meaning_of {M = K} K.filter) self.now p (with_samples h input.now)
-            ≡ outputs_of (meaning_of {M = K} K.filter) self.now p h ++ out.new.items) }
+        ensures law { ProcessesBlock (filter_laws K.KIND K.filter K.rests K.runs) self.now input.now out.new.items mem.old mem.new }
 
         // No word changes but those of the scratch record.
-        ensures leaves { (p : List ℤ) (h : History) → AllLent mem.old.table.now (lent_words mem.old)
-            → IsActive K.KIND (K.filter.memory p) (K.runs p h) mem.old.table.now (lent_words mem.old)
-            → lasting mem.old.table.now (lent_words mem.new) ≡ lasting mem.old.table.now (lent_words mem.old) }
+        ensures leaves { LeavesLasting K.KIND K.filter K.runs mem.old mem.new }
     {
         let Some(Record { k, words }) = mem.take_named(Space::Daram, RUNNING) else {
             return;
@@ -159,7 +145,7 @@ fn records(memory: FilterMemory) -> [MemRec; FILTER_RECORDS]
 fn write_object_of<K: Filter>(tab: &MemTab, mem: &mut Lent<'_>)
     ensures loans { SameLoans mem.old mem.new }
     ensures others { SameBut 0 mem.old mem.new }
-    ensures names { length mem.old.r0.now ≡ OBJECT_WORDS → Names K.KIND (unplaced tab.now) tab.now mem.new.r0.now }
+    ensures names { NamesTable K.KIND tab.now mem.old.r0.now mem.new.r0.now }
     ensures valid { IsTrue (is_table tab.now) }
 {
     // a table is valid, as its records say
@@ -169,9 +155,7 @@ fn write_object_of<K: Filter>(tab: &MemTab, mem: &mut Lent<'_>)
 
 /// Makes the running words from the kept words that `mem` has.
 fn restore_from<K: Filter>(mem: &Lent<'_>, running: &mut [i16])
-    ensures { (p : List ℤ) (h : History) (m : FilterMemory) → NamedAt mem.now Saram 1 K.KIND (filter_records m)
-        → K.filter.memory p ≡ Some m → length running.old ≡ m.running → K.rests p h mem.now.r1.now
-        → K.runs p h mem.now.r1.now running.new }
+    ensures { RestoresFromLent K.KIND K.filter K.rests K.runs mem.now running.old running.new }
 {
     if let Some(kept) = mem.read_named(Space::Saram, KEPT) {
         K::restore(kept, running);
@@ -180,8 +164,7 @@ fn restore_from<K: Filter>(mem: &Lent<'_>, running: &mut [i16])
 
 /// Makes the kept words from the running words that `mem` has.
 fn save_from<K: Filter>(mem: &Lent<'_>, kept: &mut [i16])
-    ensures { (p : List ℤ) (h : History) (m : FilterMemory) → NamedAt mem.now Daram 2 K.KIND (filter_records m)
-        → K.runs p h kept.old mem.now.r2.now → K.rests p h kept.new }
+    ensures { SavesFromLent K.KIND K.runs K.rests mem.now kept.old kept.new }
 {
     if let Some(running) = mem.read_named(Space::Daram, RUNNING) {
         K::save(kept, running);
@@ -193,11 +176,8 @@ fn run_with<K: Filter>(mem: &Lent<'_>, running: &mut [i16], input: &[i16], out: 
     requires empty { out.old.items ≡ [] }
     requires within { length input.now ≤ BLOCK_SAMPLES }
     ensures bounded { length out.new.items ≤ length input.now }
-    ensures history { (p : List ℤ) (h : History) (m : FilterMemory) → NamedAt mem.now Saram 1 K.KIND (filter_records m)
-        → K.runs p h mem.now.r1.now running.old → K.runs p (with_samples h input.now) mem.now.r1.now running.new }
-    ensures outputs { (p : List ℤ) (h : History) (m : FilterMemory) → NamedAt mem.now Saram 1 K.KIND (filter_records m)
-        → K.runs p h mem.now.r1.now running.old
-        → outputs_by (K.filter.gives p) (with_samples h input.now) ≡ outputs_by (K.filter.gives p) h ++ out.new.items }
+    ensures history { RunsFromLent K.KIND K.runs mem.now running.old input.now running.new }
+    ensures outputs { GivesFromLent K.KIND K.runs K.filter mem.now running.old input.now out.new.items }
 {
     if let Some(kept) = mem.read_named(Space::Saram, KEPT) {
         K::run(kept, running, input, out);
@@ -207,10 +187,7 @@ fn run_with<K: Filter>(mem: &Lent<'_>, running: &mut [i16], input: &[i16], out: 
 /// Puts these words into force.
 fn set<K: Filter>(mem: &mut Lent<'_>, words: &[i16])
     ensures loans { SameLoans mem.old mem.new }
-    ensures law { (p : List ℤ) (h : History) → AllLent mem.old.table.now (lent_words mem.old)
-        → IsTrue (K.filter.accepts p (Set words.now))
-        → IsActive K.KIND (K.filter.memory p) (K.runs p h) mem.old.table.now (lent_words mem.old)
-        → IsActive K.KIND (K.filter.memory p) (K.runs p (Control (Set words.now) ∷ h)) mem.old.table.now (lent_words mem.new) }
+    ensures law { SetsInLent K.KIND K.filter K.runs words.now mem.old mem.new }
 {
     let Some(Record { k, words: kept }) = mem.take_named(Space::Saram, KEPT) else {
         return;
@@ -222,9 +199,7 @@ fn set<K: Filter>(mem: &mut Lent<'_>, words: &[i16])
 /// Forgets the past samples.
 fn reset<K: Filter>(mem: &mut Lent<'_>)
     ensures loans { SameLoans mem.old mem.new }
-    ensures law { (p : List ℤ) (h : History) → AllLent mem.old.table.now (lent_words mem.old)
-        → IsActive K.KIND (K.filter.memory p) (K.runs p h) mem.old.table.now (lent_words mem.old)
-        → IsActive K.KIND (K.filter.memory p) (K.runs p (Control Reset ∷ h)) mem.old.table.now (lent_words mem.new) }
+    ensures law { ResetsInLent K.KIND K.filter K.runs mem.old mem.new }
 {
     let Some(Record { k, words }) = mem.take_named(Space::Daram, RUNNING) else {
         return;
@@ -235,12 +210,8 @@ fn reset<K: Filter>(mem: &mut Lent<'_>)
 
 /// The answer to `get`.
 fn get<K: Filter>(mem: &Lent<'_>) -> Words
-    ensures answer { (p : List ℤ) (h : History) → AllLent mem.now.table.now (lent_words mem.now)
-        → IsActive K.KIND (K.filter.memory p) (K.runs p h) mem.now.table.now (lent_words mem.now)
-        → result.items ≡ K.filter.got p h }
-    ensures history { (p : List ℤ) (h : History) → AllLent mem.now.table.now (lent_words mem.now)
-        → IsActive K.KIND (K.filter.memory p) (K.runs p h) mem.now.table.now (lent_words mem.now)
-        → IsActive K.KIND (K.filter.memory p) (K.runs p (Control Get ∷ h)) mem.now.table.now (lent_words mem.now) }
+    ensures answer { AnswersFromLent K.KIND K.filter K.runs mem.now result.items }
+    ensures history { GetsFromLent K.KIND K.filter K.runs mem.now }
 {
     let Some(kept) = mem.read_named(Space::Saram, KEPT) else {
         return Words::new();
@@ -254,5 +225,5 @@ fn get<K: Filter>(mem: &Lent<'_>) -> Words
 /// The law that filters keep IALG's laws for all parameters, refused ones too, in a host of any poison word and in one
 /// of none. The call does nothing: its contract is the law.
 pub fn filters_are_lawful<K: Filter>()
-    ensures { (kind : K) (p : List ℤ) (w : Option ℤ) → IsTrue (⟦<K as Ialg>⟧.law.meaning.lawful kind p w) }
+    ensures { AreAlwaysLawful ⟦<K as Ialg>⟧.law.meaning }
 {}

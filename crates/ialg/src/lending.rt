@@ -1,9 +1,7 @@
 //! What records are lent for.
-ghost use Rattle.std.specs.Prelude.{◌≡◌, ℕ, ℤ, Bool, false, List, [], ◌∷◌};
+ghost use Rattle.std.specs.Prelude.{ℤ, Bool, List, [], ◌∷◌};
 ghost use Rattle.mem_rec.specs.declared.MemRec.{MemRec};
-ghost use Rattle.mem_rec.specs.declared.Attr.TheVariants.{WriteOnce};
-ghost use Rattle.ialg.specs.Records.{record_at, words_of};
-ghost use Rattle.ialg.specs.Loans.{lent_words, SameLoans};
+ghost use Rattle.ialg.specs.Loans.{lent_words, SameLoans, KeepsOnce};
 
 use crate::memory::Lent;
 use mem_rec::MemTab;
@@ -45,8 +43,7 @@ pub fn lend<O, S: Step<O>>(
 )
     requires { S.can lending.now.step.now out.old }
     ensures done { S.done lending.now.step.now lending.now.table.now lending.now.writable (r0.old ∷ r1.old ∷ r2.old ∷ r3.old ∷ []) (r0.new ∷ r1.new ∷ r2.new ∷ r3.new ∷ []) out.old out.new }
-    ensures once { (k : ℕ) → (record_at lending.now.table.now k).attr ≡ WriteOnce → lending.now.writable ≡ false
-        → words_of (r0.new ∷ r1.new ∷ r2.new ∷ r3.new ∷ []) k ≡ words_of (r0.old ∷ r1.old ∷ r2.old ∷ r3.old ∷ []) k }
+    ensures once { KeepsOnce lending.now (r0.old ∷ r1.old ∷ r2.old ∷ r3.old ∷ []) (r0.new ∷ r1.new ∷ r2.new ∷ r3.new ∷ []) }
 {
     let mut mem = Lent {
         table: lending.table,

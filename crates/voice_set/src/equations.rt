@@ -1,6 +1,6 @@
 //! What each voice gives, by its equation.
 ghost use Rattle.std.specs.Prelude.{◌∷◌, []};
-ghost use Rattle.ialg.specs.Meaning.{GivesBy};
+ghost use Rattle.ialg.specs.Meaning.{GivesByRule};
 ghost use Rattle.alg_fir.specs.Equation.{fir_output};
 ghost use Rattle.alg_fir.specs.Decimation.{decim_gives};
 ghost use Rattle.alg_biquad.specs.Equation.{biquad_output};
@@ -13,9 +13,9 @@ ghost use Rattle.voice_set.specs.Voices.{voice_meaning};
 /// and `biquad` the difference equation at each sample, for `decim` that of `fir` at each M-th one, for `tone` a level at each frame's
 /// end, and for `g711` the code of each sample or the sample of each code. The call does nothing: its contract is the law.
 pub fn voices_give_their_equations()
-    ensures fir { GivesBy voice_meaning Fir (λ p h. fir_output p h ∷ []) }
-    ensures decim { GivesBy voice_meaning Decim decim_gives }
-    ensures biquad { GivesBy voice_meaning Biquad (λ p h. biquad_output p h ∷ []) }
-    ensures tone { GivesBy voice_meaning Tone tone_gives }
-    ensures g711 { GivesBy voice_meaning G711 (λ p. given_by (coder_named p)) }
+    ensures fir { GivesByRule voice_meaning Fir (λ p h. fir_output p h ∷ []) }
+    ensures decim { GivesByRule voice_meaning Decim decim_gives }
+    ensures biquad { GivesByRule voice_meaning Biquad (λ p h. biquad_output p h ∷ []) }
+    ensures tone { GivesByRule voice_meaning Tone tone_gives }
+    ensures g711 { GivesByRule voice_meaning G711 (λ p. given_by (coder_named p)) }
 {}

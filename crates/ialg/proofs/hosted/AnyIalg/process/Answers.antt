@@ -1,6 +1,7 @@
-use Rattle.std.proofs.Common.{lit<, arith, refl}
+use Rattle.std.proofs.Common.{lit<, arith, refl, ap}
 use Rattle.mem_rec.specs.declared.Space.TheVariants.{Saram}
 use Rattle.ialg.specs.History.{with_samples}
+use Rattle.ialg.specs.Records.{lasting}
 use Rattle.ialg.specs.Loans.{lent_words}
 use Rattle.ialg.specs.Filters.{filter_records}
 use Rattle.ialg.proofs.Tables.{attr_of}
@@ -44,3 +45,6 @@ returns-clause-leaves g c p h lent active =
     let v = visit 2 m _ _ c.in-Some.field-0 _ found (lit< tt) (λ e. omega arith) c.in-Some.ensures.left c.put.ensures.others c.put.ensures.back in
     lasting-Rewritten 2 _ m.table.now (lent_words m) (lent_words c.put.new.self) v.written refl
     (attr_of m.table.now records placed.object.on_table 2)
+
+pub returns-in_default-clause-leaves : goal.returns-in_default-clause-leaves
+returns-in_default-clause-leaves g c p h lent active = ap (λ m. lasting c.args.mem.now.table.now (lent_words m)) c.in_default.ensures.left
