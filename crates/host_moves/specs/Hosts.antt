@@ -1,5 +1,5 @@
 -- When tables and spaces keep a state of the machine.
-use Rattle.std.specs.Prelude.{◌≡◌, ◌+◌, Bool, true, List, Option}
+use Rattle.std.specs.Prelude.{◌≡◌, ◌+◌, ℕ, Bool, true, List, Option}
 use Rattle.mem_rec.specs.declared.Space.{Space}
 use Rattle.relocate.specs.Packing.{unpacked_count}
 use Rattle.host_map.specs.MemoryMap.{blocks_in}
@@ -32,3 +32,8 @@ pub record Stepped {M : Type 0} (laws : Laws M) (space : Space) (moved : Bool) (
   pub fewer : moved ≡ true → unpacked_count (spots_of (blocks_in (map_of spaces') space)) + 1 ≡ unpacked_count (spots_of (blocks_in (map_of spaces) space))
   pub machine : (before : State M) → Refines laws old spaces before
       → ((moved, (steps.step before space).1) ≡ steps.step before space) × Refines laws new spaces' (steps.step before space).1
+
+-- a whole compaction of the space, as the machine's: its answer says how many blocks moved
+abbrev pub Compacted : {M : Type 0} → Laws M → Space → ℕ → View M → Spaces → View M → Spaces → Type 0
+Compacted {M = M} laws space count old spaces new spaces' = (before : State M) → Refines laws old spaces before
+    → ((count, (steps.compact before space).1) ≡ steps.compact before space) × Refines laws new spaces' (steps.compact before space).1

@@ -5,3 +5,5 @@ pub mod Moves
 pub mod Lent
 pub mod Kept
 pub mod Hosts
+pub mod LoanLaws
+pub mod HeldLaws

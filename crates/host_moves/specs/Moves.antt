@@ -1,5 +1,5 @@
 -- One move of a host's blocks.
-use Rattle.std.specs.Prelude.{◌≡◌, ℕ, ℤ, ◌+◌, ◌-◌, ◌^◌, min, List, Option, Some, None}
+use Rattle.std.specs.Prelude.{◌≡◌, ℕ, ℤ, ◌+◌, ◌-◌, ◌^◌, min, Bool, List, Option, Some, None, is_some}
 use Rattle.mem_rec.specs.declared.Space.{Space}
 use Rattle.ialg.specs.History.{History}
 use Rattle.ialg.specs.Laws.{Laws}
@@ -19,7 +19,16 @@ use Rattle.host_map.specs.Moves.{next_block, next_in}
 use Rattle.host_spaces.specs.declared.spaces.Spaces.{Spaces}
 use Rattle.host_map.specs.MemoryMap.{blocks_in, moved_in}
 use Rattle.host_spaces.specs.MemoryMap.{copied_in, map_of, sizes_of}
+use Rattle.host_spaces.specs.Spaces.{HasFront}
 use Rattle.host_moves.specs.Standing.{AgreeWithMap, SameInstances}
+
+-- so many of the first blocks of the space are at their packed places
+abbrev pub FirstArePacked : ℕ → Spaces → Space → Type 0
+FirstArePacked count spaces space = HasFront count (blocks_in (map_of spaces) space)
+
+-- whether a block of the space isn't at its packed place
+abbrev pub has_next : Spaces → Space → Bool
+has_next spaces space = is_some (next_block (blocks_in (map_of spaces) space))
 
 -- the next block that moves in the space is this owner's
 abbrev pub IsNextOf : Spaces → Space → Owner → Type 0
@@ -28,6 +37,10 @@ IsNextOf spaces space owner = (b : Placed) × ((next_block (blocks_in (map_of sp
 -- the next block that moves in the space has this index
 abbrev pub IsNextIndex : Spaces → Space → ℕ → Type 0
 IsNextIndex spaces space index = option_map (λ (m : Move). m.index) (next_in (blocks_in (map_of spaces) space)) ≡ Some index
+
+-- the next block that moves in the space, if there is one, has this alignment
+abbrev pub IsNextAlign : Spaces → Space → ℕ → Type 0
+IsNextAlign spaces space align = (b : Placed) → next_block (blocks_in (map_of spaces) space) ≡ Some b → b.align ≡ align
 
 -- the blocks of a group without an active member have the words that they had
 abbrev pub InactiveWordsStay : List Group → List Group → Type 0

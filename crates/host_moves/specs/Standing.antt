@@ -81,6 +81,10 @@ SlotIsSame (Some m) (Some n) = IsSameKind m n
 abbrev pub SameInstances : {M : Type 0} → List (Option (Member M)) → List (Option (Member M)) → Type 0
 SameInstances instances instances' = (i : ℕ) → SlotIsSame (slot_at instances i) (slot_at instances' i)
 
+-- in a host of any poison word, or of none, blocks that nobody uses hold it still
+abbrev pub PoisonStays : {M : Type 0} → View M → View M → Type 0
+PoisonStays old new = (w : Option ℤ) → ArePoisoned w old.groups → ArePoisoned w new.groups
+
 -- what holds of the tables and the spaces of a host: the tables are consistent, records and blocks are where the memory map shows them, and
 -- blocks that nobody uses hold the poison word
 pub record AreSound {M : Type 0} (w : Option ℤ) (t : View M) (spaces : Spaces) : Type 0 where

@@ -12,10 +12,11 @@ use Rattle.lifecycle.specs.declared.instance.Inst.{Inst}
 use Rattle.lifecycle.specs.declared.instance.Inst.TheVariants.{Idling, Running}
 use Rattle.host_table.specs.declared.member.Member.{Member}
 use Rattle.host_shared.specs.declared.locations.Locations.{Locations}
-use Rattle.lifecycle.specs.Moves.{HasRoom}
+use Rattle.lifecycle.specs.Moves.{restored, CanRestore, with_back, HasRoom}
 use Rattle.host_shared.specs.Locations.{owner_of, shared_at}
 use Rattle.host_shared.specs.Owners.{with_pieces_of}
-use Rattle.host_table.specs.Table.{slot_at, group_at, instance_of, active_in, slot_active_in, Tables, IsHoused}
+use Rattle.host_table.specs.Table.{slot_at, group_at, own_of, instance_of, active_in, slot_active_in, Tables, IsHoused}
+use Rattle.host_table.specs.View.{View}
 
 -- an instance with these pieces for its own records
 abbrev pub inst_with : {M : Type 0} → Inst M → Pieces → Inst M
@@ -30,6 +31,27 @@ slot_with (Some m) own = Some (record m { inst = inst_with m.inst own })
 abbrev pub own_set : {M : Type 0} → List (Option (Member M)) → ℕ → Pieces → List (Option (Member M))
 own_set instances i own = slice_set instances i (slot_with (slot_at instances i) own)
 
+-- the piece of record k that instance i has for its own
+abbrev pub piece_owned : {M : Type 0} → List (Option (Member M)) → ℕ → ℕ → Option Span
+piece_owned instances i k = piece_at (own_of (slot_at instances i)) k
+
+-- the slots, where that piece was taken out
+abbrev pub without_owned : {M : Type 0} → List (Option (Member M)) → ℕ → ℕ → List (Option (Member M))
+without_owned instances i k = own_set instances i (with_piece (own_of (slot_at instances i)) k None)
+
+-- the tables, with the piece that comes back at instance i, if one does
+abbrev pub restored_at : {M : Type 0} → View M → ℕ → Option (ℕ × Span) → View M
+restored_at t i back = record t { instances = own_set t.instances i (restored back (own_of (slot_at t.instances i))) }
+
+-- among the own pieces of instance i is room for the one that comes back, if one does
+abbrev pub CanComeBack : {M : Type 0} → ℕ → Option (ℕ × Span) → View M → Type 0
+CanComeBack i back t = CanRestore back (own_of (slot_at t.instances i))
+
+-- what stands in slot i has room, with the piece that comes back, where its records lie
+abbrev pub SlotHasRoom : {M : Type 0} → ℕ → Option (ℕ × Span) → View M → Type 0
+SlotHasRoom {M = M} i back t = (m : Member M) → slot_at t.instances i ≡ Some m
+    → HasRoom (with_back (instance_of m.inst) back) (shared_at t.sharing i) (group_at t.groups m.group)
+
 -- the tables, whatever holds of their instances
 abbrev pub IsThere : {M : Type 0} → ℕ → Member M → Pieces → Group → Type 0
 IsThere j m o y = Unit {0}
@@ -37,12 +59,20 @@ IsThere j m o y = Unit {0}
 abbrev pub TablesThere : {M : Type 0} → List (Option (Member M)) → List Locations → List Group → Type 0
 TablesThere instances sharing groups = Tables IsThere instances sharing groups
 
+-- the same, of all that the tables hold
+abbrev pub AreThere : {M : Type 0} → View M → Type 0
+AreThere t = TablesThere t.instances t.sharing t.groups
+
 -- each instance but i is housed
 abbrev pub IsHousedBut : {M : Type 0} → ℕ → ℕ → Member M → Pieces → Group → Type 0
 IsHousedBut i j m o y = j ≢ i → IsHoused (instance_of m.inst) o y
 
 abbrev pub TablesBut : {M : Type 0} → ℕ → List (Option (Member M)) → List Locations → List Group → Type 0
 TablesBut i instances sharing groups = Tables (IsHousedBut i) instances sharing groups
+
+-- the same, of all that the tables hold
+abbrev pub AreConsistentBut : {M : Type 0} → ℕ → View M → Type 0
+AreConsistentBut i t = TablesBut i t.instances t.sharing t.groups
 
 -- those that wait to be told have room where their records lie, and each other one is housed
 pub record IsWaiting {M : Type 0} (waits : ℕ → Bool) (j : ℕ) (m : Member M) (o : Pieces) (y : Group) : Type 0 where
@@ -63,6 +93,11 @@ TablesWaitingBut waits i instances sharing groups = Tables (IsWaitingBut waits i
 abbrev pub all_but : (ℕ → Bool) → ℕ → ℕ → Bool
 all_but waits i j = if nat_eq j i then false else waits j
 
+-- whoever waits to be told, while instance i isn't there, waits still, but not instance i
+abbrev pub WaitsNoLonger : {M : Type 0} → ℕ → View M → View M → Type 0
+WaitsNoLonger i old new = (waits : ℕ → Bool) → TablesWaitingBut waits i old.instances old.sharing old.groups
+    → TablesWaiting (all_but waits i) new.instances new.sharing new.groups
+
 -- those of them from number n on
 abbrev pub all_from : (ℕ → Bool) → ℕ → ℕ → Bool
 all_from waits n j = if nat_lt j n then false else waits j
@@ -74,6 +109,14 @@ slid_to sharing i k q = with_pieces_of sharing i (with_piece (shared_at sharing 
 -- those that share record k with its owner i, and the owner
 abbrev pub holds_with : List Locations → ℕ → ℕ → ℕ → Bool
 holds_with sharing i k j = nat_eq (owner_of sharing j k) i
+
+-- all those wait to be told
+abbrev pub SharersWait : {M : Type 0} → ℕ → ℕ → View M → Type 0
+SharersWait i k t = TablesWaiting (holds_with t.sharing i k) t.instances t.sharing t.groups
+
+-- those of them from number n on
+abbrev pub SharersWaitFrom : {M : Type 0} → ℕ → ℕ → ℕ → View M → Type 0
+SharersWaitFrom n i k t = TablesWaiting (all_from (holds_with t.sharing i k) n) t.instances t.sharing t.groups
 
 -- the same words, wherever the pieces lie
 abbrev pub SameWords : Pieces → Pieces → Type 0

@@ -1,10 +1,8 @@
 //! The blocks of groups, put in and taken out.
 ghost use Rattle.std.specs.Prelude.{◌≡◌, ◌<◌, length, Some, None};
-ghost use Rattle.mem_rec.specs.declared.Space.{Space};
-ghost use Rattle.record_loans.specs.Blocks.{block_piece};
-ghost use Rattle.scratch_group.specs.Blocks.{block_in};
-ghost use Rattle.host_table.specs.Table.{group_at, SameActivities};
+ghost use Rattle.host_table.specs.Table.{SameActivities};
 ghost use Rattle.host_table.specs.Frames.{OtherBlocksStay};
+ghost use Rattle.host_moves.specs.Lent.{lent_block, scratch_block};
 
 use mem_rec::Space;
 use scratch_group::Group;
@@ -20,8 +18,8 @@ pub fn put_block(
     align: u32,
 ) -> Option<Piece>
     requires { g < length groups.old.items }
-    ensures old { result ≡ block_piece (block_in (group_at groups.old.items g) space) }
-    ensures new { block_in (group_at groups.new.items g) space ≡ Some (record { piece = piece; align = align }) }
+    ensures old { result ≡ lent_block groups.old.items g space }
+    ensures new { scratch_block groups.new.items g space ≡ Some (record { piece = piece; align = align }) }
     ensures others { OtherBlocksStay g space groups.old.items groups.new.items }
     ensures activity { SameActivities groups.old.items groups.new.items }
     ensures length { length groups.new.items ≡ length groups.old.items }
@@ -32,8 +30,8 @@ pub fn put_block(
 /// Takes the block out of a space of a group.
 pub fn take_block(groups: &mut Vec<Group>, g: u8, space: Space) -> Option<Piece>
     requires { g < length groups.old.items }
-    ensures old { result ≡ block_piece (block_in (group_at groups.old.items g) space) }
-    ensures new { block_in (group_at groups.new.items g) space ≡ None }
+    ensures old { result ≡ lent_block groups.old.items g space }
+    ensures new { scratch_block groups.new.items g space ≡ None }
     ensures others { OtherBlocksStay g space groups.old.items groups.new.items }
     ensures activity { SameActivities groups.old.items groups.new.items }
     ensures length { length groups.new.items ≡ length groups.old.items }

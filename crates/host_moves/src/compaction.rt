@@ -1,14 +1,8 @@
 //! Moves, as the machine's.
-ghost use Rattle.std.specs.Prelude.{◌≡◌, ℤ, Option};
-ghost use Rattle.host_table.specs.Table.{ArePoisoned};
-ghost use Rattle.host_map.specs.MemoryMap.{blocks_in};
-ghost use Rattle.host_spaces.specs.MemoryMap.{map_of};
-ghost use Rattle.host_spaces.specs.Spaces.{HasFront};
-ghost use Rattle.host_spec.specs.State.{State};
-ghost use Rattle.host_spec.specs.Steps as steps;
 ghost use Rattle.host_table.specs.Steps.{AreConsistent};
-ghost use Rattle.host_moves.specs.Standing.{MapAgrees};
-ghost use Rattle.host_moves.specs.Hosts.{Refines, Stepped};
+ghost use Rattle.host_moves.specs.Standing.{MapAgrees, PoisonStays};
+ghost use Rattle.host_moves.specs.Moves.{FirstArePacked};
+ghost use Rattle.host_moves.specs.Hosts.{Compacted, Stepped};
 
 use crate::moves::make_next_move;
 use crate::order::in_order;
@@ -27,12 +21,12 @@ fn step_behind<M: Ialg>(
 ) -> bool
     requires ok { AreConsistent tables.old }
     requires standing { MapAgrees tables.old spaces.old }
-    requires front { HasFront packed.old (blocks_in (map_of spaces.old) space) }
+    requires front { FirstArePacked packed.old spaces.old space }
     ensures ok { AreConsistent tables.new }
     ensures standing { MapAgrees tables.new spaces.new }
-    ensures poisoned { (w : Option ℤ) → ArePoisoned w tables.old.groups → ArePoisoned w tables.new.groups }
+    ensures poisoned { PoisonStays tables.old tables.new }
     ensures stepped { Stepped M.law space result tables.old spaces.old tables.new spaces.new }
-    ensures front { HasFront packed.new (blocks_in (map_of spaces.new) space) }
+    ensures front { FirstArePacked packed.new spaces.new space }
 {
     make_next_move(tables, spaces, space, packed)
 }
@@ -43,7 +37,7 @@ pub fn step<M: Ialg>(tables: &mut Tables<M>, spaces: &mut Spaces, space: Space) 
     requires standing { MapAgrees tables.old spaces.old }
     ensures ok { AreConsistent tables.new }
     ensures standing { MapAgrees tables.new spaces.new }
-    ensures poisoned { (w : Option ℤ) → ArePoisoned w tables.old.groups → ArePoisoned w tables.new.groups }
+    ensures poisoned { PoisonStays tables.old tables.new }
     ensures stepped { Stepped M.law space result tables.old spaces.old tables.new spaces.new }
 {
     // of no block it is known where it belongs
@@ -60,10 +54,8 @@ pub fn compact<M: Ialg>(tables: &mut Tables<M>, spaces: &mut Spaces, space: Spac
     requires standing { MapAgrees tables.old spaces.old }
     ensures ok { AreConsistent tables.new }
     ensures standing { MapAgrees tables.new spaces.new }
-    ensures poisoned { (w : Option ℤ) → ArePoisoned w tables.old.groups → ArePoisoned w tables.new.groups }
-    ensures machine { (before : State M) → Refines M.law tables.old spaces.old before
-        → ((result, (steps.compact before space).1) ≡ steps.compact before space)
-        × Refines M.law tables.new spaces.new (steps.compact before space).1 }
+    ensures poisoned { PoisonStays tables.old tables.new }
+    ensures machine { Compacted M.law space result tables.old spaces.old tables.new spaces.new }
 {
     in_order(spaces);
     let mut packed = 0;

@@ -1,18 +1,13 @@
 //! Moves: the next block of a space is slid down to its packed place, and whoever has records in it is told.
-ghost use Rattle.std.specs.Prelude.{◌≡◌, ◌<◌, length, true, false, Some, None, IsSome, is_some};
+ghost use Rattle.std.specs.Prelude.{◌≡◌, ◌<◌, length, true, false, IsSome};
 ghost use Rattle.record_loans.specs.Pieces.{piece_at};
-ghost use Rattle.mem_rec.specs.declared.TheConstants.{INSTANCES, GROUPS};
-ghost use Rattle.host_table.specs.Table.{slot_at, own_of};
+ghost use Rattle.mem_rec.specs.declared.TheConstants.{GROUPS};
 ghost use Rattle.host_shared.specs.Locations.{shared_at};
 ghost use Rattle.host_map.specs.declared.placed.Owner.{Owner};
-ghost use Rattle.host_map.specs.declared.placed.Placed.{Placed};
-ghost use Rattle.host_map.specs.Moves.{next_block};
-ghost use Rattle.host_map.specs.MemoryMap.{blocks_in};
-ghost use Rattle.host_spaces.specs.MemoryMap.{map_of};
-ghost use Rattle.host_spaces.specs.Spaces.{HasFront};
-ghost use Rattle.host_moves.specs.Moves.{IsNextIndex, IsNextOf, Moved};
+ghost use Rattle.host_moves.specs.Moves.{has_next, FirstArePacked, IsNextAlign, IsNextIndex, IsNextOf, Moved};
 ghost use Rattle.host_table.specs.Steps.{AreConsistent};
 ghost use Rattle.host_moves.specs.Standing.{MapAgrees};
+ghost use Rattle.host_moves.specs.Waiting.{piece_owned};
 
 use crate::blocks::{put_block, take_block};
 use crate::order::in_order;
@@ -40,7 +35,7 @@ fn move_own<M: Ialg>(
     requires standing { MapAgrees tables.old spaces.old }
     requires next { IsNextOf spaces.old space (Owner.Record i k) }
     requires index { IsNextIndex spaces.old space index }
-    requires own { IsSome (piece_at (own_of (slot_at tables.old.instances i)) k) }
+    requires own { IsSome (piece_owned tables.old.instances i k) }
     ensures { Moved M.law space tables.old spaces.old tables.new spaces.new }
 {
     let piece = take_own(&mut tables.instances, i, k as usize);
@@ -89,7 +84,7 @@ fn move_block<M: Ialg>(
     requires number { g < GROUPS }
     requires next { IsNextOf spaces.old space (Owner.Scratch g) }
     requires index { IsNextIndex spaces.old space index }
-    requires align { (b : Placed) → next_block (blocks_in (map_of spaces.old) space) ≡ Some b → b.align ≡ align }
+    requires align { IsNextAlign spaces.old space align }
     ensures { Moved M.law space tables.old spaces.old tables.new spaces.new }
 {
     match take_block(&mut tables.groups, g, space) {
@@ -116,11 +111,11 @@ pub fn make_next_move<M: Ialg>(
 ) -> bool
     requires ok { AreConsistent tables.old }
     requires standing { MapAgrees tables.old spaces.old }
-    requires front { HasFront packed.old (blocks_in (map_of spaces.old) space) }
-    ensures answer { result ≡ is_some (next_block (blocks_in (map_of spaces.old) space)) }
+    requires front { FirstArePacked packed.old spaces.old space }
+    ensures answer { result ≡ has_next spaces.old space }
     ensures moved { result ≡ true → Moved M.law space tables.old spaces.old tables.new spaces.new }
     ensures packed { result ≡ false → (tables.new ≡ tables.old) × (spaces.new ≡ spaces.old) }
-    ensures front { HasFront packed.new (blocks_in (map_of spaces.new) space) }
+    ensures front { FirstArePacked packed.new spaces.new space }
 {
     let Some(block) = spaces.next_move_behind(space, packed) else {
         return false;

@@ -1,8 +1,6 @@
 //! The pieces of an instance's records, taken out and put back.
-ghost use Rattle.std.specs.Prelude.{◌≡◌, Some, None, IsSome};
-ghost use Rattle.record_loans.specs.Pieces.{piece_at, with_piece};
-ghost use Rattle.host_table.specs.Table.{slot_at, own_of};
-ghost use Rattle.host_moves.specs.Waiting.{own_set};
+ghost use Rattle.std.specs.Prelude.{◌≡◌, Some, IsSome};
+ghost use Rattle.host_moves.specs.Waiting.{piece_owned, without_owned};
 
 use host_table::Member;
 use ialg::Ialg;
@@ -11,9 +9,9 @@ use space_raw::Piece;
 
 /// Takes the piece of record `k` out of an instance that has it for its own, to be moved: [`tell`](crate::tell) puts it back.
 pub fn take_own<M: Ialg>(instances: &mut Vec<Option<Member<M>>>, i: u8, k: usize) -> Piece
-    requires { IsSome (piece_at (own_of (slot_at instances.old.items i)) k) }
-    ensures piece { piece_at (own_of (slot_at instances.old.items i)) k ≡ Some result }
-    ensures left { instances.new.items ≡ own_set instances.old.items i (with_piece (own_of (slot_at instances.old.items i)) k None) }
+    requires { IsSome (piece_owned instances.old.items i k) }
+    ensures piece { piece_owned instances.old.items i k ≡ Some result }
+    ensures left { instances.new.items ≡ without_owned instances.old.items i k }
 {
     match &mut instances[i as usize] {
         Some(member) => match &mut member.inst {

@@ -1,19 +1,17 @@
 //! algMoved: instances follow their records to where these lie now.
-ghost use Rattle.std.specs.Prelude.{◌≡◌, ◌+◌, ◌<◌, ℕ, ℤ, Bool, length, Option, Some, IsSome, IsTrue};
+ghost use Rattle.std.specs.Prelude.{◌≡◌, ◌+◌, ◌<◌, length, IsSome, IsTrue};
 ghost use Rattle.mem_rec.specs.declared.TheConstants.{TABLE_RECORDS, INSTANCES};
 ghost use Rattle.mem_rec.specs.Records.{is_table};
 ghost use Rattle.scratch_group.specs.Sharing.{IsOfSharingFilter};
-ghost use Rattle.ialg.specs.History.{History};
-ghost use Rattle.lifecycle.specs.Moves.{restored, CanRestore, with_back, HasRoom};
-ghost use Rattle.host_table.specs.declared.member.Member.{Member};
-ghost use Rattle.host_table.specs.Table.{slot_at, group_at, own_of, instance_of, SameActivities};
+ghost use Rattle.lifecycle.specs.Moves.{CanRestore};
+ghost use Rattle.host_table.specs.Table.{slot_at, SameActivities};
 ghost use Rattle.host_shared.specs.Locations.{owner_of, shared_at};
-ghost use Rattle.host_shared.specs.Owners.{HasOwners, with_pieces_of};
+ghost use Rattle.host_shared.specs.Owners.{HasOwners};
 ghost use Rattle.host_shared.specs.Sharing.{AreLeast};
-ghost use Rattle.host_table.specs.Steps.{AreKept, AreConsistent, MembersStay, AllHistoriesStay};
-ghost use Rattle.host_table.specs.Frames.{InactiveGroupsStay, SameMembers};
-ghost use Rattle.host_moves.specs.Following.{ActiveFollows, Follows};
-ghost use Rattle.host_moves.specs.Waiting.{own_set, all_but, all_from, holds_with, TablesThere, TablesBut, TablesWaiting, TablesWaitingBut};
+ghost use Rattle.host_table.specs.Steps.{AreConsistent, MembersStay, AllHistoriesStay};
+ghost use Rattle.host_table.specs.Frames.{InactiveGroupsStay};
+ghost use Rattle.host_moves.specs.Following.{ActiveFollows, HasRoomAgain, IdleFollows, OnlyItsPiecesChange};
+ghost use Rattle.host_moves.specs.Waiting.{restored_at, AreConsistentBut, AreThere, CanComeBack, SharersWait, SharersWaitFrom, SlotHasRoom, WaitsNoLonger};
 
 use host_shared::{Location, Locations, borrow_pieces, give_back_pieces, next_with_owner, owner};
 use host_table::Tables;
@@ -36,9 +34,9 @@ fn follow_each<M: Ialg>(
     requires back { CanRestore back idle.old.instance.own }
     requires number { i < length sharing.old.items }
     requires owners { HasOwners sharing.old.items i }
-    requires fits { HasRoom (with_back idle.old.instance back) (shared_at sharing.old.items i) group.now }
-    ensures seen { sharing.new.items ≡ with_pieces_of sharing.old.items i (shared_at sharing.new.items i) }
-    ensures follows { Follows M.law back idle.old.instance idle.new.instance (shared_at sharing.old.items i) (shared_at sharing.new.items i) group.now }
+    requires fits { HasRoomAgain idle.old.instance back i sharing.old.items group.now }
+    ensures seen { OnlyItsPiecesChange i sharing.old.items sharing.new.items }
+    ensures follows { IdleFollows M.law back i idle.old sharing.old.items idle.new sharing.new.items group.now }
 {
     let mut shared = borrow_pieces(sharing, i as usize);
     idle.moved(back, &mut shared, group);
@@ -60,9 +58,9 @@ fn follow_sharing_filter<M: Ialg>(
     requires back { CanRestore back idle.old.instance.own }
     requires number { i < length sharing.old.items }
     requires owners { HasOwners sharing.old.items i }
-    requires fits { HasRoom (with_back idle.old.instance back) (shared_at sharing.old.items i) group.now }
-    ensures seen { sharing.new.items ≡ with_pieces_of sharing.old.items i (shared_at sharing.new.items i) }
-    ensures follows { Follows M.law back idle.old.instance idle.new.instance (shared_at sharing.old.items i) (shared_at sharing.new.items i) group.now }
+    requires fits { HasRoomAgain idle.old.instance back i sharing.old.items group.now }
+    ensures seen { OnlyItsPiecesChange i sharing.old.items sharing.new.items }
+    ensures follows { IdleFollows M.law back i idle.old sharing.old.items idle.new sharing.new.items group.now }
 {
     let at = owner(sharing, i as usize, CONSTANTS);
     match &mut sharing[at].s2 {
@@ -83,9 +81,9 @@ fn follow_sharing<M: Ialg>(
     requires back { CanRestore back idle.old.instance.own }
     requires number { i < length sharing.old.items }
     requires owners { HasOwners sharing.old.items i }
-    requires fits { HasRoom (with_back idle.old.instance back) (shared_at sharing.old.items i) group.now }
-    ensures seen { sharing.new.items ≡ with_pieces_of sharing.old.items i (shared_at sharing.new.items i) }
-    ensures follows { Follows M.law back idle.old.instance idle.new.instance (shared_at sharing.old.items i) (shared_at sharing.new.items i) group.now }
+    requires fits { HasRoomAgain idle.old.instance back i sharing.old.items group.now }
+    ensures seen { OnlyItsPiecesChange i sharing.old.items sharing.new.items }
+    ensures follows { IdleFollows M.law back i idle.old sharing.old.items idle.new sharing.new.items group.now }
 {
     if let Some(sizes) = sharing_sizes(&idle.instance.table) {
         follow_sharing_filter(idle, sizes, back, sharing, i, group);
@@ -106,9 +104,9 @@ fn follow<M: Ialg>(
     requires back { CanRestore back idle.old.instance.own }
     requires number { i < length sharing.old.items }
     requires owners { HasOwners sharing.old.items i }
-    requires fits { HasRoom (with_back idle.old.instance back) (shared_at sharing.old.items i) group.now }
-    ensures seen { sharing.new.items ≡ with_pieces_of sharing.old.items i (shared_at sharing.new.items i) }
-    ensures follows { Follows M.law back idle.old.instance idle.new.instance (shared_at sharing.old.items i) (shared_at sharing.new.items i) group.now }
+    requires fits { HasRoomAgain idle.old.instance back i sharing.old.items group.now }
+    ensures seen { OnlyItsPiecesChange i sharing.old.items sharing.new.items }
+    ensures follows { IdleFollows M.law back i idle.old sharing.old.items idle.new sharing.new.items group.now }
 {
     if let Some(sizes) = filter_sizes(&idle.instance.table) {
         idle.moved_filter(sizes, back, group);
@@ -129,8 +127,8 @@ fn follow_active<M: Ialg>(
     requires back { CanRestore back active.old.instance.own }
     requires number { i < length sharing.old.items }
     requires owners { HasOwners sharing.old.items i }
-    requires fits { HasRoom (with_back active.old.instance back) (shared_at sharing.old.items i) group.old }
-    ensures seen { sharing.new.items ≡ with_pieces_of sharing.old.items i (shared_at sharing.new.items i) }
+    requires fits { HasRoomAgain active.old.instance back i sharing.old.items group.old }
+    ensures seen { OnlyItsPiecesChange i sharing.old.items sharing.new.items }
     ensures follows { ActiveFollows M.law back active.old.instance active.new.instance (shared_at sharing.old.items i) (shared_at sharing.new.items i) group.old group.new }
 {
     let mut shared = borrow_pieces(sharing, i as usize);
@@ -143,20 +141,15 @@ fn follow_active<M: Ialg>(
 pub fn tell<M: Ialg>(tables: &mut Tables<M>, i: u8, back: Option<(usize, Piece)>)
     requires number { i < INSTANCES }
     requires living { IsSome (slot_at tables.old.instances i) }
-    requires back { CanRestore back (own_of (slot_at tables.old.instances i)) }
-    requires there { TablesThere tables.old.instances tables.old.sharing tables.old.groups }
-    requires room { (m : Member M) → slot_at tables.old.instances i ≡ Some m
-        → HasRoom (with_back (instance_of m.inst) back) (shared_at tables.old.sharing i) (group_at tables.old.groups m.group) }
-    ensures ok { TablesBut i tables.old.instances tables.old.sharing tables.old.groups → AreConsistent tables.new }
-    ensures waiting { (waits : ℕ → Bool) → TablesWaitingBut waits i tables.old.instances tables.old.sharing tables.old.groups
-        → TablesWaiting (all_but waits i) tables.new.instances tables.new.sharing tables.new.groups }
+    requires back { CanComeBack i back tables.old }
+    requires there { AreThere tables.old }
+    requires room { SlotHasRoom i back tables.old }
+    ensures ok { AreConsistentBut i tables.old → AreConsistent tables.new }
+    ensures waiting { WaitsNoLonger i tables.old tables.new }
     ensures inactive { InactiveGroupsStay tables.old.groups tables.new.groups }
-    ensures same { SameMembers (own_set tables.old.instances i (restored back (own_of (slot_at tables.old.instances i)))) tables.old.sharing tables.old.groups
-        tables.new.instances tables.new.sharing tables.new.groups }
+    ensures same { MembersStay (restored_at tables.old i back) tables.new }
     ensures activity { SameActivities tables.old.groups tables.new.groups }
-    ensures keeps { (w : Option ℤ) (histories : ℕ → History)
-        → AreKept M.law w (record tables.old { instances = own_set tables.old.instances i (restored back (own_of (slot_at tables.old.instances i))) }) histories
-        → AreKept M.law w tables.new histories }
+    ensures keeps { AllHistoriesStay M.law (restored_at tables.old i back) tables.new }
 {
     match &mut tables.instances[i as usize] {
         Some(member) => {
@@ -180,8 +173,8 @@ fn call_moved_of_sharer<M: Ialg>(tables: &mut Tables<M>, i: u8, k: usize, j: u8)
     requires number { j < INSTANCES }
     requires record { k < TABLE_RECORDS }
     requires shares { owner_of tables.old.sharing j k ≡ i }
-    requires waiting { TablesWaiting (all_from (holds_with tables.old.sharing i k) j) tables.old.instances tables.old.sharing tables.old.groups }
-    ensures waiting { TablesWaiting (all_from (holds_with tables.new.sharing i k) (j + 1)) tables.new.instances tables.new.sharing tables.new.groups }
+    requires waiting { SharersWaitFrom j i k tables.old }
+    ensures waiting { SharersWaitFrom (j + 1) i k tables.new }
     ensures inactive { InactiveGroupsStay tables.old.groups tables.new.groups }
     ensures same { MembersStay tables.old tables.new }
     ensures activity { SameActivities tables.old.groups tables.new.groups }
@@ -198,7 +191,7 @@ pub fn call_moved_of_sharers<M: Ialg>(tables: &mut Tables<M>, i: u8, k: usize)
     requires least { AreLeast tables.old.sharing }
     requires record { k < TABLE_RECORDS }
     requires owner { owner_of tables.old.sharing i k ≡ i }
-    requires waiting { TablesWaiting (holds_with tables.old.sharing i k) tables.old.instances tables.old.sharing tables.old.groups }
+    requires waiting { SharersWait i k tables.old }
     ensures ok { AreConsistent tables.new }
     ensures inactive { InactiveGroupsStay tables.old.groups tables.new.groups }
     ensures same { MembersStay tables.old tables.new }

@@ -5,3 +5,5 @@ pub mod Calls
 pub mod Runs
 pub mod Answers
 pub mod Laws
+pub mod CallLaws
+pub mod OutcomeLaws

@@ -1,6 +1,7 @@
 -- The holes of a heap: its free words as ranges in place order, no two of which touch. Each says in its own first two words how long it
 -- is and where the next one begins. No public contract speaks of them.
 use Rattle.std.specs.Prelude.{◌≡◌, ℕ, zero, suc, ◌+◌, ◌-◌, ◌/◌, ◌%◌, ◌<◌, ◌≤◌, ◌⊎◌, Bool, true, false, ◌||◌, ℤ, pos, negsuc, List, [], ◌∷◌, ◌++◌, map, length, count_by, Option, Some, None, is_some, MatchOption, nat_lt, if◌then◌else◌}
+use Rattle.std.specs.Int.{next_multiple_of}
 use Rattle.mem_rec.specs.declared.TheConstants.{LEAST_ALIGNMENT}
 use Rattle.space_raw.specs.Span.{Extent, Scattered}
 use Rattle.relocate.specs.declared.limits.TheConstants.{SPACE_WORDS}
@@ -111,12 +112,24 @@ pub record IsFound (words : List (Option ℤ)) (first : Option ℕ) (found : Fou
 abbrev pub IsFromOn : ℕ → Option ℕ → Type 0
 IsFromOn place next = MatchOption next (Unit {0}) (λ p. place ≤ p)
 
+-- it is the last hole that begins before the place
+abbrev pub IsLastBefore : List (Option ℤ) → Option ℕ → ℕ → Found → Type 0
+IsLastBefore words first place f = IsFound words first f × (f.hole.place < place) × IsFromOn place f.hole.next
+
 -- len words from the place on are in a hole that was found
 pub record IsFit (words : List (Option ℤ)) (first : Option ℕ) (len : ℕ) (fit : Fit) : Type 0 where
   pub found : IsFound words first fit.found
   pub low : fit.found.hole.place ≤ fit.place
   pub high : fit.place + len ≤ hole_end fit.found.hole
   pub unit : fit.place % LEAST_ALIGNMENT ≡ 0
+
+-- the words from the fit's place up to this one are the last of a hole
+abbrev pub IsFitBefore : List (Option ℤ) → Option ℕ → ℕ → Fit → Type 0
+IsFitBefore words first place f = (f.place < place) × (hole_end f.found.hole ≡ place) × IsFit words first (place - f.place) f
+
+-- a block can begin at the place, whose first word is in no hole
+abbrev pub IsTakenPlace : List (Option ℤ) → ℕ → Type 0
+IsTakenPlace words place = (place % LEAST_ALIGNMENT ≡ 0) × (place < length words) × (in_rest words place ≡ false)
 
 -- no word of the range is in a hole
 abbrev pub IsTaken : List (Option ℤ) → Range → Type 0
@@ -154,6 +167,10 @@ pub record IsFront (words : List (Option ℤ)) (first : Option ℕ) (place : ℕ
   pub behind : IsFromOn place front.next
   pub all : (k : ℕ) → covers (record { place = front.from; size = place - front.from }) k ≡ is_covered mid k
 
+-- what stands before the place, once the words from the fit's place to its hole's end are a block that ends there
+abbrev pub front_of_fit : Fit → ℕ → Front
+front_of_fit fit place = record { before = last_place fit.found.before (between fit.found.hole.place fit.place); from = place; next = fit.found.hole.next }
+
 -- `next` leads to the holes that are `right`
 abbrev pub LeadsTo : List (Option ℤ) → Option ℕ → List Range → Type 0
 LeadsTo words next right = (first : Option ℕ) × (left : List Range) × AreHoles words first (left ++ right) × (next ≡ first_place right None)
@@ -169,6 +186,10 @@ pub record IsBack (words : List (Option ℤ)) (right : List Range) (end : ℕ) (
   pub inside : back.to ≤ length words
   pub unit : back.to % LEAST_ALIGNMENT ≡ 0
   pub all : (k : ℕ) → covers (record { place = end; size = back.to - end }) k ≡ is_covered mid k
+
+-- so it is with the holes to which `next` leads
+abbrev pub IsBackOf : List (Option ℤ) → Option ℕ → ℕ → Back → Type 0
+IsBackOf words next end back = (right : List Range) → LeadsTo words next right → IsBack words right end back
 
 -- the range and the free words afterwards make up those before, and have no word in common
 pub record AreParts (whole : ℕ → Bool) (r : Range) (rest : ℕ → Bool) : Type 0 where
@@ -192,3 +213,8 @@ pub record IsFreeFrom (is_free : ℕ → Bool) (place start : ℕ) : Type 0 wher
   pub low : start ≤ place
   pub free : (k : ℕ) → start ≤ k → k < place → is_free k ≡ true
   pub first : (k : ℕ) → k + 1 ≡ start → is_free k ≡ false
+
+-- the fit is at the least multiple of a in the free range that ends at the place, and there is none where that has no such multiple
+abbrev pub IsLowestBefore : List (Option ℤ) → ℕ → ℕ → Option Fit → Type 0
+IsLowestBefore words place a fit = (start : ℕ) × IsFreeFrom (in_rest words) place start
+    × MatchOption fit (place ≤ next_multiple_of start a) (λ f. f.place ≡ next_multiple_of start a)

@@ -1,7 +1,7 @@
 //! The search among the holes, in place order.
 ghost use Rattle.std.specs.Prelude.{◌+◌, ◌<◌, ◌≤◌, IfSome, IfNone};
 ghost use Rattle.relocate.specs.Places.{IsAlignment};
-ghost use Rattle.space_heap.specs.Holes.{HasHoles, HasNoPlace, IsFit, IsFound, IsFromOn, IsLeastPlace, in_rest};
+ghost use Rattle.space_heap.specs.Holes.{HasHoles, HasNoPlace, IsFit, IsFromOn, IsLastBefore, IsLeastPlace, in_rest};
 
 use crate::hole::Hole;
 use relocate::GREATEST_NEED;
@@ -49,7 +49,7 @@ pub(crate) fn find(rest: &Rest, first: Option<u32>, words: u32, align: u32) -> O
 #[inline(always)]
 pub(crate) fn last_before(rest: &Rest, first: Option<u32>, place: u32) -> Option<Found>
     requires holes { HasHoles rest.now.slots first }
-    ensures found { IfSome result (λ f. IsFound rest.now.slots first f × (f.hole.place < place) × IsFromOn place f.hole.next) }
+    ensures found { IfSome result (IsLastBefore rest.now.slots first place) }
     ensures none { IfNone result (IsFromOn place first) }
 {
     let mut before = None;

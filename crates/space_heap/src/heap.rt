@@ -1,8 +1,7 @@
 //! The heap of one space.
-ghost use Rattle.std.specs.Prelude.{◌≡◌, ◌==◌, ◌+◌, ◌/◌, ◌<◌, ◌≤◌, ◌^◌, ◌-◌, ◌++◌, [], ◌∷◌, List, length, min, sum_by, count_by, if◌then◌else◌, IfOk, IfErr, IsErrOf, IfSome, IfNone, Some, map, replicate, pos};
-ghost use Rattle.std.specs.Option.{option_map};
-ghost use Rattle.relocate.specs.Places.{Range, least_place, lower_place, placed_size, IsAlignment, IsSpaceSize};
-ghost use Rattle.space_heap.specs.Maps.{Holds, IsBlock, range_of};
+ghost use Rattle.std.specs.Prelude.{◌≡◌, ◌<◌, ◌≤◌, [], length, count_by, IfOk, IfErr, IsErrOf, IfSome, IfNone, Some, map, replicate, pos};
+ghost use Rattle.relocate.specs.Places.{placed_size, IsAlignment, IsSpaceSize};
+ghost use Rattle.space_heap.specs.Maps.{slid_with, AreLeftFree, Holds, IsAtLeastFree, IsBlock, IsLoweredTo, OneFewerIsHeld, OneIsHeldAs, OneMoreIsHeld, range_of};
 
 #[cfg(test)]
 mod tests;
@@ -90,9 +89,9 @@ impl<A: Allocator> Heap<A> {
     pub fn take(&mut self, words: u32, align: u32) -> Option<Piece>
         requires words { (0 < words) × (words ≤ GREATEST_NEED) }
         requires align { IsAlignment align }
-        ensures place { (taken : List Range) → Holds self.old taken → option_map (λ p. p.place) result ≡ least_place self.old.region.size taken (placed_size words) align }
+        ensures place { IsAtLeastFree result self.old words align }
         ensures block { IfSome result (λ p. (p.region ≡ self.old.region) × (length p.words ≡ placed_size words)) }
-        ensures taken { IfSome result (λ p. (before after : List Range) → Holds self.old (before ++ after) → Holds self.new (before ++ range_of p ∷ after)) }
+        ensures taken { IfSome result (λ p. OneMoreIsHeld p self.old self.new) }
         ensures none { IfNone result (self.new ≡ self.old) }
         ensures stays { (self.new.region ≡ self.old.region) × (self.new.slid ≡ self.old.slid) }
     {
@@ -107,7 +106,7 @@ impl<A: Allocator> Heap<A> {
     pub fn give(&mut self, piece: Piece)
         requires region { piece.region ≡ self.old.region }
         requires block { IsBlock self.old.region.size (range_of piece) }
-        ensures taken { (before after : List Range) → Holds self.old (before ++ range_of piece ∷ after) → Holds self.new (before ++ after) }
+        ensures taken { OneFewerIsHeld piece self.old self.new }
         ensures stays { (self.new.region ≡ self.old.region) × (self.new.slid ≡ self.old.slid) }
     {
         let len = piece.len();
@@ -121,10 +120,10 @@ impl<A: Allocator> Heap<A> {
         requires region { piece.region ≡ self.old.region }
         requires block { IsBlock self.old.region.size (range_of piece) }
         requires align { IsAlignment align }
-        ensures place { (before after : List Range) → Holds self.old (before ++ range_of piece ∷ after) → result.place ≡ lower_place (before ++ after) piece.place align }
+        ensures place { IsLoweredTo piece align result self.old }
         ensures words { (result.words ≡ piece.words) × (result.region ≡ piece.region) }
-        ensures taken { (before after : List Range) → Holds self.old (before ++ range_of piece ∷ after) → Holds self.new (before ++ range_of result ∷ after) }
-        ensures slid { self.new.slid ≡ min (self.old.slid + (if result.place == piece.place then 0 else length piece.words)) (2 ^ 64 - 1) }
+        ensures taken { OneIsHeldAs piece result self.old self.new }
+        ensures slid { self.new.slid ≡ slid_with self.old piece result }
         ensures stays { self.new.region ≡ self.old.region }
     {
         let mut piece = piece;
@@ -155,7 +154,7 @@ impl<A: Allocator> Heap<A> {
     /// The words of the space that no block has.
     pub fn free(&self) -> u32
         ensures marks { result ≡ count_by (λ mark. mark) self.now.free }
-        ensures taken { (taken : List Range) → Holds self.now taken → result + sum_by (λ r. r.size) taken ≡ self.now.region.size }
+        ensures taken { AreLeftFree result self.now }
     {
         self.free
     }

@@ -1,10 +1,9 @@
 //! The holes of a heap, linked in place order through their own first two words. `first` is where the first of them begins.
-ghost use Rattle.std.specs.Prelude.{◌≡◌, ◌+◌, ◌-◌, ◌%◌, ◌<◌, ◌≤◌, ℕ, List, length, true, false, IfSome, MatchOption};
-ghost use Rattle.std.specs.Int.{next_multiple_of};
+ghost use Rattle.std.specs.Prelude.{◌≡◌, ◌-◌, ◌%◌, ◌<◌, ◌≤◌, ℕ, List, length, true, IfSome};
 ghost use Rattle.space_raw.specs.Slots.{IsRun};
 ghost use Rattle.relocate.specs.Places.{Range, IsAlignment, IsSpaceSize};
 ghost use Rattle.space_heap.specs.Maps.{IsBlock, range_of};
-ghost use Rattle.space_heap.specs.Holes.{AreParts, AreWritten, HasHoles, IsBack, IsCarved, IsFit, IsFreeFrom, IsFromOn, IsFront, IsLink, IsRelinked, IsTaken, LeadsTo, Rewrites, between, first_place, hole_end, in_rest, last_place};
+ghost use Rattle.space_heap.specs.Holes.{AreParts, AreWritten, HasHoles, IsBackOf, IsCarved, IsFit, IsFitBefore, IsFromOn, IsFront, IsLink, IsLowestBefore, IsRelinked, IsTaken, IsTakenPlace, LeadsTo, Rewrites, between, first_place, front_of_fit, in_rest};
 
 use crate::find::{Fit, Found, last_before};
 use crate::hole::{Hole, link_of};
@@ -79,7 +78,7 @@ pub(crate) struct Front {
 impl Front {
     // What stands before a place, once the words from the fit's place to its hole's end are a block that ends there.
     pub(crate) fn behind(fit: Fit, place: u32) -> Front
-        ensures { result ≡ record { before = last_place fit.found.before (between fit.found.hole.place fit.place); from = place; next = fit.found.hole.next } }
+        ensures { result ≡ front_of_fit fit place }
     {
         let Found { before, hole } = fit.found;
         let before = if hole.place < fit.place {
@@ -97,7 +96,7 @@ impl Front {
 
 fn join_front(rest: &Rest, first: Option<u32>, place: u32) -> Front
     requires holes { HasHoles rest.now.slots first }
-    requires block { (place % LEAST_ALIGNMENT ≡ 0) × (place < length rest.now.slots) × (in_rest rest.now.slots place ≡ false) }
+    requires block { IsTakenPlace rest.now.slots place }
     ensures { IsFront rest.now.slots first place result }
 {
     match last_before(rest, first, place) {
@@ -133,7 +132,7 @@ pub(crate) struct Back {
 fn join_back(rest: &Rest, end: u32, next: Option<u32>) -> Back
     requires next { ((right : List Range) × LeadsTo rest.now.slots next right) × IsFromOn end next }
     requires end { (end % LEAST_ALIGNMENT ≡ 0) × (end ≤ length rest.now.slots) }
-    ensures { (right : List Range) → LeadsTo rest.now.slots next right → IsBack rest.now.slots right end result }
+    ensures { IsBackOf rest.now.slots next end result }
 {
     if next == Some(end) {
         let hole = Hole::read(rest, end);
@@ -196,8 +195,8 @@ pub(crate) fn gap_before(
     requires align { IsAlignment align }
     ensures same { (rest.new ≡ rest.old) × (piece.new ≡ piece.old) }
     ensures taken { IsTaken rest.old.slots (range_of piece.old) }
-    ensures found { IfSome result (λ f. (f.place < piece.old.place) × (hole_end f.found.hole ≡ piece.old.place) × IsFit rest.old.slots first (piece.old.place - f.place) f) }
-    ensures place { (start : ℕ) × IsFreeFrom (in_rest rest.old.slots) piece.old.place start × MatchOption result (piece.old.place ≤ next_multiple_of start align) (λ f. f.place ≡ next_multiple_of start align) }
+    ensures found { IfSome result (IsFitBefore rest.old.slots first piece.old.place) }
+    ensures place { IsLowestBefore rest.old.slots piece.old.place align result }
 {
     rest.apart(piece);
     let found = last_before(rest, first, piece.place())?;
