@@ -10,6 +10,7 @@ use Rattle.host_table.specs.Table.{slot_at, group_of, is_member_of, deactivated_
 use Rattle.host_map.specs.Sharers.{Asked, sharer_of}
 use Rattle.host_table.specs.Sharers.{asked_by}
 use Rattle.host_table.specs.Keeps.{Keeps}
+use Rattle.host_table.specs.View.{View}
 use Rattle.host_spaces.specs.declared.spaces.Spaces.{Spaces}
 use Rattle.host_spaces.specs.MemoryMap.{copied_in, map_of, sizes_of}
 use Rattle.host_map.specs.Creation.{deleted_map}
@@ -46,3 +47,7 @@ pub record HasEnded {M : Type 0} (laws : Laws M) (w : Option ℤ) (i : ℕ)
   pub copied : copied_in spaces' ≡ copied_in spaces
   pub keeps : (histories : ℕ → History) → Keeps laws w instances sharing groups histories
       → Keeps laws w instances' sharing' groups' histories
+
+-- the same, of all that the tables hold
+abbrev pub InstanceHasEnded : {M : Type 0} → Laws M → Option ℤ → ℕ → View M → Spaces → View M → Spaces → Type 0
+InstanceHasEnded laws w i old spaces new spaces' = HasEnded laws w i old.instances old.sharing old.groups spaces new.instances new.sharing new.groups spaces'

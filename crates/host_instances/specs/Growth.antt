@@ -86,3 +86,7 @@ pub record HasGrown {M : Type 0} (laws : Laws M) (poison : Option ℤ) (g : ℕ)
   pub others : (o : Owner) (space : Space) → o ≢ Scratch g → owned o (blocks_in (map_of spaces') space) ≡ owned o (blocks_in (map_of spaces) space)
   pub stays : AreSameSpaces spaces spaces'
   pub keeps : HistoriesStay laws poison old new
+
+-- as AreGrown says, of all that the tables hold
+abbrev pub TablesAreGrown : {M : Type 0} → ℕ → View M → Spaces → Type 0
+TablesAreGrown g t spaces = AreGrown g t.instances t.sharing t.groups spaces

@@ -3,3 +3,4 @@ pub mod Growth
 pub mod Started
 pub mod Ends
 pub mod Leaving
+pub mod Calls

@@ -1,10 +1,8 @@
 //! The new blocks of a group, in place of its old ones.
 ghost use Rattle.std.specs.Prelude.{◌≡◌, ◌<◌, length, is_some};
-ghost use Rattle.mem_rec.specs.declared.Space.{Space};
 ghost use Rattle.scratch_group.specs.Blocks.{block_in};
-ghost use Rattle.host_table.specs.Table.{group_at, SameActivities};
-ghost use Rattle.host_spaces.specs.Pieces.{new_block, old_piece};
-ghost use Rattle.host_instances.specs.Blocks.{newer, replaced_piece, replaced_in};
+ghost use Rattle.host_table.specs.Table.{SameActivities};
+ghost use Rattle.host_instances.specs.Blocks.{replaced_piece, replaced_in, AreRenewed, AreReplaced, IsRenewed, IsReplaced};
 ghost use Rattle.host_table.specs.Frames.{OtherBlocksStay, OtherGroupsStay};
 
 use host_moves::put_block;
@@ -33,8 +31,8 @@ pub fn replaces_any(group: &Group, blocks: &NewBlocks) -> bool
 /// Puts a new block into a space of a group, if there is one, and gives back the one that stood there.
 fn put_new(groups: &mut Vec<Group>, g: u8, space: Space, new: Option<ScratchBlock>) -> Option<Piece>
     requires { g < length groups.old.items }
-    ensures old { result ≡ replaced_piece new (block_in (group_at groups.old.items g) space) }
-    ensures new { block_in (group_at groups.new.items g) space ≡ newer new (block_in (group_at groups.old.items g) space) }
+    ensures old { IsReplaced g space new groups.old.items result }
+    ensures new { IsRenewed g space new groups.old.items groups.new.items }
     ensures others { OtherBlocksStay g space groups.old.items groups.new.items }
     ensures activity { SameActivities groups.old.items groups.new.items }
     ensures length { length groups.new.items ≡ length groups.old.items }
@@ -48,8 +46,8 @@ fn put_new(groups: &mut Vec<Group>, g: u8, space: Space, new: Option<ScratchBloc
 /// Puts new blocks into a group, and gives back the ones that they replace. A space without a new block keeps its old one.
 pub fn put_new_blocks(groups: &mut Vec<Group>, g: u8, blocks: NewBlocks) -> OldBlocks
     requires { g < length groups.old.items }
-    ensures old { (space : Space) → old_piece result space ≡ replaced_piece (new_block blocks space) (block_in (group_at groups.old.items g) space) }
-    ensures new { (space : Space) → block_in (group_at groups.new.items g) space ≡ newer (new_block blocks space) (block_in (group_at groups.old.items g) space) }
+    ensures old { AreReplaced g blocks groups.old.items result }
+    ensures new { AreRenewed g blocks groups.old.items groups.new.items }
     ensures others { OtherGroupsStay g groups.old.items groups.new.items }
     ensures activity { SameActivities groups.old.items groups.new.items }
     ensures length { length groups.new.items ≡ length groups.old.items }

@@ -3,11 +3,9 @@ ghost use Rattle.std.specs.Prelude.{◌≡◌, ℕ, None};
 ghost use Rattle.host_table.specs.Table.{slot_at, ArePoisoned};
 ghost use Rattle.host_map.specs.MemoryMap.{empty_map};
 ghost use Rattle.host_spaces.specs.MemoryMap.{map_of};
-ghost use Rattle.host_spec.specs.State.{State};
-ghost use Rattle.host_spec.specs.Steps.{closed};
 ghost use Rattle.host_table.specs.Steps.{AreConsistent};
 ghost use Rattle.host_moves.specs.Standing.{MapAgrees};
-ghost use Rattle.host_moves.specs.Hosts.{Refines};
+ghost use Rattle.host_instances.specs.Calls.{MachineCloses};
 
 use crate::deletions::delete;
 use host_spaces::Spaces;
@@ -25,9 +23,7 @@ fn delete_all<M: Ialg>(tables: &mut Tables<M>, spaces: &mut Spaces, poison: Opti
     ensures poisoned { ArePoisoned poison tables.new.groups }
     ensures none { (i : ℕ) → slot_at tables.new.instances i ≡ None }
     ensures empty { map_of spaces.new ≡ empty_map }
-    ensures machine { (before : State M) → before.poison ≡ poison
-        → Refines M.law tables.old spaces.old before
-        → Refines M.law tables.new spaces.new (closed M.law.meaning before) }
+    ensures machine { MachineCloses M.law poison tables.old spaces.old tables.new spaces.new }
 {
     for i in 0..INSTANCES as u8 {
         let _answer = delete(tables, spaces, poison, i);

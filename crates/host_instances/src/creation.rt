@@ -1,14 +1,11 @@
 //! A creation, as the machine's.
-ghost use Rattle.std.specs.Prelude.{◌≡◌, ◌<◌, ℤ, length, Option, Some, IsTrue, IfSome, OnErr, is_some};
-ghost use Rattle.ialg.specs.Records.{unplaced};
+ghost use Rattle.std.specs.Prelude.{◌≡◌, ◌<◌, ℤ, length, Option, Some, OnErr, is_some};
 ghost use Rattle.host_table.specs.Table.{slot_at, ArePoisoned};
-ghost use Rattle.host_spec.specs.State.{State};
 ghost use Rattle.host_spec.specs.Choices.{MayAsk};
-ghost use Rattle.host_spec.specs.Calls.{Does};
 ghost use Rattle.host_spec.specs.Calls.Call.{Create};
 ghost use Rattle.host_table.specs.Steps.{AreConsistent};
 ghost use Rattle.host_moves.specs.Standing.{MapAgrees};
-ghost use Rattle.host_moves.specs.Hosts.{Refines};
+ghost use Rattle.host_instances.specs.Calls.{AsksUnplaced, MachineDoes};
 
 use crate::starting::start_in_spaces;
 use host_spaces::Spaces;
@@ -20,7 +17,7 @@ use mem_rec::{GROUPS, INSTANCES, MemTab};
 /// The memory that the kind asks for with these parameters, None where it refuses them.
 fn asked_for<M: Ialg>(kind: M, p: &Params) -> Option<MemTab>
     ensures allowed { (w : Option ℤ) → MayAsk M.law.meaning w kind p.now.items result }
-    ensures unplaced { (w : Option ℤ) → IsTrue (M.law.meaning.lawful kind p.now.items w) → IfSome result (λ t. unplaced t ≡ t) }
+    ensures unplaced { AsksUnplaced M.law.meaning kind p.now.items result }
 {
     let asked = kind.alg_alloc(p);
     if let Some(table) = &asked {
@@ -50,10 +47,7 @@ pub fn create<M: Ialg>(
     ensures standing { MapAgrees tables.new spaces.new }
     ensures poisoned { ArePoisoned poison tables.new.groups }
     ensures refused { OnErr result ((tables.new ≡ tables.old) × (spaces.new ≡ spaces.old)) }
-    ensures machine { (before : State M) → before.poison ≡ poison
-        → Refines M.law tables.old spaces.old before
-        → (after : State M) × Does M.law.meaning before (Create i kind group p.now.items result) after
-        × Refines M.law tables.new spaces.new after }
+    ensures machine { MachineDoes M.law poison (Create i kind group p.now.items result) tables.old spaces.old tables.new spaces.new }
 {
     creations_answer_in_order::<M>();
     let asked = asked_for(kind, p);

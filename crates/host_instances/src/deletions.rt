@@ -1,12 +1,10 @@
 //! Deletions, as the machine's.
 ghost use Rattle.std.specs.Prelude.{◌≡◌, ◌<◌, length, None, OnErr, is_some};
 ghost use Rattle.host_table.specs.Table.{slot_at, ArePoisoned};
-ghost use Rattle.host_spec.specs.State.{State};
-ghost use Rattle.host_spec.specs.Calls.{Does};
 ghost use Rattle.host_spec.specs.Calls.Call.{Delete};
 ghost use Rattle.host_moves.specs.Standing.{MapAgrees};
 ghost use Rattle.host_table.specs.Steps.{AreConsistent};
-ghost use Rattle.host_moves.specs.Hosts.{Refines};
+ghost use Rattle.host_instances.specs.Calls.{MachineDoes};
 ghost use Rattle.host_instances.specs.Ends.{OtherSlotsSame};
 
 use crate::ends::end_instance;
@@ -32,10 +30,7 @@ pub fn delete<M: Ialg>(
     ensures gone { slot_at tables.new.instances i ≡ None }
     ensures others { OtherSlotsSame i tables.old.instances tables.new.instances }
     ensures refused { OnErr result ((tables.new ≡ tables.old) × (spaces.new ≡ spaces.old)) }
-    ensures machine { (before : State M) → before.poison ≡ poison
-        → Refines M.law tables.old spaces.old before
-        → (after : State M) × Does M.law.meaning before (Delete i result) after
-        × Refines M.law tables.new spaces.new after }
+    ensures machine { MachineDoes M.law poison (Delete i result) tables.old spaces.old tables.new spaces.new }
 {
     if usize::from(i) >= INSTANCES {
         return Err(Refusal::Range);

@@ -1,7 +1,7 @@
 //! The end of an instance.
 ghost use Rattle.std.specs.Prelude.{IsSome};
 ghost use Rattle.host_table.specs.Table.{slot_at, ArePoisoned};
-ghost use Rattle.host_instances.specs.Ends.{HasEnded};
+ghost use Rattle.host_instances.specs.Ends.{InstanceHasEnded};
 ghost use Rattle.host_table.specs.Steps.{AreConsistent};
 ghost use Rattle.host_moves.specs.Standing.{MapAgrees};
 
@@ -23,8 +23,7 @@ pub fn end_instance<M: Ialg>(
     requires ok { AreConsistent tables.old }
     requires standing { MapAgrees tables.old spaces.old }
     requires poisoned { ArePoisoned poison tables.old.groups }
-    ensures { HasEnded M.law poison i tables.old.instances tables.old.sharing tables.old.groups spaces.old
-        tables.new.instances tables.new.sharing tables.new.groups spaces.new }
+    ensures { InstanceHasEnded M.law poison i tables.old spaces.old tables.new spaces.new }
 {
     let g = group_number(&tables.instances, i);
     give_records(tables, spaces, poison, i);

@@ -1,20 +1,14 @@
 //! What an instance leaves: its records, and with the last member of a group the group's blocks.
 ghost use Rattle.std.specs.Prelude.{◌≡◌, ◌<◌, ℕ, ℤ, false, length, Option, None, IsSome};
 ghost use Rattle.mem_rec.specs.declared.Space.{Space};
-ghost use Rattle.ialg.specs.History.{History};
-ghost use Rattle.record_loans.specs.Blocks.{block_piece};
 ghost use Rattle.scratch_group.specs.Blocks.{block_in};
 ghost use Rattle.mem_rec.specs.declared.TheConstants.{GROUPS};
 ghost use Rattle.host_table.specs.Table.{slot_at, group_at, group_of, is_member_of, TablesOk, ArePoisoned, SameActivities};
-ghost use Rattle.host_table.specs.Sharers.{asked_by};
-ghost use Rattle.host_table.specs.Keeps.{Keeps};
-ghost use Rattle.host_map.specs.Creation.{handed_on};
 ghost use Rattle.host_spaces.specs.MemoryMap.{AreSameSpaces, map_of};
-ghost use Rattle.host_map.specs.MemoryMap.{is_group's, is_instance's, renamed, without_owners};
-ghost use Rattle.host_spaces.specs.Pieces.{old_piece};
+ghost use Rattle.host_map.specs.MemoryMap.{is_group's, without_owners};
 ghost use Rattle.host_moves.specs.Standing.{AgreeWithMap, MapAgrees};
-ghost use Rattle.host_instances.specs.Ends.{sharers_among, OtherSlotsSame};
-ghost use Rattle.host_instances.specs.Leaving.{AgreeWithMapBut};
+ghost use Rattle.host_instances.specs.Ends.{OtherSlotsSame};
+ghost use Rattle.host_instances.specs.Leaving.{AgreeWithMapBut, AreBlocksOf, HistoriesStayWith, LeavesItsRecords, MapAgreesBut};
 ghost use Rattle.host_table.specs.Steps.{AreConsistent, HistoriesStay, WasDeactivated};
 ghost use Rattle.host_table.specs.Frames.{OtherGroupsStay};
 
@@ -40,13 +34,12 @@ pub(crate) fn give_records<M: Ialg>(
     requires standing { MapAgrees tables.old spaces.old }
     requires poisoned { ArePoisoned poison tables.old.groups }
     ensures ok { AreConsistent tables.new }
-    ensures standing { AgreeWithMapBut (group_of (slot_at tables.old.instances i)) tables.new.instances tables.new.sharing tables.new.groups spaces.new }
+    ensures standing { MapAgreesBut (group_of (slot_at tables.old.instances i)) tables.new spaces.new }
     ensures poisoned { ArePoisoned poison tables.new.groups }
     ensures gone { slot_at tables.new.instances i ≡ None }
     ensures others { OtherSlotsSame i tables.old.instances tables.new.instances }
     ensures activity { WasDeactivated i tables.old tables.new }
-    ensures map { map_of spaces.new ≡ without_owners (is_instance's i)
-        (renamed (handed_on (sharers_among M.law.meaning.same tables.new.instances (asked_by (slot_at tables.old.instances i))) i) (map_of spaces.old)) }
+    ensures map { LeavesItsRecords M.law i tables.old spaces.old tables.new spaces.new }
     ensures spaces { AreSameSpaces spaces.old spaces.new }
     ensures keeps { HistoriesStay M.law poison tables.old tables.new }
 {
@@ -61,7 +54,7 @@ pub(crate) fn give_records<M: Ialg>(
 /// Takes all blocks out of a group.
 fn take_blocks(groups: &mut Vec<Group>, g: u8) -> OldBlocks
     requires { g < length groups.old.items }
-    ensures old { (space : Space) → old_piece result space ≡ block_piece (block_in (group_at groups.old.items g) space) }
+    ensures old { AreBlocksOf g groups.old.items result }
     ensures new { (space : Space) → block_in (group_at groups.new.items g) space ≡ None }
     ensures others { OtherGroupsStay g groups.old.items groups.new.items }
     ensures activity { SameActivities groups.old.items groups.new.items }
@@ -96,8 +89,7 @@ pub(crate) fn give_blocks<M: Ialg>(
     ensures activity { SameActivities groups.old.items groups.new.items }
     ensures map { map_of spaces.new ≡ without_owners (is_group's g) (map_of spaces.old) }
     ensures spaces { AreSameSpaces spaces.old spaces.new }
-    ensures keeps { (w : Option ℤ) (histories : ℕ → History) → Keeps M.law w instances.now.items sharing.now.items groups.old.items histories
-        → Keeps M.law w instances.now.items sharing.now.items groups.new.items histories }
+    ensures keeps { HistoriesStayWith M.law instances.now.items sharing.now.items groups.old.items groups.new.items }
 {
     let blocks = take_blocks(groups, g);
     spaces.take_out_blocks(g, blocks);

@@ -1,10 +1,9 @@
 //! The members of groups.
-ghost use Rattle.std.specs.Prelude.{◌≡◌, ◌<◌, ℕ, length, Some, IsSome};
+ghost use Rattle.std.specs.Prelude.{◌≡◌, ◌<◌, ℕ, length, IsSome};
 ghost use Rattle.mem_rec.specs.declared.TheConstants.{INSTANCES};
-ghost use Rattle.host_table.specs.declared.member.Member.{Member};
-ghost use Rattle.host_table.specs.Table.{slot_at, instance_of, is_member_of};
-ghost use Rattle.host_spaces.specs.Pieces.{spaces_of};
+ghost use Rattle.host_table.specs.Table.{slot_at, is_member_of};
 ghost use Rattle.host_instances.specs.Ends.{has_members};
+ghost use Rattle.host_instances.specs.Leaving.{AreSpacesOfRecords};
 
 use host_spaces::record_spaces;
 use host_table::Member;
@@ -18,7 +17,7 @@ pub(crate) fn spaces_of_records<M: Ialg>(
     i: u8,
 ) -> [Space; TABLE_RECORDS]
     requires { IsSome (slot_at instances.now.items i) }
-    ensures { (m : Member M) → slot_at instances.now.items i ≡ Some m → result ≡ spaces_of (instance_of m.inst).table }
+    ensures { AreSpacesOfRecords instances.now.items i result }
 {
     match &instances[i as usize] {
         Some(member) => match &member.inst {

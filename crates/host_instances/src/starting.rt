@@ -1,25 +1,22 @@
 //! A new instance starts.
-ghost use Rattle.std.specs.Prelude.{◌≡◌, ◌≢◌, ◌+◌, ◌<◌, ℕ, [], length, Option, Some, None, IsTrue, IfOk, OnOk, OnErr};
+ghost use Rattle.std.specs.Prelude.{◌≡◌, ◌≢◌, ◌+◌, ◌<◌, ℕ, [], length, None, IfOk, OnOk, OnErr};
 ghost use Rattle.mem_rec.specs.declared.Space.{Space};
 ghost use Rattle.mem_rec.specs.declared.TheConstants.{TABLE_RECORDS, INSTANCES, GROUPS};
-ghost use Rattle.ialg.specs.History.{History};
-ghost use Rattle.ialg.specs.Records.{unplaced};
-ghost use Rattle.host_table.specs.Table.{slot_at, group_at, activity_at, ArePoisoned};
-ghost use Rattle.host_table.specs.Sharers.{sharer_in, AreLeastSharers};
+ghost use Rattle.host_table.specs.Table.{slot_at, group_at, ArePoisoned};
+ghost use Rattle.host_table.specs.Sharers.{AreLeastSharers};
 ghost use Rattle.host_shared.specs.Joining.{sharer_at};
-ghost use Rattle.host_table.specs.Keeps.{with_history};
 ghost use Rattle.host_map.specs.declared.TheConstants.{SPACE_BLOCKS};
-ghost use Rattle.host_map.specs.declared.placed.Owner.{Owner};
-ghost use Rattle.host_map.specs.declared.placed.Owner.TheVariants.{Record, Scratch};
+ghost use Rattle.host_map.specs.declared.placed.Owner.TheVariants.{Record};
 ghost use Rattle.host_map.specs.Blocks.{owned};
-ghost use Rattle.host_map.specs.Creation.{all_placed, created_map, replaces, result_map, taken_over, wanted_by, sharer_at as listed_at};
-ghost use Rattle.host_spaces.specs.MemoryMap.{AreSameSpaces, map_of, sizes_of, space_in};
-ghost use Rattle.host_map.specs.MemoryMap.{blocks_in, renamed};
-ghost use Rattle.host_spaces.specs.Pieces.{ArePlacedPieces, AreSharable, HasBlocks, HasRecords, IsNeeded, IsPoisoned, new_block, with_new};
-ghost use Rattle.host_spaces.specs.Wants.{block_need};
-ghost use Rattle.host_instances.specs.Growth.{AreGrown, activity_grown};
-ghost use Rattle.host_instances.specs.Started.{IsNewborn, IsPlaced, OthersAreSame};
-ghost use Rattle.host_table.specs.Steps.{AreConsistent, AreKept};
+ghost use Rattle.host_map.specs.Creation.{wanted_by, sharer_at as listed_at};
+ghost use Rattle.host_spaces.specs.MemoryMap.{AreSameSpaces, map_of};
+ghost use Rattle.host_map.specs.MemoryMap.{blocks_in};
+ghost use Rattle.host_spaces.specs.Pieces.{ArePlacedPieces, AreSharable, HasBlocks, HasRecords, IsPoisoned};
+ghost use Rattle.host_spaces.specs.MapChanges.{AllButTheseStay};
+ghost use Rattle.host_spaces.specs.Placing.{AreNeeded, HasNew, PlacesAll};
+ghost use Rattle.host_instances.specs.Growth.{TablesAreGrown};
+ghost use Rattle.host_instances.specs.Started.{ActivityIsGrown, BeginsHistoryIn, EmptySlotsHaveNone, HasNewborn, IsPlacedFor, MapIsCreated, OthersAreSame, TakesOver};
+ghost use Rattle.host_table.specs.Steps.{AreConsistent};
 ghost use Rattle.host_moves.specs.Standing.{MapAgrees};
 ghost use Rattle.host_table.specs.Starts.{asked_for, BeginsHistory};
 
@@ -55,14 +52,12 @@ fn place(
     requires blocks { HasBlocks (map_of spaces.old) g (group_at groups.now.items g) }
     requires records { (k : ℕ) (space : Space) → owned (Record i k) (blocks_in (map_of spaces.old) space) ≡ [] }
     requires room { (space : Space) → length (blocks_in (map_of spaces.old) space) + TABLE_RECORDS < SPACE_BLOCKS }
-    ensures exact { all_placed (sizes_of spaces.old) (map_of spaces.old) (wanted_by (listed_at sharers.now) (map_of spaces.old) i g table.now) ≡ result_map (λ _. map_of spaces.new) result }
+    ensures exact { PlacesAll (wanted_by (listed_at sharers.now) (map_of spaces.old) i g table.now) spaces.old spaces.new result }
     ensures pieces { IfOk result (λ made. ArePlacedPieces spaces.old table.now (listed_at sharers.now) made.own made.shared) }
     ensures records { IfOk result (λ made. HasRecords (map_of spaces.new) i table.now made.own made.shared) }
-    ensures needed { IfOk result (λ made. (space : Space) → IsNeeded (space_in spaces.old space).region (block_need table.now (group_at groups.now.items g) space) (new_block made.blocks space)) }
-    ensures blocks { IfOk result (λ made. (space : Space) → owned (Scratch g) (blocks_in (map_of spaces.new) space)
-        ≡ with_new g (new_block made.blocks space) (owned (Scratch g) (blocks_in (map_of spaces.old) space))) }
-    ensures others { OnOk result ((o : Owner) (space : Space) → o ≢ Scratch g → ((k : ℕ) → o ≢ Record i k)
-        → owned o (blocks_in (map_of spaces.new) space) ≡ owned o (blocks_in (map_of spaces.old) space)) }
+    ensures needed { IfOk result (λ made. AreNeeded spaces.old table.now (group_at groups.now.items g) made.blocks) }
+    ensures blocks { IfOk result (λ made. HasNew g made.blocks (map_of spaces.old) (map_of spaces.new)) }
+    ensures others { OnOk result (AllButTheseStay g i (map_of spaces.old) (map_of spaces.new)) }
     ensures poison { IfOk result (IsPoisoned poison) }
     ensures refused { OnErr result (spaces.new ≡ spaces.old) }
     ensures stays { AreSameSpaces spaces.old spaces.new }
@@ -84,16 +79,16 @@ fn begin<M: Ialg>(
     requires group { instance.group < GROUPS }
     requires empty { slot_at tables.old.instances instance.number ≡ None }
     requires ok { AreConsistent tables.old }
-    requires grown { AreGrown instance.group tables.old.instances tables.old.sharing tables.old.groups spaces.old }
+    requires grown { TablesAreGrown instance.group tables.old spaces.old }
     requires sharers { AreLeastSharers M.law.meaning.same tables.old.instances (asked_for instance) sharers }
-    requires placed { IsPlaced spaces.old instance.number (sharer_at sharers) instance.table own shared (group_at tables.old.groups instance.group) }
-    requires gone { (j k : ℕ) (space : Space) → slot_at tables.old.instances j ≡ None → j ≢ instance.number → owned (Record j k) (blocks_in (map_of spaces.old) space) ≡ [] }
+    requires placed { IsPlacedFor instance own shared sharers tables.old spaces.old }
+    requires gone { EmptySlotsHaveNone instance.number tables.old spaces.old }
     ensures groups { tables.new.groups ≡ tables.old.groups }
     ensures ok { AreConsistent tables.new }
     ensures standing { MapAgrees tables.new spaces.new }
     ensures others { (j : ℕ) → j ≢ instance.entry.number → slot_at tables.new.instances j ≡ slot_at tables.old.instances j }
-    ensures newborn { IsNewborn instance.entry.group instance.entry.kind instance.entry.params.now.items instance.entry.table (slot_at tables.new.instances instance.entry.number) }
-    ensures map { map_of spaces.new ≡ renamed (taken_over (sharer_at sharers) instance.entry.number) (map_of spaces.old) }
+    ensures newborn { HasNewborn instance.entry tables.new }
+    ensures map { TakesOver instance.entry.number sharers spaces.old spaces.new }
     ensures stays { AreSameSpaces spaces.old spaces.new }
     ensures keeps { BeginsHistory M.law instance.entry own shared tables.old tables.new }
 {
@@ -121,17 +116,13 @@ pub fn start_in_spaces<M: Ialg>(
     ensures ok { AreConsistent tables.new }
     ensures standing { MapAgrees tables.new spaces.new }
     ensures poisoned { ArePoisoned poison tables.new.groups }
-    ensures exact { created_map (sizes_of spaces.old) (map_of spaces.old) instance.entry.number instance.entry.group instance.entry.table (sharer_in M.law tables.old.instances (asked_for instance.entry))
-        ≡ result_map (λ _. map_of spaces.new) result }
+    ensures exact { MapIsCreated M.law instance.entry tables.old spaces.old spaces.new result }
     ensures refused { OnErr result ((tables.new ≡ tables.old) × (spaces.new ≡ spaces.old)) }
     ensures stays { AreSameSpaces spaces.old spaces.new }
     ensures others { OnOk result (OthersAreSame instance.entry.number tables.old.instances tables.new.instances) }
-    ensures newborn { OnOk result (IsNewborn instance.entry.group instance.entry.kind instance.entry.params.now.items instance.entry.table (slot_at tables.new.instances instance.entry.number)) }
-    ensures activity { OnOk result ((k : ℕ) → activity_at tables.new.groups k ≡ activity_grown (replaces (map_of spaces.old) instance.entry.group instance.entry.table) tables.old.groups instance.entry.group k) }
-    ensures keeps { OnOk result ((histories : ℕ → History)
-        → (IsTrue (M.law.meaning.lawful instance.entry.kind instance.entry.params.now.items poison) → M.law.meaning.table instance.entry.kind instance.entry.params.now.items ≡ Some (unplaced instance.entry.table))
-        → AreKept M.law poison tables.old histories
-        → AreKept M.law poison tables.new (with_history histories instance.entry.number [])) }
+    ensures newborn { OnOk result (HasNewborn instance.entry tables.new) }
+    ensures activity { OnOk result (ActivityIsGrown instance.entry tables.old spaces.old tables.new) }
+    ensures keeps { OnOk result (BeginsHistoryIn M.law poison instance.entry tables.old tables.new) }
 {
     maps_have_room::<M>();
     blocks_are_few();

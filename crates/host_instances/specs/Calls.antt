@@ -1,0 +1,30 @@
+-- A creation, a deletion and the end of all instances, as the machine's.
+use Rattle.std.specs.Prelude.{ℤ, ◌≡◌, IsTrue, List, Option, IfSome}
+use Rattle.mem_rec.specs.declared.MemRec.{MemRec}
+use Rattle.ialg.specs.Laws.{Laws}
+use Rattle.ialg.specs.Meaning.{Meaning}
+use Rattle.ialg.specs.Records.{unplaced}
+use Rattle.host_spaces.specs.declared.spaces.Spaces.{Spaces}
+use Rattle.host_spec.specs.Calls.{Call, Does}
+use Rattle.host_spec.specs.State.{State}
+use Rattle.host_spec.specs.Steps.{closed}
+use Rattle.host_table.specs.View.{View}
+use Rattle.host_moves.specs.Hosts.{Refines}
+
+-- where the kind is lawful, the records of the table that it asks for have no bases
+abbrev pub AsksUnplaced : {M : Type 0} → Meaning M → M → List ℤ → Option (List MemRec) → Type 0
+AsksUnplaced meaning kind p asked = (w : Option ℤ) → IsTrue (meaning.lawful kind p w) → IfSome asked (λ (t : List MemRec). unplaced t ≡ t)
+
+-- the machine makes this call too, in a host of this poison word or of none: from each state that tables and spaces refine before it, it leads
+-- to one that they refine after it
+abbrev pub MachineDoes : {M : Type 0} → Laws M → Option ℤ → Call M → View M → Spaces → View M → Spaces → Type 0
+MachineDoes {M} laws w call old spaces new spaces' = (before : State M) → before.poison ≡ w
+    → Refines laws old spaces before
+    → (after : State M) × Does laws.meaning before call after
+    × Refines laws new spaces' after
+
+-- the machine deletes all instances too, in a host of this poison word or of none
+abbrev pub MachineCloses : {M : Type 0} → Laws M → Option ℤ → View M → Spaces → View M → Spaces → Type 0
+MachineCloses {M} laws w old spaces new spaces' = (before : State M) → before.poison ≡ w
+    → Refines laws old spaces before
+    → Refines laws new spaces' (closed laws.meaning before)
