@@ -1,7 +1,8 @@
 -- Who shares a write-once record with its owner, and what becomes of the owner's pieces when it is deleted.
-use Rattle.std.specs.Prelude.{ℕ, suc, ◌≡◌, ◌<◌, Bool, true, false, List, [], ◌∷◌, Option, Some, None, nat_eq, if◌then◌else◌}
+use Rattle.std.specs.Prelude.{ℕ, suc, ◌≡◌, ◌<◌, ◌≤◌, Bool, true, false, List, [], ◌∷◌, Option, Some, None, nat_eq, if◌then◌else◌}
 use Rattle.space_raw.specs.Span.{Span}
 use Rattle.record_loans.specs.declared.pieces.Pieces.{Pieces}
+use Rattle.record_loans.specs.declared.plan.TheConstants.{CONSTANTS}
 use Rattle.host_shared.specs.declared.locations.Location.{Location}
 use Rattle.host_shared.specs.declared.locations.Location.TheVariants.{Here, At}
 use Rattle.host_shared.specs.declared.locations.Locations.{Locations}
@@ -16,6 +17,10 @@ is_at i (At owner) = nat_eq owner i
 abbrev pub names_owner : Location → Bool
 names_owner (Here p) = false
 names_owner (At owner) = true
+
+-- the constants of no instance from one number on and below another have another owner
+abbrev pub NameNoOwner : List Locations → (from to : ℕ) → Type 0
+NameNoOwner sharing from to = (j : ℕ) → from ≤ j → j < to → names_owner (location_at (locations_at sharing j) CONSTANTS) ≡ false
 
 -- the least-numbered instance, counted from n, that shares record k with its owner i
 abbrev pub sharer_from : ℕ → List Locations → ℕ → ℕ → Option ℕ

@@ -6,7 +6,7 @@ ghost use Rattle.host_shared.specs.declared.locations.TheConstants.{RUN};
 ghost use Rattle.record_loans.specs.Pieces.{piece_at, with_piece, no_pieces};
 ghost use Rattle.host_shared.specs.Locations.{location_at, piece_here, pieces_here, locations_of, no_locations, locations_at, owner_of, piece_seen, shared_at};
 ghost use Rattle.host_shared.specs.Owners.{with_location, set_location, put_piece, with_pieces_of, HasOwner, HasOwners};
-ghost use Rattle.host_shared.specs.Sharing.{is_at, names_owner};
+ghost use Rattle.host_shared.specs.Sharing.{is_at, names_owner, NameNoOwner};
 
 use mem_rec::INSTANCES;
 use record_loans::{CONSTANTS, Pieces};
@@ -173,7 +173,7 @@ pub(crate) const RUN: usize = 16;
 fn names_no_owner(sharing: &Vec<Locations>, run: usize) -> bool
     requires count { length sharing.now.items ≡ INSTANCES }
     requires run { RUN * run + RUN ≤ INSTANCES }
-    ensures { result ≡ true → (j : ℕ) → RUN * run ≤ j → j < RUN * run + RUN → names_owner (location_at (locations_at sharing.now.items j) 2) ≡ false }
+    ensures { result ≡ true → NameNoOwner sharing.now.items (RUN * run) (RUN * run + RUN) }
 {
     let mut elsewhere = false;
     for t in 0..RUN {
@@ -188,7 +188,7 @@ fn skip_runs(sharing: &Vec<Locations>, from: usize) -> usize
     requires count { length sharing.now.items ≡ INSTANCES }
     requires from { from ≤ INSTANCES }
     ensures within { (from ≤ result) × (result ≤ INSTANCES) }
-    ensures passed { (j : ℕ) → from ≤ j → j < result → names_owner (location_at (locations_at sharing.now.items j) 2) ≡ false }
+    ensures passed { NameNoOwner sharing.now.items from result }
 {
     for run in from / RUN..INSTANCES / RUN {
         if !names_no_owner(sharing, run) {
