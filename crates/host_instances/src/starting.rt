@@ -1,8 +1,9 @@
 //! A new instance starts.
-ghost use Rattle.std.specs.Prelude.{◌≡◌, ◌≢◌, ◌+◌, ◌<◌, ℕ, [], length, None, IfOk, OnOk, OnErr};
+ghost use Rattle.std.specs.Prelude.{◌≡◌, ◌+◌, ◌<◌, ℕ, [], length, None, IfOk, OnOk, OnErr};
 ghost use Rattle.mem_rec.specs.declared.Space.{Space};
 ghost use Rattle.mem_rec.specs.declared.TheConstants.{TABLE_RECORDS, INSTANCES, GROUPS};
 ghost use Rattle.host_table.specs.Table.{slot_at, group_at, ArePoisoned};
+ghost use Rattle.host_table.specs.Frames.{OtherSlotsStay};
 ghost use Rattle.host_table.specs.Sharers.{AreLeastSharers};
 ghost use Rattle.host_shared.specs.Joining.{sharer_at};
 ghost use Rattle.host_map.specs.declared.TheConstants.{SPACE_BLOCKS};
@@ -86,7 +87,7 @@ fn begin<M: Ialg>(
     ensures groups { tables.new.groups ≡ tables.old.groups }
     ensures ok { AreConsistent tables.new }
     ensures standing { MapAgrees tables.new spaces.new }
-    ensures others { (j : ℕ) → j ≢ instance.entry.number → slot_at tables.new.instances j ≡ slot_at tables.old.instances j }
+    ensures others { OtherSlotsStay instance.entry.number tables.old.instances tables.new.instances }
     ensures newborn { HasNewborn instance.entry tables.new }
     ensures map { TakesOver instance.entry.number sharers spaces.old spaces.new }
     ensures stays { AreSameSpaces spaces.old spaces.new }
