@@ -1,6 +1,6 @@
 //! The end of all instances.
-ghost use Rattle.std.specs.Prelude.{◌≡◌, ℕ, None};
-ghost use Rattle.host_table.specs.Table.{slot_at, ArePoisoned};
+ghost use Rattle.std.specs.Prelude.{◌≡◌};
+ghost use Rattle.host_table.specs.Table.{ArePoisoned, NoneLives};
 ghost use Rattle.host_map.specs.MemoryMap.{empty_map};
 ghost use Rattle.host_spaces.specs.MemoryMap.{map_of};
 ghost use Rattle.host_table.specs.Steps.{AreConsistent};
@@ -21,7 +21,7 @@ fn delete_all<M: Ialg>(tables: &mut Tables<M>, spaces: &mut Spaces, poison: Opti
     ensures ok { AreConsistent tables.new }
     ensures standing { MapAgrees tables.new spaces.new }
     ensures poisoned { ArePoisoned poison tables.new.groups }
-    ensures none { (i : ℕ) → slot_at tables.new.instances i ≡ None }
+    ensures none { NoneLives tables.new.instances }
     ensures empty { map_of spaces.new ≡ empty_map }
     ensures machine { MachineCloses M.law poison tables.old spaces.old tables.new spaces.new }
 {

@@ -1,11 +1,11 @@
 //! A group grows.
 ghost use Rattle.std.specs.Prelude.{◌≡◌, ◌≢◌, ◌<◌, length, None, true, false};
 ghost use Rattle.mem_rec.specs.declared.TheConstants.{GROUPS};
-ghost use Rattle.host_table.specs.Table.{group_at, TablesTold, ArePoisoned, SameActivities, ActivitiesAre};
+ghost use Rattle.host_table.specs.Table.{group_at, ArePoisoned, SameActivities, ActivitiesAre};
 ghost use Rattle.host_table.specs.Frames.{InactiveGroupsStay};
 ghost use Rattle.host_instances.specs.Blocks.{no_blocks, replaced_in};
 ghost use Rattle.host_instances.specs.Growth.{CanGrow, HasGrown, activity_grown};
-ghost use Rattle.host_table.specs.Steps.{AreConsistent, MembersStay, HistoriesStay, AllHistoriesStay};
+ghost use Rattle.host_table.specs.Steps.{AreConsistent, MembersAreTold, MembersStay, HistoriesStay, AllHistoriesStay};
 
 use crate::blocks::{put_new_blocks, replaces_any};
 use host_moves::in_order;
@@ -43,7 +43,7 @@ fn rest_where<M: Ialg>(tables: &mut Tables<M>, poison: Option<i16>, g: u8, repla
 /// Tells each member of the group where its records lie now, where a block was replaced.
 fn tell_where<M: Ialg>(tables: &mut Tables<M>, g: u8, replaced: bool)
     requires range { g < GROUPS }
-    requires told { replaced ≡ true → TablesTold g 0 tables.old.instances tables.old.sharing tables.old.groups }
+    requires told { replaced ≡ true → MembersAreTold g 0 tables.old }
     requires ok { replaced ≡ false → AreConsistent tables.old }
     ensures ok { AreConsistent tables.new }
     ensures inactive { InactiveGroupsStay tables.old.groups tables.new.groups }

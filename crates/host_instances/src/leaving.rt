@@ -1,9 +1,9 @@
 //! What an instance leaves: its records, and with the last member of a group the group's blocks.
-ghost use Rattle.std.specs.Prelude.{◌≡◌, ◌<◌, ℕ, ℤ, false, length, Option, None, IsSome};
+ghost use Rattle.std.specs.Prelude.{◌≡◌, ◌<◌, length, None, IsSome};
 ghost use Rattle.mem_rec.specs.declared.Space.{Space};
 ghost use Rattle.scratch_group.specs.Blocks.{block_in};
 ghost use Rattle.mem_rec.specs.declared.TheConstants.{GROUPS};
-ghost use Rattle.host_table.specs.Table.{slot_at, group_at, group_of, is_member_of, TablesOk, ArePoisoned, SameActivities};
+ghost use Rattle.host_table.specs.Table.{slot_at, group_at, group_of, HasNoMembers, PoisonStays, TablesOk, ArePoisoned, SameActivities};
 ghost use Rattle.host_spaces.specs.MemoryMap.{AreSameSpaces, map_of};
 ghost use Rattle.host_map.specs.MemoryMap.{is_group's, without_owners};
 ghost use Rattle.host_moves.specs.Standing.{AgreeWithMap, MapAgrees};
@@ -80,12 +80,12 @@ pub(crate) fn give_blocks<M: Ialg>(
     g: u8,
 )
     requires number { g < GROUPS }
-    requires none { (j : ℕ) → is_member_of g (slot_at instances.now.items j) ≡ false }
+    requires none { HasNoMembers instances.now.items g }
     requires ok { TablesOk instances.now.items sharing.now.items groups.old.items }
     requires standing { AgreeWithMapBut g instances.now.items sharing.now.items groups.old.items spaces.old }
     ensures ok { TablesOk instances.now.items sharing.now.items groups.new.items }
     ensures standing { AgreeWithMap instances.now.items sharing.now.items groups.new.items spaces.new }
-    ensures poisoned { (w : Option ℤ) → ArePoisoned w groups.old.items → ArePoisoned w groups.new.items }
+    ensures poisoned { PoisonStays groups.old.items groups.new.items }
     ensures activity { SameActivities groups.old.items groups.new.items }
     ensures map { map_of spaces.new ≡ without_owners (is_group's g) (map_of spaces.old) }
     ensures spaces { AreSameSpaces spaces.old spaces.new }

@@ -1,7 +1,7 @@
 //! The memory of a host: what it asks for.
-ghost use Rattle.std.specs.Prelude.{◌≡◌, ℕ, ℤ, Option, None, IfOk, IfErr, IsErrOf};
+ghost use Rattle.std.specs.Prelude.{◌≡◌, ℤ, Option, IfOk, IfErr, IsErrOf};
 ghost use Rattle.host_map.specs.MemoryMap.{AreSizes};
-ghost use Rattle.host_table.specs.Table.{slot_at, ArePoisoned};
+ghost use Rattle.host_table.specs.Table.{ArePoisoned, NoneLives};
 ghost use Rattle.host_table.specs.Steps.{AreConsistent};
 ghost use Rattle.host_moves.specs.Standing.{MapAgrees};
 ghost use Rattle.host_moves.specs.Hosts.{Refines};
@@ -57,7 +57,7 @@ impl<M: Ialg> HostMemory<M> {
         ensures ok { AreConsistent result.0 }
         ensures standing { MapAgrees result.0 result.1 }
         ensures poisoned { (w : Option ℤ) → ArePoisoned w result.0.groups }
-        ensures empty { (i : ℕ) → slot_at result.0.instances i ≡ None }
+        ensures empty { NoneLives result.0.instances }
         ensures machine { (w : Option ℤ) → Refines M.law result.0 result.1 (new_state self.spaces.sizes w) }
     {
         let HostMemory { spaces, tables } = self;

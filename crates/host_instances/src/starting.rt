@@ -1,19 +1,15 @@
 //! A new instance starts.
-ghost use Rattle.std.specs.Prelude.{◌≡◌, ◌≢◌, ◌+◌, ◌<◌, ℕ, [], length, None, IfOk, OnOk, OnErr};
-ghost use Rattle.mem_rec.specs.declared.Space.{Space};
-ghost use Rattle.mem_rec.specs.declared.TheConstants.{TABLE_RECORDS, INSTANCES, GROUPS};
+ghost use Rattle.std.specs.Prelude.{◌≡◌, ◌<◌, ℕ, length, None, IfOk, OnOk, OnErr};
+ghost use Rattle.mem_rec.specs.declared.TheConstants.{INSTANCES, GROUPS};
 ghost use Rattle.host_table.specs.Table.{slot_at, group_at, ArePoisoned};
+ghost use Rattle.host_table.specs.Frames.{OtherSlotsStay};
 ghost use Rattle.host_table.specs.Sharers.{AreLeastSharers};
 ghost use Rattle.host_shared.specs.Joining.{sharer_at};
-ghost use Rattle.host_map.specs.declared.TheConstants.{SPACE_BLOCKS};
-ghost use Rattle.host_map.specs.declared.placed.Owner.TheVariants.{Record};
-ghost use Rattle.host_map.specs.Blocks.{owned};
-ghost use Rattle.host_map.specs.Creation.{wanted_by, sharer_at as listed_at};
+ghost use Rattle.host_map.specs.Creation.{sharer_at as listed_at};
 ghost use Rattle.host_spaces.specs.MemoryMap.{AreSameSpaces, map_of};
-ghost use Rattle.host_map.specs.MemoryMap.{blocks_in};
-ghost use Rattle.host_spaces.specs.Pieces.{ArePlacedPieces, AreSharable, HasBlocks, HasRecords, IsPoisoned};
-ghost use Rattle.host_spaces.specs.MapChanges.{AllButTheseStay};
-ghost use Rattle.host_spaces.specs.Placing.{AreNeeded, HasNew, PlacesAll};
+ghost use Rattle.host_spaces.specs.Pieces.{AreSharable, HasBlocks, IsPoisoned};
+ghost use Rattle.host_spaces.specs.MapChanges.{AllButTheseStay, InstanceHasNone};
+ghost use Rattle.host_spaces.specs.Placing.{AreNeeded, HasNew, HasPlacedPieces, HasPlacedRecords, HasRoomForInstance, PlacesInstance};
 ghost use Rattle.host_instances.specs.Growth.{TablesAreGrown};
 ghost use Rattle.host_instances.specs.Started.{ActivityIsGrown, BeginsHistoryIn, EmptySlotsHaveNone, HasNewborn, IsPlacedFor, MapIsCreated, OthersAreSame, TakesOver};
 ghost use Rattle.host_table.specs.Steps.{AreConsistent};
@@ -50,11 +46,11 @@ fn place(
     requires group { g < length groups.now.items }
     requires sharers { AreSharable table.now (listed_at sharers.now) }
     requires blocks { HasBlocks (map_of spaces.old) g (group_at groups.now.items g) }
-    requires records { (k : ℕ) (space : Space) → owned (Record i k) (blocks_in (map_of spaces.old) space) ≡ [] }
-    requires room { (space : Space) → length (blocks_in (map_of spaces.old) space) + TABLE_RECORDS < SPACE_BLOCKS }
-    ensures exact { PlacesAll (wanted_by (listed_at sharers.now) (map_of spaces.old) i g table.now) spaces.old spaces.new result }
-    ensures pieces { IfOk result (λ made. ArePlacedPieces spaces.old table.now (listed_at sharers.now) made.own made.shared) }
-    ensures records { IfOk result (λ made. HasRecords (map_of spaces.new) i table.now made.own made.shared) }
+    requires records { InstanceHasNone i (map_of spaces.old) }
+    requires room { HasRoomForInstance (map_of spaces.old) }
+    ensures exact { PlacesInstance i g table.now (listed_at sharers.now) spaces.old spaces.new result }
+    ensures pieces { IfOk result (HasPlacedPieces spaces.old table.now (listed_at sharers.now)) }
+    ensures records { IfOk result (HasPlacedRecords (map_of spaces.new) i table.now) }
     ensures needed { IfOk result (λ made. AreNeeded spaces.old table.now (group_at groups.now.items g) made.blocks) }
     ensures blocks { IfOk result (λ made. HasNew g made.blocks (map_of spaces.old) (map_of spaces.new)) }
     ensures others { OnOk result (AllButTheseStay g i (map_of spaces.old) (map_of spaces.new)) }
@@ -86,7 +82,7 @@ fn begin<M: Ialg>(
     ensures groups { tables.new.groups ≡ tables.old.groups }
     ensures ok { AreConsistent tables.new }
     ensures standing { MapAgrees tables.new spaces.new }
-    ensures others { (j : ℕ) → j ≢ instance.entry.number → slot_at tables.new.instances j ≡ slot_at tables.old.instances j }
+    ensures others { OtherSlotsStay instance.entry.number tables.old.instances tables.new.instances }
     ensures newborn { HasNewborn instance.entry tables.new }
     ensures map { TakesOver instance.entry.number sharers spaces.old spaces.new }
     ensures stays { AreSameSpaces spaces.old spaces.new }

@@ -1,6 +1,7 @@
 -- What a call changes in the spaces and in their map.
 use Rattle.std.specs.Prelude.{ℕ, ◌<◌, ◌≡◌, ◌≢◌, List, [], Option, Some}
 use Rattle.mem_rec.specs.declared.Space.{Space}
+use Rattle.space_raw.specs.Span.{Span}
 use Rattle.host_map.specs.declared.placed.Owner.{Owner}
 use Rattle.host_map.specs.declared.placed.Owner.TheVariants.{Record, Scratch}
 use Rattle.host_map.specs.declared.placed.Placed.{Placed}
@@ -10,6 +11,7 @@ use Rattle.host_map.specs.MemoryMap.{MemoryMap, blocks_in}
 use Rattle.host_spaces.specs.Spaces.{SpaceState}
 use Rattle.host_spaces.specs.declared.spaces.Spaces.{Spaces}
 use Rattle.host_spaces.specs.MemoryMap.{space_in}
+use Rattle.host_spaces.specs.Changes.{IsAdded, IsAllThatIsNew, IsAtLeastPlace, IsOwned, OthersStay}
 
 -- the space where a block is wanted
 abbrev pub space_for : Wanted → Spaces → SpaceState
@@ -68,3 +70,31 @@ abbrev pub AllButHandedStay : (ℕ → Option ℕ) → ℕ → MemoryMap → Mem
 AllButHandedStay sharers i old new = (o : Owner) (space : Space)
     → ((k sharer : ℕ) → sharers k ≡ Some sharer → (o ≢ Record i k) × (o ≢ Record sharer k))
     → OwnerStays o space old new
+
+-- what Changes says of a placement, of a block that is wanted: the piece stands at the least place of its space
+abbrev pub IsLeastPlaceFor : Wanted → Option Span → Spaces → Type 0
+IsLeastPlaceFor want piece spaces = IsAtLeastPlace piece (space_for want spaces) want.size want.align
+
+-- it is one more of the blocks
+abbrev pub IsAddedFor : Wanted → Option Span → Spaces → Spaces → Type 0
+IsAddedFor want piece old new = IsAdded piece want.owner want.align (blocks_for want old) (blocks_for want new)
+
+-- it is one more of the owner's blocks
+abbrev pub IsOwnedFor : Wanted → Option Span → Spaces → Spaces → Type 0
+IsOwnedFor want piece old new = IsOwned piece want.owner want.align (blocks_for want old) (blocks_for want new)
+
+-- all others have the same blocks
+abbrev pub OthersStayFor : Wanted → Spaces → Spaces → Type 0
+OthersStayFor want old new = OthersStay want.owner (blocks_for want old) (blocks_for want new)
+
+-- without the piece, the blocks are those from before
+abbrev pub IsAllThatIsNewFor : Wanted → Option Span → Spaces → Spaces → Type 0
+IsAllThatIsNewFor want piece old new = IsAllThatIsNew piece (blocks_for want old) (blocks_for want new)
+
+-- each space has the region that it had
+abbrev pub RegionsStay : Spaces → Spaces → Type 0
+RegionsStay old new = (space : Space) → (space_in new space).region ≡ (space_in old space).region
+
+-- the instance has no blocks
+abbrev pub InstanceHasNone : ℕ → MemoryMap → Type 0
+InstanceHasNone i map = (k : ℕ) (space : Space) → owned (Record i k) (blocks_in map space) ≡ []

@@ -1,7 +1,8 @@
 -- What a creation places, and what goes out of the spaces.
-use Rattle.std.specs.Prelude.{ℕ, ◌+◌, ◌≤◌, ◌≡◌, List, length, drop, Option, Result, IfSome}
+use Rattle.std.specs.Prelude.{ℕ, ◌+◌, ◌<◌, ◌≤◌, ◌≡◌, List, length, drop, Option, Result, IfSome}
 use Rattle.mem_rec.specs.declared.MemRec.{MemRec}
 use Rattle.mem_rec.specs.declared.Space.{Space}
+use Rattle.mem_rec.specs.declared.TheConstants.{TABLE_RECORDS}
 use Rattle.space_raw.specs.Span.{Span}
 use Rattle.scratch_group.specs.declared.group.Group.{Group}
 use Rattle.host_map.specs.declared.TheConstants.{SPACE_BLOCKS}
@@ -9,13 +10,14 @@ use Rattle.host_map.specs.declared.placed.Owner.TheVariants.{Scratch}
 use Rattle.host_map.specs.declared.parts.Wanted.{Wanted}
 use Rattle.host_map.specs.Blocks.{owned}
 use Rattle.host_map.specs.MemoryMap.{MemoryMap, blocks_in, is_group's, without_owners}
-use Rattle.host_map.specs.Creation.{all_placed, result_map}
+use Rattle.host_map.specs.Creation.{all_placed, result_map, wanted_by}
 use Rattle.host_spaces.specs.declared.pieces.NewBlocks.{NewBlocks}
 use Rattle.host_spaces.specs.declared.pieces.OldBlocks.{OldBlocks}
+use Rattle.host_spaces.specs.declared.pieces.Placement.{Placement}
 use Rattle.host_spaces.specs.declared.spaces.Spaces.{Spaces}
 use Rattle.host_spaces.specs.Blocks.{Owns, block_of_piece}
 use Rattle.host_spaces.specs.MemoryMap.{map_of, sizes_of, space_in}
-use Rattle.host_spaces.specs.Pieces.{IsNeeded, new_block, old_piece, with_new}
+use Rattle.host_spaces.specs.Pieces.{ArePlacedPieces, HasRecords, IsNeeded, new_block, old_piece, with_new}
 use Rattle.host_spaces.specs.Wants.{block_need, count_in}
 
 -- no space would have too many blocks, once all that is wanted from entry k on is placed
@@ -48,3 +50,19 @@ abbrev pub LeaveTheirGroup : ℕ → OldBlocks → MemoryMap → MemoryMap → T
 LeaveTheirGroup g pieces old new = (align : Space → ℕ)
     → ((space : Space) → owned (Scratch g) (blocks_in old space) ≡ block_of_piece (Scratch g) (align space) (old_piece pieces space))
     → new ≡ without_owners (is_group's g) old
+
+-- each space has room for the blocks of one more instance
+abbrev pub HasRoomForInstance : MemoryMap → Type 0
+HasRoomForInstance map = (space : Space) → length (blocks_in map space) + TABLE_RECORDS < SPACE_BLOCKS
+
+-- as PlacesAll says, of all that a new instance i of group g needs with this table and these sharers
+abbrev pub PlacesInstance : {A : Type 0} → ℕ → ℕ → List MemRec → (ℕ → Option ℕ) → Spaces → Spaces → Result A Space → Type 0
+PlacesInstance i g table sharers old new answer = PlacesAll (wanted_by sharers (map_of old) i g table) old new answer
+
+-- the placement has the pieces of the records that have no sharer
+abbrev pub HasPlacedPieces : Spaces → List MemRec → (ℕ → Option ℕ) → Placement → Type 0
+HasPlacedPieces spaces table sharers made = ArePlacedPieces spaces table sharers made.own made.shared
+
+-- the pieces of the placement are the blocks of instance i
+abbrev pub HasPlacedRecords : MemoryMap → ℕ → List MemRec → Placement → Type 0
+HasPlacedRecords map i table made = HasRecords map i table made.own made.shared

@@ -109,3 +109,7 @@ pub record IsGranted (old new : Spaces) (word : Option ℤ) (k : ℕ) (wants : L
       → owned w.owner (space_in new w.space).blocks ≡ with_block (block_of w.owner w.align p) (owned w.owner (space_in old w.space).blocks)
   pub others : (o : Owner) (space : Space) → ((j : ℕ) (w : Wanted) → k ≤ j → want_at wants j ≡ Some w → w.space ≡ space → o ≢ w.owner)
       → owned o (space_in new space).blocks ≡ owned o (space_in old space).blocks
+
+-- all that is wanted is within the limits
+abbrev pub AllAreWithinLimits : List (Option Wanted) → Type 0
+AllAreWithinLimits wants = (j : ℕ) (want : Wanted) → want_at wants j ≡ Some want → IsWithinLimits want

@@ -1,19 +1,17 @@
 //! One space.
-ghost use Rattle.std.specs.Prelude.{◌≡◌, ◌≢◌, ℕ, ◌+◌, ◌-◌, ◌<◌, ◌≤◌, ◌^◌, [], length, min, Some, None, IsSome, Contains, slice_index_or, IfOk, IfErr, IfNone, IsErrOf};
-ghost use Rattle.std.specs.Option.{option_map};
+ghost use Rattle.std.specs.Prelude.{◌≡◌, ◌≢◌, ◌+◌, ◌-◌, ◌<◌, ◌≤◌, ◌^◌, [], length, min, None, IsSome, Contains, slice_index_or, IfOk, IfErr, IfNone, IsErrOf};
 ghost use Rattle.std.specs.Vec.{vec_capacity};
 ghost use Rattle.relocate.specs.Places.{IsAlignment, IsSpaceSize};
-ghost use Rattle.space_heap.specs.Maps.{range_of};
 ghost use Rattle.relocate.specs.declared.limits.TheConstants.{GREATEST_NEED};
 ghost use Rattle.host_map.specs.declared.TheConstants.{MAP_BLOCKS, SPACE_BLOCKS};
 ghost use Rattle.host_map.specs.declared.placed.Owner.{Owner};
 ghost use Rattle.host_map.specs.declared.placed.Placed.{Placed};
-ghost use Rattle.host_map.specs.Blocks.{AreSingle, IsOwner, block_range, owned, renamed_block, renamed_blocks, renaming, with_block, without_at};
+ghost use Rattle.host_map.specs.Blocks.{owned, renamed_block, renamed_blocks, renaming, with_block, without_at};
 ghost use Rattle.host_spaces.specs.Blocks.{Owns};
-ghost use Rattle.host_map.specs.Moves.{moved, moved_to, next_block, next_in, spots_of};
+ghost use Rattle.host_map.specs.Moves.{moved, moved_to, next_block, spots_of};
 ghost use Rattle.relocate.specs.Spots.{AreSpots};
 ghost use Rattle.host_spaces.specs.Spaces.{AreInOrder, HasFront};
-ghost use Rattle.host_spaces.specs.Changes.{GoesOnAs, IsAdded, IsAllThatIsNew, IsAtLeastPlace, IsOwned, IsPieceOf, LeavesItsOwner, OthersStay, OthersStayBeside};
+ghost use Rattle.host_spaces.specs.Changes.{AllButBothStay, FirstAreBefore, GoesOnAs, IsAdded, IsAllThatIsNew, IsAtLeastPlace, IsOwned, IsIndexOfNext, IsNextToMove, IsPieceOf, IsPlaceOfNext, IsRenamedTo, LeavesItsOwner, MovesLastOf, OthersAreBehind, OthersStay, OthersStayBeside, StaySingle};
 
 use arrayvec::ArrayVec;
 use host_map::{MAP_BLOCKS, Map, Owner, Placed, SPACE_BLOCKS};
@@ -119,10 +117,10 @@ impl SpaceBlocks {
     /// What is the block of one owner is another owner's from now on. Nothing else of it changes.
     pub fn rename(&mut self, from: Owner, to: Owner)
         ensures blocks { self.new.blocks ≡ renamed_blocks (renaming from to) self.old.blocks }
-        ensures given { owned to self.old.blocks ≡ [] → owned to self.new.blocks ≡ renamed_blocks (λ _. to) (owned from self.old.blocks) }
+        ensures given { IsRenamedTo from to self.old.blocks self.new.blocks }
         ensures left { from ≢ to → owned from self.new.blocks ≡ [] }
-        ensures others { (o : Owner) → o ≢ from → o ≢ to → owned o self.new.blocks ≡ owned o self.old.blocks }
-        ensures single { AreSingle self.old.blocks → IsOwner to → owned to self.old.blocks ≡ [] → AreSingle self.new.blocks }
+        ensures others { AllButBothStay from to self.old.blocks self.new.blocks }
+        ensures single { StaySingle to self.old.blocks self.new.blocks }
         ensures stays { (self.new.region ≡ self.old.region) × (self.new.slid ≡ self.old.slid) }
     {
         rename_each(self.blocks.as_mut_slice(), from, to);
@@ -135,7 +133,7 @@ impl SpaceBlocks {
         requires front { HasFront packed.old self.now.blocks }
         ensures value { result ≡ next_block self.now.blocks }
         ensures front { IsSome result → HasFront packed.new (moved self.now.blocks) }
-        ensures index { IsSome result → option_map (λ m. m.index + 1) (next_in self.now.blocks) ≡ Some packed.new }
+        ensures index { MovesLastOf packed.new result self.now.blocks }
         ensures none { result ≡ None → packed.new ≡ packed.old }
     {
         match next_move_behind(self.blocks.as_slice(), *packed) {
@@ -150,10 +148,10 @@ impl SpaceBlocks {
     /// The next move is made, of the block of this index, which the piece is. It is slid down to its packed place with its words.
     pub fn make_move(&mut self, piece: Piece, index: usize) -> Piece
         requires region { piece.region ≡ self.old.region }
-        requires next { option_map block_range (next_block self.old.blocks) ≡ Some (range_of piece) }
-        requires index { option_map (λ m. m.index) (next_in self.old.blocks) ≡ Some index }
+        requires next { IsNextToMove piece self.old.blocks }
+        requires index { IsIndexOfNext index self.old.blocks }
         ensures blocks { self.new.blocks ≡ moved self.old.blocks }
-        ensures place { option_map (λ m. m.to) (next_in self.old.blocks) ≡ Some result.place }
+        ensures place { IsPlaceOfNext result.place self.old.blocks }
         ensures words { (result.words ≡ piece.words) × (result.region ≡ piece.region) }
         ensures owned { GoesOnAs piece result self.old.blocks self.new.blocks }
         ensures others { OthersStayBeside piece self.old.blocks self.new.blocks }
@@ -214,8 +212,8 @@ fn enter(blocks: &mut Vec<Placed>, block: Placed)
 fn count_before(blocks: &[Placed], place: u32) -> usize
     requires order { AreSpots (spots_of blocks.now) }
     ensures within { result ≤ length blocks.now }
-    ensures before { (k : ℕ) (d : Placed) → k < result → (slice_index_or blocks.now k d).place < place }
-    ensures behind { (k : ℕ) (d : Placed) → result ≤ k → k < length blocks.now → place ≤ (slice_index_or blocks.now k d).place }
+    ensures before { FirstAreBefore place result blocks.now }
+    ensures behind { OthersAreBehind place result blocks.now }
 {
     let mut low = 0;
     let mut high = blocks.len();

@@ -1,16 +1,10 @@
 //! Places for all that a new instance needs.
-ghost use Rattle.std.specs.Prelude.{◌≡◌, ℕ, ◌+◌, ◌<◌, [], length, IfOk, OnOk, OnErr};
-ghost use Rattle.mem_rec.specs.declared.Space.{Space};
-ghost use Rattle.mem_rec.specs.declared.TheConstants.{TABLE_RECORDS};
-ghost use Rattle.host_map.specs.declared.TheConstants.{SPACE_BLOCKS};
-ghost use Rattle.host_map.specs.declared.placed.Owner.TheVariants.{Record};
-ghost use Rattle.host_map.specs.Blocks.{owned};
+ghost use Rattle.std.specs.Prelude.{◌≡◌, IfOk, OnOk, OnErr};
 ghost use Rattle.host_spaces.specs.MemoryMap.{AreSameSpaces, map_of};
-ghost use Rattle.host_map.specs.MemoryMap.{blocks_in};
-ghost use Rattle.host_map.specs.Creation.{sharer_at, wanted_by};
-ghost use Rattle.host_spaces.specs.Pieces.{ArePlacedPieces, AreSharable, HasBlocks, HasRecords, IsPoisoned};
-ghost use Rattle.host_spaces.specs.MapChanges.{AllButTheseStay};
-ghost use Rattle.host_spaces.specs.Placing.{AreNeeded, HasNew, PlacesAll};
+ghost use Rattle.host_map.specs.Creation.{sharer_at};
+ghost use Rattle.host_spaces.specs.Pieces.{AreSharable, HasBlocks, IsPoisoned};
+ghost use Rattle.host_spaces.specs.MapChanges.{AllButTheseStay, InstanceHasNone};
+ghost use Rattle.host_spaces.specs.Placing.{AreNeeded, HasNew, HasPlacedPieces, HasPlacedRecords, HasRoomForInstance, PlacesInstance};
 
 use crate::granted::Granted;
 use crate::pieces::{Placement, as_placement};
@@ -35,11 +29,11 @@ impl Spaces {
     ) -> Result<Placement, Space>
         requires blocks { HasBlocks (map_of self.old) g old.now }
         requires sharers { AreSharable table.now (sharer_at sharers.now) }
-        requires records { (k : ℕ) (space : Space) → owned (Record i k) (blocks_in (map_of self.old) space) ≡ [] }
-        requires room { (space : Space) → length (blocks_in (map_of self.old) space) + TABLE_RECORDS < SPACE_BLOCKS }
-        ensures exact { PlacesAll (wanted_by (sharer_at sharers.now) (map_of self.old) i g table.now) self.old self.new result }
-        ensures pieces { IfOk result (λ made. ArePlacedPieces self.old table.now (sharer_at sharers.now) made.own made.shared) }
-        ensures records { IfOk result (λ made. HasRecords (map_of self.new) i table.now made.own made.shared) }
+        requires records { InstanceHasNone i (map_of self.old) }
+        requires room { HasRoomForInstance (map_of self.old) }
+        ensures exact { PlacesInstance i g table.now (sharer_at sharers.now) self.old self.new result }
+        ensures pieces { IfOk result (HasPlacedPieces self.old table.now (sharer_at sharers.now)) }
+        ensures records { IfOk result (HasPlacedRecords (map_of self.new) i table.now) }
         ensures needed { IfOk result (λ made. AreNeeded self.old table.now old.now made.blocks) }
         ensures blocks { IfOk result (λ made. HasNew g made.blocks (map_of self.old) (map_of self.new)) }
         ensures others { OnOk result (AllButTheseStay g i (map_of self.old) (map_of self.new)) }

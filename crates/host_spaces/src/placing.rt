@@ -1,13 +1,12 @@
 //! Places for all that is needed, or for nothing.
-ghost use Rattle.std.specs.Prelude.{◌≡◌, ℕ, ◌<◌, ◌≤◌, length, drop, Some, None, IsSome, IfSome, IfNone, OnOk, OnErr};
+ghost use Rattle.std.specs.Prelude.{◌≡◌, ℕ, ◌<◌, ◌≤◌, length, drop, None, IsSome, IfSome, IfNone, OnOk, OnErr};
 ghost use Rattle.ialg.specs.Records.{ArePoison};
 ghost use Rattle.host_map.specs.declared.TheConstants.{SPACE_BLOCKS};
 ghost use Rattle.host_spaces.specs.declared.wants.TheConstants.{WANTS};
-ghost use Rattle.host_map.specs.declared.parts.Wanted.{Wanted};
 ghost use Rattle.host_spaces.specs.MemoryMap.{AreSameSpaces, space_in};
-ghost use Rattle.host_spaces.specs.Wants.{AreApartWants, IsGranted, IsWithinLimits, none_granted, somes, want_at};
-ghost use Rattle.host_spaces.specs.Changes.{IsAdded, IsAllThatIsNew, IsAtLeastPlace, IsOwned, IsPieceOf, OthersStay};
-ghost use Rattle.host_spaces.specs.MapChanges.{OtherSpacesStay, blocks_for, space_for};
+ghost use Rattle.host_spaces.specs.Wants.{AllAreWithinLimits, AreApartWants, IsGranted, IsWithinLimits, none_granted, somes, want_at};
+ghost use Rattle.host_spaces.specs.Changes.{IsPieceOf};
+ghost use Rattle.host_spaces.specs.MapChanges.{IsAddedFor, IsAllThatIsNewFor, IsLeastPlaceFor, IsOwnedFor, OtherSpacesStay, OthersStayFor, space_for};
 ghost use Rattle.host_spaces.specs.Placing.{HasRoomFrom, PlacesAll};
 
 use crate::granted::Granted;
@@ -20,13 +19,13 @@ use space_raw::Piece;
 fn place_filled(spaces: &mut Spaces, want: Wanted, poison: Option<i16>) -> Option<Piece>
     requires limits { IsWithinLimits want }
     requires room { length (space_in spaces.old want.space).blocks < SPACE_BLOCKS }
-    ensures place { IsAtLeastPlace result (space_for want spaces.old) want.size want.align }
+    ensures place { IsLeastPlaceFor want result spaces.old }
     ensures piece { IsPieceOf result (space_for want spaces.old) want.size }
-    ensures blocks { IsAdded result want.owner want.align (blocks_for want spaces.old) (blocks_for want spaces.new) }
-    ensures owned { IsOwned result want.owner want.align (blocks_for want spaces.old) (blocks_for want spaces.new) }
-    ensures others { OthersStay want.owner (blocks_for want spaces.old) (blocks_for want spaces.new) }
+    ensures blocks { IsAddedFor want result spaces.old spaces.new }
+    ensures owned { IsOwnedFor want result spaces.old spaces.new }
+    ensures others { OthersStayFor want spaces.old spaces.new }
     ensures elsewhere { OtherSpacesStay want.space spaces.old spaces.new }
-    ensures back { IsAllThatIsNew result (blocks_for want spaces.old) (blocks_for want spaces.new) }
+    ensures back { IsAllThatIsNewFor want result spaces.old spaces.new }
     ensures poison { IfSome result (λ p. ArePoison poison p.words) }
     ensures none { IfNone result (spaces.new ≡ spaces.old) }
     ensures stays { AreSameSpaces spaces.old spaces.new }
@@ -64,7 +63,7 @@ fn place_at(
     requires seven { length wants.now ≡ WANTS }
     requires number { k < WANTS }
     requires wanted { IsSome (want_at wants.now k) }
-    requires limits { (j : ℕ) (w : Wanted) → want_at wants.now j ≡ Some w → IsWithinLimits w }
+    requires limits { AllAreWithinLimits wants.now }
     requires apart { AreApartWants wants.now }
     requires room { HasRoomFrom k wants.now spaces.old }
     requires none { granted.old ≡ none_granted }
@@ -105,7 +104,7 @@ pub(crate) fn place_from(
 ) -> Result<(), Space>
     requires seven { length wants.now ≡ WANTS }
     requires number { k ≤ WANTS }
-    requires limits { (j : ℕ) (w : Wanted) → want_at wants.now j ≡ Some w → IsWithinLimits w }
+    requires limits { AllAreWithinLimits wants.now }
     requires apart { AreApartWants wants.now }
     requires room { HasRoomFrom k wants.now spaces.old }
     requires none { granted.old ≡ none_granted }

@@ -1,19 +1,16 @@
 //! The three spaces.
-ghost use Rattle.std.specs.Prelude.{◌≡◌, ◌+◌, ◌-◌, ◌<◌, ◌≤◌, ◌^◌, length, min, Some, None, IsSome, IfOk, IfErr, IfNone, IsErrOf};
-ghost use Rattle.std.specs.Option.{option_map};
-ghost use Rattle.mem_rec.specs.declared.Space.{Space};
-ghost use Rattle.space_heap.specs.Maps.{range_of};
+ghost use Rattle.std.specs.Prelude.{◌≡◌, ◌+◌, ◌-◌, ◌<◌, ◌≤◌, ◌^◌, length, min, None, IsSome, IfOk, IfErr, IfNone, IsErrOf};
 ghost use Rattle.host_map.specs.declared.TheConstants.{MAP_BLOCKS, SPACE_BLOCKS};
 ghost use Rattle.host_map.specs.declared.placed.Owner.{Owner};
 ghost use Rattle.host_spaces.specs.Blocks.{Owns};
-ghost use Rattle.host_map.specs.Blocks.{block_range, without_at};
-ghost use Rattle.host_map.specs.Moves.{moved, next_block, next_in};
+ghost use Rattle.host_map.specs.Blocks.{without_at};
+ghost use Rattle.host_map.specs.Moves.{moved, next_block};
 ghost use Rattle.host_spaces.specs.Spaces.{AreInOrder, HasFront};
 ghost use Rattle.host_spaces.specs.MemoryMap.{AreSameSpaces, copied_in, map_of, sizes_of, space_in};
 ghost use Rattle.host_map.specs.MemoryMap.{AreSizes, blocks_in, empty_map, moved_in};
 ghost use Rattle.host_spaces.specs.Wants.{IsWithinLimits};
-ghost use Rattle.host_spaces.specs.Changes.{GoesOnAs, IsAdded, IsAllThatIsNew, IsAtLeastPlace, IsOwned, IsPieceOf, LeavesItsOwner, OthersStay, OthersStayBeside};
-ghost use Rattle.host_spaces.specs.MapChanges.{OtherSpacesStay, blocks_for, space_for};
+ghost use Rattle.host_spaces.specs.Changes.{GoesOnAs, IsIndexOfNext, IsNextToMove, IsPieceOf, IsPlaceOfNext, LeavesItsOwner, MovesLastOf, OthersStayBeside};
+ghost use Rattle.host_spaces.specs.MapChanges.{IsAddedFor, IsAllThatIsNewFor, IsLeastPlaceFor, IsOwnedFor, OtherSpacesStay, OthersStayFor, RegionsStay, space_for};
 
 use crate::blocks::SpaceBlocks;
 use crate::start::{EmptySpaces, StartError};
@@ -93,7 +90,7 @@ impl Spaces {
         requires front { HasFront packed.old (blocks_in (map_of self.now) space) }
         ensures value { result ≡ next_block (blocks_in (map_of self.now) space) }
         ensures front { IsSome result → HasFront packed.new (moved (blocks_in (map_of self.now) space)) }
-        ensures index { IsSome result → option_map (λ m. m.index + 1) (next_in (blocks_in (map_of self.now) space)) ≡ Some packed.new }
+        ensures index { MovesLastOf packed.new result (blocks_in (map_of self.now) space) }
         ensures none { result ≡ None → packed.new ≡ packed.old }
     {
         self.space(space).next_move_behind(packed)
@@ -102,16 +99,16 @@ impl Spaces {
     /// The next move of a space is made, of the block of this index, which the piece is. It is slid down to its packed place with its words.
     pub fn make_move(&mut self, space: Space, piece: Piece, index: usize) -> Piece
         requires region { piece.region ≡ (space_in self.old space).region }
-        requires next { option_map block_range (next_block (blocks_in (map_of self.old) space)) ≡ Some (range_of piece) }
-        requires index { option_map (λ m. m.index) (next_in (blocks_in (map_of self.old) space)) ≡ Some index }
+        requires next { IsNextToMove piece (blocks_in (map_of self.old) space) }
+        requires index { IsIndexOfNext index (blocks_in (map_of self.old) space) }
         ensures map { map_of self.new ≡ moved_in (map_of self.old) space }
-        ensures place { option_map (λ m. m.to) (next_in (blocks_in (map_of self.old) space)) ≡ Some result.place }
+        ensures place { IsPlaceOfNext result.place (blocks_in (map_of self.old) space) }
         ensures words { (result.words ≡ piece.words) × (result.region ≡ piece.region) }
         ensures owned { GoesOnAs piece result (blocks_in (map_of self.old) space) (blocks_in (map_of self.new) space) }
         ensures others { OthersStayBeside piece (blocks_in (map_of self.old) space) (blocks_in (map_of self.new) space) }
         ensures elsewhere { OtherSpacesStay space self.old self.new }
         ensures copied { copied_in self.new ≡ min (copied_in self.old + length piece.words) (2 ^ 64 - 1) }
-        ensures regions { (any : Space) → (space_in self.new any).region ≡ (space_in self.old any).region }
+        ensures regions { RegionsStay self.old self.new }
     {
         match space {
             Space::Daram => self.daram.make_move(piece, index),
@@ -124,13 +121,13 @@ impl Spaces {
     pub(crate) fn place(&mut self, want: Wanted) -> Option<Piece>
         requires limits { IsWithinLimits want }
         requires room { length (space_in self.old want.space).blocks < SPACE_BLOCKS }
-        ensures place { IsAtLeastPlace result (space_for want self.old) want.size want.align }
+        ensures place { IsLeastPlaceFor want result self.old }
         ensures piece { IsPieceOf result (space_for want self.old) want.size }
-        ensures blocks { IsAdded result want.owner want.align (blocks_for want self.old) (blocks_for want self.new) }
-        ensures owned { IsOwned result want.owner want.align (blocks_for want self.old) (blocks_for want self.new) }
-        ensures others { OthersStay want.owner (blocks_for want self.old) (blocks_for want self.new) }
+        ensures blocks { IsAddedFor want result self.old self.new }
+        ensures owned { IsOwnedFor want result self.old self.new }
+        ensures others { OthersStayFor want self.old self.new }
         ensures elsewhere { OtherSpacesStay want.space self.old self.new }
-        ensures back { IsAllThatIsNew result (blocks_for want self.old) (blocks_for want self.new) }
+        ensures back { IsAllThatIsNewFor want result self.old self.new }
         ensures none { IfNone result (self.new ≡ self.old) }
         ensures stays { AreSameSpaces self.old self.new }
     {

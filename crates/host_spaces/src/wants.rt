@@ -1,10 +1,10 @@
 //! What a new instance needs.
-ghost use Rattle.std.specs.Prelude.{◌≡◌, ℕ, Some, IfSome};
+ghost use Rattle.std.specs.Prelude.{◌≡◌, IfSome};
 ghost use Rattle.ialg.specs.Records.{record_at};
 ghost use Rattle.host_map.specs.Creation.{record_wanted, sharer_at};
 ghost use Rattle.host_spaces.specs.MemoryMap.{map_of};
 ghost use Rattle.host_spaces.specs.Pieces.{HasBlocks};
-ghost use Rattle.host_spaces.specs.Wants.{IsWithinLimits, block_need, need_wanted, want_at, wants_of};
+ghost use Rattle.host_spaces.specs.Wants.{AllAreWithinLimits, IsWithinLimits, block_need, need_wanted, wants_of};
 
 use crate::spaces::Spaces;
 use host_map::{Owner, Wanted};
@@ -73,7 +73,7 @@ pub(crate) fn wants(
 ) -> [Option<Wanted>; WANTS]
     requires blocks { HasBlocks (map_of spaces.now) g old.now }
     ensures value { result ≡ wants_of (sharer_at sharers.now) i g table.now old.now }
-    ensures limits { (j : ℕ) (w : Wanted) → want_at result j ≡ Some w → IsWithinLimits w }
+    ensures limits { AllAreWithinLimits result }
 {
     [
         wanted_record(i, 0, table, sharers[0]),

@@ -91,3 +91,7 @@ pub record SameMembers {M : Type 0} (instances : List (Option (Member M))) (shar
   pub pieces : (i : ℕ) → SamePieces (shared_at sharing i) (shared_at sharing' i)
   pub stands : SameLocations sharing sharing'
   pub blocks : (g : ℕ) (space : Space) → IsSameBlock (block_in (group_at groups g) space) (block_in (group_at groups' g) space)
+
+-- all other slots are as they were
+abbrev pub OtherSlotsStay : {M : Type 0} → ℕ → List (Option (Member M)) → List (Option (Member M)) → Type 0
+OtherSlotsStay i old new = (j : ℕ) → j ≢ i → slot_at new j ≡ slot_at old j

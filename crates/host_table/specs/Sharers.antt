@@ -1,5 +1,6 @@
 -- Which instances share the block of a write-once record.
 use Rattle.std.specs.Prelude.{ℕ, ◌≡◌, Bool, List, Option, Some, None}
+use Rattle.lifecycle.specs.declared.instance.Instance.{Instance}
 use Rattle.host_table.specs.declared.member.Member.{Member}
 use Rattle.host_shared.specs.declared.locations.Locations.{Locations}
 use Rattle.host_shared.specs.declared.joining.Sharers.{Sharers}
@@ -26,3 +27,7 @@ AreLeastSharers same instances x t = (k : ℕ) → sharer_at t k ≡ sharer_of s
 abbrev pub AreTogether : {M : Type 0} → List (Option (Member M)) → List Locations → Type 0
 AreTogether {M} instances sharing = (i j k : ℕ) (m n : Member M) → slot_at instances i ≡ Some m → slot_at instances j ≡ Some n
     → AreAlike k (instance_of m.inst) (instance_of n.inst) → owner_of sharing i k ≡ owner_of sharing j k
+
+-- an instance, as it was asked for
+abbrev pub as_asked : {M : Type 0} → Instance M → Asked M
+as_asked s = asked s.kind s.params.items s.table

@@ -1,11 +1,11 @@
 -- What a call of the tables does.
-use Rattle.std.specs.Prelude.{ℕ, ℤ, ◌≡◌, ◌≢◌, ◌++◌, ◌∷◌, List, length, Option, Some, slice_set}
+use Rattle.std.specs.Prelude.{ℕ, ℤ, ◌≡◌, ◌≢◌, ◌++◌, ◌∷◌, Bool, List, length, Option, Some, slice_set}
 use Rattle.ialg.specs.Meaning.{Status}
 use Rattle.ialg.specs.History.{History, Ctl, Control, with_samples}
 use Rattle.ialg.specs.Laws.{Laws}
 use Rattle.lifecycle.specs.States.{IsLawful, all_outputs, status_after}
 use Rattle.host_table.specs.declared.member.Member.{Member}
-use Rattle.host_table.specs.Table.{slot_at, instance_of, activity_at, deactivated_by, TablesOk, ArePoisoned, ActivitiesAre}
+use Rattle.host_table.specs.Table.{slot_at, instance_of, activity_at, activated_by, deactivated_by, deactivated_in, TablesOk, TablesTold, ArePoisoned, ActivitiesAre}
 use Rattle.host_map.specs.Activity.{Activity}
 use Rattle.host_table.specs.Keeps.{Keeps, with_history}
 use Rattle.host_table.specs.Frames.{SameMembers, SameTables}
@@ -41,6 +41,10 @@ pub record Stays {M : Type 0} (w : Option ℤ) (old new : View M) : Type 0 where
 -- the same instances and blocks, all at the same places, that may go by other bases
 abbrev pub MembersStay : {M : Type 0} → View M → View M → Type 0
 MembersStay old new = SameMembers old.instances old.sharing old.groups new.instances new.sharing new.groups
+
+-- as TablesTold says, of all that the tables hold
+abbrev pub MembersAreTold : {M : Type 0} → ℕ → ℕ → View M → Type 0
+MembersAreTold g n t = TablesTold g n t.instances t.sharing t.groups
 
 -- instance i was deactivated, where it was active, and but for that each group has the activity that it had
 abbrev pub WasDeactivated : {M : Type 0} → ℕ → View M → View M → Type 0
@@ -78,6 +82,35 @@ abbrev pub AnswersTo : {M : Type 0} → Laws M → Option ℤ → View M → ℕ
 AnswersTo {M = M} laws w t i c answer = (histories : ℕ → History) (m : Member M) → slot_at t.instances i ≡ Some m
     → IsLawful laws.meaning (instance_of m.inst) w → AreKept laws w t histories
     → answer ≡ status_after laws.meaning (instance_of m.inst) (histories i) c
+
+-- instance i was activated, unless it was active, and another active member of its group was deactivated
+abbrev pub Activates : {M : Type 0} → Laws M → Option ℤ → ℕ → View M → View M → Type 0
+Activates laws w i old new = Steps laws w old new (activated_by old.instances old.groups i) unchanged
+
+-- instance i was deactivated, where it was active
+abbrev pub Deactivates : {M : Type 0} → Laws M → Option ℤ → ℕ → View M → View M → Type 0
+Deactivates laws w i old new = Steps laws w old new (deactivated_by old.instances old.groups i) unchanged
+
+-- the active member of group g was deactivated, where it has one
+abbrev pub DeactivatesIn : {M : Type 0} → Laws M → Option ℤ → ℕ → View M → View M → Type 0
+DeactivatesIn laws w g old new = Steps laws w old new (deactivated_in old.groups g) unchanged
+
+-- instance i was activated, as Activates says, and given samples
+abbrev pub ActivatesAndFeeds : {M : Type 0} → Laws M → Option ℤ → ℕ → List ℤ → View M → View M → Type 0
+ActivatesAndFeeds laws w i samples old new = Steps laws w old new (activated_by old.instances old.groups i) (given i samples)
+
+-- instance i was activated, as Activates says, and given a control
+abbrev pub ActivatesAndControls : {M : Type 0} → Laws M → Option ℤ → ℕ → Ctl → View M → View M → Type 0
+ActivatesAndControls laws w i c old new = Steps laws w old new (activated_by old.instances old.groups i) (controlled i c)
+
+-- whatever the histories are, each instance keeps its own: so it is where no instance lives
+abbrev pub KeepsAnyHistories : {M : Type 0} → Laws M → View M → Type 0
+KeepsAnyHistories laws t = (w : Option ℤ) (histories : ℕ → History) → AreKept laws w t histories
+
+-- the answer is whether the instance, where it is lawful, takes the control
+abbrev pub SaysWhetherTaken : {M : Type 0} → Laws M → Option ℤ → View M → ℕ → Ctl → Bool → Type 0
+SaysWhetherTaken {M = M} laws w t i c answer = (m : Member M) → slot_at t.instances i ≡ Some m → IsLawful laws.meaning (instance_of m.inst) w
+    → answer ≡ laws.meaning.accepts (instance_of m.inst).kind (instance_of m.inst).params.items c
 
 -- slot i has this in it, and no other one changed
 pub record IsPut {M : Type 0} (i : ℕ) (x : Option (Member M)) (old new : View M) : Type 0 where

@@ -1,12 +1,13 @@
 -- The tables of a host: a slot for each instance number, the pieces of its write-once records, and the groups.
 use Rattle.std.specs.Prelude.{ℕ, ℤ, ◌≡◌, ◌≢◌, ◌⊎◌, ◌<◌, Bool, false, List, length, Option, Some, None, nat_eq, slice_index_or}
 use Rattle.mem_rec.specs.declared.MemRec.{MemRec}
+use Rattle.mem_rec.specs.declared.Space.{Space}
 use Rattle.mem_rec.specs.declared.Attr.TheVariants.{WriteOnce}
 use Rattle.ialg.specs.Records.{record_at}
 use Rattle.record_loans.specs.declared.pieces.Pieces.{Pieces}
 use Rattle.scratch_group.specs.declared.group.Group.{Group}
-use Rattle.host_map.specs.Activity.{Activity, without_active, activated, deactivated, with_activity}
-use Rattle.scratch_group.specs.Blocks.{BlocksArePoison}
+use Rattle.host_map.specs.Activity.{Activity, never_activated, newly_active, without_active, activated, deactivated, with_activity}
+use Rattle.scratch_group.specs.Blocks.{BlocksArePoison, block_in}
 use Rattle.scratch_group.specs.Words.{placed}
 use Rattle.lifecycle.specs.declared.instance.Instance.{Instance}
 use Rattle.lifecycle.specs.declared.instance.Inst.{Inst}
@@ -152,3 +153,31 @@ deactivated_by instances groups i =
 -- the activities after the active member of group g was deactivated, where it has one
 abbrev pub deactivated_in : List Group → ℕ → ℕ → Activity
 deactivated_in groups g = with_activity (activity_at groups) g (deactivated (activity_at groups g))
+
+-- no instance lives
+abbrev pub NoneLives : {M : Type 0} → List (Option (Member M)) → Type 0
+NoneLives instances = (i : ℕ) → slot_at instances i ≡ None
+
+-- the instance in slot i isn't active
+abbrev pub IsIdleAt : {M : Type 0} → List (Option (Member M)) → ℕ → Type 0
+IsIdleAt instances i = slot_active_in (slot_at instances i) ≡ None
+
+-- group g has no member
+abbrev pub HasNoMembers : {M : Type 0} → List (Option (Member M)) → ℕ → Type 0
+HasNoMembers instances g = (i : ℕ) → is_member_of g (slot_at instances i) ≡ false
+
+-- no group has a block
+abbrev pub NoGroupHasBlocks : List Group → Type 0
+NoGroupHasBlocks groups = (g : ℕ) (space : Space) → block_in (group_at groups g) space ≡ None
+
+-- no group was ever active
+abbrev pub NoneWasActive : List Group → Type 0
+NoneWasActive groups = (g : ℕ) → activity_at groups g ≡ never_activated
+
+-- the blocks of groups without an active member hold the poison word, where they did before
+abbrev pub PoisonStays : List Group → List Group → Type 0
+PoisonStays old new = (w : Option ℤ) → ArePoisoned w old → ArePoisoned w new
+
+-- the activities after instance i of group g was activated, where the group has no active member
+abbrev pub newly_active_in : List Group → ℕ → ℕ → ℕ → Activity
+newly_active_in groups g i = with_activity (activity_at groups) g (newly_active i (activity_at groups g))

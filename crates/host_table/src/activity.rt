@@ -1,12 +1,10 @@
 //! Which member of a group is active.
-ghost use Rattle.std.specs.Prelude.{◌≡◌, ◌<◌, Option, Some, None, IsSome, is_some};
-ghost use Rattle.lifecycle.specs.States.{Fits};
+ghost use Rattle.std.specs.Prelude.{◌≡◌, ◌<◌, Option, Some, IsSome, is_some};
+ghost use Rattle.lifecycle.specs.States.{FitsIn};
 ghost use Rattle.mem_rec.specs.declared.TheConstants.{GROUPS};
-ghost use Rattle.host_table.specs.Table.{slot_at, group_at, slot_active_in, activated_by, deactivated_by, deactivated_in, IsActiveAt};
-ghost use Rattle.host_shared.specs.Locations.{shared_at};
-ghost use Rattle.host_shared.specs.Owners.{with_pieces_of};
-ghost use Rattle.host_table.specs.Turns.{CanBeLent, Deactivated, Activated};
-ghost use Rattle.host_table.specs.Steps.{Ready, Steps, unchanged};
+ghost use Rattle.host_table.specs.Table.{slot_at, group_at, IsActiveAt, IsIdleAt};
+ghost use Rattle.host_table.specs.Turns.{CanBeLent, Deactivated, Activated, DeactivatedSharing, PiecesAreBack};
+ghost use Rattle.host_table.specs.Steps.{Ready, Activates, Deactivates, DeactivatesIn};
 
 use crate::member::{active_group, idle_in, make_active, make_idle};
 use crate::tables::Tables;
@@ -26,7 +24,7 @@ fn deactivate_lent<M: Ialg>(
     group: &mut Group,
     poison: Option<i16>,
 )
-    requires fits { Fits active.old.instance.table active.old.instance.own shared.old group.old }
+    requires fits { FitsIn active.old.instance shared.old group.old }
     ensures { Deactivated M.law poison active.old.instance active.new.instance shared.old shared.new group.old group.new }
 {
     active.deactivate(shared, group);
@@ -46,8 +44,8 @@ fn deactivate_sharing<M: Ialg>(
     poison: Option<i16>,
 )
     requires lent { CanBeLent active.old.instance sharing.old.items i group.old }
-    ensures seen { sharing.new.items ≡ with_pieces_of sharing.old.items i (shared_at sharing.new.items i) }
-    ensures did { Deactivated M.law poison active.old.instance active.new.instance (shared_at sharing.old.items i) (shared_at sharing.new.items i) group.old group.new }
+    ensures seen { PiecesAreBack i sharing.old.items sharing.new.items }
+    ensures did { DeactivatedSharing M.law poison i active.old active.new sharing.old.items sharing.new.items group.old group.new }
 {
     let mut shared = borrow_pieces(sharing, i as usize);
     deactivate_lent(active, &mut shared, group, poison);
@@ -65,8 +63,8 @@ fn deactivate_member<M: Ialg>(
     poison: Option<i16>,
 )
     requires lent { CanBeLent active.old.instance sharing.old.items i group.old }
-    ensures seen { sharing.new.items ≡ with_pieces_of sharing.old.items i (shared_at sharing.new.items i) }
-    ensures did { Deactivated M.law poison active.old.instance active.new.instance (shared_at sharing.old.items i) (shared_at sharing.new.items i) group.old group.new }
+    ensures seen { PiecesAreBack i sharing.old.items sharing.new.items }
+    ensures did { DeactivatedSharing M.law poison i active.old active.new sharing.old.items sharing.new.items group.old group.new }
 {
     if is_filter(&active.instance.table) {
         let mut none = Pieces::none();
@@ -79,7 +77,7 @@ fn deactivate_member<M: Ialg>(
 
 /// Activates the member of this number, in place, of a group that has no active member.
 fn activate_lent<M: Ialg>(idle: &mut Idle<M>, shared: &mut Pieces, group: &mut Group, i: u8)
-    requires fits { Fits idle.old.instance.table idle.old.instance.own shared.old group.old }
+    requires fits { FitsIn idle.old.instance shared.old group.old }
     ensures { Activated M.law i idle.old.instance idle.new.instance shared.old shared.new group.old group.new }
 {
     idle.activate(shared, group);
@@ -95,7 +93,7 @@ impl<M: Ialg> Tables<M> {
         requires range { g < GROUPS }
         requires ready { Ready poison self.old }
         ensures active { result ≡ is_some (group_at self.old.groups g).active }
-        ensures step { Steps M.law poison self.old self.new (deactivated_in self.old.groups g) unchanged }
+        ensures step { DeactivatesIn M.law poison g self.old self.new }
     {
         let Some(i) = self.groups[g as usize].active() else {
             return false;
@@ -126,7 +124,7 @@ impl<M: Ialg> Tables<M> {
         requires range { g < GROUPS }
         requires ready { Ready poison self.old }
         ensures active { result ≡ is_some (group_at self.old.groups g).active }
-        ensures step { Steps M.law poison self.old self.new (deactivated_in self.old.groups g) unchanged }
+        ensures step { DeactivatesIn M.law poison g self.old self.new }
     {
         self.deactivate_in(poison, g)
     }
@@ -136,7 +134,7 @@ impl<M: Ialg> Tables<M> {
         requires living { IsSome (slot_at self.old.instances i) }
         requires ready { Ready poison self.old }
         ensures active { IsActiveAt self.new.instances i }
-        ensures step { Steps M.law poison self.old self.new (activated_by self.old.instances self.old.groups i) unchanged }
+        ensures step { Activates M.law poison i self.old self.new }
     {
         let Some(g) = idle_in(&self.instances, i) else {
             return;
@@ -160,8 +158,8 @@ impl<M: Ialg> Tables<M> {
     pub fn deactivate(&mut self, poison: Option<i16>, i: u8)
         requires living { IsSome (slot_at self.old.instances i) }
         requires ready { Ready poison self.old }
-        ensures idle { slot_active_in (slot_at self.new.instances i) ≡ None }
-        ensures step { Steps M.law poison self.old self.new (deactivated_by self.old.instances self.old.groups i) unchanged }
+        ensures idle { IsIdleAt self.new.instances i }
+        ensures step { Deactivates M.law poison i self.old self.new }
     {
         let active = active_group(&self.instances, i);
         if let Some(g) = active {

@@ -1,17 +1,12 @@
 //! What an active instance is given.
-ghost use Rattle.std.specs.Prelude.{◌≡◌, ◌≤◌, ◌++◌, ◌∷◌, ◌<◌, ℕ, ℤ, [], length, Option, Some, None, IsSome, IfSome, IfNone, OnSome, is_some, IsTrue};
-ghost use Rattle.ialg.specs.History.{History};
+ghost use Rattle.std.specs.Prelude.{◌≡◌, ◌≤◌, ℤ, [], length, Option, None, IsSome, IfSome, IfNone, OnSome, is_some, IsTrue};
 ghost use Rattle.ialg.specs.Views.{control_of, answer_of};
 ghost use Rattle.mem_rec.specs.Records.{is_table};
 ghost use Rattle.scratch_group.specs.Readers.{IsOfReader};
-ghost use Rattle.lifecycle.specs.States.{Fits, IsLawful, Accepts, status_after};
-ghost use Rattle.host_table.specs.Table.{slot_at, group_of, slot_active_in, instance_of, activity_at, activated_by, ArePoisoned, IsActiveAt};
-ghost use Rattle.host_map.specs.Activity.{with_activity, newly_active};
-ghost use Rattle.host_table.specs.Steps.{Ready, AreKept, Stays, Steps, given, controlled, GivesOut, AnswersTo, AreConsistent};
-ghost use Rattle.host_table.specs.Turns.{CanBeLent, ActivatedAndRan, Ran};
-ghost use Rattle.host_shared.specs.Locations.{shared_at};
-ghost use Rattle.host_shared.specs.Owners.{with_pieces_of};
-ghost use Rattle.host_table.specs.declared.member.Member.{Member};
+ghost use Rattle.lifecycle.specs.States.{FitsIn};
+ghost use Rattle.host_table.specs.Table.{slot_at, group_of, activity_at, newly_active_in, IsActiveAt, IsIdleAt};
+ghost use Rattle.host_table.specs.Steps.{Ready, Stays, given, GivesOut, AnswersTo, AreConsistent, ActivatesAndControls, ActivatesAndFeeds, SaysWhetherTaken};
+ghost use Rattle.host_table.specs.Turns.{CanBeLent, ActivatedAndRan, ActivatedAndRanSharing, AnswersInAnyHost, GivesOutInAnyHost, ObeysInAnyHost, PiecesAreBack, RanSharing, StepsInAnyHost};
 
 use crate::member::{idle_in, make_active};
 use crate::tables::Tables;
@@ -35,8 +30,8 @@ fn run_sharing<M: Ialg>(
     requires empty { out.old.items ≡ [] }
     requires some { 1 ≤ length input.now }
     requires within { length input.now ≤ BLOCK_SAMPLES }
-    ensures seen { sharing.new.items ≡ with_pieces_of sharing.old.items i (shared_at sharing.new.items i) }
-    ensures did { Ran M.law input.now out.new.items active.old.instance active.new.instance (shared_at sharing.old.items i) (shared_at sharing.new.items i) group.old group.new }
+    ensures seen { PiecesAreBack i sharing.old.items sharing.new.items }
+    ensures did { RanSharing M.law i input.now out.new.items active.old active.new sharing.old.items sharing.new.items group.old group.new }
 {
     let mut shared = borrow_pieces(sharing, i as usize);
     active.run(&mut shared, group, input, out);
@@ -62,8 +57,8 @@ fn run_reading<M: Ialg>(
     requires empty { out.old.items ≡ [] }
     requires some { 1 ≤ length input.now }
     requires within { length input.now ≤ BLOCK_SAMPLES }
-    ensures seen { sharing.new.items ≡ with_pieces_of sharing.old.items i (shared_at sharing.new.items i) }
-    ensures did { Ran M.law input.now out.new.items active.old.instance active.new.instance (shared_at sharing.old.items i) (shared_at sharing.new.items i) group.now group.now }
+    ensures seen { PiecesAreBack i sharing.old.items sharing.new.items }
+    ensures did { RanSharing M.law i input.now out.new.items active.old active.new sharing.old.items sharing.new.items group.now group.now }
 {
     let at = owner(sharing, i as usize, ONCE);
     match &mut sharing[at].s1 {
@@ -86,8 +81,8 @@ fn run_member<M: Ialg>(
     requires empty { out.old.items ≡ [] }
     requires some { 1 ≤ length input.now }
     requires within { length input.now ≤ BLOCK_SAMPLES }
-    ensures seen { sharing.new.items ≡ with_pieces_of sharing.old.items i (shared_at sharing.new.items i) }
-    ensures did { Ran M.law input.now out.new.items active.old.instance active.new.instance (shared_at sharing.old.items i) (shared_at sharing.new.items i) group.old group.new }
+    ensures seen { PiecesAreBack i sharing.old.items sharing.new.items }
+    ensures did { RanSharing M.law i input.now out.new.items active.old active.new sharing.old.items sharing.new.items group.old group.new }
 {
     if is_filter(&active.instance.table) {
         let mut none = Pieces::none();
@@ -113,7 +108,7 @@ fn activate_and_run_lent<M: Ialg>(
     input: &[i16],
     out: &mut Block,
 )
-    requires fits { Fits idle.old.instance.table idle.old.instance.own shared.old group.old }
+    requires fits { FitsIn idle.old.instance shared.old group.old }
     requires empty { out.old.items ≡ [] }
     requires some { 1 ≤ length input.now }
     requires within { length input.now ≤ BLOCK_SAMPLES }
@@ -138,8 +133,8 @@ fn activate_and_run_sharing<M: Ialg>(
     requires empty { out.old.items ≡ [] }
     requires some { 1 ≤ length input.now }
     requires within { length input.now ≤ BLOCK_SAMPLES }
-    ensures seen { sharing.new.items ≡ with_pieces_of sharing.old.items i (shared_at sharing.new.items i) }
-    ensures did { ActivatedAndRan M.law i input.now out.new.items idle.old.instance idle.new.instance (shared_at sharing.old.items i) (shared_at sharing.new.items i) group.old group.new }
+    ensures seen { PiecesAreBack i sharing.old.items sharing.new.items }
+    ensures did { ActivatedAndRanSharing M.law i input.now out.new.items idle.old idle.new sharing.old.items sharing.new.items group.old group.new }
 {
     let mut shared = borrow_pieces(sharing, i as usize);
     activate_and_run_lent(idle, &mut shared, group, i, input, out);
@@ -160,8 +155,8 @@ fn activate_and_run_member<M: Ialg>(
     requires empty { out.old.items ≡ [] }
     requires some { 1 ≤ length input.now }
     requires within { length input.now ≤ BLOCK_SAMPLES }
-    ensures seen { sharing.new.items ≡ with_pieces_of sharing.old.items i (shared_at sharing.new.items i) }
-    ensures did { ActivatedAndRan M.law i input.now out.new.items idle.old.instance idle.new.instance (shared_at sharing.old.items i) (shared_at sharing.new.items i) group.old group.new }
+    ensures seen { PiecesAreBack i sharing.old.items sharing.new.items }
+    ensures did { ActivatedAndRanSharing M.law i input.now out.new.items idle.old idle.new sharing.old.items sharing.new.items group.old group.new }
 {
     if is_filter(&idle.instance.table) {
         let mut none = Pieces::none();
@@ -180,7 +175,7 @@ impl<M: Ialg> Tables<M> {
         requires empty { out.old.items ≡ [] }
         requires some { 1 ≤ length input.now }
         requires within { length input.now ≤ BLOCK_SAMPLES }
-        ensures step { (w : Option ℤ) → ArePoisoned w self.old.groups → Steps M.law w self.old self.new (activity_at self.old.groups) (given i input.now) }
+        ensures step { StepsInAnyHost M.law self.old self.new (activity_at self.old.groups) (given i input.now) }
         ensures bounded { length out.new.items ≤ length input.now }
         ensures output { (w : Option ℤ) → GivesOut M.law w self.old i input.now out.new.items }
     {
@@ -202,16 +197,15 @@ impl<M: Ialg> Tables<M> {
     fn activate_and_run(&mut self, i: u8, g: u8, input: &[i16], out: &mut Block)
         requires living { IsSome (slot_at self.old.instances i) }
         requires group { g ≡ group_of (slot_at self.old.instances i) }
-        requires idle { slot_active_in (slot_at self.old.instances i) ≡ None }
+        requires idle { IsIdleAt self.old.instances i }
         requires resting { (activity_at self.old.groups g).active ≡ None }
         requires ok { AreConsistent self.old }
         requires empty { out.old.items ≡ [] }
         requires some { 1 ≤ length input.now }
         requires within { length input.now ≤ BLOCK_SAMPLES }
-        ensures step { (w : Option ℤ) → ArePoisoned w self.old.groups
-            → Steps M.law w self.old self.new (with_activity (activity_at self.old.groups) g (newly_active i (activity_at self.old.groups g))) (given i input.now) }
+        ensures step { StepsInAnyHost M.law self.old self.new (newly_active_in self.old.groups g i) (given i input.now) }
         ensures bounded { length out.new.items ≤ length input.now }
-        ensures output { (w : Option ℤ) → ArePoisoned w self.old.groups → GivesOut M.law w self.old i input.now out.new.items }
+        ensures output { GivesOutInAnyHost M.law self.old i input.now out.new.items }
     {
         match &mut self.instances[i as usize] {
             Some(member) => match &mut member.inst {
@@ -236,13 +230,8 @@ impl<M: Ialg> Tables<M> {
     fn control_active(&mut self, i: u8, c: &Ctl) -> Status
         requires active { IsActiveAt self.old.instances i }
         requires ok { AreConsistent self.old }
-        ensures step { (w : Option ℤ) (m : Member M) → slot_at self.old.instances i ≡ Some m → ArePoisoned w self.old.groups
-            → (IsLawful M.law.meaning (instance_of m.inst) w → Accepts M.law.meaning (instance_of m.inst) (control_of c.now))
-            → Steps M.law w self.old self.new (activity_at self.old.groups) (controlled i (control_of c.now)) }
-        ensures status { (w : Option ℤ) (histories : ℕ → History) (m : Member M) → slot_at self.old.instances i ≡ Some m
-            → IsLawful M.law.meaning (instance_of m.inst) w → Accepts M.law.meaning (instance_of m.inst) (control_of c.now)
-            → AreKept M.law w self.old histories
-            → answer_of result ≡ status_after M.law.meaning (instance_of m.inst) (histories i) (control_of c.now) }
+        ensures step { ObeysInAnyHost M.law i (control_of c.now) self.old self.new }
+        ensures status { AnswersInAnyHost M.law self.old i (control_of c.now) (answer_of result) }
     {
         match &mut self.instances[i as usize] {
             Some(member) => {
@@ -264,8 +253,7 @@ impl<M: Ialg> Tables<M> {
     /// Whether the instance takes the control.
     fn accepts(&self, i: u8, c: &Ctl) -> bool
         requires living { IsSome (slot_at self.now.instances i) }
-        ensures { (w : Option ℤ) (m : Member M) → slot_at self.now.instances i ≡ Some m → IsLawful M.law.meaning (instance_of m.inst) w
-            → result ≡ M.law.meaning.accepts (instance_of m.inst).kind (instance_of m.inst).params.items (control_of c.now) }
+        ensures { (w : Option ℤ) → SaysWhetherTaken M.law w self.now i (control_of c.now) result }
     {
         match &self.instances[i as usize] {
             Some(member) => match &member.inst {
@@ -284,7 +272,7 @@ impl<M: Ialg> Tables<M> {
         requires empty { out.old.items ≡ [] }
         requires some { 1 ≤ length input.now }
         requires within { length input.now ≤ BLOCK_SAMPLES }
-        ensures step { Steps M.law poison self.old self.new (activated_by self.old.instances self.old.groups i) (given i input.now) }
+        ensures step { ActivatesAndFeeds M.law poison i input.now self.old self.new }
         ensures bounded { length out.new.items ≤ length input.now }
         ensures output { GivesOut M.law poison self.old i input.now out.new.items }
     {
@@ -301,10 +289,9 @@ impl<M: Ialg> Tables<M> {
         requires living { IsSome (slot_at self.old.instances i) }
         requires ready { Ready poison self.old }
         ensures stays { Stays poison self.old self.new }
-        ensures taken { (m : Member M) → slot_at self.old.instances i ≡ Some m → IsLawful M.law.meaning (instance_of m.inst) poison
-            → is_some result ≡ M.law.meaning.accepts (instance_of m.inst).kind (instance_of m.inst).params.items (control_of c.now) }
+        ensures taken { SaysWhetherTaken M.law poison self.old i (control_of c.now) (is_some result) }
         ensures refused { IfNone result (self.new ≡ self.old) }
-        ensures step { OnSome result (Steps M.law poison self.old self.new (activated_by self.old.instances self.old.groups i) (controlled i (control_of c.now))) }
+        ensures step { OnSome result (ActivatesAndControls M.law poison i (control_of c.now) self.old self.new) }
         ensures status { IfSome result (λ answer. AnswersTo M.law poison self.old i (control_of c.now) (answer_of answer)) }
     {
         if !self.accepts(i, c) {

@@ -1,22 +1,19 @@
 //! The start and the end of instances.
-ghost use Rattle.std.specs.Prelude.{◌≡◌, ◌≢◌, ◌<◌, ℕ, Option, Some, None, IsSome, length, slice_set};
-ghost use Rattle.record_loans.specs.Pieces.{piece_at, SamePieces, no_pieces};
-ghost use Rattle.lifecycle.specs.States.{Fits, SameOnce};
-ghost use Rattle.lifecycle.specs.Moves.{HasRoom, settled};
+ghost use Rattle.std.specs.Prelude.{◌≡◌, ◌<◌, ℕ, Option, None, IsSome, length, slice_set};
+ghost use Rattle.record_loans.specs.Pieces.{SamePieces, no_pieces};
+ghost use Rattle.lifecycle.specs.States.{FitsIn, SameOnce};
 ghost use Rattle.lifecycle.specs.declared.instance.Inst.TheVariants.{Idling};
 ghost use Rattle.mem_rec.specs.declared.TheConstants.{INSTANCES, GROUPS};
-ghost use Rattle.host_table.specs.declared.member.Member.{Member};
-ghost use Rattle.host_shared.specs.Locations.{location_at, locations_at, owner_of, piece_seen, shared_at};
-ghost use Rattle.host_shared.specs.Owners.{IsSameLocation, with_pieces_of};
-ghost use Rattle.host_shared.specs.Sharing.{left_with, next_sharer, location_without, AreLeast};
-ghost use Rattle.host_table.specs.Table.{slot_at, group_at, own_of, instance_of, active_in, slot_active_in};
-ghost use Rattle.host_map.specs.Sharers.{asked};
-ghost use Rattle.host_table.specs.Sharers.{sharer_in, AreLeastSharers, AreTogether};
-ghost use Rattle.host_shared.specs.Joining.{sharer_at, location_joined, pieces_joined};
+ghost use Rattle.host_shared.specs.Locations.{piece_seen, shared_at};
+ghost use Rattle.host_shared.specs.Sharing.{left_with, next_sharer, AreLeast};
+ghost use Rattle.host_table.specs.Table.{slot_at, own_of, instance_of, active_in, IsIdleAt};
+ghost use Rattle.host_table.specs.Sharers.{AreLeastSharers, AreTogether};
+ghost use Rattle.host_shared.specs.Joining.{sharer_at};
 ghost use Rattle.host_table.specs.Steps.{Ready, AreConsistent, HistoriesStay, WasDeactivated};
-ghost use Rattle.host_table.specs.Frames.{OthersStay, OthersSame, IsStarted, IsEnded};
-ghost use Rattle.host_table.specs.Starts.{asked_for, BeginsHistory};
-ghost use Rattle.host_table.specs.Turns.{CanBeLent, CanBegin, WasStarted, WasFreed, idle_of};
+ghost use Rattle.host_table.specs.Frames.{IsEnded, OtherSlotsStay};
+ghost use Rattle.host_table.specs.Starts.{asked_for, BeginsHistory, HasRoomWithSharers, IsStartedWithSharers, JoinsItsSharers, OtherInstancesStay, SeesItsPieces, SharedHaveNone};
+ghost use Rattle.host_table.specs.Ends.{HandsOnRecords, NextSharersAreLeast, OtherInstancesAreSame, StayTogether};
+ghost use Rattle.host_table.specs.Turns.{CanBeLent, CanBegin, WasStarted, WasFreed, IsEndedAt, PiecesAreBack, SeesTheSame, SlotCanBeLent, SlotKeepsOnce, idle_of};
 
 use crate::member::group_number;
 use crate::{Member, Tables};
@@ -61,16 +58,16 @@ pub fn start<M: Ialg>(
     requires least { AreLeast tables.old.sharing }
     requires together { AreTogether tables.old.instances tables.old.sharing }
     requires sharers { AreLeastSharers M.law.meaning.same tables.old.instances (asked_for instance) sharers }
-    requires placed { (k : ℕ) → IsSome (sharer_at sharers k) → piece_at shared k ≡ None }
-    requires fits { HasRoom (record { kind = instance.kind; params = instance.params.now; table = instance.table; own = own }) (pieces_joined tables.old.sharing sharers shared) (group_at tables.old.groups instance.group) }
+    requires placed { SharedHaveNone sharers shared }
+    requires fits { HasRoomWithSharers instance own shared sharers tables.old }
     ensures ok { AreConsistent tables.new }
     ensures groups { tables.new.groups ≡ tables.old.groups }
-    ensures others { OthersStay instance.entry.number tables.old.instances tables.old.sharing tables.new.instances tables.new.sharing }
-    ensures stands { (j k : ℕ) → IsSameLocation (location_joined tables.old.sharing instance.entry.number k (sharer_at sharers k) (piece_at shared k) j) (location_at (locations_at tables.new.sharing j) k) }
+    ensures others { OtherInstancesStay instance.entry.number tables.old tables.new }
+    ensures stands { JoinsItsSharers instance.entry.number shared sharers tables.old tables.new }
     ensures least { AreLeast tables.new.sharing }
     ensures together { AreTogether tables.new.instances tables.new.sharing }
-    ensures started { IsStarted instance.entry.group (settled (record { kind = instance.entry.kind; params = instance.entry.params.now; table = instance.entry.table; own = own }) (pieces_joined tables.old.sharing sharers shared) (group_at tables.old.groups instance.entry.group)) (slot_at tables.new.instances instance.entry.number) }
-    ensures pieces { SamePieces (pieces_joined tables.old.sharing sharers shared) (shared_at tables.new.sharing instance.entry.number) }
+    ensures started { IsStartedWithSharers instance.entry own shared sharers tables.old tables.new }
+    ensures pieces { SeesItsPieces instance.entry.number shared sharers tables.old tables.new }
     ensures keeps { BeginsHistory M.law instance.entry own shared tables.old tables.new }
 {
     let NewInstance {
@@ -184,12 +181,11 @@ pub fn end<M: Ialg>(
     ensures none { shared_at tables.new.sharing i ≡ no_pieces }
     ensures own { SamePieces (own_of (slot_at tables.old.instances i)) result.0 }
     ensures shared { SamePieces (left_with tables.old.sharing i) result.1 }
-    ensures others { OthersSame i tables.old.instances tables.old.sharing tables.old.groups tables.new.instances tables.new.sharing tables.new.groups }
-    ensures handed { (j k : ℕ) → IsSameLocation (location_without tables.old.sharing i k j) (location_at (locations_at tables.new.sharing j) k) }
+    ensures others { OtherInstancesAreSame i tables.old tables.new }
+    ensures handed { HandsOnRecords i tables.old.sharing tables.new.sharing }
     ensures least { AreLeast tables.old.sharing → AreLeast tables.new.sharing }
-    ensures together { AreTogether tables.old.instances tables.old.sharing → AreTogether tables.new.instances tables.new.sharing }
-    ensures next { AreLeast tables.old.sharing → AreTogether tables.old.instances tables.old.sharing → (k : ℕ) (m : Member M) → slot_at tables.old.instances i ≡ Some m → owner_of tables.old.sharing i k ≡ i
-        → next_sharer tables.old.sharing i k ≡ sharer_in M.law tables.new.instances (asked (instance_of m.inst).kind (instance_of m.inst).params.items (instance_of m.inst).table) k }
+    ensures together { StayTogether tables.old tables.new }
+    ensures next { NextSharersAreLeast M.law i tables.old tables.new }
     ensures activity { WasDeactivated i tables.old tables.new }
     ensures keeps { HistoriesStay M.law poison tables.old tables.new }
 {
@@ -209,7 +205,7 @@ pub fn end<M: Ialg>(
 /// Inlined, so that for an instance without write-once records the compiler drops the empty `Pieces`.
 #[inline(always)]
 fn free_lent<M: Ialg>(idle: &mut Idle<M>, shared: &mut Pieces, group: &Group) -> Pieces
-    requires fits { Fits idle.old.instance.table idle.old.instance.own shared.old group.now }
+    requires fits { FitsIn idle.old.instance shared.old group.now }
     ensures own { SamePieces idle.old.instance.own result }
     ensures shared { SamePieces shared.old shared.new }
     ensures once { SameOnce idle.old.instance.table shared.old shared.new }
@@ -319,7 +315,7 @@ fn free_member<M: Ialg>(
 
 /// Empties the slot of an idle instance whose own pieces were taken out.
 fn empty_slot<M: Ialg>(instances: &mut Vec<Option<Member<M>>>, i: u8)
-    requires { (m : Member M) × (slot_at instances.old.items i ≡ Some m) × IsEnded m.inst }
+    requires { IsEndedAt instances.old.items i }
     ensures { instances.new.items ≡ slice_set instances.old.items i None }
 {
     match mem::replace(&mut instances[i as usize], None) {
@@ -340,16 +336,15 @@ fn end_idle<M: Ialg>(
     group: &Group,
 ) -> Pieces
     requires living { IsSome (slot_at instances.old.items i) }
-    requires idle { slot_active_in (slot_at instances.old.items i) ≡ None }
-    requires lent { (m : Member M) → slot_at instances.old.items i ≡ Some m → CanBeLent (instance_of m.inst) sharing.old.items i group.now }
+    requires idle { IsIdleAt instances.old.items i }
+    requires lent { SlotCanBeLent instances.old.items sharing.old.items i group.now }
     ensures emptied { instances.new.items ≡ slice_set instances.old.items i None }
     ensures gone { slot_at instances.new.items i ≡ None }
-    ensures others { (j : ℕ) → j ≢ i → slot_at instances.new.items j ≡ slot_at instances.old.items j }
+    ensures others { OtherSlotsStay i instances.old.items instances.new.items }
     ensures own { SamePieces (own_of (slot_at instances.old.items i)) result }
-    ensures seen { sharing.new.items ≡ with_pieces_of sharing.old.items i (shared_at sharing.new.items i) }
-    ensures shared { SamePieces (shared_at sharing.old.items i) (shared_at sharing.new.items i) }
-    ensures once { (m : Member M) → slot_at instances.old.items i ≡ Some m
-        → SameOnce (instance_of m.inst).table (shared_at sharing.old.items i) (shared_at sharing.new.items i) }
+    ensures seen { PiecesAreBack i sharing.old.items sharing.new.items }
+    ensures shared { SeesTheSame i sharing.old.items sharing.new.items }
+    ensures once { SlotKeepsOnce instances.old.items i sharing.old.items sharing.new.items }
 {
     let own = match &mut instances[i as usize] {
         Some(member) => free_member(&mut member.inst, sharing, i, group),

@@ -1,8 +1,8 @@
 //! Slots of the table of instances.
-ghost use Rattle.std.specs.Prelude.{◌≡◌, ℕ, Option, Some, None, IsSome, IfSome, IfNone, OnSome, slice_set};
+ghost use Rattle.std.specs.Prelude.{◌≡◌, ℕ, IsSome, IfSome, IfNone, OnSome};
 ghost use Rattle.lifecycle.specs.declared.instance.Inst.TheVariants.{Idling, Running};
-ghost use Rattle.host_table.specs.declared.member.Member.{Member};
-ghost use Rattle.host_table.specs.Table.{slot_at, group_of, slot_active_in, instance_of};
+ghost use Rattle.host_table.specs.Table.{slot_at, group_of, slot_active_in, instance_of, IsActiveAt, IsIdleAt};
+ghost use Rattle.host_table.specs.Turns.{IsMadeActive, IsMadeIdle};
 
 use core::mem::replace_with;
 use ialg::Ialg;
@@ -37,8 +37,7 @@ fn as_active<M: Ialg>(inst: Inst<M>, _nothing: ()) -> (Inst<M>, ())
 /// Makes the instance of a slot idle in place, without copying it.
 pub(crate) fn make_idle<M: Ialg>(instances: &mut Vec<Option<Member<M>>>, i: u8)
     requires { IsSome (slot_at instances.old.items i) }
-    ensures { (m : Member M) → slot_at instances.old.items i ≡ Some m
-        → instances.new.items ≡ slice_set instances.old.items i (Some (record m { inst = Idling (record { instance = instance_of m.inst }) })) }
+    ensures { IsMadeIdle i instances.old.items instances.new.items }
 {
     match &mut instances[i as usize] {
         Some(member) => replace_with(&mut member.inst, (), as_idle),
@@ -49,8 +48,7 @@ pub(crate) fn make_idle<M: Ialg>(instances: &mut Vec<Option<Member<M>>>, i: u8)
 /// Makes the instance of a slot active in place, without copying it.
 pub(crate) fn make_active<M: Ialg>(instances: &mut Vec<Option<Member<M>>>, i: u8)
     requires { IsSome (slot_at instances.old.items i) }
-    ensures { (m : Member M) → slot_at instances.old.items i ≡ Some m
-        → instances.new.items ≡ slice_set instances.old.items i (Some (record m { inst = Running (record { instance = instance_of m.inst }) })) }
+    ensures { IsMadeActive i instances.old.items instances.new.items }
 {
     match &mut instances[i as usize] {
         Some(member) => replace_with(&mut member.inst, (), as_active),
@@ -72,9 +70,9 @@ pub fn group_number<M: Ialg>(instances: &Vec<Option<Member<M>>>, i: u8) -> u8
 /// The group of an idle instance, or None where the instance is active.
 pub(crate) fn idle_in<M: Ialg>(instances: &Vec<Option<Member<M>>>, i: u8) -> Option<u8>
     requires { IsSome (slot_at instances.now.items i) }
-    ensures active { IfNone result (slot_active_in (slot_at instances.now.items i) ≡ Some (group_of (slot_at instances.now.items i))) }
+    ensures active { IfNone result (IsActiveAt instances.now.items i) }
     ensures group { IfSome result (λ g. g ≡ group_of (slot_at instances.now.items i)) }
-    ensures idle { OnSome result (slot_active_in (slot_at instances.now.items i) ≡ None) }
+    ensures idle { OnSome result (IsIdleAt instances.now.items i) }
 {
     match &instances[i as usize] {
         Some(member) => match &member.inst {

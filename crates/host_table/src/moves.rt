@@ -1,9 +1,9 @@
 //! What becomes of instances when a block of their group lies elsewhere.
 ghost use Rattle.std.specs.Prelude.{◌≡◌, ◌<◌, ◌+◌, length, true};
 ghost use Rattle.mem_rec.specs.declared.TheConstants.{INSTANCES, GROUPS};
-ghost use Rattle.host_table.specs.Table.{slot_at, is_member_of, TablesTold, SameActivities};
+ghost use Rattle.host_table.specs.Table.{slot_at, is_member_of, SameActivities};
 ghost use Rattle.host_table.specs.Frames.{InactiveGroupsStay};
-ghost use Rattle.host_table.specs.Steps.{AreConsistent, AllHistoriesStay, MembersStay};
+ghost use Rattle.host_table.specs.Steps.{AreConsistent, AllHistoriesStay, MembersAreTold, MembersStay};
 
 use crate::Tables;
 use host_shared::{borrow_pieces, give_back_pieces};
@@ -27,8 +27,8 @@ fn call_moved_of_member<M: Ialg>(tables: &mut Tables<M>, g: u8, i: usize)
     requires range { g < GROUPS }
     requires number { i < INSTANCES }
     requires member { is_member_of g (slot_at tables.old.instances i) ≡ true }
-    requires told { TablesTold g i tables.old.instances tables.old.sharing tables.old.groups }
-    ensures told { TablesTold g (i + 1) tables.new.instances tables.new.sharing tables.new.groups }
+    requires told { MembersAreTold g i tables.old }
+    ensures told { MembersAreTold g (i + 1) tables.new }
     ensures inactive { InactiveGroupsStay tables.old.groups tables.new.groups }
     ensures same { MembersStay tables.old tables.new }
     ensures activity { SameActivities tables.old.groups tables.new.groups }
@@ -55,8 +55,8 @@ fn call_moved_of_member<M: Ialg>(tables: &mut Tables<M>, g: u8, i: usize)
 fn call_moved_in_slot<M: Ialg>(tables: &mut Tables<M>, g: u8, i: usize)
     requires range { g < GROUPS }
     requires number { i < INSTANCES }
-    requires told { TablesTold g i tables.old.instances tables.old.sharing tables.old.groups }
-    ensures told { TablesTold g (i + 1) tables.new.instances tables.new.sharing tables.new.groups }
+    requires told { MembersAreTold g i tables.old }
+    ensures told { MembersAreTold g (i + 1) tables.new }
     ensures inactive { InactiveGroupsStay tables.old.groups tables.new.groups }
     ensures same { MembersStay tables.old tables.new }
     ensures activity { SameActivities tables.old.groups tables.new.groups }
@@ -70,7 +70,7 @@ fn call_moved_in_slot<M: Ialg>(tables: &mut Tables<M>, g: u8, i: usize)
 /// Tells each member of the group, in ascending number, where its records lie now. An active member stays active.
 pub fn call_moved_in_group<M: Ialg>(tables: &mut Tables<M>, g: u8)
     requires range { g < GROUPS }
-    requires told { TablesTold g 0 tables.old.instances tables.old.sharing tables.old.groups }
+    requires told { MembersAreTold g 0 tables.old }
     ensures ok { AreConsistent tables.new }
     ensures inactive { InactiveGroupsStay tables.old.groups tables.new.groups }
     ensures same { MembersStay tables.old tables.new }

@@ -4,7 +4,7 @@ ghost use Rattle.ialg.specs.Records.{record_at, unplaced};
 ghost use Rattle.mem_rec.specs.declared.TheConstants.{INSTANCES};
 ghost use Rattle.host_table.specs.Table.{slot_at};
 ghost use Rattle.host_map.specs.Sharers.{asked, is_once, is_same_once, is_sharer};
-ghost use Rattle.host_table.specs.Sharers.{asked_by, sharer_in, AreLeastSharers};
+ghost use Rattle.host_table.specs.Sharers.{as_asked, asked_by, sharer_in, AreLeastSharers};
 
 use crate::Member;
 use host_shared::Sharers;
@@ -68,7 +68,7 @@ fn is_sharer<M: Ialg>(
     table: &MemTab,
     k: usize,
 ) -> bool
-    ensures { result ≡ is_sharer M.law.meaning.same (asked kind params.now.items table.now) k (Some (asked instance.now.kind instance.now.params.items instance.now.table)) }
+    ensures { result ≡ is_sharer M.law.meaning.same (asked kind params.now.items table.now) k (Some (as_asked instance.now)) }
 {
     are_one(kind, instance.kind)
         && params.as_slice() == instance.params.as_slice()

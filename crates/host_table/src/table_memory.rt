@@ -1,14 +1,13 @@
 //! Tables without instances: how they are made and ended.
 ghost use Rattle.std.specs.Prelude.{◌≡◌, ℕ, ℤ, Option, None, length, IfOk};
-ghost use Rattle.ialg.specs.History.{History};
 ghost use Rattle.mem_rec.specs.declared.Space.{Space};
 ghost use Rattle.scratch_group.specs.Blocks.{block_in};
 ghost use Rattle.mem_rec.specs.declared.TheConstants.{INSTANCES, GROUPS};
 ghost use Rattle.record_loans.specs.Pieces.{no_pieces};
 ghost use Rattle.host_shared.specs.Locations.{no_locations, locations_at, shared_at};
-ghost use Rattle.host_table.specs.Table.{slot_at, group_at, activity_at, ArePoisoned};
+ghost use Rattle.host_table.specs.Table.{slot_at, group_at, activity_at, ArePoisoned, NoGroupHasBlocks, NoneLives, NoneWasActive};
 ghost use Rattle.host_map.specs.Activity.{never_activated};
-ghost use Rattle.host_table.specs.Steps.{AreConsistent, AreKept};
+ghost use Rattle.host_table.specs.Steps.{AreConsistent, KeepsAnyHistories};
 
 use crate::{Member, Tables};
 use host_shared::{Locations, empty_sharing, end_sharing};
@@ -20,7 +19,7 @@ use std::alloc::{AllocError, Allocator, Global};
 /// A slot for each instance number, each of them empty. This table and the one below stand over any allocator, and ask it once each.
 fn empty_instances<M: Ialg, A: Allocator>(alloc: A) -> Result<Vec<Option<Member<M>>, A>, AllocError>
     ensures count { IfOk result (λ v. length v.items ≡ INSTANCES) }
-    ensures empty { IfOk result (λ v. (i : ℕ) → slot_at v.items i ≡ None) }
+    ensures empty { IfOk result (λ v. NoneLives v.items) }
 {
     let mut instances = Vec::with_capacity(alloc, INSTANCES)?;
     for _ in 0..INSTANCES {
@@ -32,8 +31,8 @@ fn empty_instances<M: Ialg, A: Allocator>(alloc: A) -> Result<Vec<Option<Member<
 /// Groups without blocks and members.
 fn empty_groups<A: Allocator>(alloc: A) -> Result<Vec<Group, A>, AllocError>
     ensures count { IfOk result (λ v. length v.items ≡ GROUPS) }
-    ensures blocks { IfOk result (λ v. (g : ℕ) (space : Space) → block_in (group_at v.items g) space ≡ None) }
-    ensures activity { IfOk result (λ v. (g : ℕ) → activity_at v.items g ≡ never_activated) }
+    ensures blocks { IfOk result (λ v. NoGroupHasBlocks v.items) }
+    ensures activity { IfOk result (λ v. NoneWasActive v.items) }
 {
     let mut groups = Vec::with_capacity(alloc, GROUPS as usize)?;
     for _ in 0..GROUPS {
@@ -44,7 +43,7 @@ fn empty_groups<A: Allocator>(alloc: A) -> Result<Vec<Group, A>, AllocError>
 
 /// Ends a table of empty slots.
 fn end_instances<M: Ialg, A: Allocator>(instances: Vec<Option<Member<M>>, A>)
-    requires { (i : ℕ) → slot_at instances.items i ≡ None }
+    requires { NoneLives instances.items }
 {
     let mut instances = instances;
     while let Some(slot) = instances.pop() {
@@ -58,7 +57,7 @@ fn end_instances<M: Ialg, A: Allocator>(instances: Vec<Option<Member<M>>, A>)
 
 /// Ends groups whose blocks were all taken out.
 fn end_groups<A: Allocator>(groups: Vec<Group, A>)
-    requires { (g : ℕ) (space : Space) → block_in (group_at groups.items g) space ≡ None }
+    requires { NoGroupHasBlocks groups.items }
 {
     let mut groups = groups;
     while let Some(group) = groups.pop() {
@@ -128,11 +127,11 @@ impl<M: Ialg> EmptyTables<M> {
     pub fn into_tables(self) -> Tables<M>
         ensures ok { AreConsistent result }
         ensures poisoned { (w : Option ℤ) → ArePoisoned w result.groups }
-        ensures keeps { (w : Option ℤ) (histories : ℕ → History) → AreKept M.law w result histories }
-        ensures empty { (i : ℕ) → slot_at result.instances i ≡ None }
+        ensures keeps { KeepsAnyHistories M.law result }
+        ensures empty { NoneLives result.instances }
         ensures bare { (i : ℕ) → locations_at result.sharing i ≡ no_locations }
-        ensures blocks { (g : ℕ) (space : Space) → block_in (group_at result.groups g) space ≡ None }
-        ensures activity { (g : ℕ) → activity_at result.groups g ≡ never_activated }
+        ensures blocks { NoGroupHasBlocks result.groups }
+        ensures activity { NoneWasActive result.groups }
     {
         let EmptyTables {
             instances,
@@ -150,9 +149,9 @@ impl<M: Ialg> EmptyTables<M> {
 /// Ends tables in which no instance lives and no group has a block. It answers nothing and leaves nothing behind, so that there is no more
 /// to say.
 pub fn end_tables<M: Ialg>(tables: Tables<M>)
-    requires empty { (i : ℕ) → slot_at tables.instances i ≡ None }
+    requires empty { NoneLives tables.instances }
     requires none { (i : ℕ) → shared_at tables.sharing i ≡ no_pieces }
-    requires blocks { (g : ℕ) (space : Space) → block_in (group_at tables.groups g) space ≡ None }
+    requires blocks { NoGroupHasBlocks tables.groups }
 {
     let Tables {
         instances,
