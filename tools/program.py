@@ -3,8 +3,8 @@
 
 `dsp_console`, `check` and `tools/archive.py` use this. A build is a run of `rt ci` over a copy of the program's crate and of the
 crates that it stands on, without their must-fail edits: every crate is proved, as many at a time as the graph, the processors and
-the memory allow, and the program is what that run makes. The archive of a static library is made by `rattle build` over what that
-run leaves; it builds a proved crate alone.
+the memory allow, and the program is what that run makes. A second run beside it proves the longest chain of crates, for which the others
+would wait. The archive of a static library is made by `rattle build` over what the first run leaves; it builds a proved crate alone.
 """
 
 from __future__ import annotations
@@ -13,10 +13,13 @@ import hashlib
 import os
 import re
 import shutil
+import signal
 import subprocess
 import sys
 import tempfile
+import threading
 import time
+from contextlib import suppress
 from pathlib import Path
 
 TOP = Path(__file__).resolve().parent.parent
@@ -36,6 +39,9 @@ NOT_BUILT = 70
 
 # What a build needs free, in a folder for temporary files: copies, proofs and the program.
 DISK_OCTETS = 6_000_000_000
+# From how many processors on, and with how many octets of memory free, the longest chain is proved by a run of its own.
+AHEAD_PROCESSORS = 3
+AHEAD_OCTETS = 12_000_000_000
 # Seconds of one processor: for each crate, and for each line of it. They only make the first estimate of the minutes.
 CRATE_SECONDS = 11.0
 LINE_SECONDS = 0.034
@@ -208,15 +214,26 @@ class Progress:
         self.below = {it: [dep for dep in listed[it] if dep in self.weight] for it in crates}
         self.left = list(crates)
         self.all = len(crates)
+        self.lock = threading.Lock()
 
-    def seconds_left(self) -> float:
-        """The most of what the processors have left to do and of the longest chain of crates left, at the pace so far."""
-
+    def chains(self) -> dict[str, float]:
+        """Of each crate that is left, the weight of the longest chain of such crates up to it."""
         chains: dict[str, float] = {}
         for crate in self.left:
             chains[crate] = self.weight[crate] + max((chains.get(it, 0.0) for it in self.below[crate]), default=0.0)
-        model = max(sum(self.weight[it] for it in self.left) / self.lanes, max(chains.values(), default=0.0))
-        return model
+        return chains
+
+    def chain_top(self) -> str:
+        """The highest crate of the longest chain that weighs half as much at least as all that the crate stands on and itself."""
+        chains = self.chains()
+        at = self.left[-1]
+        while chains[at] < 0.5 * sum(self.weight[it] for it in closure(at)):
+            at = max(self.below[at], key=lambda it: chains[it])
+        return at
+
+    def seconds_left(self) -> float:
+        """The most of what the processors have left to do and of the longest chain of crates left, at the pace so far."""
+        return max(sum(self.weight[it] for it in self.left) / self.lanes, max(self.chains().values(), default=0.0))
 
     def begin(self) -> None:
         """Tells what is coming."""
@@ -229,20 +246,70 @@ class Progress:
 
     def kept(self, crate: str) -> None:
         """Counts a crate that was proved by an earlier run on this machine: it takes no time."""
-        if crate in self.left:
-            self.left.remove(crate)
-            self.whole = max(self.seconds_left(), 1.0)
+        with self.lock:
+            if crate in self.left:
+                self.left.remove(crate)
+                self.whole = max(self.seconds_left(), 1.0)
 
     def proved(self, crate: str) -> None:
         """Tells that a crate is proved."""
-        if crate not in self.left:
-            return
-        self.left.remove(crate)
-        spent, model = time.monotonic() - self.began, self.seconds_left()
-        done = self.whole - model
-        pace = min(max(spent / done, 0.5), 6.0) if done > 0.1 * self.whole else 1.0
-        rest = f"about {max(1, round(model * pace / 60))} minutes left" if self.left else f"the {self.what} is next"
-        self.say(f"proved {crate}, {self.all - len(self.left)} of {self.all}, {rest}")
+        with self.lock:
+            if crate not in self.left:
+                return
+            self.left.remove(crate)
+            spent, model = time.monotonic() - self.began, self.seconds_left()
+            done = self.whole - model
+            pace = min(max(spent / done, 0.5), 6.0) if done > 0.1 * self.whole else 1.0
+            rest = f"about {max(1, round(model * pace / 60))} minutes left" if self.left else f"the {self.what} is next"
+            self.say(f"proved {crate}, {self.all - len(self.left)} of {self.all}, {rest}")
+
+    def read(self, line: str) -> None:
+        """Counts the crate that a line of `rt ci` says to be proved, if it says so."""
+        told = re.fullmatch(r"rt: (\w+) proved\n", line)
+        if told:
+            self.proved(told[1])
+
+
+def memory_free() -> int:
+    """How many octets of memory programs may take."""
+    told = re.search(r"MemAvailable: +(\d+) kB", Path("/proc/meminfo").read_text())
+    return int(told[1]) * 1024 if told else 0
+
+
+def keeps_proofs() -> bool:
+    """Whether rt can keep beside the kit what it proved, so that another run takes it from there."""
+    kit = Path(shutil.which("rt")).resolve().parent.parent
+    store = kit.with_name(f"{kit.name}-kept")
+    return os.access(store if store.exists() else kit.parent, os.W_OK)
+
+
+class Ahead:
+    """A run of `rt ci` beside a build's own, for the crates of the longest chain and what they stand on. A run gives a proof the
+    processors that none of its other proofs waits for: in the build's own run there is always another, so the crates for which
+    the rest has to wait would have one processor each. What is proved here is kept, and the build's run takes it from there."""
+
+    def __init__(self, room: Path, crate: str, progress: Progress) -> None:
+        self.ran = subprocess.Popen(
+            ["rt", "ci", crate], cwd=room, stdin=subprocess.DEVNULL, stdout=subprocess.PIPE, stderr=subprocess.STDOUT, text=True, errors="replace", start_new_session=True
+        )
+        self.reader = threading.Thread(target=lambda: [progress.read(line) for line in self.ran.stdout], daemon=True)
+        self.reader.start()
+
+    @classmethod
+    def of(cls, room: Path, progress: Progress) -> Ahead | None:
+        """Such a run, where the build's own is of more than a chain and there are processors and memory for both."""
+        top = progress.chain_top()
+        if top == progress.left[-1] or progress.lanes < AHEAD_PROCESSORS or memory_free() < AHEAD_OCTETS or not keeps_proofs():
+            return None
+        return cls(room, top, progress)
+
+    def end(self) -> None:
+        """Ends the run, if it hasn't ended."""
+        with suppress(ProcessLookupError):
+            os.killpg(self.ran.pid, signal.SIGTERM)
+        self.ran.wait()
+        self.reader.join()
+        self.ran.stdout.close()
 
 
 def copy_closure(room: Path, crates: list[str]) -> None:
@@ -276,6 +343,22 @@ def make_archive(made: Path, room: Path, crates: list[str], log: Path) -> None:
         raise CantBuild(f"not built: rattle build ended with status {status}, and all that it said is in {log}", NOT_BUILT)
 
 
+def run_rt(room: Path, progress: Progress, log: Path, say) -> int:
+    """Runs `rt ci` over the copy of a program's crates, and answers its status. All that it says is kept in the log."""
+    asked = subprocess.Popen(["rt", "ci"], cwd=room, stdin=subprocess.DEVNULL, stdout=subprocess.PIPE, stderr=subprocess.STDOUT, text=True, errors="replace")
+    with open(log, "w", encoding="utf-8") as kept, asked as ran:
+        for line in ran.stdout:
+            kept.write(line)
+            progress.read(line)
+            kept_before = re.match(r"rt: (\w+) is kept: ", line)
+            if kept_before:
+                progress.kept(kept_before[1])
+            refused = re.fullmatch(r"rt: (\w+)(?:: its tests are)? NOT PROVED.*\n", line)
+            if refused:
+                say(f"{refused[1]} is refused")
+        return ran.wait()
+
+
 def build(say, name: str = NAME) -> None:
     """Proves what a program stands on, and builds it, or raises why it can't be. What `say` is given is for a person to read."""
     look_at_kit(say)
@@ -288,20 +371,12 @@ def build(say, name: str = NAME) -> None:
     with tempfile.TemporaryDirectory(prefix="dsp_console-build-", dir=folder) as copy:
         room = Path(copy)
         copy_closure(room, crates)
-        with open(log, "w", encoding="utf-8") as kept:
-            ran = subprocess.Popen(["rt", "ci"], cwd=room, stdin=subprocess.DEVNULL, stdout=subprocess.PIPE, stderr=subprocess.STDOUT, text=True, errors="replace")
-            for line in ran.stdout:
-                kept.write(line)
-                told = re.fullmatch(r"rt: (\w+) proved\n", line)
-                if told:
-                    progress.proved(told[1])
-                kept_before = re.match(r"rt: (\w+) is kept: ", line)
-                if kept_before:
-                    progress.kept(kept_before[1])
-                refused = re.fullmatch(r"rt: (\w+)(?:: its tests are)? NOT PROVED.*\n", line)
-                if refused:
-                    say(f"{refused[1]} is refused")
-            status = ran.wait()
+        ahead = Ahead.of(room, progress)
+        try:
+            status = run_rt(room, progress, log, say)
+        finally:
+            if ahead:
+                ahead.end()
         made = room / path_of(name).relative_to(TOP)
         if status or not (is_archive(name) or is_made(made, name)):
             raise CantBuild(f"not built: rt ci ended with status {status}, and all that it said is in {log}", NOT_BUILT)

@@ -8,6 +8,7 @@ import shutil
 import subprocess
 import sys
 import tempfile
+import time
 import unittest
 from pathlib import Path
 from unittest import mock
@@ -200,6 +201,61 @@ class Parts(unittest.TestCase):
         for at, crate in enumerate(crates):
             for below in listed[crate]:
                 self.assertTrue(below not in listed or below in crates[:at], (crate, below))
+
+
+class Ahead(unittest.TestCase):
+    """The run for the longest chain, of a program over two crates that stand on each other and over five that stand on one."""
+
+    def setUp(self) -> None:
+        self.room = Path(self.enterContext(tempfile.TemporaryDirectory()))
+        sides = [f"side_{it}" for it in range(5)]
+        listed = {"low": [], **{it: ["low"] for it in sides}, "mid": ["low"], "high": ["mid"], "main": [*sides, "high"]}
+        self.enterContext(mock.patch.object(program, "uses", return_value=listed))
+        self.enterContext(mock.patch.object(program, "is_archive", return_value=False))
+        self.enterContext(mock.patch.object(program, "source_files", return_value=[]))
+        self.said: list[str] = []
+        self.progress = program.Progress(program.closure("main"), self.said.append)
+        self.progress.begin()
+
+    def put_rt(self, text: str) -> None:
+        rt = self.room / "kit" / "bin" / "rt"
+        rt.parent.mkdir(parents=True)
+        rt.write_text(f"#!/usr/bin/env bash\n{text}\n")
+        rt.chmod(0o755)
+        self.enterContext(mock.patch.dict(os.environ, {"PATH": f"{rt.parent}:/usr/bin:/bin"}))
+
+    def test_its_crate_is_the_highest_that_is_more_chain_than_side(self) -> None:
+        self.assertEqual(self.progress.chain_top(), "high")
+
+    def test_it_tells_what_it_proved_and_can_be_ended(self) -> None:
+        self.put_rt('echo "$*" > asked; echo "rt: low proved"; sleep 100')
+        ahead = program.Ahead(self.room, "high", self.progress)
+        while len(self.said) < 2:
+            time.sleep(0.01)
+        ahead.end()
+        self.assertEqual((self.room / "asked").read_text(), "ci high\n")
+        self.assertIn("proved low, 1 of 9", self.said[1])
+
+    def test_it_goes_where_it_helps(self) -> None:
+        self.put_rt("true")
+        helps = {"lanes": 4, "memory": 16_000_000_000, "keeps": True}
+        for changed, goes in (({}, True), ({"lanes": 2}, False), ({"memory": 4_000_000_000}, False), ({"keeps": False}, False)):
+            case = {**helps, **changed}
+            self.progress.lanes = case["lanes"]
+            with mock.patch.object(program, "memory_free", return_value=case["memory"]), mock.patch.object(program, "keeps_proofs", return_value=case["keeps"]):
+                ahead = program.Ahead.of(self.room, self.progress)
+            if ahead:
+                ahead.end()
+            self.assertEqual(ahead is not None, goes, case)
+
+    def test_proofs_are_kept_beside_the_kit(self) -> None:
+        self.put_rt("true")
+        self.assertTrue(program.keeps_proofs())
+        (self.room / "kit-kept").mkdir()
+        rt = str(self.room / "kit" / "bin" / "rt")
+        with mock.patch.object(program.shutil, "which", return_value=rt), mock.patch.object(program.os, "access", return_value=False) as asked:
+            self.assertFalse(program.keeps_proofs())
+        asked.assert_called_once_with((self.room / "kit-kept").resolve(), os.W_OK)
 
 
 if __name__ == "__main__":
