@@ -1,7 +1,6 @@
 //! What each voice gives, by its equation.
-ghost use Rattle.std.specs.Prelude.{◌≡◌, ◌∷◌, [], ℤ, List};
-ghost use Rattle.ialg.specs.History.{History, outputs_by};
-ghost use Rattle.ialg.specs.Meaning.{outputs_of};
+ghost use Rattle.std.specs.Prelude.{◌∷◌, []};
+ghost use Rattle.ialg.specs.Meaning.{GivesByRule};
 ghost use Rattle.alg_fir.specs.Equation.{fir_output};
 ghost use Rattle.alg_fir.specs.Decimation.{decim_gives};
 ghost use Rattle.alg_biquad.specs.Equation.{biquad_output};
@@ -14,9 +13,9 @@ ghost use Rattle.voice_set.specs.Voices.{voice_meaning};
 /// and `biquad` the difference equation at each sample, for `decim` that of `fir` at each M-th one, for `tone` a level at each frame's
 /// end, and for `g711` the code of each sample or the sample of each code. The call does nothing: its contract is the law.
 pub fn voices_give_their_equations()
-    ensures fir { (p : List ℤ) (h : History) → outputs_of voice_meaning Fir p h ≡ outputs_by (λ t. fir_output p t ∷ []) h }
-    ensures decim { (p : List ℤ) (h : History) → outputs_of voice_meaning Decim p h ≡ outputs_by (decim_gives p) h }
-    ensures biquad { (p : List ℤ) (h : History) → outputs_of voice_meaning Biquad p h ≡ outputs_by (λ t. biquad_output p t ∷ []) h }
-    ensures tone { (p : List ℤ) (h : History) → outputs_of voice_meaning Tone p h ≡ outputs_by (tone_gives p) h }
-    ensures g711 { (p : List ℤ) (h : History) → outputs_of voice_meaning G711 p h ≡ outputs_by (given_by (coder_named p)) h }
+    ensures fir { GivesByRule voice_meaning Fir (λ p t. fir_output p t ∷ []) }
+    ensures decim { GivesByRule voice_meaning Decim decim_gives }
+    ensures biquad { GivesByRule voice_meaning Biquad (λ p t. biquad_output p t ∷ []) }
+    ensures tone { GivesByRule voice_meaning Tone tone_gives }
+    ensures g711 { GivesByRule voice_meaning G711 (λ p. given_by (coder_named p)) }
 {}

@@ -1,7 +1,7 @@
 //! One of the hosted kinds.
-ghost use Rattle.std.specs.Prelude.{ℤ, List, Option, IsTrue};
 ghost use Rattle.std.proofs.Common.{rules};
 ghost use Rattle.std.specs.Cmp.Rules.{comparing};
+ghost use Rattle.ialg.specs.Meaning.{AreAlwaysLawful};
 ghost use Rattle.voice_set.specs.Voices.{voice_meaning, voice_named};
 ghost use Rattle.voice_set.specs.Keeps.{IsIdle, IsActive};
 ghost use Rattle.voice_set.specs.Kept.{idle_words, active_words, idle_fill, active_fill};
@@ -172,5 +172,5 @@ impl Ialg for Voice {
 /// The law that all kinds keep IALG's laws for all parameters, refused ones too, in a host of any poison word and in one
 /// of none. The call does nothing: its contract is the law.
 pub fn voices_are_lawful()
-    ensures { (voice : Voice) (p : List ℤ) (w : Option ℤ) → IsTrue (voice_meaning.lawful voice p w) }
+    ensures { AreAlwaysLawful voice_meaning }
 {}
