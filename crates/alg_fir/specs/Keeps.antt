@@ -32,6 +32,15 @@ pub record KeepsRing (taps : ℕ) (h : History) (words : List ℤ) : Type 0 wher
   pub last : word_at words (length words - 1) ≡ pos place
   pub ring : IsRing (taps - 1) (length words - 1) words place h
 
+-- a ring of the right length keeps these past samples afterwards, whatever it was
+abbrev pub RefillsRing : (past old new : List ℤ) → Type 0
+RefillsRing past old new = (taps : ℕ) (h : History) → length past + 1 ≡ taps → taps ≤ MOST_COEFFICIENTS
+    → length old ≡ taps - 1 + BLOCK_SAMPLES → KeepsPast taps 0 h past → KeepsRing taps h new
+
+-- all samples taken are among so many
+abbrev pub AreWithin : Taken → ℕ → Type 0
+AreWithin taken samples = (i : ℕ) → i < taken.count → taken.first + taken.step * i < samples
+
 -- a block of 16-bit samples was run: the ring keeps the longer history, and the same coefficients are in force
 pub record Ran (p : List ℤ) (h : History) (block new : List ℤ) : Type 0 where
   pub ring : KeepsRing (length p) (with_samples h block) new

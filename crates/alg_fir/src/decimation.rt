@@ -1,10 +1,9 @@
 //! The decimator over plain words: its constants, the kept words, which begin with the phase, and the ring.
-ghost use Rattle.std.specs.Prelude.{◌≡◌, ◌<◌, ◌≤◌, ◌+◌, ◌-◌, ◌*◌, ◌/◌, ◌%◌, pos, ℕ, ℤ, [], List, length, unsigned_abs, IsTrue};
-ghost use Rattle.ialg.specs.History.{History, word_at};
-ghost use Rattle.alg_fir.specs.Keeps.{KeepsPast, KeepsRing};
-ghost use Rattle.alg_fir.specs.Decimation.{factor, taps_of};
+ghost use Rattle.std.specs.Prelude.{◌≡◌, ◌<◌, ◌≤◌, ◌+◌, ◌/◌, [], length, unsigned_abs};
+ghost use Rattle.ialg.specs.History.{word_at};
+ghost use Rattle.alg_fir.specs.Keeps.{AreWithin};
 ghost use Rattle.alg_fir.specs.DecimMeaning.{decim_takes};
-ghost use Rattle.alg_fir.specs.DecimKeeps.{KeepsPhase, RanDecim};
+ghost use Rattle.alg_fir.specs.DecimCalls.{RestoresPast, SavesPast, RunsBlock, CountsOn};
 
 use crate::MOST_FACTOR;
 use crate::delay::{MOST_RING_WORDS, Taken, refill, run_block};
@@ -32,8 +31,7 @@ pub(crate) fn first_of(words: &[i16]) -> usize
 
 /// Makes the ring from the past samples of the kept words.
 pub(crate) fn restore(kept: &[i16], ring: &mut [i16])
-    ensures { (taps : ℕ) (h : History) → 1 ≤ taps → taps ≤ MOST_COEFFICIENTS → length kept.now ≡ taps
-        → length ring.old ≡ taps - 1 + BLOCK_SAMPLES → KeepsPast taps 1 h kept.now → KeepsRing taps h ring.new }
+    ensures { RestoresPast kept.now ring.old ring.new }
 {
     if !kept.is_empty() {
         refill(&kept[1..], ring);
@@ -42,8 +40,7 @@ pub(crate) fn restore(kept: &[i16], ring: &mut [i16])
 
 /// Makes the past samples of the kept words from the ring. The phase stays.
 pub(crate) fn save(kept: &mut [i16], ring: &[i16])
-    ensures past { (taps : ℕ) (h : History) → 1 ≤ taps → length kept.old ≡ taps → KeepsRing taps h ring.now
-        → KeepsPast taps 1 h kept.new }
+    ensures past { SavesPast ring.now kept.old kept.new }
     ensures phase { word_at kept.new 0 ≡ word_at kept.old 0 }
 {
     let next = named_place(ring);
@@ -57,8 +54,7 @@ pub(crate) fn run(constants: &[i16], kept: &[i16], ring: &mut [i16], input: &[i1
     requires empty { out.old.items ≡ [] }
     requires within { length input.now ≤ BLOCK_SAMPLES }
     ensures bounded { length out.new.items ≤ length input.now }
-    ensures law { (p : List ℤ) (h : History) → constants.now ≡ p → IsTrue (decim_takes p) → KeepsPhase p h kept.now
-        → KeepsRing (taps_of p) h ring.old → RanDecim p h input.now ring.new out.new.items }
+    ensures law { RunsBlock constants.now kept.now ring.old input.now ring.new out.new.items }
 {
     let next = named_place(ring);
     let factor = first_of(constants);
@@ -84,7 +80,7 @@ fn taken_of(factor: usize, phase: usize, samples: usize) -> Taken
     ensures step { result.step ≡ factor }
     ensures count { result.count ≡ (phase + samples) / factor }
     ensures few { result.count ≤ samples }
-    ensures reach { (i : ℕ) → i < result.count → result.first + result.step * i < samples }
+    ensures reach { AreWithin result samples }
 {
     Taken {
         first: factor - 1 - phase,
@@ -96,8 +92,7 @@ fn taken_of(factor: usize, phase: usize, samples: usize) -> Taken
 /// Counts the samples of a block on in the phase.
 pub(crate) fn advance(constants: &[i16], kept: &mut [i16], samples: usize)
     requires { samples ≤ BLOCK_SAMPLES }
-    ensures { (p : List ℤ) (before : ℕ) → constants.now ≡ p → IsTrue (decim_takes p) → 1 ≤ length kept.old
-        → word_at kept.old 0 ≡ pos before → word_at kept.new 0 ≡ pos ((before + samples) % factor p) }
+    ensures { CountsOn constants.now samples kept.old kept.new }
 {
     let factor = first_of(constants);
     let phase = first_of(kept);

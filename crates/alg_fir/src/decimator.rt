@@ -1,15 +1,12 @@
 //! The decimator `Decim`, an algorithm of four records.
-ghost use Rattle.std.specs.Prelude.{◌≡◌, ◌≤◌, ◌+◌, ◌-◌, ◌%◌, ◌∷◌, ℕ, ℤ, [], List, length, Option, pos, true, IsTrue};
+ghost use Rattle.std.specs.Prelude.{◌≡◌, ◌≤◌, [], length, true, IsTrue};
 ghost use Rattle.mem_rec.specs.Records.{is_table};
-ghost use Rattle.mem_rec.specs.declared.Space.TheVariants.{Daram, Saram, External};
-ghost use Rattle.ialg.specs.History.{Control, Get, History, Reset, word_at};
-ghost use Rattle.ialg.specs.Loans.{lent_words, SameLoans, SameBut};
-ghost use Rattle.ialg.specs.Records.{AllLent};
-ghost use Rattle.ialg.specs.Objects.{NamedAt};
-ghost use Rattle.alg_fir.specs.Keeps.{KeepsPast, KeepsRing};
-ghost use Rattle.alg_fir.specs.Decimation.{factor, phase, taps_of};
-ghost use Rattle.alg_fir.specs.DecimMeaning.{decim_meaning, decim_records, decim_takes};
-ghost use Rattle.alg_fir.specs.DecimKeeps.{decim_kind, Finds, IsActiveDecim, IsIdleDecim, KeepsPhase, RanDecim};
+ghost use Rattle.ialg.specs.History.{word_at};
+ghost use Rattle.ialg.specs.Meaning.{AreAlwaysLawful};
+ghost use Rattle.ialg.specs.Loans.{SameLoans};
+ghost use Rattle.alg_fir.specs.DecimMeaning.{decim_meaning, decim_records};
+ghost use Rattle.alg_fir.specs.DecimKeeps.{IsActiveDecim, IsIdleDecim};
+ghost use Rattle.alg_fir.specs.DecimCalls.{WritesConstants, ClearsKept, ClearsRing, FillsRing, RestoresPastLent, FillsKept, SavesPastLent, RunsRing, RunsBlockLent, CountsPhase, CountsOnLent, ResetsDecim, AnswersPhase, GetsDecim};
 
 use crate::decimation::{advance, restore, run, save, takes};
 use crate::{CONSTANTS_ALIGNMENT, DECIM_KIND, DECIM_RECORDS, LINE_ALIGNMENT};
@@ -152,8 +149,7 @@ fn records(taps: usize) -> [MemRec; DECIM_RECORDS]
 /// Writes the parameters into the write-once record, which `alg_init` alone may write.
 fn write_constants(mem: &mut Lent<'_>, p: &[i16])
     ensures loans { SameLoans mem.old mem.new }
-    ensures written { (taps : ℕ) → NamedAt mem.old External 2 decim_kind (decim_records taps) → mem.old.writable ≡ true
-        → length mem.old.r2.now ≡ length p.now → SameBut 2 mem.old mem.new × (mem.new.r2.now ≡ p.now) }
+    ensures written { WritesConstants p.now mem.old mem.new }
 {
     let Some(Record { k, words }) = mem.take_named(Space::External, CONSTANTS) else {
         return;
@@ -165,8 +161,7 @@ fn write_constants(mem: &mut Lent<'_>, p: &[i16])
 /// Makes the phase and the past samples 0.
 fn clear_kept(mem: &mut Lent<'_>)
     ensures loans { SameLoans mem.old mem.new }
-    ensures cleared { (taps : ℕ) → NamedAt mem.old Saram 1 decim_kind (decim_records taps)
-        → SameBut 1 mem.old mem.new × ((k : ℕ) → word_at mem.new.r1.now k ≡ pos 0) }
+    ensures cleared { ClearsKept mem.old mem.new }
 {
     let Some(Record { k, words: kept }) = mem.take_named(Space::Saram, KEPT) else {
         return;
@@ -178,8 +173,7 @@ fn clear_kept(mem: &mut Lent<'_>)
 /// Makes all samples of the ring 0.
 fn clear_ring(mem: &mut Lent<'_>)
     ensures loans { SameLoans mem.old mem.new }
-    ensures cleared { (taps : ℕ) → Finds mem.old taps
-        → SameBut 3 mem.old mem.new × ((k : ℕ) → word_at mem.new.r3.now k ≡ pos 0) }
+    ensures cleared { ClearsRing mem.old mem.new }
 {
     let Some(Record { k, words: ring }) = mem.take_named(Space::Daram, RING) else {
         return;
@@ -191,9 +185,7 @@ fn clear_ring(mem: &mut Lent<'_>)
 /// Makes the ring from the kept past samples.
 fn restore_ring(mem: &mut Lent<'_>)
     ensures loans { SameLoans mem.old mem.new }
-    ensures restored { (taps : ℕ) (h : History) → Finds mem.old taps → 1 ≤ taps → taps ≤ MOST_COEFFICIENTS
-        → length mem.old.r1.now ≡ taps → length mem.old.r3.now ≡ taps - 1 + BLOCK_SAMPLES → KeepsPast taps 1 h mem.old.r1.now
-        → SameBut 3 mem.old mem.new × KeepsRing taps h mem.new.r3.now }
+    ensures restored { FillsRing mem.old mem.new }
 {
     let Some(Record { k, words }) = mem.take_named(Space::Daram, RING) else {
         return;
@@ -203,9 +195,7 @@ fn restore_ring(mem: &mut Lent<'_>)
 }
 
 fn restore_from(mem: &Lent<'_>, ring: &mut [i16])
-    ensures { (taps : ℕ) (h : History) → NamedAt mem.now Saram 1 decim_kind (decim_records taps) → 1 ≤ taps
-        → taps ≤ MOST_COEFFICIENTS → length mem.now.r1.now ≡ taps → length ring.old ≡ taps - 1 + BLOCK_SAMPLES
-        → KeepsPast taps 1 h mem.now.r1.now → KeepsRing taps h ring.new }
+    ensures { RestoresPastLent mem.now ring.old ring.new }
 {
     if let Some(kept) = mem.read_named(Space::Saram, KEPT) {
         restore(kept, ring);
@@ -215,10 +205,7 @@ fn restore_from(mem: &Lent<'_>, ring: &mut [i16])
 /// Keeps the past samples of the ring.
 fn save_past(mem: &mut Lent<'_>)
     ensures loans { SameLoans mem.old mem.new }
-    ensures saved { (taps : ℕ) (h : History) → Finds mem.old taps → 1 ≤ taps → length mem.old.r1.now ≡ taps
-        → KeepsRing taps h mem.old.r3.now
-        → SameBut 1 mem.old mem.new × KeepsPast taps 1 h mem.new.r1.now
-        × (word_at mem.new.r1.now 0 ≡ word_at mem.old.r1.now 0) }
+    ensures saved { FillsKept mem.old mem.new }
 {
     let Some(Record { k, words }) = mem.take_named(Space::Saram, KEPT) else {
         return;
@@ -228,8 +215,7 @@ fn save_past(mem: &mut Lent<'_>)
 }
 
 fn save_from(mem: &Lent<'_>, kept: &mut [i16])
-    ensures past { (taps : ℕ) (h : History) → NamedAt mem.now Daram 3 decim_kind (decim_records taps) → 1 ≤ taps
-        → length kept.old ≡ taps → KeepsRing taps h mem.now.r3.now → KeepsPast taps 1 h kept.new }
+    ensures past { SavesPastLent mem.now kept.old kept.new }
     ensures phase { word_at kept.new 0 ≡ word_at kept.old 0 }
 {
     if let Some(ring) = mem.read_named(Space::Daram, RING) {
@@ -243,9 +229,7 @@ fn run_ring(mem: &mut Lent<'_>, input: &[i16], out: &mut Block)
     requires within { length input.now ≤ BLOCK_SAMPLES }
     ensures loans { SameLoans mem.old mem.new }
     ensures bounded { length out.new.items ≤ length input.now }
-    ensures ran { (p : List ℤ) (h : History) → IsTrue (decim_takes p) → Finds mem.old (taps_of p) → mem.old.r2.now ≡ p
-        → KeepsPhase p h mem.old.r1.now → KeepsRing (taps_of p) h mem.old.r3.now
-        → SameBut 3 mem.old mem.new × RanDecim p h input.now mem.new.r3.now out.new.items }
+    ensures ran { RunsRing input.now out.new.items mem.old mem.new }
 {
     let Some(Record { k, words }) = mem.take_named(Space::Daram, RING) else {
         return;
@@ -258,10 +242,7 @@ fn run_with(mem: &Lent<'_>, ring: &mut [i16], input: &[i16], out: &mut Block)
     requires empty { out.old.items ≡ [] }
     requires within { length input.now ≤ BLOCK_SAMPLES }
     ensures bounded { length out.new.items ≤ length input.now }
-    ensures ran { (p : List ℤ) (h : History) → IsTrue (decim_takes p)
-        → NamedAt mem.now Saram 1 decim_kind (decim_records (taps_of p))
-        → NamedAt mem.now External 2 decim_kind (decim_records (taps_of p)) → mem.now.r2.now ≡ p
-        → KeepsPhase p h mem.now.r1.now → KeepsRing (taps_of p) h ring.old → RanDecim p h input.now ring.new out.new.items }
+    ensures ran { RunsBlockLent mem.now ring.old input.now ring.new out.new.items }
 {
     let Some(constants) = mem.read_named(Space::External, CONSTANTS) else {
         return;
@@ -276,9 +257,7 @@ fn run_with(mem: &Lent<'_>, ring: &mut [i16], input: &[i16], out: &mut Block)
 fn count(mem: &mut Lent<'_>, samples: usize)
     requires { samples ≤ BLOCK_SAMPLES }
     ensures loans { SameLoans mem.old mem.new }
-    ensures counted { (p : List ℤ) (before : ℕ) → IsTrue (decim_takes p) → Finds mem.old (taps_of p) → mem.old.r2.now ≡ p
-        → 1 ≤ length mem.old.r1.now → word_at mem.old.r1.now 0 ≡ pos before
-        → SameBut 1 mem.old mem.new × (word_at mem.new.r1.now 0 ≡ pos ((before + samples) % factor p)) }
+    ensures counted { CountsPhase samples mem.old mem.new }
 {
     let Some(Record { k, words: counter }) = mem.take_named(Space::Saram, KEPT) else {
         return;
@@ -289,9 +268,7 @@ fn count(mem: &mut Lent<'_>, samples: usize)
 
 fn count_with(mem: &Lent<'_>, kept: &mut [i16], samples: usize)
     requires { samples ≤ BLOCK_SAMPLES }
-    ensures { (p : List ℤ) (before : ℕ) → IsTrue (decim_takes p)
-        → NamedAt mem.now External 2 decim_kind (decim_records (taps_of p)) → mem.now.r2.now ≡ p → 1 ≤ length kept.old
-        → word_at kept.old 0 ≡ pos before → word_at kept.new 0 ≡ pos ((before + samples) % factor p) }
+    ensures { CountsOnLent mem.now samples kept.old kept.new }
 {
     if let Some(constants) = mem.read_named(Space::External, CONSTANTS) {
         advance(constants, kept, samples);
@@ -301,9 +278,7 @@ fn count_with(mem: &Lent<'_>, kept: &mut [i16], samples: usize)
 /// Forgets the past samples, and makes the phase 0.
 fn reset(mem: &mut Lent<'_>)
     ensures loans { SameLoans mem.old mem.new }
-    ensures law { (p : List ℤ) (h : History) → AllLent mem.old.table.now (lent_words mem.old)
-        → IsActiveDecim p mem.old.table.now (lent_words mem.old) h
-        → IsActiveDecim p mem.old.table.now (lent_words mem.new) (Control Reset ∷ h) }
+    ensures law { ResetsDecim mem.old mem.new }
 {
     clear_kept(mem);
     clear_ring(mem);
@@ -311,10 +286,8 @@ fn reset(mem: &mut Lent<'_>)
 
 /// The phase, as the answer to `get`.
 fn get(mem: &Lent<'_>) -> Words
-    ensures answer { (p : List ℤ) (h : History) → AllLent mem.now.table.now (lent_words mem.now)
-        → IsActiveDecim p mem.now.table.now (lent_words mem.now) h → result.items ≡ pos (phase p h) ∷ [] }
-    ensures history { (p : List ℤ) (h : History) → IsActiveDecim p mem.now.table.now (lent_words mem.now) h
-        → IsActiveDecim p mem.now.table.now (lent_words mem.now) (Control Get ∷ h) }
+    ensures answer { AnswersPhase mem.now result.items }
+    ensures history { GetsDecim mem.now }
 {
     let Some(kept) = mem.read_named(Space::Saram, KEPT) else {
         return Words::new();
@@ -328,5 +301,5 @@ fn get(mem: &Lent<'_>) -> Words
 /// The law that the decimator keeps IALG's laws for all parameters, refused ones too, in a host of any poison word and
 /// in one of none. The call does nothing: its contract is the law.
 pub fn decim_is_lawful()
-    ensures { (kind : Decim) (p : List ℤ) (w : Option ℤ) → IsTrue (⟦<Decim as Ialg>⟧.law.meaning.lawful kind p w) }
+    ensures { AreAlwaysLawful ⟦<Decim as Ialg>⟧.law.meaning }
 {}

@@ -1,9 +1,8 @@
 //! The delay line of a filter: a ring of past samples in scratch words, and in the last of them the place of the next
 //! sample.
-ghost use Rattle.std.specs.Prelude.{◌≡◌, ◌↔◌, ◌≤◌, ◌+◌, ◌-◌, ◌*◌, ◌<◌, ℕ, [], length, IsTrue};
-ghost use Rattle.ialg.specs.History.{History};
+ghost use Rattle.std.specs.Prelude.{◌≡◌, ◌↔◌, ◌≤◌, ◌+◌, ◌<◌, [], length, IsTrue};
 ghost use Rattle.fir_kernel.specs.Rings.{OtherPlacesStay};
-ghost use Rattle.alg_fir.specs.Keeps.{Filters, KeepsPast, KeepsRing};
+ghost use Rattle.alg_fir.specs.Keeps.{AreWithin, Filters, RefillsRing};
 
 use fir_kernel::{FEW_SAMPLES, MOST_COEFFICIENTS, SHORT_BLOCK, enter, filter, unroll};
 use ialg::{BLOCK_SAMPLES, Block, place};
@@ -32,8 +31,7 @@ pub(crate) struct Taken {
 /// Makes the ring from past samples, the newest last, whatever it was. A ring without room for them and one more stays
 /// as it is.
 pub(crate) fn refill(past: &[i16], ring: &mut [i16])
-    ensures { (taps : ℕ) (h : History) → length past.now + 1 ≡ taps → taps ≤ MOST_COEFFICIENTS
-        → length ring.old ≡ taps - 1 + BLOCK_SAMPLES → KeepsPast taps 0 h past.now → KeepsRing taps h ring.new }
+    ensures { RefillsRing past.now ring.old ring.new }
 {
     if past.len() < MOST_COEFFICIENTS && past.len() + 1 < ring.len() {
         place(ring, 0, past);
@@ -62,7 +60,7 @@ pub(crate) fn run_block(
     requires small { length ring.old ≤ MOST_RING_WORDS }
     requires next { next + 1 < length ring.old }
     requires within { length input.now ≤ BLOCK_SAMPLES }
-    requires reach { (i : ℕ) → i < taken.count → taken.first + taken.step * i < length input.now }
+    requires reach { AreWithin taken (length input.now) }
     requires count { taken.count ≤ length input.now }
     requires empty { out.old.items ≡ [] }
     ensures count { length out.new.items ≡ taken.count }
@@ -127,7 +125,7 @@ fn run_straight(
     requires windows { next + length input.now + MOST_COEFFICIENTS ≤ length ring.old + length coefficients.now }
     requires small { length ring.old ≤ MOST_RING_WORDS }
     requires within { length input.now ≤ BLOCK_SAMPLES }
-    requires reach { (i : ℕ) → i < taken.count → taken.first + taken.step * i < length input.now }
+    requires reach { AreWithin taken (length input.now) }
     requires count { taken.count ≤ length input.now }
     requires empty { out.old.items ≡ [] }
     ensures count { length out.new.items ≡ taken.count }
@@ -166,7 +164,7 @@ fn run_line<const N: usize>(
     requires within { length input.now ≤ BLOCK_SAMPLES }
     requires line { MOST_COEFFICIENTS + length input.now ≤ N }
     requires array { N ≤ LINE_WORDS }
-    requires reach { (i : ℕ) → i < taken.count → taken.first + taken.step * i < length input.now }
+    requires reach { AreWithin taken (length input.now) }
     requires count { taken.count ≤ length input.now }
     requires empty { out.old.items ≡ [] }
     ensures count { length out.new.items ≡ taken.count }

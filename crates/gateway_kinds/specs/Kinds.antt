@@ -1,5 +1,7 @@
 -- The kinds of a gateway, each at its place in the set, and what each means.
-use Rattle.ialg.specs.Meaning.{Meaning}
+use Rattle.std.specs.Prelude.{ℤ, ◌≡◌, List}
+use Rattle.ialg.specs.History.{History}
+use Rattle.ialg.specs.Meaning.{Meaning, GivesByRule, outputs_of}
 use Rattle.ialg.specs.Filters.{FilterMeaning, meaning_of}
 use Rattle.kind_parts.specs.declared.either.Or.{Or}
 use Rattle.kind_parts.specs.declared.either.Or.TheVariants.{First, Second}
@@ -44,3 +46,13 @@ level_filter = framing_filter SUM_WORDS is_meter frame_level
 -- what each kind means
 abbrev pub kind_meaning : Meaning Kind
 kind_meaning = either_means voice_meaning (either_means (meaning_of gain_filter) (either_means (meaning_of level_filter) (meaning_of dtmf_filter)))
+
+-- the kinds of one type, at their place in the set
+module _ {A : Type 0} (kinds : Meaning Kind) (place : A → Kind) where
+  -- each gives out what it gives by its own meaning
+  abbrev pub EachGivesAs : Meaning A → Type 0
+  EachGivesAs means = (a : A) (p : List ℤ) (h : History) → outputs_of kinds (place a) p h ≡ outputs_of means a p h
+
+  -- each gives by this rule of what the newest sample gives
+  abbrev pub EachGivesBy : (List ℤ → History → List ℤ) → Type 0
+  EachGivesBy gives = (a : A) → GivesByRule kinds (place a) gives

@@ -11,20 +11,12 @@ mod level_tests;
 #[cfg(test)]
 mod name_tests;
 
-ghost use Rattle.std.specs.Prelude.{◌≡◌, ℤ, List};
-ghost use Rattle.ialg.specs.History.{History};
-ghost use Rattle.ialg.specs.Meaning.{AreAlwaysLawful, GivesByRule, outputs_of};
-ghost use Rattle.kind_parts.specs.declared.mapping.Mapped.{Mapped};
-ghost use Rattle.kind_parts.specs.declared.framing.Framed.{Framed};
-ghost use Rattle.alg_gain.specs.declared.Amplifier.{Amplifier};
+ghost use Rattle.ialg.specs.Meaning.{AreAlwaysLawful};
 ghost use Rattle.alg_gain.specs.Equation.{gain_gives};
-ghost use Rattle.alg_level.specs.declared.Meter.{Meter};
 ghost use Rattle.alg_level.specs.Equation.{level_gives};
-ghost use Rattle.alg_dtmf.specs.declared.detector.Dtmf.{Dtmf};
 ghost use Rattle.alg_dtmf.specs.Equation.{dtmf_gives};
 ghost use Rattle.voice_set.specs.Voices.{voice_meaning};
-ghost use Rattle.voice_set.specs.declared.voice.Voice.{Voice};
-ghost use Rattle.gateway_kinds.specs.Kinds.{of_voice, of_gain, of_level, of_dtmf};
+ghost use Rattle.gateway_kinds.specs.Kinds.{of_voice, of_gain, of_level, of_dtmf, EachGivesAs, EachGivesBy};
 
 use alg_dtmf::Dtmf;
 use alg_gain::Gain;
@@ -45,9 +37,8 @@ pub fn gateway_kinds_are_lawful()
 /// The law that each kind gives the outputs of its own equation: a voice what it gives among the voices, `gain` each sample times the
 /// factor in force, `level` the energy of each frame, and `dtmf` the code of each frame. The call does nothing: its contract is the law.
 pub fn gateway_kinds_give_their_equations()
-    ensures voices { (v : Voice) (p : List ℤ) (h : History)
-        → outputs_of ⟦<GatewayKind as Ialg>⟧.law.meaning (of_voice v) p h ≡ outputs_of voice_meaning v p h }
-    ensures gains { (g : Mapped Amplifier) → GivesByRule ⟦<GatewayKind as Ialg>⟧.law.meaning (of_gain g) gain_gives }
-    ensures levels { (m : Framed Meter) → GivesByRule ⟦<GatewayKind as Ialg>⟧.law.meaning (of_level m) level_gives }
-    ensures digits { (d : Dtmf) → GivesByRule ⟦<GatewayKind as Ialg>⟧.law.meaning (of_dtmf d) dtmf_gives }
+    ensures voices { EachGivesAs ⟦<GatewayKind as Ialg>⟧.law.meaning of_voice voice_meaning }
+    ensures gains { EachGivesBy ⟦<GatewayKind as Ialg>⟧.law.meaning of_gain gain_gives }
+    ensures levels { EachGivesBy ⟦<GatewayKind as Ialg>⟧.law.meaning of_level level_gives }
+    ensures digits { EachGivesBy ⟦<GatewayKind as Ialg>⟧.law.meaning of_dtmf dtmf_gives }
 {}

@@ -2,6 +2,7 @@
 use Rattle.std.specs.Prelude.{ℤ, List}
 use Rattle.mem_rec.specs.declared.MemRec.{MemRec}
 use Rattle.ialg.specs.History.{History, IsWordHistory}
+use Rattle.ialg.specs.Laws.{Laws}
 use Rattle.ialg.specs.Records.{HoldFill}
 use Rattle.voice_set.specs.Keeps as voices
 use Rattle.voice_set.specs.Kept as kept
@@ -22,6 +23,10 @@ IsActive Scribble p rs wss h = ⊥
 IsActive Clinger p rs wss h = ⊥
 IsActive Forger p rs wss h = ⊥
 IsActive Babbler p rs wss h = ⊥
+
+-- what the kinds mean, and what keeps a history of an instance of one
+abbrev pub mixed_laws : Laws Mixed
+mixed_laws = record { meaning = mixed_meaning; idle_keeps = IsIdle; active_keeps = IsActive }
 
 pub idle_words : (kind : Mixed) (p : List ℤ) (rs : List MemRec) (wss : List (List ℤ)) (h : History) → IsIdle kind p rs wss h → IsWordHistory h
 idle_words (Lawful voice) p rs wss h keeps = kept.idle_words voice p rs wss h keeps

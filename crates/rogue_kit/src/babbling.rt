@@ -1,12 +1,10 @@
 //! The rogue that gives as many samples as it likes, up to as many as it took.
-ghost use Rattle.std.specs.Prelude.{◌≡◌, ◌≤◌, ◌<◌, ◌%◌, ◌+◌, ◌+ℤ◌, [], length, pos, take};
-ghost use Rattle.std.specs.List.{All};
-ghost use Rattle.std.specs.Int.{w16, cast_unsigned, int_wrap};
+ghost use Rattle.std.specs.Prelude.{◌≡◌, ◌≤◌, ◌%◌, ◌+◌, [], length};
+ghost use Rattle.std.specs.Int.{w16, cast_unsigned};
 ghost use Rattle.ialg.specs.declared.TheConstants.{BLOCK_SAMPLES};
 ghost use Rattle.ialg.specs.History.{word_at};
-ghost use Rattle.ialg.specs.Loans.{SameLoans, WritableAt, lent_words};
-ghost use Rattle.ialg.specs.Records.{AreApart, record_at, words_of};
-ghost use Rattle.rogue_kit.specs.Writing.{MayBeWritten, block_count, CountsABlock};
+ghost use Rattle.ialg.specs.Loans.{SameLoans};
+ghost use Rattle.rogue_kit.specs.Writing.{BeginsToCount, CountsABlock, CountsOnFirst, GivesByCount, TellsCount};
 
 use crate::rogues::{KEPT, echo, fill_record, record_of};
 use ialg::{Block, Lent, Record};
@@ -24,7 +22,7 @@ fn given_samples(count: i16, samples: usize) -> usize
 /// Counts on in the first of the words, from 0 up to 65,535 and then anew: the count before.
 fn count_on(words: &mut [i16]) -> i16
     ensures count { result ≡ word_at words.old 0 }
-    ensures counted { 0 < length words.old → word_at words.new 0 ≡ int_wrap w16 (word_at words.old 0 +ℤ pos 1) }
+    ensures counted { CountsOnFirst words.old words.new }
 {
     match words.first_mut() {
         Some(place) => {
@@ -39,7 +37,7 @@ fn count_on(words: &mut [i16]) -> i16
 /// Counts a block in the kept words: the count before.
 fn count_block(mem: &mut Lent<'_>) -> i16
     ensures loans { SameLoans mem.old mem.new }
-    ensures count { AreApart mem.old.table.now → MayBeWritten mem.old 1 → result ≡ block_count mem.old }
+    ensures count { TellsCount mem.old result }
     ensures counted { CountsABlock mem.old mem.new }
 {
     let Some(kept) = record_of(mem.table(), KEPT) else {
@@ -56,9 +54,7 @@ fn count_block(mem: &mut Lent<'_>) -> i16
 /// Starts to count at 0.
 pub(crate) fn begin_to_babble(mem: &mut Lent<'_>)
     ensures loans { SameLoans mem.old mem.new }
-    ensures begun { AreApart mem.old.table.now
-        → WritableAt mem.old (record_at mem.old.table.now 1).space (record_at mem.old.table.now 1).base 1
-        → All (λ x. x ≡ pos 0) (words_of (lent_words mem.new) 1) }
+    ensures begun { BeginsToCount mem.old mem.new }
 {
     let Some(kept) = record_of(mem.table(), KEPT) else {
         return;
@@ -72,8 +68,7 @@ pub(crate) fn babble(mem: &mut Lent<'_>, input: &[i16], out: &mut Block)
     requires within { length input.now ≤ BLOCK_SAMPLES }
     ensures loans { SameLoans mem.old mem.new }
     ensures bounded { length out.new.items ≤ length input.now }
-    ensures given { AreApart mem.old.table.now → MayBeWritten mem.old 1
-        → out.new.items ≡ take (cast_unsigned w16 (block_count mem.old) % (length input.now + 1)) input.now }
+    ensures given { GivesByCount mem.old input.now out.new.items }
     ensures counted { CountsABlock mem.old mem.new }
 {
     let given = given_samples(count_block(mem), input.len());

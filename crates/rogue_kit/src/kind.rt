@@ -1,14 +1,11 @@
 //! The hosted kinds and the rogues as one kind.
-ghost use Rattle.std.specs.Prelude.{◌≡◌, ◌≤◌, ◌∷◌, ℤ, true, false, List, length, Option, IfSome, IsTrue};
+ghost use Rattle.std.specs.Prelude.{◌≡◌, ℤ, true, false, List, Option};
 ghost use Rattle.std.proofs.Common.{rules};
 ghost use Rattle.std.specs.Cmp.Rules.{comparing};
-ghost use Rattle.ialg.specs.History.{Control, History};
-ghost use Rattle.ialg.specs.Loans.{SameLoans, lent_words};
-ghost use Rattle.ialg.specs.Meaning.{status_of};
-ghost use Rattle.ialg.specs.Records.{AllLent, unplaced};
-ghost use Rattle.ialg.specs.Views.{answer_of, control_of};
-ghost use Rattle.rogue_kit.specs.Rogues.{mixed_meaning, mixed_named, is_voice, rogue_table};
-ghost use Rattle.rogue_kit.specs.Keeps.{IsIdle, IsActive, idle_words, active_words, idle_fill, active_fill};
+ghost use Rattle.ialg.specs.Loans.{SameLoans};
+ghost use Rattle.ialg.specs.Calls.{AsksForItsTable, AsksWithinItsBound, AsksWithoutBases, AsksAsDeclared, AcceptsItsControls, DoesControl};
+ghost use Rattle.rogue_kit.specs.Rogues.{mixed_meaning, mixed_named, is_voice};
+ghost use Rattle.rogue_kit.specs.Keeps.{mixed_laws, idle_words, active_words, idle_fill, active_fill};
 
 use crate::babbling::{babble, begin_to_babble};
 use crate::clinging::cling;
@@ -58,11 +55,7 @@ impl Named for Mixed {
 }
 
 impl Ialg for Mixed {
-    ghost law = { record {
-      meaning = mixed_meaning;
-      idle_keeps = IsIdle;
-      active_keeps = IsActive;
-    } };
+    ghost law = { mixed_laws };
 
     fn alg_num_alloc(&self) -> usize {
         match self {
@@ -72,15 +65,12 @@ impl Ialg for Mixed {
     }
 
     fn alg_alloc(&self, p: &Params) -> Option<MemTab>
-        ensures law { (w : Option ℤ) → IsTrue (mixed_meaning.lawful self.now p.now.items w)
-            → result ≡ mixed_meaning.table self.now p.now.items }
-        ensures bounded { (w : Option ℤ) → IsTrue (mixed_meaning.lawful self.now p.now.items w)
-            → IfSome result (λ t. length t ≤ mixed_meaning.bound self.now) }
-        ensures unplaced { (w : Option ℤ) → IsTrue (mixed_meaning.lawful self.now p.now.items w)
-            → IfSome result (λ t. unplaced t ≡ t) }
+        ensures law { AsksForItsTable mixed_meaning self.now p.now.items result }
+        ensures bounded { AsksWithinItsBound mixed_meaning self.now p.now.items result }
+        ensures unplaced { AsksWithoutBases mixed_meaning self.now p.now.items result }
 
         // What a rogue asks for too.
-        ensures declared { IsTrue (mixed_meaning.declares self.now p.now.items) → result ≡ mixed_meaning.table self.now p.now.items }
+        ensures declared { AsksAsDeclared mixed_meaning self.now p.now.items result }
     {
         match self {
             Mixed::Lawful(voice) => voice.alg_alloc(p),
@@ -144,8 +134,7 @@ impl Ialg for Mixed {
     }
 
     fn accepts(&self, p: &Params, c: &Ctl) -> bool
-        ensures law { (w : Option ℤ) → IsTrue (mixed_meaning.lawful self.now p.now.items w)
-            → result ≡ mixed_meaning.accepts self.now p.now.items (control_of c.now) }
+        ensures law { AcceptsItsControls mixed_meaning self.now p.now.items c.now result }
 
         // What a rogue takes.
         ensures rogue { is_voice self.now ≡ false → result ≡ true }
@@ -158,13 +147,7 @@ impl Ialg for Mixed {
 
     fn alg_control(&self, mem: &mut Lent<'_>, c: &Ctl) -> Status
         ensures loans { SameLoans mem.old mem.new }
-        ensures law { (p : List ℤ) (w : Option ℤ) (h : History) → IsTrue (mixed_meaning.lawful self.now p w)
-            → IsTrue (mixed_meaning.accepts self.now p (control_of c.now))
-            → mem.old.writable ≡ false
-            → AllLent mem.old.table.now (lent_words mem.old)
-            → IsActive self.now p mem.old.table.now (lent_words mem.old) h
-            → IsActive self.now p mem.old.table.now (lent_words mem.new) (Control (control_of c.now) ∷ h)
-            × (answer_of result ≡ status_of mixed_meaning self.now p h (control_of c.now)) }
+        ensures law { DoesControl mixed_laws self.now c.now result mem.old mem.new }
 
         // What a rogue answers.
         ensures rogue { is_voice self.now ≡ false → result ≡ Status.Done }

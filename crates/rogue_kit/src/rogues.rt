@@ -1,10 +1,11 @@
 //! What the rogues have in common: their records, how these are written over, and how samples are given as they came.
-ghost use Rattle.std.specs.Prelude.{◌≡◌, ◌≤◌, ℕ, [], length, MatchOption};
+ghost use Rattle.std.specs.Prelude.{◌≡◌, ◌≤◌, [], length, MatchOption};
 ghost use Rattle.std.specs.List.{All};
 ghost use Rattle.ialg.specs.declared.TheConstants.{BLOCK_SAMPLES};
-ghost use Rattle.ialg.specs.Loans.{SameLoans, WritableAt, lent_words};
-ghost use Rattle.ialg.specs.Records.{AreApart, record_at, words_of};
+ghost use Rattle.ialg.specs.Loans.{SameLoans};
+ghost use Rattle.ialg.specs.Records.{record_at};
 ghost use Rattle.rogue_kit.specs.Rogues.{rogue_table};
+ghost use Rattle.rogue_kit.specs.Writing.{FillsAt, KeepsFilled};
 
 use ialg::{Block, Lent, Record, object_record};
 use mem_rec::{Attr, LEAST_ALIGNMENT, MemRec, MemTab, Space};
@@ -75,9 +76,8 @@ fn flood(words: &mut [i16], word: i16)
 /// Writes `word` over the record that begins at `base` of `space`, where there is one that may be written.
 pub(crate) fn fill_record(mem: &mut Lent<'_>, space: Space, base: u16, word: i16)
     ensures loans { SameLoans mem.old mem.new }
-    ensures filled { (k : ℕ) → WritableAt mem.old space base k → AreApart mem.old.table.now
-        → All (λ x. x ≡ word) (words_of (lent_words mem.new) k) }
-    ensures kept { (k : ℕ) → All (λ x. x ≡ word) (words_of (lent_words mem.old) k) → All (λ x. x ≡ word) (words_of (lent_words mem.new) k) }
+    ensures filled { FillsAt word space base mem.old mem.new }
+    ensures kept { KeepsFilled word mem.old mem.new }
 {
     let Some(Record { k, words }) = mem.take(space, base) else {
         return;

@@ -13,9 +13,9 @@ ghost use Rattle.voice_set.specs.Voices.{voice_meaning};
 /// and `biquad` the difference equation at each sample, for `decim` that of `fir` at each M-th one, for `tone` a level at each frame's
 /// end, and for `g711` the code of each sample or the sample of each code. The call does nothing: its contract is the law.
 pub fn voices_give_their_equations()
-    ensures fir { GivesByRule voice_meaning Fir (λ p h. fir_output p h ∷ []) }
+    ensures fir { GivesByRule voice_meaning Fir (λ p t. fir_output p t ∷ []) }
     ensures decim { GivesByRule voice_meaning Decim decim_gives }
-    ensures biquad { GivesByRule voice_meaning Biquad (λ p h. biquad_output p h ∷ []) }
+    ensures biquad { GivesByRule voice_meaning Biquad (λ p t. biquad_output p t ∷ []) }
     ensures tone { GivesByRule voice_meaning Tone tone_gives }
     ensures g711 { GivesByRule voice_meaning G711 (λ p. given_by (coder_named p)) }
 {}
