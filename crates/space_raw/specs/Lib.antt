@@ -2,6 +2,7 @@ pub mod Marks
 pub mod Lends
 pub mod Loose
 pub mod LooseLends
+pub mod Owners
 pub mod Ownership
 pub mod Slots
 pub mod Span

@@ -20,6 +20,10 @@ pub record Scattered : Type 0 where
   pub region : Extent
   pub slots : List (Option ℤ)
 
+-- these words of the region from the place on
+abbrev pub IsSpanOf : Span → Extent → ℕ → List ℤ → Type 0
+IsSpanOf s region place ws = (s.region ≡ region) × (s.place ≡ place) × (s.words ≡ ws)
+
 -- the whole region
 abbrev pub IsWhole : Span → Type 0
 IsWhole s = (s.place ≡ 0) × (length s.words ≡ s.region.size)

@@ -66,6 +66,8 @@ impl<A: Allocator> Deed<A> {
 }
 
 impl Blank {
+    ghost use Rattle.space_raw.specs.Owners.{OwnsWords};
+
     // It stands for an owner that was moved out of its place.
     pub(crate) fn nowhere() -> Blank
         ensures none { result.len ≡ 0 }
@@ -83,7 +85,7 @@ impl Blank {
     ) -> (Words, Blank)
         requires place { (self.base ≡ base.ptr) × (self.place ≡ place) × (0 < self.len) × (place < word_limit) }
         requires before { (before.base ≡ base.ptr) × (before.place + length before.items ≡ place) }
-        ensures words { (result.0.base ≡ base.ptr) × (result.0.place ≡ before.place) × (result.0.items ≡ before.items ++ word ∷ []) }
+        ensures words { OwnsWords result.0 base.ptr before.place (before.items ++ word ∷ []) }
         ensures blank { (result.1.base ≡ base.ptr) × (result.1.place ≡ place + 1) × (result.1.len + 1 ≡ self.len) }
     {
         let Blank {} = self;

@@ -1,8 +1,7 @@
 //! The words of a region that no piece holds.
-ghost use Rattle.std.specs.Prelude.{◌≡◌, ◌<◌, ℕ, ℤ, ◌+◌, ◌≤◌, ◌++◌, List, [], Option, Some, None, map, replicate, length};
+ghost use Rattle.std.specs.Prelude.{◌≡◌, ℕ, ℤ, ◌+◌, ◌≤◌, ◌++◌, List, [], Option, Some, None, map, replicate, length};
 ghost use Rattle.std.specs.Borrow.{sem};
 ghost use denote.RawPtr.{Ptr};
-ghost use Rattle.space_raw.specs.Ownership.{word_limit};
 ghost use Rattle.space_raw.specs.Loose.{loose_owns, loose_lent};
 ghost use Rattle.space_raw.specs.Slots.{run_of, IsRun, without, with_run};
 
@@ -25,6 +24,7 @@ impl Model for Loose {
 
 impl Loose {
     ghost use Rattle.space_raw.specs.LooseLends.{lends_run};
+    ghost use Rattle.space_raw.specs.Owners.{OwnsWords, RunCanBeRead};
 
     // It stands for an owner that was moved out of its place.
     pub(crate) fn nowhere() -> Loose
@@ -43,14 +43,14 @@ impl Loose {
     }
 
     pub(crate) fn run(&self, base: Base, place: usize, len: usize) -> &[i16]
-        requires there { (base.ptr ≡ self.now.base) × IsRun self.now.slots place len × (place + len < word_limit) }
+        requires there { RunCanBeRead self.now base.ptr place len }
         ensures value { result.now ≡ run_of self.now.slots place len }
     {
         unsafe { slice::from_raw_parts(base.ptr.add(place), len) }
     }
 
     pub(crate) fn run_mut(&mut self, base: Base, place: usize, len: usize) -> &mut [i16]
-        requires there { (base.ptr ≡ self.old.base) × IsRun self.old.slots place len × (place + len < word_limit) }
+        requires there { RunCanBeRead self.old base.ptr place len }
         ensures* writes_back { sem 𝓛 (lends_run self.entry place len result) }
         ensures value { result.now ≡ run_of self.old.slots place len }
     {
@@ -59,7 +59,7 @@ impl Loose {
 
     pub(crate) fn carve(self, place: usize, len: usize) -> (Words, Loose)
         requires there { IsRun self.slots place len }
-        ensures words { (result.0.base ≡ self.base) × (result.0.place ≡ place) × (result.0.items ≡ run_of self.slots place len) }
+        ensures words { OwnsWords result.0 self.base place (run_of self.slots place len) }
         ensures loose { (result.1.base ≡ self.base) × (result.1.slots ≡ without self.slots place len) }
     {
         let Loose {} = self;

@@ -1,7 +1,7 @@
 //! A range of a region's words that is owned.
 ghost use Rattle.std.specs.Prelude.{◌≡◌, ◌+◌, ◌<◌, ◌≤◌, ◌++◌, length, take, drop, None};
 ghost use Rattle.std.specs.Borrow.{sem};
-ghost use Rattle.space_raw.specs.Span.{Adjoins, Apart, IsBack, IsFront};
+ghost use Rattle.space_raw.specs.Span.{Adjoins, Apart, IsBack, IsFront, IsSpanOf};
 ghost use Rattle.space_raw.specs.SpanLends.{lends_words};
 
 use crate::places::Places;
@@ -142,7 +142,7 @@ impl Piece {
     /// The words are copied one by one, upwards, so the two ranges may overlap.
     pub fn slide(hole: Piece, block: Piece) -> (Piece, Piece)
         requires adjoins { Adjoins hole block }
-        ensures block { (result.0.region ≡ hole.region) × (result.0.place ≡ hole.place) × (result.0.words ≡ block.words) }
+        ensures block { IsSpanOf result.0 hole.region hole.place block.words }
         ensures hole { (result.1.region ≡ hole.region) × (result.1.place ≡ hole.place + length block.words) × (length result.1.words ≡ length hole.words) }
     {
         let gap = hole.len();

@@ -16,6 +16,8 @@ impl Model for Places {
 }
 
 impl Places {
+    ghost use Rattle.space_raw.specs.Owners.{OwnsPlaces};
+
     // All places of a new region. With size 0 it stands for an owner that was moved out of its field.
     pub(crate) fn make(size: usize) -> Places
         ensures marks { result.marks ≡ replicate size true }
@@ -25,8 +27,8 @@ impl Places {
 
     // Those from a place on, and the others.
     pub(crate) fn part(self, place: usize, len: usize) -> (Places, Places)
-        ensures inner { (result.0.name ≡ self.name) × (result.0.marks ≡ within place len self.marks) × (length result.0.marks ≡ length self.marks) }
-        ensures outer { (result.1.name ≡ self.name) × (result.1.marks ≡ outside place len self.marks) × (length result.1.marks ≡ length self.marks) }
+        ensures inner { OwnsPlaces result.0 self (within place len self.marks) }
+        ensures outer { OwnsPlaces result.1 self (outside place len self.marks) }
     {
         let Places {} = self;
         (Places {}, Places {})
@@ -34,7 +36,7 @@ impl Places {
 
     pub(crate) fn unite(self, other: Places) -> Places
         requires region { (other.name ≡ self.name) × (length other.marks ≡ length self.marks) }
-        ensures both { (result.name ≡ self.name) × (result.marks ≡ union self.marks other.marks) × (length result.marks ≡ length self.marks) }
+        ensures both { OwnsPlaces result self (union self.marks other.marks) }
     {
         let Places {} = self;
         let Places {} = other;

@@ -2,7 +2,8 @@
 ghost use Rattle.std.specs.Prelude.{◌≡◌, ◌+◌, ◌<◌, ◌≤◌, [], ◌∷◌, length, map, replicate, Some, pos};
 ghost use Rattle.space_raw.specs.Marks.{range_marks};
 ghost use Rattle.space_raw.specs.Slots.{run_of, IsRun, IsAway, without, with_run};
-ghost use Rattle.space_raw.specs.Span.{IsWhole};
+ghost use Rattle.space_raw.specs.Owners.{OwnsRoom, OwnsWords};
+ghost use Rattle.space_raw.specs.Span.{IsSpanOf, IsWhole};
 
 use crate::block::Blank;
 use crate::piece::Piece;
@@ -58,8 +59,8 @@ impl Rest {
 
     // All words of a region, of which none was written.
     pub(crate) fn of_blank(base: Base, none: Words, blank: Blank, len: u32, places: Places) -> Rest
-        requires none { (none.base ≡ base.ptr) × (none.place ≡ 0) × (none.items ≡ []) }
-        requires blank { (blank.base ≡ base.ptr) × (blank.place ≡ 0) × (blank.len ≡ len) }
+        requires none { OwnsWords none base.ptr 0 [] }
+        requires blank { OwnsRoom blank base.ptr 0 len }
         requires places { places.marks ≡ range_marks len 0 len }
         ensures region { result.region ≡ record { base = base.ptr; name = places.name; size = len } }
         ensures zeros { result.slots ≡ map Some (replicate len (pos 0)) }
@@ -93,7 +94,7 @@ impl Rest {
     pub fn carve(&mut self, place: u32, len: u32) -> Piece
         requires some { 0 < len }
         requires there { IsRun self.old.slots place len }
-        ensures piece { (result.region ≡ self.old.region) × (result.place ≡ place) × (result.words ≡ run_of self.old.slots place len) }
+        ensures piece { IsSpanOf result self.old.region place (run_of self.old.slots place len) }
         ensures rest { (self.new.region ≡ self.old.region) × (self.new.slots ≡ without self.old.slots place len) }
     {
         let base = self.base;

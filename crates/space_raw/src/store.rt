@@ -2,7 +2,8 @@
 ghost use Rattle.std.specs.Prelude.{◌≡◌, ◌+◌, ◌<◌, ◌≤◌, [], ◌∷◌, length, map, replicate, Some, pos};
 ghost use Rattle.space_raw.specs.Ownership.{word_limit};
 ghost use Rattle.space_raw.specs.Slots.{run_of, IsRun, without, with_run};
-ghost use Rattle.space_raw.specs.Stores.{IsStore, slots_of};
+ghost use Rattle.space_raw.specs.Owners.{OwnsRoom, OwnsWords};
+ghost use Rattle.space_raw.specs.Stores.{IsStore, IsStoreAt, slots_of};
 
 use crate::block::Blank;
 use crate::loose::Loose;
@@ -21,7 +22,7 @@ impl Store {
     // All words of a region, which were written.
     pub(crate) fn of(words: Words, len: u32) -> Store
         requires whole { (words.place ≡ 0) × (length words.items ≡ len) }
-        ensures store { IsStore result × (result.loose.base ≡ words.base) }
+        ensures store { IsStoreAt result words.base }
         ensures slots { slots_of result ≡ map Some words.items }
     {
         let (words, blank) = words.end();
@@ -35,8 +36,8 @@ impl Store {
     // All words of a region, of which none was written.
     pub(crate) fn of_blank(none: Words, blank: Blank, len: u32) -> Store
         requires none { (none.place ≡ 0) × (none.items ≡ []) }
-        requires blank { (blank.base ≡ none.base) × (blank.place ≡ 0) × (blank.len ≡ len) }
-        ensures store { IsStore result × (result.loose.base ≡ none.base) }
+        requires blank { OwnsRoom blank none.base 0 len }
+        ensures store { IsStoreAt result none.base }
         ensures slots { slots_of result ≡ map Some (replicate len (pos 0)) }
     {
         Store {
@@ -51,7 +52,7 @@ impl Store {
     fn reach(&mut self, base: Base, end: u32)
         requires store { IsStore self.old × (base.ptr ≡ self.old.loose.base) }
         requires within { end ≤ length (slots_of self.old) }
-        ensures store { IsStore self.new × (self.new.loose.base ≡ self.old.loose.base) }
+        ensures store { IsStoreAt self.new self.old.loose.base }
         ensures reached { end ≤ self.new.written }
         ensures slots { slots_of self.new ≡ slots_of self.old }
     {
@@ -66,7 +67,7 @@ impl Store {
         requires store { IsStore self.old × (base.ptr ≡ self.old.loose.base) }
         requires more { self.old.written < end }
         requires within { end ≤ length (slots_of self.old) }
-        ensures store { IsStore self.new × (self.new.loose.base ≡ self.old.loose.base) }
+        ensures store { IsStoreAt self.new self.old.loose.base }
         ensures reached { self.new.written ≡ end }
         ensures slots { slots_of self.new ≡ slots_of self.old }
     {
@@ -84,8 +85,8 @@ impl Store {
     pub(crate) fn carve(&mut self, base: Base, place: u32, len: u32) -> Words
         requires store { IsStore self.old × (base.ptr ≡ self.old.loose.base) }
         requires there { IsRun (slots_of self.old) place len }
-        ensures store { IsStore self.new × (self.new.loose.base ≡ self.old.loose.base) }
-        ensures words { (result.base ≡ self.old.loose.base) × (result.place ≡ place) × (result.items ≡ run_of (slots_of self.old) place len) }
+        ensures store { IsStoreAt self.new self.old.loose.base }
+        ensures words { OwnsWords result self.old.loose.base place (run_of (slots_of self.old) place len) }
         ensures slots { slots_of self.new ≡ without (slots_of self.old) place len }
     {
         self.reach(base, place + len);
@@ -99,7 +100,7 @@ impl Store {
     pub(crate) fn absorb(&mut self, base: Base, words: Words, end: u32)
         requires store { IsStore self.old × (base.ptr ≡ self.old.loose.base) }
         requires inside { (words.base ≡ self.old.loose.base) × (end ≡ words.place + length words.items) × (end ≤ length (slots_of self.old)) }
-        ensures store { IsStore self.new × (self.new.loose.base ≡ self.old.loose.base) }
+        ensures store { IsStoreAt self.new self.old.loose.base }
         ensures slots { slots_of self.new ≡ with_run (slots_of self.old) words.place words.items }
     {
         self.reach(base, end);
@@ -136,7 +137,7 @@ impl Store {
     pub(crate) fn set_pair(&mut self, base: Base, place: u32, pair: (i16, i16))
         requires store { IsStore self.old × (base.ptr ≡ self.old.loose.base) }
         requires there { IsRun (slots_of self.old) place 2 }
-        ensures store { IsStore self.new × (self.new.loose.base ≡ self.old.loose.base) }
+        ensures store { IsStoreAt self.new self.old.loose.base }
         ensures slots { slots_of self.new ≡ with_run (slots_of self.old) place (pair.0 ∷ pair.1 ∷ []) }
     {
         self.reach(base, place + 2);
@@ -162,10 +163,10 @@ impl Store {
 
 // Zeros are written to the first `count` words of the blank room.
 fn zeros(base: Base, from: u32, count: u32, none: Words, blank: Blank) -> (Words, Blank)
-    requires none { (none.base ≡ base.ptr) × (none.place ≡ from) × (none.items ≡ []) }
+    requires none { OwnsWords none base.ptr from [] }
     requires blank { (blank.base ≡ base.ptr) × (blank.place ≡ from) × (count ≤ blank.len) }
     requires fits { from + count < word_limit }
-    ensures zeros { (result.0.base ≡ base.ptr) × (result.0.place ≡ from) × (result.0.items ≡ replicate count (pos 0)) }
+    ensures zeros { OwnsWords result.0 base.ptr from (replicate count (pos 0)) }
     ensures blank { (result.1.base ≡ base.ptr) × (result.1.place ≡ from + count) × (count + result.1.len ≡ blank.len) }
 {
     let mut zeros = none;

@@ -1,8 +1,8 @@
 //! The words of a region in memory. All of them are reached from the pointer to the whole allocation.
-ghost use Rattle.std.specs.Prelude.{◌≡◌, ◌<◌, ℕ, ℤ, ◌+◌, ◌*◌, ◌≤◌, List, ◌++◌, length, take, drop, ⊤};
+ghost use Rattle.std.specs.Prelude.{◌≡◌, ℕ, ℤ, ◌+◌, ◌*◌, ◌≤◌, List, ◌++◌, length, take, drop, ⊤};
 ghost use Rattle.std.specs.Borrow.{sem};
 ghost use denote.RawPtr.{Ptr};
-ghost use Rattle.space_raw.specs.Ownership.{words_own, words_lent, word_limit};
+ghost use Rattle.space_raw.specs.Ownership.{words_own, words_lent};
 
 use crate::block::Blank;
 use std::alloc::AllocError;
@@ -41,16 +41,17 @@ impl Model for Words {
 
 impl Words {
     ghost use Rattle.space_raw.specs.Lends.{lends_items};
+    ghost use Rattle.space_raw.specs.Owners.{CanBeRead, OwnsRoom, OwnsWords};
 
     pub(crate) fn slice(&self, base: Base, place: usize, len: usize) -> &[i16]
-        requires range { (base.ptr ≡ self.now.base) × (place ≡ self.now.place) × (len ≡ length self.now.items) × (place + len < word_limit) }
+        requires range { CanBeRead self.now base.ptr place len }
         ensures value { result.now ≡ self.now.items }
     {
         unsafe { slice::from_raw_parts(base.ptr.add(place), len) }
     }
 
     pub(crate) fn slice_mut(&mut self, base: Base, place: usize, len: usize) -> &mut [i16]
-        requires range { (base.ptr ≡ self.old.base) × (place ≡ self.old.place) × (len ≡ length self.old.items) × (place + len < word_limit) }
+        requires range { CanBeRead self.old base.ptr place len }
         ensures* writes_back { sem 𝓛 (lends_items self.entry result) }
         ensures value { result.now ≡ self.old.items }
     {
@@ -59,8 +60,8 @@ impl Words {
 
     pub(crate) fn split(self, n: usize) -> (Words, Words)
         requires fewer { n ≤ length self.items }
-        ensures left { (result.0.base ≡ self.base) × (result.0.place ≡ self.place) × (result.0.items ≡ take n self.items) }
-        ensures right { (result.1.base ≡ self.base) × (result.1.place ≡ self.place + n) × (result.1.items ≡ drop n self.items) }
+        ensures left { OwnsWords result.0 self.base self.place (take n self.items) }
+        ensures right { OwnsWords result.1 self.base (self.place + n) (drop n self.items) }
     {
         let Words {} = self;
         (Words {}, Words {})
@@ -68,7 +69,7 @@ impl Words {
 
     pub(crate) fn join(self, next: Words) -> Words
         requires adjoins { (next.base ≡ self.base) × (next.place ≡ self.place + length self.items) }
-        ensures words { (result.base ≡ self.base) × (result.place ≡ self.place) × (result.items ≡ self.items ++ next.items) }
+        ensures words { OwnsWords result self.base self.place (self.items ++ next.items) }
     {
         let Words {} = self;
         let Words {} = next;
@@ -78,7 +79,7 @@ impl Words {
     // The words, and the room of no words behind them.
     pub(crate) fn end(self) -> (Words, Blank)
         ensures words { result.0 ≡ self }
-        ensures blank { (result.1.base ≡ self.base) × (result.1.place ≡ self.place + length self.items) × (result.1.len ≡ 0) }
+        ensures blank { OwnsRoom result.1 self.base (self.place + length self.items) 0 }
     {
         let Words {} = self;
         (Words {}, Blank {})
