@@ -278,9 +278,9 @@ def memory_free() -> int:
 
 def keeps_proofs() -> bool:
     """Whether rt can keep beside the kit what it proved, so that another run takes it from there."""
-    kit = Path(shutil.which("rt")).resolve().parent.parent
-    store = kit.with_name(f"{kit.name}-kept")
-    return os.access(store if store.exists() else kit.parent, os.W_OK)
+    beside = Path(shutil.which("rt")).resolve().parents[2]
+    store = beside / "rattle-kept"
+    return os.access(store if store.exists() else beside, os.W_OK)
 
 
 class Ahead:

@@ -251,11 +251,11 @@ class Ahead(unittest.TestCase):
     def test_proofs_are_kept_beside_the_kit(self) -> None:
         self.put_rt("true")
         self.assertTrue(program.keeps_proofs())
-        (self.room / "kit-kept").mkdir()
+        (self.room / "rattle-kept").mkdir()
         rt = str(self.room / "kit" / "bin" / "rt")
         with mock.patch.object(program.shutil, "which", return_value=rt), mock.patch.object(program.os, "access", return_value=False) as asked:
             self.assertFalse(program.keeps_proofs())
-        asked.assert_called_once_with((self.room / "kit-kept").resolve(), os.W_OK)
+        asked.assert_called_once_with((self.room / "rattle-kept").resolve(), os.W_OK)
 
 
 if __name__ == "__main__":
