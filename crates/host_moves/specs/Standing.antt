@@ -82,8 +82,8 @@ abbrev pub SameInstances : {M : Type 0} → List (Option (Member M)) → List (O
 SameInstances instances instances' = (i : ℕ) → SlotIsSame (slot_at instances i) (slot_at instances' i)
 
 -- in a host of any poison word, or of none, blocks that nobody uses hold it still
-abbrev pub PoisonStays : {M : Type 0} → View M → View M → Type 0
-PoisonStays old new = (w : Option ℤ) → ArePoisoned w old.groups → ArePoisoned w new.groups
+abbrev pub PoisonStaysInTables : {M : Type 0} → View M → View M → Type 0
+PoisonStaysInTables old new = (w : Option ℤ) → ArePoisoned w old.groups → ArePoisoned w new.groups
 
 -- what holds of the tables and the spaces of a host: the tables are consistent, records and blocks are where the memory map shows them, and
 -- blocks that nobody uses hold the poison word

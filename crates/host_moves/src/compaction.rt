@@ -1,6 +1,6 @@
 //! Moves, as the machine's.
 ghost use Rattle.host_table.specs.Steps.{AreConsistent};
-ghost use Rattle.host_moves.specs.Standing.{MapAgrees, PoisonStays};
+ghost use Rattle.host_moves.specs.Standing.{MapAgrees, PoisonStaysInTables};
 ghost use Rattle.host_moves.specs.Moves.{FirstArePacked};
 ghost use Rattle.host_moves.specs.Hosts.{Compacted, Stepped};
 
@@ -24,7 +24,7 @@ fn step_behind<M: Ialg>(
     requires front { FirstArePacked packed.old spaces.old space }
     ensures ok { AreConsistent tables.new }
     ensures standing { MapAgrees tables.new spaces.new }
-    ensures poisoned { PoisonStays tables.old tables.new }
+    ensures poisoned { PoisonStaysInTables tables.old tables.new }
     ensures stepped { Stepped M.law space result tables.old spaces.old tables.new spaces.new }
     ensures front { FirstArePacked packed.new spaces.new space }
 {
@@ -37,7 +37,7 @@ pub fn step<M: Ialg>(tables: &mut Tables<M>, spaces: &mut Spaces, space: Space) 
     requires standing { MapAgrees tables.old spaces.old }
     ensures ok { AreConsistent tables.new }
     ensures standing { MapAgrees tables.new spaces.new }
-    ensures poisoned { PoisonStays tables.old tables.new }
+    ensures poisoned { PoisonStaysInTables tables.old tables.new }
     ensures stepped { Stepped M.law space result tables.old spaces.old tables.new spaces.new }
 {
     // of no block it is known where it belongs
@@ -54,7 +54,7 @@ pub fn compact<M: Ialg>(tables: &mut Tables<M>, spaces: &mut Spaces, space: Spac
     requires standing { MapAgrees tables.old spaces.old }
     ensures ok { AreConsistent tables.new }
     ensures standing { MapAgrees tables.new spaces.new }
-    ensures poisoned { PoisonStays tables.old tables.new }
+    ensures poisoned { PoisonStaysInTables tables.old tables.new }
     ensures machine { Compacted M.law space result tables.old spaces.old tables.new spaces.new }
 {
     in_order(spaces);
