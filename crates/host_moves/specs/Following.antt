@@ -1,5 +1,5 @@
 -- An instance that goes by the places as they are now.
-use Rattle.std.specs.Prelude.{ℕ, ℤ, ◌≡◌, List, Option}
+use Rattle.std.specs.Prelude.{ℕ, ℤ, List, Option}
 use Rattle.space_raw.specs.Span.{Span}
 use Rattle.ialg.specs.History.{History}
 use Rattle.ialg.specs.Laws.{Laws}
@@ -13,15 +13,10 @@ use Rattle.lifecycle.specs.Moves.{settled, with_back, HasRoom}
 use Rattle.lifecycle.specs.States.{ActiveKeeps, Fits, SameInstance, SameOnce, IdleKeeps}
 use Rattle.host_shared.specs.declared.locations.Locations.{Locations}
 use Rattle.host_shared.specs.Locations.{shared_at}
-use Rattle.host_shared.specs.Owners.{with_pieces_of}
 
 -- instance i, with the piece that comes back, has room where its records lie
 abbrev pub HasRoomAgain : {M : Type 0} → Instance M → Option (ℕ × Span) → ℕ → List Locations → Group → Type 0
 HasRoomAgain s back i sharing g = HasRoom (with_back s back) (shared_at sharing i) g
-
--- all stands as it did, but for the pieces that instance i sees
-abbrev pub OnlyItsPiecesChange : ℕ → List Locations → List Locations → Type 0
-OnlyItsPiecesChange i sharing sharing' = sharing' ≡ with_pieces_of sharing i (shared_at sharing' i)
 
 -- an idle instance was told, with the piece that comes back
 pub record Follows {M : Type 0} (laws : Laws M) (back : Option (ℕ × Span)) (old new : Instance M) (shared shared' : Pieces) (g : Group) : Type 0 where

@@ -6,11 +6,11 @@ ghost use Rattle.scratch_group.specs.Sharing.{IsOfSharingFilter};
 ghost use Rattle.lifecycle.specs.Moves.{CanRestore};
 ghost use Rattle.host_table.specs.Table.{slot_at, SameActivities};
 ghost use Rattle.host_shared.specs.Locations.{owner_of, shared_at};
-ghost use Rattle.host_shared.specs.Owners.{HasOwners};
+ghost use Rattle.host_shared.specs.Owners.{HasOwners, OnlyItsPiecesChange};
 ghost use Rattle.host_shared.specs.Sharing.{AreLeast};
 ghost use Rattle.host_table.specs.Steps.{AreConsistent, MembersStay, AllHistoriesStay};
 ghost use Rattle.host_table.specs.Frames.{InactiveGroupsStay};
-ghost use Rattle.host_moves.specs.Following.{ActiveFollows, HasRoomAgain, IdleFollows, OnlyItsPiecesChange};
+ghost use Rattle.host_moves.specs.Following.{ActiveFollows, HasRoomAgain, IdleFollows};
 ghost use Rattle.host_moves.specs.Waiting.{restored_at, AreConsistentBut, AreThere, CanComeBack, SharersWait, SharersWaitFrom, SlotHasRoom, WaitsNoLonger};
 
 use host_shared::{Location, Locations, borrow_pieces, give_back_pieces, next_with_owner, owner};

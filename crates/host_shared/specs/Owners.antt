@@ -6,7 +6,7 @@ use Rattle.record_loans.specs.Pieces.{IsSamePiece}
 use Rattle.host_shared.specs.declared.locations.Location.{Location}
 use Rattle.host_shared.specs.declared.locations.Location.TheVariants.{Here, At}
 use Rattle.host_shared.specs.declared.locations.Locations.{Locations}
-use Rattle.host_shared.specs.Locations.{location_at, locations_at, owner_of}
+use Rattle.host_shared.specs.Locations.{location_at, locations_at, owner_of, shared_at}
 
 -- the locations, with another one of record k
 abbrev pub with_location : Locations → ℕ → Location → Locations
@@ -27,6 +27,10 @@ put_piece sharing i k p = set_location sharing (owner_of sharing i k) k (Here p)
 -- with these pieces of instance i, each at the owner of its record
 unfoldable pub with_pieces_of : List Locations → ℕ → Pieces → List Locations
 with_pieces_of sharing i o = put_piece (put_piece (put_piece (put_piece sharing i 0 o.p0) i 1 o.p1) i 2 o.p2) i 3 o.p3
+
+-- all stands as it did, but for the pieces that instance i sees
+abbrev pub OnlyItsPiecesChange : ℕ → List Locations → List Locations → Type 0
+OnlyItsPiecesChange i sharing sharing' = sharing' ≡ with_pieces_of sharing i (shared_at sharing' i)
 
 -- the owner of record k of instance i is in the table, and the piece has its place there
 pub record HasOwner (sharing : List Locations) (i k : ℕ) : Type 0 where

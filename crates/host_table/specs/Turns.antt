@@ -112,10 +112,6 @@ pub record Ran {M : Type 0} (laws : Laws M) (input out : List ℤ) (old new : In
   pub output : (w : Option ℤ) (h : History) → IsLawful laws.meaning old w → ActiveKeeps laws old w shared g h
       → all_outputs laws.meaning old (with_samples h input) ≡ all_outputs laws.meaning old h ++ out
 
--- the pieces that instance i was lent are back at their owners
-abbrev pub PiecesAreBack : ℕ → List Locations → List Locations → Type 0
-PiecesAreBack i old new = new ≡ with_pieces_of old i (shared_at new i)
-
 -- instance i sees the same pieces, whose words may differ
 abbrev pub SeesTheSame : ℕ → List Locations → List Locations → Type 0
 SeesTheSame i old new = SamePieces (shared_at old i) (shared_at new i)

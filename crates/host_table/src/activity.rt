@@ -2,8 +2,9 @@
 ghost use Rattle.std.specs.Prelude.{◌≡◌, ◌<◌, Option, Some, IsSome, is_some};
 ghost use Rattle.lifecycle.specs.States.{FitsIn};
 ghost use Rattle.mem_rec.specs.declared.TheConstants.{GROUPS};
+ghost use Rattle.host_shared.specs.Owners.{OnlyItsPiecesChange};
 ghost use Rattle.host_table.specs.Table.{slot_at, group_at, IsActiveAt, IsIdleAt};
-ghost use Rattle.host_table.specs.Turns.{CanBeLent, Deactivated, Activated, DeactivatedSharing, PiecesAreBack};
+ghost use Rattle.host_table.specs.Turns.{CanBeLent, Deactivated, Activated, DeactivatedSharing};
 ghost use Rattle.host_table.specs.Steps.{Ready, Activates, Deactivates, DeactivatesIn};
 
 use crate::member::{active_group, idle_in, make_active, make_idle};
@@ -44,7 +45,7 @@ fn deactivate_sharing<M: Ialg>(
     poison: Option<i16>,
 )
     requires lent { CanBeLent active.old.instance sharing.old.items i group.old }
-    ensures seen { PiecesAreBack i sharing.old.items sharing.new.items }
+    ensures seen { OnlyItsPiecesChange i sharing.old.items sharing.new.items }
     ensures did { DeactivatedSharing M.law poison i active.old active.new sharing.old.items sharing.new.items group.old group.new }
 {
     let mut shared = borrow_pieces(sharing, i as usize);
@@ -63,7 +64,7 @@ fn deactivate_member<M: Ialg>(
     poison: Option<i16>,
 )
     requires lent { CanBeLent active.old.instance sharing.old.items i group.old }
-    ensures seen { PiecesAreBack i sharing.old.items sharing.new.items }
+    ensures seen { OnlyItsPiecesChange i sharing.old.items sharing.new.items }
     ensures did { DeactivatedSharing M.law poison i active.old active.new sharing.old.items sharing.new.items group.old group.new }
 {
     if is_filter(&active.instance.table) {

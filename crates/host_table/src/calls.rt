@@ -4,9 +4,10 @@ ghost use Rattle.ialg.specs.Views.{control_of, answer_of};
 ghost use Rattle.mem_rec.specs.Records.{is_table};
 ghost use Rattle.scratch_group.specs.Readers.{IsOfReader};
 ghost use Rattle.lifecycle.specs.States.{FitsIn};
+ghost use Rattle.host_shared.specs.Owners.{OnlyItsPiecesChange};
 ghost use Rattle.host_table.specs.Table.{slot_at, group_of, activity_at, newly_active_in, IsActiveAt, IsIdleAt};
 ghost use Rattle.host_table.specs.Steps.{Ready, Stays, given, GivesOut, AnswersTo, AreConsistent, ActivatesAndControls, ActivatesAndFeeds, SaysWhetherTaken};
-ghost use Rattle.host_table.specs.Turns.{CanBeLent, ActivatedAndRan, ActivatedAndRanSharing, AnswersInAnyHost, GivesOutInAnyHost, ObeysInAnyHost, PiecesAreBack, RanSharing, StepsInAnyHost};
+ghost use Rattle.host_table.specs.Turns.{CanBeLent, ActivatedAndRan, ActivatedAndRanSharing, AnswersInAnyHost, GivesOutInAnyHost, ObeysInAnyHost, RanSharing, StepsInAnyHost};
 
 use crate::member::{idle_in, make_active};
 use crate::tables::Tables;
@@ -30,7 +31,7 @@ fn run_sharing<M: Ialg>(
     requires empty { out.old.items ≡ [] }
     requires some { 1 ≤ length input.now }
     requires within { length input.now ≤ BLOCK_SAMPLES }
-    ensures seen { PiecesAreBack i sharing.old.items sharing.new.items }
+    ensures seen { OnlyItsPiecesChange i sharing.old.items sharing.new.items }
     ensures did { RanSharing M.law i input.now out.new.items active.old active.new sharing.old.items sharing.new.items group.old group.new }
 {
     let mut shared = borrow_pieces(sharing, i as usize);
@@ -57,7 +58,7 @@ fn run_reading<M: Ialg>(
     requires empty { out.old.items ≡ [] }
     requires some { 1 ≤ length input.now }
     requires within { length input.now ≤ BLOCK_SAMPLES }
-    ensures seen { PiecesAreBack i sharing.old.items sharing.new.items }
+    ensures seen { OnlyItsPiecesChange i sharing.old.items sharing.new.items }
     ensures did { RanSharing M.law i input.now out.new.items active.old active.new sharing.old.items sharing.new.items group.now group.now }
 {
     let at = owner(sharing, i as usize, ONCE);
@@ -81,7 +82,7 @@ fn run_member<M: Ialg>(
     requires empty { out.old.items ≡ [] }
     requires some { 1 ≤ length input.now }
     requires within { length input.now ≤ BLOCK_SAMPLES }
-    ensures seen { PiecesAreBack i sharing.old.items sharing.new.items }
+    ensures seen { OnlyItsPiecesChange i sharing.old.items sharing.new.items }
     ensures did { RanSharing M.law i input.now out.new.items active.old active.new sharing.old.items sharing.new.items group.old group.new }
 {
     if is_filter(&active.instance.table) {
@@ -133,7 +134,7 @@ fn activate_and_run_sharing<M: Ialg>(
     requires empty { out.old.items ≡ [] }
     requires some { 1 ≤ length input.now }
     requires within { length input.now ≤ BLOCK_SAMPLES }
-    ensures seen { PiecesAreBack i sharing.old.items sharing.new.items }
+    ensures seen { OnlyItsPiecesChange i sharing.old.items sharing.new.items }
     ensures did { ActivatedAndRanSharing M.law i input.now out.new.items idle.old idle.new sharing.old.items sharing.new.items group.old group.new }
 {
     let mut shared = borrow_pieces(sharing, i as usize);
@@ -155,7 +156,7 @@ fn activate_and_run_member<M: Ialg>(
     requires empty { out.old.items ≡ [] }
     requires some { 1 ≤ length input.now }
     requires within { length input.now ≤ BLOCK_SAMPLES }
-    ensures seen { PiecesAreBack i sharing.old.items sharing.new.items }
+    ensures seen { OnlyItsPiecesChange i sharing.old.items sharing.new.items }
     ensures did { ActivatedAndRanSharing M.law i input.now out.new.items idle.old idle.new sharing.old.items sharing.new.items group.old group.new }
 {
     if is_filter(&idle.instance.table) {

@@ -9,11 +9,12 @@ ghost use Rattle.host_shared.specs.Sharing.{left_with, next_sharer, AreLeast};
 ghost use Rattle.host_table.specs.Table.{slot_at, own_of, instance_of, active_in, IsIdleAt};
 ghost use Rattle.host_table.specs.Sharers.{AreLeastSharers, AreTogether};
 ghost use Rattle.host_shared.specs.Joining.{sharer_at};
+ghost use Rattle.host_shared.specs.Owners.{OnlyItsPiecesChange};
 ghost use Rattle.host_table.specs.Steps.{Ready, AreConsistent, HistoriesStay, WasDeactivated};
 ghost use Rattle.host_table.specs.Frames.{IsEnded, OtherSlotsStay};
 ghost use Rattle.host_table.specs.Starts.{asked_for, BeginsHistory, HasRoomWithSharers, IsStartedWithSharers, JoinsItsSharers, OtherInstancesStay, SeesItsPieces, SharedHaveNone};
 ghost use Rattle.host_table.specs.Ends.{HandsOnRecords, NextSharersAreLeast, OtherInstancesAreSame, StayTogether};
-ghost use Rattle.host_table.specs.Turns.{CanBeLent, CanBegin, WasStarted, WasFreed, IsEndedAt, PiecesAreBack, SeesTheSame, SlotCanBeLent, SlotKeepsOnce, idle_of};
+ghost use Rattle.host_table.specs.Turns.{CanBeLent, CanBegin, WasStarted, WasFreed, IsEndedAt, SeesTheSame, SlotCanBeLent, SlotKeepsOnce, idle_of};
 
 use crate::member::group_number;
 use crate::{Member, Tables};
@@ -342,7 +343,7 @@ fn end_idle<M: Ialg>(
     ensures gone { slot_at instances.new.items i ≡ None }
     ensures others { OtherSlotsStay i instances.old.items instances.new.items }
     ensures own { SamePieces (own_of (slot_at instances.old.items i)) result }
-    ensures seen { PiecesAreBack i sharing.old.items sharing.new.items }
+    ensures seen { OnlyItsPiecesChange i sharing.old.items sharing.new.items }
     ensures shared { SeesTheSame i sharing.old.items sharing.new.items }
     ensures once { SlotKeepsOnce instances.old.items i sharing.old.items sharing.new.items }
 {
