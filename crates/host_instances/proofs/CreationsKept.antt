@@ -33,7 +33,8 @@ use Rattle.host_moves.specs.Kept.{IsLiving, history_of}
 use Rattle.host_moves.specs.Hosts.{HostKeeps}
 use Rattle.host_moves.proofs.MovesKept.{still_living}
 use Rattle.host_instances.specs.Growth.{activity_grown}
-use Rattle.host_instances.specs.Started.{IsNewborn, OthersAreSame}
+use Rattle.host_instances.specs.Ends.{OtherSlotsSame}
+use Rattle.host_instances.specs.Started.{IsNewborn}
 
 living_none : {M : Type 0} (slot : Option (Member M)) (x : Option (Living M)) → IsLiving slot x → slot ≡ None → x ≡ None
 living_none None None is none = refl
@@ -85,7 +86,7 @@ module _ {M : Type 0} (laws : Laws M) (instances : List (Option (Member M))) (sh
       ∙ ap (λ (q : MemoryMap). created_map (sizes_of spaces) q i g table sharers) (sym kept.map) ∙ e
 
   module _ (instances' : List (Option (Member M))) (sharing' : List Locations) (groups' : List Group) (spaces' : Spaces)
-      (others : OthersAreSame i instances instances') (new : IsNewborn g kind p table (slot_at instances' i))
+      (others : OtherSlotsSame i instances instances') (new : IsNewborn g kind p table (slot_at instances' i))
       (activity : (k : ℕ) → activity_at groups' k ≡ activity_grown (replaces (map_of spaces) g table) groups g k)
       (keeps : Keeps laws before.poison instances' sharing' groups' (with_history (λ j. history_of (before.living j)) i []))
       (stays : AreSameSpaces spaces spaces') where

@@ -26,7 +26,7 @@ use Rattle.host_table.specs.Sharers.{sharer_in}
 use Rattle.host_table.specs.Starts.{asked_for}
 use Rattle.host_table.specs.Steps.{AreKept}
 use Rattle.host_table.specs.View.{View}
-use Rattle.host_moves.specs.Standing.{SlotIsSame, table_of}
+use Rattle.host_moves.specs.Standing.{table_of}
 use Rattle.host_instances.specs.Growth.{activity_grown}
 
 -- an idle instance of group g, of this kind, with these parameters and this table
@@ -47,10 +47,6 @@ pub record IsPlaced (spaces : Spaces) (i : ℕ) (sharers : ℕ → Option ℕ) (
   pub need : NoNeed table y
   pub records : HasRecords (map_of spaces) i table own shared
   pub pieces : ArePlacedPieces spaces table sharers own shared
-
--- all other instances are the same
-abbrev pub OthersAreSame : {M : Type 0} → ℕ → List (Option (Member M)) → List (Option (Member M)) → Type 0
-OthersAreSame i instances instances' = (j : ℕ) → j ≢ i → SlotIsSame (slot_at instances j) (slot_at instances' j)
 
 -- the new instance is in its slot, idle in its group
 abbrev pub HasNewborn : {M : Type 0} → NewInstance M → View M → Type 0

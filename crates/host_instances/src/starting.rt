@@ -11,7 +11,8 @@ ghost use Rattle.host_spaces.specs.Pieces.{AreSharable, HasBlocks, IsPoisoned};
 ghost use Rattle.host_spaces.specs.MapChanges.{AllButTheseStay, InstanceHasNone};
 ghost use Rattle.host_spaces.specs.Placing.{AreNeeded, HasNew, HasPlacedPieces, HasPlacedRecords, HasRoomForInstance, PlacesInstance};
 ghost use Rattle.host_instances.specs.Growth.{TablesAreGrown};
-ghost use Rattle.host_instances.specs.Started.{ActivityIsGrown, BeginsHistoryIn, EmptySlotsHaveNone, HasNewborn, IsPlacedFor, MapIsCreated, OthersAreSame, TakesOver};
+ghost use Rattle.host_instances.specs.Ends.{OtherSlotsSame};
+ghost use Rattle.host_instances.specs.Started.{ActivityIsGrown, BeginsHistoryIn, EmptySlotsHaveNone, HasNewborn, IsPlacedFor, MapIsCreated, TakesOver};
 ghost use Rattle.host_table.specs.Steps.{AreConsistent};
 ghost use Rattle.host_moves.specs.Standing.{MapAgrees};
 ghost use Rattle.host_table.specs.Starts.{asked_for, BeginsHistory};
@@ -115,7 +116,7 @@ pub fn start_in_spaces<M: Ialg>(
     ensures exact { MapIsCreated M.law instance.entry tables.old spaces.old spaces.new result }
     ensures refused { OnErr result ((tables.new ≡ tables.old) × (spaces.new ≡ spaces.old)) }
     ensures stays { AreSameSpaces spaces.old spaces.new }
-    ensures others { OnOk result (OthersAreSame instance.entry.number tables.old.instances tables.new.instances) }
+    ensures others { OnOk result (OtherSlotsSame instance.entry.number tables.old.instances tables.new.instances) }
     ensures newborn { OnOk result (HasNewborn instance.entry tables.new) }
     ensures activity { OnOk result (ActivityIsGrown instance.entry tables.old spaces.old tables.new) }
     ensures keeps { OnOk result (BeginsHistoryIn M.law poison instance.entry tables.old tables.new) }
