@@ -224,12 +224,13 @@ class Progress:
         return chains
 
     def chain_top(self) -> str:
-        """The highest crate of the longest chain that weighs half as much at least as all that the crate stands on and itself."""
+        """Of the crates that end at least half of the longest chain, the one for which the chain is most of what it stands on."""
         chains = self.chains()
-        at = self.left[-1]
-        while chains[at] < 0.5 * sum(self.weight[it] for it in closure(at)):
-            at = max(self.below[at], key=lambda it: chains[it])
-        return at
+        chain = [self.left[-1]]
+        while self.below[chain[-1]]:
+            chain.append(max(self.below[chain[-1]], key=lambda it: chains[it]))
+        long = [it for it in chain if chains[it] >= 0.5 * chains[chain[0]]]
+        return max(long, key=lambda it: chains[it] / sum(self.weight[below] for below in closure(it)))
 
     def seconds_left(self) -> float:
         """The most of what the processors have left to do and of the longest chain of crates left, at the pace so far."""

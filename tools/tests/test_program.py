@@ -224,7 +224,7 @@ class Ahead(unittest.TestCase):
         rt.chmod(0o755)
         self.enterContext(mock.patch.dict(os.environ, {"PATH": f"{rt.parent}:/usr/bin:/bin"}))
 
-    def test_its_crate_is_the_highest_that_is_more_chain_than_side(self) -> None:
+    def test_its_crate_is_the_highest_that_stands_on_the_chain_alone(self) -> None:
         self.assertEqual(self.progress.chain_top(), "high")
 
     def test_it_tells_what_it_proved_and_can_be_ended(self) -> None:
