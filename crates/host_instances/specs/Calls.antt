@@ -1,19 +1,12 @@
 -- A creation, a deletion and the end of all instances, as the machine's.
-use Rattle.std.specs.Prelude.{ℤ, ◌≡◌, IsTrue, List, Option, IfSome}
-use Rattle.mem_rec.specs.declared.MemRec.{MemRec}
+use Rattle.std.specs.Prelude.{ℤ, ◌≡◌, List, Option}
 use Rattle.ialg.specs.Laws.{Laws}
-use Rattle.ialg.specs.Meaning.{Meaning}
-use Rattle.ialg.specs.Records.{unplaced}
 use Rattle.host_spaces.specs.declared.spaces.Spaces.{Spaces}
 use Rattle.host_spec.specs.Calls.{Call, Does}
 use Rattle.host_spec.specs.State.{State}
 use Rattle.host_spec.specs.Steps.{closed}
 use Rattle.host_table.specs.View.{View}
 use Rattle.host_moves.specs.Hosts.{Refines}
-
--- where the kind is lawful, the records of the table that it asks for have no bases
-abbrev pub AsksUnplaced : {M : Type 0} → Meaning M → M → List ℤ → Option (List MemRec) → Type 0
-AsksUnplaced meaning kind p asked = (w : Option ℤ) → IsTrue (meaning.lawful kind p w) → IfSome asked (λ (t : List MemRec). unplaced t ≡ t)
 
 -- the machine makes this call too, in a host of this poison word or of none: from each state that tables and spaces refine before it, it leads
 -- to one that they refine after it

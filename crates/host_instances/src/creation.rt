@@ -1,11 +1,12 @@
 //! A creation, as the machine's.
 ghost use Rattle.std.specs.Prelude.{◌≡◌, ◌<◌, ℤ, length, Option, Some, OnErr, is_some};
+ghost use Rattle.ialg.specs.Calls.{AsksWithoutBases};
 ghost use Rattle.host_table.specs.Table.{slot_at, ArePoisoned};
 ghost use Rattle.host_spec.specs.Choices.{MayAsk};
 ghost use Rattle.host_spec.specs.Calls.Call.{Create};
 ghost use Rattle.host_table.specs.Steps.{AreConsistent};
 ghost use Rattle.host_moves.specs.Standing.{MapAgrees};
-ghost use Rattle.host_instances.specs.Calls.{AsksUnplaced, MachineDoes};
+ghost use Rattle.host_instances.specs.Calls.{MachineDoes};
 
 use crate::starting::start_in_spaces;
 use host_spaces::Spaces;
@@ -17,7 +18,7 @@ use mem_rec::{GROUPS, INSTANCES, MemTab};
 /// The memory that the kind asks for with these parameters, None where it refuses them.
 fn asked_for<M: Ialg>(kind: M, p: &Params) -> Option<MemTab>
     ensures allowed { (w : Option ℤ) → MayAsk M.law.meaning w kind p.now.items result }
-    ensures unplaced { AsksUnplaced M.law.meaning kind p.now.items result }
+    ensures unplaced { AsksWithoutBases M.law.meaning kind p.now.items result }
 {
     let asked = kind.alg_alloc(p);
     if let Some(table) = &asked {

@@ -18,7 +18,7 @@ abbrev pub names_owner : Location → Bool
 names_owner (Here p) = false
 names_owner (At owner) = true
 
--- the constants of no instance from one number on and below another have another owner
+-- no instance numbered from `from` up to, and not with, `to` has its constants at another owner
 abbrev pub NameNoOwner : List Locations → (from to : ℕ) → Type 0
 NameNoOwner sharing from to = (j : ℕ) → from ≤ j → j < to → names_owner (location_at (locations_at sharing j) CONSTANTS) ≡ false
 

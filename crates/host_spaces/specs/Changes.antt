@@ -1,7 +1,7 @@
 -- What a call changes in the blocks of a space.
 use Rattle.std.specs.Prelude.{ℕ, ◌≡◌, ◌≢◌, ◌+◌, ◌<◌, ◌≤◌, List, [], ◌∷◌, length, slice_index_or, Option, Some, IfSome, IsSome}
 use Rattle.std.specs.Option.{option_map}
-use Rattle.space_raw.specs.Span.{Extent, Span}
+use Rattle.space_raw.specs.Span.{Span}
 use Rattle.relocate.specs.Places.{least_place, placed_size}
 use Rattle.relocate.specs.declared.packing.Move.{Move}
 use Rattle.host_map.specs.declared.placed.Owner.{Owner}

@@ -53,8 +53,8 @@ module _ {M : Type 0} (laws : Laws M) (kind : M) where
       → AreNew w (laws.meaning.fill kind p) tab (lent_words old)
       → laws.idle_keeps kind p tab (lasting tab (lent_words new)) []
 
-  -- algActivate: what an idle instance keeps in the records that last, an active one keeps in all of them afterwards, whatever the scratch
-  -- words were
+  -- algActivate: what an idle instance keeps in the records that last, an active one keeps in all of them afterwards. The scratch words that it
+  -- finds are the poison word, or any words where the host has none
   abbrev pub PreparesScratch : (old new : Lent) → Type 0
   PreparesScratch old new = (p : List ℤ) (w : Option ℤ) (h : History) → IsTrue (laws.meaning.lawful kind p w)
       → old.writable ≡ false

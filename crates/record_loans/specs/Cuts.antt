@@ -18,6 +18,15 @@ is_shared InDaram = false
 is_shared InSaram = false
 is_shared InExternal = false
 
+-- where a record begins in what was taken for it
+abbrev pub start_of : Source → ℕ → ℕ
+start_of Absent gap = 0
+start_of Own gap = 0
+start_of Shared gap = 0
+start_of InDaram gap = gap
+start_of InSaram gap = gap
+start_of InExternal gap = gap
+
 -- the words of a cut, where the record's piece has the words o, and d, s and e are left of the blocks
 abbrev pub words_from : Source → ℕ → ℕ → List ℤ → List ℤ → List ℤ → List ℤ → List ℤ
 words_from Absent gap size o d s e = []

@@ -1,12 +1,12 @@
 -- What a plan lends of pieces and blocks.
-use Rattle.std.specs.Prelude.{ℤ, if◌then◌else◌, ◌≤◌, List, [], ◌∷◌, length, Option}
+use Rattle.std.specs.Prelude.{ℤ, if◌then◌else◌, ◌≤◌, List, length, Option}
 use Rattle.space_raw.specs.Span.{Span}
 use Rattle.record_loans.specs.declared.plan.Source.{Source}
 use Rattle.record_loans.specs.declared.plan.Plan.{Plan}
 use Rattle.record_loans.specs.declared.plan.FilterSizes.{FilterSizes}
 use Rattle.record_loans.specs.declared.plan.ReaderSizes.{ReaderSizes}
 use Rattle.record_loans.specs.declared.plan.SharingSizes.{SharingSizes}
-use Rattle.record_loans.specs.Cuts.{is_shared, cut_words, plan_words, filter_words, reader_words, sharing_words, CutsFit, PlanFits}
+use Rattle.record_loans.specs.Cuts.{is_shared, plan_words, filter_words, reader_words, sharing_words, PlanFits}
 use Rattle.record_loans.specs.declared.block.ScratchBlock.{ScratchBlock}
 use Rattle.record_loans.specs.declared.pieces.Pieces.{Pieces}
 use Rattle.record_loans.specs.Blocks.{block_words}
@@ -31,38 +31,6 @@ LentFits plan own shared d s e = PlanFits plan (length (piece_words own.p0))
 -- what a plan lends of pieces and blocks, as the plan says
 abbrev pub lent_from : Pieces → Pieces → Option ScratchBlock → Option ScratchBlock → Option ScratchBlock → Plan → List (List ℤ)
 lent_from own shared d s e plan = lent_by plan own shared d s e
-
--- the words that a plan cuts out of these pieces and out of blocks with these words
-abbrev pub cut_from : Pieces → List ℤ → List ℤ → List ℤ → Plan → List (List ℤ)
-cut_from own d s e plan = plan_words plan (piece_words own.p0) (piece_words own.p1) (piece_words own.p2) (piece_words own.p3) d s e
-
--- the words of record 0, and those that the plan cuts for the others
-abbrev pub first_words : List ℤ → Option Span → Option Span → Option Span → List ℤ → List ℤ → List ℤ → Plan → List (List ℤ)
-first_words r0 p1 p2 p3 d s e plan = r0 ∷ cut_words (plan.first ∷ plan.second ∷ plan.third ∷ []) (piece_words p1 ∷ piece_words p2 ∷ piece_words p3 ∷ []) d s e
-
--- the words of records 0 and 1, and those that the plan cuts for the others out of what is left
-abbrev pub second_words : List ℤ → List ℤ → Option Span → Option Span → List ℤ → List ℤ → List ℤ → Plan → List (List ℤ)
-second_words r0 r1 p2 p3 d s e plan = r0 ∷ r1 ∷ cut_words (plan.second ∷ plan.third ∷ []) (piece_words p2 ∷ piece_words p3 ∷ []) d s e
-
--- the words of records 0, 1 and 2, and those that the plan cuts for the last one out of what is left
-abbrev pub third_words : List ℤ → List ℤ → List ℤ → Option Span → List ℤ → List ℤ → List ℤ → Plan → List (List ℤ)
-third_words r0 r1 r2 p3 d s e plan = r0 ∷ r1 ∷ r2 ∷ cut_words (plan.third ∷ []) (piece_words p3 ∷ []) d s e
-
--- these pieces, and blocks with these words, have enough of them for a plan
-abbrev pub CutsFitIn : Pieces → List ℤ → List ℤ → List ℤ → Plan → Type 0
-CutsFitIn own d s e plan = PlanFits plan (length (piece_words own.p0)) (length (piece_words own.p1)) (length (piece_words own.p2)) (length (piece_words own.p3)) (length d) (length s) (length e)
-
--- there are enough words for the records behind record 0
-abbrev pub FirstFits : Option Span → Option Span → Option Span → List ℤ → List ℤ → List ℤ → Plan → Type 0
-FirstFits p1 p2 p3 d s e plan = CutsFit (plan.first ∷ plan.second ∷ plan.third ∷ []) (length (piece_words p1) ∷ length (piece_words p2) ∷ length (piece_words p3) ∷ []) (length d) (length s) (length e)
-
--- there are enough words for the records behind record 1
-abbrev pub SecondFits : Option Span → Option Span → List ℤ → List ℤ → List ℤ → Plan → Type 0
-SecondFits p2 p3 d s e plan = CutsFit (plan.second ∷ plan.third ∷ []) (length (piece_words p2) ∷ length (piece_words p3) ∷ []) (length d) (length s) (length e)
-
--- there are enough words for the last record
-abbrev pub ThirdFits : Option Span → List ℤ → List ℤ → List ℤ → Plan → Type 0
-ThirdFits p3 d s e plan = CutsFit (plan.third ∷ []) (length (piece_words p3) ∷ []) (length d) (length s) (length e)
 
 -- the words of each record of a filter, in its pieces and the block in `daram`
 abbrev pub filter_words_in : FilterSizes → Pieces → Option ScratchBlock → List (List ℤ)

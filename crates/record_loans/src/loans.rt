@@ -1,16 +1,16 @@
-//! Records are lent: blocks become slices, and each record is cut out of its piece or out of what is left of its block.
-ghost use Rattle.std.specs.Prelude.{◌≡◌, ◌≤◌, None};
-ghost use Rattle.record_loans.specs.Blocks.{block_words, IsSameBlock};
-ghost use Rattle.record_loans.specs.Pieces.{IsSamePiece, SamePieces};
-ghost use Rattle.record_loans.specs.Loans.{held, lent_from, cut_from, first_words, second_words, third_words, LentFits, CutsFitIn, FirstFits, SecondFits, ThirdFits, filter_words_in, reader_words_in, sharing_words_in, FilterFits, ReaderFits, SharingFits};
+//! Records are lent: what they lie in is taken for the time of a step, and each becomes a slice of it.
+ghost use Rattle.std.specs.Prelude.{◌≤◌, length, None};
+ghost use Rattle.record_loans.specs.Blocks.{IsSameBlock};
+ghost use Rattle.record_loans.specs.Pieces.{piece_words, IsSamePiece, SamePieces};
+ghost use Rattle.record_loans.specs.Loans.{lent_from, LentFits, filter_words_in, reader_words_in, sharing_words_in, FilterFits, ReaderFits, SharingFits};
+ghost use Rattle.record_loans.specs.Taken.{HasRecord, words_taken, first_words, second_words, third_words};
 ghost use Rattle.record_loans.specs.Performed.{Performed, PerformedBy};
 
 use crate::block::ScratchBlock;
 use crate::pieces::Pieces;
-use crate::plan::{FilterSizes, Plan, ReaderSizes, SharingSizes, Source};
+use crate::plan::{FilterSizes, Plan, ReaderSizes, SharingSizes};
 use ialg::{Lending, Step, lend};
 use space_raw::{Piece, end_none};
-use std::mem;
 
 /// A step that is to be performed with the records of a table, and the plan by which they are cut.
 #[derive(Drop)]
@@ -72,35 +72,22 @@ pub fn lend_with_blocks<O, S: Step<O>>(
     ensures saram { IsSameBlock saram.old saram.new }
     ensures external { IsSameBlock external.old external.new }
 {
-    swap_shared(loan.plan, own, shared);
-    lend_daram(loan, own, daram, saram, external, out);
-    swap_shared(loan.plan, own, shared);
-}
-
-/// Lets each piece that is lent to the instance and the place of its own piece change places. A second call puts them back.
-fn swap_shared(plan: &Plan, own: &mut Pieces, shared: &mut Pieces)
-    ensures p0 { own.new.p0 ≡ own.old.p0 }
-    ensures p1 { own.new.p1 ≡ held plan.now.first.source own.old.p1 shared.old.p1 }
-    ensures p2 { own.new.p2 ≡ held plan.now.second.source own.old.p2 shared.old.p2 }
-    ensures p3 { own.new.p3 ≡ held plan.now.third.source own.old.p3 shared.old.p3 }
-    ensures s0 { shared.new.p0 ≡ shared.old.p0 }
-    ensures s1 { shared.new.p1 ≡ held plan.now.first.source shared.old.p1 own.old.p1 }
-    ensures s2 { shared.new.p2 ≡ held plan.now.second.source shared.old.p2 own.old.p2 }
-    ensures s3 { shared.new.p3 ≡ held plan.now.third.source shared.old.p3 own.old.p3 }
-{
-    swap_where(plan.first.source, &mut own.p1, &mut shared.p1);
-    swap_where(plan.second.source, &mut own.p2, &mut shared.p2);
-    swap_where(plan.third.source, &mut own.p3, &mut shared.p3);
-}
-
-/// Lets the two change places where the record is cut out of the shared piece.
-fn swap_where(source: Source, own: &mut Option<Piece>, shared: &mut Option<Piece>)
-    ensures own { own.new ≡ held source own.old shared.old }
-    ensures shared { shared.new ≡ held source shared.old own.old }
-{
-    if source.is_shared() {
-        mem::swap(own, shared);
-    }
+    let plan = loan.plan;
+    let mut first = plan
+        .first
+        .take(&mut own.p1, &mut shared.p1, daram, saram, external);
+    let mut second = plan
+        .second
+        .take(&mut own.p2, &mut shared.p2, daram, saram, external);
+    let mut third = plan
+        .third
+        .take(&mut own.p3, &mut shared.p3, daram, saram, external);
+    lend_object(loan, &mut own.p0, &mut first, &mut second, &mut third, out);
+    plan.third
+        .put_back(third, &mut own.p3, &mut shared.p3, daram, saram, external);
+    plan.second.put_back(second, &mut own.p2, &mut shared.p2, daram, saram, external);
+    plan.first
+        .put_back(first, &mut own.p1, &mut shared.p1, daram, saram, external);
 }
 
 /// Performs the step with the records of a filter, out of its own pieces and the block in `daram`. Most instances are filters, and theirs
@@ -219,267 +206,121 @@ pub fn lend_reader<O, S: Step<O>>(
     }
 }
 
-/// Cuts record 0 out of its piece, and the others.
+/// Lends record 0 out of its piece, and those behind it.
 #[tactic(auto, using(crate::proofs::Parts::front_read))]
-fn cut_object<O, S: Step<O>>(
+fn lend_object<O, S: Step<O>>(
     loan: &PlannedLoan<'_, S>,
-    own: &mut Pieces,
-    daram: &mut [i16],
-    saram: &mut [i16],
-    external: &mut [i16],
+    object: &mut Option<Piece>,
+    first: &mut Option<Piece>,
+    second: &mut Option<Piece>,
+    third: &mut Option<Piece>,
     out: &mut O,
 )
     requires can { S.can loan.now.lending.now.step.now out.old }
-    requires fit { CutsFitIn own.old daram.old saram.old external.old loan.now.plan.now }
+    requires object { loan.now.plan.now.object ≤ length (piece_words object.old) }
+    requires first { HasRecord loan.now.plan.now.first first.old }
+    requires second { HasRecord loan.now.plan.now.second second.old }
+    requires third { HasRecord loan.now.plan.now.third third.old }
     ensures done { PerformedBy S.done loan.now
-        (cut_from own.old daram.old saram.old external.old)
-        (cut_from own.new daram.new saram.new external.new) out.old out.new }
-    ensures own { SamePieces own.old own.new }
+        (words_taken object.old first.old second.old third.old)
+        (words_taken object.new first.new second.new third.new) out.old out.new }
+    ensures object { IsSamePiece object.old object.new }
+    ensures first { IsSamePiece first.old first.new }
+    ensures second { IsSamePiece second.old second.new }
+    ensures third { IsSamePiece third.old third.new }
 {
-    match &mut own.p0 {
+    match object {
         Some(piece) => {
             let (object, _rest) = piece.words_mut().split_at_mut(loan.plan.object);
-            cut_first(
-                loan,
-                &mut own.p1,
-                &mut own.p2,
-                &mut own.p3,
-                daram,
-                saram,
-                external,
-                object,
-                out,
-            );
+            lend_first(loan, object, first, second, third, out);
         }
-        None => cut_first(
-            loan,
-            &mut own.p1,
-            &mut own.p2,
-            &mut own.p3,
-            daram,
-            saram,
-            external,
-            &mut [],
-            out,
-        ),
+        None => lend_first(loan, &mut [], first, second, third, out),
     }
 }
 
-/// Lends the block in `external`.
-#[inline(always)]
-fn lend_external<O, S: Step<O>>(
+/// Lends record 1 out of what was taken for it, and those behind it.
+#[tactic(auto, using(crate::proofs::Parts::part_read))]
+fn lend_first<O, S: Step<O>>(
     loan: &PlannedLoan<'_, S>,
-    own: &mut Pieces,
-    daram: &mut [i16],
-    saram: &mut [i16],
-    external: &mut Option<ScratchBlock>,
-    out: &mut O,
-)
-    requires can { S.can loan.now.lending.now.step.now out.old }
-    requires fit { CutsFitIn own.old daram.old saram.old (block_words external.old) loan.now.plan.now }
-    ensures done { PerformedBy S.done loan.now
-        (cut_from own.old daram.old saram.old (block_words external.old))
-        (cut_from own.new daram.new saram.new (block_words external.new)) out.old out.new }
-    ensures own { SamePieces own.old own.new }
-    ensures external { IsSameBlock external.old external.new }
-{
-    match external {
-        Some(block) => cut_object(loan, own, daram, saram, block.piece.words_mut(), out),
-        None => cut_object(loan, own, daram, saram, &mut [], out),
-    }
-}
-
-/// Lends the block in `saram`.
-#[inline(always)]
-fn lend_saram<O, S: Step<O>>(
-    loan: &PlannedLoan<'_, S>,
-    own: &mut Pieces,
-    daram: &mut [i16],
-    saram: &mut Option<ScratchBlock>,
-    external: &mut Option<ScratchBlock>,
-    out: &mut O,
-)
-    requires can { S.can loan.now.lending.now.step.now out.old }
-    requires fit { CutsFitIn own.old daram.old (block_words saram.old) (block_words external.old) loan.now.plan.now }
-    ensures done { PerformedBy S.done loan.now
-        (cut_from own.old daram.old (block_words saram.old) (block_words external.old))
-        (cut_from own.new daram.new (block_words saram.new) (block_words external.new)) out.old out.new }
-    ensures own { SamePieces own.old own.new }
-    ensures saram { IsSameBlock saram.old saram.new }
-    ensures external { IsSameBlock external.old external.new }
-{
-    match saram {
-        Some(block) => lend_external(loan, own, daram, block.piece.words_mut(), external, out),
-        None => lend_external(loan, own, daram, &mut [], external, out),
-    }
-}
-
-/// Lends the block in `daram`.
-#[inline(always)]
-fn lend_daram<O, S: Step<O>>(
-    loan: &PlannedLoan<'_, S>,
-    own: &mut Pieces,
-    daram: &mut Option<ScratchBlock>,
-    saram: &mut Option<ScratchBlock>,
-    external: &mut Option<ScratchBlock>,
-    out: &mut O,
-)
-    requires can { S.can loan.now.lending.now.step.now out.old }
-    requires fit { CutsFitIn own.old (block_words daram.old) (block_words saram.old) (block_words external.old) loan.now.plan.now }
-    ensures done { PerformedBy S.done loan.now
-        (cut_from own.old (block_words daram.old) (block_words saram.old) (block_words external.old))
-        (cut_from own.new (block_words daram.new) (block_words saram.new) (block_words external.new)) out.old out.new }
-    ensures own { SamePieces own.old own.new }
-    ensures daram { IsSameBlock daram.old daram.new }
-    ensures saram { IsSameBlock saram.old saram.new }
-    ensures external { IsSameBlock external.old external.new }
-{
-    match daram {
-        Some(block) => lend_saram(loan, own, block.piece.words_mut(), saram, external, out),
-        None => lend_saram(loan, own, &mut [], saram, external, out),
-    }
-}
-
-/// Cuts record 1, and those after it.
-#[tactic(auto, using(crate::proofs::Parts::part_read, crate::proofs::Parts::part_left, crate::proofs::Parts::front_read))]
-fn cut_first<O, S: Step<O>>(
-    loan: &PlannedLoan<'_, S>,
-    p1: &mut Option<Piece>,
-    p2: &mut Option<Piece>,
-    p3: &mut Option<Piece>,
-    daram: &mut [i16],
-    saram: &mut [i16],
-    external: &mut [i16],
     r0: &mut [i16],
+    first: &mut Option<Piece>,
+    second: &mut Option<Piece>,
+    third: &mut Option<Piece>,
     out: &mut O,
 )
     requires can { S.can loan.now.lending.now.step.now out.old }
-    requires fit { FirstFits p1.old p2.old p3.old daram.old saram.old external.old loan.now.plan.now }
+    requires first { HasRecord loan.now.plan.now.first first.old }
+    requires second { HasRecord loan.now.plan.now.second second.old }
+    requires third { HasRecord loan.now.plan.now.third third.old }
     ensures done { PerformedBy S.done loan.now
-        (first_words r0.old p1.old p2.old p3.old daram.old saram.old external.old)
-        (first_words r0.new p1.new p2.new p3.new daram.new saram.new external.new) out.old out.new }
-    ensures p1 { IsSamePiece p1.old p1.new }
-    ensures p2 { IsSamePiece p2.old p2.new }
-    ensures p3 { IsSamePiece p3.old p3.new }
+        (first_words r0.old first.old second.old third.old)
+        (first_words r0.new first.new second.new third.new) out.old out.new }
+    ensures first { IsSamePiece first.old first.new }
+    ensures second { IsSamePiece second.old second.new }
+    ensures third { IsSamePiece third.old third.new }
 {
-    match loan.plan.first.source {
-        Source::Absent => cut_second(loan, p2, p3, daram, saram, external, r0, &mut [], out),
-        Source::Own | Source::Shared => match p1 {
-            Some(piece) => {
-                let (r1, _rest) = piece.words_mut().split_at_mut(loan.plan.first.size);
-                cut_second(loan, p2, p3, daram, saram, external, r0, r1, out);
-            }
-            None => cut_second(loan, p2, p3, daram, saram, external, r0, &mut [], out),
-        },
-        Source::InDaram => {
-            let (_gap, rest) = daram.split_at_mut(loan.plan.first.gap);
-            let (r1, left) = rest.split_at_mut(loan.plan.first.size);
-            cut_second(loan, p2, p3, left, saram, external, r0, r1, out);
+    match first {
+        Some(piece) => {
+            let (_gap, rest) = piece.words_mut().split_at_mut(loan.plan.first.start());
+            let (r1, _rest) = rest.split_at_mut(loan.plan.first.size);
+            lend_second(loan, r0, r1, second, third, out);
         }
-        Source::InSaram => {
-            let (_gap, rest) = saram.split_at_mut(loan.plan.first.gap);
-            let (r1, left) = rest.split_at_mut(loan.plan.first.size);
-            cut_second(loan, p2, p3, daram, left, external, r0, r1, out);
-        }
-        Source::InExternal => {
-            let (_gap, rest) = external.split_at_mut(loan.plan.first.gap);
-            let (r1, left) = rest.split_at_mut(loan.plan.first.size);
-            cut_second(loan, p2, p3, daram, saram, left, r0, r1, out);
-        }
+        None => lend_second(loan, r0, &mut [], second, third, out),
     }
 }
 
-/// Cuts record 2, and those after it.
-#[tactic(auto, using(crate::proofs::Parts::part_read, crate::proofs::Parts::part_left, crate::proofs::Parts::front_read))]
-fn cut_second<O, S: Step<O>>(
+/// Lends record 2 out of what was taken for it, and the last one.
+#[tactic(auto, using(crate::proofs::Parts::part_read))]
+fn lend_second<O, S: Step<O>>(
     loan: &PlannedLoan<'_, S>,
-    p2: &mut Option<Piece>,
-    p3: &mut Option<Piece>,
-    daram: &mut [i16],
-    saram: &mut [i16],
-    external: &mut [i16],
     r0: &mut [i16],
     r1: &mut [i16],
+    second: &mut Option<Piece>,
+    third: &mut Option<Piece>,
     out: &mut O,
 )
     requires can { S.can loan.now.lending.now.step.now out.old }
-    requires fit { SecondFits p2.old p3.old daram.old saram.old external.old loan.now.plan.now }
+    requires second { HasRecord loan.now.plan.now.second second.old }
+    requires third { HasRecord loan.now.plan.now.third third.old }
     ensures done { PerformedBy S.done loan.now
-        (second_words r0.old r1.old p2.old p3.old daram.old saram.old external.old)
-        (second_words r0.new r1.new p2.new p3.new daram.new saram.new external.new) out.old out.new }
-    ensures p2 { IsSamePiece p2.old p2.new }
-    ensures p3 { IsSamePiece p3.old p3.new }
+        (second_words r0.old r1.old second.old third.old)
+        (second_words r0.new r1.new second.new third.new) out.old out.new }
+    ensures second { IsSamePiece second.old second.new }
+    ensures third { IsSamePiece third.old third.new }
 {
-    match loan.plan.second.source {
-        Source::Absent => cut_third(loan, p3, daram, saram, external, r0, r1, &mut [], out),
-        Source::Own | Source::Shared => match p2 {
-            Some(piece) => {
-                let (r2, _rest) = piece.words_mut().split_at_mut(loan.plan.second.size);
-                cut_third(loan, p3, daram, saram, external, r0, r1, r2, out);
-            }
-            None => cut_third(loan, p3, daram, saram, external, r0, r1, &mut [], out),
-        },
-        Source::InDaram => {
-            let (_gap, rest) = daram.split_at_mut(loan.plan.second.gap);
-            let (r2, left) = rest.split_at_mut(loan.plan.second.size);
-            cut_third(loan, p3, left, saram, external, r0, r1, r2, out);
+    match second {
+        Some(piece) => {
+            let (_gap, rest) = piece.words_mut().split_at_mut(loan.plan.second.start());
+            let (r2, _rest) = rest.split_at_mut(loan.plan.second.size);
+            lend_third(loan, r0, r1, r2, third, out);
         }
-        Source::InSaram => {
-            let (_gap, rest) = saram.split_at_mut(loan.plan.second.gap);
-            let (r2, left) = rest.split_at_mut(loan.plan.second.size);
-            cut_third(loan, p3, daram, left, external, r0, r1, r2, out);
-        }
-        Source::InExternal => {
-            let (_gap, rest) = external.split_at_mut(loan.plan.second.gap);
-            let (r2, left) = rest.split_at_mut(loan.plan.second.size);
-            cut_third(loan, p3, daram, saram, left, r0, r1, r2, out);
-        }
+        None => lend_third(loan, r0, r1, &mut [], third, out),
     }
 }
 
-/// Cuts record 3, and performs the step.
-#[tactic(auto, using(crate::proofs::Parts::part_read, crate::proofs::Parts::part_left, crate::proofs::Parts::front_read))]
-fn cut_third<O, S: Step<O>>(
+/// Lends record 3 out of what was taken for it, and performs the step.
+#[tactic(auto, using(crate::proofs::Parts::part_read))]
+fn lend_third<O, S: Step<O>>(
     loan: &PlannedLoan<'_, S>,
-    p3: &mut Option<Piece>,
-    daram: &mut [i16],
-    saram: &mut [i16],
-    external: &mut [i16],
     r0: &mut [i16],
     r1: &mut [i16],
     r2: &mut [i16],
+    third: &mut Option<Piece>,
     out: &mut O,
 )
     requires can { S.can loan.now.lending.now.step.now out.old }
-    requires fit { ThirdFits p3.old daram.old saram.old external.old loan.now.plan.now }
+    requires third { HasRecord loan.now.plan.now.third third.old }
     ensures done { PerformedBy S.done loan.now
-        (third_words r0.old r1.old r2.old p3.old daram.old saram.old external.old)
-        (third_words r0.new r1.new r2.new p3.new daram.new saram.new external.new) out.old out.new }
-    ensures p3 { IsSamePiece p3.old p3.new }
+        (third_words r0.old r1.old r2.old third.old)
+        (third_words r0.new r1.new r2.new third.new) out.old out.new }
+    ensures third { IsSamePiece third.old third.new }
 {
-    match loan.plan.third.source {
-        Source::Absent => lend(loan.lending, r0, r1, r2, &mut [], out),
-        Source::Own | Source::Shared => match p3 {
-            Some(piece) => {
-                let (r3, _rest) = piece.words_mut().split_at_mut(loan.plan.third.size);
-                lend(loan.lending, r0, r1, r2, r3, out);
-            }
-            None => lend(loan.lending, r0, r1, r2, &mut [], out),
-        },
-        Source::InDaram => {
-            let (_gap, rest) = daram.split_at_mut(loan.plan.third.gap);
+    match third {
+        Some(piece) => {
+            let (_gap, rest) = piece.words_mut().split_at_mut(loan.plan.third.start());
             let (r3, _rest) = rest.split_at_mut(loan.plan.third.size);
             lend(loan.lending, r0, r1, r2, r3, out);
         }
-        Source::InSaram => {
-            let (_gap, rest) = saram.split_at_mut(loan.plan.third.gap);
-            let (r3, _rest) = rest.split_at_mut(loan.plan.third.size);
-            lend(loan.lending, r0, r1, r2, r3, out);
-        }
-        Source::InExternal => {
-            let (_gap, rest) = external.split_at_mut(loan.plan.third.gap);
-            let (r3, _rest) = rest.split_at_mut(loan.plan.third.size);
-            lend(loan.lending, r0, r1, r2, r3, out);
-        }
+        None => lend(loan.lending, r0, r1, r2, &mut [], out),
     }
 }

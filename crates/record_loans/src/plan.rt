@@ -1,6 +1,6 @@
 //! Where the words of an instance's records lie.
 ghost use Rattle.std.specs.Prelude.{◌≡◌};
-ghost use Rattle.record_loans.specs.Cuts.{is_shared};
+ghost use Rattle.record_loans.specs.Cuts.{start_of};
 
 /// Where the words of a record lie.
 #[derive(Clone, Copy, PartialEq, Eq, Debug)]
@@ -19,19 +19,6 @@ pub enum Source {
     InExternal,
 }
 
-impl Source {
-    /// Whether the words lie in a piece that is lent to the instance.
-    pub fn is_shared(self) -> bool
-        ensures { result ≡ is_shared self }
-    {
-        match self {
-            Source::Shared => true,
-            Source::Absent | Source::Own | Source::InDaram | Source::InSaram | Source::InExternal =>
-                { false }
-        }
-    }
-}
-
 /// How a record is cut out of its source.
 #[derive(Clone, Copy, PartialEq, Eq, Debug)]
 pub struct Cut {
@@ -40,6 +27,18 @@ pub struct Cut {
     pub gap: usize,
     /// The words of the record.
     pub size: usize,
+}
+
+impl Cut {
+    /// Where the record begins in the words that are taken for it: behind the gap in a block, else at the start.
+    pub(crate) fn start(&self) -> usize
+        ensures { result ≡ start_of self.now.source self.now.gap }
+    {
+        match self.source {
+            Source::Absent | Source::Own | Source::Shared => 0,
+            Source::InDaram | Source::InSaram | Source::InExternal => self.gap,
+        }
+    }
 }
 
 /// How the records of an instance are cut, in table order.

@@ -65,18 +65,8 @@ impl Piece {
             .slice_mut(self.base, self.place as usize, self.len as usize)
     }
 
-    /// The first `n` words, and the others. Neither part may be empty.
+    /// The first `n` words, and the others. One of the two may have no words.
     pub fn split(self, n: u32) -> (Piece, Piece)
-        requires some { 0 < n }
-        requires fewer { n < length self.words }
-        ensures left { IsFront n self result.0 }
-        ensures right { IsBack n self result.1 }
-    {
-        self.cut(n)
-    }
-
-    // One of the two may have no words.
-    fn cut(self, n: u32) -> (Piece, Piece)
         requires fewer { n ≤ length self.words }
         ensures left { IsFront n self result.0 }
         ensures right { IsBack n self result.1 }
@@ -149,7 +139,7 @@ impl Piece {
         let count = block.len();
         let mut run = hole.join(block);
         copy_down(run.words_mut(), gap as usize, count as usize);
-        run.cut(count)
+        run.split(count)
     }
 
     /// Two pieces of one region have no word in common. Nothing happens to them, and nothing is done when it runs.

@@ -1,37 +1,117 @@
-use Rattle.std.proofs.Common.{◌≡◌}
-use Rattle.record_loans.specs.Loans.{held}
+use Rattle.record_loans.specs.declared.pieces.Pieces.{Pieces}
 use Rattle.record_loans.proofs.PieceLemmas.{reflexive}
-use Rattle.record_loans.proofs.Swaps.{held_again, own_again, shared_again}
+use Rattle.record_loans.proofs.TakenLemmas.{same_block, has_record, can_put, put_back, taken_are_lent, second_fits, third_fits}
 use Rattle.record_loans.proofs.loans.lend_with_blocks.Goals as goal
 
-pub returns-clause-done : goal.returns-clause-done
-returns-clause-done g c =
-    let there = c.swap_shared.ensures in let back = c.swap_shared-2.ensures in let lent = c.lend_daram.new.own in
-    let plan = c.args.loan.now.plan.now in let own = c.args.own.now in let shared = c.args.shared.now in
-    let own3 = c.swap_shared-2.new.own in let shared3 = c.swap_shared-2.new.shared in
-    let w1 : held plan.first.source own3.p1 shared3.p1 ≡ lent.p1 = rw (back.p1, back.s1, there.s1) (held_again plan.first.source own.p1 shared.p1 lent.p1) in
-    let w2 : held plan.second.source own3.p2 shared3.p2 ≡ lent.p2 = rw (back.p2, back.s2, there.s2) (held_again plan.second.source own.p2 shared.p2 lent.p2) in
-    let w3 : held plan.third.source own3.p3 shared3.p3 ≡ lent.p3 = rw (back.p3, back.s3, there.s3) (held_again plan.third.source own.p3 shared.p3 lent.p3) in
-    rw (back.p0, w1, w2, w3, ← there.p0, ← there.p1, ← there.p2, ← there.p3) c.lend_daram.ensures.done
+pub take-third-requires : goal.take-third-requires
+take-third-requires g c =
+    let plan = c.args.loan.now.plan.now in let own = c.args.own.now in let shared = c.args.shared.now in let fit = c.requires.fit in
+    let first = c.take-first.ensures.cut in let second = c.take-second.ensures.cut in
+    record { fit = third_fits plan own shared fit first second }
+
+pub lend_object-requires-clause-second : goal.lend_object-requires-clause-second
+lend_object-requires-clause-second g c =
+    let plan = c.args.loan.now.plan.now in let own = c.args.own.now in let shared = c.args.shared.now in let fit = c.requires.fit in
+    let first = c.take-first.ensures.cut in let second = c.take-second.ensures.cut in
+    let fit2 = second_fits plan own shared fit first in
+    has_record fit2 second
+
+pub lend_object-requires-clause-third : goal.lend_object-requires-clause-third
+lend_object-requires-clause-third g c =
+    let plan = c.args.loan.now.plan.now in let own = c.args.own.now in let shared = c.args.shared.now in let fit = c.requires.fit in
+    let first = c.take-first.ensures.cut in let second = c.take-second.ensures.cut in
+    has_record (third_fits plan own shared fit first second) c.take-third.ensures.cut
+
+pub put_back-requires : goal.put_back-requires
+put_back-requires g c =
+    let plan = c.args.loan.now.plan.now in let own = c.args.own.now in let shared = c.args.shared.now in let fit = c.requires.fit in
+    let first = c.take-first.ensures.cut in let second = c.take-second.ensures.cut in
+    let third = c.take-third.ensures.cut in let fit3 = third_fits plan own shared fit first second in let lent = c.lend_object in
+    record { can = can_put fit3 third lent.new.third _ _ _ lent.ensures.third (same_block _) (same_block _) (same_block _) }
+
+pub put_back-requires-2 : goal.put_back-requires-2
+put_back-requires-2 g c =
+    let plan = c.args.loan.now.plan.now in let own = c.args.own.now in let shared = c.args.shared.now in let fit = c.requires.fit in
+    let first = c.take-first.ensures.cut in let second = c.take-second.ensures.cut in
+    let fit2 = second_fits plan own shared fit first in
+    let third = c.take-third.ensures.cut in let fit3 = third_fits plan own shared fit first second in let lent = c.lend_object in
+    let back3 = put_back fit3 third lent.new.third _ _ _ lent.ensures.third (same_block _) (same_block _) (same_block _) c.put_back.ensures.put in
+    record { can = can_put fit2 second lent.new.second _ _ _ lent.ensures.second back3.same_daram back3.same_saram back3.same_external }
+
+pub put_back-requires-3 : goal.put_back-requires-3
+put_back-requires-3 g c =
+    let plan = c.args.loan.now.plan.now in let own = c.args.own.now in let shared = c.args.shared.now in let fit = c.requires.fit in
+    let first = c.take-first.ensures.cut in let second = c.take-second.ensures.cut in
+    let fit2 = second_fits plan own shared fit first in
+    let third = c.take-third.ensures.cut in let fit3 = third_fits plan own shared fit first second in let lent = c.lend_object in
+    let back3 = put_back fit3 third lent.new.third _ _ _ lent.ensures.third (same_block _) (same_block _) (same_block _) c.put_back.ensures.put in
+    let back2 = put_back fit2 second lent.new.second _ _ _ lent.ensures.second back3.same_daram back3.same_saram back3.same_external c.put_back-2.ensures.put in
+    record { can = can_put fit.1.0 first lent.new.first _ _ _ lent.ensures.first back2.same_daram back2.same_saram back2.same_external }
 
 pub returns-clause-own : goal.returns-clause-own
 returns-clause-own g c =
-    let there = c.swap_shared.ensures in let back = c.swap_shared-2.ensures in let lent = c.lend_daram.new.own in let same = c.lend_daram.ensures.own in
-    let plan = c.args.loan.now.plan.now in let own = c.args.own.now in let shared = c.args.shared.now in
-    record {
-      p0 = rw (back.p0, ← there.p0) same.p0;
-      p1 = rw (back.p1, there.s1) (own_again plan.first.source own.p1 shared.p1 lent.p1 (rw (← there.p1) same.p1));
-      p2 = rw (back.p2, there.s2) (own_again plan.second.source own.p2 shared.p2 lent.p2 (rw (← there.p2) same.p2));
-      p3 = rw (back.p3, there.s3) (own_again plan.third.source own.p3 shared.p3 lent.p3 (rw (← there.p3) same.p3));
-    }
+    let plan = c.args.loan.now.plan.now in let own = c.args.own.now in let shared = c.args.shared.now in let fit = c.requires.fit in
+    let first = c.take-first.ensures.cut in let second = c.take-second.ensures.cut in
+    let fit2 = second_fits plan own shared fit first in
+    let third = c.take-third.ensures.cut in let fit3 = third_fits plan own shared fit first second in let lent = c.lend_object in
+    let back3 = put_back fit3 third lent.new.third _ _ _ lent.ensures.third (same_block _) (same_block _) (same_block _) c.put_back.ensures.put in
+    let back2 = put_back fit2 second lent.new.second _ _ _ lent.ensures.second back3.same_daram back3.same_saram back3.same_external c.put_back-2.ensures.put in
+    let back1 = put_back fit.1.0 first lent.new.first _ _ _ lent.ensures.first back2.same_daram back2.same_saram back2.same_external c.put_back-3.ensures.put in
+    record { p0 = lent.ensures.object; p1 = back1.same_own; p2 = back2.same_own; p3 = back3.same_own }
 
 pub returns-clause-shared : goal.returns-clause-shared
 returns-clause-shared g c =
-    let there = c.swap_shared.ensures in let back = c.swap_shared-2.ensures in let lent = c.lend_daram.new.own in let same = c.lend_daram.ensures.own in
-    let plan = c.args.loan.now.plan.now in let own = c.args.own.now in let shared = c.args.shared.now in
-    record {
-      p0 = rw (back.s0, there.s0) (reflexive shared.p0);
-      p1 = rw (back.s1, there.s1) (shared_again plan.first.source own.p1 shared.p1 lent.p1 (rw (← there.p1) same.p1));
-      p2 = rw (back.s2, there.s2) (shared_again plan.second.source own.p2 shared.p2 lent.p2 (rw (← there.p2) same.p2));
-      p3 = rw (back.s3, there.s3) (shared_again plan.third.source own.p3 shared.p3 lent.p3 (rw (← there.p3) same.p3));
-    }
+    let plan = c.args.loan.now.plan.now in let own = c.args.own.now in let shared = c.args.shared.now in let fit = c.requires.fit in
+    let first = c.take-first.ensures.cut in let second = c.take-second.ensures.cut in
+    let fit2 = second_fits plan own shared fit first in
+    let third = c.take-third.ensures.cut in let fit3 = third_fits plan own shared fit first second in let lent = c.lend_object in
+    let back3 = put_back fit3 third lent.new.third _ _ _ lent.ensures.third (same_block _) (same_block _) (same_block _) c.put_back.ensures.put in
+    let back2 = put_back fit2 second lent.new.second _ _ _ lent.ensures.second back3.same_daram back3.same_saram back3.same_external c.put_back-2.ensures.put in
+    let back1 = put_back fit.1.0 first lent.new.first _ _ _ lent.ensures.first back2.same_daram back2.same_saram back2.same_external c.put_back-3.ensures.put in
+    record { p0 = reflexive shared.p0; p1 = back1.same_shared; p2 = back2.same_shared; p3 = back3.same_shared }
+
+pub returns-clause-daram : goal.returns-clause-daram
+returns-clause-daram g c =
+    let plan = c.args.loan.now.plan.now in let own = c.args.own.now in let shared = c.args.shared.now in let fit = c.requires.fit in
+    let first = c.take-first.ensures.cut in let second = c.take-second.ensures.cut in
+    let fit2 = second_fits plan own shared fit first in
+    let third = c.take-third.ensures.cut in let fit3 = third_fits plan own shared fit first second in let lent = c.lend_object in
+    let back3 = put_back fit3 third lent.new.third _ _ _ lent.ensures.third (same_block _) (same_block _) (same_block _) c.put_back.ensures.put in
+    let back2 = put_back fit2 second lent.new.second _ _ _ lent.ensures.second back3.same_daram back3.same_saram back3.same_external c.put_back-2.ensures.put in
+    let back1 = put_back fit.1.0 first lent.new.first _ _ _ lent.ensures.first back2.same_daram back2.same_saram back2.same_external c.put_back-3.ensures.put in
+    back1.same_daram
+
+pub returns-clause-saram : goal.returns-clause-saram
+returns-clause-saram g c =
+    let plan = c.args.loan.now.plan.now in let own = c.args.own.now in let shared = c.args.shared.now in let fit = c.requires.fit in
+    let first = c.take-first.ensures.cut in let second = c.take-second.ensures.cut in
+    let fit2 = second_fits plan own shared fit first in
+    let third = c.take-third.ensures.cut in let fit3 = third_fits plan own shared fit first second in let lent = c.lend_object in
+    let back3 = put_back fit3 third lent.new.third _ _ _ lent.ensures.third (same_block _) (same_block _) (same_block _) c.put_back.ensures.put in
+    let back2 = put_back fit2 second lent.new.second _ _ _ lent.ensures.second back3.same_daram back3.same_saram back3.same_external c.put_back-2.ensures.put in
+    let back1 = put_back fit.1.0 first lent.new.first _ _ _ lent.ensures.first back2.same_daram back2.same_saram back2.same_external c.put_back-3.ensures.put in
+    back1.same_saram
+
+pub returns-clause-external : goal.returns-clause-external
+returns-clause-external g c =
+    let plan = c.args.loan.now.plan.now in let own = c.args.own.now in let shared = c.args.shared.now in let fit = c.requires.fit in
+    let first = c.take-first.ensures.cut in let second = c.take-second.ensures.cut in
+    let fit2 = second_fits plan own shared fit first in
+    let third = c.take-third.ensures.cut in let fit3 = third_fits plan own shared fit first second in let lent = c.lend_object in
+    let back3 = put_back fit3 third lent.new.third _ _ _ lent.ensures.third (same_block _) (same_block _) (same_block _) c.put_back.ensures.put in
+    let back2 = put_back fit2 second lent.new.second _ _ _ lent.ensures.second back3.same_daram back3.same_saram back3.same_external c.put_back-2.ensures.put in
+    let back1 = put_back fit.1.0 first lent.new.first _ _ _ lent.ensures.first back2.same_daram back2.same_saram back2.same_external c.put_back-3.ensures.put in
+    back1.same_external
+
+pub returns-clause-done : goal.returns-clause-done
+returns-clause-done g c =
+    let plan = c.args.loan.now.plan.now in let own = c.args.own.now in let shared = c.args.shared.now in let fit = c.requires.fit in
+    let first = c.take-first.ensures.cut in let second = c.take-second.ensures.cut in
+    let fit2 = second_fits plan own shared fit first in
+    let third = c.take-third.ensures.cut in let fit3 = third_fits plan own shared fit first second in let lent = c.lend_object in
+    let back3 = put_back fit3 third lent.new.third _ _ _ lent.ensures.third (same_block _) (same_block _) (same_block _) c.put_back.ensures.put in
+    let back2 = put_back fit2 second lent.new.second _ _ _ lent.ensures.second back3.same_daram back3.same_saram back3.same_external c.put_back-2.ensures.put in
+    let back1 = put_back fit.1.0 first lent.new.first _ _ _ lent.ensures.first back2.same_daram back2.same_saram back2.same_external c.put_back-3.ensures.put in
+    let own_after : Pieces = record { p0 = lent.new.object; p1 = c.put_back-3.new.own; p2 = c.put_back-2.new.own; p3 = c.put_back.new.own } in
+    let shared_after : Pieces = record { p0 = shared.p0; p1 = c.put_back-3.new.shared; p2 = c.put_back-2.new.shared; p3 = c.put_back.new.shared } in
+    rw (taken_are_lent plan own shared first second third, taken_are_lent plan own_after shared_after back1.again back2.again back3.again) lent.ensures.done
