@@ -13,13 +13,11 @@ import hashlib
 import os
 import re
 import shutil
-import signal
 import subprocess
 import sys
 import tempfile
 import threading
 import time
-from contextlib import suppress
 from pathlib import Path
 
 TOP = Path(__file__).resolve().parent.parent
@@ -42,6 +40,10 @@ DISK_OCTETS = 6_000_000_000
 # From how many processors on, and with how many octets of memory free, the longest chain is proved by a run of its own.
 AHEAD_PROCESSORS = 3
 AHEAD_OCTETS = 12_000_000_000
+# What rt leaves free on the disk of what it keeps, with room for what a build adds.
+KEPT_DISK_OCTETS = 8_000_000_000
+# How long the lines of a run that was ended are waited for.
+READER_SECONDS = 5
 # Seconds of one processor: for each crate, and for each line of it. They only make the first estimate of the minutes.
 CRATE_SECONDS = 11.0
 LINE_SECONDS = 0.034
@@ -278,10 +280,11 @@ def memory_free() -> int:
 
 
 def keeps_proofs() -> bool:
-    """Whether rt can keep beside the kit what it proved, so that another run takes it from there."""
+    """Whether rt can keep beside the kit what it proved, so that another run takes it from there: it keeps nothing on a disk that is nearly full."""
     beside = Path(shutil.which("rt")).resolve().parents[2]
     store = beside / "rattle-kept"
-    return os.access(store if store.exists() else beside, os.W_OK)
+    place = store if store.exists() else beside
+    return os.access(place, os.W_OK) and shutil.disk_usage(place).free >= KEPT_DISK_OCTETS
 
 
 class Ahead:
@@ -291,26 +294,24 @@ class Ahead:
 
     def __init__(self, room: Path, crate: str, progress: Progress) -> None:
         self.ran = subprocess.Popen(
-            ["rt", "ci", crate], cwd=room, stdin=subprocess.DEVNULL, stdout=subprocess.PIPE, stderr=subprocess.STDOUT, text=True, errors="replace", start_new_session=True
+            ["rt", "ci", crate], cwd=room, stdin=subprocess.DEVNULL, stdout=subprocess.PIPE, stderr=subprocess.STDOUT, text=True, errors="replace"
         )
         self.reader = threading.Thread(target=lambda: [progress.read(line) for line in self.ran.stdout], daemon=True)
         self.reader.start()
 
     @classmethod
     def of(cls, room: Path, progress: Progress) -> Ahead | None:
-        """Such a run, where the build's own is of more than a chain and there are processors and memory for both."""
+        """Such a run, where the build's own is of more than a chain and there are processors, memory and disk for both."""
         top = progress.chain_top()
-        if top == progress.left[-1] or progress.lanes < AHEAD_PROCESSORS or memory_free() < AHEAD_OCTETS or not keeps_proofs():
-            return None
-        return cls(room, top, progress)
+        is_room = progress.lanes >= AHEAD_PROCESSORS and memory_free() >= AHEAD_OCTETS and shutil.disk_usage(room).free >= 2 * DISK_OCTETS
+        return cls(room, top, progress) if top != progress.left[-1] and is_room and keeps_proofs() else None
 
     def end(self) -> None:
         """Ends the run, if it hasn't ended."""
-        with suppress(ProcessLookupError):
-            os.killpg(self.ran.pid, signal.SIGTERM)
+        self.ran.terminate()
         self.ran.wait()
-        self.reader.join()
-        self.ran.stdout.close()
+        # what rt itself started may hold the pipe a little longer
+        self.reader.join(READER_SECONDS)
 
 
 def copy_closure(room: Path, crates: list[str]) -> None:

@@ -228,7 +228,7 @@ class Ahead(unittest.TestCase):
         self.assertEqual(self.progress.chain_top(), "high")
 
     def test_it_tells_what_it_proved_and_can_be_ended(self) -> None:
-        self.put_rt('echo "$*" > asked; echo "rt: low proved"; sleep 100')
+        self.put_rt('echo "$*" > asked; echo "rt: low proved"; exec sleep 100')
         ahead = program.Ahead(self.room, "high", self.progress)
         while len(self.said) < 2:
             time.sleep(0.01)
@@ -238,11 +238,15 @@ class Ahead(unittest.TestCase):
 
     def test_it_goes_where_it_helps(self) -> None:
         self.put_rt("true")
-        helps = {"lanes": 4, "memory": 16_000_000_000, "keeps": True}
-        for changed, goes in (({}, True), ({"lanes": 2}, False), ({"memory": 4_000_000_000}, False), ({"keeps": False}, False)):
+        helps = {"lanes": 4, "memory": 16_000_000_000, "disk": 20_000_000_000, "keeps": True}
+        for changed, goes in (({}, True), ({"lanes": 2}, False), ({"memory": 4_000_000_000}, False), ({"disk": 8_000_000_000}, False), ({"keeps": False}, False)):
             case = {**helps, **changed}
             self.progress.lanes = case["lanes"]
-            with mock.patch.object(program, "memory_free", return_value=case["memory"]), mock.patch.object(program, "keeps_proofs", return_value=case["keeps"]):
+            with (
+                mock.patch.object(program, "memory_free", return_value=case["memory"]),
+                mock.patch.object(program.shutil, "disk_usage", return_value=mock.Mock(free=case["disk"])),
+                mock.patch.object(program, "keeps_proofs", return_value=case["keeps"]),
+            ):
                 ahead = program.Ahead.of(self.room, self.progress)
             if ahead:
                 ahead.end()
@@ -256,6 +260,11 @@ class Ahead(unittest.TestCase):
         with mock.patch.object(program.shutil, "which", return_value=rt), mock.patch.object(program.os, "access", return_value=False) as asked:
             self.assertFalse(program.keeps_proofs())
         asked.assert_called_once_with((self.room / "rattle-kept").resolve(), os.W_OK)
+
+    def test_nothing_is_kept_on_a_disk_that_is_nearly_full(self) -> None:
+        self.put_rt("true")
+        with mock.patch.object(program.shutil, "disk_usage", return_value=mock.Mock(free=5_000_000_000)):
+            self.assertFalse(program.keeps_proofs())
 
 
 if __name__ == "__main__":

@@ -1,66 +1,7 @@
-//! What is said on the standard error where it is asked for: why lines were refused, and why a file failed.
-use arrayvec::ArrayVec;
+//! Why a file failed, said on the standard error where that is asked for.
 use dsp_arguments::Arguments;
 use dsp_console::Fault;
-use octet_ports::LINE_FEED;
 use port_files::{Role, Trouble, Troubles};
-use script_server::{Reason, Shown, Unanswered};
-
-/// The most octets of a reply that are kept: no refusal has more.
-const KEPT_OCTETS: usize = 16;
-
-/// Tells of each refused line why. It sees what is read of SCRIPT and what is replied.
-#[derive(Drop)]
-pub(crate) struct Explainer<'e, R> {
-    rt: &'e R,
-    /// The path of SCRIPT.
-    script: &'e str,
-    channels: u8,
-    lines: Unanswered,
-    /// The first octets of the reply that isn't whole yet.
-    reply: ArrayVec<u8, KEPT_OCTETS>,
-}
-
-impl<'e, R: Eprint> Explainer<'e, R> {
-    /// Nothing was read and replied yet.
-    pub(crate) fn new(rt: &'e R, arguments: &Arguments<'e>) -> Self {
-        Explainer {
-            rt,
-            script: arguments.script,
-            channels: arguments.ports.len() as u8,
-            lines: Unanswered::new(),
-            reply: ArrayVec::new(),
-        }
-    }
-
-    /// Takes octets of SCRIPT that were read.
-    pub(crate) fn read(&mut self, octets: &[u8]) {
-        self.lines.read(octets);
-    }
-
-    /// Takes octets of the replies that were put.
-    pub(crate) fn put(&mut self, octets: &[u8]) {
-        for octet in octets {
-            if *octet == LINE_FEED {
-                self.end_reply();
-            } else {
-                let _fits = self.reply.try_push(*octet);
-            }
-        }
-    }
-
-    /// Tells why the line of the reply was refused, if it was.
-    fn end_reply(&mut self) {
-        let reply = self.reply.as_slice();
-        if let Some(line) = self.lines.next()
-            && let Some(reason) = Reason::of(line.octets, reply, self.channels)
-        {
-            let (number, text, reply) = (line.number, Shown(line.octets), Shown(reply));
-            let _ = eprintln!(self.rt; "{}:{number}: {text}: {reply}: {reason}", self.script);
-        }
-        self.reply.clear();
-    }
-}
 
 /// The path of the file of this role, which the standard output hasn't.
 fn path_of<'a>(arguments: &Arguments<'a>, role: Role) -> Option<&'a str> {

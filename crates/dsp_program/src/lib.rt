@@ -3,7 +3,6 @@
 #![tactic(auto)]
 
 mod explaining;
-mod ports;
 mod serving;
 mod starting;
 

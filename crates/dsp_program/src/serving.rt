@@ -2,13 +2,13 @@
 ghost use Rattle.std.specs.Prelude.{◌≡◌, ◌+◌, ◌≤◌, [], false, length, map, All, IfOk, IsOk};
 ghost use Rattle.script_server.specs.Runs.{IsReadyIn, IsReadyOut};
 
-use crate::explaining::{Explainer, explain_fault};
-use crate::ports::{Listener, ReplyPort, ScriptPort};
+use crate::explaining::explain_fault;
 use dsp_arguments::Arguments;
 use dsp_console::{CHANNELS, Config, Fault, PortIn, PortOut, Reading, Summary, run};
 use ialg::{Ialg, Named};
 use octet_ports::{Journal, JournalOutput, JournalReplies, Marks, Passing, pass_on_all};
 use port_files::{InFile, OpenFault, OutFile, ReplyFile, Role, RunFiles, Troubles};
+use script_server::{Explainer, Listener, ReplyPort, ScriptPort};
 use std::alloc::Global;
 use std::cell::RefCell;
 use std::fs::Files;
@@ -116,17 +116,17 @@ fn serve_ports<M: Ialg + Named, R: Eprint + AllocGlobal, S: PortIn, I: PortIn, W
 /// through a journal.
 ///
 /// A call of its own: made behind a call that may fail, the journal would have all its room cleared twice.
-fn serve_pairs<'t, 'p, M: Ialg + Named, R: Files + Print + Eprint + AllocGlobal>(
+fn serve_pairs<'t, 'p, 'l, 'e, M: Ialg + Named, R: Files + Print + Eprint + AllocGlobal>(
     rt: &R,
     arguments: &Arguments<'p>,
     files: &mut RunFiles<'t, 'p, R>,
     listener: Listener<'_, '_, R>,
     marks: Marks,
     passing: Passing,
-    script: &mut ScriptPort<'t, '_, '_, R>,
+    script: &mut ScriptPort<'l, 'e, R, Reading<InFile<'t, R::File>>>,
 ) -> Result<Summary, Fault>
     requires some { 1 ≤ length arguments.now.ports.items }
-    requires ready { script.old.failed ≡ false }
+    requires ready { (⟦<ScriptPort<'l, 'e, R, Reading<InFile<'t, R::File>>> as PortIn>⟧.source script.old).failed ≡ false }
     requires none { marks.items ≡ [] }
 {
     let replies = ReplyFile::new(io::writer(rt), files.troubles());
@@ -172,7 +172,7 @@ fn serve_files<'p, M: Ialg + Named, R: Files + Print + Eprint + AllocGlobal>(
     } else {
         Passing::EachLine
     };
-    let mut script = ScriptPort::new(file, listener);
+    let mut script = ScriptPort::new(Reading::new(file), listener);
     let ended = serve_pairs::<M, R>(rt, arguments, files, listener, marks, passing, &mut script);
     *begun = script.has_begun();
     ended
@@ -212,7 +212,7 @@ fn serve_explained<M: Ialg + Named, R: Files + Print + Eprint + AllocGlobal>(
 ) -> Result<Summary, Fault>
     requires { 1 ≤ length arguments.now.ports.items }
 {
-    let explainer = RefCell::new(Explainer::new(rt, arguments));
+    let explainer = RefCell::new(Explainer::new(rt, arguments.script, arguments.ports.len() as u8));
     serve_heard::<M, R>(rt, arguments, Some(&explainer))
 }
 

@@ -3,6 +3,8 @@
 //! words for people, which a reply says by a number and a name.
 #![tactic(auto)]
 
+mod explainer;
+mod heard;
 mod limits;
 mod line;
 mod numbers;
@@ -12,6 +14,8 @@ mod shown;
 mod unanswered;
 mod verbs;
 
+pub use explainer::Explainer;
+pub use heard::{Listener, ReplyPort, ScriptPort};
 pub use limits::SCRIPT_OCTETS;
 pub use reasons::Reason;
 pub use serving::{PortsFault, serve};

@@ -1,55 +1,44 @@
-//! The ports of a run that someone may listen to, to explain what was refused.
-ghost use Rattle.std.specs.Prelude.{◌≡◌, None, false};
-ghost use Rattle.octet_ports.specs.Ports.{source_of};
+//! The script and the replies, where someone may listen to explain what is refused.
+ghost use Rattle.std.specs.Prelude.{◌≡◌};
 
-use crate::explaining::Explainer;
+use crate::explainer::Explainer;
 use octet_ports::{PortFault, PortIn, PortOut};
-use port_files::InFile;
 use std::cell::RefCell;
-use std::fs::Files;
-use std::io::Read;
 
 /// Who is told of what is read and replied, if anyone.
-pub(crate) type Listener<'l, 'e, R> = Option<&'l RefCell<Explainer<'e, R>>>;
+pub type Listener<'l, 'e, R> = Option<&'l RefCell<Explainer<'e, R>>>;
 
-/// SCRIPT, which the run itself reads ahead.
+/// The script, out of a port.
 #[derive(Drop)]
-pub(crate) struct ScriptPort<'t, 'l, 'e, R: Files> {
-    file: InFile<'t, R::File>,
+pub struct ScriptPort<'l, 'e, R, P> {
+    script: P,
     listener: Listener<'l, 'e, R>,
     begun: bool,
-    failed: bool,
 }
 
-impl<'t, 'l, 'e, R: Files + Eprint> ScriptPort<'t, 'l, 'e, R> {
+impl<'l, 'e, R: Eprint, P: PortIn> ScriptPort<'l, 'e, R, P> {
     /// Nothing was read of it yet.
-    pub(crate) fn new(file: InFile<'t, R::File>, listener: Listener<'l, 'e, R>) -> Self
-        ensures { result.failed ≡ false }
+    pub fn new(script: P, listener: Listener<'l, 'e, R>) -> Self
+        ensures { ⟦<ScriptPort<'l, 'e, R, P> as PortIn>⟧.source result ≡ P.source script }
     {
         ScriptPort {
-            file,
+            script,
             listener,
             begun: false,
-            failed: false,
         }
     }
 
     /// Whether something was read of it, be it that it is empty.
-    pub(crate) fn has_begun(&self) -> bool
-        ensures { result ≡ self.now.begun }
-    {
+    pub fn has_begun(&self) -> bool {
         self.begun
     }
 }
 
-impl<R: Files + Eprint> PortIn for ScriptPort<'_, '_, '_, R> {
-    ghost source = { λ port. source_of None port.failed };
+impl<R: Eprint, P: PortIn> PortIn for ScriptPort<'_, '_, R, P> {
+    ghost source = { λ port. P.source port.script };
 
     fn get(&mut self, buffer: &mut [u8]) -> Result<usize, PortFault> {
-        let Ok(count) = self.file.read(buffer) else {
-            self.failed = true;
-            return Err(PortFault);
-        };
+        let count = self.script.get(buffer)?;
         self.begun = true;
         if let Some(listener) = self.listener
             && let Ok(mut listener) = listener.try_borrow_mut()
@@ -60,21 +49,21 @@ impl<R: Files + Eprint> PortIn for ScriptPort<'_, '_, '_, R> {
     }
 
     fn failed(&self) -> bool {
-        self.failed
+        self.script.failed()
     }
 }
 
-/// The replies.
+/// The replies, into a port.
 #[derive(Drop)]
-pub(crate) struct ReplyPort<'l, 'e, R, P> {
+pub struct ReplyPort<'l, 'e, R, P> {
     replies: P,
     listener: Listener<'l, 'e, R>,
 }
 
 impl<'l, 'e, R: Eprint, P: PortOut> ReplyPort<'l, 'e, R, P> {
     /// They go to this port.
-    pub(crate) fn new(replies: P, listener: Listener<'l, 'e, R>) -> Self
-        ensures { (P.sink result.replies).failed ≡ (P.sink replies).failed }
+    pub fn new(replies: P, listener: Listener<'l, 'e, R>) -> Self
+        ensures { ⟦<ReplyPort<'l, 'e, R, P> as PortOut>⟧.sink result ≡ P.sink replies }
     {
         ReplyPort { replies, listener }
     }
