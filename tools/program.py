@@ -42,6 +42,8 @@ AHEAD_PROCESSORS = 3
 AHEAD_OCTETS = 12_000_000_000
 # What rt leaves free on the disk of what it keeps, with room for what a build adds.
 KEPT_DISK_OCTETS = 8_000_000_000
+# How far the build's own run yields to it.
+YIELDS = "10"
 # How long the lines of a run that was ended are waited for.
 READER_SECONDS = 5
 # Seconds of one processor: for each crate, and for each line of it. They only make the first estimate of the minutes.
@@ -345,9 +347,11 @@ def make_archive(made: Path, room: Path, crates: list[str], log: Path) -> None:
         raise CantBuild(f"not built: rattle build ended with status {status}, and all that it said is in {log}", NOT_BUILT)
 
 
-def run_rt(room: Path, progress: Progress, log: Path, say) -> int:
-    """Runs `rt ci` over the copy of a program's crates, and answers its status. All that it says is kept in the log."""
-    asked = subprocess.Popen(["rt", "ci"], cwd=room, stdin=subprocess.DEVNULL, stdout=subprocess.PIPE, stderr=subprocess.STDOUT, text=True, errors="replace")
+def run_rt(room: Path, progress: Progress, log: Path, yields: bool, say) -> int:
+    """Runs `rt ci` over the copy of a program's crates, and answers its status. All that it says is kept in the log. It may yield the
+    processors to a run for the longest chain."""
+    command = ["nice", "-n", YIELDS, "rt", "ci"] if yields else ["rt", "ci"]
+    asked = subprocess.Popen(command, cwd=room, stdin=subprocess.DEVNULL, stdout=subprocess.PIPE, stderr=subprocess.STDOUT, text=True, errors="replace")
     with open(log, "w", encoding="utf-8") as kept, asked as ran:
         for line in ran.stdout:
             kept.write(line)
@@ -375,7 +379,7 @@ def build(say, name: str = NAME) -> None:
         copy_closure(room, crates)
         ahead = Ahead.of(room, progress)
         try:
-            status = run_rt(room, progress, log, say)
+            status = run_rt(room, progress, log, ahead is not None, say)
         finally:
             if ahead:
                 ahead.end()
