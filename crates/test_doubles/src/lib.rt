@@ -10,15 +10,11 @@
 #![tactic(auto)]
 
 mod device;
-#[cfg(test)]
-mod kind_tests;
 mod metered;
 mod primed;
 mod scribbler;
 mod slicer;
 mod starts;
-#[cfg(test)]
-mod tests;
 
 pub use device::{HELD_OCTETS, Shaky};
 use ialg::OBJECT_WORDS;

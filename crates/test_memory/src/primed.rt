@@ -1,14 +1,13 @@
-//! What no clause says: that starts succeed, the words of the records, and the calls of a primed instance one after the
-//! other.
+//! What no clause of a primed instance says: that starts succeed, the words of its records, and its calls one after the other.
 ghost use Rattle.std.specs.Prelude.{⊤};
 
-use crate::{
-    Active, Held, ONCE_BASE, PRIMED_RECORDS, Primed, activate_in_poison, give_sample,
-    start_in_poison, start_with_fill,
-};
 use ialg::{Block, Ctl, Ialg, Lending, Lent, PARAMETER_WORDS, Status, Step, Words, copied, lend};
 use mem_rec::{Attr, MemTab, Space};
 use std::process::Abort;
+use test_doubles::{
+    Active, Held, ONCE_BASE, PRIMED_RECORDS, Primed, activate_in_poison, give_sample,
+    start_in_poison, start_with_fill,
+};
 
 const POISON: i16 = 21845;
 

@@ -1,7 +1,6 @@
-//! What no clause says: what is counted, and which request is refused.
-
-use crate::Metered;
+//! What no clause of the allocator says by which the tests count: what is counted, and which request is refused.
 use std::test::Fail;
+use test_doubles::Metered;
 
 #[test]
 fn requests_and_returns_are_counted(rt: HostRuntime) -> Result<(), Fail> {
