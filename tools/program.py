@@ -46,10 +46,6 @@ KEPT_DISK_OCTETS = 8_000_000_000
 YIELDS = "10"
 # How long the lines of a run that was ended are waited for.
 READER_SECONDS = 5
-# What the clang of the kit is asked for beside what rattle asks, where it compiles an archive: no jump crosses or ends at a border of 32 octets.
-# Intel's processors from Skylake to Cascade Lake decode such a jump anew each time (their erratum on jump conditional code), which is a fifth of
-# the shortest feeds. The instructions are the same; some get a prefix without a meaning.
-ARCHIVE_OPTIONS = {"CCC_OVERRIDE_OPTIONS": "#+-mbranches-within-32B-boundaries"}
 # Seconds of one processor: for each crate, and for each line of it. They only make the first estimate of the minutes.
 CRATE_SECONDS = 11.0
 LINE_SECONDS = 0.034
@@ -346,7 +342,7 @@ def make_archive(made: Path, room: Path, crates: list[str], log: Path) -> None:
     words += ["--antt-project", f"{kit}/rattle/logic/antt-project.json", "--logic-built", f"{kit}/logic_built", "--toolchain", f"{kit}/toolchain", "-o", str(made)]
     made.parent.mkdir(exist_ok=True)
     with open(log, "a", encoding="utf-8") as kept:
-        status = subprocess.run(words, cwd=room / "crates" / name, env={**os.environ, **ARCHIVE_OPTIONS}, stdin=subprocess.DEVNULL, stdout=kept, stderr=subprocess.STDOUT).returncode
+        status = subprocess.run(words, cwd=room / "crates" / name, stdin=subprocess.DEVNULL, stdout=kept, stderr=subprocess.STDOUT).returncode
     if status:
         raise CantBuild(f"not built: rattle build ended with status {status}, and all that it said is in {log}", NOT_BUILT)
 
