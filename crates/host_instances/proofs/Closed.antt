@@ -62,12 +62,12 @@ pub record IsClosing {M : Type 0} (laws : Laws M) (instances : List (Option (Mem
 module _ {M : Type 0} (laws : Laws M) (instances : List (Option (Member M))) (sharing : List Locations) (groups : List Group) (spaces : Spaces)
     (w : Option ℤ) (before : State M) where
   pub closing_next : (n : ℕ) (answer : Result (Unit {0}) Refusal) (after : State M) → (without_first laws.meaning before n).poison ≡ w
-      → ◌≡◌ {A = Outcome M (Unit {0})} (answer, after) (delete laws.meaning (without_first laws.meaning before n) n)
+      → ◌≡◌ {A = Outcome (State M) (Unit {0})} (answer, after) (delete laws.meaning (without_first laws.meaning before n) n)
       → HostKeeps laws instances sharing groups spaces after
       → IsClosing laws instances sharing groups spaces (n + 1) w before
   closing_next n answer after poison does kept =
       let now = without_first laws.meaning before n in
-      let is : after ≡ without_first laws.meaning before (n + 1) = ap (λ (o : Outcome M (Unit {0})). o.1) does ∙ sym (without_next laws.meaning before n) in
+      let is : after ≡ without_first laws.meaning before (n + 1) = ap (λ (o : Outcome (State M) (Unit {0})). o.1) does ∙ sym (without_next laws.meaning before n) in
       record {
         poison = ap (λ (s : State M). s.poison) (without_next laws.meaning before n) ∙ (delete_keeps n now laws.meaning).host.poison ∙ poison;
         kept = subst (HostKeeps laws instances sharing groups spaces) is kept;

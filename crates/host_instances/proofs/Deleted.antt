@@ -139,7 +139,7 @@ pub deleted_kept : {M : Type 0} (laws : Laws M) (i : ℕ) (w : Option ℤ)
     (instances instances' : List (Option (Member M))) (sharing sharing' : List Locations) (groups groups' : List Group) (spaces spaces' : Spaces) (before : State M)
     → i < INSTANCES → IsSome (slot_at instances i) → HasEnded laws w i instances sharing groups spaces instances' sharing' groups' spaces'
     → before.poison ≡ w → HostKeeps laws instances sharing groups spaces before
-    → (after : State M) × ◌≡◌ {A = Outcome M (Unit {0})} (Ok tt, after) (delete laws.meaning before i) × HostKeeps laws instances' sharing' groups' spaces' after
+    → (after : State M) × ◌≡◌ {A = Outcome (State M) (Unit {0})} (Ok tt, after) (delete laws.meaning before i) × HostKeeps laws instances' sharing' groups' spaces' after
 deleted_kept laws i w instances instances' sharing sharing' groups groups' spaces spaces' before below some ended e kept =
     let its = found (slot_at instances i) (before.living i) some (kept.tables.living i) in
     let here = subst (λ v. HasEnded laws v i instances sharing groups spaces instances' sharing' groups' spaces') (sym e) ended in (

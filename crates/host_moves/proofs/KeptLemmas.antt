@@ -211,10 +211,10 @@ module _ {M : Type 0} (laws : Laws M) where
 
     pub rest_answered : (g : ℕ) (result : Bool) → g < GROUPS → TablesKeep laws instances sharing groups before
         → result ≡ is_some (group_at groups g).active
-        → ◌≡◌ {A = Outcome M Bool} (Ok result, record before { activity = with_activity before.activity g (deactivated (before.activity g)) }) (release before g)
+        → ◌≡◌ {A = Outcome (State M) Bool} (Ok result, record before { activity = with_activity before.activity g (deactivated (before.activity g)) }) (release before g)
     rest_answered g result lt kept active =
         let now : State M = record before { activity = with_activity before.activity g (deactivated (before.activity g)) } in
-        subst (λ b. ◌≡◌ {A = Outcome M Bool} (Ok b, now) (release before g)) (sym (active ∙ ap (λ (a : Activity). is_some a.active) (kept.activity g)))
+        subst (λ b. ◌≡◌ {A = Outcome (State M) Bool} (Ok b, now) (release before g)) (sym (active ∙ ap (λ (a : Activity). is_some a.active) (kept.activity g)))
         (sym (release_granted before g lt))
 
     -- ---- controls

@@ -21,7 +21,7 @@ pub after_is : {M A : Type 0} (Holds : State M → Type 0) (answer : A) (after :
 after_is Holds answer after outcome e holds = subst Holds (sym (ap (λ o. o.1) e)) holds
 
 -- what holds of the state before a call, and of the state after one that is granted
-pub unless_holds : {M A : Type 0} (Holds : State M → Type 0) (before : State M) (r : Option Refusal) (outcome : Outcome M A)
+pub unless_holds : {M A : Type 0} (Holds : State M → Type 0) (before : State M) (r : Option Refusal) (outcome : Outcome (State M) A)
     → Holds before → Holds outcome.1 → Holds (unless r before outcome).1
 unless_holds Holds before None outcome holds granted = granted
 unless_holds Holds before (Some refusal) outcome holds granted = holds

@@ -31,7 +31,7 @@ no_group g le = le-ltb g GROUPS le
 module _ {M : Type 0} (before : State M) where
   -- ---- creation, by whether the numbers are in range and the instance's is taken
 
-  abbrev creating : {A : Type 0} → Bool → Bool → Outcome M A → Outcome M A
+  abbrev creating : {A : Type 0} → Bool → Bool → Outcome (State M) A → Outcome (State M) A
   creating numbers taken outcome = unless (first_refusal ((not numbers, Range) ∷ (taken, Taken) ∷ [])) before outcome
 
   numbers_are : (i g : ℕ) → i < INSTANCES → g < GROUPS → (is_instance_number i && is_group_number g) ≡ true
@@ -72,7 +72,7 @@ module _ {M : Type 0} (before : State M) where
   -- ---- controls
 
   module _ (i : ℕ) (c : Ctl) (status : Status) where
-    abbrev controlling : Bool → Option (Living M) → Bool → Outcome M Status
+    abbrev controlling : Bool → Option (Living M) → Bool → Outcome (State M) Status
     controlling number x taken =
         unless (first_refusal ((not number, Range) ∷ (is_none x, Missing) ∷ (not taken, Command) ∷ [])) before (Ok status, controlled before i x c)
 
@@ -113,7 +113,7 @@ module _ {M : Type 0} (before : State M) where
   -- ---- deletion
 
   module _ (kinds : Meaning M) where
-    abbrev deleting : ℕ → Bool → Option (Living M) → Outcome M (Unit {0})
+    abbrev deleting : ℕ → Bool → Option (Living M) → Outcome (State M) (Unit {0})
     deleting i number x = unless (first_refusal ((not number, Range) ∷ (is_none x, Missing) ∷ [])) before (Ok tt, without_instance kinds before i x)
 
     pub delete_range : (i : ℕ) → INSTANCES ≤ i → delete kinds before i ≡ (Err Range, before)
@@ -127,7 +127,7 @@ module _ {M : Type 0} (before : State M) where
 
   -- ---- groups
 
-  abbrev grouped : {A : Type 0} → Bool → Outcome M A → Outcome M A
+  abbrev grouped : {A : Type 0} → Bool → Outcome (State M) A → Outcome (State M) A
   grouped group outcome = unless (first_refusal ((not group, Range) ∷ [])) before outcome
 
   abbrev resting : ℕ → State M

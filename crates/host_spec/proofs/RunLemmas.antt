@@ -27,7 +27,7 @@ ok_is_no_err : {A E : Type 0} (a : A) (r : E) (result : Result A E) → result �
 ok_is_no_err a r result ok err = cc
 
 -- a granted call is no refused one
-pub granted : {M A : Type 0} (before : State M) (r : Option Refusal) (outcome : Outcome M A) (a : A) (after : State M)
+pub granted : {M A : Type 0} (before : State M) (r : Option Refusal) (outcome : Outcome (State M) A) (a : A) (after : State M)
     → (Ok a, after) ≡ unless r before outcome → (Ok a, after) ≡ outcome
 granted before None outcome a after e = e
 granted before (Some refusal) outcome a after e = absurd (ok_is_no_err a refusal (Ok a) refl (ap (λ o. o.0) e))
@@ -39,7 +39,7 @@ refused before None a next refusal after e = absurd (ok_is_no_err a refusal (Ok 
 refused before (Some other) a next refusal after e = ap (λ o. o.1) e
 
 -- what goes before it was refused, or it was refused and left the state itself
-refused_as : {M A : Type 0} (before : State M) (r : Option Refusal) (outcome : Outcome M A) (refusal : Refusal) (after : State M)
+refused_as : {M A : Type 0} (before : State M) (r : Option Refusal) (outcome : Outcome (State M) A) (refusal : Refusal) (after : State M)
     → ((e : Refusal) → outcome.0 ≡ Err e → outcome.1 ≡ before) → (Err refusal, after) ≡ unless r before outcome → after ≡ before
 refused_as before None outcome refusal after stays e = ap (λ o. o.1) e ∙ stays refusal (sym (ap (λ o. o.0) e))
 refused_as before (Some other) outcome refusal after stays e = ap (λ o. o.1) e
@@ -83,7 +83,7 @@ statuses_of_samples kinds kind p h [] = refl
 statuses_of_samples kinds kind p h (x ∷ xs) = statuses_of_samples kinds kind p (Sample x ∷ h) xs
 
 -- a number that is taken is refused before the memory is asked for
-taken_stays : {M A : Type 0} (range taken : Bool) (before : State M) (outcome : Outcome M A) → taken ≡ true
+taken_stays : {M A : Type 0} (range taken : Bool) (before : State M) (outcome : Outcome (State M) A) → taken ≡ true
     → (unless (first_refusal ((range, Range) ∷ (taken, Taken) ∷ [])) before outcome).1 ≡ before
 taken_stays true taken before outcome e = refl
 taken_stays false true before outcome e = refl

@@ -20,10 +20,10 @@ use Rattle.host_spec.specs.State.{Living, State, with_living, has_member, sharer
 
 -- what a call that can be refused answers, and the state after it
 abbrev pub Outcome : Type 0 → Type 0 → Type 0
-Outcome M A = Result A Refusal × State M
+Outcome S A = Result A Refusal × S
 
 -- a refused call leaves the state
-abbrev pub unless : {M A : Type 0} → Option Refusal → State M → Outcome M A → Outcome M A
+abbrev pub unless : {S A : Type 0} → Option Refusal → S → Outcome S A → Outcome S A
 unless None before outcome = outcome
 unless (Some refusal) before outcome = (Err refusal, before)
 
@@ -54,7 +54,7 @@ module _ {M : Type 0} (before : State M) where
     activity = activity_after_create x.group table;
   }
 
-  abbrev pub with_room : ℕ → Living M → List MemRec → Result MemoryMap Space → Outcome M (Unit {0})
+  abbrev pub with_room : ℕ → Living M → List MemRec → Result MemoryMap Space → Outcome (State M) (Unit {0})
   with_room i x table (Err space) = (Err (Room space), before)
   with_room i x table (Ok map) = (Ok tt, created i x table map)
 
@@ -76,7 +76,7 @@ module _ {M : Type 0} (before : State M) where
       first_refusal ((not (is_instance_number i), Range) ∷ (is_none (before.living i), Missing) ∷ (not taken, Command) ∷ [])
 
   -- the instance takes the control and answers so, or doesn't take it
-  abbrev pub control : ℕ → Ctl → Bool → Status → Outcome M Status
+  abbrev pub control : ℕ → Ctl → Bool → Status → Outcome (State M) Status
   control i c taken status = unless (control_refusal i taken) before (Ok status, controlled i (before.living i) c)
 
   abbrev pub given : ℕ → Option (Living M) → List ℤ → State M
@@ -99,12 +99,12 @@ module _ {M : Type 0} (before : State M) where
   group_refusal g = first_refusal ((not (is_group_number g), Range) ∷ [])
 
   -- whether a member was active
-  abbrev pub release : ℕ → Outcome M Bool
+  abbrev pub release : ℕ → Outcome (State M) Bool
   release g =
       unless (group_refusal g) before
       (Ok (is_some (before.activity g).active), record before { activity = with_activity before.activity g (deactivated (before.activity g)) })
 
-  abbrev pub stat : ℕ → Outcome M Activity
+  abbrev pub stat : ℕ → Outcome (State M) Activity
   stat g = unless (group_refusal g) before (Ok (before.activity g), before)
 
   -- ---- moves
@@ -125,13 +125,13 @@ module _ {M : Type 0} (before : State M) where
 
 module _ {M : Type 0} (kinds : Meaning M) (before : State M) where
   -- the kind asks for this memory, or refuses the parameters
-  abbrev pub with_memory : ℕ → M → ℕ → List ℤ → Option (List MemRec) → Outcome M (Unit {0})
+  abbrev pub with_memory : ℕ → M → ℕ → List ℤ → Option (List MemRec) → Outcome (State M) (Unit {0})
   with_memory i kind g p None = (Err Params, before)
   with_memory i kind g p (Some table) =
       let x = newborn kind g p table in
       with_room before i x table (created_map before.sizes before.map i g table (sharers_of kinds before.living x))
 
-  abbrev pub create : ℕ → M → ℕ → List ℤ → Option (List MemRec) → Outcome M (Unit {0})
+  abbrev pub create : ℕ → M → ℕ → List ℤ → Option (List MemRec) → Outcome (State M) (Unit {0})
   create i kind g p table = unless (create_refusal before i g) before (with_memory i kind g p table)
 
   -- its records go, and its group's blocks with the last member. The count stays
@@ -145,7 +145,7 @@ module _ {M : Type 0} (kinds : Meaning M) (before : State M) where
         activity = with_activity before.activity x.group (without_active i (before.activity x.group));
       }
 
-  abbrev pub delete : ℕ → Outcome M (Unit {0})
+  abbrev pub delete : ℕ → Outcome (State M) (Unit {0})
   delete i = unless (instance_refusal before i) before (Ok tt, without_instance i (before.living i))
 
 -- all instances are deleted, in ascending number
