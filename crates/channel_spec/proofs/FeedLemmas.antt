@@ -13,8 +13,9 @@ use Rattle.host_spec.specs.Calls.{Processes}
 use Rattle.host_spec.specs.Calls.Call.{Process}
 use Rattle.host_spec.proofs.AnswerLemmas.{computed}
 use Rattle.channel_spec.specs.Channels.{Channels, members_at, has_number, has_repeat}
-use Rattle.channel_spec.specs.Calls.{Passes, Feeds}
-use Rattle.channel_spec.specs.Cuts.{joined, AreAlike, MembersAreLawful, GroupsAreApart, FeedsAll}
+use Rattle.channel_spec.specs.Parts.{Passes}
+use Rattle.channel_spec.specs.Cuts.{joined, AreAlike, MembersAreLawful, GroupsAreApart, Feeds, FeedsAll}
+use Rattle.channel_spec.proofs.PassingLemmas.{fed_passes}
 use Rattle.channel_spec.proofs.FlowLemmas.{Instances, grown, fed, flow, flow_twice, flow_of_none, flow_cut, fed_lawful, flow_lawful}
 use Rattle.channel_spec.proofs.TurnLemmas.{turned, GroupsApart, turns, turns_of_none, turns_cut, fed_group, flow_apart}
 
@@ -134,7 +135,7 @@ module _ {M : Type 0} (kinds : Meaning M) where
   pub feeds_flow : (before after : Channels M) (c : ℕ) (block out : List ℤ) → MembersAreLawful kinds before c → Feeds kinds before c block out after
       → FlowsIn before c block out after
   feeds_flow before after c block out lawful feeds =
-      (passes_flow (members_at before.chained c) before.host after.host block out lawful feeds.passes, feeds.chained)
+      (passes_flow (members_at before.chained c) before.host after.host block out lawful (fed_passes kinds before after c block out feeds), feeds.4)
 
   -- one cutting
 

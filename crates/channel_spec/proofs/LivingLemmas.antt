@@ -15,8 +15,8 @@ use Rattle.host_spec.specs.Calls as host_calls
 use Rattle.host_spec.specs.Calls.{Processes}
 use Rattle.host_spec.specs.Calls.Call.{Create, Control, Process, Delete, Release, Step, Compact, Stat, Map, Lives, Copied}
 use Rattle.host_spec.proofs.CallLemmas.{after_is, unless_holds}
-use Rattle.channel_spec.specs.Channels.{lives}
-use Rattle.channel_spec.specs.Calls.{IsPassedOn, Passes}
+use Rattle.channel_spec.specs.Parts.{Passes, lives}
+use Rattle.channel_spec.specs.Calls.{IsPassedOn}
 
 -- who lived lives still
 abbrev pub StillLive : {M : Type 0} → State M → State M → Type 0

@@ -19,7 +19,8 @@ use Rattle.host_spec.specs.Runs.{AllSpare, Life, history_of_run}
 use Rattle.host_spec.proofs.CallLemmas.{host_stays}
 use Rattle.host_spec.proofs.RunLemmas.{granted}
 use Rattle.host_spec.proofs.LifeLemmas.{lives_on, grows_by}
-use Rattle.console_spec.specs.Births.{Born, GivesItsEquation, GoesByItsHistory, answer_of}
+use Rattle.console_spec.specs.Births.{Born, GivesItsEquation, GoesByItsHistory}
+use Rattle.console_spec.specs.Told.{answer_of}
 
 err_is_no_ok : {A E : Type 0} (r : E) (a : A) → ◌≡◌ {A = Result A E} (Err r) (Ok a) → ⊥
 err_is_no_ok r a e = cc
@@ -82,7 +83,7 @@ module _ {M : Type 0} (kinds : Meaning M) where
         created_lives tt does.table (granted before (create_refusal before i g) (with_memory kinds before i kind g p does.table) tt after does.outcome)
 
   -- the number of an instance that was created is in range
-  granted_number : (number group taken : Bool) {A : Type 0} (before after : State M) (a : A) (outcome : Outcome M A)
+  granted_number : (number group taken : Bool) {A : Type 0} (before after : State M) (a : A) (outcome : Outcome (State M) A)
       → (Ok a, after) ≡ unless (first_refusal ((not (number && group), Range) ∷ (taken, Taken) ∷ [])) before outcome → number ≡ true
   granted_number true group taken before after a outcome e = refl
   granted_number false group taken before after a outcome e = absurd (err_is_no_ok Range a (ap (λ o. o.0) (sym e)))

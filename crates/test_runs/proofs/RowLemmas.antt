@@ -7,7 +7,7 @@ use Rattle.ialg.specs.Meaning.{outputs_of}
 use Rattle.octet_ports.specs.Ports.{Holds as HoldsMore}
 use Rattle.host_spec.specs.Steps.{processed, newborn}
 use Rattle.host_spec.specs.Runs.{outputs_in}
-use Rattle.channel_spec.specs.Steps.{on_host}
+use Rattle.channel_spec.specs.Parts.{on_host}
 use Rattle.voice_script.specs.Served.{Answer}
 use Rattle.console_spec.specs.Samples.{octets_of}
 use Rattle.script_server.specs.Runs.{Devices, no_sink}

@@ -6,7 +6,7 @@ use Rattle.ialg.specs.History.{History, Ctl}
 use Rattle.ialg.specs.Meaning.{Meaning, Status, status_of}
 use Rattle.ialg.specs.declared.refusal.Refusal.{Refusal}
 use Rattle.host_spec.specs.Calls.{refusal_in}
-use Rattle.console_spec.specs.Births.{answer_of}
+use Rattle.console_spec.specs.Told.{answer_of}
 
 -- of runs that both end well
 pub both : {A B E F : Type 0} (H : A → Type 0) (K : B → Type 0) (C : A → B → Type 0) (r : Result A E) (s : Result B F) → IfOk r H → IfOk s K
