@@ -4,7 +4,7 @@ use Rattle.std.specs.List.{flat_map}
 use Rattle.std.specs.Option.{option_map_or}
 use Rattle.std.specs.Fmt.{signed_decimal}
 use Rattle.ialg.specs.declared.refusal.Refusal.{Refusal}
-use Rattle.ialg.specs.Refusals.{refusal_number, refusal_name}
+use Rattle.ialg.specs.Refusals.{refusal_told}
 use Rattle.host_map.specs.declared.placed.Owner.{Owner}
 use Rattle.host_map.specs.declared.placed.Owner.TheVariants.{Record, Scratch}
 use Rattle.host_map.specs.declared.placed.Placed.{Placed}
@@ -35,7 +35,7 @@ line_text (Count n) = codes "ok " ++ decimal n
 line_text (Flag flag) = if flag then codes "ok 1" else codes "ok 0"
 line_text (Stat active activations) = codes "ok " ++ option_map_or decimal active (codes "-") ++ codes " " ++ decimal activations
 line_text (Map blocks) = codes "ok" ++ flat_map (λ b. codes " " ++ block_text b) blocks
-line_text (No refusal) = codes "no " ++ decimal (refusal_number refusal) ++ codes " " ++ refusal_name refusal
+line_text (No refusal) = codes "no " ++ decimal (refusal_told refusal).0 ++ codes " " ++ (refusal_told refusal).1
 
 abbrev pub reply_text : Reply → List ℕ
 reply_text reply = line_text reply ++ 10 ∷ []
