@@ -1,8 +1,7 @@
 -- What a creation needs, entry by entry.
-use Rattle.std.proofs.Common.{◌≡◌, ◌⊎◌, inl, inr, ℕ, zero, suc, ◌+◌, ◌≤◌, ◌==◌, max, Bool, true, false, not, ◌&&◌, ◌||◌, if◌then◌else◌, IsTrue, List, [], ◌∷◌, ◌++◌, length, drop, nat_lt, nat_le, Option, Some, None, filter_map, is_some, refl, sym, ap, ◌∙◌, arith}
+use Rattle.std.proofs.Common.{◌≡◌, ◌⊎◌, inl, inr, ℕ, zero, suc, ◌+◌, ◌≤◌, ◌==◌, max, Bool, true, false, ◌&&◌, ◌||◌, if◌then◌else◌, IsTrue, List, [], ◌∷◌, ◌++◌, length, drop, nat_le, Option, Some, None, filter_map, is_some, refl, sym, ap, ◌∙◌, arith}
 use Rattle.std.specs.Prelude.{slice_get, unwrap_or}
 use Rattle.std.specs.List.{cons_option, enumerate_from}
-use Rattle.std.proofs.lemmas.Bool.{cases_lt}
 use Rattle.std.proofs.lemmas.Bool.Decides.{nat_tests}
 use Rattle.mem_rec.specs.declared.MemRec.{MemRec}
 use Rattle.mem_rec.specs.declared.Space.{Space}
@@ -16,7 +15,7 @@ use Rattle.relocate.specs.Places.{placed_size}
 use Rattle.relocate.proofs.RangeTests.{true_or_false}
 use Rattle.ialg.specs.Records.{record_at}
 use Rattle.record_loans.specs.declared.block.ScratchBlock.{ScratchBlock}
-use Rattle.record_loans.specs.Blocks.{block_align, block_piece, block_words}
+use Rattle.record_loans.specs.Blocks.{block_align, block_piece}
 use Rattle.scratch_group.specs.declared.group.Group.{Group}
 use Rattle.scratch_group.specs.declared.group.Need.{Need}
 use Rattle.scratch_group.specs.Blocks.{block_in, block_needed}
