@@ -9,7 +9,8 @@ use Rattle.host_map.specs.declared.placed.Placed.{Placed}
 use Rattle.host_map.specs.Moves.{next_block}
 use Rattle.host_map.specs.MemoryMap.{MemoryMap, blocks_in}
 use Rattle.host_map.specs.Creation.{created_map}
-use Rattle.host_spec.specs.State.{Living, State, sharers_of, with_living}
+use Rattle.host_map.specs.Activity.{with_at}
+use Rattle.host_spec.specs.State.{Living, State, sharers_of}
 use Rattle.host_spec.specs.Steps.{Outcome, unless, newborn, with_room, with_memory, create, activating, controlled, control, given, without_instance, delete, release, stat, moving}
 use Rattle.host_spec.specs.Calls.{Call, Does, subject_of}
 use Rattle.host_spec.specs.Calls.Call.{Create, Control, Process, Delete, Release, Step, Compact, Stat, Map, Lives, Copied}
@@ -35,7 +36,7 @@ module _ {M : Type 0} (i : ℕ) (before : State M) where
   kept : Keeps i before before
   kept = record { host = record { sizes = refl; poison = refl }; others = λ j apart. refl }
 
-  other : (x : Option (Living M)) (j : ℕ) → j ≢ i → with_living before.living i x j ≡ before.living j
+  other : (x : Option (Living M)) (j : ℕ) → j ≢ i → with_at before.living i x j ≡ before.living j
   other x j apart = grind arith
 
   with_room_keeps : (x : Living M) (table : List MemRec) (placed : Result MemoryMap Space) → Keeps i before (with_room before i x table placed).1

@@ -12,7 +12,7 @@ use Rattle.ialg.specs.Meaning.{Meaning, Status}
 use Rattle.mem_rec.specs.declared.TheConstants.{INSTANCES, GROUPS}
 use Rattle.host_map.specs.MemoryMap.{MemoryMap}
 use Rattle.host_map.specs.Creation.{created_map}
-use Rattle.host_map.specs.Activity.{deactivated, with_activity}
+use Rattle.host_map.specs.Activity.{deactivated, with_at}
 use Rattle.host_spec.specs.State.{State, Living, sharers_of, is_instance_number, is_group_number}
 use Rattle.host_spec.specs.Steps.{Outcome, unless, newborn, with_room, with_memory, create, created, control, controlled, given, activating, processed, delete, without_instance, release, stat}
 
@@ -131,7 +131,7 @@ module _ {M : Type 0} (before : State M) where
   grouped group outcome = unless (first_refusal ((not group, Range) ∷ [])) before outcome
 
   abbrev resting : ℕ → State M
-  resting g = record before { activity = with_activity before.activity g (deactivated (before.activity g)) }
+  resting g = record before { activity = with_at before.activity g (deactivated (before.activity g)) }
 
   pub release_range : (g : ℕ) → GROUPS ≤ g → release before g ≡ (Err Range, before)
   release_range g le = ap (λ group. grouped group (Ok (is_some (before.activity g).active), resting g)) (no_group g le)

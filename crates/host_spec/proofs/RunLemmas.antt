@@ -15,7 +15,8 @@ use Rattle.ialg.specs.Refusals.{first_refusal}
 use Rattle.ialg.specs.History as history
 use Rattle.ialg.specs.History.{History, Ctl, Sample, with_samples}
 use Rattle.ialg.specs.Meaning.{Meaning, Status, outputs_of, status_of}
-use Rattle.host_spec.specs.State.{Living, State, sharers_of, with_living, is_instance_number, is_group_number}
+use Rattle.host_map.specs.Activity.{with_at}
+use Rattle.host_spec.specs.State.{Living, State, sharers_of, is_instance_number, is_group_number}
 use Rattle.host_spec.specs.Choices.{IsLawful, MayGive}
 use Rattle.host_spec.specs.Steps.{Outcome, unless, newborn, create_refusal, with_room, with_memory, control_refusal, controlled, given, instance_refusal, group_refusal, without_instance}
 use Rattle.host_spec.specs.Calls.{Call, Does, Creates, Controls, Processes, refusal_of}
@@ -89,7 +90,7 @@ taken_stays true taken before outcome e = refl
 taken_stays false true before outcome e = refl
 taken_stays false false before outcome e = cc
 
-its : {M : Type 0} (living : ℕ → Option (Living M)) (i : ℕ) (x : Option (Living M)) → with_living living i x i ≡ x
+its : {M : Type 0} (living : ℕ → Option (Living M)) (i : ℕ) (x : Option (Living M)) → with_at living i x i ≡ x
 its living i x = ap (λ b. cond b x (living i)) (eq-eqb i i refl)
 
 ok_same : {A E : Type 0} (a b : A) → ◌≡◌ {A = Result A E} (Ok a) (Ok b) → a ≡ b
