@@ -1,5 +1,6 @@
 -- A control of channels that are alike.
 use Rattle.std.proofs.Common.{◌≡◌, ℕ, [], ◌∷◌, Option, Some, None, Result, Ok, refl, ap, sym, ◌∙◌, subst}
+use Rattle.host_map.specs.Activity.{with_at}
 use Rattle.std.specs.Prelude.{not, is_none, IfSome}
 use Rattle.ialg.specs.declared.refusal.Refusal.{Refusal}
 use Rattle.ialg.specs.declared.refusal.Refusal.TheVariants.{Range, Missing, Command}
@@ -7,7 +8,7 @@ use Rattle.ialg.specs.Refusals.{first_refusal}
 use Rattle.ialg.specs.History.{Ctl}
 use Rattle.ialg.specs.History as history
 use Rattle.ialg.specs.Meaning.{Meaning, Status}
-use Rattle.host_spec.specs.State.{Living, State, with_living, is_instance_number}
+use Rattle.host_spec.specs.State.{Living, State, is_instance_number}
 use Rattle.host_spec.specs.Choices.{IsLawful}
 use Rattle.host_spec.specs.Steps.{Outcome, unless, controlled}
 use Rattle.host_spec.specs.Answers.{accepted, status_at}
@@ -20,7 +21,7 @@ use Rattle.channel_spec.specs.Cuts.{AreAlike}
 
 module _ {M : Type 0} (kinds : Meaning M) (i : ℕ) (c : Ctl) where
   -- over hosts with these instances
-  abbrev controlling : State M → (ℕ → Option (Living M)) → Outcome M Status
+  abbrev controlling : State M → (ℕ → Option (Living M)) → Outcome (State M) Status
   controlling before living =
       unless (first_refusal ((not (is_instance_number i), Range) ∷ (is_none (living i), Missing) ∷ (not (accepted kinds (living i) c), Command) ∷ [])) before
       (Ok (status_at kinds (living i) c), controlled before i (living i) c)
@@ -35,7 +36,7 @@ module _ {M : Type 0} (kinds : Meaning M) (i : ℕ) (c : Ctl) where
 
   module _ (one other : Channels M) (alike : AreAlike one other) where
     -- the same answer, and hosts that are alike
-    abbrev Agree : Outcome M Status → Outcome M Status → Type 0
+    abbrev Agree : Outcome (State M) Status → Outcome (State M) Status → Type 0
     Agree a b = (a.0 ≡ b.0) × AreAlike (record one { host = a.1 }) (record other { host = b.1 })
 
     controlled_agree : (x : Option (Living M)) (s : Status) → Agree (Ok s, controlled one.host i x c) (Ok s, controlled other.host i x c)
@@ -43,7 +44,7 @@ module _ {M : Type 0} (kinds : Meaning M) (i : ℕ) (c : Ctl) where
     controlled_agree (Some x) s = (
       refl,
       record {
-        living = ap (λ living. with_living living i (Some (record x { history = history.Control c ∷ x.history }))) alike.living;
+        living = ap (λ living. with_at living i (Some (record x { history = history.Control c ∷ x.history }))) alike.living;
         map = alike.map;
         sizes = alike.sizes;
         poison = alike.poison;
@@ -52,7 +53,7 @@ module _ {M : Type 0} (kinds : Meaning M) (i : ℕ) (c : Ctl) where
       },
     )
 
-    unless_agree : (r : Option Refusal) (a b : Outcome M Status) → Agree a b → Agree (unless r one.host a) (unless r other.host b)
+    unless_agree : (r : Option Refusal) (a b : Outcome (State M) Status) → Agree a b → Agree (unless r one.host a) (unless r other.host b)
     unless_agree None a b agree = agree
     unless_agree (Some refusal) a b agree = (refl, alike)
 

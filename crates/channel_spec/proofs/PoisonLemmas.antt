@@ -34,7 +34,7 @@ module _ {M : Type 0} (poison : Option ℤ) where
   Same {A} new old = ◌≡◌ {A = A × State M} new (old.0, of old.1)
 
   module _ (before : State M) where
-    unless_same : {A : Type 0} (r : Option Refusal) (new old : steps.Outcome M A) → Same new old → Same (unless r (of before) new) (unless r before old)
+    unless_same : {A : Type 0} (r : Option Refusal) (new old : steps.Outcome (State M) A) → Same new old → Same (unless r (of before) new) (unless r before old)
     unless_same None new old e = e
     unless_same (Some refusal) new old e = refl
 

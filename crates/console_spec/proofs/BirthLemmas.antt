@@ -1,5 +1,6 @@
 -- Instances from their creation on.
 use Rattle.std.proofs.Common.{◌≡◌, ℕ, ℤ, Bool, true, false, List, [], ◌∷◌, ◌++◌, Option, Some, None, Result, Ok, Err, refl, ap, sym, ◌∙◌, subst}
+use Rattle.host_map.specs.Activity.{with_at}
 use Rattle.std.proofs.lemmas.Bool.{eq-eqb, or_left}
 use Rattle.std.specs.Prelude.{not, ◌&&◌, is_some, is_none, IsTrue, if◌then◌else◌}
 use Rattle.mem_rec.specs.declared.MemRec.{MemRec}
@@ -11,7 +12,7 @@ use Rattle.ialg.specs.History.{Ctl}
 use Rattle.ialg.specs.Meaning.{Meaning, Status, status_of}
 use Rattle.host_map.specs.MemoryMap.{MemoryMap}
 use Rattle.host_map.specs.Creation.{created_map}
-use Rattle.host_spec.specs.State.{Living, State, sharers_of, with_living, is_instance_number, is_group_number}
+use Rattle.host_spec.specs.State.{Living, State, sharers_of, is_instance_number, is_group_number}
 use Rattle.host_spec.specs.Steps.{Outcome, unless, newborn, with_room, with_memory, create_refusal, controlled}
 use Rattle.host_spec.specs.Calls.{Call, Leads, Creates, Controls}
 use Rattle.host_spec.specs.Calls.Call.{Create, Control}
@@ -52,7 +53,7 @@ module _ {M : Type 0} (kinds : Meaning M) where
 
   -- ---- creation
 
-  its : (living : ℕ → Option (Living M)) (i : ℕ) (x : Option (Living M)) → with_living living i x i ≡ x
+  its : (living : ℕ → Option (Living M)) (i : ℕ) (x : Option (Living M)) → with_at living i x i ≡ x
   its living i x = ap (λ b. if b then x else living i) (eq-eqb i i refl)
 
   placed_lives : (before after : State M) (i : ℕ) (x : Living M) (done : Unit {0}) (table : List MemRec) (placed : Result MemoryMap Space)
@@ -82,7 +83,7 @@ module _ {M : Type 0} (kinds : Meaning M) where
         created_lives tt does.table (granted before (create_refusal before i g) (with_memory kinds before i kind g p does.table) tt after does.outcome)
 
   -- the number of an instance that was created is in range
-  granted_number : (number group taken : Bool) {A : Type 0} (before after : State M) (a : A) (outcome : Outcome M A)
+  granted_number : (number group taken : Bool) {A : Type 0} (before after : State M) (a : A) (outcome : Outcome (State M) A)
       → (Ok a, after) ≡ unless (first_refusal ((not (number && group), Range) ∷ (taken, Taken) ∷ [])) before outcome → number ≡ true
   granted_number true group taken before after a outcome e = refl
   granted_number false group taken before after a outcome e = absurd (err_is_no_ok Range a (ap (λ o. o.0) (sym e)))
