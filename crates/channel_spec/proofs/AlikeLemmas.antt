@@ -1,5 +1,6 @@
 -- A control of channels that are alike.
 use Rattle.std.proofs.Common.{◌≡◌, ℕ, [], ◌∷◌, Option, Some, None, Result, Ok, refl, ap, sym, ◌∙◌, subst}
+use Rattle.host_map.specs.Activity.{with_at}
 use Rattle.std.specs.Prelude.{not, is_none, IfSome}
 use Rattle.ialg.specs.declared.refusal.Refusal.{Refusal}
 use Rattle.ialg.specs.declared.refusal.Refusal.TheVariants.{Range, Missing, Command}
@@ -7,7 +8,7 @@ use Rattle.ialg.specs.Refusals.{first_refusal}
 use Rattle.ialg.specs.History.{Ctl}
 use Rattle.ialg.specs.History as history
 use Rattle.ialg.specs.Meaning.{Meaning, Status}
-use Rattle.host_spec.specs.State.{Living, State, with_living, is_instance_number}
+use Rattle.host_spec.specs.State.{Living, State, is_instance_number}
 use Rattle.host_spec.specs.Choices.{IsLawful}
 use Rattle.host_spec.specs.Steps.{Outcome, unless, controlled}
 use Rattle.host_spec.specs.Answers.{accepted, status_at}
@@ -44,7 +45,7 @@ module _ {M : Type 0} (kinds : Meaning M) (i : ℕ) (c : Ctl) where
     controlled_agree (Some x) s = (
       refl,
       record {
-        living = ap (λ living. with_living living i (Some (record x { history = history.Control c ∷ x.history }))) alike.living;
+        living = ap (λ living. with_at living i (Some (record x { history = history.Control c ∷ x.history }))) alike.living;
         map = alike.map;
         sizes = alike.sizes;
         poison = alike.poison;

@@ -1,10 +1,11 @@
 -- What a channel of lawful members gives, and what it leaves, however its samples are cut.
 use Rattle.std.proofs.Common.{◌≡◌, ℕ, ℤ, true, false, List, [], ◌∷◌, ◌++◌, Option, Some, None, refl, ap, sym, ◌∙◌, subst, nat_eq}
+use Rattle.host_map.specs.Activity.{with_at}
 use Rattle.std.proofs.lemmas.Bool.{eq-eqb}
 use Rattle.std.specs.Prelude.{IfSome}
 use Rattle.relocate.proofs.RangeTests.{left_true, right_true}
 use Rattle.ialg.specs.Meaning.{Meaning}
-use Rattle.host_spec.specs.State.{Living, State, with_living}
+use Rattle.host_spec.specs.State.{Living, State}
 use Rattle.host_spec.specs.Choices.{IsLawful}
 use Rattle.host_spec.specs.Answers.{output_at}
 use Rattle.host_spec.specs.Steps.{given}
@@ -66,7 +67,7 @@ module _ {M : Type 0} (kinds : Meaning M) where
       → after.living ≡ fed before.living i (s ∷ block)
   processed_living before after i s block out does =
       ap (λ state. state.living) (does.outcome ∙ ap (λ x. given before i x (s ∷ block)) does.there)
-      ∙ ap (λ x. with_living before.living i (grown x (s ∷ block))) (sym does.there)
+      ∙ ap (λ x. with_at before.living i (grown x (s ∷ block))) (sym does.there)
 
   -- ---- members
 

@@ -1,12 +1,12 @@
 -- What a refused call leaves.
 use Rattle.std.proofs.Common.{◌≡◌, Option, Some, None, Result, Ok, ap, sym, ◌∙◌}
+use Rattle.std.specs.Result.{result_err}
 use Rattle.std.proofs.lemmas.Option.{none-some}
 use Rattle.ialg.specs.declared.refusal.Refusal.{Refusal}
 use Rattle.ialg.specs.Meaning.{Meaning}
 use Rattle.host_spec.specs.State.{State}
 use Rattle.host_spec.specs.Steps.{unless}
 use Rattle.host_spec.specs.Calls as host_calls
-use Rattle.host_spec.specs.Calls.{refusal_in}
 use Rattle.channel_spec.specs.Channels.{Channels}
 use Rattle.channel_spec.specs.Steps.{channel_refusal}
 use Rattle.channel_spec.specs.Parts.{chain_refusal, delete_refusal}
@@ -15,8 +15,8 @@ use Rattle.channel_spec.specs.Calls.Call.{Chain, Unchain, Remove, Ready, Feed, O
 
 module _ {M : Type 0} (before after : Channels M) (refusal : Refusal) where
   refused : (answer : Result (Unit {0}) Refusal) (granted : Channels M) (r : Option Refusal) → (answer, after) ≡ unless r before (Ok tt, granted)
-      → refusal_in answer ≡ Some refusal → after ≡ before
-  refused answer granted None e f = absurd (none-some refusal (ap (λ o. refusal_in o.0) (sym e) ∙ f))
+      → result_err answer ≡ Some refusal → after ≡ before
+  refused answer granted None e f = absurd (none-some refusal (ap (λ o. result_err o.0) (sym e) ∙ f))
   refused answer granted (Some r) e f = ap (λ o. o.1) e
 
   same : after.host ≡ before.host → after.chained ≡ before.chained → after ≡ before

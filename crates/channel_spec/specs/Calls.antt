@@ -1,10 +1,10 @@
 -- The calls of channels: what each may answer, and which state may come after it.
 use Rattle.std.specs.Prelude.{ℕ, ℤ, ◌≡◌, List, [], ◌∷◌, Option, None, Result}
 use Rattle.std.specs.List.{FoldsTo}
+use Rattle.std.specs.Result.{result_err}
 use Rattle.ialg.specs.declared.refusal.Refusal.{Refusal}
 use Rattle.ialg.specs.Meaning.{Meaning}
 use Rattle.host_spec.specs.Calls as host_calls
-use Rattle.host_spec.specs.Calls.{refusal_in}
 use Rattle.host_spec.specs.Calls.Call.{Delete, Process}
 use Rattle.channel_spec.specs.Channels.{Channels, members_at}
 use Rattle.channel_spec.specs.Steps as steps
@@ -45,9 +45,9 @@ module _ {M : Type 0} (kinds : Meaning M) where
 
 -- why a call was refused, if it was
 abbrev pub refusal_of : {M : Type 0} → Call M → Option Refusal
-refusal_of (Chain c members answer) = refusal_in answer
-refusal_of (Unchain c answer) = refusal_in answer
-refusal_of (Remove i answer) = refusal_in answer
-refusal_of (Ready c answer) = refusal_in answer
+refusal_of (Chain c members answer) = result_err answer
+refusal_of (Unchain c answer) = result_err answer
+refusal_of (Remove i answer) = result_err answer
+refusal_of (Ready c answer) = result_err answer
 refusal_of (Feed c block out) = None
 refusal_of (OfHost call) = host_calls.refusal_of call

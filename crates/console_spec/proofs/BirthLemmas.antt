@@ -1,5 +1,6 @@
 -- Instances from their creation on.
 use Rattle.std.proofs.Common.{◌≡◌, ℕ, ℤ, Bool, true, false, List, [], ◌∷◌, ◌++◌, Option, Some, None, Result, Ok, Err, refl, ap, sym, ◌∙◌, subst}
+use Rattle.host_map.specs.Activity.{with_at}
 use Rattle.std.proofs.lemmas.Bool.{eq-eqb, or_left}
 use Rattle.std.specs.Prelude.{not, ◌&&◌, is_some, is_none, IsTrue, if◌then◌else◌}
 use Rattle.mem_rec.specs.declared.MemRec.{MemRec}
@@ -11,7 +12,7 @@ use Rattle.ialg.specs.History.{Ctl}
 use Rattle.ialg.specs.Meaning.{Meaning, Status, status_of}
 use Rattle.host_map.specs.MemoryMap.{MemoryMap}
 use Rattle.host_map.specs.Creation.{created_map}
-use Rattle.host_spec.specs.State.{Living, State, sharers_of, with_living, is_instance_number, is_group_number}
+use Rattle.host_spec.specs.State.{Living, State, sharers_of, is_instance_number, is_group_number}
 use Rattle.host_spec.specs.Steps.{Outcome, unless, newborn, with_room, with_memory, create_refusal, controlled}
 use Rattle.host_spec.specs.Calls.{Call, Leads, Creates, Controls}
 use Rattle.host_spec.specs.Calls.Call.{Create, Control}
@@ -53,7 +54,7 @@ module _ {M : Type 0} (kinds : Meaning M) where
 
   -- ---- creation
 
-  its : (living : ℕ → Option (Living M)) (i : ℕ) (x : Option (Living M)) → with_living living i x i ≡ x
+  its : (living : ℕ → Option (Living M)) (i : ℕ) (x : Option (Living M)) → with_at living i x i ≡ x
   its living i x = ap (λ b. if b then x else living i) (eq-eqb i i refl)
 
   placed_lives : (before after : State M) (i : ℕ) (x : Living M) (done : Unit {0}) (table : List MemRec) (placed : Result MemoryMap Space)

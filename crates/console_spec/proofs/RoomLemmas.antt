@@ -1,5 +1,6 @@
 -- What finds no room.
 use Rattle.std.proofs.Common.{◌≡◌, ◌⊎◌, ◌<◌, ◌≤◌, ℕ, ℤ, zero, suc, ◌+◌, ◌*◌, ◌/◌, Bool, true, false, cond, List, [], ◌∷◌, ◌++◌, map, Option, Some, None, Result, Ok, Err, refl, ap, sym, ◌∙◌, subst, arith}
+use Rattle.std.specs.Result.{result_err, result_map_both}
 use Rattle.std.specs.Prelude.{not, ◌&&◌, is_some, IsTrue, find, ◌↔◌}
 use Rattle.std.specs.List.{list_any, range_with_len}
 use Rattle.std.proofs.lemmas.Bool.{lt-leb, ltb-true}
@@ -18,7 +19,7 @@ use Rattle.host_map.specs.Blocks.{ranges}
 use Rattle.host_map.specs.declared.parts.Sizes.{Sizes}
 use Rattle.host_map.specs.declared.parts.Wanted.{Wanted}
 use Rattle.host_map.specs.MemoryMap.{MemoryMap, blocks_in, place_in, put_block, renamed, words_in}
-use Rattle.host_map.specs.Creation.{all_placed, created_map, result_map, taken_over, wanted_by, without_replaced}
+use Rattle.host_map.specs.Creation.{all_placed, created_map, taken_over, wanted_by, without_replaced}
 use Rattle.host_spec.specs.State.{Living, State, sharers_of, is_group_number, is_instance_number}
 use Rattle.host_spec.specs.Choices.{tells_memory}
 use Rattle.host_spec.specs.Steps as steps
@@ -153,7 +154,7 @@ module _ (sizes : Sizes) (space : Space) where
   pub unplaced : (ws : List Wanted) (map : MemoryMap) → FallsShort sizes map ws space → all_placed sizes map ws ≡ Err space
   unplaced ws map short = ap (all_placed sizes map) short.4 ∙ behind short.0 short.1 short.2 map short.3 short.5 short.6 ∙ ap Err short.7
 
-  mapped : {A B : Type 0} (f : A → B) (r : Result A Space) → result_map f r ≡ Err space → r ≡ Err space
+  mapped : {A B : Type 0} (f : A → B) (r : Result A Space) → result_map_both f (λ (other : Space). other) r ≡ Err space → r ≡ Err space
   mapped f (Ok a) e = absurd (ok_is_no_err (f a) space e)
   mapped f (Err other) e = ap Err (err_same other space e)
 
@@ -235,7 +236,7 @@ module _ {M : Type 0} (kinds : Meaning M) (before after : State M) (i g : ℕ) (
   refused : LacksRoom kinds before i kind g p space → answer ≡ Err (Room space)
   refused l =
       let sharers = sharers_of kinds before.living (newborn kind g p l.3) in
-      let short = ap (result_map (λ placed. renamed (taken_over sharers i) (without_replaced before.map g l.3 placed)))
+      let short = ap (result_map_both (λ placed. renamed (taken_over sharers i) (without_replaced before.map g l.3 placed)) (λ (other : Space). other))
       (unplaced before.sizes space (wanted_by sharers before.map i g l.3) before.map l.5) in
       ap (λ o. o.0) (does.outcome ∙ ap (λ t. create kinds before i kind g p t) (does.asked.told known ∙ l.4)
       ∙ create_room before kinds i g kind p l.3 space l.0 l.1 l.2 short)
@@ -248,9 +249,9 @@ module _ {M : Type 0} (kinds : Meaning M) (before after : State M) (i g : ℕ) (
 module _ {M : Type 0} (before after : Channels M) (space : Space) where
   -- a refusal that is told is the first whose test holds
   told_is : (answer : Result (Unit {0}) Refusal) (next : Channels M) (r : Option Refusal) → (answer, after) ≡ unless r before (Ok (tt {0}), next)
-      → host_calls.refusal_in answer ≡ Some (Room space) → r ≡ Some (Room space)
-  told_is answer next None does e = ap (λ o. host_calls.refusal_in o.0) (sym does) ∙ e
-  told_is answer next (Some refusal) does e = ap (λ o. host_calls.refusal_in o.0) (sym does) ∙ e
+      → result_err answer ≡ Some (Room space) → r ≡ Some (Room space)
+  told_is answer next None does e = ap (λ o. result_err o.0) (sym does) ∙ e
+  told_is answer next (Some refusal) does e = ap (λ o. result_err o.0) (sym does) ∙ e
 
   by_chain : (range taken missing busy : Bool) → first_refusal ((range, Range) ∷ (taken, Taken) ∷ (missing, Missing) ∷ (busy, Busy) ∷ []) ≡ Some (Room space) → ⊥
   by_chain true taken missing busy e = cc

@@ -1,5 +1,6 @@
 -- The worked row, line by line.
 use Rattle.std.proofs.Common.{◌≡◌, ℕ, ℤ, pos, Bool, true, List, [], ◌∷◌, ◌++◌, length, Option, Some, Result, Ok, Err, IfOk, refl, ap, ◌∙◌, subst, arith}
+use Rattle.host_map.specs.Activity.{with_at}
 use Rattle.std.specs.Prelude.{codes, slice_index_or, unwrap_or}
 use Rattle.alg_fir.specs.Equation.{fir_output}
 use Rattle.ialg.specs.History.{History, Sample, outputs_by}
@@ -23,7 +24,6 @@ use Rattle.mem_rec.specs.declared.MemRec.{MemRec}
 use Rattle.host_map.specs.declared.placed.Owner.TheVariants.{Record, Scratch}
 use Rattle.host_map.specs.declared.placed.Placed.{Placed}
 use Rattle.host_spec.specs.Calls as host_calls
-use Rattle.host_spec.specs.State.{with_living}
 use Rattle.host_spec.specs.Answers.{AreLawful}
 use Rattle.channel_spec.specs.Channels.{Channels}
 use Rattle.channel_spec.specs.Calls as calls
@@ -72,7 +72,7 @@ module _ (poison : Option ℤ) (lawful : AreLawful voice_meaning poison) where
   abbrev s1 : Channels Voice
   s1 = record s0 {
     host = record s0.host {
-      living = with_living s0.host.living 2 (Some (newborn Fir 1 mean table));
+      living = with_at s0.host.living 2 (Some (newborn Fir 1 mean table));
       map = record { daram = group_block 1 0 ∷ []; saram = record_block 2 1 0 ∷ []; external = record_block 2 0 0 ∷ [] };
     };
   }
@@ -80,7 +80,7 @@ module _ (poison : Option ℤ) (lawful : AreLawful voice_meaning poison) where
   abbrev s2 : Channels Voice
   s2 = record s1 {
     host = record s1.host {
-      living = with_living s1.host.living 0 (Some (newborn Fir 0 mean table));
+      living = with_at s1.host.living 0 (Some (newborn Fir 0 mean table));
       map = record {
         daram = group_block 1 0 ∷ group_block 0 1040 ∷ [];
         saram = record_block 2 1 0 ∷ record_block 0 1 4 ∷ [];
@@ -92,7 +92,7 @@ module _ (poison : Option ℤ) (lawful : AreLawful voice_meaning poison) where
   abbrev s3 : Channels Voice
   s3 = record s2 {
     host = record s2.host {
-      living = with_living s2.host.living 1 (Some (newborn Fir 0 mean table));
+      living = with_at s2.host.living 1 (Some (newborn Fir 0 mean table));
       map = record {
         daram = group_block 1 0 ∷ group_block 0 1040 ∷ [];
         saram = record_block 2 1 0 ∷ record_block 0 1 4 ∷ record_block 1 1 8 ∷ [];
