@@ -1,5 +1,5 @@
 -- How the words of a decimator keep its history.
-use Rattle.std.specs.Prelude.{ℕ, ℤ, pos, ◌≡◌, List, ◌++◌, length, drop, FitsSigned, IsTrue}
+use Rattle.std.specs.Prelude.{ℕ, ℤ, pos, ◌≡◌, List, ◌-◌, ◌++◌, length, drop, FitsSigned, IsTrue}
 use Rattle.std.specs.List.{All}
 use Rattle.std.specs.Int.{w16}
 use Rattle.mem_rec.specs.declared.MemRec.{MemRec}
@@ -9,12 +9,16 @@ use Rattle.ialg.specs.Records.{words_of, HoldFill}
 use Rattle.ialg.specs.Objects.{Names, NamedAt}
 use Rattle.ialg.specs.declared.memory.Lent.{Lent}
 use Rattle.alg_fir.specs.Keeps.{KeepsPast, KeepsRing}
-use Rattle.alg_fir.specs.Decimation.{factor, taps_of, decim_gives}
+use Rattle.alg_fir.specs.Decimation.{factor, decim_gives}
 use Rattle.alg_fir.specs.DecimMeaning.{decim_takes, decim_records}
 
 -- the coefficients
 abbrev pub coefficients_of : List ℤ → List ℤ
 coefficients_of p = drop 1 p
+
+-- how many there are
+abbrev pub taps_of : List ℤ → ℕ
+taps_of p = length p - 1
 
 -- how many samples there are since the last output, the last reset or the start
 abbrev pub phase : List ℤ → History → ℕ

@@ -10,13 +10,13 @@ use Rattle.ialg.specs.Meaning.{Meaning, is_between, accepts_set}
 use Rattle.ialg.specs.Objects.{object_memory}
 use Rattle.fir_kernel.specs.declared.TheConstants.{MOST_COEFFICIENTS}
 use Rattle.alg_fir.specs.declared.TheConstants.{CONSTANTS_ALIGNMENT, DECIM_RECORDS, LINE_ALIGNMENT, MOST_FACTOR}
-use Rattle.alg_fir.specs.Decimation.{factor, taps_of, decim_gives}
+use Rattle.alg_fir.specs.Decimation.{factor, decim_gives}
 
 -- the parameters are a factor of 1 to 16, and 1 to 64 coefficients
 abbrev pub decim_takes : List ℤ → Bool
-decim_takes p = (nat_le 2 (length p) && nat_le (taps_of p) MOST_COEFFICIENTS) && is_between (pos 1) MOST_FACTOR (word_at p 0)
+decim_takes p = (nat_le 2 (length p) && nat_le (length p - 1) MOST_COEFFICIENTS) && is_between (pos 1) MOST_FACTOR (word_at p 0)
 
--- the object; the phase and the past samples; the parameters; a ring of the past samples and a block, less one, and its place
+-- of so many coefficients: the object; the phase and the past samples; the parameters; a ring of the past samples and a block, less one, and its place
 abbrev pub decim_records : ℕ → List MemRec
 decim_records taps =
     object_memory
@@ -29,7 +29,7 @@ abbrev pub decim_meaning : {M : Type 0} → Meaning M
 decim_meaning = record {
   same = λ a b. true;
   bound = λ _. DECIM_RECORDS;
-  table = λ _ p. if decim_takes p then Some (decim_records (taps_of p)) else None;
+  table = λ _ p. if decim_takes p then Some (decim_records (length p - 1)) else None;
   fill = λ _ p k. p;
   gives = λ _. decim_gives;
   accepts = λ _ p. accepts_set (λ words. false);
