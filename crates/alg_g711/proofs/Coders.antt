@@ -5,26 +5,7 @@ use Rattle.alg_g711.specs.declared.companding.Law.TheVariants.{A, Mu}
 use Rattle.alg_g711.specs.declared.coder.Direction.{Direction}
 use Rattle.alg_g711.specs.declared.coder.Direction.TheVariants.{Encode, Decode}
 use Rattle.alg_g711.specs.declared.coder.Coder.{Coder}
-use Rattle.alg_g711.specs.Parameters.{law_named, direction_named}
 use Rattle.alg_g711.specs.Meaning.{coder_named}
-
--- two parameters name a coder where each names its part
-pub coder_with : Option Law → Option Direction → Option Coder
-coder_with (Some law) (Some direction) = Some (record { law = law; direction = direction })
-coder_with _ _ = None
-
-pub coder_is : (a b : ℤ) → coder_named (a ∷ b ∷ []) ≡ coder_with (law_named a) (direction_named b)
-unfolding coder_with
-coder_is (pos zero) (pos zero) = refl
-coder_is (pos zero) (pos (suc zero)) = refl
-coder_is (pos zero) (pos (suc (suc n))) = refl
-coder_is (pos zero) (negsuc n) = refl
-coder_is (pos (suc zero)) (pos zero) = refl
-coder_is (pos (suc zero)) (pos (suc zero)) = refl
-coder_is (pos (suc zero)) (pos (suc (suc n))) = refl
-coder_is (pos (suc zero)) (negsuc n) = refl
-coder_is (pos (suc (suc m))) b = refl
-coder_is (negsuc m) b = refl
 
 abbrev law_word : Law → ℤ
 law_word A = pos 0

@@ -38,6 +38,7 @@ abbrev pub records_of : Direction → List MemRec
 records_of Encode = object_memory ∷ []
 records_of Decode = object_memory ∷ record { size = CODES; align = SAMPLES_ALIGNMENT; space = External; attr = WriteOnce; base = 0 } ∷ []
 
+-- the words of record k, where it is write-once
 abbrev pub fill_by : Law → Direction → ℕ → List ℤ
 fill_by law Decode (suc zero) = samples_of_codes law
 fill_by _ _ _ = []
@@ -49,6 +50,7 @@ abbrev pub coded : Law → Direction → ℤ → ℤ
 coded law Encode x = pos (encoded law x)
 coded law Decode x = decoded law (cast_unsigned w16 x % CODES)
 
+-- what the newest sample gives
 abbrev pub given_by : Option Coder → History → List ℤ
 given_by (Some coder) (Sample x ∷ h) = coded coder.law coder.direction x ∷ []
 given_by _ _ = []

@@ -40,5 +40,6 @@ voice_meaning = record {
   lawful = λ v. (meaning_by v).lawful v;
 }
 
+-- the voice of this name
 abbrev pub voice_named : List ℕ → Option Voice
 voice_named name = find (λ v. bytes_eq name (voice_name v)) (Fir ∷ Decim ∷ Biquad ∷ Tone ∷ G711 ∷ [])
