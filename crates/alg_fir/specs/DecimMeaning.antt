@@ -9,7 +9,7 @@ use Rattle.ialg.specs.History.{samples_in_frame, word_at}
 use Rattle.ialg.specs.Meaning.{Meaning, is_between, accepts_set}
 use Rattle.ialg.specs.Objects.{object_memory}
 use Rattle.fir_kernel.specs.declared.TheConstants.{MOST_COEFFICIENTS}
-use Rattle.alg_fir.specs.declared.TheConstants.{CONSTANTS_ALIGNMENT, DECIM_RECORDS, LINE_ALIGNMENT, MOST_FACTOR}
+use Rattle.alg_fir.specs.declared.TheConstants.{CONSTANTS_ALIGNMENT, LINE_ALIGNMENT, MOST_FACTOR}
 use Rattle.alg_fir.specs.Decimation.{factor, decim_gives}
 
 -- the parameters are a factor of 1 to 16, and 1 to 64 coefficients
@@ -24,13 +24,11 @@ decim_records taps =
     ∷ record { size = taps + 1; align = CONSTANTS_ALIGNMENT; space = External; attr = WriteOnce; base = 0 }
     ∷ record { size = taps - 1 + BLOCK_SAMPLES; align = LINE_ALIGNMENT; space = Daram; attr = Scratch; base = 0 } ∷ []
 
--- lawful for all parameters; the one write-once record has the parameters, no `set` is accepted, and the answer to `get` is the phase
+-- lawful for all parameters; no `set` is accepted, and the answer to `get` is the phase
 abbrev pub decim_meaning : {M : Type 0} → Meaning M
 decim_meaning = record {
   same = λ a b. true;
-  bound = λ _. DECIM_RECORDS;
   table = λ _ p. if decim_takes p then Some (decim_records (length p - 1)) else None;
-  fill = λ _ p k. p;
   gives = λ _. decim_gives;
   accepts = λ _ p. accepts_set (λ words. false);
   got = λ _ p h. pos (samples_in_frame (factor p) h) ∷ [];

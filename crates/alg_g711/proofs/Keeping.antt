@@ -15,8 +15,8 @@ use Rattle.alg_g711.specs.declared.coder.Direction.{Direction}
 use Rattle.alg_g711.specs.declared.coder.Direction.TheVariants.{Encode, Decode}
 use Rattle.alg_g711.specs.declared.coder.Coder.{Coder}
 use Rattle.alg_g711.specs.Companding.{samples_of_codes}
-use Rattle.alg_g711.specs.Meaning.{coder_named, kind_word, records_of, fill_by}
-use Rattle.alg_g711.specs.Keeps.{Keeps, fill_of}
+use Rattle.alg_g711.specs.Meaning.{coder_named, kind_word, records_of}
+use Rattle.alg_g711.specs.Keeps.{Keeps, fill_by, fill_of}
 
 once_lasts : (rs : List MemRec) (wss : List (List ℤ)) (k : ℕ) → (record_at rs k).attr ≡ WriteOnce
     → words_of (lasting rs wss) k ≡ words_of wss k

@@ -1,5 +1,5 @@
 -- What a coder means.
-use Rattle.std.specs.Prelude.{ℕ, zero, suc, ◌%◌, ℤ, pos, true, false, List, [], ◌∷◌, Option, Some, None, option_map, unwrap_or}
+use Rattle.std.specs.Prelude.{zero, suc, ◌%◌, ℤ, pos, true, false, List, [], ◌∷◌, Option, Some, None, option_map}
 use Rattle.std.specs.Int.{w16, cast_unsigned}
 use Rattle.mem_rec.specs.declared.MemRec.{MemRec}
 use Rattle.mem_rec.specs.declared.Space.TheVariants.{External}
@@ -7,13 +7,13 @@ use Rattle.mem_rec.specs.declared.Attr.TheVariants.{WriteOnce}
 use Rattle.ialg.specs.History.{History, Sample}
 use Rattle.ialg.specs.Meaning.{Meaning, accepts_set}
 use Rattle.ialg.specs.Objects.{object_memory}
-use Rattle.alg_g711.specs.declared.TheConstants.{CODES, CODER_RECORDS, SAMPLES_ALIGNMENT, A_ENCODER_KIND, A_DECODER_KIND, MU_ENCODER_KIND, MU_DECODER_KIND}
+use Rattle.alg_g711.specs.declared.TheConstants.{CODES, SAMPLES_ALIGNMENT, A_ENCODER_KIND, A_DECODER_KIND, MU_ENCODER_KIND, MU_DECODER_KIND}
 use Rattle.alg_g711.specs.declared.companding.Law.{Law}
 use Rattle.alg_g711.specs.declared.companding.Law.TheVariants.{A, Mu}
 use Rattle.alg_g711.specs.declared.coder.Direction.{Direction}
 use Rattle.alg_g711.specs.declared.coder.Direction.TheVariants.{Encode, Decode}
 use Rattle.alg_g711.specs.declared.coder.Coder.{Coder}
-use Rattle.alg_g711.specs.Companding.{encoded, decoded, samples_of_codes}
+use Rattle.alg_g711.specs.Companding.{encoded, decoded}
 
 -- ---- parameters: the law, 0 for A and 1 for mu, and the direction, 0 to encode and 1 to decode
 
@@ -38,11 +38,6 @@ abbrev pub records_of : Direction → List MemRec
 records_of Encode = object_memory ∷ []
 records_of Decode = object_memory ∷ record { size = CODES; align = SAMPLES_ALIGNMENT; space = External; attr = WriteOnce; base = 0 } ∷ []
 
--- the words of record k, where it is write-once
-abbrev pub fill_by : Law → Direction → ℕ → List ℤ
-fill_by law Decode (suc zero) = samples_of_codes law
-fill_by _ _ _ = []
-
 -- ---- outputs
 
 -- one word: a code for a sample, or a sample for a code, which is the lower octet of its word
@@ -59,9 +54,7 @@ given_by _ _ = []
 abbrev pub g711_meaning : {M : Type 0} → Meaning M
 g711_meaning = record {
   same = λ a b. true;
-  bound = λ _. CODER_RECORDS;
   table = λ _ p. option_map (λ coder. records_of coder.direction) (coder_named p);
-  fill = λ _ p k. unwrap_or (option_map (λ coder. fill_by coder.law coder.direction k) (coder_named p)) [];
   gives = λ _ p. given_by (coder_named p);
   accepts = λ _ p. accepts_set (λ words. false);
   got = λ _ p h. p;

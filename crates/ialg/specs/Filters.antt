@@ -34,9 +34,7 @@ filter_records m =
 abbrev pub meaning_of : {M : Type 0} → FilterMeaning → Meaning M
 meaning_of filter = record {
   same = λ a b. true;
-  bound = λ _. FILTER_RECORDS;
   table = λ _ p. option_map filter_records (filter.memory p);
-  fill = λ _ p k. [];
   gives = λ _. filter.gives;
   accepts = λ _. filter.accepts;
   got = λ _. filter.got;
@@ -75,6 +73,8 @@ RunningRelation = List ℤ → History → List ℤ → List ℤ → Type 0
 abbrev pub filter_laws : {M : Type 0} → ℤ → FilterMeaning → KeptRelation → RunningRelation → Laws M
 filter_laws kind filter rests runs = record {
   meaning = meaning_of filter;
+  bound = λ _. FILTER_RECORDS;
+  fill = λ _ p k. [];
   idle_keeps = λ _ p rs wss h. IsIdle kind (filter.memory p) (rests p h) rs wss;
   active_keeps = λ _ p rs wss h. IsActive kind (filter.memory p) (runs p h) rs wss;
 }

@@ -30,9 +30,7 @@ voice_name G711 = codes "g711"
 abbrev pub voice_meaning : Meaning Voice
 voice_meaning = record {
   same = λ v w. bytes_eq (voice_name v) (voice_name w);
-  bound = λ v. (meaning_by v).bound v;
   table = λ v. (meaning_by v).table v;
-  fill = λ v. (meaning_by v).fill v;
   gives = λ v. (meaning_by v).gives v;
   accepts = λ v. (meaning_by v).accepts v;
   got = λ v. (meaning_by v).got v;
