@@ -35,9 +35,7 @@ same_shape _ _ = false
 abbrev pub shapes : Meaning Shape
 shapes = record {
   same = same_shape;
-  bound = λ shape. length shape;
   table = λ shape p. Some shape;
-  fill = λ shape p k. [];
   gives = λ shape p h. word_at (samples_since_reset h) 0 ∷ [];
   accepts = λ shape p c. true;
   got = λ shape p h. [];

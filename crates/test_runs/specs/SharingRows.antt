@@ -27,9 +27,7 @@ Named = ℕ × Shape
 abbrev pub named : Meaning Named
 named = record {
   same = λ a b. a.0 == b.0;
-  bound = λ kind. length kind.1;
   table = λ kind p. Some kind.1;
-  fill = λ kind p k. [];
   gives = λ kind p h. word_at (samples_since_reset h) 0 ∷ [];
   accepts = λ kind p c. true;
   got = λ kind p h. [];
