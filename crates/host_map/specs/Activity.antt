@@ -19,7 +19,7 @@ activated i a = if option_eq nat_eq a.active (Some i) then a else record { activ
 abbrev pub without_active : ℕ → Activity → Activity
 without_active i a = if option_eq nat_eq a.active (Some i) then deactivated a else a
 
--- what all numbers have, with this at number n
+-- a value for each number, with another one at n
 abbrev pub with_at : {A : Type 0} → (ℕ → A) → ℕ → A → ℕ → A
 with_at all n x k = if nat_eq k n then x else all k
 

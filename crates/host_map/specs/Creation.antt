@@ -28,7 +28,8 @@ abbrev pub record_wanted : (ℕ → Option ℕ) → ℕ → ℕ → MemRec → O
 record_wanted sharers i k r =
     if is_scratch r.attr || is_some (sharers k) then None else Some (record { space = r.space; owner = Record i k; size = placed_size r.size; align = r.align })
 
--- what a member with this table needs of its group in the space: nothing where the group's block is large enough and aligned
+-- what a member with this table needs of its group in the space: nothing where the group's block is large enough and aligned. Where the group has
+-- none, that is as if it had one of no words
 abbrev pub scratch_wanted : MemoryMap → ℕ → List MemRec → Space → Option Wanted
 scratch_wanted map g table space =
     let need = scratch_need table space in

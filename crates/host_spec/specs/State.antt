@@ -47,7 +47,8 @@ is_instance_number i = nat_lt i INSTANCES
 abbrev pub is_group_number : ℕ → Bool
 is_group_number g = nat_lt g GROUPS
 
--- whether two instances share record k: they are of one kind, with equal parameters, and record k of both is write-once and the same
+-- whether x shares record k with the other instance, if there is one: they are of one kind, with equal parameters, and record k of both is
+-- write-once and the same
 abbrev pub share : {M : Type 0} → Meaning M → ℕ → Living M → Option (Living M) → Bool
 share kinds k x None = false
 share kinds k x (Some y) = kinds.same x.kind y.kind && pointwise int_eq x.params y.params && is_same_once (record_at x.table k) (record_at y.table k)
