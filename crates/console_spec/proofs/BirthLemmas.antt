@@ -16,7 +16,8 @@ use Rattle.host_spec.specs.State.{Living, State, sharers_of, is_instance_number,
 use Rattle.host_spec.specs.Steps.{Outcome, unless, newborn, with_room, with_memory, create_refusal, controlled}
 use Rattle.host_spec.specs.Calls.{Call, Leads, Creates, Controls}
 use Rattle.host_spec.specs.Calls.Call.{Create, Control}
-use Rattle.host_spec.specs.Runs.{AllSpare, Life, history_of_run}
+use Rattle.host_spec.specs.Runs.{AllSpare, Life, Spares, history_of_run}
+use Rattle.std.proofs.lemmas.List.Elements.{All-cons, All-head, All-nil, All-tail}
 use Rattle.host_spec.proofs.CallLemmas.{host_stays}
 use Rattle.host_spec.proofs.RunLemmas.{granted}
 use Rattle.host_spec.proofs.LifeLemmas.{lives_on, grows_by}
@@ -28,8 +29,9 @@ err_is_no_ok r a e = cc
 
 -- what the calls of a list spare, its first ones spare
 spared_first : {M : Type 0} (i : ℕ) (first rest : List (Call M)) → AllSpare i (first ++ rest) → AllSpare i first
-spared_first i [] rest spared = tt
-spared_first i (call ∷ first) rest spared = (spared.0, spared_first i first rest spared.1)
+spared_first i [] rest spared = All-nil (Spares i)
+spared_first i (call ∷ first) rest spared =
+    All-cons (Spares i) call first (All-head (Spares i) call (first ++ rest) spared) (spared_first i first rest (All-tail (Spares i) call (first ++ rest) spared))
 
 module _ {M : Type 0} (kinds : Meaning M) where
   -- ---- runs in two parts

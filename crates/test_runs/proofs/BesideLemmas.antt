@@ -9,7 +9,8 @@ use Rattle.ialg.specs.History.{Sample}
 use Rattle.ialg.specs.Meaning.{outputs_of}
 use Rattle.octet_ports.specs.Ports.{Holds as HoldsMore}
 use Rattle.host_spec.specs.Steps.{newborn}
-use Rattle.host_spec.specs.Runs.{AllSpare, history_of_run, outputs_in}
+use Rattle.std.proofs.lemmas.List.Elements.{All-from_recursion}
+use Rattle.host_spec.specs.Runs.{AllSpare, Spares, history_of_run, outputs_in}
 use Rattle.host_spec.specs.Calls as host_calls
 use Rattle.host_spec.specs.Answers.{AreLawful}
 use Rattle.channel_spec.specs.Channels.{Channels}
@@ -157,9 +158,10 @@ module _ (poison : Option ℤ) (lawful : AreLawful voice_meaning poison) (other 
       by_any : (one : List ℤ) (between : List (host_calls.Call Voice)) (three : List ℤ) → IsGivenAny between
           → says.asked ≡ host_calls.Create 0 Fir 0 mean (Ok tt) ∷ life_beside one between three → fed_out 0 says.calls ≡ one ++ (three ++ []) → BesideGave says
       by_any one between three (inl none) asked given =
-          gave_by one [] three (inl refl) (tt, (tt, (tt, tt))) refl refl (asked ∙ ap (λ b. host_calls.Create 0 Fir 0 mean (Ok tt) ∷ life_beside one b three) none) given
+          gave_by one [] three (inl refl) (All-from_recursion (Spares 0) (life_beside one [] three) (tt, (tt, (tt, tt)))) refl refl (asked ∙ ap (λ b. host_calls.Create 0 Fir 0 mean (Ok tt) ∷ life_beside one b three) none) given
       by_any one between three (inr some) asked given =
-          gave_by one (host_calls.Process 1 (some.0 ∷ []) some.1 ∷ []) three (inr (some.0, some.1, refl)) (tt, (tt, (tt, (tt, tt)))) refl refl
+          gave_by one (host_calls.Process 1 (some.0 ∷ []) some.1 ∷ []) three (inr (some.0, some.1, refl))
+          (All-from_recursion (Spares 0) (life_beside one (host_calls.Process 1 (some.0 ∷ []) some.1 ∷ []) three) (tt, (tt, (tt, (tt, tt))))) refl refl
           (asked ∙ ap (λ b. host_calls.Create 0 Fir 0 mean (Ok tt) ∷ life_beside one b three) some.2) given
 
 -- what `fir` gives

@@ -7,7 +7,8 @@ use Rattle.ialg.specs.History.{History, Sample, outputs_by}
 use Rattle.ialg.specs.Meaning.{outputs_of}
 use Rattle.octet_ports.specs.Ports.{Holds as HoldsMore}
 use Rattle.host_spec.specs.Steps.{processed, newborn}
-use Rattle.host_spec.specs.Runs.{outputs_in}
+use Rattle.std.proofs.lemmas.List.Elements.{All-from_recursion}
+use Rattle.host_spec.specs.Runs.{Spares, outputs_in}
 use Rattle.channel_spec.specs.Parts.{on_host}
 use Rattle.voice_script.specs.Served.{Answer}
 use Rattle.console_spec.specs.Samples.{octets_of}
@@ -166,7 +167,7 @@ module _ (poison : Option ℤ) (lawful : AreLawful voice_meaning poison) where
         earlier = host_calls.Create 2 Fir 1 mean (Ok tt) ∷ [];
         rest = host_calls.Delete 0 (Ok tt) ∷ [];
         created = made.asked_is;
-        spared = (tt, (tt, (tt, (λ e. omega (arith, e), (tt, (tt, tt))))));
+        spared = All-from_recursion (Spares 0) (life made.one made.two made.three) (tt, (tt, (tt, (λ e. omega (arith, e), (tt, (tt, tt))))));
       } in
       let gave : outputs_in 0 (life made.one made.two made.three) ≡ pos 1 ∷ pos 3 ∷ pos 5 ∷ [] =
       (says.each 0 Fir 0 mean (life made.one made.two made.three) (lawful Fir mean) born).gives.outputs ∙ fir mean (Sample (pos 6) ∷ Sample (pos 4) ∷ Sample (pos 2) ∷ []) in
