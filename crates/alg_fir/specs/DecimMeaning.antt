@@ -24,7 +24,7 @@ decim_records taps =
     ∷ record { size = taps + 1; align = CONSTANTS_ALIGNMENT; space = External; attr = WriteOnce; base = 0 }
     ∷ record { size = taps - 1 + BLOCK_SAMPLES; align = LINE_ALIGNMENT; space = Daram; attr = Scratch; base = 0 } ∷ []
 
--- lawful for all parameters; no `set` is accepted, and the answer to `get` is the phase
+-- lawful for all parameters; no `set` is accepted, and `get` gives the phase, which is how many samples the frame has so far
 abbrev pub decim_meaning : {M : Type 0} → Meaning M
 decim_meaning = record {
   same = λ a b. true;

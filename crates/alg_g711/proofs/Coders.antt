@@ -1,5 +1,5 @@
 -- Which parameters name a coder.
-use Rattle.std.proofs.Common.{◌≡◌, zero, suc, ℤ, pos, negsuc, List, [], ◌∷◌, Option, Some, None, refl, sym, ap, ◌∙◌}
+use Rattle.std.proofs.Common.{◌≡◌, zero, suc, ℤ, pos, List, [], ◌∷◌, Option, Some, sym, ◌∙◌}
 use Rattle.alg_g711.specs.declared.companding.Law.{Law}
 use Rattle.alg_g711.specs.declared.companding.Law.TheVariants.{A, Mu}
 use Rattle.alg_g711.specs.declared.coder.Direction.{Direction}

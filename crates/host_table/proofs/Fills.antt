@@ -5,7 +5,6 @@ use Rattle.mem_rec.specs.declared.Attr.{Attr}
 use Rattle.mem_rec.specs.declared.Attr.TheVariants.{WriteOnce}
 use Rattle.ialg.specs.History.{History}
 use Rattle.ialg.specs.Records.{record_at, words_of, HoldFill}
-use Rattle.ialg.specs.Meaning.{Meaning}
 use Rattle.ialg.specs.Laws.{Laws, Relation}
 use Rattle.record_loans.specs.declared.pieces.Pieces.{Pieces}
 use Rattle.record_loans.specs.Pieces.{piece_at, piece_words}

@@ -1,5 +1,5 @@
 -- Worked rows: which blocks a creation places and replaces, for kinds that ask for any memory.
-use Rattle.std.specs.Prelude.{ℕ, Bool, true, false, ◌==◌, ◌&&◌, pos, List, [], ◌∷◌, length, Some}
+use Rattle.std.specs.Prelude.{ℕ, Bool, true, false, ◌==◌, ◌&&◌, pos, List, [], ◌∷◌, Some}
 use Rattle.mem_rec.specs.declared.MemRec.{MemRec}
 use Rattle.mem_rec.specs.declared.Space.{Space}
 use Rattle.mem_rec.specs.declared.Space.TheVariants.{Daram, Saram, External}

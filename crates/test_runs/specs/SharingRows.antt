@@ -1,5 +1,5 @@
 -- Worked rows: which instances share a write-once block, whose it is, and when it goes.
-use Rattle.std.specs.Prelude.{ℕ, true, ◌==◌, pos, [], ◌∷◌, length, Some}
+use Rattle.std.specs.Prelude.{ℕ, true, ◌==◌, pos, [], ◌∷◌, Some}
 use Rattle.mem_rec.specs.declared.Space.TheVariants.{Saram, External}
 use Rattle.ialg.specs.declared.refusal.Refusal.TheVariants.{Room}
 use Rattle.ialg.specs.History.{word_at, samples_since_reset}
