@@ -1,5 +1,5 @@
 -- The lines of a script, and what each of them asks.
-use Rattle.std.specs.Prelude.{ℕ, ◌+◌, ◌-◌, ◌*◌, Bool, true, false, ◌&&◌, ◌||◌, not, List, [], ◌∷◌, map, filter, fold, length, ℤ, pos, neg_ℤ, unsigned_abs, int_le, Option, Some, None, Result, Ok, Err, nat_le, ◌==◌, if◌then◌else◌, bytes_eq, codes}
+use Rattle.std.specs.Prelude.{ℕ, ◌+◌, ◌-◌, ◌*◌, Bool, true, false, ◌&&◌, ◌||◌, not, List, [], ◌∷◌, map, filter, fold, length, ℤ, pos, neg_ℤ, unsigned_abs, Option, Some, None, Result, Ok, Err, nat_le, ◌==◌, if◌then◌else◌, bytes_eq, codes}
 use Rattle.std.specs.List.{list_all, slice_split}
 use Rattle.std.specs.Option.{option_map_or}
 use Rattle.std.specs.Result.{result_map_both}
@@ -8,6 +8,7 @@ use Rattle.ialg.specs.declared.TheConstants.{PARAMETER_WORDS}
 use Rattle.ialg.specs.declared.refusal.Refusal.{Refusal}
 use Rattle.ialg.specs.declared.refusal.Refusal.TheVariants.{Syntax, Range}
 use Rattle.ialg.specs.History.{Ctl, Set, Reset, Get}
+use Rattle.ialg.specs.Meaning.{is_between}
 use Rattle.mem_rec.specs.declared.Space.{Space}
 use Rattle.mem_rec.specs.declared.Space.TheVariants.{Daram, Saram, External}
 use Rattle.voice_script.specs.declared.limits.TheConstants.{FEED_SAMPLES, MEMBERS}
@@ -64,7 +65,7 @@ value_of (b ∷ bs) = if b == 45 then neg_ℤ (pos (digits_value bs)) else pos (
 
 -- the word's number is one from the lowest to the highest
 abbrev pub fits : (low high : ℤ) → List ℕ → Bool
-fits low high w = int_le low (value_of w) && int_le (value_of w) high
+fits low high w = is_between low high (value_of w)
 
 -- for the numbers of instances, groups and channels
 abbrev pub fits_byte : List ℕ → Bool
@@ -122,7 +123,8 @@ module _ {M : Type 0} where
   -- one member or more
   abbrev pub chain_row : List (List ℕ) → Result (Command M) Refusal
   chain_row (c ∷ i ∷ is) =
-      row (list_all is_number (c ∷ i ∷ is)) (fits_byte c && (nat_le (length (i ∷ is)) MEMBERS && list_all fits_byte (i ∷ is))) (Chain (natural c) (map natural (i ∷ is)))
+      row (list_all is_number (c ∷ i ∷ is)) (fits_byte c && (nat_le (length (i ∷ is)) MEMBERS && list_all fits_byte (i ∷ is)))
+      (Chain (natural c) (map natural (i ∷ is)))
   chain_row _ = Err Syntax
 
   abbrev pub feed_row : List (List ℕ) → Result (Command M) Refusal
