@@ -122,7 +122,8 @@ module _ {M : Type 0} where
   -- one member or more
   abbrev pub chain_row : List (List ℕ) → Result (Command M) Refusal
   chain_row (c ∷ i ∷ is) =
-      row (list_all is_number (c ∷ i ∷ is)) (fits_byte c && (nat_le (length (i ∷ is)) MEMBERS && list_all fits_byte (i ∷ is))) (Chain (natural c) (map natural (i ∷ is)))
+      row (list_all is_number (c ∷ i ∷ is)) (fits_byte c && (nat_le (length (i ∷ is)) MEMBERS && list_all fits_byte (i ∷ is)))
+      (Chain (natural c) (map natural (i ∷ is)))
   chain_row _ = Err Syntax
 
   abbrev pub feed_row : List (List ℕ) → Result (Command M) Refusal

@@ -66,7 +66,7 @@ module _ {S : Type 0} (machine : Machine S) (honest : ℕ → Bool) where
 
   -- the line asked something, and that was answered
   abbrev pub ServedAnswer : Run S → List ℕ → Answer S → Type 0
-  ServedAnswer run line answer = (asked : Asked) × (state : S) × machine.Asks run.state line asked state × AskedAnswer (record run { state = state }) asked answer
+  ServedAnswer run line answer = (asked : Asked) × (next : S) × machine.Asks run.state line asked next × AskedAnswer (record run { state = next }) asked answer
 
   -- a long line asks for nothing
   pub record LineAnswer (run : Run S) (line : List ℕ) (answer : Answer S) : Type 0 where
