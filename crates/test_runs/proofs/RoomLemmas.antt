@@ -1,6 +1,6 @@
 -- The worked rows of room.
-use Rattle.std.proofs.Common.{◌≡◌, ◌+◌, ◌*◌, ℕ, suc, zero, true, false, List, [], ◌∷◌, Ok, Err, refl, ap, sym, arith}
-use Rattle.std.specs.Prelude.{◌&&◌, not, Result}
+use Rattle.std.proofs.Common.{◌≡◌, ◌+◌, ◌*◌, ℕ, suc, zero, false, [], ◌∷◌, refl, ap, sym, arith}
+use Rattle.std.specs.Prelude.{◌&&◌, not}
 use Rattle.std.specs.List.{list_any}
 use Rattle.std.proofs.lemmas.Bool.{lt-leb}
 use Rattle.relocate.specs.Places.{is_free, meets}
