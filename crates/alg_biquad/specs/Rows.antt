@@ -1,11 +1,11 @@
 -- Worked rows: what filters give and take.
-use Rattle.std.specs.Prelude.{◌≡◌, ℤ, pos, negsuc, true, false, List, [], ◌∷◌, replicate, Some, None}
+use Rattle.std.specs.Prelude.{◌≡◌, ℤ, pos, negsuc, true, false, List, [], ◌∷◌, replicate, Some, None, option_map}
 use Rattle.mem_rec.specs.declared.Space.TheVariants.{Daram, Saram, External}
 use Rattle.mem_rec.specs.declared.Attr.TheVariants.{Scratch, Persist}
 use Rattle.ialg.specs.History.{Control, Set, Reset, Get, with_samples}
-use Rattle.ialg.specs.Filters.{filter_table}
+use Rattle.ialg.specs.Filters.{filter_records}
 use Rattle.alg_biquad.specs.Equation.{biquad_outputs}
-use Rattle.alg_biquad.specs.Meaning.{biquad_memory, biquad_accepts, biquad_filter}
+use Rattle.alg_biquad.specs.Meaning.{biquad_memory, biquad_filter}
 
 -- each output is halved and fed back
 abbrev pub halving : List ℤ
@@ -35,7 +35,7 @@ pub record OutputRows : Type 0 where
 
 pub record ParameterRows : Type 0 where
   pub four : biquad_memory (replicate 4 (pos 0)) ≡ None
-  pub five : filter_table (biquad_memory (replicate 5 (pos 0))) ≡ Some (
+  pub five : option_map filter_records (biquad_memory (replicate 5 (pos 0))) ≡ Some (
       record { size = 4; align = 4; space = External; attr = Persist; base = 0 }
       ∷ record { size = 9; align = 4; space = Saram; attr = Persist; base = 0 }
       ∷ record { size = 4; align = 4; space = Daram; attr = Scratch; base = 0 }
@@ -43,10 +43,10 @@ pub record ParameterRows : Type 0 where
   pub six : biquad_memory (replicate 6 (pos 0)) ≡ None
 
 pub record ControlRows : Type 0 where
-  pub set_four : biquad_accepts (Set (replicate 4 (pos 0))) ≡ false
-  pub set_five : biquad_accepts (Set (replicate 5 (pos 0))) ≡ true
-  pub set_six : biquad_accepts (Set (replicate 6 (pos 0))) ≡ false
-  pub reset : biquad_accepts Reset ≡ true
-  pub get : biquad_accepts Get ≡ true
+  pub set_four : biquad_filter.accepts halving (Set (replicate 4 (pos 0))) ≡ false
+  pub set_five : biquad_filter.accepts halving (Set (replicate 5 (pos 0))) ≡ true
+  pub set_six : biquad_filter.accepts halving (Set (replicate 6 (pos 0))) ≡ false
+  pub reset : biquad_filter.accepts halving Reset ≡ true
+  pub get : biquad_filter.accepts halving Get ≡ true
   pub got_created : biquad_filter.got halving (with_samples [] (pos 100 ∷ [])) ≡ halving
   pub got_set : biquad_filter.got (replicate 5 (pos 0)) (Control Reset ∷ with_samples (Control (Set halving) ∷ []) (pos 100 ∷ [])) ≡ halving

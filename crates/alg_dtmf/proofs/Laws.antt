@@ -6,7 +6,7 @@ use Rattle.ialg.specs.declared.filter.FilterMemory.{FilterMemory}
 use Rattle.ialg.specs.History.{History, with_samples, word_at}
 use Rattle.ialg.proofs.Tables.{chosen}
 use Rattle.ialg.proofs.Histories.{IsWordHistory-with_samples}
-use Rattle.kind_parts.specs.Words.{within}
+use Rattle.ialg.specs.Meaning.{is_between}
 use Rattle.kind_parts.proofs.Frames.{no_samples}
 use Rattle.kind_parts.proofs.Parameters.{both_hold, count_is}
 use Rattle.alg_dtmf.specs.declared.TheConstants.{PARAMETERS, STATE_WORDS, FRAME_SAMPLES, MOST_SHIFT}
@@ -25,8 +25,8 @@ pub record IsAsked (p : List ℤ) (m : FilterMemory) : Type 0 where
 pub memory_some : (p : List ℤ) (m : FilterMemory) → dtmf_memory p ≡ Some m → IsAsked p m
 memory_some p m e =
     let a = length p == PARAMETERS in
-    let b = within (word_at p 0) (pos 1) FRAME_SAMPLES in
-    let c = within (word_at p 1) (pos 0) MOST_SHIFT in
+    let b = is_between (pos 1) FRAME_SAMPLES (word_at p 0) in
+    let c = is_between (pos 0) MOST_SHIFT (word_at p 1) in
     let g = chosen (a && b && c) (record { kept = PARAMETERS + STATE_WORDS; running = STATE_WORDS; align = LEAST_ALIGNMENT }) m e in
     let ab = both_hold a b (both_hold (a && b) c g.0).0 in
     let seven = ab.0 in

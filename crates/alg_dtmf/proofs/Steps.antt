@@ -2,9 +2,9 @@
 use Rattle.std.proofs.Common.{◌≡◌, ℕ, ℤ, suc, pos, ◌+◌, ◌<◌, List, [], ◌∷◌, ◌++◌, length, take, unsigned_abs, FitsSigned, refl, sym, ap, ◌∙◌, arith, add-one}
 use Rattle.std.specs.Int.{w16}
 use Rattle.basic_op.specs.Operators.{add_of}
-use Rattle.ialg.specs.History.{History, Sample, samples_since_reset, with_samples, word_at}
+use Rattle.ialg.specs.History.{History, Sample, samples_since_reset, samples_in_frame, with_samples, word_at}
 use Rattle.ialg.proofs.Histories.{words_fit}
-use Rattle.kind_parts.specs.Frames.{samples_in_frame, frame_so_far}
+use Rattle.kind_parts.specs.Frames.{frame_so_far}
 use Rattle.kind_parts.specs.Words.{joined}
 use Rattle.kind_parts.proofs.Blocks.{GoesOn, one_goes_on, all_goes_on}
 use Rattle.kind_parts.proofs.Frames.{IsFrame, IsFinished, unfinished_frame, frame_goes_on}

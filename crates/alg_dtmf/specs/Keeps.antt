@@ -3,8 +3,8 @@ use Rattle.std.specs.Prelude.{ℤ, pos, ◌≡◌, ◌≤◌, ◌+◌, List, [],
 use Rattle.std.specs.List.{All}
 use Rattle.std.specs.Int.{w16}
 use Rattle.basic_op.specs.Operators.{extract_h_of, extract_l_of}
-use Rattle.ialg.specs.History.{History, word_at, with_samples, IsWordHistory}
-use Rattle.kind_parts.specs.Frames.{samples_in_frame, frame_so_far}
+use Rattle.ialg.specs.History.{History, samples_in_frame, word_at, with_samples, IsWordHistory}
+use Rattle.kind_parts.specs.Frames.{frame_so_far}
 use Rattle.alg_dtmf.specs.declared.TheConstants.{PARAMETERS, STATE_WORDS, FRAME_SAMPLES}
 use Rattle.alg_dtmf.specs.declared.kernel.Band.{Band}
 use Rattle.alg_dtmf.specs.declared.kernel.Factors.{Factors}

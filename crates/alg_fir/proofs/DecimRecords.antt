@@ -12,9 +12,8 @@ use Rattle.ialg.specs.Loans.{lent_words, loan, SameBut, SameLoans}
 use Rattle.ialg.specs.Objects.{Names, NamedAt}
 use Rattle.ialg.proofs.Tables.{attr_of, lasting_at, lent_size}
 use Rattle.alg_fir.specs.Keeps.{KeepsPast}
-use Rattle.alg_fir.specs.Decimation.{taps_of}
 use Rattle.alg_fir.specs.DecimMeaning.{decim_takes, decim_records}
-use Rattle.alg_fir.specs.DecimKeeps.{decim_kind, HasConstants, KeepsPhase, IsIdleDecim, Finds}
+use Rattle.alg_fir.specs.DecimKeeps.{taps_of, decim_kind, HasConstants, KeepsPhase, IsIdleDecim, Finds}
 use Rattle.alg_fir.proofs.DecimSteps.{is_taken}
 
 only_once : (taps k : ℕ) → (record_at (decim_records taps) k).attr ≡ WriteOnce → 2 ≡ k

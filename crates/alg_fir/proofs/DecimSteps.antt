@@ -11,7 +11,8 @@ use Rattle.fir_kernel.specs.declared.TheConstants.{MOST_COEFFICIENTS}
 use Rattle.alg_fir.specs.declared.TheConstants.{MOST_FACTOR}
 use Rattle.alg_fir.specs.Equation.{fir_output}
 use Rattle.alg_fir.specs.Keeps.{AreOutputs}
-use Rattle.alg_fir.specs.Decimation.{factor, coefficients_of, taps_of, phase, decim_gives}
+use Rattle.alg_fir.specs.Decimation.{factor, decim_gives}
+use Rattle.alg_fir.specs.DecimKeeps.{taps_of, coefficients_of, phase}
 use Rattle.alg_fir.specs.DecimMeaning.{decim_takes}
 
 -- which parameters are taken

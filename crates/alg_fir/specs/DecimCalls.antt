@@ -9,9 +9,9 @@ use Rattle.ialg.specs.Loans.{lent_words, SameBut}
 use Rattle.ialg.specs.Objects.{NamedAt}
 use Rattle.fir_kernel.specs.declared.TheConstants.{MOST_COEFFICIENTS}
 use Rattle.alg_fir.specs.Keeps.{KeepsPast, KeepsRing}
-use Rattle.alg_fir.specs.Decimation.{factor, phase, taps_of}
+use Rattle.alg_fir.specs.Decimation.{factor}
 use Rattle.alg_fir.specs.DecimMeaning.{decim_records, decim_takes}
-use Rattle.alg_fir.specs.DecimKeeps.{decim_kind, Finds, IsActiveDecim, KeepsPhase, RanDecim}
+use Rattle.alg_fir.specs.DecimKeeps.{taps_of, phase, decim_kind, Finds, IsActiveDecim, KeepsPhase, RanDecim}
 
 -- ---- over plain words
 

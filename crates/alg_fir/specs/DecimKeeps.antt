@@ -1,16 +1,28 @@
 -- How the words of a decimator keep its history.
-use Rattle.std.specs.Prelude.{ℕ, ℤ, pos, ◌≡◌, List, ◌++◌, length, FitsSigned, IsTrue}
+use Rattle.std.specs.Prelude.{ℕ, ℤ, pos, ◌≡◌, List, ◌-◌, ◌++◌, length, drop, FitsSigned, IsTrue}
 use Rattle.std.specs.List.{All}
 use Rattle.std.specs.Int.{w16}
 use Rattle.mem_rec.specs.declared.MemRec.{MemRec}
 use Rattle.mem_rec.specs.declared.Space.TheVariants.{Daram, Saram, External}
-use Rattle.ialg.specs.History.{History, word_at, words_in_force, with_samples, outputs_by, IsWordHistory}
+use Rattle.ialg.specs.History.{History, samples_in_frame, word_at, words_in_force, with_samples, outputs_by, IsWordHistory}
 use Rattle.ialg.specs.Records.{words_of, HoldFill}
 use Rattle.ialg.specs.Objects.{Names, NamedAt}
 use Rattle.ialg.specs.declared.memory.Lent.{Lent}
 use Rattle.alg_fir.specs.Keeps.{KeepsPast, KeepsRing}
-use Rattle.alg_fir.specs.Decimation.{coefficients_of, taps_of, phase, decim_gives}
+use Rattle.alg_fir.specs.Decimation.{factor, decim_gives}
 use Rattle.alg_fir.specs.DecimMeaning.{decim_takes, decim_records}
+
+-- the coefficients
+abbrev pub coefficients_of : List ℤ → List ℤ
+coefficients_of p = drop 1 p
+
+-- how many there are
+abbrev pub taps_of : List ℤ → ℕ
+taps_of p = length p - 1
+
+-- how many samples there are since the last output, the last reset or the start
+abbrev pub phase : List ℤ → History → ℕ
+phase p h = samples_in_frame (factor p) h
 
 -- the kind word of a decimator's object
 abbrev pub decim_kind : ℤ

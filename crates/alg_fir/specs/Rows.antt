@@ -1,12 +1,14 @@
 -- Worked rows: what filters and decimators give and take.
-use Rattle.std.specs.Prelude.{◌≡◌, ℤ, pos, negsuc, Bool, true, false, List, [], ◌∷◌, replicate, Some, is_some}
+use Rattle.std.specs.Prelude.{◌≡◌, ℤ, pos, negsuc, Bool, true, false, List, [], ◌∷◌, replicate, Some, is_some, option_map}
 use Rattle.mem_rec.specs.declared.MemRec.{MemRec}
 use Rattle.mem_rec.specs.declared.Space.TheVariants.{Daram, Saram, External}
 use Rattle.mem_rec.specs.declared.Attr.TheVariants.{Scratch, Persist, WriteOnce}
 use Rattle.ialg.specs.History.{History, Control, Set, Reset, Get, with_samples}
-use Rattle.ialg.specs.Meaning.{outputs_of}
+use Rattle.ialg.specs.Meaning.{Meaning, outputs_of}
+use Rattle.ialg.specs.Filters.{filter_records}
+use Rattle.alg_fir.specs.declared.decimator.Decim.{Decim}
 use Rattle.alg_fir.specs.Equation.{fir_outputs}
-use Rattle.alg_fir.specs.Meaning.{fir_meaning}
+use Rattle.alg_fir.specs.Meaning.{fir_memory, fir_filter}
 use Rattle.alg_fir.specs.DecimMeaning.{decim_meaning}
 
 -- the mean of two samples
@@ -24,12 +26,15 @@ pub record FilterRows : Type 0 where
       ≡ pos 1 ∷ pos 2 ∷ []
   pub reset_within : fir_outputs mean (with_samples (Control Reset ∷ with_samples [] (pos 2 ∷ pos 4 ∷ [])) (pos 6 ∷ [])) ≡ pos 1 ∷ pos 3 ∷ pos 3 ∷ []
 
+abbrev pub decimating : Meaning Decim
+decimating = decim_meaning
+
 -- what a decimator by 2 gives and answers
 abbrev pub by_two : History → List ℤ
-by_two h = outputs_of decim_meaning (record {}) (pos 2 ∷ mean) h
+by_two h = outputs_of decimating (record {}) (pos 2 ∷ mean) h
 
 abbrev pub phase_of : History → List ℤ
-phase_of h = decim_meaning.got (record {}) (pos 2 ∷ mean) h
+phase_of h = decimating.got (record {}) (pos 2 ∷ mean) h
 
 pub record DecimatorRows : Type 0 where
   pub means : by_two (with_samples [] (pos 2 ∷ pos 4 ∷ pos 6 ∷ pos 8 ∷ [])) ≡ pos 3 ∷ pos 7 ∷ []
@@ -43,12 +48,12 @@ abbrev pub object : MemRec
 object = record { size = 4; align = 4; space = External; attr = Persist; base = 0 }
 
 pub record TableRows : Type 0 where
-  pub filter : fir_meaning.table (record {}) mean ≡ Some (
+  pub filter : option_map filter_records (fir_memory mean) ≡ Some (
       object
       ∷ record { size = 3; align = 4; space = Saram; attr = Persist; base = 0 }
       ∷ record { size = 1025; align = 16; space = Daram; attr = Scratch; base = 0 }
       ∷ [])
-  pub decimator : decim_meaning.table (record {}) (pos 2 ∷ mean) ≡ Some (
+  pub decimator : decimating.table (record {}) (pos 2 ∷ mean) ≡ Some (
       object
       ∷ record { size = 2; align = 4; space = Saram; attr = Persist; base = 0 }
       ∷ record { size = 3; align = 8; space = External; attr = WriteOnce; base = 0 }
@@ -57,10 +62,10 @@ pub record TableRows : Type 0 where
 
 -- whether parameters are taken
 abbrev pub filters : List ℤ → Bool
-filters p = is_some (fir_meaning.table (record {}) p)
+filters p = is_some (fir_memory p)
 
 abbrev pub decimates : List ℤ → Bool
-decimates p = is_some (decim_meaning.table (record {}) p)
+decimates p = is_some (decimating.table (record {}) p)
 
 pub record ParameterRows : Type 0 where
   pub no_coefficient : filters [] ≡ false
@@ -78,10 +83,10 @@ pub record ParameterRows : Type 0 where
   pub decimator_of_65 : decimates (pos 2 ∷ replicate 65 (pos 1)) ≡ false
 
 pub record ControlRows : Type 0 where
-  pub set_of_another_length : fir_meaning.accepts (record {}) mean (Set (pos 1 ∷ [])) ≡ false
-  pub set_of_the_length : fir_meaning.accepts (record {}) mean (Set mean) ≡ true
-  pub decimator_set : decim_meaning.accepts (record {}) (pos 2 ∷ mean) (Set mean) ≡ false
-  pub decimator_reset : decim_meaning.accepts (record {}) (pos 2 ∷ mean) Reset ≡ true
-  pub decimator_get : decim_meaning.accepts (record {}) (pos 2 ∷ mean) Get ≡ true
-  pub got_created : fir_meaning.got (record {}) mean (with_samples [] (pos 2 ∷ [])) ≡ mean
-  pub got_set : fir_meaning.got (record {}) mean (Control (Set (pos 8192 ∷ pos 16384 ∷ [])) ∷ []) ≡ pos 8192 ∷ pos 16384 ∷ []
+  pub set_of_another_length : fir_filter.accepts mean (Set (pos 1 ∷ [])) ≡ false
+  pub set_of_the_length : fir_filter.accepts mean (Set mean) ≡ true
+  pub decimator_set : decimating.accepts (record {}) (pos 2 ∷ mean) (Set mean) ≡ false
+  pub decimator_reset : decimating.accepts (record {}) (pos 2 ∷ mean) Reset ≡ true
+  pub decimator_get : decimating.accepts (record {}) (pos 2 ∷ mean) Get ≡ true
+  pub got_created : fir_filter.got mean (with_samples [] (pos 2 ∷ [])) ≡ mean
+  pub got_set : fir_filter.got mean (Control (Set (pos 8192 ∷ pos 16384 ∷ [])) ∷ []) ≡ pos 8192 ∷ pos 16384 ∷ []

@@ -4,6 +4,7 @@ ghost use Rattle.mem_rec.specs.Records.{is_table};
 ghost use Rattle.ialg.specs.History.{word_at};
 ghost use Rattle.ialg.specs.Meaning.{AreAlwaysLawful};
 ghost use Rattle.ialg.specs.Loans.{SameLoans};
+ghost use Rattle.alg_fir.specs.declared.TheConstants.{DECIM_RECORDS};
 ghost use Rattle.alg_fir.specs.DecimMeaning.{decim_meaning, decim_records};
 ghost use Rattle.alg_fir.specs.DecimKeeps.{IsActiveDecim, IsIdleDecim};
 ghost use Rattle.alg_fir.specs.DecimCalls.{WritesConstants, ClearsKept, ClearsRing, FillsRing, RestoresPastLent, FillsKept, SavesPastLent, RunsRing, RunsBlockLent, CountsPhase, CountsOnLent, ResetsDecim, AnswersPhase, GetsDecim};
@@ -38,6 +39,8 @@ pub struct Decim;
 impl Ialg for Decim {
     ghost law = { record {
       meaning = decim_meaning;
+      bound = λ _. DECIM_RECORDS;
+      fill = λ _ p k. p;
       idle_keeps = λ _ p rs wss h. IsIdleDecim p rs wss h;
       active_keeps = λ _ p rs wss h. IsActiveDecim p rs wss h;
     } };

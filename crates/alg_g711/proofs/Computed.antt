@@ -1,12 +1,13 @@
 -- What was computed for all codes.
-use Rattle.std.proofs.Common.{◌≡◌, ◌≢◌, ℕ, ◌+◌, ◌-◌, ◌*◌, ◌%◌, ◌^◌, ◌<◌, ◌≤◌, Bool, true, false, ◌==◌, ◌&&◌, ◌||◌, nat_le, ℤ, ◌<ℤ◌, pos, int_lt, refl, arith}
+use Rattle.std.proofs.Common.{◌≡◌, ◌≢◌, ℕ, ◌+◌, ◌-◌, ◌*◌, ◌/◌, ◌%◌, ◌^◌, ◌<◌, ◌≤◌, Bool, true, false, ◌==◌, ◌&&◌, ◌||◌, nat_le, ℤ, ◌<ℤ◌, pos, int_lt, refl, arith}
 use Rattle.std.specs.List.{list_all, range_with_len}
 use Rattle.std.proofs.lemmas.Int.{ints}
 use Rattle.std.proofs.lemmas.Bool.Decides.{nat_tests}
 use Rattle.alg_g711.specs.declared.TheConstants.{INTERVALS, CODES}
 use Rattle.alg_g711.specs.declared.companding.Law.{Law}
 use Rattle.alg_g711.specs.declared.companding.Law.TheVariants.{A, Mu}
-use Rattle.alg_g711.specs.Companding.{turned, encoded, decoded, interval_of, sample_of, middle_of, samples_of_codes}
+use Rattle.alg_g711.specs.Companding.{turned, encoded, decoded, interval_of, sample_of, lower_end, middle_of, samples_of_codes}
+use Rattle.alg_g711.specs.Steps.{width_of}
 use Rattle.alg_g711.specs.declared.tables.TheConstants.{A_SAMPLES, MU_SAMPLES}
 use Rattle.alg_g711.specs.Intervals.{IsMonotone, CodesComeBack}
 use Rattle.alg_g711.proofs.Dividing.{both, all_in}
@@ -120,7 +121,7 @@ mu_shift e b = same (2 * 2 ^ e % 2 ^ 16) (2 ^ (e + 1)) (all_in mu_shifts 0 8 all
 
 -- the middle of an interval as a magnitude and as a sample
 has_middle : Law → ℕ → Bool
-has_middle law number = nat_le (sample_of law (middle_of law number)) 32767 && nat_le 33 (middle_of Mu number)
+has_middle law number = nat_le (sample_of law (middle_of law number)) 32767 && nat_le 33 (lower_end Mu number + width_of Mu number / 2)
 
 all_have_middles : (law : Law) → list_all (has_middle law) (range_with_len 0 INTERVALS) ≡ true
 unfolding has_middle
@@ -129,14 +130,14 @@ all_have_middles Mu = refl
 
 pub record HasMiddle (law : Law) (number : ℕ) : Type 0 where
   pub fits : sample_of law (middle_of law number) ≤ 32767
-  pub biased : 33 ≤ middle_of Mu number
+  pub biased : 33 ≤ lower_end Mu number + width_of Mu number / 2
 
 pub middle : (law : Law) (number : ℕ) → number < INTERVALS → HasMiddle law number
 unfolding has_middle
 middle law number b =
     let e = all_in (has_middle law) 0 INTERVALS (all_have_middles law) number (omega arith) (omega arith) in
-    let parts = both (nat_le (sample_of law (middle_of law number)) 32767) (nat_le 33 (middle_of Mu number)) e in
-    record { fits = at_most (sample_of law (middle_of law number)) 32767 parts.0; biased = at_most 33 (middle_of Mu number) parts.1 }
+    let parts = both (nat_le (sample_of law (middle_of law number)) 32767) (nat_le 33 (lower_end Mu number + width_of Mu number / 2)) e in
+    record { fits = at_most (sample_of law (middle_of law number)) 32767 parts.0; biased = at_most 33 (lower_end Mu number + width_of Mu number / 2) parts.1 }
 
 -- ---- the tables
 

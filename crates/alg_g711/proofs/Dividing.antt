@@ -7,7 +7,8 @@ use Rattle.std.proofs.lemmas.Bool.Decides.{nat_tests}
 use Rattle.alg_g711.specs.declared.TheConstants.{INTERVALS}
 use Rattle.alg_g711.specs.declared.companding.Law.{Law}
 use Rattle.alg_g711.specs.declared.companding.Law.TheVariants.{A, Mu}
-use Rattle.alg_g711.specs.Companding.{step_start, step_width, lower_end, width_of, holds, interval_of}
+use Rattle.alg_g711.specs.Companding.{step_start, lower_end, holds, interval_of, middle_of}
+use Rattle.alg_g711.specs.Steps.{step_width, width_of}
 
 pub both : (a b : Bool) → (a && b) ≡ true → (a ≡ true) × (b ≡ true)
 both true b e = (refl, e)
@@ -64,12 +65,12 @@ in_order law j (suc n) b =
 
 -- ---- the one that holds
 
-pub bounds : (law : Law) (y k : ℕ) → holds law y k ≡ true → (lower_end law k ≤ y) × (y < lower_end law k + width_of law k)
+pub bounds : (law : Law) (y k : ℕ) → holds law y k ≡ true → (lower_end law k ≤ y) × (y < lower_end law (k + 1))
 bounds law y k e =
-    let parts = both (nat_le (lower_end law k) y) (nat_lt y (lower_end law k + width_of law k)) e in
+    let parts = both (nat_le (lower_end law k) y) (nat_lt y (lower_end law (k + 1))) e in
     (grind (arith, nat_tests, parts.0), grind (arith, nat_tests, parts.1))
 
-pub holds_between : (law : Law) (y k : ℕ) → lower_end law k ≤ y → y < lower_end law k + width_of law k → holds law y k ≡ true
+pub holds_between : (law : Law) (y k : ℕ) → lower_end law k ≤ y → y < lower_end law (k + 1) → holds law y k ≡ true
 holds_between law y k low high = grind (arith, nat_tests)
 
 no_other_below : (law : Law) (y j k : ℕ) → j < k → k < INTERVALS → holds law y k ≡ true → holds law y j ≡ false
@@ -79,7 +80,8 @@ no_other_below law y j k less b here =
     let z : j + suc d ≡ k = omega arith in
     let order : lower_end law j + width_of law j ≤ lower_end law k = subst (λ n. lower_end law j + width_of law j ≤ lower_end law n) z (in_order law j d (omega arith)) in
     let high : lower_end law j + width_of law j ≤ y = omega (arith, order, low) in
-    grind (arith, nat_tests, high)
+    let e = next law j (omega arith) in
+    grind (arith, nat_tests, high, e)
 
 pub interval_is : (law : Law) (y k : ℕ) → k < INTERVALS → holds law y k ≡ true → interval_of law y ≡ k
 unfolding interval_of
@@ -99,16 +101,20 @@ held_below law y (suc n) b low high = elim (cases_lt y (lower_end law n)) [
   | inl less ↦ let held = held_below law y n (omega arith) low less in record { number = held.number; within = omega arith; here = held.here }
   | inr more ↦
       let z : n + 1 ≡ suc n = omega arith in
-      let e : lower_end law n + width_of law n ≡ lower_end law (suc n) = next law n (omega arith) ∙ ap (lower_end law) z in
-      record { number = n; within = omega arith; here = holds_between law y n more (omega (arith, e, high)) }
+      record { number = n; within = omega arith; here = holds_between law y n more (rw z high) }
 ]
 
 -- step m of segment e holds what lies in it
-pub holds_step : (law : Law) (y e m k : ℕ) → m < 16 → k ≡ e * 16 + m → step_start law e m ≤ y
+pub holds_step : (law : Law) (y e m k : ℕ) → k < INTERVALS → m < 16 → k ≡ e * 16 + m → step_start law e m ≤ y
     → y < step_start law e m + step_width law e → holds law y k ≡ true
-holds_step law y e m k b same low high =
+holds_step law y e m k within b same low high =
     let segment : k / 16 ≡ e = ap (λ n. n / 16) same ∙ div-mul-add e 16 m b in
     let step : k % 16 ≡ m = ap (λ n. n % 16) same ∙ mod-mul-add e 16 m b in
     let start : lower_end law k ≡ step_start law e m = rw (segment, step) refl in
     let width : width_of law k ≡ step_width law e = ap (step_width law) segment in
-    holds_between law y k (rw start low) (rw (start, width) high)
+    let e' = next law k within in
+    holds_between law y k (rw start low) (omega (arith, e', start, width, high))
+
+-- the middle of an interval is half its width on from where it begins
+pub middle_is : (law : Law) (k : ℕ) → k < INTERVALS → middle_of law k ≡ lower_end law k + width_of law k / 2
+middle_is law k b = let e = next law k b in omega (arith, e)

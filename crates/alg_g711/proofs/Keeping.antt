@@ -1,5 +1,5 @@
 -- An instance in its records: what it keeps is the same idle and active, and a decoder finds the samples of the codes.
-use Rattle.std.proofs.Common.{◌≡◌, ℕ, zero, suc, ℤ, Option, List, [], length, Some, refl, sym, ap, ◌∙◌, lit<, lit≤, arith}
+use Rattle.std.proofs.Common.{◌≡◌, ℕ, zero, suc, ℤ, Option, List, [], length, Some, option_map, refl, sym, ap, ◌∙◌, lit<, lit≤, arith}
 use Rattle.mem_rec.specs.declared.MemRec.{MemRec}
 use Rattle.mem_rec.specs.declared.Space.TheVariants.{External}
 use Rattle.mem_rec.specs.declared.Attr.TheVariants.{Persist, WriteOnce}
@@ -7,7 +7,7 @@ use Rattle.ialg.specs.declared.memory.Lent.{Lent}
 use Rattle.ialg.specs.History.{History, IsWordHistory}
 use Rattle.ialg.specs.Records.{record_at, words_of, unplaced, lasting, lasting_words, AreApart, AllLent, HoldFill}
 use Rattle.ialg.specs.Loans.{lent_words}
-use Rattle.ialg.specs.Objects.{Names, NamedAt}
+use Rattle.ialg.specs.Objects.{Names, NamedAt, object_memory}
 use Rattle.ialg.proofs.Tables.{words_of-lasting, lasting_at, lent_size, attr_of}
 use Rattle.alg_g711.specs.declared.TheConstants.{CODES}
 use Rattle.alg_g711.specs.declared.companding.Law.{Law}
@@ -15,17 +15,27 @@ use Rattle.alg_g711.specs.declared.coder.Direction.{Direction}
 use Rattle.alg_g711.specs.declared.coder.Direction.TheVariants.{Encode, Decode}
 use Rattle.alg_g711.specs.declared.coder.Coder.{Coder}
 use Rattle.alg_g711.specs.Companding.{samples_of_codes}
-use Rattle.alg_g711.specs.Meaning.{coder_named, kind_word, records_of, table_of, fill_by, fill_of}
-use Rattle.alg_g711.specs.Keeps.{Keeps}
+use Rattle.alg_g711.specs.Meaning.{coder_named, kind_word, records_of}
+use Rattle.alg_g711.specs.Keeps.{Keeps, fill_by, fill_of}
 
 once_lasts : (rs : List MemRec) (wss : List (List ℤ)) (k : ℕ) → (record_at rs k).attr ≡ WriteOnce
     → words_of (lasting rs wss) k ≡ words_of wss k
 once_lasts rs wss k once = words_of-lasting rs wss k ∙ ap (λ a. lasting_words a (words_of wss k)) once
 
+-- the object comes first
+pub first_record : (direction : Direction) → record_at (records_of direction) 0 ≡ object_memory
+first_record Encode = refl
+first_record Decode = refl
+
+object_lasts : (rs : List MemRec) (direction : Direction) (wss : List (List ℤ)) → unplaced rs ≡ records_of direction
+    → words_of (lasting rs wss) 0 ≡ words_of wss 0
+object_lasts rs direction wss records =
+    lasting_at rs (records_of direction) records wss 0 ∙ ap (λ r. lasting_words r.attr (words_of wss 0)) (first_record direction)
+
 -- the words that last keep what all words keep
 pub asleep : (p : List ℤ) (rs : List MemRec) (wss : List (List ℤ)) (h : History) → Keeps p rs wss h → Keeps p rs (lasting rs wss) h
 asleep p rs wss h keeps =
-    let object = lasting_at rs (records_of keeps.coder.direction) keeps.object.on_table wss 0 in
+    let object = object_lasts rs keeps.coder.direction wss keeps.object.on_table in
     record {
       coder = keeps.coder;
       granted = keeps.granted;
@@ -39,7 +49,7 @@ pub awake : (p : List ℤ) (before after : List MemRec) (wss : List (List ℤ)) 
     → Keeps p before (lasting after wss) h → Keeps p before wss h
 awake p before after wss h moved keeps =
     let records : unplaced after ≡ records_of keeps.coder.direction = sym moved ∙ keeps.object.on_table in
-    let object = lasting_at after (records_of keeps.coder.direction) records wss 0 in
+    let object = object_lasts after keeps.coder.direction wss records in
     record {
       coder = keeps.coder;
       granted = keeps.granted;
@@ -105,9 +115,9 @@ once_at law Decode wss (suc zero) once written = written refl
 once_at law Decode wss (suc (suc k)) once written = cc
 
 -- the coder of a table that was granted
-pub granted_records : (asked : Option Coder) (coder : Coder) (t : List MemRec) → asked ≡ Some coder → table_of asked ≡ Some t
+pub granted_records : (asked : Option Coder) (coder : Coder) (t : List MemRec) → asked ≡ Some coder → option_map (λ c. records_of c.direction) asked ≡ Some t
     → t ≡ records_of coder.direction
-granted_records asked coder t e f = let g : table_of (Some coder) ≡ Some t = rw e at f in cc
+granted_records asked coder t e f = let g : Some (records_of coder.direction) ≡ Some t = rw e at f in cc
 
 pub begun : (p : List ℤ) (rs : List MemRec) (wss : List (List ℤ)) (coder : Coder) → coder_named p ≡ Some coder
     → unplaced rs ≡ records_of coder.direction
@@ -129,7 +139,7 @@ module _ (p : List ℤ) (before after : List MemRec) (old new : List (List ℤ))
       → (record_at after k).attr ≡ WriteOnce → words_of new k ≡ fill_of (coder_named p) k
   follows_at keeps others zero once =
       let e = attr_of after (records_of keeps.coder.direction) (sym moved ∙ keeps.object.on_table) 0 in
-      absurd (persistent (sym e ∙ once))
+      absurd (persistent (sym (e ∙ ap (λ r. r.attr) (first_record keeps.coder.direction)) ∙ once))
   follows_at keeps others (suc k) once =
       let e = attr_of after (records_of keeps.coder.direction) (sym moved ∙ keeps.object.on_table) (suc k) in
       let f = attr_of before (records_of keeps.coder.direction) keeps.object.on_table (suc k) in

@@ -92,7 +92,7 @@ mu_number y (suc e) some few bits =
     let z : e + 1 ≡ suc e = omega arith in
     let within : number < INTERVALS = omega arith in
     let same : number ≡ e * 16 + m = omega arith in
-    record { few = omega arith; enough = omega arith; within = within; here = sym (interval_is Mu y number within (holds_step Mu y e m number (omega arith) same (rw z q.low) (rw z q.high))) }
+    record { few = omega arith; enough = omega arith; within = within; here = sym (interval_is Mu y number within (holds_step Mu y e m number within (omega arith) same (rw z q.low) (rw z q.high))) }
 
 -- of A-law, whose first two segments have steps of one width
 a_first : (n : ℕ) → n < 256 → IsNumber A n 4 64
@@ -101,7 +101,7 @@ a_first n few =
     let number = 16 * 4 + m - 64 in
     let within : number < INTERVALS = omega arith in
     let same : number ≡ 0 * 16 + m = omega arith in
-    record { few = omega arith; enough = omega arith; within = within; here = sym (interval_is A n number within (holds_step A n 0 m number (omega arith) same (omega arith) (omega arith))) }
+    record { few = omega arith; enough = omega arith; within = within; here = sym (interval_is A n number within (holds_step A n 0 m number within (omega arith) same (omega arith) (omega arith))) }
 
 a_next : (n i : ℕ) → n < 32768 → HasBitsPast n (i + 4) → IsNumber A n (i + 4) 64
 a_next n i few bits =
@@ -119,7 +119,7 @@ a_next n i few bits =
     let width : 16 * 2 ^ i ≡ w = omega arith in
     let within : number < INTERVALS = omega arith in
     let same : number ≡ suc i * 16 + m = omega arith in
-    record { few = omega arith; enough = omega arith; within = within; here = sym (interval_is A n number within (holds_step A n (suc i) m number (omega arith) same (rw width q.low) (rw width q.high))) }
+    record { few = omega arith; enough = omega arith; within = within; here = sym (interval_is A n number within (holds_step A n (suc i) m number within (omega arith) same (rw width q.low) (rw width q.high))) }
 
 pub a_number : (n s : ℕ) → n < 32768 → HasBitsPast (max n 256) s → IsNumber A n s 64
 a_number n s few bits =

@@ -9,34 +9,25 @@ use Rattle.alg_g711.specs.declared.companding.Law.TheVariants.{A, Mu}
 
 -- ---- intervals
 
--- how wide the steps of a segment are
-abbrev pub step_width : Law → ℕ → ℕ
-step_width A zero = FINEST_A_STEP
-step_width A (suc e) = FINEST_A_STEP * 2 ^ e
-step_width Mu e = 2 ^ (e + 1)
-
 -- where step m of segment e begins
 abbrev pub step_start : Law → ℕ → ℕ → ℕ
-step_start A zero m = step_width A zero * m
-step_start A (suc e) m = step_width A (suc e) * (STEPS + m)
-step_start Mu e m = step_width Mu e * (STEPS + m)
+step_start A zero m = FINEST_A_STEP * m
+step_start A (suc e) m = FINEST_A_STEP * 2 ^ e * (STEPS + m)
+step_start Mu e m = 2 ^ (e + 1) * (STEPS + m)
 
+-- where an interval begins, which ends where the next one begins
 abbrev pub lower_end : Law → ℕ → ℕ
 lower_end law number = step_start law (number / STEPS) (number % STEPS)
 
-abbrev pub width_of : Law → ℕ → ℕ
-width_of law number = step_width law (number / STEPS)
-
 abbrev pub holds : Law → ℕ → ℕ → Bool
-holds law magnitude number =
-    nat_le (lower_end law number) magnitude && nat_lt magnitude (lower_end law number + width_of law number)
+holds law magnitude number = nat_le (lower_end law number) magnitude && nat_lt magnitude (lower_end law (number + 1))
 
 -- the one interval that holds the magnitude
 unfoldable pub interval_of : Law → ℕ → ℕ
 interval_of law magnitude = unwrap_or (find (holds law magnitude) (range_with_len 0 INTERVALS)) 0
 
 abbrev pub middle_of : Law → ℕ → ℕ
-middle_of law number = lower_end law number + width_of law number / 2
+middle_of law number = (lower_end law number + lower_end law (number + 1)) / 2
 
 -- ---- samples: `mag x` is x, and -1 - x where x is negative
 
@@ -61,15 +52,10 @@ abbrev pub encoded : Law → ℤ → ℕ
 encoded law (pos n) = SIGN_BIT + turned law (interval_of law (magnitude_of law (pos n)))
 encoded law (negsuc n) = turned law (interval_of law (magnitude_of law (negsuc n)))
 
--- the interval of a code
-abbrev pub number_of : Law → ℕ → ℕ
-number_of law code = turned law (code % SIGN_BIT)
-
-abbrev pub signed_by : ℕ → ℕ → ℤ
-signed_by code n = if nat_le SIGN_BIT code then pos n else neg_ℤ (pos n)
-
 abbrev pub decoded : Law → ℕ → ℤ
-decoded law code = signed_by code (sample_of law (middle_of law (number_of law code)))
+decoded law code =
+    let n = sample_of law (middle_of law (turned law (code % SIGN_BIT))) in
+    if nat_le SIGN_BIT code then pos n else neg_ℤ (pos n)
 
 -- the samples of all codes, in order
 unfoldable pub samples_of_codes : Law → List ℤ

@@ -4,3 +4,5 @@ pub mod Meaning
 pub mod Rows
 pub mod Keeps
 pub mod Least
+pub mod Parameters
+pub mod Steps

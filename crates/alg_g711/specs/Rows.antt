@@ -4,9 +4,10 @@ use Rattle.mem_rec.specs.declared.MemRec.{MemRec}
 use Rattle.mem_rec.specs.declared.Space.TheVariants.{External}
 use Rattle.mem_rec.specs.declared.Attr.TheVariants.{Persist, WriteOnce}
 use Rattle.ialg.specs.History.{Set, Reset, Get, with_samples}
-use Rattle.ialg.specs.Meaning.{outputs_of}
+use Rattle.ialg.specs.Meaning.{Meaning, outputs_of}
 use Rattle.alg_g711.specs.declared.companding.Law.TheVariants.{A, Mu}
 use Rattle.alg_g711.specs.declared.coder.Direction.TheVariants.{Encode, Decode}
+use Rattle.alg_g711.specs.declared.kind.G711.{G711}
 use Rattle.alg_g711.specs.Companding.{encoded, decoded}
 use Rattle.alg_g711.specs.Meaning.{g711_meaning, kind_word}
 
@@ -28,9 +29,12 @@ pub record SampleRows : Type 0 where
   pub mu_zero : decoded Mu 255 ≡ pos 0
   pub mu_below_0 : decoded Mu 127 ≡ pos 0
 
+abbrev pub coding : Meaning G711
+coding = g711_meaning
+
 -- what a coder with these parameters gives for these words
 abbrev pub given : List ℤ → List ℤ → List ℤ
-given p words = outputs_of g711_meaning (record {}) p (with_samples [] words)
+given p words = outputs_of coding (record {}) p (with_samples [] words)
 
 pub record CoderRows : Type 0 where
   pub mu_encoder : given (pos 1 ∷ pos 0 ∷ []) (pos 0 ∷ negsuc 0 ∷ pos 32767 ∷ []) ≡ pos 255 ∷ pos 127 ∷ pos 128 ∷ []
@@ -43,18 +47,18 @@ abbrev pub object : MemRec
 object = record { size = 4; align = 4; space = External; attr = Persist; base = 0 }
 
 pub record ParameterRows : Type 0 where
-  pub encoder : g711_meaning.table (record {}) (pos 0 ∷ pos 0 ∷ []) ≡ Some (object ∷ [])
-  pub decoder : g711_meaning.table (record {}) (pos 1 ∷ pos 1 ∷ [])
+  pub encoder : coding.table (record {}) (pos 0 ∷ pos 0 ∷ []) ≡ Some (object ∷ [])
+  pub decoder : coding.table (record {}) (pos 1 ∷ pos 1 ∷ [])
       ≡ Some (object ∷ record { size = 256; align = 8; space = External; attr = WriteOnce; base = 0 } ∷ [])
-  pub law_two : g711_meaning.table (record {}) (pos 2 ∷ pos 0 ∷ []) ≡ None
-  pub law_below_0 : g711_meaning.table (record {}) (negsuc 0 ∷ pos 0 ∷ []) ≡ None
-  pub direction_two : g711_meaning.table (record {}) (pos 0 ∷ pos 2 ∷ []) ≡ None
-  pub direction_below_0 : g711_meaning.table (record {}) (pos 0 ∷ negsuc 0 ∷ []) ≡ None
-  pub one_word : g711_meaning.table (record {}) (pos 0 ∷ []) ≡ None
-  pub three_words : g711_meaning.table (record {}) (pos 0 ∷ pos 0 ∷ pos 0 ∷ []) ≡ None
-  pub no_set : g711_meaning.accepts (record {}) [] (Set []) ≡ false
-  pub reset : g711_meaning.accepts (record {}) [] Reset ≡ true
-  pub get : g711_meaning.accepts (record {}) [] Get ≡ true
+  pub law_two : coding.table (record {}) (pos 2 ∷ pos 0 ∷ []) ≡ None
+  pub law_below_0 : coding.table (record {}) (negsuc 0 ∷ pos 0 ∷ []) ≡ None
+  pub direction_two : coding.table (record {}) (pos 0 ∷ pos 2 ∷ []) ≡ None
+  pub direction_below_0 : coding.table (record {}) (pos 0 ∷ negsuc 0 ∷ []) ≡ None
+  pub one_word : coding.table (record {}) (pos 0 ∷ []) ≡ None
+  pub three_words : coding.table (record {}) (pos 0 ∷ pos 0 ∷ pos 0 ∷ []) ≡ None
+  pub no_set : coding.accepts (record {}) [] (Set []) ≡ false
+  pub reset : coding.accepts (record {}) [] Reset ≡ true
+  pub get : coding.accepts (record {}) [] Get ≡ true
 
 -- what an object's first word says
 pub record KindRows : Type 0 where

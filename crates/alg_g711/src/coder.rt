@@ -1,6 +1,9 @@
 //! Coders: what an instance does, and the memory that it needs.
 ghost use Rattle.std.specs.Prelude.{◌≡◌, ◌∷◌, [], Option, Some};
-ghost use Rattle.alg_g711.specs.Meaning.{coder_named, direction_named, kind_word, law_named, samples_memory, table_of};
+ghost use Rattle.ialg.specs.Records.{record_at};
+ghost use Rattle.alg_g711.specs.declared.coder.Direction.TheVariants.{Decode};
+ghost use Rattle.alg_g711.specs.Meaning.{coder_named, kind_word, records_of};
+ghost use Rattle.alg_g711.specs.Parameters.{direction_named, law_named};
 
 use crate::companding::Law;
 use crate::{
@@ -104,7 +107,7 @@ impl Coder {
 
     /// The records that it needs, without bases.
     pub(crate) fn table(self) -> Option<MemTab>
-        ensures { result ≡ table_of (Some self) }
+        ensures { result ≡ Some (records_of self.direction) }
     {
         match self.direction {
             Direction::Encode => MemTab::make(&[object_record()]),
@@ -115,7 +118,7 @@ impl Coder {
 
 /// The record of the samples of the codes, which a decoder has.
 fn samples_record() -> MemRec
-    ensures { result ≡ samples_memory }
+    ensures { result ≡ record_at (records_of Decode) 1 }
 {
     MemRec {
         size: CODES as u32,

@@ -1,6 +1,7 @@
 //! Companding of one sample.
 ghost use Rattle.std.specs.Prelude.{◌≡◌, ◌≤◌, ◌<◌, ◌+◌, ◌*◌, ◌/◌, ◌^◌};
-ghost use Rattle.alg_g711.specs.Companding.{decoded, encoded, interval_of, lower_end, magnitude_of, middle_of, sample_of, step_width, turned};
+ghost use Rattle.alg_g711.specs.Companding.{decoded, encoded, interval_of, lower_end, magnitude_of, middle_of, sample_of, turned};
+ghost use Rattle.alg_g711.specs.Steps.{step_width};
 ghost use Rattle.alg_g711.specs.Least.{IsLeast};
 ghost use Rattle.alg_g711.specs.declared.companding.Law.TheVariants.{A, Mu};
 

@@ -9,10 +9,11 @@ ghost use Rattle.ialg.specs.History.{History, Control, with_samples, word_at};
 ghost use Rattle.ialg.specs.Records.{AllLent, unplaced};
 ghost use Rattle.ialg.specs.Loans.{lent_words, SameLoans, SameBut};
 ghost use Rattle.ialg.specs.Objects.{NamedAt, Names};
+ghost use Rattle.alg_g711.specs.declared.TheConstants.{CODER_RECORDS};
 ghost use Rattle.alg_g711.specs.declared.coder.Direction.TheVariants.{Encode, Decode};
 ghost use Rattle.alg_g711.specs.Companding.{samples_of_codes};
-ghost use Rattle.alg_g711.specs.Keeps.{Keeps};
-ghost use Rattle.alg_g711.specs.Meaning.{coded, g711_meaning, kind_word, records_of};
+ghost use Rattle.alg_g711.specs.Keeps.{Keeps, fill_of};
+ghost use Rattle.alg_g711.specs.Meaning.{coded, coder_named, g711_meaning, kind_word, records_of};
 
 use crate::blocks::{decode_words, encode_words, sample_of, write_samples};
 use crate::coder::{Coder, Direction};
@@ -35,6 +36,8 @@ pub struct G711;
 impl Ialg for G711 {
     ghost law = { record {
       meaning = g711_meaning;
+      bound = λ _. CODER_RECORDS;
+      fill = λ _ p. fill_of (coder_named p);
       idle_keeps = λ _. Keeps;
       active_keeps = λ _. Keeps;
     } };

@@ -28,7 +28,7 @@ pub record SamePlaces {M : Type 0} (before after : State M) : Type 0 where
 itself : {M : Type 0} (s : State M) → SamePlaces s s
 itself s = record { map = refl; sizes = refl; copied = refl; poison = refl }
 
-refused_or : {M A : Type 0} (before : State M) (r : Option Refusal) (o : Outcome M A) → SamePlaces before o.1 → SamePlaces before (unless r before o).1
+refused_or : {M A : Type 0} (before : State M) (r : Option Refusal) (o : Outcome (State M) A) → SamePlaces before o.1 → SamePlaces before (unless r before o).1
 refused_or before None o same = same
 refused_or before (Some r) o same = itself before
 
@@ -75,7 +75,7 @@ without_poison : {M : Type 0} (kinds : Meaning M) (before : State M) (i : ℕ) (
 without_poison kinds before i None = refl
 without_poison kinds before i (Some x) = refl
 
-unless_poison : {M A : Type 0} (before : State M) (r : Option Refusal) (o : Outcome M A) → o.1.poison ≡ before.poison → (unless r before o).1.poison ≡ before.poison
+unless_poison : {M A : Type 0} (before : State M) (r : Option Refusal) (o : Outcome (State M) A) → o.1.poison ≡ before.poison → (unless r before o).1.poison ≡ before.poison
 unless_poison before None o same = same
 unless_poison before (Some r) o same = refl
 

@@ -2,13 +2,14 @@
 use Rattle.std.specs.Prelude.{ℤ, pos, Bool, ◌==◌, ◌&&◌, List, [], ◌∷◌, length}
 use Rattle.basic_op.specs.Operators.{shr_of, extract_h_of, l_mac_of}
 use Rattle.ialg.specs.History.{History, word_at}
-use Rattle.kind_parts.specs.Words.{sum_words, within}
+use Rattle.ialg.specs.Meaning.{is_between}
+use Rattle.kind_parts.specs.Words.{sum_words}
 use Rattle.kind_parts.specs.Framings.{gives_in_frames}
 use Rattle.alg_level.specs.declared.TheConstants.{PARAMETERS, FRAME_SAMPLES, MOST_SHIFT}
 
 -- the words are N s
 abbrev pub is_meter : List ℤ → Bool
-is_meter p = length p == PARAMETERS && within (word_at p 0) (pos 1) FRAME_SAMPLES && within (word_at p 1) (pos 0) MOST_SHIFT
+is_meter p = length p == PARAMETERS && is_between (pos 1) FRAME_SAMPLES (word_at p 0) && is_between (pos 0) MOST_SHIFT (word_at p 1)
 
 -- an energy with the square of one more sample, shifted by s bits to the right
 abbrev pub with_square : ℤ → ℤ → ℤ → ℤ

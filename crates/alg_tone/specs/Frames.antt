@@ -1,16 +1,17 @@
 -- What private clauses alone speak of: a frame and a tuning, by name, and what comes of samples.
 use Rattle.std.specs.Prelude.{ℤ, pos, ◌≡◌, ◌≤◌, List, ◌++◌, unsigned_abs}
-use Rattle.ialg.specs.History.{History, with_samples, word_at}
+use Rattle.ialg.specs.History.{History, samples_in_frame, with_samples, word_at}
 use Rattle.alg_tone.specs.declared.TheConstants.{FRAME_SAMPLES}
 use Rattle.alg_tone.specs.declared.kernel.Frame.{Frame}
 use Rattle.alg_tone.specs.declared.kernel.Tuning.{Tuning}
-use Rattle.alg_tone.specs.Equation.{frame_length, factor_in_force, samples_in_frame, value_in_frame, values_since_reset, tone_outputs}
+use Rattle.alg_tone.specs.Equation.{frame_length, factor_in_force, values_since_reset, tone_outputs}
+use Rattle.alg_tone.specs.Keeps.{value_in_frame}
 
 -- the frame after a history
 pub record IsFrame (p : List ℤ) (h : History) (s : Frame) : Type 0 where
-  pub samples : s.samples ≡ pos (samples_in_frame p h)
-  pub v1 : s.v1 ≡ value_in_frame (samples_in_frame p h) (values_since_reset p h) 0
-  pub v2 : s.v2 ≡ value_in_frame (samples_in_frame p h) (values_since_reset p h) 1
+  pub samples : s.samples ≡ pos (samples_in_frame (frame_length p) h)
+  pub v1 : s.v1 ≡ value_in_frame (samples_in_frame (frame_length p) h) (values_since_reset p h) 0
+  pub v2 : s.v2 ≡ value_in_frame (samples_in_frame (frame_length p) h) (values_since_reset p h) 1
 
 -- a block was run, with the outputs ys
 pub record Gives (p : List ℤ) (h : History) (block : List ℤ) (s : Frame) (ys : List ℤ) : Type 0 where

@@ -1,12 +1,12 @@
 -- Worked rows: what detectors give and take.
-use Rattle.std.specs.Prelude.{◌≡◌, ℤ, pos, negsuc, true, false, List, [], ◌∷◌, replicate, Option, Some, None}
+use Rattle.std.specs.Prelude.{◌≡◌, ℤ, pos, negsuc, true, false, List, [], ◌∷◌, replicate, Option, Some, None, option_map}
 use Rattle.mem_rec.specs.declared.MemRec.{MemRec}
 use Rattle.mem_rec.specs.declared.Space.TheVariants.{Daram, Saram, External}
 use Rattle.mem_rec.specs.declared.Attr.TheVariants.{Scratch, Persist}
 use Rattle.ialg.specs.History.{History, Control, Set, Reset, Get, with_samples}
-use Rattle.ialg.specs.Filters.{filter_table}
+use Rattle.ialg.specs.Filters.{filter_records}
 use Rattle.alg_tone.specs.Equation.{tone_outputs}
-use Rattle.alg_tone.specs.Meaning.{tone_memory, tone_accepts, tone_filter}
+use Rattle.alg_tone.specs.Meaning.{tone_memory, tone_filter}
 
 -- frames of four samples, with the factor 0
 abbrev pub fours : List ℤ
@@ -39,7 +39,7 @@ pub record OutputRows : Type 0 where
 
 -- the table of a detector with this factor, frames of so many samples and this shift
 abbrev pub table_for : ℤ → ℤ → ℤ → Option (List MemRec)
-table_for factor samples shift = filter_table (tone_memory (factor ∷ samples ∷ shift ∷ []))
+table_for factor samples shift = option_map filter_records (tone_memory (factor ∷ samples ∷ shift ∷ []))
 
 abbrev pub granted : Option (List MemRec)
 granted = Some (
@@ -61,11 +61,11 @@ pub record ParameterRows : Type 0 where
   pub four_words : tone_memory (pos 0 ∷ pos 4 ∷ pos 0 ∷ pos 0 ∷ []) ≡ None
 
 pub record ControlRows : Type 0 where
-  pub set_none : tone_accepts (Set []) ≡ false
-  pub set_one : tone_accepts (Set (pos 16384 ∷ [])) ≡ true
-  pub set_two : tone_accepts (Set (pos 1 ∷ pos 2 ∷ [])) ≡ false
-  pub reset : tone_accepts Reset ≡ true
-  pub get : tone_accepts Get ≡ true
+  pub set_none : tone_filter.accepts fours (Set []) ≡ false
+  pub set_one : tone_filter.accepts fours (Set (pos 16384 ∷ [])) ≡ true
+  pub set_two : tone_filter.accepts fours (Set (pos 1 ∷ pos 2 ∷ [])) ≡ false
+  pub reset : tone_filter.accepts fours Reset ≡ true
+  pub get : tone_filter.accepts fours Get ≡ true
   pub got_3 : tone_filter.got fours (set_to_1 (with_samples [] (replicate 3 (pos 9)))) ≡ pos 3 ∷ []
   pub got_full : tone_filter.got fours (with_samples [] (replicate 4 (pos 9))) ≡ pos 0 ∷ []
   pub got_next : tone_filter.got fours (with_samples [] (replicate 5 (pos 9))) ≡ pos 1 ∷ []

@@ -1,7 +1,8 @@
 //! The detector `Tone`: what the words of its records keep of a history.
 ghost use Rattle.std.specs.Prelude.{◌≡◌, pos};
 ghost use Rattle.alg_tone.specs.Keeps.{tone_kind, Rests, Runs};
-ghost use Rattle.alg_tone.specs.Meaning.{is_between, tone_filter};
+ghost use Rattle.ialg.specs.Meaning.{is_between};
+ghost use Rattle.alg_tone.specs.Meaning.{tone_filter};
 
 use crate::kernel::detect;
 use crate::{FRAME_SAMPLES, MOST_SHIFT, PARAMETERS, STATE_WORDS, TONE_KIND};
@@ -95,14 +96,14 @@ impl Filter for Tone {
 
 /// Whether a frame may have so many samples.
 fn is_frame(samples: i16) -> bool
-    ensures { result ≡ is_between samples (pos 1) FRAME_SAMPLES }
+    ensures { result ≡ is_between (pos 1) FRAME_SAMPLES samples }
 {
     1 <= samples && samples <= FRAME_SAMPLES
 }
 
 /// Whether samples may be shifted by so many bits.
 fn is_shift(bits: i16) -> bool
-    ensures { result ≡ is_between bits (pos 0) MOST_SHIFT }
+    ensures { result ≡ is_between (pos 0) MOST_SHIFT bits }
 {
     0 <= bits && bits <= MOST_SHIFT
 }

@@ -2,8 +2,8 @@
 ghost use Rattle.std.specs.Prelude.{◌≡◌, ◌≤◌, ◌<◌, ◌+◌, ◌^◌, ◌++◌, ◌∷◌, ◌≤ℤ◌, ℕ, ℤ, List, [], length, take, pos, true, unsigned_abs, FitsSigned, IfSome};
 ghost use Rattle.std.specs.Int.{w16};
 ghost use Rattle.basic_op.specs.Operators.{add_of, saturate16, shr_of};
-ghost use Rattle.ialg.specs.History.{History, word_at};
-ghost use Rattle.alg_tone.specs.Equation.{feedback_of, frame_length, samples_in_frame, tone_level, tone_value};
+ghost use Rattle.ialg.specs.History.{History, word_at, samples_in_frame};
+ghost use Rattle.alg_tone.specs.Equation.{feedback_of, frame_length, tone_level, tone_value};
 ghost use Rattle.alg_tone.specs.Frames.{Gives, IsFrame, IsTuned};
 ghost use Rattle.alg_tone.specs.Keeps.{state_after, KeepsParameters, Ran};
 
@@ -186,7 +186,7 @@ impl Tuning {
     /// How many samples can follow in the frame before its last one. Words that no instance keeps may count more samples than a frame has:
     /// then it is none.
     fn room(self, frame: Frame) -> usize
-        ensures { (p : List ℤ) (h : History) → IsTuned p h self → IsFrame p h frame → samples_in_frame p h + result < frame_length p }
+        ensures { (p : List ℤ) (h : History) → IsTuned p h self → IsFrame p h frame → samples_in_frame (frame_length p) h + result < frame_length p }
     {
         let left = sub(self.samples, frame.samples);
         let some = left.max(1);
@@ -263,9 +263,9 @@ fn run_quiet(tuning: Tuning, start: Frame, input: &[i16]) -> Values
     requires { length input.now ≤ BLOCK_SAMPLES }
     ensures count { result.count ≤ length input.now }
     ensures fit { (k : ℕ) → k < result.count → FitsSigned w16 (word_at input.now k) }
-    ensures law { (p : List ℤ) (h : History) → IsTuned p h tuning → IsFrame p h start → samples_in_frame p h + length input.now < frame_length p
+    ensures law { (p : List ℤ) (h : History) → IsTuned p h tuning → IsFrame p h start → samples_in_frame (frame_length p) h + length input.now < frame_length p
         → Gives p h (take result.count input.now)
-        (record { samples = pos (samples_in_frame p h + result.count); v1 = result.v1; v2 = result.v2 }) [] }
+        (record { samples = pos (samples_in_frame (frame_length p) h + result.count); v1 = result.v1; v2 = result.v2 }) [] }
 {
     let mut v1 = i32::from(start.v1);
     let mut v2 = i32::from(start.v2);
@@ -297,7 +297,7 @@ fn run_plain(tuning: Tuning, start: Frame, input: &[i16]) -> Run
     requires { length input.now ≤ BLOCK_SAMPLES }
     ensures count { result.count ≤ length input.now }
     ensures fit { (k : ℕ) → k < result.count → FitsSigned w16 (word_at input.now k) }
-    ensures law { (p : List ℤ) (h : History) → IsTuned p h tuning → IsFrame p h start → samples_in_frame p h + length input.now < frame_length p
+    ensures law { (p : List ℤ) (h : History) → IsTuned p h tuning → IsFrame p h start → samples_in_frame (frame_length p) h + length input.now < frame_length p
         → Gives p h (take result.count input.now) result.frame [] }
 {
     let quiet = run_quiet(tuning, start, input);

@@ -1,9 +1,10 @@
 -- What the members of two channels give that were given the same.
 use Rattle.std.proofs.Common.{◌≡◌, ℕ, ℤ, false, List, [], ◌∷◌, Option, Some, None, refl, ap, sym, ◌∙◌, subst, nat_eq}
+use Rattle.host_map.specs.Activity.{with_at}
 use Rattle.relocate.proofs.RangeTests.{both_false}
 use Rattle.ialg.specs.History.{with_samples, block_output}
 use Rattle.ialg.specs.Meaning.{Meaning}
-use Rattle.host_spec.specs.State.{Living, with_living}
+use Rattle.host_spec.specs.State.{Living}
 use Rattle.host_spec.specs.Answers.{output_at}
 use Rattle.channel_spec.specs.Channels.{Channels, members_at, has_number, has_repeat}
 use Rattle.channel_spec.specs.Agreement.{LiveEqually, AllLiveEqually, MembersAgree}
@@ -25,7 +26,7 @@ module _ {M : Type 0} (kinds : Meaning M) where
   -- where instances are replaced that aren't among these
   others_agree : (one other : Instances M) (i j : ℕ) (v w : Option (Living M)) (is js : List ℕ)
       → has_number is i ≡ false → has_number js j ≡ false → AllLiveEqually one is other js
-      → AllLiveEqually (with_living one i v) is (with_living other j w) js
+      → AllLiveEqually (with_at one i v) is (with_at other j w) js
   others_agree one other i j v w [] [] none nor same = tt
   others_agree one other i j v w [] (l ∷ js) none nor same = absurd same
   others_agree one other i j v w (k ∷ is) [] none nor same = absurd same
@@ -34,7 +35,7 @@ module _ {M : Type 0} (kinds : Meaning M) where
       let over = both_false (nat_eq j l) (has_number js j) nor in
       let kept = elsewhere one i v k (λ e. not_number kinds k i here.0 (sym e)) in
       let left = elsewhere other j w l (λ e. not_number kinds l j over.0 (sym e)) in (
-        subst (λ x. LiveEqually x (with_living other j w l)) (sym kept) (subst (λ y. LiveEqually (one k) y) (sym left) same.0),
+        subst (λ x. LiveEqually x (with_at other j w l)) (sym kept) (subst (λ y. LiveEqually (one k) y) (sym left) same.0),
         others_agree one other i j v w is js here.1 over.1 same.1,
       )
 

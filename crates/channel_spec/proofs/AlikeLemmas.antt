@@ -1,5 +1,6 @@
 -- A control of channels that are alike.
 use Rattle.std.proofs.Common.{◌≡◌, ℕ, [], ◌∷◌, Option, Some, None, Result, Ok, refl, ap, sym, ◌∙◌, subst}
+use Rattle.host_map.specs.Activity.{with_at}
 use Rattle.std.specs.Prelude.{not, is_none, IfSome}
 use Rattle.ialg.specs.declared.refusal.Refusal.{Refusal}
 use Rattle.ialg.specs.declared.refusal.Refusal.TheVariants.{Range, Missing, Command}
@@ -7,7 +8,7 @@ use Rattle.ialg.specs.Refusals.{first_refusal}
 use Rattle.ialg.specs.History.{Ctl}
 use Rattle.ialg.specs.History as history
 use Rattle.ialg.specs.Meaning.{Meaning, Status}
-use Rattle.host_spec.specs.State.{Living, State, with_living, is_instance_number}
+use Rattle.host_spec.specs.State.{Living, State, is_instance_number}
 use Rattle.host_spec.specs.Choices.{IsLawful}
 use Rattle.host_spec.specs.Steps.{Outcome, unless, controlled}
 use Rattle.host_spec.specs.Answers.{accepted, status_at}
@@ -15,12 +16,13 @@ use Rattle.host_spec.specs.Calls as host_calls
 use Rattle.host_spec.specs.Calls.Call.{Control}
 use Rattle.host_spec.proofs.AnswerLemmas.{computed}
 use Rattle.channel_spec.specs.Channels.{Channels}
-use Rattle.channel_spec.specs.Calls.{PassesOn}
+use Rattle.channel_spec.specs.Calls.{Does}
+use Rattle.channel_spec.specs.Calls.Call.{OfHost}
 use Rattle.channel_spec.specs.Cuts.{AreAlike}
 
 module _ {M : Type 0} (kinds : Meaning M) (i : ℕ) (c : Ctl) where
   -- over hosts with these instances
-  abbrev controlling : State M → (ℕ → Option (Living M)) → Outcome M Status
+  abbrev controlling : State M → (ℕ → Option (Living M)) → Outcome (State M) Status
   controlling before living =
       unless (first_refusal ((not (is_instance_number i), Range) ∷ (is_none (living i), Missing) ∷ (not (accepted kinds (living i) c), Command) ∷ [])) before
       (Ok (status_at kinds (living i) c), controlled before i (living i) c)
@@ -35,7 +37,7 @@ module _ {M : Type 0} (kinds : Meaning M) (i : ℕ) (c : Ctl) where
 
   module _ (one other : Channels M) (alike : AreAlike one other) where
     -- the same answer, and hosts that are alike
-    abbrev Agree : Outcome M Status → Outcome M Status → Type 0
+    abbrev Agree : Outcome (State M) Status → Outcome (State M) Status → Type 0
     Agree a b = (a.0 ≡ b.0) × AreAlike (record one { host = a.1 }) (record other { host = b.1 })
 
     controlled_agree : (x : Option (Living M)) (s : Status) → Agree (Ok s, controlled one.host i x c) (Ok s, controlled other.host i x c)
@@ -43,7 +45,7 @@ module _ {M : Type 0} (kinds : Meaning M) (i : ℕ) (c : Ctl) where
     controlled_agree (Some x) s = (
       refl,
       record {
-        living = ap (λ living. with_living living i (Some (record x { history = history.Control c ∷ x.history }))) alike.living;
+        living = ap (λ living. with_at living i (Some (record x { history = history.Control c ∷ x.history }))) alike.living;
         map = alike.map;
         sizes = alike.sizes;
         poison = alike.poison;
@@ -52,19 +54,19 @@ module _ {M : Type 0} (kinds : Meaning M) (i : ℕ) (c : Ctl) where
       },
     )
 
-    unless_agree : (r : Option Refusal) (a b : Outcome M Status) → Agree a b → Agree (unless r one.host a) (unless r other.host b)
+    unless_agree : (r : Option Refusal) (a b : Outcome (State M) Status) → Agree a b → Agree (unless r one.host a) (unless r other.host b)
     unless_agree None a b agree = agree
     unless_agree (Some refusal) a b agree = (refl, alike)
 
     pub control_agrees : (one_after other_after : Channels M) (answer other_answer : Result Status Refusal)
         → IfSome (one.host.living i) (IsLawful kinds one.host.poison)
-        → PassesOn kinds one (Control i c answer) one_after → PassesOn kinds other (Control i c other_answer) other_after
+        → Does kinds one (OfHost (Control i c answer)) one_after → Does kinds other (OfHost (Control i c other_answer)) other_after
         → (answer ≡ other_answer) × AreAlike one_after other_after
     control_agrees one_after other_after answer other_answer lawful does others =
         let other_lawful : IfSome (other.host.living i) (IsLawful kinds other.host.poison) =
         subst (λ p. IfSome (other.host.living i) (IsLawful kinds p)) alike.poison (subst (λ living. IfSome (living i) (IsLawful kinds one.host.poison)) alike.living lawful) in
-        let first = control_is one.host one_after.host answer lawful does.does in
-        let second = control_is other.host other_after.host other_answer other_lawful others.does ∙ ap (λ living. controlling other.host living) (sym alike.living) in
+        let first = control_is one.host one_after.host answer lawful does.1 in
+        let second = control_is other.host other_after.host other_answer other_lawful others.1 ∙ ap (λ living. controlling other.host living) (sym alike.living) in
         let agree = unless_agree _ _ _ (controlled_agree (one.host.living i) (status_at kinds (one.host.living i) c)) in
         let now : Agree (answer, one_after.host) (other_answer, other_after.host) =
         subst (λ a. Agree a (other_answer, other_after.host)) (sym first) (subst (λ b. Agree (controlling one.host one.host.living) b) (sym second) agree) in (
@@ -75,6 +77,6 @@ module _ {M : Type 0} (kinds : Meaning M) (i : ℕ) (c : Ctl) where
             sizes = now.1.sizes;
             poison = now.1.poison;
             copied = now.1.copied;
-            chained = does.chained ∙ alike.chained ∙ sym others.chained;
+            chained = does.2 ∙ alike.chained ∙ sym others.2;
           },
         )

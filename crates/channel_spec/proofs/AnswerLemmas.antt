@@ -9,8 +9,10 @@ use Rattle.host_spec.specs.Answers.{AreLawful}
 use Rattle.host_spec.proofs.AnswerLemmas.{one_computed}
 use Rattle.host_spec.proofs.CallLemmas.{host_stays}
 use Rattle.channel_spec.specs.Channels.{Channels, members_at}
-use Rattle.channel_spec.specs.Steps.{on_host, chain, unchain, delete, ready}
-use Rattle.channel_spec.specs.Calls.{Call, Does, Passes}
+use Rattle.channel_spec.specs.Steps.{chain, unchain, delete, ready}
+use Rattle.channel_spec.specs.Parts.{Passes, on_host}
+use Rattle.channel_spec.proofs.PassingLemmas.{fed_passes}
+use Rattle.channel_spec.specs.Calls.{Call, Does}
 use Rattle.channel_spec.specs.Calls.Call.{Chain, Unchain, Remove, Ready, Feed, OfHost}
 use Rattle.channel_spec.specs.Answers.{passed, answered}
 
@@ -63,9 +65,9 @@ module _ {M : Type 0} (kinds : Meaning M) where
     computed (Ready c answer) does = with_answer (λ a. Ready c a) answer after (ready before c) does
     computed (Feed c block out) does =
         let next = passed kinds before.host (members_at before.chained c) block in
-        let e = block_passed (members_at before.chained c) before.host after.host block out lawful does.passes in
-        told (λ o. Feed c block o) out next.0 after (on_host before next.1) (ap (λ o. o.0) e) (moved before after next.1 (ap (λ o. o.1) e) does.chained)
+        let e = block_passed (members_at before.chained c) before.host after.host block out lawful (fed_passes kinds before after c block out does) in
+        told (λ o. Feed c block o) out next.0 after (on_host before next.1) (ap (λ o. o.0) e) (moved before after next.1 (ap (λ o. o.1) e) does.4)
     computed (OfHost call) does =
         let next = host_answers.answered kinds before.host call in
-        let e = one_computed kinds before.host after.host lawful call does.does in
-        told (λ o. OfHost o) call next.0 after (on_host before next.1) (ap (λ o. o.0) e) (moved before after next.1 (ap (λ o. o.1) e) does.chained)
+        let e = one_computed kinds before.host after.host lawful call does.1 in
+        told (λ o. OfHost o) call next.0 after (on_host before next.1) (ap (λ o. o.0) e) (moved before after next.1 (ap (λ o. o.1) e) does.2)

@@ -1,10 +1,11 @@
 -- What a channel of lawful members gives, and what it leaves, however its samples are cut.
 use Rattle.std.proofs.Common.{◌≡◌, ℕ, ℤ, true, false, List, [], ◌∷◌, ◌++◌, Option, Some, None, refl, ap, sym, ◌∙◌, subst, nat_eq}
+use Rattle.host_map.specs.Activity.{with_at}
 use Rattle.std.proofs.lemmas.Bool.{eq-eqb}
 use Rattle.std.specs.Prelude.{IfSome}
 use Rattle.relocate.proofs.RangeTests.{left_true, right_true}
 use Rattle.ialg.specs.Meaning.{Meaning}
-use Rattle.host_spec.specs.State.{Living, State, with_living}
+use Rattle.host_spec.specs.State.{Living, State}
 use Rattle.host_spec.specs.Choices.{IsLawful}
 use Rattle.host_spec.specs.Answers.{output_at}
 use Rattle.host_spec.specs.Steps.{given}
@@ -13,8 +14,9 @@ use Rattle.host_spec.specs.Calls.{Processes}
 use Rattle.host_spec.specs.Calls.Call.{Process}
 use Rattle.host_spec.proofs.AnswerLemmas.{computed}
 use Rattle.channel_spec.specs.Channels.{Channels, members_at, has_number, has_repeat}
-use Rattle.channel_spec.specs.Calls.{Passes, Feeds}
-use Rattle.channel_spec.specs.Cuts.{joined, AreAlike, MembersAreLawful, GroupsAreApart, FeedsAll}
+use Rattle.channel_spec.specs.Parts.{Passes}
+use Rattle.channel_spec.specs.Cuts.{joined, AreAlike, MembersAreLawful, GroupsAreApart, Feeds, FeedsAll}
+use Rattle.channel_spec.proofs.PassingLemmas.{fed_passes}
 use Rattle.channel_spec.proofs.FlowLemmas.{Instances, grown, fed, flow, flow_twice, flow_of_none, flow_cut, fed_lawful, flow_lawful}
 use Rattle.channel_spec.proofs.TurnLemmas.{turned, GroupsApart, turns, turns_of_none, turns_cut, fed_group, flow_apart}
 
@@ -65,7 +67,7 @@ module _ {M : Type 0} (kinds : Meaning M) where
       → after.living ≡ fed before.living i (s ∷ block)
   processed_living before after i s block out does =
       ap (λ state. state.living) (does.outcome ∙ ap (λ x. given before i x (s ∷ block)) does.there)
-      ∙ ap (λ x. with_living before.living i (grown x (s ∷ block))) (sym does.there)
+      ∙ ap (λ x. with_at before.living i (grown x (s ∷ block))) (sym does.there)
 
   -- ---- members
 
@@ -134,7 +136,7 @@ module _ {M : Type 0} (kinds : Meaning M) where
   pub feeds_flow : (before after : Channels M) (c : ℕ) (block out : List ℤ) → MembersAreLawful kinds before c → Feeds kinds before c block out after
       → FlowsIn before c block out after
   feeds_flow before after c block out lawful feeds =
-      (passes_flow (members_at before.chained c) before.host after.host block out lawful feeds.passes, feeds.chained)
+      (passes_flow (members_at before.chained c) before.host after.host block out lawful (fed_passes kinds before after c block out feeds), feeds.4)
 
   -- one cutting
 

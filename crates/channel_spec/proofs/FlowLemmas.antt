@@ -1,5 +1,6 @@
 -- What lawful members give, and what they were given then, as a function of what they were given before.
 use Rattle.std.proofs.Common.{◌≡◌, ◌≢◌, ℕ, ℤ, false, cond, List, [], ◌∷◌, ◌++◌, length, drop, Option, Some, None, refl, ap, sym, ◌∙◌, subst, nat_eq, append-nil, arith}
+use Rattle.host_map.specs.Activity.{with_at}
 use Rattle.std.proofs.Math.Seq.{drop-append_seam}
 use Rattle.std.proofs.lemmas.Bool.{eq-eqb}
 use Rattle.std.proofs.lemmas.Bool.Decides.{eqb_tells}
@@ -8,7 +9,7 @@ use Rattle.relocate.proofs.RangeTests.{either, both_false, true_or_false, clash}
 use Rattle.ialg.specs.History.{with_samples}
 use Rattle.ialg.specs.Meaning.{Meaning, outputs_of}
 use Rattle.ialg.proofs.CutLemmas.{cuts_dont_show}
-use Rattle.host_spec.specs.State.{Living, with_living}
+use Rattle.host_spec.specs.State.{Living}
 use Rattle.host_spec.specs.Choices.{IsLawful}
 use Rattle.host_spec.specs.Answers.{output_at}
 use Rattle.channel_spec.specs.Channels.{has_number, has_repeat}
@@ -23,7 +24,7 @@ grown None block = None
 grown (Some x) block = Some (record x { history = with_samples x.history block })
 
 abbrev pub fed : {M : Type 0} → Instances M → ℕ → List ℤ → Instances M
-fed living i block = with_living living i (grown (living i) block)
+fed living i block = with_at living i (grown (living i) block)
 
 -- ---- values by number, one of them replaced
 
@@ -88,7 +89,7 @@ module _ {M : Type 0} (kinds : Meaning M) where
   flow living (i ∷ is) block = flow (fed living i block) is (output_at kinds (living i) block)
 
   pub fed_none : (living : Instances M) (i : ℕ) → fed living i [] ≡ living
-  fed_none living i = ap (λ x. with_living living i x) (grown_by_none (living i)) ∙ unchanged living i
+  fed_none living i = ap (λ x. with_at living i x) (grown_by_none (living i)) ∙ unchanged living i
 
   pub flow_of_none : (is : List ℕ) (living : Instances M) → flow living is [] ≡ ([], living)
   flow_of_none [] living = refl
@@ -99,18 +100,18 @@ module _ {M : Type 0} (kinds : Meaning M) where
 
   -- another instance replaced: it stays so, and is read by no member
   abbrev pub with_other : List ℤ × Instances M → ℕ → Option (Living M) → List ℤ × Instances M
-  with_other r i v = (r.0, with_living r.1 i v)
+  with_other r i v = (r.0, with_at r.1 i v)
 
   pub not_number : (k i : ℕ) → nat_eq i k ≡ false → i ≢ k
   not_number k i differ e = clash (nat_eq i k) (eq-eqb i k e) differ
 
   pub frame : (is : List ℕ) (living : Instances M) (i : ℕ) (v : Option (Living M)) (block : List ℤ) → has_number is i ≡ false
-      → flow (with_living living i v) is block ≡ with_other (flow living is block) i v
+      → flow (with_at living i v) is block ≡ with_other (flow living is block) i v
   frame [] living i v block none = refl
   frame (k ∷ is) living i v block none =
       let others = both_false (nat_eq i k) (has_number is i) none in
       let apart : i ≢ k = not_number k i others.0 in
-      ap (λ x. flow (with_living (with_living living i v) k (grown x block)) is (output_at kinds x block)) (elsewhere living i v k (λ e. apart (sym e)))
+      ap (λ x. flow (with_at (with_at living i v) k (grown x block)) is (output_at kinds x block)) (elsewhere living i v k (λ e. apart (sym e)))
       ∙ ap (λ l. flow l is (output_at kinds (living k) block)) (swapped living i k apart v (grown (living k) block))
       ∙ frame is (fed living k block) i v (output_at kinds (living k) block) others.1
 
@@ -139,15 +140,15 @@ module _ {M : Type 0} (kinds : Meaning M) where
       let one = output_at kinds x xs in
       let two = output_at kinds y ys in
       let first = flow (fed living i xs) is one in
-      let joint : flow (fed living i (xs ++ ys)) is (output_at kinds x (xs ++ ys)) ≡ flow (with_living living i v) is (one ++ two) =
-      ap (λ z. flow (with_living living i z) is (output_at kinds x (xs ++ ys))) (grown_by_two x xs ys)
-      ∙ ap (λ block. flow (with_living living i v) is block) (output_of_two x xs ys) in
-      let early : flow (with_living living i v) is one ≡ with_other first i v =
+      let joint : flow (fed living i (xs ++ ys)) is (output_at kinds x (xs ++ ys)) ≡ flow (with_at living i v) is (one ++ two) =
+      ap (λ z. flow (with_at living i z) is (output_at kinds x (xs ++ ys))) (grown_by_two x xs ys)
+      ∙ ap (λ block. flow (with_at living i v) is block) (output_of_two x xs ys) in
+      let early : flow (with_at living i v) is one ≡ with_other first i v =
       ap (λ l. flow l is one) (sym (again living i y v)) ∙ frame is (fed living i xs) i v one others.0 in
       let its : first.1 i ≡ y = stays is (fed living i xs) i one others.0 ∙ there living i y in
-      joint ∙ flow_cut is (with_living living i v) one two others.1
+      joint ∙ flow_cut is (with_at living i v) one two others.1
       ∙ ap (λ r. onward r.0 (flow r.1 is two)) early
-      ∙ ap (λ z. onward first.0 (flow (with_living first.1 i (grown z ys)) is (output_at kinds z ys))) (sym its)
+      ∙ ap (λ z. onward first.0 (flow (with_at first.1 i (grown z ys)) is (output_at kinds z ys))) (sym its)
 
   -- ---- lawful instances stay so
 

@@ -11,13 +11,16 @@ use Rattle.std.proofs.lemmas.Bool.{false≢true}
 use Rattle.std.proofs.lemmas.Option.{same_Some}
 use Rattle.host_spec.specs.State.{State}
 use Rattle.host_spec.specs.Steps as steps
+use Rattle.host_spec.specs.Steps.{Outcome, unless}
 use Rattle.host_spec.specs.Calls.Call.{Delete}
 use Rattle.host_spec.proofs.CallLemmas.{others_stay}
-use Rattle.channel_spec.specs.Channels.{Channels, members_at, has_number, has_repeat, is_in_channel, is_chained, lives, all_live}
-use Rattle.channel_spec.specs.Steps.{Outcome, unless, channel_refusal, with_members, on_host}
+use Rattle.channel_spec.specs.Channels.{Channels, members_at, has_number, has_repeat, is_in_channel, is_chained}
+use Rattle.channel_spec.specs.Steps.{channel_refusal}
+use Rattle.channel_spec.specs.Parts.{all_live, lives, on_host, with_members}
 use Rattle.channel_spec.specs.Calls.{Call, Does}
 use Rattle.channel_spec.specs.Calls.Call.{Chain, Unchain, Remove, Ready, Feed, OfHost}
 use Rattle.channel_spec.specs.Laws.{AreHeld}
+use Rattle.channel_spec.proofs.PassingLemmas.{fed_passes}
 use Rattle.channel_spec.proofs.LivingLemmas.{StillLive, passed_on_live, passes_live}
 
 -- ---- lists
@@ -136,7 +139,7 @@ module _ {M : Type 0} (before : Channels M) (held : AreHeld before) where
   about_held (Some r) granted holds = held
 
   module _ (after : Channels M) where
-    by_outcome : (answer : Result (Unit {0}) Refusal) (outcome : Outcome M (Unit {0})) → (answer, after) ≡ outcome → AreHeld outcome.1 → AreHeld after
+    by_outcome : (answer : Result (Unit {0}) Refusal) (outcome : Outcome (Channels M) (Unit {0})) → (answer, after) ≡ outcome → AreHeld outcome.1 → AreHeld after
     by_outcome answer outcome e holds = subst AreHeld (sym (ap (λ o. o.1) e)) holds
 
     still : after.chained ≡ before.chained → StillLive before.host after.host → AreHeld after
@@ -153,5 +156,5 @@ module _ {M : Type 0} (before : Channels M) (held : AreHeld before) where
     call_held kinds (Remove i answer) does =
         by_outcome answer _ does (delete_held kinds i _ (is_none (before.host.living i)) (is_in_channel before.chained i) refl)
     call_held kinds (Ready c answer) does = by_outcome answer _ does (about_held (channel_refusal before c) before held)
-    call_held kinds (Feed c block out) does = still does.chained (passes_live kinds (members_at before.chained c) before.host after.host block out does.passes)
-    call_held kinds (OfHost call) does = still does.chained (passed_on_live kinds before.host after.host call does.kind does.does)
+    call_held kinds (Feed c block out) does = still does.4 (passes_live kinds (members_at before.chained c) before.host after.host block out (fed_passes kinds before after c block out does))
+    call_held kinds (OfHost call) does = still does.2 (passed_on_live kinds before.host after.host call does.0 does.1)

@@ -1,5 +1,6 @@
 pub mod OutcomeLemmas
 pub mod RefusalLemmas
+pub mod PassingLemmas
 pub mod LivingLemmas
 pub mod HoldingLemmas
 pub mod AnswerLemmas

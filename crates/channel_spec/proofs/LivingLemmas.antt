@@ -1,5 +1,6 @@
 -- Who lives after a call.
 use Rattle.std.proofs.Common.{◌≡◌, ℕ, ℤ, Bool, true, false, List, [], ◌∷◌, Option, Some, None, Result, Ok, Err, refl, sym, subst, nat_eq}
+use Rattle.host_map.specs.Activity.{with_at}
 use Rattle.std.specs.Prelude.{is_some, if◌then◌else◌}
 use Rattle.mem_rec.specs.declared.MemRec.{MemRec}
 use Rattle.mem_rec.specs.declared.Space.{Space}
@@ -9,14 +10,14 @@ use Rattle.host_map.specs.declared.placed.Placed.{Placed}
 use Rattle.host_map.specs.Moves.{next_block}
 use Rattle.host_map.specs.MemoryMap.{MemoryMap, blocks_in}
 use Rattle.host_map.specs.Creation.{created_map}
-use Rattle.host_spec.specs.State.{Living, State, sharers_of, with_living}
+use Rattle.host_spec.specs.State.{Living, State, sharers_of}
 use Rattle.host_spec.specs.Steps.{newborn, with_room, with_memory, controlled, given, moving}
 use Rattle.host_spec.specs.Calls as host_calls
 use Rattle.host_spec.specs.Calls.{Processes}
 use Rattle.host_spec.specs.Calls.Call.{Create, Control, Process, Delete, Release, Step, Compact, Stat, Map, Lives, Copied}
 use Rattle.host_spec.proofs.CallLemmas.{after_is, unless_holds}
-use Rattle.channel_spec.specs.Channels.{lives}
-use Rattle.channel_spec.specs.Calls.{IsPassedOn, Passes}
+use Rattle.channel_spec.specs.Parts.{Passes, lives}
+use Rattle.channel_spec.specs.Calls.{IsPassedOn}
 
 -- who lived lives still
 abbrev pub StillLive : {M : Type 0} → State M → State M → Type 0
@@ -27,7 +28,7 @@ if_some true x y e f = e
 if_some false x y e f = f
 
 module _ {M : Type 0} (before : State M) (i : ℕ) where
-  with_one : (x : Living M) (j : ℕ) → lives before j ≡ true → is_some (with_living before.living i (Some x) j) ≡ true
+  with_one : (x : Living M) (j : ℕ) → lives before j ≡ true → is_some (with_at before.living i (Some x) j) ≡ true
   with_one x j e = if_some (nat_eq j i) (Some x) (before.living j) refl e
 
   room_live : (x : Living M) (table : List MemRec) (placed : Result MemoryMap Space) → StillLive before (with_room before i x table placed).1

@@ -10,13 +10,15 @@ use Rattle.ialg.specs.Meaning.{Meaning}
 use Rattle.mem_rec.specs.declared.TheConstants.{INSTANCES}
 use Rattle.host_spec.specs.State.{Living, is_instance_number}
 use Rattle.host_spec.specs.Steps as steps
-use Rattle.channel_spec.specs.Channels.{Channels, members_at, is_chained, is_in_channel, has_repeat, all_live}
-use Rattle.channel_spec.specs.Steps.{Outcome, unless, chain, delete, is_channel_number, with_members, on_host}
+use Rattle.host_spec.specs.Steps.{Outcome, unless}
+use Rattle.channel_spec.specs.Channels.{Channels, members_at, is_chained, is_in_channel, has_repeat}
+use Rattle.channel_spec.specs.Steps.{chain, delete}
+use Rattle.channel_spec.specs.Parts.{all_live, is_channel_number, on_host, with_members}
 
 module _ {M : Type 0} (before : Channels M) where
   -- ---- chaining, by its four tests
 
-  abbrev chaining : (c : ℕ) (members : List ℕ) (numbers chained live busy : Bool) → Outcome M (Unit {0})
+  abbrev chaining : (c : ℕ) (members : List ℕ) (numbers chained live busy : Bool) → Outcome (Channels M) (Unit {0})
   chaining c members numbers chained live busy =
       unless (first_refusal ((not numbers, Range) ∷ (chained, Taken) ∷ (not live, Missing) ∷ (busy, Busy) ∷ [])) before (Ok tt, with_members before c members)
 
@@ -75,11 +77,11 @@ module _ {M : Type 0} (before : Channels M) where
 
   -- ---- calls of one channel
 
-  abbrev about : {A : Type 0} → (number chained : Bool) → Outcome M A → Outcome M A
+  abbrev about : {A : Type 0} → (number chained : Bool) → Outcome (Channels M) A → Outcome (Channels M) A
   about number chained outcome = unless (first_refusal ((not number, Range) ∷ (not chained, Missing) ∷ [])) before outcome
 
-  module _ {A : Type 0} (c : ℕ) (outcome : Outcome M A) where
-    abbrev calling : Outcome M A
+  module _ {A : Type 0} (c : ℕ) (outcome : Outcome (Channels M) A) where
+    abbrev calling : Outcome (Channels M) A
     calling = about (is_channel_number before c) (is_chained (members_at before.chained c)) outcome
 
     pub about_range : length before.chained ≤ c → calling ≡ (Err Range, before)
@@ -97,7 +99,7 @@ module _ {M : Type 0} (before : Channels M) where
   -- ---- deletion
 
   module _ (kinds : Meaning M) (i : ℕ) where
-    abbrev deleting : Bool → Option (Living M) → Bool → Outcome M (Unit {0})
+    abbrev deleting : Bool → Option (Living M) → Bool → Outcome (Channels M) (Unit {0})
     deleting number x busy =
         unless (first_refusal ((not number, Range) ∷ (is_none x, Missing) ∷ (busy, Busy) ∷ [])) before (Ok tt, on_host before (steps.delete kinds before.host i).1)
 

@@ -17,8 +17,8 @@ use Rattle.host_spec.specs.Calls.Call.{Create, Control, Process, Delete, Release
 use Rattle.host_spec.specs.Answers as host_answers
 use Rattle.host_spec.specs.Answers.{accepted, status_at, output_at}
 use Rattle.channel_spec.specs.Channels.{Channels, members_at}
-use Rattle.channel_spec.specs.Steps as channel_steps
-use Rattle.channel_spec.specs.Steps.{on_host, chain, chain_refusal, channel_refusal, unchain, delete, delete_refusal, ready}
+use Rattle.channel_spec.specs.Steps.{chain, channel_refusal, unchain, delete, ready}
+use Rattle.channel_spec.specs.Parts.{chain_refusal, delete_refusal, on_host}
 use Rattle.channel_spec.specs.Calls.{Call}
 use Rattle.channel_spec.specs.Calls.Call.{Chain, Unchain, Remove, Ready, Feed, OfHost}
 use Rattle.channel_spec.specs.Answers.{passed, answered}
@@ -34,7 +34,7 @@ module _ {M : Type 0} (poison : Option ℤ) where
   Same {A} new old = ◌≡◌ {A = A × State M} new (old.0, of old.1)
 
   module _ (before : State M) where
-    unless_same : {A : Type 0} (r : Option Refusal) (new old : steps.Outcome M A) → Same new old → Same (unless r (of before) new) (unless r before old)
+    unless_same : {A : Type 0} (r : Option Refusal) (new old : steps.Outcome (State M) A) → Same new old → Same (unless r (of before) new) (unless r before old)
     unless_same None new old e = e
     unless_same (Some refusal) new old e = refl
 
@@ -116,8 +116,8 @@ module _ {M : Type 0} (poison : Option ℤ) where
   SameChannels {A} new old = ◌≡◌ {A = A × Channels M} new (old.0, with_poison poison old.1)
 
   module _ (before : Channels M) where
-    channels_unless : {A : Type 0} (r : Option Refusal) (new old : channel_steps.Outcome M A) → SameChannels new old
-        → SameChannels (channel_steps.unless r (with_poison poison before) new) (channel_steps.unless r before old)
+    channels_unless : {A : Type 0} (r : Option Refusal) (new old : steps.Outcome (Channels M) A) → SameChannels new old
+        → SameChannels (unless r (with_poison poison before) new) (unless r before old)
     channels_unless None new old e = e
     channels_unless (Some refusal) new old e = refl
 

@@ -1,11 +1,12 @@
 -- Which members are active after lawful members were given a block, as a function of what they were given before.
 use Rattle.std.proofs.Common.{◌≡◌, ◌≢◌, ℕ, ℤ, Bool, true, false, cond, List, [], ◌∷◌, ◌++◌, Option, Some, None, refl, ap, sym, ◌∙◌, nat_eq}
+use Rattle.std.specs.Option.{option_eq}
 use Rattle.std.proofs.lemmas.Bool.{eq-eqb}
 use Rattle.std.proofs.lemmas.Bool.Decides.{eqb_tells}
 use Rattle.relocate.proofs.RangeTests.{either, both_false, true_or_false, clash, left_true, right_true}
 use Rattle.ialg.specs.Meaning.{Meaning}
-use Rattle.host_map.specs.Activity.{Activity, is_active, activated, with_activity}
-use Rattle.host_spec.specs.State.{Living, with_living, is_of_group}
+use Rattle.host_map.specs.Activity.{Activity, activated, with_at}
+use Rattle.host_spec.specs.State.{Living, is_of_group}
 use Rattle.host_spec.specs.Answers.{output_at}
 use Rattle.channel_spec.specs.Channels.{has_number, has_repeat}
 use Rattle.channel_spec.proofs.FlowLemmas.{Instances, grown, fed, flow, with_value, there, elsewhere, again, unchanged, swapped, not_number, frame, stays, grown_by_two, output_of_two, output_of_none, fed_none}
@@ -18,21 +19,21 @@ Turns = ℕ → Activity
 abbrev pub turned : {M : Type 0} → Turns → ℕ → Option (Living M) → List ℤ → Turns
 turned all i None block = all
 turned all i (Some x) [] = all
-turned all i (Some x) (s ∷ block) = with_activity all x.group (activated i (all x.group))
+turned all i (Some x) (s ∷ block) = with_at all x.group (activated i (all x.group))
 
 -- ---- one instance
 
-touched_by_test : (i : ℕ) (a : Activity) (b : Bool) → is_active a.active i ≡ b → activated i (activated i a) ≡ activated i a
+touched_by_test : (i : ℕ) (a : Activity) (b : Bool) → option_eq nat_eq a.active (Some i) ≡ b → activated i (activated i a) ≡ activated i a
 touched_by_test i a true e =
     let stays : activated i a ≡ a = rw e refl in
     ap (activated i) stays
-touched_by_test i a false e = either (true_or_false (is_active (activated i a).active i)) (λ t. rw t refl) (λ f. clash (is_active (activated i a).active i) (its i a e) f)
+touched_by_test i a false e = either (true_or_false (option_eq nat_eq (activated i a).active (Some i))) (λ t. rw t refl) (λ f. clash (option_eq nat_eq (activated i a).active (Some i)) (its i a e) f)
   where
-    its : (i : ℕ) (a : Activity) → is_active a.active i ≡ false → is_active (activated i a).active i ≡ true
+    its : (i : ℕ) (a : Activity) → option_eq nat_eq a.active (Some i) ≡ false → option_eq nat_eq (activated i a).active (Some i) ≡ true
     its i a e = rw e (eq-eqb i i refl)
 
 touched_again : (i : ℕ) (a : Activity) → activated i (activated i a) ≡ activated i a
-touched_again i a = touched_by_test i a (is_active a.active i) refl
+touched_again i a = touched_by_test i a (option_eq nat_eq a.active (Some i)) refl
 
 turned_by_two : {M : Type 0} (all : Turns) (i : ℕ) (x : Option (Living M)) (xs ys : List ℤ) → turned all i x (xs ++ ys) ≡ turned (turned all i x xs) i (grown x xs) ys
 turned_by_two all i None xs ys = refl
@@ -94,17 +95,17 @@ module _ {M : Type 0} (kinds : Meaning M) where
   -- ---- what isn't read
 
   frame_turns : (is : List ℕ) (living : Instances M) (all : Turns) (i : ℕ) (v : Option (Living M)) (block : List ℤ) → has_number is i ≡ false
-      → turns (with_living living i v) all is block ≡ turns living all is block
+      → turns (with_at living i v) all is block ≡ turns living all is block
   frame_turns [] living all i v block none = refl
   frame_turns (k ∷ is) living all i v block none =
       let others = both_false (nat_eq i k) (has_number is i) none in
       let apart : i ≢ k = not_number kinds k i others.0 in
-      ap (λ x. turns (with_living (with_living living i v) k (grown x block)) (turned all k x block) is (output_at kinds x block)) (elsewhere living i v k (λ e. apart (sym e)))
+      ap (λ x. turns (with_at (with_at living i v) k (grown x block)) (turned all k x block) is (output_at kinds x block)) (elsewhere living i v k (λ e. apart (sym e)))
       ∙ ap (λ l. turns l (turned all k (living k) block) is (output_at kinds (living k) block)) (swapped living i k apart v (grown (living k) block))
       ∙ frame_turns is (fed living k block) (turned all k (living k) block) i v (output_at kinds (living k) block) others.1
 
   turned_apart : (all : Turns) (g : ℕ) (w : Activity) (k : ℕ) (x : Option (Living M)) (block : List ℤ) → is_of_group g x ≡ false
-      → turned (with_activity all g w) k x block ≡ with_activity (turned all k x block) g w
+      → turned (with_at all g w) k x block ≡ with_at (turned all k x block) g w
   turned_apart all g w k None block e = refl
   turned_apart all g w k (Some x) [] e = refl
   turned_apart all g w k (Some x) (s ∷ block) e =
@@ -113,7 +114,7 @@ module _ {M : Type 0} (kinds : Meaning M) where
       ∙ swapped all g x.group (λ same. apart (sym same)) w (activated k (all x.group))
 
   other_group : (is : List ℕ) (living : Instances M) (all : Turns) (g : ℕ) (w : Activity) (block : List ℤ) → NoneOf living is g
-      → turns living (with_activity all g w) is block ≡ with_activity (turns living all is block) g w
+      → turns living (with_at all g w) is block ≡ with_at (turns living all is block) g w
   other_group [] living all g w block none = refl
   other_group (k ∷ is) living all g w block none =
       ap (λ t. turns (fed living k block) t is (output_at kinds (living k) block))
@@ -135,7 +136,7 @@ module _ {M : Type 0} (kinds : Meaning M) where
   turn_later is living all i (Some y) (s ∷ its) block none =
       let apart : NoneOf living is y.group = none y.group (eq-eqb y.group y.group refl) in
       other_group is living all y.group (activated i (all y.group)) block apart
-      ∙ ap (λ a. with_activity (turns living all is block) y.group (activated i a)) (sym (turn_stays is living all y.group block apart))
+      ∙ ap (λ a. with_at (turns living all is block) y.group (activated i a)) (sym (turn_stays is living all y.group block apart))
 
   -- ---- cuts
 
@@ -163,24 +164,24 @@ module _ {M : Type 0} (kinds : Meaning M) where
       let then = turned all i x xs in
       let last = turned then i y ys in
       let done = turns next then is one in
-      let joint : turns (fed living i (xs ++ ys)) (turned all i x (xs ++ ys)) is (output_at kinds x (xs ++ ys)) ≡ turns (with_living living i v) last is (one ++ two) =
-      ap (λ z. turns (with_living living i z) (turned all i x (xs ++ ys)) is (output_at kinds x (xs ++ ys))) (grown_by_two kinds x xs ys)
-      ∙ ap (λ t. turns (with_living living i v) t is (output_at kinds x (xs ++ ys))) (turned_by_two all i x xs ys)
-      ∙ ap (λ block. turns (with_living living i v) last is block) (output_of_two kinds x xs ys) in
-      let tail_apart : GroupsApart (with_living living i v) is =
+      let joint : turns (fed living i (xs ++ ys)) (turned all i x (xs ++ ys)) is (output_at kinds x (xs ++ ys)) ≡ turns (with_at living i v) last is (one ++ two) =
+      ap (λ z. turns (with_at living i z) (turned all i x (xs ++ ys)) is (output_at kinds x (xs ++ ys))) (grown_by_two kinds x xs ys)
+      ∙ ap (λ t. turns (with_at living i v) t is (output_at kinds x (xs ++ ys))) (turned_by_two all i x xs ys)
+      ∙ ap (λ block. turns (with_at living i v) last is block) (output_of_two kinds x xs ys) in
+      let tail_apart : GroupsApart (with_at living i v) is =
       λ j k g has other_has of other_of.
-      let at : (m : ℕ) → has_number is m ≡ true → with_living living i v m ≡ living m =
+      let at : (m : ℕ) → has_number is m ≡ true → with_at living i v m ≡ living m =
       λ m its. elsewhere living i v m (λ e. clash (has_number is i) (ap (λ n. has_number is n) (sym e) ∙ its) others.0) in
       apart j k g (right_true (nat_eq j i) (has_number is j) has) (right_true (nat_eq k i) (has_number is k) other_has)
       (ap (is_of_group g) (sym (at j has)) ∙ of) (ap (is_of_group g) (sym (at k other_has)) ∙ other_of) in
-      let early : (flow kinds (with_living living i v) is one).1 ≡ with_living first.1 i v =
+      let early : (flow kinds (with_at living i v) is one).1 ≡ with_at first.1 i v =
       ap (λ l. (flow kinds l is one).1) (sym (again living i y v)) ∙ ap (λ r. r.1) (frame kinds is next i v one others.0) in
       let none : (g : ℕ) → is_of_group g y ≡ true → NoneOf next is g =
       λ g of. λ j has. fed_group living i xs g j ∙ apart_from i is living g others.0 apart (sym (grown_group g x xs) ∙ of) j has in
-      let turn : turns (with_living living i v) last is one ≡ turned done i y ys =
+      let turn : turns (with_at living i v) last is one ≡ turned done i y ys =
       ap (λ l. turns l last is one) (sym (again living i y v)) ∙ frame_turns is next last i v one others.0 ∙ turn_later is next then i y ys one none in
       let its : first.1 i ≡ y = stays kinds is next i one others.0 ∙ there living i y in
-      joint ∙ turns_cut is (with_living living i v) last one two others.1 tail_apart
-      ∙ ap (λ l. turns l (turns (with_living living i v) last is one) is two) early
-      ∙ ap (λ t. turns (with_living first.1 i v) t is two) turn
-      ∙ ap (λ z. turns (with_living first.1 i (grown z ys)) (turned done i z ys) is (output_at kinds z ys)) (sym its)
+      joint ∙ turns_cut is (with_at living i v) last one two others.1 tail_apart
+      ∙ ap (λ l. turns l (turns (with_at living i v) last is one) is two) early
+      ∙ ap (λ t. turns (with_at first.1 i v) t is two) turn
+      ∙ ap (λ z. turns (with_at first.1 i (grown z ys)) (turned done i z ys) is (output_at kinds z ys)) (sym its)

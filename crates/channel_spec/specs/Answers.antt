@@ -6,7 +6,8 @@ use Rattle.host_spec.specs.Steps.{processed}
 use Rattle.host_spec.specs.Answers as host_answers
 use Rattle.host_spec.specs.Answers.{output_at}
 use Rattle.channel_spec.specs.Channels.{Channels, members_at}
-use Rattle.channel_spec.specs.Steps.{on_host, chain, unchain, delete, ready}
+use Rattle.channel_spec.specs.Steps.{chain, unchain, delete, ready}
+use Rattle.channel_spec.specs.Parts.{on_host}
 use Rattle.channel_spec.specs.Calls.{Call}
 use Rattle.channel_spec.specs.Calls.Call.{Chain, Unchain, Remove, Ready, Feed, OfHost}
 

@@ -1,6 +1,6 @@
 -- Channels over a host: lists of instances, each of which takes the output of the one before it.
-use Rattle.std.specs.Prelude.{ℕ, Bool, true, false, ◌||◌, List, [], ◌∷◌, is_some, nat_eq, slice_index_or, replicate}
-use Rattle.std.specs.List.{list_all, list_any}
+use Rattle.std.specs.Prelude.{ℕ, Bool, true, false, ◌||◌, List, [], ◌∷◌, nat_eq, slice_index_or, replicate}
+use Rattle.std.specs.List.{list_any}
 use Rattle.host_spec.specs.State.{State}
 
 pub record Channels (M : Type 0) : Type 0 where
@@ -20,21 +20,15 @@ abbrev pub is_chained : List ℕ → Bool
 is_chained [] = false
 is_chained (i ∷ is) = true
 
-abbrev pub has_number : List ℕ → ℕ → Bool
-has_number is i = list_any (nat_eq i) is
-
 -- whether an instance is a member of a channel
 abbrev pub is_in_channel : List (List ℕ) → ℕ → Bool
-is_in_channel chained i = list_any (λ is. has_number is i) chained
+is_in_channel chained i = list_any (list_any (nat_eq i)) chained
 
 -- whether an instance is named twice
 abbrev pub has_repeat : List ℕ → Bool
 has_repeat [] = false
-has_repeat (i ∷ is) = has_number is i || has_repeat is
+has_repeat (i ∷ is) = list_any (nat_eq i) is || has_repeat is
 
--- the instance lives in the host
-abbrev pub lives : {M : Type 0} → State M → ℕ → Bool
-lives host i = is_some (host.living i)
-
-abbrev pub all_live : {M : Type 0} → State M → List ℕ → Bool
-all_live host is = list_all (lives host) is
+-- whether an instance is in a list, for laws and private clauses
+abbrev pub has_number : List ℕ → ℕ → Bool
+has_number is i = list_any (nat_eq i) is

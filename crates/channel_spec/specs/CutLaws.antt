@@ -6,8 +6,9 @@ use Rattle.ialg.specs.Meaning.{Meaning, Status}
 use Rattle.host_spec.specs.Choices.{IsLawful}
 use Rattle.host_spec.specs.Calls.Call.{Control}
 use Rattle.channel_spec.specs.Channels.{Channels, members_at, has_repeat}
-use Rattle.channel_spec.specs.Calls.{PassesOn, Feeds}
-use Rattle.channel_spec.specs.Cuts.{joined, AreAlike, MembersAreLawful, GroupsAreApart, FeedsAll}
+use Rattle.channel_spec.specs.Calls.{Does}
+use Rattle.channel_spec.specs.Calls.Call.{OfHost}
+use Rattle.channel_spec.specs.Cuts.{joined, AreAlike, MembersAreLawful, GroupsAreApart, Feeds, FeedsAll}
 use Rattle.channel_spec.specs.Agreement.{MembersAgree}
 
 -- what a channel of lawful members gives for two blocks is what it gives for the two as one
@@ -40,7 +41,7 @@ abbrev pub ControlsAgreeWhereAlike : Type 0 → Type 0
 ControlsAgreeWhereAlike M =
     (kinds : Meaning M) (one one_after other other_after : Channels M) (i : ℕ) (c : Ctl) (answer other_answer : Result Status Refusal)
     → IfSome (one.host.living i) (IsLawful kinds one.host.poison) → AreAlike one other
-    → PassesOn kinds one (Control i c answer) one_after → PassesOn kinds other (Control i c other_answer) other_after
+    → Does kinds one (OfHost (Control i c answer)) one_after → Does kinds other (OfHost (Control i c other_answer)) other_after
     → (answer ≡ other_answer) × AreAlike one_after other_after
 
 -- in two runs channels whose members were given the same give the same for the same samples, and then their members were given the same again

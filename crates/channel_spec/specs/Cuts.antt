@@ -4,7 +4,8 @@ use Rattle.ialg.specs.Meaning.{Meaning}
 use Rattle.host_spec.specs.State.{is_of_group}
 use Rattle.host_spec.specs.Choices.{IsLawful}
 use Rattle.channel_spec.specs.Channels.{Channels, members_at, has_number}
-use Rattle.channel_spec.specs.Calls.{Feeds}
+use Rattle.channel_spec.specs.Calls.{Does}
+use Rattle.channel_spec.specs.Calls.Call.{Feed}
 
 -- the blocks, one after the other, as one
 abbrev pub joined : List (List ℤ) → List ℤ
@@ -33,8 +34,12 @@ module _ {M : Type 0} (kinds : Meaning M) where
       (i j g : ℕ) → has_number members i ≡ true → has_number members j ≡ true
       → is_of_group g (channels.host.living i) ≡ true → is_of_group g (channels.host.living j) ≡ true → i ≡ j
 
+  -- the channel is fed the block, and gives this
+  abbrev pub Feeds : Channels M → ℕ → (block out : List ℤ) → Channels M → Type 0
+  Feeds before c block out after = Does kinds before (Feed c block out) after
+
   -- the channel is fed the blocks one after the other, and gives all this
   abbrev pub FeedsAll : Channels M → ℕ → List (List ℤ) → List ℤ → Channels M → Type 0
   FeedsAll before c [] out after = (out ≡ []) × (after ≡ before)
   FeedsAll before c (block ∷ blocks) out after =
-      (given rest : List ℤ) × (between : Channels M) × Feeds kinds before c block given between × FeedsAll between c blocks rest after × (out ≡ given ++ rest)
+      (given rest : List ℤ) × (between : Channels M) × Feeds before c block given between × FeedsAll between c blocks rest after × (out ≡ given ++ rest)

@@ -1,7 +1,7 @@
 -- What holds of channels whatever is called.
 use Rattle.std.specs.Prelude.{◌≡◌, ℕ, ℤ, true, false, Option}
-use Rattle.channel_spec.specs.Channels.{Channels, members_at, has_number, has_repeat, lives}
-use Rattle.channel_spec.specs.Steps.{on_host}
+use Rattle.channel_spec.specs.Channels.{Channels, members_at, has_number, has_repeat}
+use Rattle.channel_spec.specs.Parts.{lives, on_host}
 
 -- members live, none is named twice in a channel, and none is in two
 pub record AreHeld {M : Type 0} (channels : Channels M) : Type 0 where

@@ -1,5 +1,6 @@
 pub mod Channels
 pub mod Steps
+pub mod Parts
 pub mod Calls
 pub mod Answers
 pub mod Laws

@@ -6,8 +6,9 @@ use Rattle.ialg.specs.Meaning.{Meaning}
 use Rattle.mem_rec.specs.declared.TheConstants.{INSTANCES}
 use Rattle.host_spec.specs.State.{Living, is_instance_number}
 use Rattle.host_spec.specs.Steps as steps
-use Rattle.channel_spec.specs.Channels.{Channels, members_at, is_chained, is_in_channel, has_repeat, all_live}
-use Rattle.channel_spec.specs.Steps.{chain, unchain, ready, delete, with_members, on_host}
+use Rattle.channel_spec.specs.Channels.{Channels, members_at, is_chained, is_in_channel, has_repeat}
+use Rattle.channel_spec.specs.Steps.{chain, unchain, ready, delete}
+use Rattle.channel_spec.specs.Parts.{all_live, on_host, with_members}
 
 -- ---- chaining
 

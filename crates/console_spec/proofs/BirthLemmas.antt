@@ -1,5 +1,6 @@
 -- Instances from their creation on.
 use Rattle.std.proofs.Common.{◌≡◌, ℕ, ℤ, Bool, true, false, List, [], ◌∷◌, ◌++◌, Option, Some, None, Result, Ok, Err, refl, ap, sym, ◌∙◌, subst}
+use Rattle.host_map.specs.Activity.{with_at}
 use Rattle.std.proofs.lemmas.Bool.{eq-eqb, or_left}
 use Rattle.std.specs.Prelude.{not, ◌&&◌, is_some, is_none, IsTrue, if◌then◌else◌}
 use Rattle.mem_rec.specs.declared.MemRec.{MemRec}
@@ -11,23 +12,26 @@ use Rattle.ialg.specs.History.{Ctl}
 use Rattle.ialg.specs.Meaning.{Meaning, Status, status_of}
 use Rattle.host_map.specs.MemoryMap.{MemoryMap}
 use Rattle.host_map.specs.Creation.{created_map}
-use Rattle.host_spec.specs.State.{Living, State, sharers_of, with_living, is_instance_number, is_group_number}
+use Rattle.host_spec.specs.State.{Living, State, sharers_of, is_instance_number, is_group_number}
 use Rattle.host_spec.specs.Steps.{Outcome, unless, newborn, with_room, with_memory, create_refusal, controlled}
 use Rattle.host_spec.specs.Calls.{Call, Leads, Creates, Controls}
 use Rattle.host_spec.specs.Calls.Call.{Create, Control}
-use Rattle.host_spec.specs.Runs.{AllSpare, Life, history_of_run}
+use Rattle.host_spec.specs.Runs.{AllSpare, Life, Spares, history_of_run}
+use Rattle.std.proofs.lemmas.List.Elements.{All-cons, All-head, All-nil, All-tail}
 use Rattle.host_spec.proofs.CallLemmas.{host_stays}
 use Rattle.host_spec.proofs.RunLemmas.{granted}
 use Rattle.host_spec.proofs.LifeLemmas.{lives_on, grows_by}
-use Rattle.console_spec.specs.Births.{Born, GivesItsEquation, GoesByItsHistory, answer_of}
+use Rattle.console_spec.specs.Births.{Born, GivesItsEquation, GoesByItsHistory}
+use Rattle.console_spec.specs.Told.{answer_of}
 
 err_is_no_ok : {A E : Type 0} (r : E) (a : A) → ◌≡◌ {A = Result A E} (Err r) (Ok a) → ⊥
 err_is_no_ok r a e = cc
 
 -- what the calls of a list spare, its first ones spare
 spared_first : {M : Type 0} (i : ℕ) (first rest : List (Call M)) → AllSpare i (first ++ rest) → AllSpare i first
-spared_first i [] rest spared = tt
-spared_first i (call ∷ first) rest spared = (spared.0, spared_first i first rest spared.1)
+spared_first i [] rest spared = All-nil (Spares i)
+spared_first i (call ∷ first) rest spared =
+    All-cons (Spares i) call first (All-head (Spares i) call (first ++ rest) spared) (spared_first i first rest (All-tail (Spares i) call (first ++ rest) spared))
 
 module _ {M : Type 0} (kinds : Meaning M) where
   -- ---- runs in two parts
@@ -52,7 +56,7 @@ module _ {M : Type 0} (kinds : Meaning M) where
 
   -- ---- creation
 
-  its : (living : ℕ → Option (Living M)) (i : ℕ) (x : Option (Living M)) → with_living living i x i ≡ x
+  its : (living : ℕ → Option (Living M)) (i : ℕ) (x : Option (Living M)) → with_at living i x i ≡ x
   its living i x = ap (λ b. if b then x else living i) (eq-eqb i i refl)
 
   placed_lives : (before after : State M) (i : ℕ) (x : Living M) (done : Unit {0}) (table : List MemRec) (placed : Result MemoryMap Space)
@@ -82,7 +86,7 @@ module _ {M : Type 0} (kinds : Meaning M) where
         created_lives tt does.table (granted before (create_refusal before i g) (with_memory kinds before i kind g p does.table) tt after does.outcome)
 
   -- the number of an instance that was created is in range
-  granted_number : (number group taken : Bool) {A : Type 0} (before after : State M) (a : A) (outcome : Outcome M A)
+  granted_number : (number group taken : Bool) {A : Type 0} (before after : State M) (a : A) (outcome : Outcome (State M) A)
       → (Ok a, after) ≡ unless (first_refusal ((not (number && group), Range) ∷ (taken, Taken) ∷ [])) before outcome → number ≡ true
   granted_number true group taken before after a outcome e = refl
   granted_number false group taken before after a outcome e = absurd (err_is_no_ok Range a (ap (λ o. o.0) (sym e)))

@@ -1,5 +1,5 @@
 -- A run of calls of channels is a run of calls of their host.
-use Rattle.std.proofs.Common.{◌≡◌, ℕ, ℤ, Bool, true, false, List, [], ◌∷◌, ◌++◌, Option, Some, None, Result, Ok, Err, refl, ap, sym, ◌∙◌, subst, append_assoc}
+use Rattle.std.proofs.Common.{◌≡◌, ℕ, Bool, true, false, List, [], ◌∷◌, ◌++◌, Option, Some, None, Result, Ok, Err, refl, ap, sym, ◌∙◌, subst, append_assoc}
 use Rattle.std.specs.Prelude.{not, is_none, set}
 use Rattle.ialg.specs.declared.refusal.Refusal.{Refusal}
 use Rattle.ialg.specs.declared.refusal.Refusal.TheVariants.{Range, Missing, Busy}
@@ -7,13 +7,16 @@ use Rattle.ialg.specs.Refusals.{first_refusal}
 use Rattle.ialg.specs.Meaning.{Meaning}
 use Rattle.host_spec.specs.State.{State, is_instance_number}
 use Rattle.host_spec.specs.Steps as steps
+use Rattle.host_spec.specs.Steps.{unless}
 use Rattle.host_spec.specs.Calls as host_calls
 use Rattle.host_spec.specs.Calls.Call.{Delete, Process}
-use Rattle.channel_spec.specs.Channels.{Channels, members_at, is_in_channel}
-use Rattle.channel_spec.specs.Steps.{unless, with_members, on_host, chain_refusal, channel_refusal, delete_refusal}
-use Rattle.channel_spec.specs.Calls.{Call, Does, Passes}
+use Rattle.channel_spec.specs.Channels.{Channels, is_in_channel}
+use Rattle.channel_spec.specs.Steps.{channel_refusal}
+use Rattle.channel_spec.specs.Parts.{with_members, on_host, chain_refusal, delete_refusal}
+use Rattle.channel_spec.specs.Calls.{Call, Does}
 use Rattle.channel_spec.specs.Calls.Call.{Chain, Unchain, Remove, Ready, Feed, OfHost}
-use Rattle.console_spec.specs.HostRuns.{IsPassing, AsHostCalls, Leads, RunsOnHost}
+use Rattle.channel_spec.proofs.PassingLemmas.{leads_of}
+use Rattle.console_spec.specs.HostRuns.{AsHostCalls, Leads, RunsOnHost}
 use Rattle.console_spec.specs.Sounds.{AskTheHost, chained_after}
 
 err_is_no_ok : {A E : Type 0} (r : E) (a : A) → ◌≡◌ {A = Result A E} (Err r) (Ok a) → ⊥
@@ -60,15 +63,6 @@ module _ {M : Type 0} (before after : Channels M) where
   deleted false false false done gone e = ap (λ o. (o.0, o.1.host)) e
 
 module _ {M : Type 0} (kinds : Meaning M) where
-  -- a block that passes through members is calls of the host
-  passing : (is : List ℕ) (before after : State M) (block out : List ℤ) → Passes kinds before is block out after
-      → (asked : List (host_calls.Call M)) × IsPassing is block out asked × host_calls.Leads kinds before asked after
-  passing [] before after block out passes = ([], (passes.0, refl), passes.1)
-  passing (i ∷ is) before after [] out passes = ([], (passes.0, refl), passes.1)
-  passing (i ∷ is) before after (s ∷ block) out passes =
-      let rest = passing is passes.1 after passes.0 out passes.3 in
-      (Process i (s ∷ block) passes.0 ∷ rest.0, (passes.0, rest.0, refl, rest.1), (passes.1, passes.2, rest.2))
-
   -- the call asks this of the host
   abbrev Asks : Channels M → Call M → Channels M → Type 0
   Asks before call after = (asked : List (host_calls.Call M)) × AsHostCalls before.chained call asked × host_calls.Leads kinds before.host asked after.host
@@ -82,8 +76,8 @@ module _ {M : Type 0} (kinds : Meaning M) where
   asks before after (Remove i (Err refusal)) does =
       ([], refl, refused_stays before after (delete_refusal before i) refusal tt (on_host before (steps.delete kinds before.host i).1) does)
   asks before after (Ready c answer) does = ([], refl, host_stays before after (channel_refusal before c) answer tt before refl does)
-  asks before after (Feed c block out) does = passing (members_at before.chained c) before.host after.host block out does.passes
-  asks before after (OfHost call) does = (call ∷ [], refl, (after.host, does.does, refl))
+  asks before after (Feed c block out) does = (does.1, does.2, leads_of kinds does.1 before.host after.host does.3)
+  asks before after (OfHost call) does = (call ∷ [], refl, (after.host, does.1, refl))
 
   -- which members each channel has behind a call
   chained_is : (before after : Channels M) (call : Call M) → Does kinds before call after → after.chained ≡ chained_after before.chained call
@@ -94,8 +88,8 @@ module _ {M : Type 0} (kinds : Meaning M) where
   chained_is before after (Remove i answer) does =
       members_stay before after (delete_refusal before i) answer tt (on_host before (steps.delete kinds before.host i).1) refl does
   chained_is before after (Ready c answer) does = members_stay before after (channel_refusal before c) answer tt before refl does
-  chained_is before after (Feed c block out) does = does.chained
-  chained_is before after (OfHost call) does = does.chained
+  chained_is before after (Feed c block out) does = does.4
+  chained_is before after (OfHost call) does = does.2
 
   -- what calls ask of the host goes by the members of the channels alone
   pub asks_by_members : (calls : List (Call M)) (asked : List (host_calls.Call M)) (before after : Channels M) → RunsOnHost kinds before calls asked after

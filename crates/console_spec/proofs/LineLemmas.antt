@@ -1,6 +1,7 @@
 -- Lines of a console are calls of its channels.
 use Rattle.std.proofs.Common.{◌≡◌, ◌≤◌, ◌<◌, ◌⊎◌, ◌+◌, ◌*◌, ◌/◌, ◌%◌, ℕ, ℤ, zero, suc, Bool, true, false, List, [], ◌∷◌, ◌++◌, pos, map, filter, length, take, drop, Option, Some, None, Result, Ok, Err, inl, inr, refl, ap, sym, ◌∙◌, subst, append-nil, append_assoc, take-append-drop, length-append, arith, get_or, set}
-use Rattle.std.specs.Prelude.{◌==◌, if◌then◌else◌}
+use Rattle.std.specs.Prelude.{◌==◌, if◌then◌else◌, nat_eq, nat_lt}
+use Rattle.std.specs.Option.{option_eq}
 use Rattle.std.specs.Int.{w16, cast_signed, cast_unsigned}
 use Rattle.std.proofs.lemmas.List.{map-append, get_or-set_other, length-map, length-take-le, take_all}
 use Rattle.std.proofs.lemmas.List.Elements.{filter-append}
@@ -12,32 +13,36 @@ use Rattle.ialg.specs.Meaning.{Meaning, Status}
 use Rattle.ialg.specs.declared.refusal.Refusal.{Refusal}
 use Rattle.ialg.specs.declared.refusal.Refusal.TheVariants.{Long, Short}
 use Rattle.channel_spec.specs.Channels.{Channels}
-use Rattle.channel_spec.specs.Steps.{unless, channel_refusal}
+use Rattle.channel_spec.specs.Steps.{channel_refusal}
+use Rattle.host_spec.specs.Steps.{unless}
 use Rattle.channel_spec.specs.Calls as calls
 use Rattle.channel_spec.specs.Calls.{Call, Does, refusal_of}
 use Rattle.voice_script.specs.Script as script
 use Rattle.voice_script.specs.Script.{Command, parsed}
 use Rattle.voice_script.specs.Replies as replies_told
-use Rattle.voice_script.specs.Replies.{Reply, is_refusal, reply_text}
+use Rattle.voice_script.specs.Replies.{Reply, reply_text}
+use Rattle.voice_script.specs.ReplyViews.{is_refusal}
 use Rattle.voice_script.specs.declared.limits.TheConstants.{LINE_OCTETS}
 use Rattle.voice_script.specs.declared.octets.TheConstants.{WORD_OCTETS}
 use Rattle.voice_script.specs.declared.width.Width.{Width}
 use Rattle.voice_script.specs.declared.width.Width.TheVariants as carried
 use Rattle.voice_script.specs.Widths.{Widths, octet_count}
 use Rattle.voice_script.specs.Served as served
-use Rattle.voice_script.specs.Served.{Answer, Asked, AskedAnswer, FeedAnswer, FedAnswer, LineAnswer, LinesAnswer, Octet, Output, Replied, Run, ServedAnswer, Written, at_state, with_left, held_by, octets_left, order_of, refusals, replies, same_port, tells, then_answer}
+use Rattle.voice_script.specs.Served.{Answer, Asked, AskedAnswer, FeedAnswer, FedAnswer, LineAnswer, LinesAnswer, Octet, Output, Replied, Run, ServedAnswer, Written, with_left, held_by, order_of, refusals, Tell}
+use Rattle.voice_script.specs.Computed.{at_state, octets_left, replies, then_answer}
 use Rattle.console_spec.specs.Samples.{octets_at, octets_of, samples_at, samples_of}
-use Rattle.console_spec.specs.Console.{Calls, CommandAsks, LineAsks, console_machine, feed_asked, status_reply, told_by}
+use Rattle.console_spec.specs.Console.{Calls, CommandAsks, LineAsks, call_of, console_machine, status_reply}
+use Rattle.console_spec.specs.Told.{feed_asked, told_by}
 use Rattle.console_spec.specs.HostRuns.{Leads}
-use Rattle.console_spec.specs.Lines.{ALineMakes, AreCalls, CommandMakes, IsFed, IsSame, IsSameBut, Left, LineMakes, LinesMake, Makes, fed_out, output_in, samples_left as left}
+use Rattle.console_spec.specs.Lines.{AreCalls, CommandMakes, IsFed, IsSame, IsSameBut, Left, LineMakes, LinesMake, Makes, fed_out, output_in, samples_left as left}
 
 -- ---- octets
 
 held_by-append : (port : Option ℕ) (xs ys : List Octet) → held_by port (xs ++ ys) ≡ held_by port xs ++ held_by port ys
 unfolding held_by
 held_by-append port xs ys =
-    ap (map (λ o. o.1)) (filter-append (λ (o : Octet). same_port port o.0) xs ys)
-    ∙ map-append (λ (o : Octet). o.1) (filter (λ o. same_port port o.0) xs) (filter (λ o. same_port port o.0) ys)
+    ap (map (λ o. o.1)) (filter-append (λ (o : Octet). option_eq nat_eq port o.0) xs ys)
+    ∙ map-append (λ (o : Octet). o.1) (filter (λ o. option_eq nat_eq port o.0) xs) (filter (λ o. option_eq nat_eq port o.0) ys)
 
 -- what a channel holds of what was written
 abbrev held : ℕ → List Written → List ℕ
@@ -56,9 +61,9 @@ unfolding held_by
 held_of_text c [] = refl
 held_of_text c (x ∷ xs) = held_of_text c xs
 
-held_of_reply : (c : ℕ) (text : List ℕ) (refused : Bool) → held c (Replied text refused ∷ []) ≡ []
+held_of_reply : (c : ℕ) (reply : Reply) → held c (Replied reply ∷ []) ≡ []
 unfolding order_of
-held_of_reply c text refused = ap (held_by (Some c)) (append-nil (map (λ b. (None, b)) text)) ∙ held_of_text c text
+held_of_reply c reply = ap (held_by (Some c)) (append-nil (map (λ b. (None, b)) (reply_text reply))) ∙ held_of_text c (reply_text reply)
 
 held_of_octets : (c d : ℕ) (octets : List ℕ) → held_by (Some c) (map (λ b. (Some d, b)) octets) ≡ (if c == d then octets else [])
 unfolding held_by
@@ -192,12 +197,6 @@ same_but honest c rest before after its others d h =
 
 -- ---- replies
 
-abbrev short_text : List ℕ
-short_text = reply_text (replies_told.No Short)
-
-abbrev long_text : List ℕ
-long_text = reply_text (replies_told.No Long)
-
 -- what is told of a refused call is a refusal
 abbrev Tells : {A M : Type 0} → (A → Call M) → (A → Reply) → Type 0
 Tells {A} call reply = (a : A) → is_refusal (reply a) ≡ true → (refusal : Refusal) × (refusal_of (call a) ≡ Some refusal)
@@ -217,14 +216,19 @@ never_status (Status.Words words) e = no_refusal e
 none_refused : {X : Type 0} → 1 ≤ 0 → X
 none_refused le = absurd (omega arith)
 
-refusals_of_reply : (text : List ℕ) (refused : Bool) → 1 ≤ refusals (Replied text refused ∷ []) → refused ≡ true
+refusals_of_reply : (reply : Reply) → 1 ≤ refusals (Replied reply ∷ []) → is_refusal reply ≡ true
 unfolding refusals
-refusals_of_reply text true le = refl
-refusals_of_reply text false le = none_refused le
+refusals_of_reply (replies_told.No refusal) le = refl
+refusals_of_reply replies_told.Done le = none_refused le
+refusals_of_reply (replies_told.Words words) le = none_refused le
+refusals_of_reply (replies_told.Count n) le = none_refused le
+refusals_of_reply (replies_told.Flag flag) le = none_refused le
+refusals_of_reply (replies_told.Stat active activations) le = none_refused le
+refusals_of_reply (replies_told.Map blocks) le = none_refused le
 
-refusals_of_feed : {X : Type 0} (channel : ℕ) (output text : List ℕ) → 1 ≤ refusals (Output channel output ∷ Replied text false ∷ []) → X
+refusals_of_feed : {X : Type 0} (channel : ℕ) (output : List ℕ) (samples : ℕ) → 1 ≤ refusals (Output channel output ∷ Replied (replies_told.Count samples) ∷ []) → X
 unfolding refusals
-refusals_of_feed channel output text le = none_refused le
+refusals_of_feed channel output samples le = none_refused le
 
 module _ {M : Type 0} (kinds : Meaning M) (widths : Widths) where
   -- ---- runs of calls
@@ -248,8 +252,8 @@ module _ {M : Type 0} (kinds : Meaning M) (widths : Widths) where
   nothing : (run : Run (Channels M)) → Serves run run [] []
   nothing run = record { lead = refl; outputs = λ c. held_nothing c ∙ no_octets (widths.output c) }
 
-  replied : (run : Run (Channels M)) (text : List ℕ) (refused : Bool) → Serves run run (Replied text refused ∷ []) []
-  replied run text refused = record { lead = refl; outputs = λ c. held_of_reply c text refused ∙ no_octets (widths.output c) }
+  replied : (run : Run (Channels M)) (reply : Reply) → Serves run run (Replied reply ∷ []) []
+  replied run reply = record { lead = refl; outputs = λ c. held_of_reply c reply ∙ no_octets (widths.output c) }
 
   -- a call that feeds nobody
   abbrev IsQuiet : Call M → Type 0
@@ -278,20 +282,20 @@ module _ {M : Type 0} (kinds : Meaning M) (widths : Widths) where
     -- a feed that isn't short
     fed : (run : Run (Channels M)) (channel : ℕ) (octets rest : List ℕ) (answer : Answer (Channels M))
         → (f : FedAnswer machine (with_left run channel rest) channel octets answer)
-        → Serves run answer.run answer.written (calls.Feed channel (samples_for channel octets) f.taken.out ∷ [])
+        → Serves run answer.run answer.written (calls.Feed channel (samples_for channel octets) f.3.0 ∷ [])
     fed run channel octets rest answer f =
         let block = samples_for channel octets in
-        let call : Call M = calls.Feed channel block f.taken.out in
+        let call : Call M = calls.Feed channel block f.3.0 in
         record {
-          lead = (f.state, f.taken.does, ap (λ a. a.run.state) f.answered);
-          outputs = λ c. ap (λ a. held c a.written) f.answered
-              ∙ held_more c (Output channel f.output ∷ []) (Replied f.told false ∷ [])
-              ∙ ap (λ r. held c (Output channel f.output ∷ []) ++ r) (held_of_reply c f.told false)
-              ∙ append-nil (held c (Output channel f.output ∷ []))
-              ∙ held_of_output c channel f.output
-              ∙ ap (λ output. if c == channel then output else []) f.taken.given
-              ∙ octets_where (widths.output channel) (c == channel) f.taken.out
-              ∙ octets_where_given widths c channel f.taken.out
+          lead = (f.2, f.3.1, ap (λ a. a.run.state) f.4);
+          outputs = λ c. ap (λ a. held c a.written) f.4
+              ∙ held_more c (Output channel f.0 ∷ []) (Replied (replies_told.Count f.1) ∷ [])
+              ∙ ap (λ r. held c (Output channel f.0 ∷ []) ++ r) (held_of_reply c (replies_told.Count f.1))
+              ∙ append-nil (held c (Output channel f.0 ∷ []))
+              ∙ held_of_output c channel f.0
+              ∙ ap (λ output. if c == channel then output else []) f.3.2
+              ∙ octets_where (widths.output channel) (c == channel) f.3.0
+              ∙ octets_where_given widths c channel f.3.0
               ∙ ap (octets_at (widths.output c)) (sym (append-nil (output_in c call)));
         }
 
@@ -310,7 +314,7 @@ module _ {M : Type 0} (kinds : Meaning M) (widths : Widths) where
     -- nothing is called, and a reply is told or none
     silent : (Made : Left → List (Call M) → Left → Type 0) → ((before after : Left) → IsSame honest before after → Made before [] after) → (run : Run (Channels M)) (state : Channels M) (asked : Asked) (answer : Answer (Channels M))
         → state ≡ run.state → AskedAnswer machine honest (at_state run state) asked answer
-        → (asked ≡ served.Nothing) ⊎ ((reply : Reply) × (asked ≡ tells reply)) → Did Made run answer
+        → (asked ≡ served.Nothing) ⊎ ((reply : Reply) × (asked ≡ Tell reply)) → Did Made run answer
     silent Made none run state asked answer same answered (inl e) =
         let is : answer ≡ record { run = at_state run state; written = [] } = subst (λ a. AskedAnswer machine honest (at_state run state) a answer) e answered in
         let here : at_state run state ≡ run = ap (λ s. at_state run s) same in
@@ -322,57 +326,57 @@ module _ {M : Type 0} (kinds : Meaning M) (widths : Widths) where
         }
     silent Made none run state asked answer same answered (inr told) =
         let reply = told.0 in
-        let is : answer ≡ replies (at_state run state) (reply_text reply) (is_refusal reply) = subst (λ a. AskedAnswer machine honest (at_state run state) a answer) told.1 answered in
+        let is : answer ≡ replies (at_state run state) reply = subst (λ a. AskedAnswer machine honest (at_state run state) a answer) told.1 answered in
         let here : at_state run state ≡ run = ap (λ s. at_state run s) same in
         record {
           made = [];
           asked = none (left widths run) (left widths answer.run) (λ c h. ap (λ (a : Answer (Channels M)). left widths a.run c) is);
-          serves = subst (λ (a : Answer (Channels M)). Serves run a.run a.written []) (sym (is ∙ ap (λ r. replies r (reply_text reply) (is_refusal reply)) here)) (replied run (reply_text reply) (is_refusal reply));
+          serves = subst (λ (a : Answer (Channels M)). Serves run a.run a.written []) (sym (is ∙ ap (λ r. replies r reply) here)) (replied run reply);
           refused = λ le. ap (λ a. a.run.state) is ∙ same;
         }
 
     module _ (leaves : Leaves) (run : Run (Channels M)) (state : Channels M) (asked : Asked) (answer : Answer (Channels M)) where
       -- one call, and its answer is told
       made_by : {A : Type 0} (call : A → Call M) (reply : A → Reply) → ((a : A) → IsQuiet (call a)) → Tells call reply
-          → (a : A) → Does kinds run.state (call a) state → asked ≡ tells (reply a) → AskedAnswer machine honest (at_state run state) asked answer → Did (Makes honest call) run answer
+          → (a : A) → Does kinds run.state (call a) state → asked ≡ Tell (reply a) → AskedAnswer machine honest (at_state run state) asked answer → Did (Makes honest call) run answer
       made_by call reply quiet tells_so a does e answered =
-          let is : answer ≡ replies (at_state run state) (reply_text (reply a)) (is_refusal (reply a)) = subst (λ b. AskedAnswer machine honest (at_state run state) b answer) e answered in
+          let is : answer ≡ replies (at_state run state) (reply a) = subst (λ b. AskedAnswer machine honest (at_state run state) b answer) e answered in
           record {
             made = call a ∷ [];
             asked = (a, refl, λ c h. ap (λ (b : Answer (Channels M)). left widths b.run c) is);
             serves = subst (λ (b : Answer (Channels M)). Serves run b.run b.written (call a ∷ [])) (sym is)
-                (and_then run (at_state run state) (at_state run state) [] (Replied (reply_text (reply a)) (is_refusal (reply a)) ∷ []) (call a ∷ []) []
-                (called run state (call a) does (quiet a)) (replied (at_state run state) (reply_text (reply a)) (is_refusal (reply a))));
+                (and_then run (at_state run state) (at_state run state) [] (Replied (reply a) ∷ []) (call a ∷ []) []
+                (called run state (call a) does (quiet a)) (replied (at_state run state) (reply a)));
             refused = λ le.
-                let no = tells_so a (refusals_of_reply (reply_text (reply a)) (is_refusal (reply a)) (subst (λ (b : Answer (Channels M)). 1 ≤ refusals b.written) is le)) in
+                let no = tells_so a (refusals_of_reply (reply a) (subst (λ (b : Answer (Channels M)). 1 ≤ refusals b.written) is le)) in
                 ap (λ b. b.run.state) is ∙ leaves run.state state (call a) no.0 does no.1;
           }
 
       by_call : {A : Type 0} (call : A → Call M) (reply : A → Reply) → ((a : A) → IsQuiet (call a)) → Tells call reply
-          → Calls kinds call (λ a. tells (reply a)) run.state asked state → AskedAnswer machine honest (at_state run state) asked answer → Did (Makes honest call) run answer
-      by_call call reply quiet tells_so c answered = made_by call reply quiet tells_so c.answer c.does c.asks answered
+          → Calls kinds call (λ a. Tell (reply a)) run.state asked state → AskedAnswer machine honest (at_state run state) asked answer → Did (Makes honest call) run answer
+      by_call call reply quiet tells_so c answered = made_by call reply quiet tells_so c.0 c.1 c.2 answered
 
       by_told : {A : Type 0} (call : Result A Refusal → Call M) (reply : A → Reply) → ((a : A) → is_refusal (reply a) ≡ true → ⊥)
           → ((a : Result A Refusal) → IsQuiet (call a)) → ((refusal : Refusal) → refusal_of (call (Err refusal)) ≡ Some refusal)
-          → Calls kinds call (λ a. tells (told_by reply a)) run.state asked state → AskedAnswer machine honest (at_state run state) asked answer → Did (Makes honest call) run answer
+          → Calls kinds call (λ a. Tell (told_by reply a)) run.state asked state → AskedAnswer machine honest (at_state run state) asked answer → Did (Makes honest call) run answer
       by_told call reply never quiet same does a = by_call call (told_by reply) quiet (tells_by call reply never same) does a
 
       by_done : (call : Result (Unit {0}) Refusal → Call M) → ((a : Result (Unit {0}) Refusal) → IsQuiet (call a)) → ((refusal : Refusal) → refusal_of (call (Err refusal)) ≡ Some refusal)
-          → Calls kinds call (λ a. tells (told_by (λ _. replies_told.Done) a)) run.state asked state → AskedAnswer machine honest (at_state run state) asked answer → Did (Makes honest call) run answer
+          → Calls kinds call (λ a. Tell (told_by (λ _. replies_told.Done) a)) run.state asked state → AskedAnswer machine honest (at_state run state) asked answer → Did (Makes honest call) run answer
       by_done call quiet same does a = by_told call (λ _. replies_told.Done) (λ b e. no_refusal e) quiet same does a
 
       by_status : (call : Result Status Refusal → Call M) → ((a : Result Status Refusal) → IsQuiet (call a)) → ((refusal : Refusal) → refusal_of (call (Err refusal)) ≡ Some refusal)
-          → Calls kinds call (λ a. tells (told_by status_reply a)) run.state asked state → AskedAnswer machine honest (at_state run state) asked answer → Did (Makes honest call) run answer
+          → Calls kinds call (λ a. Tell (told_by status_reply a)) run.state asked state → AskedAnswer machine honest (at_state run state) asked answer → Did (Makes honest call) run answer
       by_status call quiet same does a = by_told call status_reply never_status quiet same does a
 
-      ready_told : (c : ℕ) (r : Refusal) → Does kinds run.state (calls.Ready c (Err r)) state → asked ≡ tells (replies_told.No r)
+      ready_told : (c : ℕ) (r : Refusal) → Does kinds run.state (calls.Ready c (Err r)) state → asked ≡ Tell (replies_told.No r)
           → AskedAnswer machine honest (at_state run state) asked answer → Did (Makes honest (λ (b : Refusal). calls.Ready c (Err b))) run answer
       ready_told c r does e answered = made_by (λ (b : Refusal). calls.Ready c (Err b)) (λ b. replies_told.No b) (λ b k. refl) (λ b e'. (b, refl)) r does e answered
 
       -- a feed
       by_feed : (c n : ℕ) → Calls kinds (λ a. calls.Ready c a) (feed_asked (widths.input c) c n) run.state asked state → AskedAnswer machine honest (at_state run state) asked answer
           → Did (CommandMakes honest (script.Feed c n)) run answer
-      by_feed c n does answered = by_answer does.answer does.does does.asks
+      by_feed c n does answered = by_answer does.0 does.1 does.2
         where
           or_more : Did (Makes honest (λ (a : Refusal). calls.Ready c (Err a))) run answer → Did (CommandMakes honest (script.Feed c n)) run answer
           or_more did = record { made = did.made; asked = inl did.asked; serves = did.serves; refused = did.refused }
@@ -394,19 +398,19 @@ module _ {M : Type 0} (kinds : Meaning M) (widths : Widths) where
               let is = told.1 in
               record {
                 made = call ∷ [];
-                asked = inr (inl (record {
-                  few = λ h.
+                asked = inr (inl (
+                  λ h.
                       let all : octets_left ready c ≡ feed.octets = feed.first h ∙ ap (λ rest. feed.octets ++ rest) (told.0 h) ∙ append-nil feed.octets in
-                      fewer_at (widths.input c) n (octets_left ready c) (subst (λ xs. length xs < octets_for c n) (sym all) less);
-                  none = same_but honest c [] (left widths run) (left widths answer.run)
+                      fewer_at (widths.input c) n (octets_left ready c) (subst (λ xs. length xs < octets_for c n) (sym all) less),
+                  same_but honest c [] (left widths run) (left widths answer.run)
                       (λ h. ap (λ (b : Answer (Channels M)). left widths b.run c) is ∙ ap (samples_at (widths.input c)) (left_is h ∙ told.0 h) ∙ no_samples (widths.input c))
-                      (λ d ne. ap (λ (b : Answer (Channels M)). left widths b.run d) is ∙ ap (samples_at (widths.input d)) (get_or-set_other ready.inputs c d _ [] ne));
-                  calls = refl;
-                }));
+                      (λ d ne. ap (λ (b : Answer (Channels M)). left widths b.run d) is ∙ ap (samples_at (widths.input d)) (get_or-set_other ready.inputs c d _ [] ne)),
+                  refl,
+                ));
                 serves = subst (λ (b : Answer (Channels M)). Serves run b.run b.written (call ∷ [])) (sym is)
-                    (and_then run ready (with_left ready c feed.left) [] (Replied short_text true ∷ []) (call ∷ []) [] first
-                    (and_then ready (with_left ready c feed.left) (with_left ready c feed.left) [] (Replied short_text true ∷ []) [] []
-                    (short ready c feed.left) (replied (with_left ready c feed.left) short_text true)));
+                    (and_then run ready (with_left ready c feed.left) [] (Replied (replies_told.No Short) ∷ []) (call ∷ []) [] first
+                    (and_then ready (with_left ready c feed.left) (with_left ready c feed.left) [] (Replied (replies_told.No Short) ∷ []) [] []
+                    (short ready c feed.left) (replied (with_left ready c feed.left) (replies_told.No Short))));
                 refused = λ le. ap (λ b. b.run.state) is ∙ stays;
               })
               (λ enough.
@@ -418,19 +422,19 @@ module _ {M : Type 0} (kinds : Meaning M) (widths : Widths) where
               λ h. ap (drop (octets_for c n)) (feed.first h) ∙ ap (λ k. drop k (feed.octets ++ feed.left)) (sym whole.0) ∙ drop-append_seam feed.octets feed.left in
               let parts = λ (h : honest c ≡ true). parts_at (widths.input c) n (octets_left ready c) (all_there feed.octets feed.left (octets_left ready c) (feed.first h) whole.0) in
               record {
-                made = call ∷ calls.Feed c (samples_for c feed.octets) f.taken.out ∷ [];
-                asked = inr (inr (record {
-                  block = samples_for c feed.octets;
-                  counted = count_at (widths.input c) n feed.octets whole.0;
-                  first = λ h. (parts h).1 ∙ ap (samples_at (widths.input c)) (taken h);
-                  others = same_but honest c (drop n (left widths run c)) (left widths run) (left widths answer.run)
-                      (λ h. ap (λ (b : Answer (Channels M)). left widths b.run c) f.answered ∙ ap (samples_at (widths.input c)) (left_is h ∙ sym (dropped h)) ∙ sym (parts h).2)
-                      (λ d ne. ap (λ (b : Answer (Channels M)). left widths b.run d) f.answered ∙ ap (samples_at (widths.input d)) (get_or-set_other ready.inputs c d _ [] ne));
-                  out = f.taken.out;
-                  calls = refl;
-                }));
-                serves = and_then run ready answer.run [] answer.written (call ∷ []) (calls.Feed c (samples_for c feed.octets) f.taken.out ∷ []) first (fed ready c feed.octets feed.left answer f);
-                refused = λ le. refusals_of_feed c f.output f.told (subst (λ (b : Answer (Channels M)). 1 ≤ refusals b.written) f.answered le);
+                made = call ∷ calls.Feed c (samples_for c feed.octets) f.3.0 ∷ [];
+                asked = inr (inr (
+                  samples_for c feed.octets,
+                  f.3.0,
+                  count_at (widths.input c) n feed.octets whole.0,
+                  λ h. (parts h).1 ∙ ap (samples_at (widths.input c)) (taken h),
+                  same_but honest c (drop n (left widths run c)) (left widths run) (left widths answer.run)
+                      (λ h. ap (λ (b : Answer (Channels M)). left widths b.run c) f.4 ∙ ap (samples_at (widths.input c)) (left_is h ∙ sym (dropped h)) ∙ sym (parts h).2)
+                      (λ d ne. ap (λ (b : Answer (Channels M)). left widths b.run d) f.4 ∙ ap (samples_at (widths.input d)) (get_or-set_other ready.inputs c d _ [] ne)),
+                  refl,
+                ));
+                serves = and_then run ready answer.run [] answer.written (call ∷ []) (calls.Feed c (samples_for c feed.octets) f.3.0 ∷ []) first (fed ready c feed.octets feed.left answer f);
+                refused = λ le. refusals_of_feed c f.0 f.1 (subst (λ (b : Answer (Channels M)). 1 ≤ refusals b.written) f.4 le);
               })
             where
               less_or_not : (m k : ℕ) → (m < k) ⊎ (k ≤ m)
@@ -445,19 +449,17 @@ module _ {M : Type 0} (kinds : Meaning M) (widths : Widths) where
 
       by_command : (command : Command M) → CommandAsks kinds widths command run.state asked state → AskedAnswer machine honest (at_state run state) asked answer
           → Did (CommandMakes honest command) run answer
-      by_command (script.Create i kind g words) does a = by_done _ (λ b c. refl) (λ r. refl) does a
-      by_command (script.Set i words) does a = by_status _ (λ b c. refl) (λ r. refl) does a
-      by_command (script.Reset i) does a = by_status _ (λ b c. refl) (λ r. refl) does a
-      by_command (script.Get i) does a = by_status _ (λ b c. refl) (λ r. refl) does a
-      by_command (script.Delete i) does a = by_done _ (λ b c. refl) (λ r. refl) does a
-      by_command (script.Chain c is) does a = by_done _ (λ b d. refl) (λ r. refl) does a
-      by_command (script.Unchain c) does a = by_done _ (λ b d. refl) (λ r. refl) does a
+      by_command (script.Create i kind g words) does a = by_done (call_of (script.Create i kind g words)).call (λ b c. refl) (λ r. refl) does a
+      by_command (script.Control i control) does a = by_status (call_of (script.Control i control)).call (λ b c. refl) (λ r. refl) does a
+      by_command (script.Delete i) does a = by_done (call_of (script.Delete i)).call (λ b c. refl) (λ r. refl) does a
+      by_command (script.Chain c is) does a = by_done (call_of (script.Chain c is)).call (λ b d. refl) (λ r. refl) does a
+      by_command (script.Unchain c) does a = by_done (call_of (script.Unchain c)).call (λ b d. refl) (λ r. refl) does a
       by_command (script.Feed c n) does a = by_feed c n does a
-      by_command (script.Compact space) does a = by_call _ replies_told.Count (λ b c. refl) (λ b e. no_refusal e) does a
-      by_command (script.Step space) does a = by_call _ replies_told.Flag (λ b c. refl) (λ b e. no_refusal e) does a
-      by_command (script.Release g) does a = by_told _ replies_told.Flag (λ b e. no_refusal e) (λ b c. refl) (λ r. refl) does a
-      by_command (script.Map space) does a = by_call _ replies_told.Map (λ b c. refl) (λ b e. no_refusal e) does a
-      by_command (script.Stat g) does a = by_told _ (λ b. replies_told.Stat b.active b.count) (λ b e. no_refusal e) (λ b c. refl) (λ r. refl) does a
+      by_command (script.Compact space) does a = by_call (call_of (script.Compact space)).call replies_told.Count (λ b c. refl) (λ b e. no_refusal e) does a
+      by_command (script.Step space) does a = by_call (call_of (script.Step space)).call replies_told.Flag (λ b c. refl) (λ b e. no_refusal e) does a
+      by_command (script.Release g) does a = by_told (call_of (script.Release g)).call replies_told.Flag (λ b e. no_refusal e) (λ b c. refl) (λ r. refl) does a
+      by_command (script.Map space) does a = by_call (call_of (script.Map space)).call replies_told.Map (λ b c. refl) (λ b e. no_refusal e) does a
+      by_command (script.Stat g) does a = by_told (call_of (script.Stat g)).call (λ b. replies_told.Stat b.active b.count) (λ b e. no_refusal e) (λ b c. refl) (λ r. refl) does a
 
       by_line : (line : Result (Option (Command M)) Refusal) → LineAsks kinds widths line run.state asked state → AskedAnswer machine honest (at_state run state) asked answer
           → Did (LineMakes honest line) run answer
@@ -465,24 +467,26 @@ module _ {M : Type 0} (kinds : Meaning M) (widths : Widths) where
       by_line (Ok None) does a = silent (LineMakes honest (Ok None)) (λ before after same. (refl, same)) run state asked answer does.1 a (inl does.0)
       by_line (Err refusal) does a = silent (LineMakes honest (Err refusal)) (λ before after same. (refl, same)) run state asked answer does.1 a (inr (replies_told.No refusal, does.0))
 
-    pub one_did : Leaves → (run : Run (Channels M)) (line : List ℕ) (answer : Answer (Channels M)) → LineAnswer machine honest run line answer → Did (ALineMakes honest named line) run answer
+    -- a long line is refused
+    abbrev line_of : List ℕ → Result (Option (Command M)) Refusal
+    line_of line = if nat_lt LINE_OCTETS (length line) then Err Long else parsed named line
+
+    pub one_did : Leaves → (run : Run (Channels M)) (line : List ℕ) (answer : Answer (Channels M)) → LineAnswer machine honest run line answer → Did (LineMakes honest (line_of line)) run answer
     one_did leaves run line answer a =
-        either (long_or_not LINE_OCTETS (length line))
+        either (true_or_false (nat_lt LINE_OCTETS (length line)))
         (λ long.
-        let is = a.long long in
-        record {
+        let is = a.long (grind (arith, long)) in
+        at long (record {
           made = [];
-          asked = record { long = λ more. (refl, λ c h. ap (λ (b : Answer (Channels M)). left widths b.run c) is); fits = λ le. absurd (omega arith) };
-          serves = subst (λ (b : Answer (Channels M)). Serves run b.run b.written []) (sym is) (replied run long_text true);
+          asked = (refl, λ c h. ap (λ (b : Answer (Channels M)). left widths b.run c) is);
+          serves = subst (λ (b : Answer (Channels M)). Serves run b.run b.written []) (sym is) (replied run (replies_told.No Long));
           refused = λ le. ap (λ b. b.run.state) is;
-        })
-        (λ fits.
-        let s = a.fits fits in
-        let did = by_line leaves run s.state s.asked answer (parsed named line) s.asks s.answered in
-        record { made = did.made; asked = record { long = λ more. absurd (omega arith); fits = λ le. did.asked }; serves = did.serves; refused = did.refused })
+        }))
+        (λ fits. let s = a.fits (grind (arith, fits)) in at fits (by_line leaves run s.1 s.0 answer (parsed named line) s.2 s.3))
       where
-        long_or_not : (n m : ℕ) → (n < m) ⊎ (m ≤ n)
-        long_or_not n m = grind arith
+        at : {b : Bool} → nat_lt LINE_OCTETS (length line) ≡ b → Did (LineMakes honest (if b then Err Long else parsed named line)) run answer
+            → Did (LineMakes honest (line_of line)) run answer
+        at e did = subst (λ b. Did (LineMakes honest (if b then Err Long else parsed named line)) run answer) (sym e) did
 
     -- ---- all lines
 
@@ -570,13 +574,13 @@ enough n xs e =
 
 module _ {M : Type 0} (honest : ℕ → Bool) (c n : ℕ) (before after : Left) (made : List (Call M)) (is : honest c ≡ true) (taken : IsFed honest c n before made after) where
   pub has_enough : n ≤ length (before c)
-  has_enough = enough n (before c) (ap (λ xs. length xs) (taken.first is) ∙ taken.counted)
+  has_enough = enough n (before c) (ap (λ xs. length xs) (taken.3 is) ∙ taken.2)
 
   pub takes_next : (out : List ℤ) × (made ≡ calls.Ready c (Ok tt) ∷ calls.Feed c (take n (before c)) out ∷ [])
-  takes_next = (taken.out, taken.calls ∙ ap (λ block. calls.Ready c (Ok tt) ∷ calls.Feed c block taken.out ∷ []) (sym (taken.first is)))
+  takes_next = (taken.1, taken.5 ∙ ap (λ block. calls.Ready c (Ok tt) ∷ calls.Feed c block taken.1 ∷ []) (sym (taken.3 is)))
 
   pub leaves_others : after c ≡ drop n (before c)
   leaves_others =
       either (eqb_tells c c)
-      (λ same. taken.others c is ∙ ap (λ b. if b then drop n (before c) else before c) same.0)
+      (λ same. taken.4 c is ∙ ap (λ b. if b then drop n (before c) else before c) same.0)
       (λ apart. absurd (apart.1 refl))

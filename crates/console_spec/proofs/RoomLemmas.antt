@@ -1,5 +1,6 @@
 -- What finds no room.
-use Rattle.std.proofs.Common.{◌≡◌, ◌⊎◌, ◌<◌, ◌≤◌, ℕ, ℤ, zero, suc, ◌+◌, ◌*◌, ◌/◌, Bool, true, false, cond, List, [], ◌∷◌, map, Option, Some, None, Result, Ok, Err, inl, inr, refl, ap, sym, ◌∙◌, subst, arith}
+use Rattle.std.proofs.Common.{◌≡◌, ◌⊎◌, ◌<◌, ◌≤◌, ℕ, ℤ, zero, suc, ◌+◌, ◌*◌, ◌/◌, Bool, true, false, cond, List, [], ◌∷◌, ◌++◌, map, Option, Some, None, Result, Ok, Err, refl, ap, sym, ◌∙◌, subst, arith}
+use Rattle.std.specs.Result.{result_err, result_map_both}
 use Rattle.std.specs.Prelude.{not, ◌&&◌, is_some, IsTrue, find, ◌↔◌}
 use Rattle.std.specs.List.{list_any, range_with_len}
 use Rattle.std.proofs.lemmas.Bool.{lt-leb, ltb-true}
@@ -18,19 +19,20 @@ use Rattle.host_map.specs.Blocks.{ranges}
 use Rattle.host_map.specs.declared.parts.Sizes.{Sizes}
 use Rattle.host_map.specs.declared.parts.Wanted.{Wanted}
 use Rattle.host_map.specs.MemoryMap.{MemoryMap, blocks_in, place_in, put_block, renamed, words_in}
-use Rattle.host_map.specs.Creation.{all_placed, created_map, goes_on, result_map, taken_over, wanted_by, without_replaced}
+use Rattle.host_map.specs.Creation.{all_placed, created_map, taken_over, wanted_by, without_replaced}
 use Rattle.host_spec.specs.State.{Living, State, sharers_of, is_group_number, is_instance_number}
 use Rattle.host_spec.specs.Choices.{tells_memory}
 use Rattle.host_spec.specs.Steps as steps
-use Rattle.host_spec.specs.Steps.{create, newborn, with_memory, with_room}
+use Rattle.host_spec.specs.Steps.{create, newborn, unless, with_memory, with_room}
 use Rattle.host_spec.specs.Calls as host_calls
 use Rattle.host_spec.specs.Laws as host_laws
 use Rattle.host_spec.proofs.OutcomeLemmas.{create_room}
 use Rattle.channel_spec.specs.Channels.{Channels}
-use Rattle.channel_spec.specs.Steps.{unless, with_members, on_host, chain_refusal, channel_refusal, delete_refusal}
+use Rattle.channel_spec.specs.Steps.{channel_refusal}
+use Rattle.channel_spec.specs.Parts.{with_members, on_host, chain_refusal, delete_refusal}
 use Rattle.channel_spec.specs.Calls.{Call, Does, refusal_of}
 use Rattle.channel_spec.specs.Calls.Call.{Chain, Unchain, Remove, Ready, Feed, OfHost}
-use Rattle.console_spec.specs.Room.{FallsShort, IsCreation, LacksRoom}
+use Rattle.console_spec.specs.Room.{FallsShort, HasNoPlace, IsCreation, LacksRoom}
 
 -- ---- places
 
@@ -78,38 +80,81 @@ module _ (words : ℕ) (taken : List Stretch) (size : ℕ) where
 
 -- ---- blocks
 
-ok_is_no_err : {A E : Type 0} (a : A) (r : E) → ◌≡◌ {A = Result A E} (Ok a) (Err r) → ⊥
+pub ok_is_no_err : {A E : Type 0} (a : A) (r : E) → ◌≡◌ {A = Result A E} (Ok a) (Err r) → ⊥
 ok_is_no_err a r e = cc
 
-err_same : {A E : Type 0} (r s : E) → ◌≡◌ {A = Result A E} (Err r) (Err s) → r ≡ s
+ok_same : {A E : Type 0} (a b : A) → ◌≡◌ {A = Result A E} (Ok a) (Ok b) → a ≡ b
+ok_same a b e = cc
+
+pub err_same : {A E : Type 0} (r s : E) → ◌≡◌ {A = Result A E} (Err r) (Err s) → r ≡ s
 err_same r s e = cc
 
 module _ (sizes : Sizes) (space : Space) where
   abbrev put : MemoryMap → Wanted → ℕ → MemoryMap
   put map w place = put_block map w.space (record { owner = w.owner; place = place; size = w.size; align = w.align })
 
+  -- a block that has a place, or none
+  one_placed : (map : MemoryMap) (w : Wanted) (ws : List Wanted) (place : ℕ) → place_in sizes map w.space w.size w.align ≡ Some place
+      → all_placed sizes map (w ∷ ws) ≡ all_placed sizes (put map w place) ws
+  one_placed map w ws place there = rw there refl
+
+  none_placed : (map : MemoryMap) (w : Wanted) (ws : List Wanted) → place_in sizes map w.space w.size w.align ≡ None → all_placed sizes map (w ∷ ws) ≡ Err w.space
+  none_placed map w ws none = rw none refl
+
   abbrev PlacesShort : List Wanted → Type 0
   PlacesShort ws = (map : MemoryMap) → all_placed sizes map ws ≡ Err space → FallsShort sizes map ws space
 
   one_short : (w : Wanted) (ws : List Wanted) (map : MemoryMap) → PlacesShort ws → (o : Option ℕ) → place_in sizes map w.space w.size w.align ≡ o
-      → goes_on o w (λ b. all_placed sizes (put_block map w.space b) ws) ≡ Err space → FallsShort sizes map (w ∷ ws) space
-  one_short w ws map more None none e =
-      inl (nowhere (words_in sizes w.space) (ranges (blocks_in map w.space)) w.size w.align none, err_same w.space space e)
-  one_short w ws map more (Some place) there e = inr (place, there, more (put map w place) e)
+      → all_placed sizes map (w ∷ ws) ≡ Err space → FallsShort sizes map (w ∷ ws) space
+  one_short w ws map more None none e = (
+    [],
+    ws,
+    w,
+    map,
+    refl,
+    refl,
+    nowhere (words_in sizes w.space) (ranges (blocks_in map w.space)) w.size w.align none,
+    err_same w.space space (sym (none_placed map w ws none) ∙ e),
+  )
+  one_short w ws map more (Some place) there e =
+      let later = more (put map w place) (sym (one_placed map w ws place there) ∙ e) in (
+        w ∷ later.0,
+        later.1,
+        later.2,
+        later.3,
+        ap (λ all. w ∷ all) later.4,
+        one_placed map w later.0 place there ∙ later.5,
+        later.6,
+        later.7,
+      )
 
   falls : (ws : List Wanted) → PlacesShort ws
   falls [] map e = absurd (ok_is_no_err map space e)
   falls (w ∷ ws) map e = one_short w ws map (falls ws) (place_in sizes map w.space w.size w.align) refl e
 
-  unplaced : (ws : List Wanted) (map : MemoryMap) → FallsShort sizes map ws space → all_placed sizes map ws ≡ Err space
-  unplaced [] map short = absurd short
-  unplaced (w ∷ ws) map (inl none) =
-      ap (λ o. goes_on o w (λ b. all_placed sizes (put_block map w.space b) ws)) (no_least (words_in sizes w.space) (ranges (blocks_in map w.space)) w.size w.align none.0)
-      ∙ ap Err none.1
-  unplaced (w ∷ ws) map (inr later) =
-      ap (λ o. goes_on o w (λ b. all_placed sizes (put_block map w.space b) ws)) later.1 ∙ unplaced ws (put map w later.0) later.2
+  -- behind blocks that are placed, one that has no place
+  abbrev Behind : List Wanted → Type 0
+  Behind first = (rest : List Wanted) (w : Wanted) (map placed : MemoryMap) → all_placed sizes map first ≡ Ok placed → HasNoPlace sizes placed w
+      → all_placed sizes map (first ++ w ∷ rest) ≡ Err w.space
 
-  mapped : {A B : Type 0} (f : A → B) (r : Result A Space) → result_map f r ≡ Err space → r ≡ Err space
+  behind_one : (v : Wanted) (first : List Wanted) → Behind first → (rest : List Wanted) (w : Wanted) (map placed : MemoryMap) (o : Option ℕ)
+      → place_in sizes map v.space v.size v.align ≡ o → all_placed sizes map (v ∷ first) ≡ Ok placed → HasNoPlace sizes placed w
+      → all_placed sizes map (v ∷ (first ++ w ∷ rest)) ≡ Err w.space
+  behind_one v first more rest w map placed None missing e none = absurd (ok_is_no_err placed v.space (sym e ∙ none_placed map v first missing))
+  behind_one v first more rest w map placed (Some place) there e none =
+      one_placed map v (first ++ w ∷ rest) place there ∙ more rest w (put map v place) placed (sym (one_placed map v first place there) ∙ e) none
+
+  behind : (first : List Wanted) → Behind first
+  behind [] rest w map placed e none =
+      let here : HasNoPlace sizes map w = subst (λ m. HasNoPlace sizes m w) (sym (ok_same map placed e)) none in
+      none_placed map w rest (no_least (words_in sizes w.space) (ranges (blocks_in map w.space)) w.size w.align here)
+  behind (v ∷ first) rest w map placed e none =
+      behind_one v first (behind first) rest w map placed (place_in sizes map v.space v.size v.align) refl e none
+
+  pub unplaced : (ws : List Wanted) (map : MemoryMap) → FallsShort sizes map ws space → all_placed sizes map ws ≡ Err space
+  unplaced ws map short = ap (all_placed sizes map) short.4 ∙ behind short.0 short.1 short.2 map short.3 short.5 short.6 ∙ ap Err short.7
+
+  mapped : {A B : Type 0} (f : A → B) (r : Result A Space) → result_map_both f (λ (other : Space). other) r ≡ Err space → r ≡ Err space
   mapped f (Ok a) e = absurd (ok_is_no_err (f a) space e)
   mapped f (Err other) e = ap Err (err_same other space e)
 
@@ -176,27 +221,25 @@ module _ {M : Type 0} (kinds : Meaning M) (before after : State M) (i g : ℕ) (
   lacks e =
       let w = wants kinds before after i kind g p space (is_instance_number i && is_group_number g) (is_some (before.living i)) does.table
       (subst (λ a. (a, after) ≡ create kinds before i kind g p does.table) e does.outcome) in
-      let both = both_true (is_instance_number i) (is_group_number g) w.in_range in
-      record {
-        number = ltb-true i INSTANCES both.0;
-        group = ltb-true g GROUPS both.1;
-        absent = is_none_then (before.living i) w.absent;
-        table = w.unmet.records;
-        asked = sym (does.asked.told known) ∙ w.unmet.asked;
-        short =
-            let sharers = sharers_of kinds before.living (newborn kind g p w.unmet.records) in
+      let both = both_true (is_instance_number i) (is_group_number g) w.in_range in (
+        ltb-true i INSTANCES both.0,
+        ltb-true g GROUPS both.1,
+        is_none_then (before.living i) w.absent,
+        w.unmet.records,
+        sym (does.asked.told known) ∙ w.unmet.asked,
+        let sharers = sharers_of kinds before.living (newborn kind g p w.unmet.records) in
             falls before.sizes space (wanted_by sharers before.map i g w.unmet.records) before.map
             (mapped before.sizes space (λ placed. renamed (taken_over sharers i) (without_replaced before.map g w.unmet.records placed))
-            (all_placed before.sizes before.map (wanted_by sharers before.map i g w.unmet.records)) w.unmet.short);
-      }
+            (all_placed before.sizes before.map (wanted_by sharers before.map i g w.unmet.records)) w.unmet.short),
+      )
 
   refused : LacksRoom kinds before i kind g p space → answer ≡ Err (Room space)
   refused l =
-      let sharers = sharers_of kinds before.living (newborn kind g p l.table) in
-      let short = ap (result_map (λ placed. renamed (taken_over sharers i) (without_replaced before.map g l.table placed)))
-      (unplaced before.sizes space (wanted_by sharers before.map i g l.table) before.map l.short) in
-      ap (λ o. o.0) (does.outcome ∙ ap (λ t. create kinds before i kind g p t) (does.asked.told known ∙ l.asked)
-      ∙ create_room before kinds i g kind p l.table space l.number l.group l.absent short)
+      let sharers = sharers_of kinds before.living (newborn kind g p l.3) in
+      let short = ap (result_map_both (λ placed. renamed (taken_over sharers i) (without_replaced before.map g l.3 placed)) (λ (other : Space). other))
+      (unplaced before.sizes space (wanted_by sharers before.map i g l.3) before.map l.5) in
+      ap (λ o. o.0) (does.outcome ∙ ap (λ t. create kinds before i kind g p t) (does.asked.told known ∙ l.4)
+      ∙ create_room before kinds i g kind p l.3 space l.0 l.1 l.2 short)
 
   pub exactly : (answer ≡ Err (Room space)) ↔ LacksRoom kinds before i kind g p space
   exactly = (lacks, refused)
@@ -206,9 +249,9 @@ module _ {M : Type 0} (kinds : Meaning M) (before after : State M) (i g : ℕ) (
 module _ {M : Type 0} (before after : Channels M) (space : Space) where
   -- a refusal that is told is the first whose test holds
   told_is : (answer : Result (Unit {0}) Refusal) (next : Channels M) (r : Option Refusal) → (answer, after) ≡ unless r before (Ok (tt {0}), next)
-      → host_calls.refusal_in answer ≡ Some (Room space) → r ≡ Some (Room space)
-  told_is answer next None does e = ap (λ o. host_calls.refusal_in o.0) (sym does) ∙ e
-  told_is answer next (Some refusal) does e = ap (λ o. host_calls.refusal_in o.0) (sym does) ∙ e
+      → result_err answer ≡ Some (Room space) → r ≡ Some (Room space)
+  told_is answer next None does e = ap (λ o. result_err o.0) (sym does) ∙ e
+  told_is answer next (Some refusal) does e = ap (λ o. result_err o.0) (sym does) ∙ e
 
   by_chain : (range taken missing busy : Bool) → first_refusal ((range, Range) ∷ (taken, Taken) ∷ (missing, Missing) ∷ (busy, Busy) ∷ []) ≡ Some (Room space) → ⊥
   by_chain true taken missing busy e = cc
@@ -250,4 +293,4 @@ module _ {M : Type 0} (before after : Channels M) (space : Space) where
   only kinds law (Remove i answer) does e = by_delete _ _ _ (told_is answer (on_host before (steps.delete kinds before.host i).1) (delete_refusal before i) does e)
   only kinds law (Ready c answer) does e = by_channel _ _ (told_is answer before (channel_refusal before c) does e)
   only kinds law (Feed c block out) does e = absurd (none-some (Room space) e)
-  only kinds law (OfHost call) does e = its_creation call (law before.host after.host call does.does e)
+  only kinds law (OfHost call) does e = its_creation call (law before.host after.host call does.1 e)

@@ -3,7 +3,7 @@ use Rattle.std.specs.Prelude.{ℕ, ℤ, ◌≡◌, List, [], ◌∷◌, ◌++◌
 use Rattle.mem_rec.specs.declared.MemRec.{MemRec}
 use Rattle.ialg.specs.declared.refusal.Refusal.{Refusal}
 use Rattle.ialg.specs.declared.refusal.Refusal.TheVariants.{Command}
-use Rattle.ialg.specs.History.{History, Ctl}
+use Rattle.ialg.specs.History.{Ctl}
 use Rattle.ialg.specs.Meaning.{Meaning, Status, outputs_of, status_of}
 use Rattle.ialg.specs.Records.{unplaced}
 use Rattle.host_spec.specs.State.{State}
@@ -18,16 +18,13 @@ pub record Born {M : Type 0} (i : ℕ) (kind : M) (g : ℕ) (p : List ℤ) (call
   pub created : calls ≡ earlier ++ Create i kind g p (Ok tt) ∷ (later ++ rest)
   pub spared : AllSpare i later
 
--- what an instance answers to a control. Whether it is granted depends on the kind, the parameters and the control alone
-abbrev pub answer_of : {M : Type 0} → Meaning M → M → List ℤ → History → Ctl → Result Status Refusal
-answer_of kinds kind p h c = if kinds.accepts kind p c then Ok (status_of kinds kind p h c) else Err Command
-
--- in these calls, which come next behind its creation, an instance gives and answers what its kind means for what they give it
+-- in these calls, which come next behind its creation, an instance gives and answers what its kind means for what they give it. Whether a
+-- control is granted depends on the kind, the parameters and the control alone
 pub record GivesItsEquation {M : Type 0} (kinds : Meaning M) (i : ℕ) (kind : M) (p : List ℤ) (later : List (Call M)) : Type 0 where
   pub outputs : outputs_in i later ≡ outputs_of kinds kind p (history_of_run i [] later)
   pub statuses : statuses_in i later ≡ statuses_of kinds kind p (history_of_run i [] later)
   pub controls : (first rest : List (Call M)) (c : Ctl) (answer : Result Status Refusal) → later ≡ first ++ Control i c answer ∷ rest
-      → answer ≡ answer_of kinds kind p (history_of_run i [] first) c
+      → answer ≡ (if kinds.accepts kind p c then Ok (status_of kinds kind p (history_of_run i [] first) c) else Err Command)
 
 -- so it goes from its creation on, and where no further call came it lives, with all that it was given
 pub record GoesByItsHistory {M : Type 0} (kinds : Meaning M) (i : ℕ) (kind : M) (g : ℕ) (p : List ℤ) (later rest : List (Call M)) (after : State M) : Type 0 where

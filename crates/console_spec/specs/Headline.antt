@@ -17,7 +17,7 @@ use Rattle.console_spec.specs.Samples.{octets_at}
 use Rattle.console_spec.specs.Console.{console_machine, start}
 use Rattle.console_spec.specs.HostRuns.{RunsOnHost}
 use Rattle.console_spec.specs.Births.{Born, GoesByItsHistory}
-use Rattle.console_spec.specs.Lines.{LinesMake, fed_out, samples_left}
+use Rattle.console_spec.specs.Lines.{LinesMake, fed_out, samples_on}
 use Rattle.console_spec.specs.Room.{IsCreation, LacksRoom}
 
 -- why commands are refused, and what a refused one does
@@ -40,7 +40,7 @@ pub record Headline {M : Type 0} (kinds : Meaning M) (named : List ℕ → Optio
   -- over any list of commands: the calls of channels that they make, which take samples from the inputs, those of an honest one in their order,
   -- and what those calls ask of the host
   pub calls : List (Call M)
-  pub commands : LinesMake honest named lines (samples_left widths (start {M = M} sizes poison octets)) calls (samples_left widths answer.run)
+  pub commands : LinesMake honest named lines (samples_on widths octets) calls (samples_on widths answer.run.inputs)
   pub asked : List (host_calls.Call M)
   pub runs : RunsOnHost kinds (start sizes poison octets).state calls asked answer.run.state
   -- each living instance's output is its difference equation applied to its own granted controls and samples since its creation, whatever

@@ -1,4 +1,5 @@
 pub mod Console
+pub mod Told
 pub mod Samples
 pub mod Answers
 pub mod HostRuns

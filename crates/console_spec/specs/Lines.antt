@@ -1,7 +1,8 @@
 -- Lines of a console as calls of channels.
-use Rattle.std.specs.Prelude.{ℕ, ℤ, ◌≡◌, ◌⊎◌, ◌<◌, ◌≤◌, ◌==◌, Bool, true, List, [], ◌∷◌, ◌++◌, length, drop, take, Option, Some, Result, Ok, Err, slice_index_or, if◌then◌else◌}
+use Rattle.std.specs.Prelude.{ℕ, ℤ, ◌≡◌, ◌⊎◌, ◌<◌, ◌==◌, Bool, true, List, [], ◌∷◌, ◌++◌, length, drop, take, Option, Some, Result, Ok, Err, slice_index_or, nat_lt, if◌then◌else◌}
 use Rattle.std.specs.List.{flat_map}
 use Rattle.ialg.specs.declared.refusal.Refusal.{Refusal}
+use Rattle.ialg.specs.declared.refusal.Refusal.TheVariants.{Long}
 use Rattle.ialg.specs.Meaning.{Meaning}
 use Rattle.channel_spec.specs.Channels.{Channels}
 use Rattle.channel_spec.specs.Calls as calls
@@ -24,10 +25,6 @@ Left = ℕ → List ℤ
 -- the same samples are left on each honest input
 abbrev pub IsSame : (ℕ → Bool) → Left → Left → Type 0
 IsSame honest left after = (c : ℕ) → honest c ≡ true → after c ≡ left c
-
--- the same, but with these samples on input c
-abbrev pub IsSameBut : (ℕ → Bool) → ℕ → List ℤ → Left → Left → Type 0
-IsSameBut honest c rest left after = (d : ℕ) → honest d ≡ true → after d ≡ (if d == c then rest else left d)
 
 -- the samples of these octets of the inputs, by the widths of their ports
 abbrev pub samples_on : Widths → List (List ℕ) → Left
@@ -56,20 +53,16 @@ module _ {M : Type 0} (honest : ℕ → Bool) where
   Makes {A} call left made after = (answer : A) × (made ≡ call answer ∷ []) × IsSame honest left after
 
   -- a feed is short: its channel is ready, but fewer samples are left on an honest input than it asks for, and none afterwards
-  pub record IsShort (c n : ℕ) (left : Left) (made : List (Call M)) (after : Left) : Type 0 where
-    pub few : honest c ≡ true → length (left c) < n
-    pub none : IsSameBut honest c [] left after
-    pub calls : made ≡ calls.Ready c (Ok tt) ∷ []
+  abbrev pub IsShort : (c n : ℕ) → Left → List (Call M) → Left → Type 0
+  IsShort c n left made after =
+      (honest c ≡ true → length (left c) < n) × IsSame honest (λ d. if d == c then [] else left d) after × (made ≡ calls.Ready c (Ok tt) ∷ [])
 
   -- a feed is fed: its channel is ready, and its block has as many samples as it asks for: of an honest input the first that are left, and
   -- the others are left
-  pub record IsFed (c n : ℕ) (left : Left) (made : List (Call M)) (after : Left) : Type 0 where
-    pub block : List ℤ
-    pub counted : length block ≡ n
-    pub first : honest c ≡ true → take n (left c) ≡ block
-    pub others : IsSameBut honest c (drop n (left c)) left after
-    pub out : List ℤ
-    pub calls : made ≡ calls.Ready c (Ok tt) ∷ calls.Feed c block out ∷ []
+  abbrev pub IsFed : (c n : ℕ) → Left → List (Call M) → Left → Type 0
+  IsFed c n left made after =
+      (block out : List ℤ) × (length block ≡ n) × (honest c ≡ true → take n (left c) ≡ block)
+      × IsSame honest (λ d. if d == c then drop n (left c) else left d) after × (made ≡ calls.Ready c (Ok tt) ∷ calls.Feed c block out ∷ [])
 
   -- a feed is refused, short or fed. Every other command makes its one call
   abbrev pub CommandMakes : Command M → Left → List (Call M) → Left → Type 0
@@ -81,21 +74,22 @@ module _ {M : Type 0} (honest : ℕ → Bool) where
   abbrev pub MakesNone : Left → List (Call M) → Left → Type 0
   MakesNone left made after = (made ≡ []) × IsSame honest left after
 
-  -- a line that is blank or not in the grammar makes no call
+  -- a line that is blank or refused makes no call
   abbrev pub LineMakes : Result (Option (Command M)) Refusal → Left → List (Call M) → Left → Type 0
   LineMakes (Ok (Some command)) = CommandMakes command
   LineMakes _ = MakesNone
 
-  -- nor does a long one
-  pub record ALineMakes (named : List ℕ → Option M) (line : List ℕ) (left : Left) (made : List (Call M)) (after : Left) : Type 0 where
-    pub long : LINE_OCTETS < length line → MakesNone left made after
-    pub fits : length line ≤ LINE_OCTETS → LineMakes (parsed named line) left made after
-
-  -- the lines, one after the other
+  -- the lines, one after the other. A long one is refused
   abbrev pub LinesMake : (List ℕ → Option M) → List (List ℕ) → Left → List (Call M) → Left → Type 0
   LinesMake named [] left made after = MakesNone left made after
   LinesMake named (line ∷ lines) left made after =
-      (between : Left) × (first rest : List (Call M)) × ALineMakes named line left first between × LinesMake named lines between rest after × (made ≡ first ++ rest)
+      (between : Left) × (first rest : List (Call M))
+      × LineMakes (if nat_lt LINE_OCTETS (length line) then Err Long else parsed named line) left first between
+      × LinesMake named lines between rest after × (made ≡ first ++ rest)
+
+-- the same samples are left on each honest input, but these on input c
+abbrev pub IsSameBut : (ℕ → Bool) → ℕ → List ℤ → Left → Left → Type 0
+IsSameBut honest c rest left after = IsSame honest (λ d. if d == c then rest else left d) after
 
 -- these calls were made for the lines: what a channel's feeds were given was taken from its input, where that is honest, and what they gave was
 -- written on it

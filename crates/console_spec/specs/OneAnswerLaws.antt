@@ -7,8 +7,8 @@ use Rattle.host_spec.specs.Answers.{AreLawful}
 use Rattle.channel_spec.specs.Channels.{Channels}
 use Rattle.channel_spec.specs.Laws.{with_poison}
 use Rattle.voice_script.specs.Script.{lines_of}
-use Rattle.voice_script.specs.Served.{Answer, FedAnswer, FeedAnswer, LinesAnswer, Run, octets_left, refuses}
-use Rattle.voice_script.specs.Computed.{IsComputed, after_reading}
+use Rattle.voice_script.specs.Served.{Answer, FedAnswer, FeedAnswer, LinesAnswer, Run, refuses}
+use Rattle.voice_script.specs.Computed.{IsComputed, after_reading, octets_left}
 use Rattle.voice_script.specs.Widths.{Widths}
 use Rattle.console_spec.specs.Console.{console_machine, start}
 use Rattle.console_spec.specs.Answers.{computed_console, served, lines_served}

@@ -16,7 +16,6 @@ use Rattle.voice_script.specs.Widths.{Widths, octet_count}
 use Rattle.console_spec.specs.Samples.{octets_at, octets_of, samples_at}
 use Rattle.console_spec.specs.Console.{Calls, CommandAsks, FeedGives, LineAsks}
 use Rattle.voice_script.specs.Script.{Command}
-use Rattle.voice_script.specs.Replies.{Count, reply_text}
 
 module _ {M : Type 0} (laws : Laws M) where
   -- what a console serves is said of its channels alone
@@ -32,7 +31,7 @@ module _ {M : Type 0} (laws : Laws M) where
       → Serves (Calls laws.meaning call asked_by) asked old new
   called call asked_by answer asked old new serves asks before keeps =
       let step = serves before keeps in
-      (step.0, record { answer = answer; does = step.1; asks = asks }, step.2)
+      (step.0, (answer, step.1, asks), step.2)
 
   -- a command asks what was done
   pub obeyed : (widths : Widths) (done command : Command M) (asked : Asked) (old new : ChannelsState M) → done ≡ command
@@ -49,10 +48,10 @@ module _ {M : Type 0} (laws : Laws M) where
       → channels.Serves laws (Feed c (samples_at (widths.input c) octets) out) old new
       → output ≡ octets_at (widths.output c) out → count ≡ length out
       → (before : Channels M) → Keeps old before
-      → (after : Channels M) × FeedGives laws.meaning widths before c octets output (reply_text (Count count)) after × Keeps new after
+      → (after : Channels M) × FeedGives laws.meaning widths before c octets output count after × Keeps new after
   gave widths c octets out output count old new serves given counted before keeps =
       let step = serves before keeps in
-      (step.0, record { out = out; does = step.1; given = given; counted = ap (λ n. reply_text (Count n)) counted }, step.2)
+      (step.0, (out, step.1, given, counted), step.2)
 
 two_each : (given : List ℤ) → length (octets_of given) ≡ 2 * length given
 two_each [] = refl

@@ -6,12 +6,13 @@ use Rattle.std.proofs.lemmas.List.{length-map}
 use Rattle.host_map.specs.declared.parts.Sizes.{Sizes}
 use Rattle.host_spaces.specs.MemoryMap.{sizes_of}
 use Rattle.host_spec.specs.State.{State, new_state}
+use Rattle.channel_spec.specs.Channels.{unchained}
 use Rattle.dsp_console.specs.Hosts.{HostState}
 use Rattle.dsp_console.specs.Hosts as hosts
 use Rattle.octet_ports.specs.Ports.{Source}
 use Rattle.script_server.specs.Runs.{Devices, EndsByRead, EndsByWrite, EndsWell, octets_to_come, run_of}
 use Rattle.voice_script.specs.Widths.{Widths}
-use Rattle.console_spec.specs.Console.{console_machine, new_channels, start}
+use Rattle.console_spec.specs.Console.{console_machine, start}
 use Rattle.dsp_console.specs.declared.console.Console.{Console}
 use Rattle.dsp_console.specs.Consoles.{Keeps, port_widths_of}
 use Rattle.dsp_console.specs.Fresh.{fresh}
@@ -19,11 +20,11 @@ use Rattle.ialg.specs.Laws.{Laws}
 
 module _ {M : Type 0} (laws : Laws M) (console : Console M) (host : HostState M) (sizes : Sizes) (poison : Option ℤ) (sources : List Source)
     (same : console.channels.host ≡ host) (keeps : hosts.Keeps laws host (new_state sizes poison)) where
-  is_fresh : fresh console sources ≡ new_channels sizes poison (length (octets_to_come sources))
+  is_fresh : fresh console sources ≡ unchained (new_state sizes poison) (length (octets_to_come sources))
   is_fresh =
       let its_sizes : sizes_of console.channels.host.spaces ≡ sizes = ap (λ h. sizes_of h.spaces) same ∙ keeps.kept.sizes in
       let its_poison : console.channels.host.poison ≡ poison = ap (λ h. h.poison) same ∙ sym keeps.poison in
-      ap (λ z. new_channels z console.channels.host.poison (length (octets_to_come sources))) its_sizes ∙ ap (λ w. new_channels sizes w (length (octets_to_come sources))) its_poison
+      ap (λ z. unchained (new_state z console.channels.host.poison) (length (octets_to_come sources))) its_sizes ∙ ap (λ w. unchained (new_state sizes w) (length (octets_to_come sources))) its_poison
 
   -- the run starts there
   pub starts : run_of (fresh console sources) sources ≡ start sizes poison (octets_to_come sources)
@@ -33,7 +34,7 @@ module _ {M : Type 0} (laws : Laws M) (console : Console M) (host : HostState M)
   pub kept : (count : ℕ) → length (octets_to_come sources) ≡ count
       → ((state : State M) → hosts.Keeps laws host state → Keeps laws console (record { host = state; chained = replicate count [] }))
       → Keeps laws console (fresh console sources)
-  kept count counted made = subst (Keeps laws console) (sym (is_fresh ∙ ap (new_channels sizes poison) counted)) (made (new_state sizes poison) keeps)
+  kept count counted made = subst (Keeps laws console) (sym (is_fresh ∙ ap (unchained (new_state sizes poison)) counted)) (made (new_state sizes poison) keeps)
 
   -- and ends from there, by the widths that it was made with
   module _ (named : List ℕ → Option M) (widths : Widths) (same_widths : port_widths_of console ≡ widths) where

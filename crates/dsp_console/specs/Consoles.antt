@@ -1,16 +1,13 @@
 -- When a console keeps a state of the machine.
 use Rattle.std.specs.Prelude.{ℕ, ◌≡◌, true, length}
-use Rattle.ialg.specs.History.{Ctl}
-use Rattle.host_spec.specs.Calls.Call.{Control}
-use Rattle.channel_spec.specs.Calls.Call.{OfHost}
 use Rattle.channel_spec.specs.Channels.{Channels, members_at, is_chained}
 use Rattle.voice_channel.specs.Channels as channels
 use Rattle.voice_script.specs.declared.replies.Reply.{Reply}
 use Rattle.voice_script.specs.ReplyViews.{reply_of}
 use Rattle.voice_script.specs.Script.{Command}
-use Rattle.voice_script.specs.Served.{Asked, tells}
+use Rattle.voice_script.specs.Served.{Asked, Tell}
 use Rattle.voice_script.specs.Widths.{Widths, widths_in}
-use Rattle.console_spec.specs.Console.{Calls, CommandAsks, status_reply, told_by}
+use Rattle.console_spec.specs.Console.{CommandAsks}
 use Rattle.dsp_console.specs.declared.console.Console.{Console}
 use Rattle.ialg.specs.Laws.{Laws}
 
@@ -40,9 +37,4 @@ AsksByCommand laws command asked old new = Serves laws (CommandAsks laws.meaning
 
 -- the command was done, and this reply tells of it
 abbrev pub TellsOf : {M : Type 0} → Laws M → Command M → Reply → Console M → Console M → Type 0
-TellsOf laws command reply old new = AsksByCommand laws command (tells (reply_of reply)) old new
-
--- the instance was asked for this control, and this reply tells what it answered
-abbrev pub TellsOfControl : {M : Type 0} → Laws M → ℕ → Ctl → Reply → Console M → Console M → Type 0
-TellsOfControl laws i control reply old new =
-    Serves laws (Calls laws.meaning (λ a. OfHost (Control i control a)) (λ a. tells (told_by status_reply a))) (tells (reply_of reply)) old new
+TellsOf laws command reply old new = AsksByCommand laws command (Tell (reply_of reply)) old new

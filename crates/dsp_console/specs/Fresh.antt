@@ -3,10 +3,11 @@ use Rattle.std.specs.Prelude.{ℕ, List, length, Option, Result, IfOk, IsErrOf}
 use Rattle.ialg.specs.Laws.{Laws}
 use Rattle.ialg.specs.Meaning.{Meaning}
 use Rattle.host_spaces.specs.MemoryMap.{sizes_of}
-use Rattle.channel_spec.specs.Channels.{Channels}
+use Rattle.host_spec.specs.State.{new_state}
+use Rattle.channel_spec.specs.Channels.{Channels, unchained}
 use Rattle.octet_ports.specs.Ports.{Source}
 use Rattle.script_server.specs.Runs.{Devices, EndsByRead, EndsByWrite, EndsWell, octets_to_come, run_of}
-use Rattle.console_spec.specs.Console.{console_machine, new_channels}
+use Rattle.console_spec.specs.Console.{console_machine}
 use Rattle.dsp_console.specs.declared.console.Console.{Console}
 use Rattle.dsp_console.specs.declared.serving.Summary.{Summary}
 use Rattle.dsp_console.specs.declared.serving.Fault.{Fault}
@@ -15,7 +16,7 @@ use Rattle.dsp_console.specs.Consoles.{Keeps, port_widths_of}
 
 -- its first state, of the sizes and the poison word that its host has, with these sources
 abbrev pub fresh : {M : Type 0} → Console M → List Source → Channels M
-fresh console sources = new_channels (sizes_of console.channels.host.spaces) console.channels.host.poison (length (octets_to_come sources))
+fresh console sources = unchained (new_state (sizes_of console.channels.host.spaces) console.channels.host.poison) (length (octets_to_come sources))
 
 -- it keeps that state
 abbrev pub IsFresh : {M : Type 0} → Laws M → List Source → Console M → Type 0

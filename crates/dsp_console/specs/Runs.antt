@@ -1,5 +1,5 @@
 -- What a run of the engine answers, told this configuration.
-use Rattle.std.specs.Prelude.{◌+◌, ◌⊎◌, ℕ, All, IfOk, IsErrOf, List, Option, Result}
+use Rattle.std.specs.Prelude.{◌≡◌, ◌+◌, ◌⊎◌, true, ℕ, All, IfOk, IsErrOf, List, Option, Result}
 use Rattle.ialg.specs.Meaning.{Meaning}
 use Rattle.octet_ports.specs.Ports.{GivesWithin, Source}
 use Rattle.host_spec.specs.Answers.{AreLawful}
@@ -25,7 +25,7 @@ ReadsWithinLimit source old new = GivesWithin (SCRIPT_OCTETS + 1) (source old) (
 module _ {M : Type 0} (kinds : Meaning M) (named : List ℕ → Option M) (config : Config) (result : Result Summary Fault) (old new : Devices) where
   -- where it answers a summary, the headline holds
   abbrev pub HasHeadline : Type 0
-  HasHeadline = IsHonest old.script → IfOk result (λ summary. RunHeadline kinds named (widths_of config.in8 config.out8) config.sizes config.poison summary.refused old new)
+  HasHeadline = old.script.honest ≡ true → IfOk result (λ summary. RunHeadline kinds named (widths_of config.in8 config.out8) config.sizes config.poison summary.refused old new)
 
   -- and its sounds
   abbrev pub HasSounds : Type 0

@@ -1,9 +1,10 @@
 //! What commands do: each is a call of the channels, whose answer is told.
 ghost use Rattle.std.specs.Prelude.{◌≡◌};
-ghost use Rattle.voice_script.specs.Script.Command.{Chain, Compact, Create, Delete, Feed, Get, Map, Release, Reset, Set, Stat, Step, Unchain};
+ghost use Rattle.voice_script.specs.Script.Command.{Chain, Compact, Control, Create, Delete, Feed, Map, Release, Stat, Step, Unchain};
+ghost use Rattle.ialg.specs.History.{Get, Reset, Set};
 ghost use Rattle.voice_script.specs.Asks.{asked_of, AskIsReady};
 ghost use Rattle.ialg.specs.Views.{control_of};
-ghost use Rattle.dsp_console.specs.Consoles.{AsksByCommand, channels_of, port_widths_of, TakesFeeds, TellsOf, TellsOfControl};
+ghost use Rattle.dsp_console.specs.Consoles.{AsksByCommand, channels_of, port_widths_of, TakesFeeds, TellsOf};
 
 use crate::console::Console;
 use crate::replies::{tell_done, tell_flag, tell_stat, tell_status};
@@ -27,7 +28,7 @@ impl<M: Ialg> Console<M> {
     pub(crate) fn control<'a>(&mut self, i: u8, control: &Ctl, room: &'a mut Words) -> Reply<'a>
         ensures channels { channels_of self.new ≡ channels_of self.old }
         ensures widths { self.new.widths ≡ self.old.widths }
-        ensures asks { TellsOfControl M.law i (control_of control.now) result self.old self.new }
+        ensures asks { TellsOf M.law (Control i (control_of control.now)) result self.old self.new }
     {
         tell_status(self.channels.control(i, control), room)
     }
@@ -37,7 +38,7 @@ impl<M: Ialg> Console<M> {
     pub(crate) fn set<'a>(&mut self, i: u8, words: &Params, room: &'a mut Words) -> Reply<'a>
         ensures channels { channels_of self.new ≡ channels_of self.old }
         ensures widths { self.new.widths ≡ self.old.widths }
-        ensures asks { TellsOf M.law (Set i words.now.items) result self.old self.new }
+        ensures asks { TellsOf M.law (Control i (Set words.now.items)) result self.old self.new }
     {
         self.control(i, &Ctl::Set(copied(words.as_slice())), room)
     }
@@ -47,7 +48,7 @@ impl<M: Ialg> Console<M> {
     pub(crate) fn reset<'a>(&mut self, i: u8, room: &'a mut Words) -> Reply<'a>
         ensures channels { channels_of self.new ≡ channels_of self.old }
         ensures widths { self.new.widths ≡ self.old.widths }
-        ensures asks { TellsOf M.law (Reset i) result self.old self.new }
+        ensures asks { TellsOf M.law (Control i Reset) result self.old self.new }
     {
         self.control(i, &Ctl::Reset, room)
     }
@@ -57,7 +58,7 @@ impl<M: Ialg> Console<M> {
     pub(crate) fn get<'a>(&mut self, i: u8, room: &'a mut Words) -> Reply<'a>
         ensures channels { channels_of self.new ≡ channels_of self.old }
         ensures widths { self.new.widths ≡ self.old.widths }
-        ensures asks { TellsOf M.law (Get i) result self.old self.new }
+        ensures asks { TellsOf M.law (Control i Get) result self.old self.new }
     {
         self.control(i, &Ctl::Get, room)
     }

@@ -4,7 +4,8 @@ ghost use Rattle.voice_script.specs.Replies as replies;
 ghost use Rattle.voice_script.specs.ReplyViews.{reply_of};
 ghost use Rattle.host_moves.specs.Kept.{told};
 ghost use Rattle.voice_channel.specs.Hosts.{stat_told};
-ghost use Rattle.console_spec.specs.Console.{status_reply, told_by};
+ghost use Rattle.console_spec.specs.Console.{status_reply};
+ghost use Rattle.console_spec.specs.Told.{told_by};
 
 use ialg::{Refusal, Status, Words};
 use voice_channel::Stat;

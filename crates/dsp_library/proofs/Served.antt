@@ -1,5 +1,5 @@
 -- How the answer to a call is told.
-use Rattle.std.proofs.Common.{◌≡◌, List, ℤ, refl, subst}
+use Rattle.std.proofs.Common.{◌≡◌, ℤ, refl, subst}
 use Rattle.std.specs.Prelude.{Some, Result, Ok, Err, IfOk}
 use Rattle.ialg.specs.declared.refusal.Refusal.{Refusal}
 use Rattle.ialg.specs.declared.control.Status.{Status}

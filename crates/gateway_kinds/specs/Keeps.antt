@@ -1,7 +1,9 @@
 -- How the words of an instance of a gateway's kind keep its history, which is as its kind does.
+use Rattle.std.specs.Prelude.{[]}
+use Rattle.ialg.specs.declared.TheConstants.{FILTER_RECORDS}
 use Rattle.ialg.specs.Filters as filters
 use Rattle.ialg.specs.Laws.{Laws, Relation}
-use Rattle.kind_parts.specs.Either.{either_keeps}
+use Rattle.kind_parts.specs.Either.{told, either_keeps}
 use Rattle.kind_parts.specs.declared.mapping.Mapped.{Mapped}
 use Rattle.kind_parts.specs.declared.framing.Framed.{Framed}
 use Rattle.kind_parts.specs.declared.words.TheConstants.{SUM_WORDS}
@@ -46,4 +48,10 @@ IsActive = either_keeps voice.IsActive (either_keeps gain_active (either_keeps l
 
 -- what the kinds mean, and what keeps a history of an instance of one
 abbrev pub kind_laws : Laws Kind
-kind_laws = record { meaning = kind_meaning; idle_keeps = IsIdle; active_keeps = IsActive }
+kind_laws = record {
+  meaning = kind_meaning;
+  bound = told voice.voice_bound (told (λ _. FILTER_RECORDS) (told (λ _. FILTER_RECORDS) (λ _. FILTER_RECORDS)));
+  fill = told voice.voice_fill (told (λ _ p k. []) (told (λ _ p k. []) (λ _ p k. [])));
+  idle_keeps = IsIdle;
+  active_keeps = IsActive;
+}

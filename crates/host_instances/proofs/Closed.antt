@@ -15,7 +15,6 @@ use Rattle.scratch_group.specs.declared.group.Group.{Group}
 use Rattle.host_table.specs.declared.member.Member.{Member}
 use Rattle.host_shared.specs.declared.locations.Locations.{Locations}
 use Rattle.host_table.specs.Table.{slot_at, is_member_of}
-use Rattle.relocate.specs.Places.{numbers_below}
 use Rattle.mem_rec.specs.declared.TheConstants.{INSTANCES}
 use Rattle.host_map.specs.declared.placed.Owner.{Owner}
 use Rattle.host_map.specs.declared.placed.Owner.TheVariants.{Record, Scratch}
@@ -37,7 +36,7 @@ use Rattle.host_moves.specs.Hosts.{HostKeeps}
 -- ---- the state in which the first n instances are deleted
 
 abbrev pub without_first : {M : Type 0} → Meaning M → State M → ℕ → State M
-without_first kinds before n = fold (λ left i. (delete kinds left i).1) before (numbers_below n)
+without_first kinds before n = fold (λ left i. (delete kinds left i).1) before (range_with_len 0 n)
 
 range_more : (a n : ℕ) → range_with_len a (suc n) ≡ range_with_len a n ++ (a + n) ∷ []
 range_more a zero = let here : a ≡ a + 0 = omega arith in ap (λ j. j ∷ []) here
@@ -62,12 +61,12 @@ pub record IsClosing {M : Type 0} (laws : Laws M) (instances : List (Option (Mem
 module _ {M : Type 0} (laws : Laws M) (instances : List (Option (Member M))) (sharing : List Locations) (groups : List Group) (spaces : Spaces)
     (w : Option ℤ) (before : State M) where
   pub closing_next : (n : ℕ) (answer : Result (Unit {0}) Refusal) (after : State M) → (without_first laws.meaning before n).poison ≡ w
-      → ◌≡◌ {A = Outcome M (Unit {0})} (answer, after) (delete laws.meaning (without_first laws.meaning before n) n)
+      → ◌≡◌ {A = Outcome (State M) (Unit {0})} (answer, after) (delete laws.meaning (without_first laws.meaning before n) n)
       → HostKeeps laws instances sharing groups spaces after
       → IsClosing laws instances sharing groups spaces (n + 1) w before
   closing_next n answer after poison does kept =
       let now = without_first laws.meaning before n in
-      let is : after ≡ without_first laws.meaning before (n + 1) = ap (λ (o : Outcome M (Unit {0})). o.1) does ∙ sym (without_next laws.meaning before n) in
+      let is : after ≡ without_first laws.meaning before (n + 1) = ap (λ (o : Outcome (State M) (Unit {0})). o.1) does ∙ sym (without_next laws.meaning before n) in
       record {
         poison = ap (λ (s : State M). s.poison) (without_next laws.meaning before n) ∙ (delete_keeps n now laws.meaning).host.poison ∙ poison;
         kept = subst (HostKeeps laws instances sharing groups spaces) is kept;

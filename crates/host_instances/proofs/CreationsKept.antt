@@ -1,5 +1,5 @@
 -- What a creation leaves is kept.
-use Rattle.std.proofs.Common.{◌≡◌, ℕ, ℤ, ◌+◌, ◌-◌, ◌^◌, min, inl, inr, Bool, true, is_some, cond, IsTrue, List, [], Option, Some, None, Result, refl, sym, ◌∙◌, ap, subst}
+use Rattle.std.proofs.Common.{◌≡◌, ℕ, ℤ, ◌+◌, ◌-◌, ◌^◌, min, inl, inr, Bool, true, is_some, cond, IsTrue, List, [], Option, Some, None, Result, if◌then◌else◌, refl, sym, ◌∙◌, ap, subst}
 use Rattle.std.proofs.lemmas.Bool.{or_left, true≢false}
 use Rattle.std.proofs.lemmas.Option.{none-some}
 use Rattle.std.proofs.lemmas.Bool.Decides.{eqb_tells}
@@ -14,7 +14,7 @@ use Rattle.scratch_group.specs.declared.group.Group.{Group}
 use Rattle.host_table.specs.declared.member.Member.{Member}
 use Rattle.host_shared.specs.declared.locations.Locations.{Locations}
 use Rattle.host_table.specs.Table.{slot_at, activity_at}
-use Rattle.host_map.specs.Activity.{Activity, deactivated, with_activity}
+use Rattle.host_map.specs.Activity.{Activity, deactivated, with_at}
 use Rattle.host_shared.specs.Locations.{shared_at}
 use Rattle.host_table.specs.Keeps.{Keeps, SlotKeeps, with_history}
 use Rattle.host_map.specs.declared.parts.Sizes.{Sizes}
@@ -25,10 +25,10 @@ use Rattle.host_map.specs.MemoryMap.{MemoryMap}
 use Rattle.host_moves.proofs.OwnMoves.{same_sizes}
 use Rattle.host_map.specs.Sharers.{asked, sharer_of}
 use Rattle.host_table.specs.Sharers.{asked_by}
-use Rattle.host_spec.specs.State.{Living, State, sharers_of, with_living}
+use Rattle.host_spec.specs.State.{Living, State, sharers_of}
 use Rattle.host_moves.proofs.SharersKept.{sharers_same}
 use Rattle.host_spec.specs.Choices.{MayAsk}
-use Rattle.host_spec.specs.Steps.{activity_after_create, created, newborn}
+use Rattle.host_spec.specs.Steps.{created, newborn}
 use Rattle.host_moves.specs.Kept.{IsLiving, history_of}
 use Rattle.host_moves.specs.Hosts.{HostKeeps}
 use Rattle.host_moves.proofs.MovesKept.{still_living}
@@ -75,7 +75,7 @@ module _ {M : Type 0} (laws : Laws M) (instances : List (Option (Member M))) (sh
   sharers = λ k. sharer_of laws.meaning.same (λ j. asked_by (slot_at instances j)) (asked kind p table) k
 
   sharers_are : sharers ≡ sharers_of laws.meaning before.living (newborn kind g p table)
-  sharers_are t k = sharers_same laws.meaning.same instances before.living (asked kind p table) kept.tables.living k t
+  sharers_are t k = sharers_same laws.meaning instances before.living (newborn kind g p table) kept.tables.living k t
 
   -- the memory map is the machine's
   pub map_is : (r : Result MemoryMap Space) → created_map (sizes_of spaces) (map_of spaces) i g table sharers ≡ r
@@ -90,7 +90,7 @@ module _ {M : Type 0} (laws : Laws M) (instances : List (Option (Member M))) (sh
       (activity : (k : ℕ) → activity_at groups' k ≡ activity_grown (replaces (map_of spaces) g table) groups g k)
       (keeps : Keeps laws before.poison instances' sharing' groups' (with_history (λ j. history_of (before.living j)) i []))
       (stays : AreSameSpaces spaces spaces') where
-    lives_now : (j : ℕ) → IsLiving (slot_at instances' j) (with_living before.living i (Some (newborn kind g p table)) j)
+    lives_now : (j : ℕ) → IsLiving (slot_at instances' j) (with_at before.living i (Some (newborn kind g p table)) j)
     lives_now j = elim (eqb_tells j i) [
       | inl here ↦
           subst (IsLiving (slot_at instances' j)) (sym (ap (λ (b : Bool). cond b (Some (newborn kind g p table)) (before.living j)) here.0))
@@ -103,13 +103,13 @@ module _ {M : Type 0} (laws : Laws M) (instances : List (Option (Member M))) (sh
     all_activity : activity_at groups ≡ before.activity
     all_activity t k = kept.tables.activity k t
 
-    active_now : (k : ℕ) → activity_at groups' k ≡ activity_after_create before g table k
+    active_now : (k : ℕ) → activity_at groups' k ≡ (if replaces before.map g table then with_at before.activity g (deactivated (before.activity g)) else before.activity) k
     active_now k =
         activity k
         ∙ ap (λ (q : MemoryMap). activity_grown (replaces q g table) groups g k) kept.map
-        ∙ ap (λ (a : ℕ → Activity). cond (replaces before.map g table) (with_activity a g (deactivated (a g))) a k) all_activity
+        ∙ ap (λ (a : ℕ → Activity). cond (replaces before.map g table) (with_at a g (deactivated (a g))) a k) all_activity
 
-    history_now : (j : ℕ) → with_history (λ l. history_of (before.living l)) i [] j ≡ history_of (with_living before.living i (Some (newborn kind g p table)) j)
+    history_now : (j : ℕ) → with_history (λ l. history_of (before.living l)) i [] j ≡ history_of (with_at before.living i (Some (newborn kind g p table)) j)
     history_now j = elim (eqb_tells j i) [
       | inl here ↦
           ap (λ (b : Bool). cond b [] (history_of (before.living j))) here.0

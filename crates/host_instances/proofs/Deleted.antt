@@ -7,7 +7,7 @@ use Rattle.mem_rec.specs.declared.TheConstants.{INSTANCES}
 use Rattle.scratch_group.specs.declared.group.Group.{Group}
 use Rattle.host_table.specs.declared.member.Member.{Member}
 use Rattle.host_shared.specs.declared.locations.Locations.{Locations}
-use Rattle.host_map.specs.Activity.{Activity, without_active, with_activity}
+use Rattle.host_map.specs.Activity.{Activity, without_active, with_at}
 use Rattle.host_table.specs.Table.{slot_at, group_of, is_member_of, activity_at}
 use Rattle.host_shared.specs.Locations.{shared_at}
 use Rattle.host_table.specs.Keeps.{Keeps, SlotKeeps}
@@ -15,7 +15,7 @@ use Rattle.host_spaces.specs.declared.spaces.Spaces.{Spaces}
 use Rattle.host_map.specs.MemoryMap.{MemoryMap}
 use Rattle.host_spaces.specs.MemoryMap.{map_of}
 use Rattle.host_map.specs.Creation.{deleted_map}
-use Rattle.host_spec.specs.State.{Living, State, asked_of, has_member, is_of_group, sharers_of, with_living}
+use Rattle.host_spec.specs.State.{Living, State, has_member, sharers_of}
 use Rattle.host_spec.specs.Steps.{Outcome, delete, without_instance}
 use Rattle.host_spec.proofs.OutcomeLemmas.{delete_granted}
 use Rattle.host_moves.specs.Kept.{IsLiving, history_of}
@@ -24,8 +24,8 @@ use Rattle.host_moves.specs.Hosts.{HostKeeps}
 use Rattle.host_moves.proofs.MovesKept.{still_living}
 use Rattle.host_map.specs.Sharers.{Asked}
 use Rattle.host_table.specs.Sharers.{asked_by}
-use Rattle.std.specs.Option.{option_map}
-use Rattle.host_moves.proofs.SharersKept.{asked_same, sharers_same}
+use Rattle.std.specs.Option.{option_eq, option_map}
+use Rattle.host_moves.proofs.SharersKept.{asked_of, asked_same, sharers_same}
 use Rattle.host_instances.specs.Ends.{HasEnded, has_members, sharers_among}
 use Rattle.ialg.specs.Laws.{Laws}
 
@@ -44,7 +44,11 @@ any_numbered p q d (x ∷ xs) a same =
     same (suc j) less ∙ ap q next) in
     ap (λ b. b || list_any p xs) first ∙ ap (λ b. q a || b) rest
 
-same_group : {M : Type 0} (slot : Option (Member M)) (living : Option (Living M)) (g : ℕ) → IsLiving slot living → is_member_of g slot ≡ is_of_group g living
+-- whether what lives, if anything, is of the group
+abbrev is_of : {M : Type 0} → ℕ → Option (Living M) → Bool
+is_of {M} g living = option_eq nat_eq (option_map (λ (x : Living M). x.group) living) (Some g)
+
+same_group : {M : Type 0} (slot : Option (Member M)) (living : Option (Living M)) (g : ℕ) → IsLiving slot living → is_member_of g slot ≡ is_of g living
 same_group None None g is = refl
 same_group None (Some x) g is = absurd is
 same_group (Some m) None g is = absurd is
@@ -53,9 +57,9 @@ same_group (Some m) (Some x) g is = ap (λ n. nat_eq n g) is.group
 same_members : {M : Type 0} (instances : List (Option (Member M))) (living : ℕ → Option (Living M)) (g : ℕ) → length instances ≡ INSTANCES → ((j : ℕ) → IsLiving (slot_at instances j) (living j))
     → has_members instances g ≡ has_member living g
 same_members instances living g count is =
-    any_numbered (is_member_of g) (λ j. is_of_group g (living j)) None instances 0
-    (λ j below. let here : j ≡ 0 + j = omega arith in same_group (slot_at instances j) (living j) g (is j) ∙ ap (λ n. is_of_group g (living n)) here)
-    ∙ ap (λ n. list_any (λ j. is_of_group g (living j)) (range_with_len 0 n)) count
+    any_numbered (is_member_of g) (λ j. is_of g (living j)) None instances 0
+    (λ j below. let here : j ≡ 0 + j = omega arith in same_group (slot_at instances j) (living j) g (is j) ∙ ap (λ n. is_of g (living n)) here)
+    ∙ ap (λ n. list_any (λ j. is_of g (living j)) (range_with_len 0 n)) count
 
 -- ---- the state without the instance
 
@@ -65,7 +69,7 @@ module _ {M : Type 0} (laws : Laws M) (i : ℕ)
     (ended : HasEnded laws before.poison i instances sharing groups spaces instances' sharing' groups' spaces')
     (its : Found (slot_at instances i) (before.living i)) where
   abbrev others : ℕ → Option (Living M)
-  others = with_living before.living i None
+  others = with_at before.living i None
 
   abbrev after : State M
   after = without_instance laws.meaning before i (Some its.instance)
@@ -92,8 +96,8 @@ module _ {M : Type 0} (laws : Laws M) (i : ℕ)
   activity_after k =
       let g = its.instance.group in
       ended.activity k
-      ∙ ap (λ n. with_activity (activity_at groups) n (without_active i (activity_at groups n)) k) group
-      ∙ ap (λ (a : Activity). with_activity (activity_at groups) g (without_active i a) k) (kept.tables.activity g)
+      ∙ ap (λ n. with_at (activity_at groups) n (without_active i (activity_at groups n)) k) group
+      ∙ ap (λ (a : Activity). with_at (activity_at groups) g (without_active i a) k) (kept.tables.activity g)
       ∙ ap (λ (a : Activity). cond (nat_eq k g) (without_active i (before.activity g)) a) (kept.tables.activity k)
 
   histories_after : Keeps laws before.poison instances' sharing' groups' (λ j. history_of (others j))
@@ -114,7 +118,7 @@ module _ {M : Type 0} (laws : Laws M) (i : ℕ)
   sharers_after t k = sharer_after k t
     where
       sharer_after : (k : ℕ) → sharers_among laws.meaning.same instances' (asked_by (slot_at instances i)) k ≡ sharers_of laws.meaning others its.instance k
-      sharer_after k = ap (λ (x : Option (Asked M)). sharers_among laws.meaning.same instances' x k) asked_is ∙ sharers_same laws.meaning.same instances' others (asked_of its.instance) living_after k
+      sharer_after k = ap (λ (x : Option (Asked M)). sharers_among laws.meaning.same instances' x k) asked_is ∙ sharers_same laws.meaning instances' others its.instance living_after k
 
   map_after : map_of spaces' ≡ after.map
   map_after =
@@ -139,7 +143,7 @@ pub deleted_kept : {M : Type 0} (laws : Laws M) (i : ℕ) (w : Option ℤ)
     (instances instances' : List (Option (Member M))) (sharing sharing' : List Locations) (groups groups' : List Group) (spaces spaces' : Spaces) (before : State M)
     → i < INSTANCES → IsSome (slot_at instances i) → HasEnded laws w i instances sharing groups spaces instances' sharing' groups' spaces'
     → before.poison ≡ w → HostKeeps laws instances sharing groups spaces before
-    → (after : State M) × ◌≡◌ {A = Outcome M (Unit {0})} (Ok tt, after) (delete laws.meaning before i) × HostKeeps laws instances' sharing' groups' spaces' after
+    → (after : State M) × ◌≡◌ {A = Outcome (State M) (Unit {0})} (Ok tt, after) (delete laws.meaning before i) × HostKeeps laws instances' sharing' groups' spaces' after
 deleted_kept laws i w instances instances' sharing sharing' groups groups' spaces spaces' before below some ended e kept =
     let its = found (slot_at instances i) (before.living i) some (kept.tables.living i) in
     let here = subst (λ v. HasEnded laws v i instances sharing groups spaces instances' sharing' groups' spaces') (sym e) ended in (

@@ -22,7 +22,8 @@ use Rattle.host_map.specs.declared.placed.Placed.{Placed}
 use Rattle.host_map.specs.Blocks.{owned, renamed_blocks}
 use Rattle.host_spaces.proofs.Owners.{not_same}
 use Rattle.host_spaces.specs.declared.spaces.Spaces.{Spaces}
-use Rattle.host_map.specs.MemoryMap.{MemoryMap, blocks_in, blocks_without, is_instance's, without_owners}
+use Rattle.host_spaces.proofs.Leaving.{blocks_without}
+use Rattle.host_map.specs.MemoryMap.{MemoryMap, blocks_in, is_instance's, without_owners}
 use Rattle.host_spaces.specs.MemoryMap.{AreSameSpaces, map_of, space_in}
 use Rattle.host_spaces.specs.Pieces.{HasRecords, ArePlacedPieces, IsPieceOf, is_placed_once, record_block}
 use Rattle.host_table.specs.declared.member.Member.{Member}

@@ -1,5 +1,5 @@
 -- A creation, a deletion and the end of all instances, as the machine's.
-use Rattle.std.specs.Prelude.{ℤ, ◌≡◌, List, Option}
+use Rattle.std.specs.Prelude.{ℤ, ◌≡◌, Option}
 use Rattle.ialg.specs.Laws.{Laws}
 use Rattle.host_spaces.specs.declared.spaces.Spaces.{Spaces}
 use Rattle.host_spec.specs.Calls.{Call, Does}

@@ -1,5 +1,6 @@
 -- A new instance among the others.
 use Rattle.std.specs.Prelude.{ℕ, ℤ, ◌≡◌, ◌≢◌, IsTrue, List, [], Option, Some, None, Result}
+use Rattle.std.specs.Result.{result_map_both}
 use Rattle.mem_rec.specs.declared.Space.{Space}
 use Rattle.mem_rec.specs.declared.MemRec.{MemRec}
 use Rattle.mem_rec.specs.Records.{is_table}
@@ -13,7 +14,7 @@ use Rattle.host_shared.specs.declared.joining.Sharers.{Sharers}
 use Rattle.host_shared.specs.Joining.{sharer_at}
 use Rattle.host_map.specs.declared.placed.Owner.TheVariants.{Record}
 use Rattle.host_map.specs.Blocks.{owned}
-use Rattle.host_map.specs.Creation.{created_map, replaces, result_map, taken_over}
+use Rattle.host_map.specs.Creation.{created_map, replaces, taken_over}
 use Rattle.host_map.specs.MemoryMap.{blocks_in, renamed}
 use Rattle.host_spaces.specs.declared.spaces.Spaces.{Spaces}
 use Rattle.host_spaces.specs.MemoryMap.{map_of, sizes_of}
@@ -67,7 +68,7 @@ TakesOver i sharers spaces spaces' = map_of spaces' ≡ renamed (taken_over (sha
 -- the memory map is the one after the creation; or the answer is the space of the first block that has no place
 abbrev pub MapIsCreated : {M A : Type 0} → Laws M → NewInstance M → View M → Spaces → Spaces → Result A Space → Type 0
 MapIsCreated laws n t spaces spaces' answer = created_map (sizes_of spaces) (map_of spaces) n.number n.group n.table (sharer_in laws t.instances (asked_for n))
-    ≡ result_map (λ _. map_of spaces') answer
+    ≡ result_map_both (λ _. map_of spaces') (λ space. space) answer
 
 -- where a block of its group is replaced, no member of it is active; but for that each group has the activity that it had
 abbrev pub ActivityIsGrown : {M : Type 0} → NewInstance M → View M → Spaces → View M → Type 0

@@ -7,11 +7,25 @@ use Rattle.host_map.specs.declared.placed.Owner.{Owner}
 use Rattle.host_map.specs.declared.placed.Owner.TheVariants.{Record, Scratch}
 use Rattle.host_map.specs.declared.placed.Placed.{Placed}
 
+-- where the blocks lie
+abbrev pub ranges : List Placed → List Range
+ranges blocks = map (λ b. record { place = b.place; size = b.size }) blocks
+
+-- with one block more, in place order
+abbrev pub with_block : Placed → List Placed → List Placed
+with_block b [] = b ∷ []
+with_block b (c ∷ cs) = if nat_lt c.place b.place then c ∷ with_block b cs else b ∷ c ∷ cs
+
+-- ---- what contracts of code and laws say
+
+-- where a block lies
+abbrev pub block_range : Placed → Range
+block_range b = record { place = b.place; size = b.size }
+
 abbrev pub same_owner : Owner → Owner → Bool
 same_owner (Record i k) (Record j l) = i == j && k == l
 same_owner (Scratch g) (Scratch h) = g == h
-same_owner (Record i k) (Scratch h) = false
-same_owner (Scratch g) (Record j l) = false
+same_owner _ _ = false
 
 -- the blocks of one owner
 abbrev pub owned : Owner → List Placed → List Placed
@@ -20,18 +34,6 @@ owned owner blocks = filter (λ b. same_owner owner b.owner) blocks
 -- the blocks of all other owners
 abbrev pub disowned : Owner → List Placed → List Placed
 disowned owner blocks = filter (λ b. not (same_owner owner b.owner)) blocks
-
--- where a block lies
-abbrev pub block_range : Placed → Range
-block_range b = record { place = b.place; size = b.size }
-
-abbrev pub ranges : List Placed → List Range
-ranges blocks = map block_range blocks
-
--- with one block more, in place order
-abbrev pub with_block : Placed → List Placed → List Placed
-with_block b [] = b ∷ []
-with_block b (c ∷ cs) = if nat_lt c.place b.place then c ∷ with_block b cs else b ∷ c ∷ cs
 
 -- without the block that begins at the place
 abbrev pub without_at : ℕ → List Placed → List Placed

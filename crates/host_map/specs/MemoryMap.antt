@@ -1,13 +1,14 @@
 -- The memory map: of each space the blocks that stand there, in place order.
-use Rattle.std.specs.Prelude.{ℕ, ◌==◌, Bool, false, not, List, [], ◌∷◌, filter, Option, Some, None}
+use Rattle.std.specs.Prelude.{ℕ, ◌==◌, Bool, false, not, List, [], ◌∷◌, map, filter, find, Option, if◌then◌else◌}
 use Rattle.mem_rec.specs.declared.Space.{Space}
 use Rattle.mem_rec.specs.declared.Space.TheVariants.{Daram, Saram, External}
+use Rattle.mem_rec.specs.Records.{same_space}
 use Rattle.relocate.specs.Places.{IsSpaceSize, least_place}
 use Rattle.host_map.specs.declared.placed.Owner.{Owner}
 use Rattle.host_map.specs.declared.placed.Owner.TheVariants.{Record, Scratch}
 use Rattle.host_map.specs.declared.placed.Placed.{Placed}
-use Rattle.host_map.specs.Blocks.{owned, ranges, renamed_blocks, with_block}
-use Rattle.host_map.specs.Moves.{moved, packed}
+use Rattle.host_map.specs.Blocks.{ranges, with_block}
+use Rattle.host_map.specs.Moves.{moved_behind, packed_behind}
 use Rattle.host_map.specs.declared.parts.Sizes.{Sizes}
 
 pub record MemoryMap : Type 0 where
@@ -23,14 +24,13 @@ blocks_in map Daram = map.daram
 blocks_in map Saram = map.saram
 blocks_in map External = map.external
 
-abbrev pub with_blocks : MemoryMap → Space → List Placed → MemoryMap
-with_blocks map Daram blocks = record map { daram = blocks }
-with_blocks map Saram blocks = record map { saram = blocks }
-with_blocks map External blocks = record map { external = blocks }
-
 -- the memory map with these blocks of each space
 abbrev pub each_space : (Space → List Placed) → MemoryMap
 each_space blocks = record { daram = blocks Daram; saram = blocks Saram; external = blocks External }
+
+-- the memory map with these blocks of one space
+abbrev pub with_blocks : MemoryMap → Space → List Placed → MemoryMap
+with_blocks map space blocks = each_space (λ other. if same_space other space then blocks else blocks_in map other)
 
 -- in the order in which they are served
 abbrev pub all_spaces : List Space
@@ -61,27 +61,20 @@ is_group's g (Scratch h) = g == h
 
 -- the memory map with another owner of each block
 abbrev pub renamed : (Owner → Owner) → MemoryMap → MemoryMap
-renamed new map = each_space (λ space. renamed_blocks new (blocks_in map space))
+renamed new old = each_space (λ space. map (λ (b : Placed). record b { owner = new b.owner }) (blocks_in old space))
 
 -- without the blocks of the owners that pass the test
-abbrev pub blocks_without : (Owner → Bool) → List Placed → List Placed
-blocks_without gone blocks = filter (λ b. not (gone b.owner)) blocks
-
 abbrev pub without_owners : (Owner → Bool) → MemoryMap → MemoryMap
-without_owners gone map = each_space (λ space. blocks_without gone (blocks_in map space))
-
-abbrev pub first_block : List Placed → Option Placed
-first_block [] = None
-first_block (b ∷ bs) = Some b
+without_owners gone map = each_space (λ space. filter (λ b. not (gone b.owner)) (blocks_in map space))
 
 -- the block of a group
 abbrev pub group_block : MemoryMap → ℕ → Space → Option Placed
-group_block map g space = first_block (owned (Scratch g) (blocks_in map space))
+group_block map g space = find (λ b. is_group's g b.owner) (blocks_in map space)
 
 -- the memory map after the next move of a space, if there is one
 abbrev pub moved_in : MemoryMap → Space → MemoryMap
-moved_in map space = with_blocks map space (moved (blocks_in map space))
+moved_in map space = with_blocks map space (moved_behind 0 (blocks_in map space))
 
 -- the memory map once next moves of a space were made until there was none
 abbrev pub packed_in : MemoryMap → Space → MemoryMap
-packed_in map space = with_blocks map space (packed (blocks_in map space))
+packed_in map space = with_blocks map space (packed_behind 0 (blocks_in map space))

@@ -1,9 +1,42 @@
--- The next move of a space's blocks.
-use Rattle.std.specs.Prelude.{◌≡◌, ℕ, zero, suc, List, [], ◌∷◌, map, Option, Some, None}
+-- The packed places of a space's blocks, and the next move there.
+use Rattle.std.specs.Prelude.{◌≡◌, ◌==◌, ◌+◌, ℕ, zero, suc, List, [], ◌∷◌, map, slice_get, Option, Some, None, if◌then◌else◌}
+use Rattle.std.specs.Int.{next_multiple_of}
 use Rattle.relocate.specs.declared.packing.Spot.{Spot}
 use Rattle.relocate.specs.declared.packing.Move.{Move}
-use Rattle.relocate.specs.Packing.{next_move_of, packed_places}
+use Rattle.relocate.specs.Packing.{next_move_of}
 use Rattle.host_map.specs.declared.placed.Placed.{Placed}
+
+-- the blocks at their packed places: each at the least multiple of its alignment not below the packed end of the block before, which is `end` for
+-- the first
+abbrev pub packed_behind : ℕ → List Placed → List Placed
+packed_behind end [] = []
+packed_behind end (b ∷ bs) = let place = next_multiple_of end b.align in record b { place = place } ∷ packed_behind (place + b.size) bs
+
+-- the first block that isn't at its packed place goes there
+abbrev pub moved_behind : ℕ → List Placed → List Placed
+moved_behind end [] = []
+moved_behind end (b ∷ bs) =
+    let place = next_multiple_of end b.align in if b.place == place then b ∷ moved_behind (place + b.size) bs else record b { place = place } ∷ bs
+
+-- the blocks that aren't at their packed places
+abbrev pub unpacked_behind : ℕ → List Placed → List Placed
+unpacked_behind end [] = []
+unpacked_behind end (b ∷ bs) =
+    let place = next_multiple_of end b.align in let others = unpacked_behind (place + b.size) bs in if b.place == place then others else b ∷ others
+
+-- the block that moves next, if there is one
+abbrev pub next_block : List Placed → Option Placed
+next_block blocks = slice_get (unpacked_behind 0 blocks) 0
+
+-- ---- what contracts of code say: a move is of the block of an index
+
+-- the blocks after the next move, if there is one
+abbrev pub moved : List Placed → List Placed
+moved blocks = moved_behind 0 blocks
+
+-- the blocks once next moves were made until there was none
+abbrev pub packed : List Placed → List Placed
+packed blocks = packed_behind 0 blocks
 
 -- how a block stands in its space, whoever owns it
 abbrev pub spot_of : Placed → Spot
@@ -26,10 +59,6 @@ abbrev pub block_to_move : Option Move → List Placed → Option Placed
 block_to_move None blocks = None
 block_to_move (Some m) blocks = block_at blocks m.index
 
--- the block that moves next
-abbrev pub next_block : List Placed → Option Placed
-next_block blocks = block_to_move (next_in blocks) blocks
-
 -- the block of that index at another place
 abbrev pub moved_to : List Placed → ℕ → ℕ → List Placed
 moved_to [] index to = []
@@ -39,19 +68,6 @@ moved_to (b ∷ bs) (suc index) to = b ∷ moved_to bs index to
 abbrev pub moved_by : Option Move → List Placed → List Placed
 moved_by None blocks = blocks
 moved_by (Some m) blocks = moved_to blocks m.index m.to
-
--- the blocks after the next move, if there is one
-abbrev pub moved : List Placed → List Placed
-moved blocks = moved_by (next_in blocks) blocks
-
--- each block at its place of the list
-abbrev pub at_places : List Placed → List ℕ → List Placed
-at_places (b ∷ bs) (to ∷ places) = record b { place = to } ∷ at_places bs places
-at_places _ _ = []
-
--- the blocks once next moves were made until there was none
-abbrev pub packed : List Placed → List Placed
-packed blocks = at_places blocks (packed_places (spots_of blocks))
 
 -- after so many next moves there is none, and these are the blocks then
 abbrev pub IsPacking : List Placed → ℕ → List Placed → Type 0

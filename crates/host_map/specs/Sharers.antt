@@ -5,25 +5,26 @@ use Rattle.std.specs.Cmp.Lexicographic.{pointwise}
 use Rattle.std.specs.Ordering.{int_eq}
 use Rattle.mem_rec.specs.declared.MemRec.{MemRec}
 use Rattle.mem_rec.specs.declared.Attr.{Attr}
-use Rattle.mem_rec.specs.declared.Attr.TheVariants.{Scratch, Persist, WriteOnce}
+use Rattle.mem_rec.specs.declared.Attr.TheVariants.{WriteOnce}
 use Rattle.mem_rec.specs.Records.{same_space}
 use Rattle.ialg.specs.Records.{record_at, unplaced}
 use Rattle.mem_rec.specs.declared.TheConstants.{INSTANCES}
+
+abbrev pub is_once : Attr → Bool
+is_once WriteOnce = true
+is_once _ = false
+
+-- two write-once records of one size, alignment and space
+abbrev pub is_same_once : MemRec → MemRec → Bool
+is_same_once r s = is_once r.attr && is_once s.attr && r.size == s.size && r.align == s.align && same_space r.space s.space
+
+-- ---- what contracts of code say
 
 -- an instance as it was asked for: its kind, its parameters, and the memory that the kind asks for, without bases
 pub record Asked (M : Type 0) : Type 0 where
   pub kind : M
   pub params : List ℤ
   pub table : List MemRec
-
-abbrev pub is_once : Attr → Bool
-is_once Scratch = false
-is_once Persist = false
-is_once WriteOnce = true
-
--- two write-once records of one size, alignment and space
-abbrev pub is_same_once : MemRec → MemRec → Bool
-is_same_once r s = is_once r.attr && is_once s.attr && r.size == s.size && r.align == s.align && same_space r.space s.space
 
 -- whether an instance shares record k: it is of the same kind, with equal parameters, and its record k is write-once and equal
 abbrev pub is_sharer : {M : Type 0} → (M → M → Bool) → Asked M → ℕ → Option (Asked M) → Bool

@@ -1,18 +1,16 @@
 -- A compaction is steps, one after the other.
 use Rattle.std.proofs.Common.{◌≡◌, ℕ, suc, ◌+◌, ◌^◌, ◌<◌, ◌≤◌, ◌==◌, Bool, true, false, List, [], ◌∷◌, length, Option, Some, None, is_some, refl, ap, sym, ◌∙◌, subst, arith, if◌then◌else◌}
 use Rattle.std.proofs.lemmas.Bool.{true≢false}
-use Rattle.std.proofs.lemmas.List.{length-map}
+use Rattle.std.specs.Int.{next_multiple_of}
 use Rattle.mem_rec.specs.declared.Space.{Space}
 use Rattle.space_heap.specs.Maps.{AreBlocks}
-use Rattle.relocate.specs.declared.packing.Spot.{Spot}
 use Rattle.relocate.specs.Spots.{AreSpotsFrom}
-use Rattle.relocate.specs.Packing.{misplaced, packed_places, unpacked_count}
 use Rattle.scratch_group.specs.declared.group.Group.{Group}
 use Rattle.host_table.specs.declared.member.Member.{Member}
 use Rattle.host_shared.specs.declared.locations.Locations.{Locations}
 use Rattle.host_map.specs.declared.placed.Placed.{Placed}
 use Rattle.host_map.specs.Blocks.{ranges}
-use Rattle.host_map.specs.Moves.{next_block, spots_of}
+use Rattle.host_map.specs.Moves.{next_block, spots_of, unpacked_behind}
 use Rattle.host_spaces.specs.Spaces.{AreInOrder}
 use Rattle.host_spaces.specs.declared.spaces.Spaces.{Spaces}
 use Rattle.host_map.specs.MemoryMap.{blocks_in, moved_in}
@@ -27,14 +25,15 @@ use Rattle.ialg.specs.Laws.{Laws}
 
 -- ---- how many blocks are not at their packed places
 
-one_more : (t : Bool) (s : Spot) (others : List Spot) (n : ℕ) → length others ≤ n → length (if t then others else s ∷ others) ≤ suc n
-one_more true s others n h = omega (arith, h)
-one_more false s others n h = omega (arith, h)
+few_if : (t : Bool) (b : Placed) (others : List Placed) (n : ℕ) → length others ≤ n → length (if t then others else b ∷ others) ≤ suc n
+few_if true b others n h = omega (arith, h)
+few_if false b others n h = omega (arith, h)
 
-misplaced_few : (ss : List Spot) (places : List ℕ) → length (misplaced ss places) ≤ length ss
-misplaced_few [] places = omega arith
-misplaced_few (s ∷ ss) [] = omega arith
-misplaced_few (s ∷ ss) (to ∷ places) = one_more (s.place == to) s (misplaced ss places) (length ss) (misplaced_few ss places)
+unpacked_few : (end : ℕ) (bs : List Placed) → length (unpacked_behind end bs) ≤ length bs
+unpacked_few end [] = omega arith
+unpacked_few end (b ∷ bs) =
+    let place = next_multiple_of end b.align in
+    few_if (b.place == place) b (unpacked_behind (place + b.size) bs) (length bs) (unpacked_few (place + b.size) bs)
 
 few_blocks : (words from : ℕ) (bs : List Placed) → from ≤ 65536 → AreSpotsFrom from (spots_of bs) → AreBlocks words (ranges bs) → from + length bs ≤ 65536
 few_blocks words from [] small order apart = omega (arith, small)
@@ -45,12 +44,11 @@ few_blocks words from (b ∷ bs) small order apart =
     let rest : b.place + b.size + length bs ≤ 65536 = few_blocks words (b.place + b.size) bs (omega (arith, inside)) order.2 apart.2 in
     omega (arith, some, after, rest)
 
-pub count_small : (words : ℕ) (bs : List Placed) → AreInOrder words bs → unpacked_count (spots_of bs) ≤ 65536
+pub count_small : (words : ℕ) (bs : List Placed) → AreInOrder words bs → length (unpacked_behind 0 bs) ≤ 65536
 count_small words bs is =
-    let few = misplaced_few (spots_of bs) (packed_places (spots_of bs)) in
+    let few = unpacked_few 0 bs in
     let all = few_blocks words 0 bs (omega arith) is.order is.apart in
-    let same : length (spots_of bs) ≡ length bs = simp length-map refl in
-    omega (arith, few, all, same)
+    omega (arith, few, all)
 
 -- each move leaves one block less
 module _ (M : Type 0) (spaces spaces' : Spaces) (space : Space) (b : Placed) (next : next_block (blocks_in (map_of spaces) space) ≡ Some b) where
@@ -64,18 +62,18 @@ module _ (M : Type 0) (spaces spaces' : Spaces) (space : Space) (b : Placed) (ne
   stepped_map = ap (λ n. (moving state space n).1.map) next
 
   pub one_less : map_of spaces' ≡ moved_in (map_of spaces) space
-      → unpacked_count (spots_of (blocks_in (map_of spaces') space)) + 1 ≡ unpacked_count (spots_of (blocks_in (map_of spaces) space))
+      → length (unpacked_behind 0 (blocks_in (map_of spaces') space)) + 1 ≡ length (unpacked_behind 0 (blocks_in (map_of spaces) space))
   one_less map =
       let more = (steps_compact state space (omega arith)).more moves in
-      let counted : unpacked_count (spots_of (blocks_in (map_of spaces) space)) ≡ unpacked_count (spots_of (blocks_in (step state space).1.map space)) + 1 = ap (λ o. o.0) more in
-      ap (λ p. unpacked_count (spots_of (blocks_in p space)) + 1) (map ∙ sym stepped_map) ∙ sym counted
+      let counted : length (unpacked_behind 0 (blocks_in (map_of spaces) space)) ≡ length (unpacked_behind 0 (blocks_in (step state space).1.map space)) + 1 = ap (λ o. o.0) more in
+      ap (λ p. length (unpacked_behind 0 (blocks_in p space)) + 1) (map ∙ sym stepped_map) ∙ sym counted
 
 some_next : {A : Type 0} (x : Option A) → is_some x ≡ true → (a : A) × (x ≡ Some a)
 some_next None e = absurd (true≢false (sym e))
 some_next (Some a) e = (a, refl)
 
 pub moved_one : (spaces spaces' : Spaces) (space : Space) → is_some (next_block (blocks_in (map_of spaces) space)) ≡ true → map_of spaces' ≡ moved_in (map_of spaces) space
-    → unpacked_count (spots_of (blocks_in (map_of spaces') space)) + 1 ≡ unpacked_count (spots_of (blocks_in (map_of spaces) space))
+    → length (unpacked_behind 0 (blocks_in (map_of spaces') space)) + 1 ≡ length (unpacked_behind 0 (blocks_in (map_of spaces) space))
 moved_one spaces spaces' space some map =
     let next = some_next (next_block (blocks_in (map_of spaces) space)) some in
     one_less (Unit {0}) spaces spaces' space next.0 next.1 map

@@ -13,12 +13,12 @@ use Rattle.scratch_group.specs.declared.group.Group.{Group}
 use Rattle.lifecycle.specs.States.{IsLawful, all_outputs, status_after}
 use Rattle.host_table.specs.declared.member.Member.{Member}
 use Rattle.host_shared.specs.declared.locations.Locations.{Locations}
-use Rattle.host_map.specs.Activity.{Activity, activated, deactivated, with_activity}
+use Rattle.host_map.specs.Activity.{Activity, activated, deactivated, with_at}
 use Rattle.host_table.specs.Table.{slot_at, group_at, group_of, instance_of, activity_at, activated_by}
 use Rattle.host_shared.specs.Locations.{shared_at}
 use Rattle.host_table.specs.Keeps.{Keeps, SlotKeeps, with_history}
 use Rattle.host_table.specs.Frames.{SameSlot, SameTables, IsSameMember, SameMembers}
-use Rattle.host_spec.specs.State.{Living, State, with_living}
+use Rattle.host_spec.specs.State.{Living, State}
 use Rattle.host_spec.specs.Choices.{MayGive, MayAnswer}
 use Rattle.host_spec.specs.Steps.{Outcome, activating, processed, release}
 use Rattle.host_spec.specs.Calls.{Processes, Controls}
@@ -69,12 +69,12 @@ module _ {M : Type 0} where
   aged None x h is = is
   aged (Some m) x h is = record { kind = is.kind; params = is.params; table = is.table; group = is.group }
 
-  at_other : (living : ℕ → Option (Living M)) (i : ℕ) (x : Option (Living M)) (j : ℕ) → nat_eq j i ≡ false → with_living living i x j ≡ living j
+  at_other : (living : ℕ → Option (Living M)) (i : ℕ) (x : Option (Living M)) (j : ℕ) → nat_eq j i ≡ false → with_at living i x j ≡ living j
   at_other living i x j off = ap (λ b. cond b x (living j)) off
 
   -- the histories of the instances, with another one
   history_with : (living : ℕ → Option (Living M)) (i : ℕ) (x : Living M) (h : History) (j : ℕ)
-      → with_history (λ k. history_of (living k)) i h j ≡ history_of (with_living living i (Some (record x { history = h })) j)
+      → with_history (λ k. history_of (living k)) i h j ≡ history_of (with_at living i (Some (record x { history = h })) j)
   history_with living i x h j =
       either (eqb_tells j i)
       (λ same. ap (λ b. cond b h (history_of (living j))) same.0 ∙ sym (ap (λ b. history_of (cond b (Some (record x { history = h })) (living j))) same.0))
@@ -100,7 +100,7 @@ module _ {M : Type 0} (laws : Laws M) where
       abbrev aged_x : Living M
       aged_x = record its.instance { history = h }
 
-      lives_on : (j : ℕ) → IsLiving (slot_at instances' j) (with_living before.living i (Some aged_x) j)
+      lives_on : (j : ℕ) → IsLiving (slot_at instances' j) (with_at before.living i (Some aged_x) j)
       lives_on j =
           let stays = same_living (slot_at instances j) (slot_at instances' j) (before.living j) (same.slot j) (kept.living j) in
           either (eqb_tells j i)
@@ -112,11 +112,11 @@ module _ {M : Type 0} (laws : Laws M) where
       its_group : group_of (slot_at instances i) ≡ its.instance.group
       its_group = ap group_of its.there ∙ its.is.group
 
-      active_now : (k : ℕ) → activity_at groups' k ≡ with_activity before.activity its.instance.group (activated i (before.activity its.instance.group)) k
+      active_now : (k : ℕ) → activity_at groups' k ≡ with_at before.activity its.instance.group (activated i (before.activity its.instance.group)) k
       active_now k =
           activity k
-          ∙ ap (λ g. with_activity (activity_at groups) g (activated i (activity_at groups g)) k) its_group
-          ∙ ap (λ a. with_activity (activity_at groups) its.instance.group (activated i a) k) (kept.activity its.instance.group)
+          ∙ ap (λ g. with_at (activity_at groups) g (activated i (activity_at groups g)) k) its_group
+          ∙ ap (λ a. with_at (activity_at groups) its.instance.group (activated i a) k) (kept.activity its.instance.group)
           ∙ ap (λ a. cond (nat_eq k its.instance.group) (activated i (before.activity its.instance.group)) a) (kept.activity k)
 
       pub kept_touching : Kept (activating before i aged_x)
@@ -124,7 +124,7 @@ module _ {M : Type 0} (laws : Laws M) where
         living = lives_on;
         activity = active_now;
         histories = keeps_these before.poison instances' sharing' groups' (with_history (λ j. history_of (before.living j)) i h)
-            (λ j. history_of (with_living before.living i (Some aged_x) j)) (history_with before.living i its.instance h) keeps;
+            (λ j. history_of (with_at before.living i (Some aged_x) j)) (history_with before.living i its.instance h) keeps;
       }
 
     -- what a call keeps, in a host of this poison word
@@ -193,15 +193,15 @@ module _ {M : Type 0} (laws : Laws M) where
     -- the member was put to rest in group g
     pub rested_kept : (w : Option ℤ) (g : ℕ) → before.poison ≡ w → TablesKeep laws instances sharing groups before
         → SameTables instances sharing groups instances' sharing' groups'
-        → ((k : ℕ) → activity_at groups' k ≡ with_activity (activity_at groups) g (deactivated (activity_at groups g)) k)
+        → ((k : ℕ) → activity_at groups' k ≡ with_at (activity_at groups) g (deactivated (activity_at groups g)) k)
         → ((histories : ℕ → History) → Keeps laws w instances sharing groups histories
         → Keeps laws w instances' sharing' groups' histories)
-        → Kept (record before { activity = with_activity before.activity g (deactivated (before.activity g)) })
+        → Kept (record before { activity = with_at before.activity g (deactivated (before.activity g)) })
     rested_kept w g e kept same activity keeps = record {
       living = λ j. same_living (slot_at instances j) (slot_at instances' j) (before.living j) (same.slot j) (kept.living j);
       activity = λ k.
           activity k
-          ∙ ap (λ a. with_activity (activity_at groups) g (deactivated a) k) (kept.activity g)
+          ∙ ap (λ a. with_at (activity_at groups) g (deactivated a) k) (kept.activity g)
           ∙ ap (λ a. cond (nat_eq k g) (deactivated (before.activity g)) a) (kept.activity k);
       histories =
           let histories : ℕ → History = λ j. history_of (before.living j) in
@@ -211,10 +211,10 @@ module _ {M : Type 0} (laws : Laws M) where
 
     pub rest_answered : (g : ℕ) (result : Bool) → g < GROUPS → TablesKeep laws instances sharing groups before
         → result ≡ is_some (group_at groups g).active
-        → ◌≡◌ {A = Outcome M Bool} (Ok result, record before { activity = with_activity before.activity g (deactivated (before.activity g)) }) (release before g)
+        → ◌≡◌ {A = Outcome (State M) Bool} (Ok result, record before { activity = with_at before.activity g (deactivated (before.activity g)) }) (release before g)
     rest_answered g result lt kept active =
-        let now : State M = record before { activity = with_activity before.activity g (deactivated (before.activity g)) } in
-        subst (λ b. ◌≡◌ {A = Outcome M Bool} (Ok b, now) (release before g)) (sym (active ∙ ap (λ (a : Activity). is_some a.active) (kept.activity g)))
+        let now : State M = record before { activity = with_at before.activity g (deactivated (before.activity g)) } in
+        subst (λ b. ◌≡◌ {A = Outcome (State M) Bool} (Ok b, now) (release before g)) (sym (active ∙ ap (λ (a : Activity). is_some a.active) (kept.activity g)))
         (sym (release_granted before g lt))
 
     -- ---- controls

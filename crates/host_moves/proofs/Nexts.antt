@@ -17,6 +17,7 @@ use Rattle.host_map.specs.declared.placed.Placed.{Placed}
 use Rattle.host_spaces.specs.Blocks.{block_of, block_of_piece}
 use Rattle.host_map.specs.Blocks.{owned, same_owner}
 use Rattle.host_map.specs.Moves.{block_at, block_to_move, next_block, next_in}
+use Rattle.host_map.proofs.MoveLemmas.{next_is}
 use Rattle.host_spaces.proofs.Owners.{itself}
 use Rattle.host_spaces.specs.declared.spaces.Spaces.{Spaces}
 use Rattle.host_map.specs.MemoryMap.{blocks_in}
@@ -52,7 +53,7 @@ moves_owned None bs b e = absurd (none-some _ e)
 moves_owned (Some m) bs b e = at_owned bs m.index b e
 
 pub next_owned : (bs : List Placed) (o : Owner) (b : Placed) → next_block bs ≡ Some b → b.owner ≡ o → IsIn b (owned o bs)
-next_owned bs o b e own = subst (λ (q : Owner). IsIn b (owned q bs)) own (moves_owned (next_in bs) bs b e)
+next_owned bs o b e own = subst (λ (q : Owner). IsIn b (owned q bs)) own (moves_owned (next_in bs) bs b (next_is bs ∙ e))
 
 pub only_block : (b c : Placed) → IsIn b (c ∷ []) → b ≡ c
 only_block b c (inl e) = e

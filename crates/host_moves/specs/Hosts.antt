@@ -1,9 +1,8 @@
 -- When tables and spaces keep a state of the machine.
-use Rattle.std.specs.Prelude.{◌≡◌, ◌+◌, ℕ, Bool, true, List, Option}
+use Rattle.std.specs.Prelude.{◌≡◌, ◌+◌, ℕ, Bool, true, List, length, Option}
 use Rattle.mem_rec.specs.declared.Space.{Space}
-use Rattle.relocate.specs.Packing.{unpacked_count}
 use Rattle.host_map.specs.MemoryMap.{blocks_in}
-use Rattle.host_map.specs.Moves.{spots_of}
+use Rattle.host_map.specs.Moves.{unpacked_behind}
 use Rattle.scratch_group.specs.declared.group.Group.{Group}
 use Rattle.host_table.specs.declared.member.Member.{Member}
 use Rattle.host_shared.specs.declared.locations.Locations.{Locations}
@@ -29,7 +28,7 @@ Refines laws t spaces state = HostKeeps laws t.instances t.sharing t.groups spac
 
 -- one step of a compaction of the space, as the machine's: its answer says whether a block moved, and one block fewer has its move before it then
 pub record Stepped {M : Type 0} (laws : Laws M) (space : Space) (moved : Bool) (old : View M) (spaces : Spaces) (new : View M) (spaces' : Spaces) : Type 0 where
-  pub fewer : moved ≡ true → unpacked_count (spots_of (blocks_in (map_of spaces') space)) + 1 ≡ unpacked_count (spots_of (blocks_in (map_of spaces) space))
+  pub fewer : moved ≡ true → length (unpacked_behind 0 (blocks_in (map_of spaces') space)) + 1 ≡ length (unpacked_behind 0 (blocks_in (map_of spaces) space))
   pub machine : (before : State M) → Refines laws old spaces before
       → ((moved, (steps.step before space).1) ≡ steps.step before space) × Refines laws new spaces' (steps.step before space).1
 

@@ -282,12 +282,11 @@ fn take_each(sharing: &mut Vec<Locations>, i: usize) -> Pieces
     ensures owners { HasOwners sharing.new.items i }
     ensures none { shared_at sharing.new.items i ≡ no_pieces }
 {
-    Pieces {
-        p0: take_record(sharing, i, 0),
-        p1: take_record(sharing, i, 1),
-        p2: take_record(sharing, i, 2),
-        p3: take_record(sharing, i, 3),
-    }
+    let p0 = take_record(sharing, i, 0);
+    let p1 = take_record(sharing, i, 1);
+    let p2 = take_record(sharing, i, 2);
+    let p3 = take_record(sharing, i, 3);
+    Pieces { p0, p1, p2, p3 }
 }
 
 /// Borrows the pieces of an instance's write-once records, each from its owner: [`give_back_pieces`] returns them.

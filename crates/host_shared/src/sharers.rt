@@ -47,12 +47,11 @@ pub fn next_sharers(sharing: &Vec<Locations>, i: u8) -> Sharers
     requires held { (k : ℕ) → HoldsForOthers sharing.now.items i k }
     ensures { (k : ℕ) → sharer_at result k ≡ next_sharer sharing.now.items i k }
 {
-    Sharers {
-        t0: next_sharer(sharing, i, 0),
-        t1: next_sharer(sharing, i, 1),
-        t2: next_sharer(sharing, i, 2),
-        t3: next_sharer(sharing, i, 3),
-    }
+    let t0 = next_sharer(sharing, i, 0);
+    let t1 = next_sharer(sharing, i, 1);
+    let t2 = next_sharer(sharing, i, 2);
+    let t3 = next_sharer(sharing, i, 3);
+    Sharers { t0, t1, t2, t3 }
 }
 
 /// Replaces the location of record `k` of an instance, which had no piece.
@@ -144,10 +143,9 @@ pub fn hand_on(sharing: &mut Vec<Locations>, i: u8, next: &Sharers) -> Pieces
     ensures handed { (j k : ℕ) → location_at (locations_at sharing.new.items j) k ≡ location_without sharing.old.items i k j }
     ensures others { (j : ℕ) → j ≢ i → shared_at sharing.new.items j ≡ shared_at sharing.old.items j }
 {
-    Pieces {
-        p0: hand_record(sharing, i, 0, next.t0),
-        p1: hand_record(sharing, i, 1, next.t1),
-        p2: hand_record(sharing, i, 2, next.t2),
-        p3: hand_record(sharing, i, 3, next.t3),
-    }
+    let p0 = hand_record(sharing, i, 0, next.t0);
+    let p1 = hand_record(sharing, i, 1, next.t1);
+    let p2 = hand_record(sharing, i, 2, next.t2);
+    let p3 = hand_record(sharing, i, 3, next.t3);
+    Pieces { p0, p1, p2, p3 }
 }

@@ -1,7 +1,7 @@
 -- Blocks that go back, by their owners and by their places.
 use Rattle.std.proofs.lemmas.Bool.{eq-eqb}
 use Rattle.std.proofs.Common.{◌≡◌, ◌≢◌, ℕ, zero, suc, ◌==◌, Bool, true, false, not, ◌&&◌, cond, if◌then◌else◌, List, [], ◌∷◌, filter, length, Option, Some, None, IfSome, IsSome, refl, sym, ap, subst, ◌∙◌, arith, inl, inr}
-use Rattle.std.specs.Option.{option_map, option_or}
+use Rattle.std.specs.Option.{option_map, option_map_or, option_or}
 use Rattle.mem_rec.specs.declared.MemRec.{MemRec}
 use Rattle.mem_rec.specs.declared.Space.{Space}
 use Rattle.mem_rec.specs.declared.Space.TheVariants.{Daram, Saram, External}
@@ -24,9 +24,9 @@ use Rattle.host_spaces.proofs.Orders.{dropped, kept}
 use Rattle.host_spaces.proofs.Owners.{disowned_none, owned_beside, owns_one}
 use Rattle.host_spaces.specs.declared.pieces.OldBlocks.{OldBlocks}
 use Rattle.host_spaces.specs.declared.spaces.Spaces.{Spaces}
-use Rattle.host_map.specs.MemoryMap.{MemoryMap, blocks_in, blocks_without, is_group's, is_instance's, without_owners}
+use Rattle.host_map.specs.MemoryMap.{MemoryMap, blocks_in, is_group's, is_instance's, without_owners}
 use Rattle.host_spaces.specs.MemoryMap.{map_of, space_in}
-use Rattle.host_map.specs.Creation.{replaced_block, without_block, without_replaced}
+use Rattle.host_map.specs.Creation.{replaced_block, without_replaced}
 use Rattle.lifecycle.specs.Rooms.{lasting_piece}
 use Rattle.host_spaces.specs.Pieces.{ArePlacedPieces, HasRecords, IsPieceOf, is_placed_once, old_piece, record_block, without_pieces}
 use Rattle.host_spaces.proofs.Maps.{by_space, daram_external, daram_saram, maps_equal, saram_external, seen_blocks}
@@ -54,6 +54,10 @@ filter_both p q (b ∷ bs) = elim (true_or_false (q b)) [
   | inr out ↦ ap (filter p) (dropped q b bs out) ∙ filter_both p q bs
       ∙ sym (ap (λ t. cond (t && p b) (b ∷ filter (λ c. q c && p c) bs) (filter (λ c. q c && p c) bs)) out)
 ]
+
+-- the blocks without those of the owners that pass the test
+abbrev pub blocks_without : (Owner → Bool) → List Placed → List Placed
+blocks_without gone bs = filter (λ b. not (gone b.owner)) bs
 
 -- ---- a group
 
@@ -257,7 +261,8 @@ record_apart i j k out e = clash (j == k) (eq-eqb j k (record_number i j k e)) o
 
 -- ---- a creation
 
-same_without : (o : Option Span) (b : Option Placed) (bs : List Placed) → option_map (λ (p : Span). p.place) o ≡ option_map (λ (c : Placed). c.place) b → without_block b bs ≡ without_piece o bs
+same_without : (o : Option Span) (b : Option Placed) (bs : List Placed) → option_map (λ (p : Span). p.place) o ≡ option_map (λ (c : Placed). c.place) b → option_map_or (λ (c : Placed). filter (λ (d : Placed). not (d.place == c.place)) bs) b bs
+    ≡ without_piece o bs
 same_without None None bs e = refl
 same_without None (Some b) bs e = let bad : None ≡ Some b.place = e in cc
 same_without (Some p) None bs e = let bad : Some p.place ≡ None = e in cc

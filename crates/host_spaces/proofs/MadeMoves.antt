@@ -13,6 +13,7 @@ use Rattle.host_spaces.specs.Blocks.{Owns, block_of}
 use Rattle.host_map.specs.Blocks.{block_range, owned, ranges}
 use Rattle.host_spaces.proofs.BlockPlacing.{with_place}
 use Rattle.host_map.specs.Moves.{moved, moved_by, moved_to, next_in}
+use Rattle.host_map.proofs.MoveLemmas.{moved_is}
 use Rattle.host_spaces.specs.Spaces.{AreKept}
 use Rattle.host_spaces.proofs.Keeping.{its_block, kept_sorted, split_held}
 use Rattle.host_spaces.proofs.Moving.{IsNext, counted_words, goes_to, is_lower, its_align, kept_moved}
@@ -100,7 +101,7 @@ module _ (heap : HeapState) (bs : List Placed) (kept : AreKept heap bs) (s : Spa
           (subst (λ q. Holds new (front ++ q ∷ back)) range_is (taken front back held)))
 
       pub is_moved : moved_to bs k r.place ≡ moved bs
-      is_moved = same_move ∙ sym (ap (λ o. moved_by o bs) nx.next)
+      is_moved = same_move ∙ sym (ap (λ o. moved_by o bs) nx.next) ∙ moved_is bs
 
       pub its_place : option_map (λ (x : Move). x.to) (next_in bs) ≡ Some r.place
       its_place = ap (option_map (λ (x : Move). x.to)) nx.next ∙ ap Some (sym goes)

@@ -19,6 +19,7 @@ use Rattle.relocate.proofs.Lowers.{around, next_lowered}
 use Rattle.host_map.specs.declared.placed.Placed.{Placed}
 use Rattle.host_map.specs.Blocks.{block_range, ranges}
 use Rattle.host_map.specs.Moves.{block_at, block_to_move, moved, moved_by, moved_to, next_block, next_in, spot_of, spots_of}
+use Rattle.host_map.proofs.MoveLemmas.{moved_is, next_is}
 use Rattle.host_spaces.specs.Spaces.{AreKept, HasFront}
 use Rattle.host_spaces.proofs.Keeping.{ranges_beside, whole}
 
@@ -78,7 +79,7 @@ is_next_by bs s (Some m) order e it =
     }
 
 pub is_next : (bs : List Placed) (s : Span) → AreSpots (spots_of bs) → option_map block_range (next_block bs) ≡ Some (range_of s) → IsNext bs s
-is_next bs s order it = is_next_by bs s (next_in bs) order refl it
+is_next bs s order it = is_next_by bs s (next_in bs) order refl (ap (option_map block_range) (next_is bs) ∙ it)
 
 -- its index is that of the next move
 module _ (bs : List Placed) (s : Span) (nx : IsNext bs s) (k : ℕ) (is : option_map (λ (m : Move). m.index) (next_in bs) ≡ Some k) where
@@ -141,7 +142,7 @@ counted_words now was old words new lt e =
 
 pub next_found : (bs : List Placed) (m : Move) (d : Placed) → AreSpots (spots_of bs) → next_in bs ≡ Some m → Some (get_or bs m.index d) ≡ next_block bs
 next_found bs m d order e =
-    sym (ap (λ o. block_to_move o bs) e ∙ block_inside bs m.index d (move_inside bs m order e))
+    sym (ap (λ o. block_to_move o bs) e ∙ block_inside bs m.index d (move_inside bs m order e)) ∙ next_is bs
 
 length_moved : (bs : List Placed) (k to : ℕ) → length (moved_to bs k to) ≡ length bs
 length_moved [] k to = refl
@@ -159,7 +160,7 @@ put_done bs k place d lt =
 pub front_moved : (bs : List Placed) (m : Move) → AreSpots (spots_of bs) → next_in bs ≡ Some m → HasFront (m.index + 1) (moved bs)
 front_moved bs m order e =
     let lt = move_inside bs m order e in let same = length_moved bs m.index m.to in
-    subst (λ xs. HasFront (m.index + 1) xs) (ap (λ o. moved_by o bs) (sym e))
+    subst (λ xs. HasFront (m.index + 1) xs) (ap (λ o. moved_by o bs) (sym e) ∙ moved_is bs)
     (record {
       within = omega (arith, lt, same);
       packed = subst (λ ss. IsPacked (take (m.index + 1) ss)) (sym (spots_moved bs m.index m.to)) (next_move_down (spots_of bs) m order e).front;

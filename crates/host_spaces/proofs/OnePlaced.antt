@@ -1,6 +1,7 @@
 -- One block more is placed.
 use Rattle.std.proofs.Common.{◌≡◌, ◌≢◌, ◌⊎◌, inl, inr, ℕ, zero, suc, ◌+◌, ◌<◌, ◌≤◌, ℤ, true, if◌then◌else◌, List, [], ◌∷◌, length, get_or, drop, Option, Some, None, Contains, refl, sym, ap, subst, ◌∙◌, arith}
 use Rattle.std.specs.Prelude.{Result, Ok, Err, OnOk}
+use Rattle.std.specs.Option.{option_map_or}
 use Rattle.std.proofs.lemmas.Bool.{cases_eq, cases_lt}
 use Rattle.std.proofs.lemmas.List.Elements.{All-nil}
 use Rattle.std.proofs.Math.Seq.{drop-cons}
@@ -23,7 +24,7 @@ use Rattle.host_spaces.specs.declared.granted.Granted.{Granted}
 use Rattle.host_map.specs.declared.parts.Wanted.{Wanted}
 use Rattle.host_spaces.specs.MemoryMap.{AreSameSpaces, map_of, sizes_of, space_in}
 use Rattle.host_map.specs.MemoryMap.{blocks_in, place_in, put_block, words_in}
-use Rattle.host_map.specs.Creation.{all_placed, goes_on}
+use Rattle.host_map.specs.Creation.{all_placed}
 use Rattle.host_spaces.specs.Wants.{AreApartWants, IsFor, IsGranted, IsWithinLimits, count_in, one_in, slot_at, somes, want_at, with_slot}
 use Rattle.host_spaces.proofs.Maps.{by_space, map_with, same_then, seen_blocks, seen_words, sizes_same, spaces_equal}
 use Rattle.host_spaces.proofs.Slots.{slot_other, slot_same}
@@ -106,7 +107,8 @@ module _ (old mid : Spaces) (w : Wanted) (p : Span) (m : IsOne old mid w p) (lim
 
   pub exact_one : (ws : List Wanted) → all_placed (sizes_of old) (map_of old) (w ∷ ws) ≡ all_placed (sizes_of mid) (map_of mid) ws
   exact_one ws =
-      ap (λ o. goes_on o w (λ b. all_placed (sizes_of old) (put_block (map_of old) w.space b) ws)) (sym (m.place ∙ place_seen old w limits))
+      ap (λ o. option_map_or (λ (place : ℕ).
+      let b : Placed = record { owner = w.owner; place = place; size = w.size; align = w.align } in all_placed (sizes_of old) (put_block (map_of old) w.space b) ws) o (Err w.space)) (sym (m.place ∙ place_seen old w limits))
       ∙ ap (λ n. let b : Placed = record { owner = w.owner; place = p.place; size = n; align = w.align } in all_placed (sizes_of old) (put_block (map_of old) w.space b) ws) (sym long)
       ∙ ap (λ q. all_placed (sizes_of old) q ws) (sym map_is)
       ∙ ap (λ s. all_placed s (map_of mid) ws) (sym (sizes_same old mid m.stays))

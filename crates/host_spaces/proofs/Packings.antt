@@ -3,12 +3,13 @@ use Rattle.std.proofs.Common.{◌≡◌, ℕ, zero, suc, ◌+◌, List, [], ◌�
 use Rattle.std.specs.Int.{next_multiple_of}
 use Rattle.relocate.specs.declared.packing.Spot.{Spot}
 use Rattle.relocate.specs.declared.packing.Move.{Move}
-use Rattle.relocate.specs.Packing.{packed_from, unpacked_count, at_places as spots_at}
+use Rattle.relocate.specs.Packing.{packed_from, at_places as spots_at}
 use Rattle.relocate.specs.Compaction.{IsCompaction}
 use Rattle.relocate.proofs.CompactionLemmas.{packs_once}
 use Rattle.host_map.specs.declared.placed.Owner.{Owner}
 use Rattle.host_map.specs.declared.placed.Placed.{Placed}
-use Rattle.host_map.specs.Moves.{IsPacking, at_places, moved_to, packed, spot_of, spots_of}
+use Rattle.host_map.specs.Moves.{IsPacking, moved_to, packed, packed_behind, spot_of, spots_of, unpacked_behind}
+use Rattle.host_map.proofs.MoveLemmas.{count_is}
 use Rattle.host_spaces.proofs.Moving.{spots_moved}
 
 abbrev owners : List Placed → List Owner
@@ -19,11 +20,11 @@ owners_moved [] k to = refl
 owners_moved (b ∷ bs) zero to = refl
 owners_moved (b ∷ bs) (suc k) to = ap (λ os. b.owner ∷ os) (owners_moved bs k to)
 
-spots_packed : (bs : List Placed) (end : ℕ) → spots_of (at_places bs (packed_from end (spots_of bs))) ≡ spots_at (spots_of bs) (packed_from end (spots_of bs))
+spots_packed : (bs : List Placed) (end : ℕ) → spots_of (packed_behind end bs) ≡ spots_at (spots_of bs) (packed_from end (spots_of bs))
 spots_packed [] end = refl
 spots_packed (b ∷ bs) end = ap (λ ss. record (spot_of b) { place = next_multiple_of end b.align } ∷ ss) (spots_packed bs (next_multiple_of end b.align + b.size))
 
-owners_packed : (bs : List Placed) (end : ℕ) → owners (at_places bs (packed_from end (spots_of bs))) ≡ owners bs
+owners_packed : (bs : List Placed) (end : ℕ) → owners (packed_behind end bs) ≡ owners bs
 owners_packed [] end = refl
 owners_packed (b ∷ bs) end = ap (λ os. b.owner ∷ os) (owners_packed bs (next_multiple_of end b.align + b.size))
 
@@ -60,7 +61,7 @@ by_moves bs (suc n) after it =
       kept = rest.kept ∙ owners_moved bs m.index m.to;
     }
 
-pub packing : (bs : List Placed) (n : ℕ) (after : List Placed) → IsPacking bs n after → (after ≡ packed bs) × (n ≡ unpacked_count (spots_of bs))
+pub packing : (bs : List Placed) (n : ℕ) (after : List Placed) → IsPacking bs n after → (after ≡ packed bs) × (n ≡ length (unpacked_behind 0 bs))
 packing bs n after it =
     let by = by_moves bs n after it in let once = packs_once (spots_of bs) by.moves (spots_of after) by.made in
-    (same_blocks after (packed bs) (by.kept ∙ sym (owners_packed bs 0)) (once.places ∙ sym (spots_packed bs 0)), sym by.count ∙ once.count)
+    (same_blocks after (packed bs) (by.kept ∙ sym (owners_packed bs 0)) (once.places ∙ sym (spots_packed bs 0)), sym by.count ∙ once.count ∙ sym (count_is bs))

@@ -1,5 +1,6 @@
 -- Blocks of shared records under other names.
-use Rattle.std.proofs.Common.{◌≡◌, ◌≢◌, ◌⊎◌, inl, inr, ℕ, zero, suc, ◌+◌, ◌<◌, ◌≤◌, ◌==◌, ◌&&◌, Bool, true, false, if◌then◌else◌, nat_lt, List, [], ◌∷◌, length, Option, Some, None, unwrap_or, refl, sym, ap, subst, ◌∙◌, add-one, arith}
+use Rattle.std.proofs.Common.{◌≡◌, ◌≢◌, ◌⊎◌, inl, inr, ℕ, zero, suc, ◌+◌, ◌<◌, ◌≤◌, ◌==◌, ◌&&◌, Bool, true, false, if◌then◌else◌, nat_eq, nat_lt, List, [], ◌∷◌, length, Option, Some, None, unwrap_or, refl, sym, ap, subst, ◌∙◌, add-one, arith}
+use Rattle.std.specs.Option.{option_eq}
 use Rattle.std.proofs.Math.ListN.{get_or-eq_default}
 use Rattle.std.proofs.lemmas.Bool.{cases_eq, cases_lt, eq-eqb, eqb-true}
 use Rattle.std.proofs.lemmas.Bool.Decides.{nat_tests}
@@ -17,7 +18,7 @@ use Rattle.host_spaces.proofs.Renames.{renamed_alike, renamed_given, renamed_gon
 use Rattle.host_spaces.specs.declared.spaces.Spaces.{Spaces}
 use Rattle.host_spaces.specs.MemoryMap.{AreSameSpaces}
 use Rattle.host_map.specs.MemoryMap.{MemoryMap, blocks_in, renamed}
-use Rattle.host_map.specs.Creation.{handed_on, is_sharer_of, only, taken_over, sharer_at}
+use Rattle.host_map.specs.Creation.{handed_on, only, taken_over, sharer_at}
 use Rattle.host_spaces.specs.Pieces.{AreSharable}
 use Rattle.host_spaces.proofs.Maps.{maps_equal}
 
@@ -104,7 +105,7 @@ no_sharers table (suc (suc (suc (suc k)))) j e = absurd (none-some j e)
 
 -- the instance that owns record k afterwards
 abbrev pub taker : Option ℕ → ℕ → ℕ → ℕ
-taker sharer i owner = if is_sharer_of owner sharer && nat_lt i owner then i else owner
+taker sharer i owner = if option_eq nat_eq (Some owner) sharer && nat_lt i owner then i else owner
 
 abbrev pub heir : Option ℕ → ℕ → ℕ → ℕ
 heir sharer i owner = if owner == i then unwrap_or sharer i else owner
@@ -115,7 +116,7 @@ chosen false i j k = refl
 
 module _ (sharers : ℕ → Option ℕ) (i : ℕ) where
   pub taken_is : (owner k : ℕ) → taken_over sharers i (Record owner k) ≡ Record (taker (sharers k) i owner) k
-  taken_is owner k = chosen (is_sharer_of owner (sharers k) && nat_lt i owner) i owner k
+  taken_is owner k = chosen (option_eq nat_eq (Some owner) (sharers k) && nat_lt i owner) i owner k
 
   pub handed_is : (owner k : ℕ) → handed_on sharers i (Record owner k) ≡ Record (heir (sharers k) i owner) k
   handed_is owner k = chosen (owner == i) (unwrap_or (sharers k) i) owner k
@@ -289,7 +290,7 @@ handed_none sharers i none (Record owner k) = handed_is sharers i owner k ∙ ap
 -- sharers that are the same
 pub taken_same : (sharers others : ℕ → Option ℕ) (i : ℕ) → ((k : ℕ) → sharers k ≡ others k) → (o : Owner) → taken_over sharers i o ≡ taken_over others i o
 taken_same sharers others i same (Scratch s) = refl
-taken_same sharers others i same (Record owner k) = ap (λ t. if is_sharer_of owner t && nat_lt i owner then Record i k else Record owner k) (same k)
+taken_same sharers others i same (Record owner k) = ap (λ t. if option_eq nat_eq (Some owner) t && nat_lt i owner then Record i k else Record owner k) (same k)
 
 pub handed_same : (sharers others : ℕ → Option ℕ) (i : ℕ) → ((k : ℕ) → sharers k ≡ others k) → (o : Owner) → handed_on sharers i o ≡ handed_on others i o
 handed_same sharers others i same (Scratch s) = refl

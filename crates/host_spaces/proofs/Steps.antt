@@ -1,7 +1,7 @@
 -- What a creation needs, entry by entry.
-use Rattle.std.proofs.Common.{◌≡◌, ◌⊎◌, inl, inr, ℕ, zero, suc, ◌+◌, ◌≤◌, ◌==◌, max, Bool, true, false, not, ◌&&◌, ◌||◌, if◌then◌else◌, IsTrue, List, [], ◌∷◌, ◌++◌, length, drop, nat_lt, nat_le, Option, Some, None, filter_map, is_some, refl, sym, ap, ◌∙◌, arith}
-use Rattle.std.specs.List.{cons_option}
-use Rattle.std.proofs.lemmas.Bool.{cases_lt}
+use Rattle.std.proofs.Common.{◌≡◌, ◌⊎◌, inl, inr, ℕ, zero, suc, ◌+◌, ◌≤◌, ◌==◌, max, Bool, true, false, ◌&&◌, ◌||◌, if◌then◌else◌, IsTrue, List, [], ◌∷◌, ◌++◌, length, drop, nat_le, Option, Some, None, filter_map, is_some, refl, sym, ap, ◌∙◌, arith}
+use Rattle.std.specs.Prelude.{slice_get, unwrap_or}
+use Rattle.std.specs.List.{cons_option, enumerate_from}
 use Rattle.std.proofs.lemmas.Bool.Decides.{nat_tests}
 use Rattle.mem_rec.specs.declared.MemRec.{MemRec}
 use Rattle.mem_rec.specs.declared.Space.{Space}
@@ -15,16 +15,18 @@ use Rattle.relocate.specs.Places.{placed_size}
 use Rattle.relocate.proofs.RangeTests.{true_or_false}
 use Rattle.ialg.specs.Records.{record_at}
 use Rattle.record_loans.specs.declared.block.ScratchBlock.{ScratchBlock}
-use Rattle.record_loans.specs.Blocks.{block_align, block_piece, block_words}
+use Rattle.record_loans.specs.Blocks.{block_align, block_piece}
 use Rattle.scratch_group.specs.declared.group.Group.{Group}
 use Rattle.scratch_group.specs.declared.group.Need.{Need}
-use Rattle.scratch_group.specs.Blocks.{block_in, serves}
+use Rattle.scratch_group.specs.Blocks.{block_in, block_needed}
 use Rattle.host_map.specs.declared.placed.Owner.{Owner}
 use Rattle.host_map.specs.declared.placed.Owner.TheVariants.{Record, Scratch}
 use Rattle.host_spaces.specs.Blocks.{block_of_piece}
 use Rattle.host_map.specs.declared.parts.Wanted.{Wanted}
-use Rattle.host_map.specs.MemoryMap.{MemoryMap, all_spaces, first_block}
-use Rattle.host_map.specs.Creation.{block_wanted, group_wanted, own_wanted, record_wanted, scratch_wanted, wanted_by}
+use Rattle.host_map.specs.declared.placed.Placed.{Placed}
+use Rattle.host_map.specs.MemoryMap.{MemoryMap, all_spaces, blocks_in}
+use Rattle.host_map.specs.Creation.{record_wanted, scratch_wanted, wanted_by}
+use Rattle.host_map.proofs.BlockLemmas.{group_block_is}
 use Rattle.host_spaces.specs.Pieces.{HasBlocks}
 use Rattle.host_spaces.specs.Wants.{AreApartWants, block_need, count_in, need_wanted, one_in, somes, want_at, wants_of}
 
@@ -125,66 +127,61 @@ last_option : (o : Option Wanted) (xs ys : List Wanted) → cons_option o (xs ++
 last_option None xs ys = refl
 last_option (Some w) xs ys = refl
 
+-- what the records from number k on need
+abbrev own : (ℕ → Option ℕ) → ℕ → ℕ → List MemRec → List Wanted
+own sharers i k table = filter_map (λ (r : ℕ × MemRec). record_wanted sharers i r.0 r.1) (enumerate_from k table)
+
 own_wants : (sharers : ℕ → Option ℕ) (i : ℕ) (table : List MemRec) (rest : List Wanted) → length table ≤ 4
     → cons_option (record_wanted sharers i 0 (record_at table 0)) (cons_option (record_wanted sharers i 1 (record_at table 1)) (cons_option (record_wanted sharers i 2 (record_at table 2)) (cons_option (record_wanted sharers i 3 (record_at table 3)) rest)))
-    ≡ own_wanted sharers i 0 table ++ rest
+    ≡ own sharers i 0 table ++ rest
 own_wants sharers i [] rest few = refl
 own_wants sharers i (a ∷ []) rest few = last_option (record_wanted sharers i 0 a) [] rest
 own_wants sharers i (a ∷ b ∷ []) rest few =
-    ap (cons_option (record_wanted sharers i 0 a)) (last_option (record_wanted sharers i 1 b) [] rest) ∙ last_option (record_wanted sharers i 0 a) (own_wanted sharers i 1 (b ∷ [])) rest
+    ap (cons_option (record_wanted sharers i 0 a)) (last_option (record_wanted sharers i 1 b) [] rest) ∙ last_option (record_wanted sharers i 0 a) (own sharers i 1 (b ∷ [])) rest
 own_wants sharers i (a ∷ b ∷ c ∷ []) rest few =
     ap (λ ws. cons_option (record_wanted sharers i 0 a) (cons_option (record_wanted sharers i 1 b) ws)) (last_option (record_wanted sharers i 2 c) [] rest)
-    ∙ ap (cons_option (record_wanted sharers i 0 a)) (last_option (record_wanted sharers i 1 b) (own_wanted sharers i 2 (c ∷ [])) rest)
-    ∙ last_option (record_wanted sharers i 0 a) (own_wanted sharers i 1 (b ∷ c ∷ [])) rest
+    ∙ ap (cons_option (record_wanted sharers i 0 a)) (last_option (record_wanted sharers i 1 b) (own sharers i 2 (c ∷ [])) rest)
+    ∙ last_option (record_wanted sharers i 0 a) (own sharers i 1 (b ∷ c ∷ [])) rest
 own_wants sharers i (a ∷ b ∷ c ∷ d ∷ []) rest few =
     ap (λ ws. cons_option (record_wanted sharers i 0 a) (cons_option (record_wanted sharers i 1 b) (cons_option (record_wanted sharers i 2 c) ws))) (last_option (record_wanted sharers i 3 d) [] rest)
-    ∙ ap (λ ws. cons_option (record_wanted sharers i 0 a) (cons_option (record_wanted sharers i 1 b) ws)) (last_option (record_wanted sharers i 2 c) (own_wanted sharers i 3 (d ∷ [])) rest)
-    ∙ ap (cons_option (record_wanted sharers i 0 a)) (last_option (record_wanted sharers i 1 b) (own_wanted sharers i 2 (c ∷ d ∷ [])) rest)
-    ∙ last_option (record_wanted sharers i 0 a) (own_wanted sharers i 1 (b ∷ c ∷ d ∷ [])) rest
+    ∙ ap (λ ws. cons_option (record_wanted sharers i 0 a) (cons_option (record_wanted sharers i 1 b) ws)) (last_option (record_wanted sharers i 2 c) (own sharers i 3 (d ∷ [])) rest)
+    ∙ ap (cons_option (record_wanted sharers i 0 a)) (last_option (record_wanted sharers i 1 b) (own sharers i 2 (c ∷ d ∷ [])) rest)
+    ∙ last_option (record_wanted sharers i 0 a) (own sharers i 1 (b ∷ c ∷ d ∷ [])) rest
 own_wants sharers i (a ∷ b ∷ c ∷ d ∷ e ∷ others) rest few = absurd (omega arith)
-
-not_le : (a b : ℕ) → nat_lt a b ≡ not (nat_le b a)
-not_le a b = elim (cases_lt a b) [
-  | inl lt ↦ grind (arith, nat_tests)
-  | inr ge ↦ grind (arith, nat_tests)
-]
-
--- a block of so many words and that alignment is needed where the one that stands there is smaller or of a lower one
-over_old : (x y : Bool) (a : Option Wanted) → (if not x || not y then a else None) ≡ (if x && y then None else a)
-over_old true true a = refl
-over_old true false a = refl
-over_old false y a = refl
 
 chosen : (t : Bool) (g : ℕ) (space : Space) (n : Need) → (if t then None else need_wanted g space (Some n)) ≡ need_wanted g space (if t then None else Some n)
 chosen true g space n = refl
 chosen false g space n = refl
 
-wanted_here : (b : Option ScratchBlock) (g : ℕ) (space : Space) (need align : ℕ) →
-    block_wanted (first_block (block_of_piece (Scratch g) (block_align b) (block_piece b))) g space need align
-    ≡ need_wanted g space (if serves b need align then None else Some (record { size = max (length (block_words b)) need; align = max (block_align b) align }))
-wanted_here None g space need align =
-    let x : need ≡ max 0 need = omega arith in let y : align ≡ max 0 align = omega arith in
-    ap (λ n. let w : Wanted = record { space = space; owner = Scratch g; size = n; align = align } in Some w) x
-    ∙ ap (λ n. let w : Wanted = record { space = space; owner = Scratch g; size = max 0 need; align = n } in Some w) y
-wanted_here (Some b) g space need align =
-    let w : Wanted = record { space = space; owner = Scratch g; size = max (length b.piece.words) need; align = max b.align align } in
-    ap (λ t. if t || nat_lt b.align align then Some w else None) (not_le (length b.piece.words) need)
-    ∙ ap (λ t. if not (nat_le need (length b.piece.words)) || t then Some w else None) (not_le b.align align)
-    ∙ over_old (nat_le need (length b.piece.words)) (nat_le align b.align) (Some w)
-    ∙ chosen (nat_le need (length b.piece.words) && nat_le align b.align) g space (record { size = max (length b.piece.words) need; align = max b.align align })
+above_none : (n : ℕ) → nat_le (suc n) 0 ≡ false
+above_none n = grind (arith, nat_tests)
 
-with_need : (t s : Bool) (g : ℕ) (space : Space) (a : Option Wanted) (n : Option Need) → a ≡ need_wanted g space (if s then None else n)
-    → (if t then None else a) ≡ need_wanted g space (if t || s then None else n)
-with_need true s g space a n e = refl
-with_need false s g space a n e = e
+-- a block of no words serves where none are needed
+none_serves : (need align : ℕ) → (need == 0 || nat_le need 0 && nat_le align 0) ≡ (need == 0 || false)
+none_serves zero align = refl
+none_serves (suc n) align = ap (λ t. suc n == 0 || t && nat_le align 0) (above_none n)
+
+module _ (g : ℕ) (space : Space) (need align : ℕ) where
+  -- what is needed over this block of the group
+  abbrev over : Option Placed → Option Wanted
+  over block =
+      let old : Placed = unwrap_or block (record { owner = Scratch g; place = 0; size = 0; align = 0 }) in
+      if need == 0 || nat_le need old.size && nat_le align old.align then None
+      else Some (record { space = space; owner = Scratch g; size = max old.size need; align = max old.align align })
+
+  wanted_here : (b : Option ScratchBlock) → over (slice_get (block_of_piece (Scratch g) (block_align b) (block_piece b)) 0) ≡ need_wanted g space (block_needed b need align)
+  wanted_here None =
+      ap (λ t. if t then None else need_wanted g space (Some (record { size = max 0 need; align = max 0 align }))) (none_serves need align)
+      ∙ chosen (need == 0 || false) g space (record { size = max 0 need; align = max 0 align })
+  wanted_here (Some b) =
+      chosen (need == 0 || nat_le need (length b.piece.words) && nat_le align b.align) g space (record { size = max (length b.piece.words) need; align = max b.align align })
 
 pub scratch_is : (map : MemoryMap) (g : ℕ) (table : List MemRec) (group : Group) → HasBlocks map g group → (space : Space)
     → scratch_wanted map g table space ≡ need_wanted g space (block_need table group space)
 scratch_is map g table group has space =
-    let b = block_in group space in let need = scratch_need table space in let align = scratch_align table space in
-    ap (λ bs. group_wanted (first_block bs) g table space) (has space)
-    ∙ with_need (need == 0) (serves b need align) g space (block_wanted (first_block (block_of_piece (Scratch g) (block_align b) (block_piece b))) g space need align)
-    (Some (record { size = max (length (block_words b)) need; align = max (block_align b) align })) (wanted_here b g space need align)
+    let need = scratch_need table space in let align = scratch_align table space in
+    ap (over g space need align) (group_block_is g (blocks_in map space) ∙ ap (λ bs. slice_get bs 0) (has space))
+    ∙ wanted_here g space need align (block_in group space)
 
 pub wants_is : (sharers : ℕ → Option ℕ) (map : MemoryMap) (i g : ℕ) (table : List MemRec) (group : Group) → HasBlocks map g group → IsTrue (is_table table)
     → wanted_by sharers map i g table ≡ somes (drop 0 (wants_of sharers i g table group))
@@ -195,4 +192,4 @@ wants_is sharers map i g table group has t =
     ap (λ o. cons_option o (cons_option (scratch_wanted map g table Saram) (cons_option (scratch_wanted map g table External) []))) (scratch_is map g table group has Daram)
     ∙ ap (λ o. cons_option (need_wanted g Daram (block_need table group Daram)) (cons_option o (cons_option (scratch_wanted map g table External) []))) (scratch_is map g table group has Saram)
     ∙ ap (λ o. cons_option (need_wanted g Daram (block_need table group Daram)) (cons_option (need_wanted g Saram (block_need table group Saram)) (cons_option o []))) (scratch_is map g table group has External) in
-    ap (λ ws. own_wanted sharers i 0 table ++ ws) rest ∙ sym (own_wants sharers i table _ few)
+    ap (λ ws. own sharers i 0 table ++ ws) rest ∙ sym (own_wants sharers i table _ few)

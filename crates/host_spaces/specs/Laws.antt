@@ -6,7 +6,6 @@ use Rattle.mem_rec.specs.declared.Space.{Space}
 use Rattle.mem_rec.specs.declared.TheConstants.{TABLE_RECORDS, INSTANCES}
 use Rattle.space_raw.specs.Span.{Apart, Span}
 use Rattle.space_heap.specs.Maps.{AreBlocks}
-use Rattle.relocate.specs.Packing.{unpacked_count}
 use Rattle.host_map.specs.declared.TheConstants.{MAP_BLOCKS}
 use Rattle.host_map.specs.declared.placed.Owner.{Owner}
 use Rattle.host_map.specs.declared.placed.Owner.TheVariants.{Record}
@@ -14,7 +13,7 @@ use Rattle.host_map.specs.declared.placed.Placed.{Placed}
 use Rattle.host_map.specs.declared.parts.Sizes.{Sizes}
 use Rattle.host_map.specs.Blocks.{AreSingle, owned, ranges}
 use Rattle.host_map.specs.MemoryMap.{MemoryMap, renamed}
-use Rattle.host_map.specs.Moves.{IsPacking, packed, spots_of}
+use Rattle.host_map.specs.Moves.{IsPacking, packed, unpacked_behind}
 use Rattle.host_map.specs.Creation.{all_placed, created_map, replaced_block, taken_over, wanted_by}
 use Rattle.host_spaces.specs.declared.pieces.OldBlocks.{OldBlocks}
 use Rattle.host_spaces.specs.Blocks.{Owns}
@@ -32,7 +31,7 @@ OwnersAreApart = (words : ℕ) (blocks : List Placed) (o q : Owner) (s t : Span)
 
 -- next moves come to the packed blocks, one for each block that isn't at its packed place
 abbrev pub PacksAll : List Placed → ℕ → List Placed → Type 0
-PacksAll blocks n after = IsPacking blocks n after → (after ≡ packed blocks) × (n ≡ unpacked_count (spots_of blocks))
+PacksAll blocks n after = IsPacking blocks n after → (after ≡ packed blocks) × (n ≡ length (unpacked_behind 0 blocks))
 
 -- a creation is made by placing all that is needed, taking out the blocks that are replaced, and taking over what is shared
 abbrev pub CreationsAreMade : Type 0

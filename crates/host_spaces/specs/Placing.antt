@@ -1,5 +1,6 @@
 -- What a creation places, and what goes out of the spaces.
 use Rattle.std.specs.Prelude.{ℕ, ◌+◌, ◌<◌, ◌≤◌, ◌≡◌, List, length, drop, Option, Result, IfSome}
+use Rattle.std.specs.Result.{result_map_both}
 use Rattle.mem_rec.specs.declared.MemRec.{MemRec}
 use Rattle.mem_rec.specs.declared.Space.{Space}
 use Rattle.mem_rec.specs.declared.TheConstants.{TABLE_RECORDS}
@@ -10,7 +11,7 @@ use Rattle.host_map.specs.declared.placed.Owner.TheVariants.{Scratch}
 use Rattle.host_map.specs.declared.parts.Wanted.{Wanted}
 use Rattle.host_map.specs.Blocks.{owned}
 use Rattle.host_map.specs.MemoryMap.{MemoryMap, blocks_in, is_group's, without_owners}
-use Rattle.host_map.specs.Creation.{all_placed, result_map, wanted_by}
+use Rattle.host_map.specs.Creation.{all_placed, wanted_by}
 use Rattle.host_spaces.specs.declared.pieces.NewBlocks.{NewBlocks}
 use Rattle.host_spaces.specs.declared.pieces.OldBlocks.{OldBlocks}
 use Rattle.host_spaces.specs.declared.pieces.Placement.{Placement}
@@ -26,7 +27,7 @@ HasRoomFrom k wants spaces = (space : Space) → length (space_in spaces space).
 
 -- the answer is an error, as it is where not all of this can be placed, or the map is as it is once all is placed
 abbrev pub PlacesAll : {A : Type 0} → List Wanted → Spaces → Spaces → Result A Space → Type 0
-PlacesAll wanted old new answer = all_placed (sizes_of old) (map_of old) wanted ≡ result_map (λ _. map_of new) answer
+PlacesAll wanted old new answer = all_placed (sizes_of old) (map_of old) wanted ≡ result_map_both (λ _. map_of new) (λ space. space) answer
 
 -- the new blocks are those that the group needs for a member with this table
 abbrev pub AreNeeded : Spaces → List MemRec → Group → NewBlocks → Type 0

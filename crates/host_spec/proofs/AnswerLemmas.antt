@@ -28,7 +28,7 @@ with_answer : {M A : Type 0} (call : A → Call M) (answer : A) (after : State M
 with_answer call answer after outcome e = told call answer outcome.0 after outcome.1 (ap (λ o. o.0) e) (ap (λ o. o.1) e)
 
 -- where the instance is missing, it doesn't matter what it would answer
-missing : {M A : Type 0} (before : State M) (range none b c : Bool) (granted other : Outcome M A) → none ≡ true
+missing : {M A : Type 0} (before : State M) (range none b c : Bool) (granted other : Outcome (State M) A) → none ≡ true
     → unless (first_refusal ((range, Range) ∷ (none, Missing) ∷ (b, Command) ∷ [])) before granted
     ≡ unless (first_refusal ((range, Range) ∷ (none, Missing) ∷ (c, Command) ∷ [])) before other
 missing before true none b c granted other e = refl

@@ -9,7 +9,8 @@ use Rattle.host_map.specs.declared.placed.Placed.{Placed}
 use Rattle.host_map.specs.Moves.{next_block}
 use Rattle.host_map.specs.MemoryMap.{MemoryMap, blocks_in}
 use Rattle.host_map.specs.Creation.{created_map}
-use Rattle.host_spec.specs.State.{Living, State, sharers_of, with_living}
+use Rattle.host_map.specs.Activity.{with_at}
+use Rattle.host_spec.specs.State.{Living, State, sharers_of}
 use Rattle.host_spec.specs.Steps.{Outcome, unless, newborn, with_room, with_memory, create, activating, controlled, control, given, without_instance, delete, release, stat, moving}
 use Rattle.host_spec.specs.Calls.{Call, Does, subject_of}
 use Rattle.host_spec.specs.Calls.Call.{Create, Control, Process, Delete, Release, Step, Compact, Stat, Map, Lives, Copied}
@@ -21,7 +22,7 @@ pub after_is : {M A : Type 0} (Holds : State M → Type 0) (answer : A) (after :
 after_is Holds answer after outcome e holds = subst Holds (sym (ap (λ o. o.1) e)) holds
 
 -- what holds of the state before a call, and of the state after one that is granted
-pub unless_holds : {M A : Type 0} (Holds : State M → Type 0) (before : State M) (r : Option Refusal) (outcome : Outcome M A)
+pub unless_holds : {M A : Type 0} (Holds : State M → Type 0) (before : State M) (r : Option Refusal) (outcome : Outcome (State M) A)
     → Holds before → Holds outcome.1 → Holds (unless r before outcome).1
 unless_holds Holds before None outcome holds granted = granted
 unless_holds Holds before (Some refusal) outcome holds granted = holds
@@ -35,7 +36,7 @@ module _ {M : Type 0} (i : ℕ) (before : State M) where
   kept : Keeps i before before
   kept = record { host = record { sizes = refl; poison = refl }; others = λ j apart. refl }
 
-  other : (x : Option (Living M)) (j : ℕ) → j ≢ i → with_living before.living i x j ≡ before.living j
+  other : (x : Option (Living M)) (j : ℕ) → j ≢ i → with_at before.living i x j ≡ before.living j
   other x j apart = grind arith
 
   with_room_keeps : (x : Living M) (table : List MemRec) (placed : Result MemoryMap Space) → Keeps i before (with_room before i x table placed).1

@@ -1,13 +1,14 @@
 -- The life of a lawful instance over a run of calls.
 use Rattle.std.proofs.Common.{◌≡◌, ℕ, ℤ, List, [], ◌∷◌, ◌++◌, Some, ap, sym, ◌∙◌, subst, append_assoc}
 use Rattle.std.proofs.lemmas.List.{append_cancel_left}
+use Rattle.std.proofs.lemmas.List.Elements.{All-head, All-tail}
 use Rattle.std.specs.Prelude.{IsTrue}
 use Rattle.ialg.specs.History.{History}
 use Rattle.ialg.specs.Meaning.{Meaning, Status, outputs_of}
 use Rattle.host_spec.specs.State.{Living, State}
 use Rattle.host_spec.specs.Choices.{IsLawful}
 use Rattle.host_spec.specs.Calls.{Call, Leads}
-use Rattle.host_spec.specs.Runs.{statuses_of, history_after, output_in, status_in, history_of_run, outputs_in, statuses_in, AllSpare, Grows, Life}
+use Rattle.host_spec.specs.Runs.{statuses_of, history_after, output_in, status_in, Spares, history_of_run, outputs_in, statuses_in, AllSpare, Grows, Life}
 use Rattle.host_spec.proofs.CallLemmas.{host_stays}
 use Rattle.host_spec.proofs.RunLemmas.{Grown, stays, grown_by}
 
@@ -34,10 +35,10 @@ module _ {M : Type 0} (kinds : Meaning M) (i : ℕ) where
   grown (call ∷ calls) before after x there lawful spared leads =
       let between = leads.0 in
       let h = history_after i x.history call in
-      let first = grown_by kinds i x before between there lawful call leads.1 spared.0 in
+      let first = grown_by kinds i x before between there lawful call leads.1 (All-head (Spares i) call calls spared) in
       let still : IsTrue (kinds.lawful x.kind x.params between.poison) =
       subst (λ w. IsTrue (kinds.lawful x.kind x.params w)) (sym (host_stays kinds before between call leads.1).poison) lawful in
-      let rest = grown calls between after (record x { history = h }) first.lives still spared.1 leads.2 in
+      let rest = grown calls between after (record x { history = h }) first.lives still (All-tail (Spares i) call calls spared) leads.2 in
       record {
         lives = rest.lives;
         grows = and_then x h (history_of_run i h calls) (output_in i call) (outputs_in i calls) (status_in i call) (statuses_in i calls) first.grows rest.grows;

@@ -1,12 +1,10 @@
 -- Moves change the places of blocks alone.
-use Rattle.std.proofs.Common.{◌≡◌, ℕ, zero, suc, ◌+◌, List, [], ◌∷◌, map, Option, Some, None, refl, ap}
+use Rattle.std.proofs.Common.{◌≡◌, ℕ, ◌+◌, ◌==◌, Bool, true, false, List, [], ◌∷◌, map, Option, Some, None, refl, ap, if◌then◌else◌}
 use Rattle.std.specs.Int.{next_multiple_of}
 use Rattle.mem_rec.specs.declared.Space.{Space}
 use Rattle.mem_rec.specs.declared.Space.TheVariants.{Daram, Saram, External}
-use Rattle.relocate.specs.declared.packing.Move.{Move}
-use Rattle.relocate.specs.Packing.{packed_from}
 use Rattle.host_map.specs.declared.placed.Placed.{Placed}
-use Rattle.host_map.specs.Moves.{spots_of, next_in, next_block, moved_to, moved_by, moved, at_places, packed}
+use Rattle.host_map.specs.Moves.{next_block, moved_behind, packed_behind}
 use Rattle.host_map.specs.MemoryMap.{MemoryMap, blocks_in, with_blocks}
 use Rattle.host_spec.specs.State.{State}
 use Rattle.host_spec.specs.Steps.{moving, step, compact}
@@ -16,16 +14,18 @@ use Rattle.host_spec.specs.Laws.{unplaced_block, OnlyMoves}
 abbrev unplaced_blocks : List Placed → List Placed
 unplaced_blocks blocks = map unplaced_block blocks
 
-same_moved_to : (bs : List Placed) (index to : ℕ) → unplaced_blocks (moved_to bs index to) ≡ unplaced_blocks bs
-same_moved_to [] index to = refl
-same_moved_to (b ∷ bs) zero to = refl
-same_moved_to (b ∷ bs) (suc index) to = ap (λ others. unplaced_block b ∷ others) (same_moved_to bs index to)
+same_if : (t : Bool) (b : Placed) (place : ℕ) (cs bs : List Placed) → unplaced_blocks cs ≡ unplaced_blocks bs
+    → unplaced_blocks (if t then b ∷ cs else record b { place = place } ∷ bs) ≡ unplaced_blocks (b ∷ bs)
+same_if true b place cs bs e = ap (λ others. unplaced_block b ∷ others) e
+same_if false b place cs bs e = refl
 
-same_moved_by : (m : Option Move) (bs : List Placed) → unplaced_blocks (moved_by m bs) ≡ unplaced_blocks bs
-same_moved_by None bs = refl
-same_moved_by (Some m) bs = same_moved_to bs m.index m.to
+same_moved : (end : ℕ) (bs : List Placed) → unplaced_blocks (moved_behind end bs) ≡ unplaced_blocks bs
+same_moved end [] = refl
+same_moved end (b ∷ bs) =
+    let place = next_multiple_of end b.align in
+    same_if (b.place == place) b place (moved_behind (place + b.size) bs) bs (same_moved (place + b.size) bs)
 
-same_packed : (end : ℕ) (bs : List Placed) → unplaced_blocks (at_places bs (packed_from end (spots_of bs))) ≡ unplaced_blocks bs
+same_packed : (end : ℕ) (bs : List Placed) → unplaced_blocks (packed_behind end bs) ≡ unplaced_blocks bs
 same_packed end [] = refl
 same_packed end (b ∷ bs) = ap (λ others. unplaced_block b ∷ others) (same_packed (next_multiple_of end b.align + b.size) bs)
 
@@ -49,7 +49,7 @@ module _ {M : Type 0} (before : State M) (space : Space) where
     activity = refl;
     blocks =
         let blocks = blocks_in before.map space in
-        same_map before.map space (moved blocks) (same_moved_by (next_in blocks) blocks);
+        same_map before.map space (moved_behind 0 blocks) (same_moved 0 blocks);
   }
 
   pub step_moves : OnlyMoves before (step before space).1
@@ -61,5 +61,5 @@ module _ {M : Type 0} (before : State M) (space : Space) where
     activity = refl;
     blocks =
         let blocks = blocks_in before.map space in
-        same_map before.map space (packed blocks) (same_packed 0 blocks);
+        same_map before.map space (packed_behind 0 blocks) (same_packed 0 blocks);
   }

@@ -12,7 +12,7 @@ use Rattle.ialg.specs.Meaning.{Meaning, Status}
 use Rattle.mem_rec.specs.declared.TheConstants.{INSTANCES, GROUPS}
 use Rattle.host_map.specs.MemoryMap.{MemoryMap}
 use Rattle.host_map.specs.Creation.{created_map}
-use Rattle.host_map.specs.Activity.{deactivated, with_activity}
+use Rattle.host_map.specs.Activity.{deactivated, with_at}
 use Rattle.host_spec.specs.State.{State, Living, sharers_of, is_instance_number, is_group_number}
 use Rattle.host_spec.specs.Steps.{Outcome, unless, newborn, with_room, with_memory, create, created, control, controlled, given, activating, processed, delete, without_instance, release, stat}
 
@@ -31,7 +31,7 @@ no_group g le = le-ltb g GROUPS le
 module _ {M : Type 0} (before : State M) where
   -- ---- creation, by whether the numbers are in range and the instance's is taken
 
-  abbrev creating : {A : Type 0} → Bool → Bool → Outcome M A → Outcome M A
+  abbrev creating : {A : Type 0} → Bool → Bool → Outcome (State M) A → Outcome (State M) A
   creating numbers taken outcome = unless (first_refusal ((not numbers, Range) ∷ (taken, Taken) ∷ [])) before outcome
 
   numbers_are : (i g : ℕ) → i < INSTANCES → g < GROUPS → (is_instance_number i && is_group_number g) ≡ true
@@ -72,7 +72,7 @@ module _ {M : Type 0} (before : State M) where
   -- ---- controls
 
   module _ (i : ℕ) (c : Ctl) (status : Status) where
-    abbrev controlling : Bool → Option (Living M) → Bool → Outcome M Status
+    abbrev controlling : Bool → Option (Living M) → Bool → Outcome (State M) Status
     controlling number x taken =
         unless (first_refusal ((not number, Range) ∷ (is_none x, Missing) ∷ (not taken, Command) ∷ [])) before (Ok status, controlled before i x c)
 
@@ -113,7 +113,7 @@ module _ {M : Type 0} (before : State M) where
   -- ---- deletion
 
   module _ (kinds : Meaning M) where
-    abbrev deleting : ℕ → Bool → Option (Living M) → Outcome M (Unit {0})
+    abbrev deleting : ℕ → Bool → Option (Living M) → Outcome (State M) (Unit {0})
     deleting i number x = unless (first_refusal ((not number, Range) ∷ (is_none x, Missing) ∷ [])) before (Ok tt, without_instance kinds before i x)
 
     pub delete_range : (i : ℕ) → INSTANCES ≤ i → delete kinds before i ≡ (Err Range, before)
@@ -127,11 +127,11 @@ module _ {M : Type 0} (before : State M) where
 
   -- ---- groups
 
-  abbrev grouped : {A : Type 0} → Bool → Outcome M A → Outcome M A
+  abbrev grouped : {A : Type 0} → Bool → Outcome (State M) A → Outcome (State M) A
   grouped group outcome = unless (first_refusal ((not group, Range) ∷ [])) before outcome
 
   abbrev resting : ℕ → State M
-  resting g = record before { activity = with_activity before.activity g (deactivated (before.activity g)) }
+  resting g = record before { activity = with_at before.activity g (deactivated (before.activity g)) }
 
   pub release_range : (g : ℕ) → GROUPS ≤ g → release before g ≡ (Err Range, before)
   release_range g le = ap (λ group. grouped group (Ok (is_some (before.activity g).active), resting g)) (no_group g le)

@@ -15,7 +15,8 @@ use Rattle.ialg.specs.Refusals.{first_refusal}
 use Rattle.ialg.specs.History as history
 use Rattle.ialg.specs.History.{History, Ctl, Sample, with_samples}
 use Rattle.ialg.specs.Meaning.{Meaning, Status, outputs_of, status_of}
-use Rattle.host_spec.specs.State.{Living, State, sharers_of, with_living, is_instance_number, is_group_number}
+use Rattle.host_map.specs.Activity.{with_at}
+use Rattle.host_spec.specs.State.{Living, State, sharers_of, is_instance_number, is_group_number}
 use Rattle.host_spec.specs.Choices.{IsLawful, MayGive}
 use Rattle.host_spec.specs.Steps.{Outcome, unless, newborn, create_refusal, with_room, with_memory, control_refusal, controlled, given, instance_refusal, group_refusal, without_instance}
 use Rattle.host_spec.specs.Calls.{Call, Does, Creates, Controls, Processes, refusal_of}
@@ -27,7 +28,7 @@ ok_is_no_err : {A E : Type 0} (a : A) (r : E) (result : Result A E) → result �
 ok_is_no_err a r result ok err = cc
 
 -- a granted call is no refused one
-pub granted : {M A : Type 0} (before : State M) (r : Option Refusal) (outcome : Outcome M A) (a : A) (after : State M)
+pub granted : {M A : Type 0} (before : State M) (r : Option Refusal) (outcome : Outcome (State M) A) (a : A) (after : State M)
     → (Ok a, after) ≡ unless r before outcome → (Ok a, after) ≡ outcome
 granted before None outcome a after e = e
 granted before (Some refusal) outcome a after e = absurd (ok_is_no_err a refusal (Ok a) refl (ap (λ o. o.0) e))
@@ -39,7 +40,7 @@ refused before None a next refusal after e = absurd (ok_is_no_err a refusal (Ok 
 refused before (Some other) a next refusal after e = ap (λ o. o.1) e
 
 -- what goes before it was refused, or it was refused and left the state itself
-refused_as : {M A : Type 0} (before : State M) (r : Option Refusal) (outcome : Outcome M A) (refusal : Refusal) (after : State M)
+refused_as : {M A : Type 0} (before : State M) (r : Option Refusal) (outcome : Outcome (State M) A) (refusal : Refusal) (after : State M)
     → ((e : Refusal) → outcome.0 ≡ Err e → outcome.1 ≡ before) → (Err refusal, after) ≡ unless r before outcome → after ≡ before
 refused_as before None outcome refusal after stays e = ap (λ o. o.1) e ∙ stays refusal (sym (ap (λ o. o.0) e))
 refused_as before (Some other) outcome refusal after stays e = ap (λ o. o.1) e
@@ -83,13 +84,13 @@ statuses_of_samples kinds kind p h [] = refl
 statuses_of_samples kinds kind p h (x ∷ xs) = statuses_of_samples kinds kind p (Sample x ∷ h) xs
 
 -- a number that is taken is refused before the memory is asked for
-taken_stays : {M A : Type 0} (range taken : Bool) (before : State M) (outcome : Outcome M A) → taken ≡ true
+taken_stays : {M A : Type 0} (range taken : Bool) (before : State M) (outcome : Outcome (State M) A) → taken ≡ true
     → (unless (first_refusal ((range, Range) ∷ (taken, Taken) ∷ [])) before outcome).1 ≡ before
 taken_stays true taken before outcome e = refl
 taken_stays false true before outcome e = refl
 taken_stays false false before outcome e = cc
 
-its : {M : Type 0} (living : ℕ → Option (Living M)) (i : ℕ) (x : Option (Living M)) → with_living living i x i ≡ x
+its : {M : Type 0} (living : ℕ → Option (Living M)) (i : ℕ) (x : Option (Living M)) → with_at living i x i ≡ x
 its living i x = ap (λ b. cond b x (living i)) (eq-eqb i i refl)
 
 ok_same : {A E : Type 0} (a b : A) → ◌≡◌ {A = Result A E} (Ok a) (Ok b) → a ≡ b

@@ -1,5 +1,6 @@
 -- The calls of a host: what each may answer, and which state may come after it. A kind's answers are free where it isn't lawful.
-use Rattle.std.specs.Prelude.{ℕ, ℤ, ◌≡◌, Bool, List, [], ◌∷◌, Option, Some, None, is_some, Result, Ok, Err}
+use Rattle.std.specs.Prelude.{ℕ, ℤ, ◌≡◌, Bool, List, [], ◌∷◌, Option, Some, None, is_some, Result}
+use Rattle.std.specs.Result.{result_err}
 use Rattle.mem_rec.specs.declared.MemRec.{MemRec}
 use Rattle.mem_rec.specs.declared.Space.{Space}
 use Rattle.ialg.specs.declared.refusal.Refusal.{Refusal}
@@ -68,16 +69,12 @@ module _ {M : Type 0} (kinds : Meaning M) where
   Leads before (call ∷ calls) after = (between : State M) × Does kinds before call between × Leads between calls after
 
 -- why a call was refused, if it was
-abbrev pub refusal_in : {A : Type 0} → Result A Refusal → Option Refusal
-refusal_in (Ok answer) = None
-refusal_in (Err refusal) = Some refusal
-
 abbrev pub refusal_of : {M : Type 0} → Call M → Option Refusal
-refusal_of (Create i kind g p answer) = refusal_in answer
-refusal_of (Control i c answer) = refusal_in answer
-refusal_of (Delete i answer) = refusal_in answer
-refusal_of (Release g answer) = refusal_in answer
-refusal_of (Stat g answer) = refusal_in answer
+refusal_of (Create i kind g p answer) = result_err answer
+refusal_of (Control i c answer) = result_err answer
+refusal_of (Delete i answer) = result_err answer
+refusal_of (Release g answer) = result_err answer
+refusal_of (Stat g answer) = result_err answer
 refusal_of _ = None
 
 -- the number of the instance that a call is about, if it is about one

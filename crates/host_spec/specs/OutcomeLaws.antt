@@ -8,7 +8,7 @@ use Rattle.ialg.specs.History.{Ctl, Control, with_samples}
 use Rattle.ialg.specs.Meaning.{Meaning, Status}
 use Rattle.host_map.specs.MemoryMap.{MemoryMap}
 use Rattle.host_map.specs.Creation.{created_map}
-use Rattle.host_map.specs.Activity.{deactivated, with_activity}
+use Rattle.host_map.specs.Activity.{deactivated, with_at}
 use Rattle.host_spec.specs.State.{State, Living, sharers_of}
 use Rattle.host_spec.specs.Steps.{newborn, create, created, control, activating, processed, delete, without_instance, release, stat}
 
@@ -115,7 +115,7 @@ abbrev pub ReleaseGrants : Type 0 → Type 0
 ReleaseGrants M =
     (before : State M) (g : ℕ) → g < GROUPS
     → release before g
-    ≡ (Ok (is_some (before.activity g).active), record before { activity = with_activity before.activity g (deactivated (before.activity g)) })
+    ≡ (Ok (is_some (before.activity g).active), record before { activity = with_at before.activity g (deactivated (before.activity g)) })
 
 -- a look at the activity of a group refuses a number out of range
 abbrev pub StatRefusesRange : Type 0 → Type 0

@@ -1,5 +1,5 @@
 -- What an instance was given, gave and answered in a run of calls.
-use Rattle.std.specs.Prelude.{ℕ, ℤ, ◌≡◌, ◌≢◌, List, [], ◌∷◌, ◌++◌, Ok, Some, nat_eq, if◌then◌else◌}
+use Rattle.std.specs.Prelude.{ℕ, ℤ, ◌≡◌, ◌≢◌, List, [], ◌∷◌, ◌++◌, Ok, Some, fold, flat_map, All, nat_eq, if◌then◌else◌}
 use Rattle.ialg.specs.History as history
 use Rattle.ialg.specs.History.{History, Ctl, Sample, with_samples}
 use Rattle.ialg.specs.Meaning.{Meaning, Status, outputs_of, status_of}
@@ -37,20 +37,16 @@ module _ {M : Type 0} (i : ℕ) where
 
   -- the same of a run of calls
   abbrev pub history_of_run : History → List (Call M) → History
-  history_of_run h [] = h
-  history_of_run h (call ∷ calls) = history_of_run (history_after h call) calls
+  history_of_run h calls = fold history_after h calls
 
   abbrev pub outputs_in : List (Call M) → List ℤ
-  outputs_in [] = []
-  outputs_in (call ∷ calls) = output_in call ++ outputs_in calls
+  outputs_in calls = flat_map output_in calls
 
   abbrev pub statuses_in : List (Call M) → List Status
-  statuses_in [] = []
-  statuses_in (call ∷ calls) = status_in call ++ statuses_in calls
+  statuses_in calls = flat_map status_in calls
 
   abbrev pub AllSpare : List (Call M) → Type 0
-  AllSpare [] = Unit {0}
-  AllSpare (call ∷ calls) = Spares call × AllSpare calls
+  AllSpare calls = All Spares calls
 
 -- the instance has grown from one history to another, and what it gave and answered is by its meaning
 pub record Grows {M : Type 0} (kinds : Meaning M) (x : Living M) (h : History) (outputs : List ℤ) (statuses : List Status) : Type 0 where

@@ -1,15 +1,18 @@
 -- What a host keeps, as plain values: who lives, which blocks stand where, and which member of each group is active.
-use Rattle.std.specs.Prelude.{ℕ, ℤ, Bool, false, List, Option, Some, None, option_map, nat_lt, nat_eq, if◌then◌else◌}
-use Rattle.std.specs.List.{list_any}
-use Rattle.relocate.specs.Places.{numbers_below}
+use Rattle.std.specs.Prelude.{ℕ, ℤ, Bool, false, ◌&&◌, List, Option, Some, None, find, option_map, nat_lt, nat_eq}
+use Rattle.std.specs.List.{list_any, range_with_len}
+use Rattle.std.specs.Option.{option_eq}
+use Rattle.std.specs.Cmp.Lexicographic.{pointwise}
+use Rattle.std.specs.Ordering.{int_eq}
 use Rattle.mem_rec.specs.declared.TheConstants.{INSTANCES, GROUPS}
 use Rattle.mem_rec.specs.declared.MemRec.{MemRec}
 use Rattle.ialg.specs.History.{History}
 use Rattle.ialg.specs.Meaning.{Meaning}
+use Rattle.ialg.specs.Records.{record_at}
 use Rattle.host_map.specs.declared.parts.Sizes.{Sizes}
 use Rattle.host_map.specs.MemoryMap.{MemoryMap, empty_map}
-use Rattle.host_map.specs.Activity.{Activity, never_activated}
-use Rattle.host_map.specs.Sharers.{Asked, sharer_of}
+use Rattle.host_map.specs.Activity.{Activity}
+use Rattle.host_map.specs.Sharers.{is_same_once}
 
 -- an instance, as its creation named it, the memory that its kind asked for, and what it was given since then
 pub record Living (M : Type 0) : Type 0 where
@@ -36,7 +39,7 @@ pub record State (M : Type 0) : Type 0 where
 -- a host without instances
 abbrev pub new_state : {M : Type 0} → Sizes → Option ℤ → State M
 new_state sizes poison =
-    record { living = λ i. None; map = empty_map; sizes = sizes; poison = poison; activity = λ g. never_activated; copied = 0 }
+    record { living = λ i. None; map = empty_map; sizes = sizes; poison = poison; activity = λ g. record { active = None; count = 0 }; copied = 0 }
 
 abbrev pub is_instance_number : ℕ → Bool
 is_instance_number i = nat_lt i INSTANCES
@@ -44,21 +47,22 @@ is_instance_number i = nat_lt i INSTANCES
 abbrev pub is_group_number : ℕ → Bool
 is_group_number g = nat_lt g GROUPS
 
--- the instances, with another one or none at number i
-abbrev pub with_living : {M : Type 0} → (ℕ → Option (Living M)) → ℕ → Option (Living M) → ℕ → Option (Living M)
-with_living living i x j = if nat_eq j i then x else living j
-
-abbrev pub asked_of : {M : Type 0} → Living M → Asked M
-asked_of x = record { kind = x.kind; params = x.params; table = x.table }
+-- whether x shares record k with the other instance, if there is one: they are of one kind, with equal parameters, and record k of both is
+-- write-once and the same
+abbrev pub share : {M : Type 0} → Meaning M → ℕ → Living M → Option (Living M) → Bool
+share kinds k x None = false
+share kinds k x (Some y) = kinds.same x.kind y.kind && pointwise int_eq x.params y.params && is_same_once (record_at x.table k) (record_at y.table k)
 
 -- for each record of an instance the least number of another one that shares its block
 abbrev pub sharers_of : {M : Type 0} → Meaning M → (ℕ → Option (Living M)) → Living M → ℕ → Option ℕ
-sharers_of kinds others x k = sharer_of kinds.same (λ j. option_map asked_of (others j)) (asked_of x) k
+sharers_of kinds others x k = find (λ i. share kinds k x (others i)) (range_with_len 0 INSTANCES)
+
+-- whether the group has a member
+abbrev pub has_member : {M : Type 0} → (ℕ → Option (Living M)) → ℕ → Bool
+has_member {M} living g = list_any (λ i. option_eq nat_eq (option_map (λ (x : Living M). x.group) (living i)) (Some g)) (range_with_len 0 INSTANCES)
+
+-- ---- what laws of channels say
 
 abbrev pub is_of_group : {M : Type 0} → ℕ → Option (Living M) → Bool
 is_of_group g None = false
 is_of_group g (Some x) = nat_eq x.group g
-
--- whether the group has a member
-abbrev pub has_member : {M : Type 0} → (ℕ → Option (Living M)) → ℕ → Bool
-has_member living g = list_any (λ i. is_of_group g (living i)) (numbers_below INSTANCES)

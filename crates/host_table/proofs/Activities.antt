@@ -3,7 +3,9 @@ use Rattle.std.proofs.Common.{◌≡◌, ◌<◌, ℕ, ℤ, List, length, set, g
 use Rattle.std.proofs.lemmas.Bool.Decides.{eqb_tells}
 use Rattle.std.proofs.lemmas.Option.{none-some}
 use Rattle.scratch_group.specs.declared.group.Group.{Group}
-use Rattle.host_map.specs.Activity.{count_after, Activity, deactivated, is_active, activated, with_activity}
+use Rattle.std.specs.Prelude.{nat_eq}
+use Rattle.std.specs.Option.{option_eq}
+use Rattle.host_map.specs.Activity.{count_after, Activity, deactivated, activated, with_at}
 use Rattle.scratch_group.specs.Blocks.{BlocksArePoison}
 use Rattle.host_table.specs.declared.member.Member.{Member}
 use Rattle.host_table.specs.Table.{no_group, group_at, group_of, activity_at, ArePoisoned}
@@ -14,7 +16,7 @@ same_group_of None b e = ap group_of e
 same_group_of (Some m) None e = absurd e
 same_group_of (Some m) (Some n) e = e.0
 
-pub not_active : (a : Option ℕ) (i : ℕ) → (a ≡ Some i → ⊥) → is_active a i ≡ false
+pub not_active : (a : Option ℕ) (i : ℕ) → (a ≡ Some i → ⊥) → option_eq nat_eq a (Some i) ≡ false
 not_active None i never = refl
 not_active (Some j) i never =
     elim (eqb_tells j i) [
@@ -23,20 +25,20 @@ not_active (Some j) i never =
     ]
 
 -- at the group itself
-pub at_group : (old : ℕ → Activity) (g : ℕ) (a : Activity) → with_activity old g a g ≡ a
+pub at_group : (old : ℕ → Activity) (g : ℕ) (a : Activity) → with_at old g a g ≡ a
 at_group old g a =
     elim (eqb_tells g g) [
       | inl e ↦ rw e.0 refl
       | inr e ↦ absurd (e.1 refl)
     ]
 
-pub none_active_after : (old mid : ℕ → Activity) (g : ℕ) → ((k : ℕ) → mid k ≡ with_activity old g (deactivated (old g)) k) → (mid g).active ≡ None
+pub none_active_after : (old mid : ℕ → Activity) (g : ℕ) → ((k : ℕ) → mid k ≡ with_at old g (deactivated (old g)) k) → (mid g).active ≡ None
 none_active_after old mid g rest = ap (λ (a : Activity). a.active) (rest g ∙ at_group old g (deactivated (old g)))
 
 -- a deactivation and an activation
-pub activity_after_activation : (old mid : ℕ → Activity) (g i : ℕ) (new : Activity) → ((k : ℕ) → mid k ≡ with_activity old g (deactivated (old g)) k)
-    → is_active (old g).active i ≡ false → new.active ≡ Some i → new.count ≡ count_after (mid g).count (Some i)
-    → (k : ℕ) → with_activity mid g new k ≡ with_activity old g (activated i (old g)) k
+pub activity_after_activation : (old mid : ℕ → Activity) (g i : ℕ) (new : Activity) → ((k : ℕ) → mid k ≡ with_at old g (deactivated (old g)) k)
+    → option_eq nat_eq (old g).active (Some i) ≡ false → new.active ≡ Some i → new.count ≡ count_after (mid g).count (Some i)
+    → (k : ℕ) → with_at mid g new k ≡ with_at old g (activated i (old g)) k
 activity_after_activation old mid g i new rest idle active count k =
     let counted : (mid g).count ≡ (old g).count = ap (λ (a : Activity). a.count) (rest g ∙ at_group old g (deactivated (old g))) in
     elim (eqb_tells k g) [
@@ -49,14 +51,14 @@ activity_after_activation old mid g i new rest idle active count k =
     ]
 
 -- an activity told by its parts
-pub same_activity : (all : ℕ → Activity) (g : ℕ) (a b : Activity) → a.active ≡ b.active → a.count ≡ b.count → (k : ℕ) → with_activity all g a k ≡ with_activity all g b k
+pub same_activity : (all : ℕ → Activity) (g : ℕ) (a b : Activity) → a.active ≡ b.active → a.count ≡ b.count → (k : ℕ) → with_at all g a k ≡ with_at all g b k
 same_activity all g a b active count k =
-    ap (λ (x : Activity). with_activity all g x k)
+    ap (λ (x : Activity). with_at all g x k)
     (ap (λ (x : Option ℕ). let r : Activity = record { active = x; count = a.count } in r) active
     ∙ ap (λ (n : ℕ). let r : Activity = record { active = b.active; count = n } in r) count)
 
 -- a group that stays as it is
-pub activity_stays : (all : ℕ → Activity) (g : ℕ) (a : Activity) → a.active ≡ (all g).active → a.count ≡ (all g).count → (k : ℕ) → with_activity all g a k ≡ all k
+pub activity_stays : (all : ℕ → Activity) (g : ℕ) (a : Activity) → a.active ≡ (all g).active → a.count ≡ (all g).count → (k : ℕ) → with_at all g a k ≡ all k
 activity_stays all g a active count k =
     let is : a ≡ all g =
     ap (λ (x : Option ℕ). let r : Activity = record { active = x; count = a.count } in r) active
@@ -67,7 +69,7 @@ activity_stays all g a active count k =
     ]
 
 pub group_change : (groups : List Group) (g : ℕ) (y : Group) → g < length groups → (k : ℕ)
-    → activity_at (set groups g y) k ≡ with_activity (activity_at groups) g (record { active = y.active; count = y.activations }) k
+    → activity_at (set groups g y) k ≡ with_at (activity_at groups) g (record { active = y.active; count = y.activations }) k
 group_change groups g y inside k =
     elim (eqb_tells k g) [
       | inl e ↦

@@ -28,7 +28,7 @@ use Rattle.host_shared.specs.declared.locations.Location.TheVariants.{Here, At}
 use Rattle.host_shared.specs.Locations.{location_at, locations_at, shared_at}
 use Rattle.host_shared.specs.Owners.{with_pieces_of, HasOwners, AllHaveOwners, IsSameLocation, SameLocations}
 use Rattle.host_table.specs.Table.{slot_at, group_at, AreHeld, AreBare, no_group, instance_of, own_of, group_of, active_in, slot_active_in, IsHoused, EachIsHoused, Tables, TablesOk, ArePoisoned, activity_at}
-use Rattle.host_map.specs.Activity.{with_activity}
+use Rattle.host_map.specs.Activity.{with_at}
 use Rattle.host_table.specs.Keeps.{InstKeeps, SlotKeeps, Keeps, with_history}
 use Rattle.host_table.specs.Frames.{SameSlot, SameTables, SameMember}
 use Rattle.host_table.proofs.Housing.{same_blocks, housed_stays}
@@ -204,7 +204,7 @@ module _ {M : Type 0} (H : ℕ → Member M → Pieces → Group → Type 0) (in
         | inr e ↦ rw (group_other k e.1) (before k below (ap (λ (q : Group). q.active) (sym (group_other k e.1)) ∙ none))
       ]
 
-  pub activity_after_change : (k : ℕ) → activity_at (set groups g y) k ≡ with_activity (activity_at groups) g (record { active = y.active; count = y.activations }) k
+  pub activity_after_change : (k : ℕ) → activity_at (set groups g y) k ≡ with_at (activity_at groups) g (record { active = y.active; count = y.activations }) k
   activity_after_change k =
       elim (eqb_tells k g) [
         | inl e ↦

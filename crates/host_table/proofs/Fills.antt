@@ -5,7 +5,6 @@ use Rattle.mem_rec.specs.declared.Attr.{Attr}
 use Rattle.mem_rec.specs.declared.Attr.TheVariants.{WriteOnce}
 use Rattle.ialg.specs.History.{History}
 use Rattle.ialg.specs.Records.{record_at, words_of, HoldFill}
-use Rattle.ialg.specs.Meaning.{Meaning}
 use Rattle.ialg.specs.Laws.{Laws, Relation}
 use Rattle.record_loans.specs.declared.pieces.Pieces.{Pieces}
 use Rattle.record_loans.specs.Pieces.{piece_at, piece_words}
@@ -43,13 +42,13 @@ active_once rs own shared g k below attr =
     ∙ words_once (record_at rs k).attr (record_at rs k).size (piece_words (piece_at own k)) (piece_words (piece_at shared k)) (drop (scratch_offset rs k) (block_words (block_in g (record_at rs k).space))) attr
 
 -- what each instance that keeps a history has in its write-once records
-abbrev pub Fills : {M : Type 0} → Meaning M → Relation M → Type 0
-Fills {M = M} meaning keeps = (kind : M) (p : List ℤ) (rs : List MemRec) (wss : List (List ℤ)) (h : History) → keeps kind p rs wss h → HoldFill (meaning.fill kind p) rs wss
+abbrev pub Fills : {M : Type 0} → (M → List ℤ → ℕ → List ℤ) → Relation M → Type 0
+Fills {M = M} fill keeps = (kind : M) (p : List ℤ) (rs : List MemRec) (wss : List (List ℤ)) (h : History) → keeps kind p rs wss h → HoldFill (fill kind p) rs wss
 
-module _ {M : Type 0} (laws : Laws M) (idle_fill : Fills laws.meaning laws.idle_keeps) (active_fill : Fills laws.meaning laws.active_keeps) (w : Option ℤ) where
+module _ {M : Type 0} (laws : Laws M) (idle_fill : Fills laws.fill laws.idle_keeps) (active_fill : Fills laws.fill laws.active_keeps) (w : Option ℤ) where
   pub fill_seen : (inst : Inst M) (shared : Pieces) (g : Group) (h : History) → InstKeeps laws w inst shared g h → IsLawful laws.meaning (instance_of inst) w
       → (k : ℕ) → k < 4 → (record_at (instance_of inst).table k).attr ≡ WriteOnce
-      → take (record_at (instance_of inst).table k).size (piece_words (piece_at shared k)) ≡ laws.meaning.fill (instance_of inst).kind (instance_of inst).params.items k
+      → take (record_at (instance_of inst).table k).size (piece_words (piece_at shared k)) ≡ laws.fill (instance_of inst).kind (instance_of inst).params.items k
   fill_seen (Idling s) shared g h keeps lawful k below attr =
       let i = s.instance in
       sym (idle_once i.table i.own shared k below attr) ∙ idle_fill i.kind i.params.items i.table (idle_words i.table i.own shared) h (keeps lawful) k attr

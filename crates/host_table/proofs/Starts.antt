@@ -141,7 +141,7 @@ module _ {M : Type 0} {instances : List (Option (Member M))} {sharing : List Loc
     }
 
     -- where the new instance is lawful, those that share a record with it have the same words in it as before
-    module _ (laws : Laws M) (idle_fill : Fills laws.meaning laws.idle_keeps) (active_fill : Fills laws.meaning laws.active_keeps) (w : Option ℤ)
+    module _ (laws : Laws M) (idle_fill : Fills laws.fill laws.idle_keeps) (active_fill : Fills laws.fill laws.active_keeps) (w : Option ℤ)
         (g : Group) (h : History) (new : InstKeeps laws w n.inst o g h) where
       lawful_too : (k : ℕ) (m : Member M) → AreAlike k (instance_of n.inst) (instance_of m.inst) → IsLawful laws.meaning (instance_of m.inst) w → IsLawful laws.meaning (instance_of n.inst) w
       lawful_too k m alike lawful = rw (alike.kind, alike.params) at lawful
@@ -157,8 +157,8 @@ module _ {M : Type 0} {instances : List (Option (Member M))} {sharing : List Loc
           ap (λ (x : Option Span). take (record_at (instance_of m.inst).table k).size (piece_words x)) now
           ∙ ap (λ (x : ℕ). take x (piece_words (piece_at o k))) size
           ∙ fill_seen laws idle_fill active_fill w n.inst o g h new (lawful_too k m alike lawful) k below alike.once
-          ∙ sym (ap (λ (x : M). laws.meaning.fill x (instance_of n.inst).params.items k) alike.kind)
-          ∙ sym (ap (λ (x : ArrayVec ℤ). laws.meaning.fill (instance_of m.inst).kind x.items k) alike.params)
+          ∙ sym (ap (λ (x : M). laws.fill x (instance_of n.inst).params.items k) alike.kind)
+          ∙ sym (ap (λ (x : ArrayVec ℤ). laws.fill (instance_of m.inst).kind x.items k) alike.params)
           ∙ sym (fill_seen laws idle_fill active_fill w m.inst (shared_at sharing j) g' h' keeps lawful k below attr)
 
       words_by_owner : (j k : ℕ) (m : Member M) (g' : Group) (h' : History) → k < 4 → j ≢ i → slot_at instances j ≡ Some m → IsLawful laws.meaning (instance_of m.inst) w
@@ -182,7 +182,7 @@ module _ {M : Type 0} {instances : List (Option (Member M))} {sharing : List Loc
       written_start j m g' h' apart at lawful keeps (suc (suc (suc (suc k)))) attr = refl
 
   -- the words that the new instance finds: those of what was placed, and those that its sharers keep
-  module _ (laws : Laws M) (idle_fill : Fills laws.meaning laws.idle_keeps) (active_fill : Fills laws.meaning laws.active_keeps) (w : Option ℤ)
+  module _ (laws : Laws M) (idle_fill : Fills laws.fill laws.idle_keeps) (active_fill : Fills laws.fill laws.active_keeps) (w : Option ℤ)
       (histories : ℕ → History) (keeps : Keeps laws w instances sharing groups histories) (a : Instance M)
       (kind : (instance_of n.inst).kind ≡ a.kind) (params : (instance_of n.inst).params ≡ a.params) (table : unplaced (instance_of n.inst).table ≡ unplaced a.table)
       (lawful : IsLawful laws.meaning a w) where
@@ -196,7 +196,7 @@ module _ {M : Type 0} {instances : List (Option (Member M))} {sharing : List Loc
     abbrev IsNewAt : Pieces → ℕ → Type 0
     IsNewAt shared k =
         ArePoison w (words_of (idle_words a.table a.own shared) k)
-        ⊎ (((record_at a.table k).attr ≡ WriteOnce) × (words_of (idle_words a.table a.own shared) k ≡ laws.meaning.fill a.kind a.params.items k))
+        ⊎ (((record_at a.table k).attr ≡ WriteOnce) × (words_of (idle_words a.table a.own shared) k ≡ laws.fill a.kind a.params.items k))
 
     -- a record that is shared has the words that its sharer keeps
     sharer_words : (k t : ℕ) → k < 4 → sharer_at sharers k ≡ Some t → IsLeastSharer instances k (instance_of n.inst) t → IsNewAt (pieces_joined sharing sharers placed) k
@@ -218,8 +218,8 @@ module _ {M : Type 0} {instances : List (Option (Member M))} {sharing : List Loc
               ∙ ap (λ (x : Option Span). take (record_at a.table k).size (piece_words x)) seen
               ∙ ap (λ (x : ℕ). take x (piece_words (piece_at (shared_at sharing t) k))) size
               ∙ fill_seen laws idle_fill active_fill w m.inst (shared_at sharing t) (group_at groups m.group) (histories t) kept lawful_m k below attr_m
-              ∙ ap (λ (x : M). laws.meaning.fill x (instance_of m.inst).params.items k) kinds
-              ∙ ap (λ (x : ArrayVec ℤ). laws.meaning.fill a.kind x.items k) all_params,
+              ∙ ap (λ (x : M). laws.fill x (instance_of m.inst).params.items k) kinds
+              ∙ ap (λ (x : ArrayVec ℤ). laws.fill a.kind x.items k) all_params,
         )
 
     placed_words : (k : ℕ) → k < 4 → sharer_at sharers k ≡ None → IsNewAt placed k → IsNewAt (pieces_joined sharing sharers placed) k
@@ -229,13 +229,13 @@ module _ {M : Type 0} {instances : List (Option (Member M))} {sharing : List Loc
         idle_words_at a.table a.own (pieces_joined sharing sharers placed) k below
         ∙ ap (λ (x : Option Span). lasting_words_by (record_at a.table k).attr (record_at a.table k).size (piece_words (piece_at a.own k)) (piece_words x)) seen
         ∙ sym (idle_words_at a.table a.own placed k below) in
-        subst (λ (ws : List ℤ). ArePoison w ws ⊎ (((record_at a.table k).attr ≡ WriteOnce) × (ws ≡ laws.meaning.fill a.kind a.params.items k))) (sym words) new
+        subst (λ (ws : List ℤ). ArePoison w ws ⊎ (((record_at a.table k).attr ≡ WriteOnce) × (ws ≡ laws.fill a.kind a.params.items k))) (sym words) new
 
     new_by : (k : ℕ) (t : Option ℕ) → k < 4 → sharer_at sharers k ≡ t → TellsSharer instances k (instance_of n.inst) t → IsNewAt placed k → IsNewAt (pieces_joined sharing sharers placed) k
     new_by k None below sharer_is sharer new = placed_words k below sharer_is new
     new_by k (Some t) below sharer_is sharer new = sharer_words k t below sharer_is sharer
 
-    pub new_start : AreNew w (laws.meaning.fill a.kind a.params.items) a.table (idle_words a.table a.own placed) → AreNew w (laws.meaning.fill a.kind a.params.items) a.table (idle_words a.table a.own (pieces_joined sharing sharers placed))
+    pub new_start : AreNew w (laws.fill a.kind a.params.items) a.table (idle_words a.table a.own placed) → AreNew w (laws.fill a.kind a.params.items) a.table (idle_words a.table a.own (pieces_joined sharing sharers placed))
     new_start new zero = new_by 0 (sharer_at sharers 0) (omega arith) refl (b.tells 0) (new 0)
     new_start new (suc zero) = new_by 1 (sharer_at sharers 1) (omega arith) refl (b.tells 1) (new 1)
     new_start new (suc (suc zero)) = new_by 2 (sharer_at sharers 2) (omega arith) refl (b.tells 2) (new 2)

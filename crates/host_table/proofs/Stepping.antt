@@ -19,7 +19,9 @@ use Rattle.host_shared.specs.Locations.{shared_at}
 use Rattle.host_shared.specs.Owners.{with_pieces_of}
 use Rattle.host_table.specs.declared.member.Member.{Member}
 use Rattle.host_table.specs.Table.{slot_at, group_at, instance_of, group_of, active_in, slot_active_in, EachIsHoused, TablesOk, ArePoisoned, activity_at}
-use Rattle.host_map.specs.Activity.{Activity, is_active, activated, with_activity}
+use Rattle.std.specs.Prelude.{nat_eq}
+use Rattle.std.specs.Option.{option_eq}
+use Rattle.host_map.specs.Activity.{Activity, activated, with_at}
 use Rattle.host_table.specs.Frames.{SameSlot}
 use Rattle.host_table.specs.Keeps.{InstKeeps, with_history}
 use Rattle.host_table.specs.View.{View}
@@ -81,7 +83,7 @@ pub record Change {M : Type 0} (instances : List (Option (Member M))) (sharing :
 module _ {M : Type 0} {instances : List (Option (Member M))} {sharing : List Locations} {groups : List Group} {i g : ℕ} {m : Member M} {inst : Inst M} {o : Pieces} {y : Group}
     (c : Change instances sharing groups i g m inst o y)
     {laws : Laws M} {w : Option ℤ} (poisoned : ArePoisoned w groups) (resting : y.active ≡ None → BlocksArePoison w y) {activities : ℕ → Activity}
-    (told : (k : ℕ) → with_activity (activity_at groups) g (record { active = y.active; count = y.activations }) k ≡ activities k) where
+    (told : (k : ℕ) → with_at (activity_at groups) g (record { active = y.active; count = y.activations }) k ≡ activities k) where
   -- whatever becomes of the histories
   stepped : (goes : (ℕ → History) → ℕ → History)
       → ((histories : ℕ → History) → AreKept laws w (tables instances sharing groups) histories → AreKept laws w (tables (set instances i (Some (record { group = g; inst = inst }))) (with_pieces_of sharing i o) (set groups g y)) (goes histories))
@@ -113,7 +115,7 @@ module _ {M : Type 0} {instances : List (Option (Member M))} {sharing : List Loc
 pub running_there : {M : Type 0} (x : Option (Member M)) (g : ℕ) (s : Active M) → x ≡ Some (record { group = g; inst = Running s }) → slot_active_in x ≡ Some (group_of x)
 running_there x g s is = rw is refl
 
-is_active_there : (a : Option ℕ) (i : ℕ) → a ≡ Some i → is_active a i ≡ true
+is_active_there : (a : Option ℕ) (i : ℕ) → a ≡ Some i → option_eq nat_eq a (Some i) ≡ true
 is_active_there a i is =
     elim (eqb_tells i i) [
       | inl e ↦ rw (is, e.0) refl
@@ -121,7 +123,7 @@ is_active_there a i is =
     ]
 
 -- an active instance that is activated
-pub touched_stays : (all : ℕ → Activity) (g i : ℕ) → (all g).active ≡ Some i → (k : ℕ) → all k ≡ with_activity all g (activated i (all g)) k
+pub touched_stays : (all : ℕ → Activity) (g i : ℕ) → (all g).active ≡ Some i → (k : ℕ) → all k ≡ with_at all g (activated i (all g)) k
 touched_stays all g i active k = rw (is_active_there (all g).active i active) (sym (activity_stays all g (all g) refl refl k))
 
 pub stays_of : {M : Type 0} {laws : Laws M} {w : Option ℤ} {a b : View M} {activities : ℕ → Activity} {goes : (ℕ → History) → ℕ → History} → Steps laws w a b activities goes → Stays w a b

@@ -59,5 +59,5 @@ begun_any laws s s' g none a a' b room did =
       };
       keeps = λ w is new.
           idle_any s'.table none' laws s' w a' b [] refl
-          (did.keeps w is (subst (AreNew w (laws.meaning.fill s.kind s.params.items) s.table) (sym (idle_written s.table s.own b a (any_pieces s.table none b a))) new));
+          (did.keeps w is (subst (AreNew w (laws.fill s.kind s.params.items) s.table) (sym (idle_written s.table s.own b a (any_pieces s.table none b a))) new));
     }

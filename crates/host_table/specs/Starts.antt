@@ -29,7 +29,7 @@ asked_for n = asked n.kind n.params.now.items n.table
 abbrev pub BeginsHistory : {M : Type 0} → Laws M → NewInstance M → Pieces → Pieces → View M → View M → Type 0
 BeginsHistory laws n own shared old new = (w : Option ℤ) (histories : ℕ → History)
     → (IsTrue (laws.meaning.lawful n.kind n.params.now.items w) → laws.meaning.table n.kind n.params.now.items ≡ Some (unplaced n.table))
-    → AreNew w (laws.meaning.fill n.kind n.params.now.items) n.table (idle_words n.table own shared)
+    → AreNew w (laws.fill n.kind n.params.now.items) n.table (idle_words n.table own shared)
     → AreKept laws w old histories
     → AreKept laws w new (with_history histories n.number [])
 

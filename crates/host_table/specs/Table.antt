@@ -6,7 +6,7 @@ use Rattle.mem_rec.specs.declared.Attr.TheVariants.{WriteOnce}
 use Rattle.ialg.specs.Records.{record_at}
 use Rattle.record_loans.specs.declared.pieces.Pieces.{Pieces}
 use Rattle.scratch_group.specs.declared.group.Group.{Group}
-use Rattle.host_map.specs.Activity.{Activity, never_activated, newly_active, without_active, activated, deactivated, with_activity}
+use Rattle.host_map.specs.Activity.{Activity, never_activated, newly_active, without_active, activated, deactivated, with_at}
 use Rattle.scratch_group.specs.Blocks.{BlocksArePoison, block_in}
 use Rattle.scratch_group.specs.Words.{placed}
 use Rattle.lifecycle.specs.declared.instance.Instance.{Instance}
@@ -142,17 +142,17 @@ SameActivities old new = (k : ℕ) → activity_at new k ≡ activity_at old k
 abbrev pub activated_by : {M : Type 0} → List (Option (Member M)) → List Group → ℕ → ℕ → Activity
 activated_by instances groups i =
     let g = group_of (slot_at instances i) in
-    with_activity (activity_at groups) g (activated i (activity_at groups g))
+    with_at (activity_at groups) g (activated i (activity_at groups g))
 
 -- the activities after instance i was deactivated, where it was active
 abbrev pub deactivated_by : {M : Type 0} → List (Option (Member M)) → List Group → ℕ → ℕ → Activity
 deactivated_by instances groups i =
     let g = group_of (slot_at instances i) in
-    with_activity (activity_at groups) g (without_active i (activity_at groups g))
+    with_at (activity_at groups) g (without_active i (activity_at groups g))
 
 -- the activities after the active member of group g was deactivated, where it has one
 abbrev pub deactivated_in : List Group → ℕ → ℕ → Activity
-deactivated_in groups g = with_activity (activity_at groups) g (deactivated (activity_at groups g))
+deactivated_in groups g = with_at (activity_at groups) g (deactivated (activity_at groups g))
 
 -- no instance lives
 abbrev pub NoneLives : {M : Type 0} → List (Option (Member M)) → Type 0
@@ -180,4 +180,4 @@ PoisonStays old new = (w : Option ℤ) → ArePoisoned w old → ArePoisoned w n
 
 -- the activities after instance i of group g was activated, where the group has no active member
 abbrev pub newly_active_in : List Group → ℕ → ℕ → ℕ → Activity
-newly_active_in groups g i = with_activity (activity_at groups) g (newly_active i (activity_at groups g))
+newly_active_in groups g i = with_at (activity_at groups) g (newly_active i (activity_at groups g))

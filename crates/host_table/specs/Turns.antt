@@ -50,7 +50,7 @@ pub record HasBegun {M : Type 0} (laws : Laws M) (old new : Instance M) (shared 
   pub pieces : SamePieces shared shared'
   pub fits : Fits new.table new.own shared' g
   pub keeps : (w : Option ℤ) → laws.meaning.table old.kind old.params.items ≡ Some (unplaced old.table)
-      → AreNew w (laws.meaning.fill old.kind old.params.items) old.table (idle_words old.table old.own shared)
+      → AreNew w (laws.fill old.kind old.params.items) old.table (idle_words old.table old.own shared)
       → IdleKeeps laws new w shared' []
 
 -- the idle instance of this number was started, and its pieces are back at their owners

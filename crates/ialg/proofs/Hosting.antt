@@ -1,5 +1,5 @@
 -- A filter's instance in its records: finding them, and what is kept where one of them was written.
-use Rattle.std.proofs.Common.{◌≡◌, ℕ, zero, suc, ◌∙◌, ℤ, ◌≤◌, lit<, lit≤, IsTrue, ◌&&◌, List, [], ◌∷◌, length, Option, None, Some, refl, sym, ap, subst, arith}
+use Rattle.std.proofs.Common.{◌≡◌, ℕ, zero, suc, ◌∙◌, ℤ, ◌≤◌, lit<, lit≤, IsTrue, ◌&&◌, List, [], ◌∷◌, length, Option, None, Some, option_map, refl, sym, ap, subst, arith}
 use Rattle.std.specs.List.{list_all}
 use Rattle.std.proofs.lemmas.Bool.Decides.{nat_tests}
 use Rattle.mem_rec.specs.declared.MemRec.{MemRec}
@@ -11,7 +11,7 @@ use Rattle.ialg.specs.declared.filter.FilterMemory.{FilterMemory}
 use Rattle.ialg.specs.Records.{record_at, words_of, unplaced, lasting, AreApart, AllLent}
 use Rattle.ialg.specs.Loans.{lent_words}
 use Rattle.ialg.specs.Objects.{Names, NamedAt}
-use Rattle.ialg.specs.Filters.{filter_records, filter_table, IsPlaced, IsIdle, IsActive}
+use Rattle.ialg.specs.Filters.{filter_records, IsPlaced, IsIdle, IsActive}
 use Rattle.ialg.proofs.Tables.{attr_of, length-unplaced, lasting_at, lent_size}
 use Rattle.ialg.proofs.Taking.{Rewritten}
 
@@ -21,7 +21,7 @@ pub record IsGranted (asked : Option FilterMemory) (t : List MemRec) : Type 0 wh
   pub granted : asked ≡ Some memory
   pub records : t ≡ filter_records memory
 
-pub table_some : (asked : Option FilterMemory) (t : List MemRec) → filter_table asked ≡ Some t → IsGranted asked t
+pub table_some : (asked : Option FilterMemory) (t : List MemRec) → option_map filter_records asked ≡ Some t → IsGranted asked t
 table_some None t e = cc
 table_some (Some m) t e = record { memory = m; granted = refl; records = cc }
 

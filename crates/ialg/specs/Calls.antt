@@ -14,18 +14,19 @@ use Rattle.ialg.specs.Loans.{lent_words}
 
 -- ---- what a kind says of an instance with the parameters p, before there is one
 
-module _ {M : Type 0} (kinds : Meaning M) (kind : M) where
+module _ {M : Type 0} (laws : Laws M) (kind : M) where
   -- algNumAlloc: it tells the most records that a table of the kind has
   abbrev pub TellsItsBound : ℕ → Type 0
-  TellsItsBound told = (p : List ℤ) (w : Option ℤ) → IsTrue (kinds.lawful kind p w) → told ≡ kinds.bound kind
+  TellsItsBound told = (p : List ℤ) (w : Option ℤ) → IsTrue (laws.meaning.lawful kind p w) → told ≡ laws.bound kind
 
+  -- algAlloc: it asks for no more records than algNumAlloc tells
+  abbrev pub AsksWithinItsBound : List ℤ → Option (List MemRec) → Type 0
+  AsksWithinItsBound p asked = (w : Option ℤ) → IsTrue (laws.meaning.lawful kind p w) → IfSome asked (λ t. length t ≤ laws.bound kind)
+
+module _ {M : Type 0} (kinds : Meaning M) (kind : M) where
   -- algAlloc: it asks for the table of its meaning, or refuses the parameters as its meaning says
   abbrev pub AsksForItsTable : List ℤ → Option (List MemRec) → Type 0
   AsksForItsTable p asked = (w : Option ℤ) → IsTrue (kinds.lawful kind p w) → asked ≡ kinds.table kind p
-
-  -- algAlloc: for no more records than algNumAlloc tells
-  abbrev pub AsksWithinItsBound : List ℤ → Option (List MemRec) → Type 0
-  AsksWithinItsBound p asked = (w : Option ℤ) → IsTrue (kinds.lawful kind p w) → IfSome asked (λ t. length t ≤ kinds.bound kind)
 
   -- algAlloc: for a table without bases
   abbrev pub AsksWithoutBases : List ℤ → Option (List MemRec) → Type 0
@@ -50,7 +51,7 @@ module _ {M : Type 0} (laws : Laws M) (kind : M) where
       → old.table.now ≡ tab
       → LastingLent tab (lent_words old)
       → old.writable ≡ true
-      → AreNew w (laws.meaning.fill kind p) tab (lent_words old)
+      → AreNew w (laws.fill kind p) tab (lent_words old)
       → laws.idle_keeps kind p tab (lasting tab (lent_words new)) []
 
   -- algActivate: what an idle instance keeps in the records that last, an active one keeps in all of them afterwards. The scratch words that it

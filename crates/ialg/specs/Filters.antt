@@ -1,5 +1,5 @@
 -- Filters: kinds whose instances have one persistent record and one scratch record beside the object.
-use Rattle.std.specs.Prelude.{◌≡◌, ℕ, ℤ, Bool, true, List, [], ◌∷◌, Option, Some, None, IsTrue}
+use Rattle.std.specs.Prelude.{◌≡◌, ℕ, ℤ, Bool, true, List, [], ◌∷◌, Option, Some, option_map, IsTrue}
 use Rattle.mem_rec.specs.declared.TheConstants.{LEAST_ALIGNMENT}
 use Rattle.mem_rec.specs.declared.MemRec.{MemRec}
 use Rattle.mem_rec.specs.declared.Space.TheVariants.{Daram, Saram}
@@ -28,23 +28,16 @@ abbrev pub filter_records : FilterMemory → List MemRec
 filter_records m =
     object_memory
     ∷ record { size = m.kept; align = LEAST_ALIGNMENT; space = Saram; attr = Persist; base = 0 }
-    ∷ record { size = m.running; align = m.align; space = Daram; attr = Scratch; base = 0 }
-    ∷ []
-
-abbrev pub filter_table : Option FilterMemory → Option (List MemRec)
-filter_table None = None
-filter_table (Some m) = Some (filter_records m)
+    ∷ record { size = m.running; align = m.align; space = Daram; attr = Scratch; base = 0 } ∷ []
 
 -- a filter is lawful for all parameters
 abbrev pub meaning_of : {M : Type 0} → FilterMeaning → Meaning M
 meaning_of filter = record {
   same = λ a b. true;
-  bound = λ _. FILTER_RECORDS;
-  table = λ _ p. filter_table (filter.memory p);
-  fill = λ _ p k. [];
-  gives = λ _ p h. filter.gives p h;
-  accepts = λ _ p c. filter.accepts p c;
-  got = λ _ p h. filter.got p h;
+  table = λ _ p. option_map filter_records (filter.memory p);
+  gives = λ _. filter.gives;
+  accepts = λ _. filter.accepts;
+  got = λ _. filter.got;
   declares = λ _ p. true;
   lawful = λ _ p w. true;
 }
@@ -80,6 +73,8 @@ RunningRelation = List ℤ → History → List ℤ → List ℤ → Type 0
 abbrev pub filter_laws : {M : Type 0} → ℤ → FilterMeaning → KeptRelation → RunningRelation → Laws M
 filter_laws kind filter rests runs = record {
   meaning = meaning_of filter;
+  bound = λ _. FILTER_RECORDS;
+  fill = λ _ p k. [];
   idle_keeps = λ _ p rs wss h. IsIdle kind (filter.memory p) (rests p h) rs wss;
   active_keeps = λ _ p rs wss h. IsActive kind (filter.memory p) (runs p h) rs wss;
 }

@@ -1,5 +1,5 @@
 -- What an algorithm type means, and which words keep a history of an instance.
-use Rattle.std.specs.Prelude.{ℤ, List}
+use Rattle.std.specs.Prelude.{ℕ, ℤ, List}
 use Rattle.mem_rec.specs.declared.MemRec.{MemRec}
 use Rattle.ialg.specs.History.{History}
 use Rattle.ialg.specs.Meaning.{Meaning}
@@ -8,9 +8,13 @@ use Rattle.ialg.specs.Meaning.{Meaning}
 abbrev pub Relation : Type 0 → Type 1
 Relation M = M → List ℤ → List MemRec → List (List ℤ) → History → Type 0
 
--- what the kinds mean without code and memory; and what keeps a history: of an idle instance the words of the records that last, of an
--- active one the words of all its records
+-- what the kinds mean without code and memory; what is told of their records; and what keeps a history: of an idle instance the words of the
+-- records that last, of an active one the words of all its records
 pub record Laws (M : Type 0) : Type 1 where
   pub meaning : Meaning M
+  -- the most records that a table has
+  pub bound : M → ℕ
+  -- the words of write-once record k
+  pub fill : M → List ℤ → ℕ → List ℤ
   pub idle_keeps : Relation M
   pub active_keeps : Relation M

@@ -4,8 +4,8 @@ use Rattle.std.proofs.Math.Nat.{suc-mod, mod_self, mod-eq_of_lt, zero-mod}
 use Rattle.std.proofs.lemmas.Nat.{mod_below}
 use Rattle.std.proofs.lemmas.Bool.{cases_eq}
 use Rattle.std.proofs.lemmas.Bool.Decides.{nat_tests}
-use Rattle.ialg.specs.History.{History, Sample, samples_since_reset}
-use Rattle.kind_parts.specs.Frames.{samples_in_frame, frame_so_far, gives_by_frame}
+use Rattle.ialg.specs.History.{History, Sample, samples_since_reset, samples_in_frame}
+use Rattle.kind_parts.specs.Frames.{frame_so_far, gives_by_frame}
 
 same_test : (a b : ℕ) → a ≡ b → (a == b) ≡ true
 same_test a b e = grind (arith, nat_tests)

@@ -4,12 +4,12 @@ use Rattle.std.specs.Int.{w16}
 use Rattle.mem_rec.specs.declared.TheConstants.{LEAST_ALIGNMENT}
 use Rattle.ialg.specs.declared.TheConstants.{PARAMETER_WORDS}
 use Rattle.ialg.specs.declared.filter.FilterMemory.{FilterMemory}
-use Rattle.ialg.specs.History.{History, Sample, samples_since_reset, with_samples, word_at}
+use Rattle.ialg.specs.History.{History, Sample, samples_since_reset, samples_in_frame, with_samples, word_at}
 use Rattle.ialg.proofs.Tables.{chosen}
 use Rattle.ialg.proofs.Histories.{all_zero, words_fit}
 use Rattle.kind_parts.specs.declared.framing.TheConstants.{COUNT, MOST_FRAME}
-use Rattle.kind_parts.specs.Words.{within}
-use Rattle.kind_parts.specs.Frames.{samples_in_frame, frame_so_far}
+use Rattle.ialg.specs.Meaning.{is_between}
+use Rattle.kind_parts.specs.Frames.{frame_so_far}
 use Rattle.kind_parts.specs.Framings.{frame_length, gives_in_frames, are_parameters, framing_memory, counted, state_after, KeepsParameters, FramesOn}
 use Rattle.kind_parts.proofs.Blocks.{GoesOn, one_goes_on, all_goes_on}
 use Rattle.kind_parts.proofs.Frames.{IsFinished, unfinished_frame, no_samples, frame_goes_on}
@@ -29,7 +29,7 @@ memory_some words taken p m e =
 pub length_is : (taken : List ℤ → Bool) (p : List ℤ) → IsTrue (are_parameters taken p) → IsCount 32767 (word_at p 0)
 length_is taken p e =
     let few = nat_le 1 (length p) && nat_le (length p) PARAMETER_WORDS in
-    let b = within (word_at p 0) (pos 1) MOST_FRAME in
+    let b = is_between (pos 1) MOST_FRAME (word_at p 0) in
     count_is 32767 (word_at p 0) (both_hold few b (both_hold (few && b) (taken p) e).0).1
 
 module _ (state_of : List ℤ → List ℤ → List ℤ) (words : ℕ) (begins : (p : List ℤ) → state_of p [] ≡ replicate words (pos 0)) where

@@ -22,9 +22,7 @@ same_kind f g (Second a) (Second b) = g a b
 abbrev pub either_means : {A B : Type 0} → Meaning A → Meaning B → Meaning (Or A B)
 either_means a b = record {
   same = same_kind a.same b.same;
-  bound = told a.bound b.bound;
   table = told a.table b.table;
-  fill = told a.fill b.fill;
   gives = told a.gives b.gives;
   accepts = told a.accepts b.accepts;
   got = told a.got b.got;

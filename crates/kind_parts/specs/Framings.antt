@@ -1,15 +1,15 @@
 -- Kinds that tell one word of each frame of samples. The first parameter is the length of a frame.
-use Rattle.std.specs.Prelude.{ℕ, ℤ, pos, Bool, true, false, ◌≡◌, ◌+◌, ◌&&◌, nat_le, List, [], ◌∷◌, ◌++◌, length, take, drop, unsigned_abs, FitsSigned, Option, Some, None, IsTrue, bytes_eq, if◌then◌else◌}
+use Rattle.std.specs.Prelude.{ℕ, ℤ, pos, Bool, false, ◌≡◌, ◌+◌, ◌&&◌, nat_le, List, [], ◌∷◌, ◌++◌, length, take, drop, unsigned_abs, FitsSigned, Option, Some, None, IsTrue, bytes_eq, if◌then◌else◌}
 use Rattle.std.specs.List.{All}
 use Rattle.std.specs.Int.{w16}
 use Rattle.mem_rec.specs.declared.TheConstants.{LEAST_ALIGNMENT}
 use Rattle.ialg.specs.declared.TheConstants.{PARAMETER_WORDS}
 use Rattle.ialg.specs.declared.filter.FilterMemory.{FilterMemory}
-use Rattle.ialg.specs.History.{History, Ctl, Set, Reset, Get, word_at, with_samples, outputs_by, IsWordHistory}
+use Rattle.ialg.specs.History.{History, samples_in_frame, word_at, with_samples, outputs_by, IsWordHistory}
+use Rattle.ialg.specs.Meaning.{is_between, accepts_set}
 use Rattle.ialg.specs.Filters.{FilterMeaning}
 use Rattle.kind_parts.specs.declared.framing.TheConstants.{MOST_FRAME, COUNT}
-use Rattle.kind_parts.specs.Words.{within}
-use Rattle.kind_parts.specs.Frames.{samples_in_frame, frame_so_far, gives_by_frame}
+use Rattle.kind_parts.specs.Frames.{frame_so_far, gives_by_frame}
 
 -- the samples of a frame
 abbrev pub frame_length : List ℤ → ℕ
@@ -21,7 +21,7 @@ gives_in_frames told p h = gives_by_frame (frame_length p) (told p) h
 
 -- which parameters are taken, beside what the kind says
 abbrev pub are_parameters : (List ℤ → Bool) → List ℤ → Bool
-are_parameters taken p = nat_le 1 (length p) && nat_le (length p) PARAMETER_WORDS && within (word_at p 0) (pos 1) MOST_FRAME && taken p
+are_parameters taken p = nat_le 1 (length p) && nat_le (length p) PARAMETER_WORDS && is_between (pos 1) MOST_FRAME (word_at p 0) && taken p
 
 -- kept are the parameters, the count of samples and the state, and the latter two run
 abbrev pub framing_memory : ℕ → (List ℤ → Bool) → List ℤ → Option FilterMemory
@@ -30,18 +30,12 @@ framing_memory words taken p =
     then Some (record { kept = length p + (COUNT + words); running = COUNT + words; align = LEAST_ALIGNMENT })
     else None
 
--- nothing can be set
-abbrev pub framing_accepts : Ctl → Bool
-framing_accepts (Set words) = false
-framing_accepts Reset = true
-framing_accepts Get = true
-
--- `get` gives how many samples the frame has so far
+-- nothing can be set, and `get` gives how many samples the frame has so far
 abbrev pub framing_filter : ℕ → (List ℤ → Bool) → (List ℤ → List ℤ → ℤ) → FilterMeaning
 framing_filter words taken told = record {
   memory = framing_memory words taken;
   gives = gives_in_frames told;
-  accepts = λ p c. framing_accepts c;
+  accepts = λ p. accepts_set (λ words. false);
   got = λ p h. pos (samples_in_frame (frame_length p) h) ∷ [];
 }
 

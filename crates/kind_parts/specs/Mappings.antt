@@ -1,17 +1,17 @@
 -- Kinds that give one word for each sample, by the words in force alone.
-use Rattle.std.specs.Prelude.{ℕ, ℤ, Bool, true, ◌≡◌, ◌≤◌, ◌==◌, ◌&&◌, nat_le, List, [], ◌∷◌, ◌++◌, length, Option, Some, None, IsTrue, bytes_eq, if◌then◌else◌}
+use Rattle.std.specs.Prelude.{ℕ, ℤ, Bool, ◌≡◌, ◌≤◌, ◌==◌, ◌&&◌, nat_le, List, [], ◌∷◌, ◌++◌, length, Option, Some, None, IsTrue, bytes_eq, if◌then◌else◌}
 use Rattle.mem_rec.specs.declared.TheConstants.{LEAST_ALIGNMENT}
 use Rattle.ialg.specs.declared.TheConstants.{PARAMETER_WORDS}
 use Rattle.ialg.specs.declared.filter.FilterMemory.{FilterMemory}
-use Rattle.ialg.specs.History.{History, Sample, Control, Ctl, Set, Reset, Get, words_in_force, with_samples, outputs_by, IsWordHistory}
+use Rattle.ialg.specs.History.{History, Sample, words_in_force, with_samples, outputs_by, IsWordHistory}
+use Rattle.ialg.specs.Meaning.{accepts_set}
 use Rattle.ialg.specs.Filters.{FilterMeaning}
 use Rattle.kind_parts.specs.declared.mapping.TheConstants.{NO_WORDS}
 
 -- what the newest sample gives: its value, by the words in force
 abbrev pub gives_by_map : (List ℤ → ℤ → ℤ) → List ℤ → History → List ℤ
-gives_by_map value p [] = []
 gives_by_map value p (Sample x ∷ h) = value (words_in_force p h) x ∷ []
-gives_by_map value p (Control c ∷ h) = []
+gives_by_map value p _ = []
 
 -- as many words are kept as there are parameters
 abbrev pub mapping_memory : (List ℤ → Bool) → List ℤ → Option FilterMemory
@@ -21,16 +21,11 @@ mapping_memory taken p =
     else None
 
 -- a `set` has as many words as there are parameters
-abbrev pub mapping_accepts : (List ℤ → Bool) → List ℤ → Ctl → Bool
-mapping_accepts taken p (Set words) = length words == length p && taken words
-mapping_accepts taken p Reset = true
-mapping_accepts taken p Get = true
-
 abbrev pub mapping_filter : (List ℤ → Bool) → (List ℤ → ℤ → ℤ) → FilterMeaning
 mapping_filter taken value = record {
   memory = mapping_memory taken;
   gives = gives_by_map value;
-  accepts = mapping_accepts taken;
+  accepts = λ p. accepts_set (λ words. length words == length p && taken words);
   got = words_in_force;
 }
 

@@ -1,10 +1,6 @@
 -- Words of parameters and of states.
-use Rattle.std.specs.Prelude.{ℤ, pos, Bool, ◌&&◌, List, [], ◌∷◌, ◌+ℤ◌, ◌*ℤ◌, int_le, int_lt, if◌then◌else◌}
+use Rattle.std.specs.Prelude.{ℤ, pos, List, [], ◌∷◌, ◌+ℤ◌, ◌*ℤ◌, int_lt, if◌then◌else◌}
 use Rattle.basic_op.specs.Operators.{extract_h_of, extract_l_of}
-
--- at least one number and at most another
-abbrev pub within : ℤ → ℤ → ℤ → Bool
-within z least most = int_le least z && int_le z most
 
 -- the Word32 of its upper and its lower word
 abbrev pub joined : ℤ → ℤ → ℤ

@@ -4,7 +4,7 @@ ghost use Rattle.std.proofs.Common.{ap, refl};
 ghost use Rattle.std.proofs.lemmas.Bool.{false≢true};
 ghost use Rattle.kind_parts.specs.declared.either.Or.{Or};
 ghost use Rattle.kind_parts.specs.declared.either.Or.TheVariants.{First, Second};
-ghost use Rattle.kind_parts.specs.Either.{either_means, either_keeps, either_named};
+ghost use Rattle.kind_parts.specs.Either.{told, either_means, either_keeps, either_named};
 
 use ialg::{Block, Ctl, Ialg, Lent, Named, Params, Status};
 use mem_rec::MemTab;
@@ -37,6 +37,8 @@ impl<A: Named, B: Named> Named for Or<A, B> {
 impl<A: Ialg, B: Ialg> Ialg for Or<A, B> {
     ghost law = { record {
       meaning = either_means A.law.meaning B.law.meaning;
+      bound = told A.law.bound B.law.bound;
+      fill = told A.law.fill B.law.fill;
       idle_keeps = either_keeps A.law.idle_keeps B.law.idle_keeps;
       active_keeps = either_keeps A.law.active_keeps B.law.active_keeps;
     } };

@@ -1,6 +1,7 @@
 //! Words of parameters and of states.
 ghost use Rattle.std.specs.Prelude.{◌≡◌, ℤ, length};
-ghost use Rattle.kind_parts.specs.Words.{joined, sum_words, within};
+ghost use Rattle.ialg.specs.Meaning.{is_between};
+ghost use Rattle.kind_parts.specs.Words.{joined, sum_words};
 
 use basic_op::{extract_h, extract_l, l_deposit_h};
 
@@ -12,7 +13,7 @@ const UPPER: i32 = 0x1_0000;
 
 /// Whether a word is at least `least` and at most `most`.
 pub fn is_within(word: i16, least: i16, most: i16) -> bool
-    ensures { result ≡ within word least most }
+    ensures { result ≡ is_between least most word }
 {
     least <= word && word <= most
 }

@@ -16,7 +16,7 @@ use Rattle.lifecycle.proofs.Words.{lasting_active, lasting_idle, lasting_lent, s
 module _ {M : Type 0} (laws : Laws M) (kind : M) (rs : List MemRec) where
   pub started : (own own' shared shared' : Pieces) (g : Group) (p : List ℤ) → Fits rs own shared g
       → Started laws kind p rs true (idle_words rs own shared) (idle_words rs own' shared')
-      → (w : Option ℤ) → IsTrue (laws.meaning.lawful kind p w) → laws.meaning.table kind p ≡ Some (unplaced rs) → AreNew w (laws.meaning.fill kind p) rs (idle_words rs own shared)
+      → (w : Option ℤ) → IsTrue (laws.meaning.lawful kind p w) → laws.meaning.table kind p ≡ Some (unplaced rs) → AreNew w (laws.fill kind p) rs (idle_words rs own shared)
       → laws.idle_keeps kind p rs (idle_words rs own' shared') []
   started own own' shared shared' g p f done w lawful is new =
       subst (λ (wss : List (List ℤ)). laws.idle_keeps kind p rs wss []) (lasting_idle rs own' shared')

@@ -15,7 +15,7 @@ use Rattle.lifecycle.specs.States.{IsLawful, Accepts, IdleKeeps, ActiveKeeps, al
 -- an instance with new records of its kind's table is started: it keeps the empty history
 abbrev pub Begins : {M : Type 0} → Laws M → Instance M → Pieces → Instance M → Pieces → Type 0
 Begins laws s shared s' shared' = (w : Option ℤ) → laws.meaning.table s.kind s.params.items ≡ Some (unplaced s.table)
-    → AreNew w (laws.meaning.fill s.kind s.params.items) s.table (idle_words s.table s.own shared)
+    → AreNew w (laws.fill s.kind s.params.items) s.table (idle_words s.table s.own shared)
     → IdleKeeps laws s' w shared' []
 
 -- an idle instance keeps what it kept

@@ -14,7 +14,7 @@ StaysOnce rs writable old new = (k : ℕ) → (record_at rs k).attr ≡ WriteOnc
 -- the start
 abbrev pub Started : {M : Type 0} → Laws M → M → List ℤ → List MemRec → Bool → List (List ℤ) → List (List ℤ) → Type 0
 Started laws kind p rs writable old new = (w : Option ℤ) → IsTrue (laws.meaning.lawful kind p w)
-    → laws.meaning.table kind p ≡ Some (unplaced rs) → LastingLent rs old → writable ≡ true → AreNew w (laws.meaning.fill kind p) rs old
+    → laws.meaning.table kind p ≡ Some (unplaced rs) → LastingLent rs old → writable ≡ true → AreNew w (laws.fill kind p) rs old
     → laws.idle_keeps kind p rs (lasting rs new) []
 
 -- the activation

@@ -31,5 +31,6 @@ scratch_offsets table space = offsets_from 0 (scratch_records table space)
 abbrev pub scratch_need : List MemRec → Space → ℕ
 scratch_need table space = next_multiple_of (end_from 0 (scratch_records table space)) LEAST_ALIGNMENT
 
+-- the greatest of their alignments, and no less than 4
 abbrev pub scratch_align : List MemRec → Space → ℕ
-scratch_align table space = align_from LEAST_ALIGNMENT (scratch_records table space)
+scratch_align table space = fold (λ a r. max a r.align) LEAST_ALIGNMENT (scratch_records table space)

@@ -6,7 +6,7 @@ use Rattle.mem_rec.specs.declared.MemRec.{MemRec}
 use Rattle.mem_rec.specs.declared.Space.{Space}
 use Rattle.mem_rec.specs.declared.Space.TheVariants.{Daram, Saram, External}
 use Rattle.mem_rec.specs.declared.Attr.{Attr}
-use Rattle.mem_rec.specs.declared.Attr.TheVariants.{Scratch, Persist, WriteOnce}
+use Rattle.mem_rec.specs.declared.Attr.TheVariants.{Scratch, Persist}
 
 abbrev pub same_space : Space → Space → Bool
 same_space Daram Daram = true
@@ -16,13 +16,11 @@ same_space _ _ = false
 
 abbrev pub is_scratch : Attr → Bool
 is_scratch Scratch = true
-is_scratch Persist = false
-is_scratch WriteOnce = false
+is_scratch _ = false
 
 abbrev pub is_persistent : Attr → Bool
-is_persistent Scratch = false
 is_persistent Persist = true
-is_persistent WriteOnce = false
+is_persistent _ = false
 
 -- a power of two, 4 to 1,024
 abbrev pub is_alignment : ℕ → Bool

@@ -33,17 +33,10 @@ placed_size size = next_multiple_of size LEAST_ALIGNMENT
 abbrev pub is_free : ℕ → List Range → Range → Bool
 is_free words taken r = nat_le (end_of r) words && not (list_any (meets r) taken)
 
--- the numbers below n
-abbrev pub numbers_below : ℕ → List ℕ
-numbers_below n = range_with_len 0 n
-
-abbrev pub multiples_within : ℕ → ℕ → List ℕ
-multiples_within words align = map (λ k. k * align) (numbers_below (words / align + 1))
-
 -- the least multiple of the alignment at which so many words are free, if there is one
 abbrev pub least_place : ℕ → List Range → ℕ → ℕ → Option ℕ
 least_place words taken size align =
-    find (λ place. is_free words taken (record { place = place; size = size })) (multiples_within words align)
+    find (λ place. is_free words taken (record { place = place; size = size })) (map (λ k. k * align) (range_with_len 0 (words / align + 1)))
 
 -- where the free range begins that stands directly before the place
 abbrev pub free_from : List Range → ℕ → ℕ

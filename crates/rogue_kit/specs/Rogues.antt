@@ -52,9 +52,7 @@ same_mixed a b = rogue_place a == rogue_place b
 abbrev pub mixed_meaning : Meaning Mixed
 mixed_meaning = record {
   same = same_mixed;
-  bound = λ kind. on_voice 0 (λ voice. voice_meaning.bound voice) kind;
   table = λ kind p. on_voice (rogue_table p) (λ voice. voice_meaning.table voice p) kind;
-  fill = λ kind p k. on_voice [] (λ voice. voice_meaning.fill voice p k) kind;
   gives = λ kind p h. on_voice [] (λ voice. voice_meaning.gives voice p h) kind;
   accepts = λ kind p c. on_voice false (λ voice. voice_meaning.accepts voice p c) kind;
   got = λ kind p h. on_voice [] (λ voice. voice_meaning.got voice p h) kind;

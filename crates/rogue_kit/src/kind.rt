@@ -66,7 +66,7 @@ impl Ialg for Mixed {
 
     fn alg_alloc(&self, p: &Params) -> Option<MemTab>
         ensures law { AsksForItsTable mixed_meaning self.now p.now.items result }
-        ensures bounded { AsksWithinItsBound mixed_meaning self.now p.now.items result }
+        ensures bounded { AsksWithinItsBound mixed_laws self.now p.now.items result }
         ensures unplaced { AsksWithoutBases mixed_meaning self.now p.now.items result }
 
         // What a rogue asks for too.

@@ -10,7 +10,8 @@ use Rattle.octet_ports.specs.declared.reader.LineFault.{LineFault}
 use Rattle.octet_ports.specs.declared.reader.LineFault.TheVariants.{Port, Limit}
 use Rattle.octet_ports.proofs.Ports.{gives_more}
 use Rattle.octet_ports.specs.Lines.{ended, IsNoFeed}
-use Rattle.voice_script.specs.Served.{Machine, Run, LineAnswer, then_answer, order_of}
+use Rattle.voice_script.specs.Served.{Machine, Run, LineAnswer, order_of}
+use Rattle.voice_script.specs.Computed.{then_answer}
 use Rattle.script_server.specs.Runs.{Devices, IsHonest, HasFailedIn, GoesOn, honest_at, ServedAll, ServedFirst, ServedUpTo, InScript, AtLimit, InFeed, Writes, run_of}
 use Rattle.script_server.specs.LineRuns.{IsServed, IsCut, IsUnfed}
 use Rattle.script_server.proofs.SoFar.{Consumes, ServedSoFar}

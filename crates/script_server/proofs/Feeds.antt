@@ -4,7 +4,10 @@ use Rattle.std.proofs.Math.Seq.{take-append_seam}
 use Rattle.std.proofs.lemmas.Bool.Decides.{nat_tests}
 use Rattle.std.proofs.lemmas.List.{map-set, get_or-map, get_or-set_same, get_or-set_other, length-set}
 use Rattle.octet_ports.specs.Ports.{Source, Sink, Gives, EndsWithin, Takes, TakesFirst}
-use Rattle.voice_script.specs.Served.{Machine, Run, Answer, Output, Replied, FeedAnswer, replies, refusals}
+use Rattle.ialg.specs.declared.refusal.Refusal.TheVariants.{Short}
+use Rattle.voice_script.specs.Replies.{Count, No, reply_text}
+use Rattle.voice_script.specs.Served.{Machine, Run, Answer, Output, Replied, FeedAnswer, refusals}
+use Rattle.voice_script.specs.Computed.{replies}
 use Rattle.script_server.specs.Runs.{StepsAt, IsHonest, no_source, no_sink, run_of}
 use Rattle.script_server.specs.LineRuns.{AreHonest, IsServed, IsCut}
 use Rattle.script_server.proofs.Writes.{writes_more, writes_reply, writes_output, step_holds, first_more, first_longer, first_reply, first_output, order_of_reply, order_of_feed, octets_to, short_text}
@@ -42,43 +45,37 @@ left_after {c = c} {sources = sources} s = sym (map-set coming_of sources c s.af
 
 pub feed_short : {S : Type 0} (m : Machine S) (honest : ℕ → Bool) (state : S) {count c : ℕ} {sources new_sources : List Source} → c < length sources → AreHonest honest sources
     → StepsAt (EndsWithin count) c no_source sources new_sources
-    → FeedAnswer m honest (run_of state sources) c count (replies (run_of state new_sources) short_text true)
+    → FeedAnswer m honest (run_of state sources) c count (replies (run_of state new_sources) (No Short))
 feed_short m honest state {count} {c} {sources} there h s = record {
   octets = s.step.octets;
   left = s.after.coming;
   first = λ is. left_at sources c there ∙ s.step.gives.given (h c there is);
-  short = λ few. (λ is. s.step.at_end (s.step.gives.stays (h c there is)), ap (λ i. replies (record { state = state; inputs = i }) short_text true) (sym (left_after s)));
+  short = λ few. (λ is. s.step.at_end (s.step.gives.stays (h c there is)), ap (λ i. replies (record { state = state; inputs = i }) (No Short)) (sym (left_after s)));
   whole = λ enough. let few = s.step.few in absurd (omega arith);
 }
 
 -- what is given for the octets that stand first in a block is given for these octets
-pub given_first : {S : Type 0} (m : Machine S) (state : S) {c count : ℕ} {octets output told : List ℕ} {after : S} (rest : List ℕ) → length octets ≡ count
-    → m.Gives state c (take count (octets ++ rest)) output told after → m.Gives state c octets output told after
-given_first m state {c} {count} {octets} {output} {told} {after} rest l given =
-    subst (λ first. m.Gives state c first output told after) (ap (λ k. take k (octets ++ rest)) (sym l) ∙ take-append_seam octets rest) given
+pub given_first : {S : Type 0} (m : Machine S) (state : S) {c count : ℕ} {octets output : List ℕ} {samples : ℕ} {after : S} (rest : List ℕ) → length octets ≡ count
+    → m.Gives state c (take count (octets ++ rest)) output samples after → m.Gives state c octets output samples after
+given_first m state {c} {count} {octets} {output} {samples} {after} rest l given =
+    subst (λ first. m.Gives state c first output samples after) (ap (λ k. take k (octets ++ rest)) (sym l) ∙ take-append_seam octets rest) given
 
 -- what a channel gave
-abbrev pub gave : {S : Type 0} → Run S → ℕ → (output told : List ℕ) → Answer S
-gave run channel output told = record { run = run; written = Output channel output ∷ Replied told false ∷ [] }
+abbrev pub gave : {S : Type 0} → Run S → ℕ → (output : List ℕ) → (samples : ℕ) → Answer S
+gave run channel output samples = record { run = run; written = Output channel output ∷ Replied (Count samples) ∷ [] }
 
-pub feed_whole : {S : Type 0} (m : Machine S) (honest : ℕ → Bool) (state : S) {after : S} {octets output told : List ℕ} {count c : ℕ} {sources new_sources : List Source} → c < length sources → AreHonest honest sources
+pub feed_whole : {S : Type 0} (m : Machine S) (honest : ℕ → Bool) (state : S) {after : S} {octets output : List ℕ} {samples : ℕ} {count c : ℕ} {sources new_sources : List Source} → c < length sources → AreHonest honest sources
     → length octets ≡ count → StepsAt (Gives octets) c no_source sources new_sources
-    → m.Gives state c octets output told after
-    → FeedAnswer m honest (run_of state sources) c count (gave (run_of after new_sources) c output told)
-feed_whole m honest state {after} {octets} {output} {told} {count} {c} {sources} there h l s given = record {
+    → m.Gives state c octets output samples after
+    → FeedAnswer m honest (run_of state sources) c count (gave (run_of after new_sources) c output samples)
+feed_whole m honest state {after} {octets} {output} {samples} {count} {c} {sources} there h l s given = record {
   octets = octets;
   left = s.after.coming;
   first = λ is. left_at sources c there ∙ s.step.given (h c there is);
   short = λ less. absurd (omega (arith, l, less));
   whole = λ _. (
     l,
-    record {
-      output = output;
-      told = told;
-      state = after;
-      taken = given;
-      answered = ap (λ i. gave (record { state = after; inputs = i }) c output told) (sym (left_after s));
-    },
+    (output, samples, after, given, ap (λ i. gave (record { state = after; inputs = i }) c output samples) (sym (left_after s))),
   );
 }
 
@@ -90,12 +87,12 @@ module _ {S : Type 0} (m : Machine S) (honest : ℕ → Bool) (state : S) {count
       → IsServed keeps honest (FeedAnswer m honest (run_of state sources) c count) true new_sources outputs outputs reply new_reply
   unfolding refusals
   served_short keeps outputs k there h s t = record {
-    answer = replies (run_of state new_sources) short_text true;
+    answer = replies (run_of state new_sources) (No Short);
     is_answer = feed_short m honest state there h s;
     kept = k;
     still = honest_short there h s;
     inputs = refl;
-    writes = rw (order_of_reply short_text true) (writes_reply outputs t.holds);
+    writes = rw (order_of_reply (No Short)) (writes_reply outputs t.holds);
     counted = refl;
   }
 
@@ -103,49 +100,49 @@ module _ {S : Type 0} (m : Machine S) (honest : ℕ → Bool) (state : S) {count
       → c < length sources → AreHonest honest sources → StepsAt (EndsWithin count) c no_source sources new_sources → TakesFirst short_text reply new_reply
       → IsCut (FeedAnswer m honest (run_of state sources) c count) new_sources outputs outputs reply new_reply
   cut_short outputs there h s t = record {
-    answer = replies (run_of state new_sources) short_text true;
+    answer = replies (run_of state new_sources) (No Short);
     is_answer = feed_short m honest state there h s;
     inputs = refl;
-    writes = rw (order_of_reply short_text true) (first_reply outputs t);
+    writes = rw (order_of_reply (No Short)) (first_reply outputs t);
   }
 
-  module _ {after : S} {octets output told : List ℕ} {outputs new_outputs : List Sink} where
+  module _ {after : S} {octets output : List ℕ} {samples : ℕ} {outputs new_outputs : List Sink} where
     pub served_whole : (keeps : S → Type 0) {reply new_reply : Sink}
         → keeps after → c < length sources → length outputs ≡ length sources → AreHonest honest sources → length octets ≡ count
-        → StepsAt (Gives octets) c no_source sources new_sources → m.Gives state c octets output told after
-        → StepsAt (Takes output) c no_sink outputs new_outputs → Takes told reply new_reply
+        → StepsAt (Gives octets) c no_source sources new_sources → m.Gives state c octets output samples after
+        → StepsAt (Takes output) c no_sink outputs new_outputs → Takes (reply_text (Count samples)) reply new_reply
         → IsServed keeps honest (FeedAnswer m honest (run_of state sources) c count) false new_sources outputs new_outputs reply new_reply
     unfolding refusals
     served_whole keeps {reply} k there pairs h l s given o t = record {
-      answer = gave (run_of after new_sources) c output told;
+      answer = gave (run_of after new_sources) c output samples;
       is_answer = feed_whole m honest state there h l s given;
       kept = k;
       still = honest_whole there h s;
       inputs = refl;
-      writes = rw (order_of_feed c output told false) (writes_more (writes_output reply (rw pairs there) (step_holds o)) (writes_reply new_outputs t.holds));
+      writes = rw (order_of_feed c output (Count samples)) (writes_more (writes_output reply (rw pairs there) (step_holds o)) (writes_reply new_outputs t.holds));
       counted = refl;
     }
 
     pub cut_output : (reply : Sink)
         → c < length sources → length outputs ≡ length sources → AreHonest honest sources → length octets ≡ count
-        → StepsAt (Gives octets) c no_source sources new_sources → m.Gives state c octets output told after
+        → StepsAt (Gives octets) c no_source sources new_sources → m.Gives state c octets output samples after
         → StepsAt (TakesFirst output) c no_sink outputs new_outputs
         → IsCut (FeedAnswer m honest (run_of state sources) c count) new_sources outputs new_outputs reply reply
     cut_output reply there pairs h l s given o = record {
-      answer = gave (run_of after new_sources) c output told;
+      answer = gave (run_of after new_sources) c output samples;
       is_answer = feed_whole m honest state there h l s given;
       inputs = refl;
-      writes = rw (order_of_feed c output told false) (first_longer (octets_to _ told) (first_output reply (rw pairs there) o));
+      writes = rw (order_of_feed c output (Count samples)) (first_longer (octets_to _ (reply_text (Count samples))) (first_output reply (rw pairs there) o));
     }
 
     pub cut_told : {reply new_reply : Sink}
         → c < length sources → length outputs ≡ length sources → AreHonest honest sources → length octets ≡ count
-        → StepsAt (Gives octets) c no_source sources new_sources → m.Gives state c octets output told after
-        → StepsAt (Takes output) c no_sink outputs new_outputs → TakesFirst told reply new_reply
+        → StepsAt (Gives octets) c no_source sources new_sources → m.Gives state c octets output samples after
+        → StepsAt (Takes output) c no_sink outputs new_outputs → TakesFirst (reply_text (Count samples)) reply new_reply
         → IsCut (FeedAnswer m honest (run_of state sources) c count) new_sources outputs new_outputs reply new_reply
     cut_told {reply} there pairs h l s given o t = record {
-      answer = gave (run_of after new_sources) c output told;
+      answer = gave (run_of after new_sources) c output samples;
       is_answer = feed_whole m honest state there h l s given;
       inputs = refl;
-      writes = rw (order_of_feed c output told false) (first_more (writes_output reply (rw pairs there) (step_holds o)) (first_reply new_outputs t));
+      writes = rw (order_of_feed c output (Count samples)) (first_more (writes_output reply (rw pairs there) (step_holds o)) (first_reply new_outputs t));
     }

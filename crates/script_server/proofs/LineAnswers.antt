@@ -1,9 +1,13 @@
 -- A line's answer, by what the machine asks.
-use Rattle.std.proofs.Common.{◌≡◌, ℕ, ◌<◌, ◌≤◌, Bool, true, false, List, [], length, nat_lt, refl, sym, subst, arith}
+use Rattle.std.specs.Prelude.{if◌then◌else◌}
+use Rattle.std.proofs.Common.{◌≡◌, ◌+◌, ℕ, cond, ◌<◌, ◌≤◌, Bool, true, false, List, [], length, nat_lt, refl, sym, subst, arith}
 use Rattle.std.proofs.lemmas.Bool.Decides.{nat_tests}
 use Rattle.octet_ports.specs.Ports.{Source, Sink, Takes, TakesFirst}
 use Rattle.octet_ports.specs.Lines.{IsLine}
-use Rattle.voice_script.specs.Served.{Machine, Run, Answer, Asked, Nothing, Tell, Feed, AskedAnswer, LineAnswer, replies, at_state, order_of, refusals}
+use Rattle.ialg.specs.declared.refusal.Refusal.TheVariants.{Long}
+use Rattle.voice_script.specs.Replies.{Reply, No, reply_text}
+use Rattle.voice_script.specs.Served.{Machine, Run, Answer, Asked, Nothing, Tell, Feed, Replied, AskedAnswer, LineAnswer, is_refused, order_of, refusals}
+use Rattle.voice_script.specs.Computed.{replies, at_state}
 use Rattle.script_server.specs.Runs.{FailsWithin, StepsAt, Writes, no_source, run_of}
 use Rattle.script_server.specs.LineRuns.{AreHonest, IsServed, IsCut, IsUnfed}
 use Rattle.voice_script.specs.declared.limits.TheConstants.{LINE_OCTETS}
@@ -14,6 +18,10 @@ is_long {octets = octets} line = let test : nat_lt LINE_OCTETS (length octets) �
 
 pub is_short : {text octets : List ℕ} → IsLine LINE_OCTETS text false octets → length octets ≤ LINE_OCTETS
 is_short {octets = octets} line = let test : nat_lt LINE_OCTETS (length octets) ≡ false = sym line.is_long in grind (arith, nat_tests)
+
+counted_one : (refused : Bool) → 0 + cond refused 1 0 ≡ (if refused then 1 else 0)
+counted_one true = refl
+counted_one false = refl
 
 module _ {S : Type 0} (m : Machine S) where
   -- the input of a feed failed
@@ -32,7 +40,7 @@ module _ {S : Type 0} (m : Machine S) where
   }
 
 module _ {S : Type 0} (m : Machine S) (honest : ℕ → Bool) where
-  pub line_long : (run : Run S) {text octets : List ℕ} → IsLine LINE_OCTETS text true octets → LineAnswer m honest run octets (replies run long_text true)
+  pub line_long : (run : Run S) {text octets : List ℕ} → IsLine LINE_OCTETS text true octets → LineAnswer m honest run octets (replies run (No Long))
   line_long run line = let long = is_long line in record { long = λ _. refl; fits = λ fits. absurd (omega arith) }
 
   pub line_asks : (run : Run S) {text octets : List ℕ} {asked : Asked} {after : S} {answer : Answer S} → IsLine LINE_OCTETS text false octets
@@ -41,37 +49,23 @@ module _ {S : Type 0} (m : Machine S) (honest : ℕ → Bool) where
       let short = is_short line in
       record {
         long = λ long. absurd (omega arith);
-        fits = λ _. record {
-          asked = asked;
-          state = after;
-          asks = subst (λ (o : List ℕ). m.Asks run.state o asked after) (line.is_text refl) asks;
-          answered = answered;
-        };
+        fits = λ _. (asked, after, subst (λ (o : List ℕ). m.Asks run.state o asked after) (line.is_text refl) asks, answered);
       }
 
   -- ---- what is asked
 
-  pub served_reply : (keeps : S → Type 0) (state : S) (sources : List Source) (text : List ℕ) (refused : Bool) (outputs : List Sink) {reply new_reply : Sink}
-      → keeps state → AreHonest honest sources → Takes text reply new_reply
-      → IsServed keeps honest (AskedAnswer m honest (run_of state sources) (Tell text refused)) refused sources outputs outputs reply new_reply
+  pub served_reply : (keeps : S → Type 0) (state : S) (sources : List Source) (reply_told : Reply) (outputs : List Sink) {reply new_reply : Sink}
+      → keeps state → AreHonest honest sources → Takes (reply_text reply_told) reply new_reply
+      → IsServed keeps honest (AskedAnswer m honest (run_of state sources) (Tell reply_told)) (is_refused (Replied reply_told)) sources outputs outputs reply new_reply
   unfolding refusals
-  served_reply keeps state sources text true outputs k h t = record {
-    answer = replies (run_of state sources) text true;
+  served_reply keeps state sources reply_told outputs k h t = record {
+    answer = replies (run_of state sources) reply_told;
     is_answer = refl;
     kept = k;
     still = h;
     inputs = refl;
-    writes = rw (order_of_reply text true) (writes_reply outputs t.holds);
-    counted = refl;
-  }
-  served_reply keeps state sources text false outputs k h t = record {
-    answer = replies (run_of state sources) text false;
-    is_answer = refl;
-    kept = k;
-    still = h;
-    inputs = refl;
-    writes = rw (order_of_reply text false) (writes_reply outputs t.holds);
-    counted = refl;
+    writes = rw (order_of_reply reply_told) (writes_reply outputs t.holds);
+    counted = counted_one (is_refused (Replied reply_told));
   }
 
   pub served_nothing : (keeps : S → Type 0) (state : S) (sources : List Source) (outputs : List Sink) (reply : Sink) → keeps state → AreHonest honest sources
@@ -87,13 +81,13 @@ module _ {S : Type 0} (m : Machine S) (honest : ℕ → Bool) where
     counted = refl;
   }
 
-  pub cut_reply : (state : S) (sources : List Source) (text : List ℕ) (refused : Bool) (outputs : List Sink) {reply new_reply : Sink} → TakesFirst text reply new_reply
-      → IsCut (AskedAnswer m honest (run_of state sources) (Tell text refused)) sources outputs outputs reply new_reply
-  cut_reply state sources text refused outputs t = record {
-    answer = replies (run_of state sources) text refused;
+  pub cut_reply : (state : S) (sources : List Source) (reply_told : Reply) (outputs : List Sink) {reply new_reply : Sink} → TakesFirst (reply_text reply_told) reply new_reply
+      → IsCut (AskedAnswer m honest (run_of state sources) (Tell reply_told)) sources outputs outputs reply new_reply
+  cut_reply state sources reply_told outputs t = record {
+    answer = replies (run_of state sources) reply_told;
     is_answer = refl;
     inputs = refl;
-    writes = rw (order_of_reply text refused) (first_reply outputs t);
+    writes = rw (order_of_reply reply_told) (first_reply outputs t);
   }
 
   -- ---- by the line
@@ -102,7 +96,7 @@ module _ {S : Type 0} (m : Machine S) (honest : ℕ → Bool) where
       → IsLine LINE_OCTETS line true octets → keeps state → AreHonest honest sources → Takes long_text reply new_reply
       → IsServed keeps honest (LineAnswer m honest (run_of state sources) octets) true sources outputs outputs reply new_reply
   served_long keeps state sources outputs line k h t =
-      let told = served_reply keeps state sources long_text true outputs k h t in
+      let told = served_reply keeps state sources (No Long) outputs k h t in
       record {
         answer = told.answer;
         is_answer = rw told.is_answer (line_long (run_of state sources) line);
@@ -117,7 +111,7 @@ module _ {S : Type 0} (m : Machine S) (honest : ℕ → Bool) where
       → IsLine LINE_OCTETS line true octets → TakesFirst long_text reply new_reply
       → IsCut (LineAnswer m honest (run_of state sources) octets) sources outputs outputs reply new_reply
   cut_long state sources outputs line t =
-      let told = cut_reply state sources long_text true outputs t in
+      let told = cut_reply state sources (No Long) outputs t in
       record { answer = told.answer; is_answer = rw told.is_answer (line_long (run_of state sources) line); inputs = told.inputs; writes = told.writes }
 
   pub served_asked : (keeps : S → Type 0) (state : S) (sources : List Source) {line octets : List ℕ} {asked : Asked} {after : S} {refused : Bool} {new_sources : List Source}

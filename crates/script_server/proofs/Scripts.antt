@@ -10,7 +10,8 @@ use Rattle.octet_ports.specs.Ports.{Source, Sink, Gives, IsAtEnd}
 use Rattle.octet_ports.specs.Lines.{LineCame}
 use Rattle.octet_ports.proofs.Ports.{gives_none, gives_more}
 use Rattle.octet_ports.specs.Lines.{IsNoFeed, ending, ended}
-use Rattle.voice_script.specs.Served.{Machine, Run, Answer, Written, LineAnswer, LinesAnswer, then_answer, order_of, refusals, ended_lines}
+use Rattle.voice_script.specs.Served.{Machine, Run, Answer, Written, LineAnswer, LinesAnswer, order_of, refusals, ended_lines}
+use Rattle.voice_script.specs.Computed.{then_answer}
 use Rattle.voice_script.specs.Script.{lines_of}
 use Rattle.script_server.specs.Runs.{IsHonest, run_of}
 use Rattle.script_server.specs.LineRuns.{AreHonest}

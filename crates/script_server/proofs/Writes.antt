@@ -1,14 +1,16 @@
 -- What the ports together took.
-use Rattle.std.proofs.Common.{◌≡◌, ◌≢◌, ℕ, ◌<◌, Bool, true, false, List, [], ◌∷◌, ◌++◌, map, filter, length, take, drop, Option, Some, None, slice_index_or, slice_set, All, ◌⊎◌, inl, inr, nat_le, refl, sym, ap, ◌∙◌, append_assoc, arith, eqb}
-use Rattle.std.proofs.lemmas.List.{map-append, take-append-drop, get_or-take, get_or-set_same, get_or-set_other, length-set}
+use Rattle.std.proofs.Common.{◌≡◌, ◌≢◌, ℕ, ◌<◌, true, false, List, [], ◌∷◌, ◌++◌, map, filter, length, take, drop, Option, Some, None, slice_index_or, slice_set, All, ◌⊎◌, inl, inr, nat_le, refl, sym, ap, ◌∙◌, append_assoc, arith, eqb}
+use Rattle.std.specs.Option.{option_eq}
+use Rattle.std.specs.Prelude.{nat_eq}
+use Rattle.std.proofs.lemmas.List.{append-nil, map-append, take-append-drop, get_or-take, get_or-set_same, get_or-set_other, length-set}
 use Rattle.std.proofs.lemmas.List.Elements.{filter-append, All-get_or}
 use Rattle.std.proofs.lemmas.Grind.{common_steps, flat_map-append}
 use Rattle.std.proofs.lemmas.Bool.Decides.{nat_tests}
 use Rattle.ialg.specs.declared.refusal.Refusal.TheVariants.{Long, Short}
-use Rattle.voice_script.specs.Replies.{No, reply_text}
+use Rattle.voice_script.specs.Replies.{Reply, No, reply_text}
 use Rattle.octet_ports.specs.Ports.{Sink, Holds, Waits, Takes, TakesFirst, HasPassedAll}
 use Rattle.octet_ports.proofs.Ports.{holds_none, holds_more, waits_none, waits_more}
-use Rattle.voice_script.specs.Served.{Octet, Written, Output, Replied, held_by, order_of, same_port, octets_written}
+use Rattle.voice_script.specs.Served.{Octet, Written, Output, Replied, held_by, order_of, octets_written}
 use Rattle.script_server.specs.Runs.{StepsAt, Writes, AllWait, InAscendingOrder, no_sink}
 use Rattle.script_server.specs.LineRuns.{WritesFirst}
 
@@ -21,27 +23,27 @@ long_text = reply_text (No Long)
 pub held_by-append : (port : Option ℕ) (xs ys : List Octet) → held_by port (xs ++ ys) ≡ held_by port xs ++ held_by port ys
 unfolding held_by
 held_by-append port xs ys =
-    ap (map (λ o. o.1)) (filter-append (λ (o : Octet). same_port port o.0) xs ys)
-    ∙ map-append (λ (o : Octet). o.1) (filter (λ o. same_port port o.0) xs) (filter (λ o. same_port port o.0) ys)
+    ap (map (λ o. o.1)) (filter-append (λ (o : Octet). option_eq nat_eq port o.0) xs ys)
+    ∙ map-append (λ (o : Octet). o.1) (filter (λ o. option_eq nat_eq port o.0) xs) (filter (λ o. option_eq nat_eq port o.0) ys)
 
 -- octets of one port
 abbrev pub octets_to : Option ℕ → List ℕ → List Octet
 octets_to port octets = map (λ b. (port, b)) octets
 
-pub held_by-same : (port : Option ℕ) → same_port port port ≡ true → (xs : List ℕ) → held_by port (octets_to port xs) ≡ xs
+pub held_by-same : (port : Option ℕ) → option_eq nat_eq port port ≡ true → (xs : List ℕ) → held_by port (octets_to port xs) ≡ xs
 unfolding held_by
 held_by-same port e [] = refl
 held_by-same port e (x ∷ xs) = rw e (ap (λ r. x ∷ r) (held_by-same port e xs))
 
-pub held_by-other : (port other : Option ℕ) → same_port port other ≡ false → (xs : List ℕ) → held_by port (octets_to other xs) ≡ []
+pub held_by-other : (port other : Option ℕ) → option_eq nat_eq port other ≡ false → (xs : List ℕ) → held_by port (octets_to other xs) ≡ []
 unfolding held_by
 held_by-other port other e [] = refl
 held_by-other port other e (x ∷ xs) = rw e (held_by-other port other e xs)
 
-pub same_number : (c : ℕ) → same_port (Some c) (Some c) ≡ true
+pub same_number : (c : ℕ) → option_eq nat_eq (Some c) (Some c) ≡ true
 same_number c = grind (arith, nat_tests)
 
-pub other_number : (c d : ℕ) → c ≢ d → same_port (Some c) (Some d) ≡ false
+pub other_number : (c d : ℕ) → c ≢ d → option_eq nat_eq (Some c) (Some d) ≡ false
 other_number c d n = grind (arith, nat_tests)
 
 pub writes_none : (outputs : List Sink) (replies : Sink) → Writes [] outputs outputs replies replies
@@ -199,10 +201,10 @@ pub order_of-append : (xs ys : List Written) → order_of (xs ++ ys) ≡ order_o
 unfolding order_of
 order_of-append xs ys = flat_map-append octets_written xs ys
 
-pub order_of_reply : (text : List ℕ) (refused : Bool) → order_of (Replied text refused ∷ []) ≡ octets_to None text
+pub order_of_reply : (reply : Reply) → order_of (Replied reply ∷ []) ≡ octets_to None (reply_text reply)
 unfolding order_of
-order_of_reply text refused = grind (arith, common_steps)
+order_of_reply reply = append-nil (octets_to None (reply_text reply))
 
-pub order_of_feed : (channel : ℕ) (octets text : List ℕ) (refused : Bool) → order_of (Output channel octets ∷ Replied text refused ∷ []) ≡ octets_to (Some channel) octets ++ octets_to None text
+pub order_of_feed : (channel : ℕ) (octets : List ℕ) (reply : Reply) → order_of (Output channel octets ∷ Replied reply ∷ []) ≡ octets_to (Some channel) octets ++ octets_to None (reply_text reply)
 unfolding order_of
-order_of_feed channel octets text refused = grind (arith, common_steps)
+order_of_feed channel octets reply = ap (λ told. octets_to (Some channel) octets ++ told) (append-nil (octets_to None (reply_text reply)))

@@ -106,8 +106,7 @@ pub record Devices : Type 0 where
 
 -- by the ports, of what kinds ever
 abbrev pub known_of : {S I O P : Type 0} → (S → Source) → (I → Source) → (O → Sink) → (P → Sink) → S → List I → List O → P → Devices
-known_of source_of_script source_of_input sink_of_output sink_of_replies script inputs outputs replies =
-    record { script = source_of_script script; inputs = map source_of_input inputs; outputs = map sink_of_output outputs; replies = sink_of_replies replies }
+known_of s i o p script inputs outputs replies = record { script = s script; inputs = map i inputs; outputs = map o outputs; replies = p replies }
 
 -- this came to pass, by what was known of the ports before and what is known of them now
 abbrev pub Over : {S I O P X Y : Type 0} → (S → Source) → (I → Source) → (O → Sink) → (P → Sink) → (Devices → Devices → Type 0) → (old new : S) → (was is : Vec I X) → (had has : Vec O Y) → (before after : P) → Type 0

@@ -1,10 +1,10 @@
 -- A heap as contracts see it, and the blocks that are taken of it.
 use Rattle.std.specs.Prelude.{◌≡◌, ◌==◌, ℕ, ◌+◌, ◌-◌, ◌^◌, ◌%◌, ◌<◌, ◌≤◌, min, Bool, false, not, List, [], ◌∷◌, ◌++◌, map, length, sum_by, Option, if◌then◌else◌}
-use Rattle.std.specs.List.{list_any}
+use Rattle.std.specs.List.{list_any, range_with_len}
 use Rattle.std.specs.Option.{option_map}
 use Rattle.space_raw.specs.Span.{Extent, Span}
 use Rattle.mem_rec.specs.declared.TheConstants.{LEAST_ALIGNMENT}
-use Rattle.relocate.specs.Places.{Range, end_of, meets, is_covered, numbers_below, least_place, lower_place, placed_size}
+use Rattle.relocate.specs.Places.{Range, end_of, meets, is_covered, least_place, lower_place, placed_size}
 
 -- the space; for each word of it, in order, whether it is free; and how many words were moved
 pub record HeapState : Type 0 where
@@ -30,7 +30,7 @@ AreBlocks words (r ∷ rs) = IsBlock words r × (list_any (meets r) rs ≡ false
 
 -- for each word, whether none of the blocks covers it
 abbrev pub free_beside : ℕ → List Range → List Bool
-free_beside words taken = map (λ k. not (is_covered taken k)) (numbers_below words)
+free_beside words taken = map (λ k. not (is_covered taken k)) (range_with_len 0 words)
 
 -- these are the blocks that were taken and not given back, in any order: the free words are those that none of them covers
 pub record Holds (heap : HeapState) (taken : List Range) : Type 0 where

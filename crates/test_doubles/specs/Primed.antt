@@ -9,7 +9,7 @@ use Rattle.ialg.specs.History.{History, Ctl, Set, Reset, Get, IsWordHistory}
 use Rattle.ialg.specs.Meaning.{Meaning}
 use Rattle.ialg.specs.Records.{words_of, HoldFill}
 use Rattle.ialg.specs.Objects.{Names, object_memory}
-use Rattle.test_doubles.specs.declared.TheConstants.{ONCE, PRIMED, SCRATCH, PRIMED_KIND, PRIMED_PARAMETERS, PRIMED_RECORDS}
+use Rattle.test_doubles.specs.declared.TheConstants.{ONCE, PRIMED, SCRATCH, PRIMED_KIND, PRIMED_PARAMETERS}
 use Rattle.test_doubles.specs.declared.primed.Primed.{Primed}
 
 -- the object, a word that is written once, a word that is never written, and a scratch word
@@ -38,9 +38,7 @@ primed_accepts Get = true
 abbrev pub primed_meaning : Meaning Primed
 primed_meaning = record {
   same = λ a b. true;
-  bound = λ _. PRIMED_RECORDS;
   table = λ _ p. if length p == PRIMED_PARAMETERS then Some primed_records else None;
-  fill = λ _ p k. primed_fill p k;
   gives = λ _ p h. [];
   accepts = λ _ p c. primed_accepts c;
   got = λ _ p h. take 1 p ++ p;

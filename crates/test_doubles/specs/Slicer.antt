@@ -9,7 +9,7 @@ use Rattle.ialg.specs.History.{History, Sample, Ctl, Set, Reset, Get, IsWordHist
 use Rattle.ialg.specs.Meaning.{Meaning}
 use Rattle.ialg.specs.Records.{words_of, HoldFill}
 use Rattle.ialg.specs.Objects.{Names, object_memory}
-use Rattle.test_doubles.specs.declared.TheConstants.{HIGH, HIGH_ALIGNMENT, HIGH_WORDS, LEVELS, LOW, LOW_WORDS, ONCE, SLICER_KIND, SLICER_RECORDS}
+use Rattle.test_doubles.specs.declared.TheConstants.{HIGH, HIGH_ALIGNMENT, HIGH_WORDS, LEVELS, LOW, LOW_WORDS, ONCE, SLICER_KIND}
 use Rattle.test_doubles.specs.declared.slicer.Slicer.{Slicer}
 
 -- the object, the levels, which are written once, and a scratch record for each level
@@ -42,9 +42,7 @@ slicer_accepts Get = true
 abbrev pub slicer_meaning : Meaning Slicer
 slicer_meaning = record {
   same = λ a b. true;
-  bound = λ _. SLICER_RECORDS;
   table = λ _ p. if length p == LEVELS then Some slicer_records else None;
-  fill = λ _ p k. slicer_fill p k;
   gives = λ _ p h. slicer_gives p h;
   accepts = λ _ p c. slicer_accepts c;
   got = λ _ p h. p;

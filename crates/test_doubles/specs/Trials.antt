@@ -1,5 +1,5 @@
 -- A lawful kind, and one that keeps no law.
-use Rattle.std.specs.Prelude.{ℤ, Bool, true, false, List, [], None}
+use Rattle.std.specs.Prelude.{ℕ, ℤ, Bool, true, false, List, [], None}
 use Rattle.mem_rec.specs.declared.MemRec.{MemRec}
 use Rattle.ialg.specs.History.{History, IsWordHistory}
 use Rattle.ialg.specs.Records.{HoldFill}
@@ -14,9 +14,7 @@ use Rattle.test_doubles.specs.declared.scribbler.Trial.TheVariants.{Lawful, Scri
 abbrev pub meaning_by : Trial → Meaning Trial
 meaning_by (Lawful voice) = record {
   same = λ a b. true;
-  bound = λ _. voice_meaning.bound voice;
   table = λ _ p. voice_meaning.table voice p;
-  fill = λ _ p k. voice_meaning.fill voice p k;
   gives = λ _ p h. voice_meaning.gives voice p h;
   accepts = λ _ p c. voice_meaning.accepts voice p c;
   got = λ _ p h. voice_meaning.got voice p h;
@@ -25,9 +23,7 @@ meaning_by (Lawful voice) = record {
 }
 meaning_by Scribbler = record {
   same = λ a b. true;
-  bound = λ _. 0;
   table = λ _ p. None;
-  fill = λ _ p k. [];
   gives = λ _ p h. [];
   accepts = λ _ p c. false;
   got = λ _ p h. [];
@@ -44,15 +40,21 @@ same_trial Scribbler Scribbler = true
 abbrev pub trial_meaning : Meaning Trial
 trial_meaning = record {
   same = same_trial;
-  bound = λ t. (meaning_by t).bound t;
   table = λ t p. (meaning_by t).table t p;
-  fill = λ t p k. (meaning_by t).fill t p k;
   gives = λ t p h. (meaning_by t).gives t p h;
   accepts = λ t p c. (meaning_by t).accepts t p c;
   got = λ t p h. (meaning_by t).got t p h;
   declares = λ t p. (meaning_by t).declares t p;
   lawful = λ t p w. (meaning_by t).lawful t p w;
 }
+
+abbrev pub trial_bound : Trial → ℕ
+trial_bound (Lawful voice) = voices.voice_bound voice
+trial_bound Scribbler = 0
+
+abbrev pub trial_fill : Trial → List ℤ → ℕ → List ℤ
+trial_fill (Lawful voice) p k = voices.voice_fill voice p k
+trial_fill Scribbler p k = []
 
 abbrev pub IsIdle : Trial → List ℤ → List MemRec → List (List ℤ) → History → Type 0
 IsIdle (Lawful voice) p rs wss h = voices.IsIdle voice p rs wss h
@@ -70,10 +72,10 @@ pub active_words : (kind : Trial) (p : List ℤ) (rs : List MemRec) (wss : List 
 active_words (Lawful voice) p rs wss h keeps = kept.active_words voice p rs wss h keeps
 active_words Scribbler p rs wss h keeps = absurd keeps
 
-pub idle_fill : (kind : Trial) (p : List ℤ) (rs : List MemRec) (wss : List (List ℤ)) (h : History) → IsIdle kind p rs wss h → HoldFill (trial_meaning.fill kind p) rs wss
+pub idle_fill : (kind : Trial) (p : List ℤ) (rs : List MemRec) (wss : List (List ℤ)) (h : History) → IsIdle kind p rs wss h → HoldFill (trial_fill kind p) rs wss
 idle_fill (Lawful voice) p rs wss h keeps = kept.idle_fill voice p rs wss h keeps
 idle_fill Scribbler p rs wss h keeps = absurd keeps
 
-pub active_fill : (kind : Trial) (p : List ℤ) (rs : List MemRec) (wss : List (List ℤ)) (h : History) → IsActive kind p rs wss h → HoldFill (trial_meaning.fill kind p) rs wss
+pub active_fill : (kind : Trial) (p : List ℤ) (rs : List MemRec) (wss : List (List ℤ)) (h : History) → IsActive kind p rs wss h → HoldFill (trial_fill kind p) rs wss
 active_fill (Lawful voice) p rs wss h keeps = kept.active_fill voice p rs wss h keeps
 active_fill Scribbler p rs wss h keeps = absurd keeps

@@ -6,7 +6,8 @@ ghost use Rattle.ialg.specs.declared.TheConstants.{BLOCK_SAMPLES, PARAMETER_WORD
 ghost use Rattle.ialg.specs.History.{History};
 ghost use Rattle.ialg.specs.Records.{AllLent};
 ghost use Rattle.ialg.specs.Loans.{lent_words};
-ghost use Rattle.test_doubles.specs.Primed.{KeepsWords, KeepsActive, primed_meaning, primed_records};
+ghost use Rattle.test_doubles.specs.declared.TheConstants.{PRIMED_RECORDS};
+ghost use Rattle.test_doubles.specs.Primed.{KeepsWords, KeepsActive, primed_fill, primed_meaning, primed_records};
 
 use crate::{ONCE, PRIMED, PRIMED_KIND, PRIMED_PARAMETERS, PRIMED_RECORDS, SCRATCH};
 use ialg::{
@@ -26,6 +27,8 @@ pub struct Primed;
 impl Ialg for Primed {
     ghost law = { record {
       meaning = primed_meaning;
+      bound = λ _. PRIMED_RECORDS;
+      fill = λ _. primed_fill;
       idle_keeps = λ _ p rs wss h. KeepsWords p rs wss h;
       active_keeps = λ _ p rs wss h. KeepsActive p rs wss h;
     } };

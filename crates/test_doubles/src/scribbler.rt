@@ -4,7 +4,7 @@ ghost use Rattle.std.proofs.Common.{rules};
 ghost use Rattle.std.specs.Cmp.Rules.{comparing};
 ghost use Rattle.ialg.specs.declared.TheConstants.{BLOCK_SAMPLES};
 ghost use Rattle.ialg.specs.Loans.{SameLoans};
-ghost use Rattle.test_doubles.specs.Trials.{trial_meaning, IsIdle, IsActive, idle_words, active_words, idle_fill, active_fill};
+ghost use Rattle.test_doubles.specs.Trials.{trial_meaning, trial_bound, trial_fill, IsIdle, IsActive, idle_words, active_words, idle_fill, active_fill};
 
 use arrayvec::ArrayVec;
 use ialg::{Block, Ctl, Ialg, Lent, Params, Record, Status, object_record};
@@ -27,6 +27,8 @@ pub enum Trial {
 impl Ialg for Trial {
     ghost law = { record {
       meaning = trial_meaning;
+      bound = trial_bound;
+      fill = trial_fill;
       idle_keeps = IsIdle;
       active_keeps = IsActive;
     } };

@@ -9,7 +9,8 @@ ghost use Rattle.ialg.specs.History.{History};
 ghost use Rattle.ialg.specs.Records.{record_at, words_of, AllLent};
 ghost use Rattle.ialg.specs.Loans.{lent_words, SameLoans};
 ghost use Rattle.ialg.specs.Objects.{NamedAt};
-ghost use Rattle.test_doubles.specs.Slicer.{HoldsLevels, IsSpread, SpreadsLevels, sliced, slicer_meaning, slicer_records};
+ghost use Rattle.test_doubles.specs.declared.TheConstants.{SLICER_RECORDS};
+ghost use Rattle.test_doubles.specs.Slicer.{HoldsLevels, IsSpread, SpreadsLevels, sliced, slicer_fill, slicer_meaning, slicer_records};
 
 use crate::primed::read;
 use crate::{
@@ -36,6 +37,8 @@ impl Ialg for Slicer {
 
     ghost law = { record {
       meaning = slicer_meaning;
+      bound = λ _. SLICER_RECORDS;
+      fill = λ _. slicer_fill;
       idle_keeps = λ _ p rs wss h. HoldsLevels p rs wss h;
       active_keeps = λ _ p rs wss h. SpreadsLevels p rs wss h;
     } };

@@ -1,9 +1,8 @@
 -- Two blocks given to a channel are as good as one.
 use Rattle.std.proofs.Common.{◌≡◌, ℕ, ℤ, false, List, ◌++◌, sym}
 use Rattle.channel_spec.specs.Channels.{Channels, members_at, has_repeat}
-use Rattle.channel_spec.specs.Calls.{Feeds}
 use Rattle.channel_spec.specs.Calls.Call.{Feed}
-use Rattle.channel_spec.specs.Cuts.{AreAlike, MembersAreLawful}
+use Rattle.channel_spec.specs.Cuts.{AreAlike, Feeds, MembersAreLawful}
 use Rattle.voice_channel.specs.Channels.{ChannelsState, Keeps, Serves}
 use Rattle.ialg.specs.Laws.{Laws}
 

@@ -6,9 +6,7 @@ use Rattle.test_hosts.specs.declared.diary.Diary.{Diary}
 abbrev pub diary_meaning : Meaning Diary
 diary_meaning = record {
   same = λ a b. true;
-  bound = λ _. 0;
   table = λ _ p. None;
-  fill = λ _ p k. [];
   gives = λ _ p h. [];
   accepts = λ _ p c. false;
   got = λ _ p h. [];

@@ -1,7 +1,7 @@
 -- Channels that are given two blocks.
 use Rattle.std.specs.Prelude.{ℕ, ℤ, List}
 use Rattle.channel_spec.specs.Channels.{Channels}
-use Rattle.channel_spec.specs.Calls.{Feeds}
+use Rattle.channel_spec.specs.Cuts.{Feeds}
 use Rattle.voice_channel.specs.Channels.{ChannelsState, Keeps}
 use Rattle.ialg.specs.Laws.{Laws}
 

@@ -1,8 +1,7 @@
 //! Samples given to a channel in two blocks.
 ghost use Rattle.std.specs.Prelude.{◌≡◌, ◌≤◌, ◌++◌, ℤ, true, [], List, length};
 ghost use Rattle.channel_spec.specs.Channels.{Channels as State, members_at, is_chained};
-ghost use Rattle.channel_spec.specs.Calls.{Feeds};
-ghost use Rattle.channel_spec.specs.Cuts.{MembersAreLawful};
+ghost use Rattle.channel_spec.specs.Cuts.{Feeds, MembersAreLawful};
 ghost use Rattle.voice_channel.specs.Channels.{Keeps};
 ghost use Rattle.test_hosts.specs.TwoFeeds.{ServesBoth};
 

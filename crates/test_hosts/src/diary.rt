@@ -38,6 +38,8 @@ pub struct Diary;
 impl Ialg for Diary {
     ghost law = { record {
       meaning = diary_meaning;
+      bound = λ _. 0;
+      fill = λ _ p k. [];
       idle_keeps = λ _ p rs wss h. ⊥;
       active_keeps = λ _ p rs wss h. ⊥;
     } };

@@ -1,5 +1,5 @@
 -- A filter fits in pieces and a block of its sizes.
-use Rattle.std.proofs.Common.{◌≡◌, ℕ, ℤ, zero, suc, ◌≤◌, ◌<◌, Bool, true, false, List, [], ◌∷◌, length, take, Option, Some, None, refl, ap, sym, ◌∙◌, subst, arith, length-take}
+use Rattle.std.proofs.Common.{◌≡◌, ℕ, ℤ, zero, suc, ◌≤◌, ◌<◌, Bool, true, false, List, [], ◌∷◌, length, take, Option, Some, None, option_map, refl, ap, sym, ◌∙◌, subst, arith, length-take}
 use Rattle.std.specs.Prelude.{if◌then◌else◌, ◌||◌, ◌&&◌, nat_eq, nat_le, MatchOption}
 use Rattle.std.proofs.lemmas.Bool.Decides.{nat_tests}
 use Rattle.space_raw.specs.Span.{Span, Extent, IsWhole}
@@ -8,7 +8,7 @@ use Rattle.mem_rec.specs.declared.MemRec.{MemRec}
 use Rattle.mem_rec.specs.declared.Space.{Space}
 use Rattle.mem_rec.specs.declared.Space.TheVariants.{Daram, Saram, External}
 use Rattle.ialg.specs.Records.{record_at}
-use Rattle.ialg.specs.Filters.{filter_table}
+use Rattle.ialg.specs.Filters.{filter_records}
 use Rattle.alg_fir.specs.Meaning.{fir_memory}
 use Rattle.record_loans.specs.declared.block.ScratchBlock.{ScratchBlock}
 use Rattle.record_loans.specs.declared.pieces.Pieces.{Pieces}
@@ -127,7 +127,7 @@ still_whole p s r whole same = (same.0 ∙ whole.0, (same.1 ∙ whole.1.0, same.
 
 -- the records of a filter of two coefficients
 
-pub memory_of_two : (p : List ℤ) → length p ≡ 2 → filter_table (fir_memory p) ≡ Some two_taps
+pub memory_of_two : (p : List ℤ) → length p ≡ 2 → option_map filter_records (fir_memory p) ≡ Some two_taps
 memory_of_two [] h = absurd (omega (arith, h))
 memory_of_two (x ∷ []) h = absurd (omega (arith, h))
 memory_of_two (x ∷ y ∷ []) h = refl

@@ -1,5 +1,6 @@
 -- The row in which one input alone is honest, line by line.
 use Rattle.std.proofs.Common.{◌≡◌, ℕ, ℤ, pos, Bool, true, List, [], ◌∷◌, ◌++◌, length, Option, Some, Result, Ok, Err, IfOk, inl, inr, refl, sym, ap, ◌∙◌, subst, arith, append-nil}
+use Rattle.host_map.specs.Activity.{with_at}
 use Rattle.std.specs.Prelude.{◌==◌, codes, slice_index_or, if◌then◌else◌}
 use Rattle.std.proofs.lemmas.Bool.{false≢true}
 use Rattle.relocate.proofs.RangeTests.{either}
@@ -8,9 +9,9 @@ use Rattle.ialg.specs.History.{Sample}
 use Rattle.ialg.specs.Meaning.{outputs_of}
 use Rattle.octet_ports.specs.Ports.{Holds as HoldsMore}
 use Rattle.host_spec.specs.Steps.{newborn}
-use Rattle.host_spec.specs.Runs.{AllSpare, history_of_run, outputs_in}
+use Rattle.std.proofs.lemmas.List.Elements.{All-from_recursion}
+use Rattle.host_spec.specs.Runs.{AllSpare, Spares, history_of_run, outputs_in}
 use Rattle.host_spec.specs.Calls as host_calls
-use Rattle.host_spec.specs.State.{with_living}
 use Rattle.host_spec.specs.Answers.{AreLawful}
 use Rattle.channel_spec.specs.Channels.{Channels}
 use Rattle.channel_spec.specs.Calls as calls
@@ -67,7 +68,7 @@ module _ (poison : Option ℤ) (lawful : AreLawful voice_meaning poison) (other 
   abbrev s1 : Channels Voice
   s1 = record s0 {
     host = record s0.host {
-      living = with_living s0.host.living 0 (Some (newborn Fir 0 mean table));
+      living = with_at s0.host.living 0 (Some (newborn Fir 0 mean table));
       map = record { daram = group_block 0 0 ∷ []; saram = record_block 0 1 0 ∷ []; external = record_block 0 0 0 ∷ [] };
     };
   }
@@ -75,7 +76,7 @@ module _ (poison : Option ℤ) (lawful : AreLawful voice_meaning poison) (other 
   abbrev s2 : Channels Voice
   s2 = record s1 {
     host = record s1.host {
-      living = with_living s1.host.living 1 (Some (newborn Fir 0 mean table));
+      living = with_at s1.host.living 1 (Some (newborn Fir 0 mean table));
       map = record {
         daram = group_block 0 0 ∷ [];
         saram = record_block 0 1 0 ∷ record_block 1 1 4 ∷ [];
@@ -157,9 +158,10 @@ module _ (poison : Option ℤ) (lawful : AreLawful voice_meaning poison) (other 
       by_any : (one : List ℤ) (between : List (host_calls.Call Voice)) (three : List ℤ) → IsGivenAny between
           → says.asked ≡ host_calls.Create 0 Fir 0 mean (Ok tt) ∷ life_beside one between three → fed_out 0 says.calls ≡ one ++ (three ++ []) → BesideGave says
       by_any one between three (inl none) asked given =
-          gave_by one [] three (inl refl) (tt, (tt, (tt, tt))) refl refl (asked ∙ ap (λ b. host_calls.Create 0 Fir 0 mean (Ok tt) ∷ life_beside one b three) none) given
+          gave_by one [] three (inl refl) (All-from_recursion (Spares 0) (life_beside one [] three) (tt, (tt, (tt, tt)))) refl refl (asked ∙ ap (λ b. host_calls.Create 0 Fir 0 mean (Ok tt) ∷ life_beside one b three) none) given
       by_any one between three (inr some) asked given =
-          gave_by one (host_calls.Process 1 (some.0 ∷ []) some.1 ∷ []) three (inr (some.0, some.1, refl)) (tt, (tt, (tt, (tt, tt)))) refl refl
+          gave_by one (host_calls.Process 1 (some.0 ∷ []) some.1 ∷ []) three (inr (some.0, some.1, refl))
+          (All-from_recursion (Spares 0) (life_beside one (host_calls.Process 1 (some.0 ∷ []) some.1 ∷ []) three) (tt, (tt, (tt, (tt, tt))))) refl refl
           (asked ∙ ap (λ b. host_calls.Create 0 Fir 0 mean (Ok tt) ∷ life_beside one b three) some.2) given
 
 -- what `fir` gives

@@ -1,13 +1,15 @@
 -- The worked row, line by line.
 use Rattle.std.proofs.Common.{◌≡◌, ℕ, ℤ, pos, Bool, true, List, [], ◌∷◌, ◌++◌, length, Option, Some, Result, Ok, Err, IfOk, refl, ap, ◌∙◌, subst, arith}
+use Rattle.host_map.specs.Activity.{with_at}
 use Rattle.std.specs.Prelude.{codes, slice_index_or, unwrap_or}
 use Rattle.alg_fir.specs.Equation.{fir_output}
 use Rattle.ialg.specs.History.{History, Sample, outputs_by}
 use Rattle.ialg.specs.Meaning.{outputs_of}
 use Rattle.octet_ports.specs.Ports.{Holds as HoldsMore}
 use Rattle.host_spec.specs.Steps.{processed, newborn}
-use Rattle.host_spec.specs.Runs.{outputs_in}
-use Rattle.channel_spec.specs.Steps.{on_host}
+use Rattle.std.proofs.lemmas.List.Elements.{All-from_recursion}
+use Rattle.host_spec.specs.Runs.{Spares, outputs_in}
+use Rattle.channel_spec.specs.Parts.{on_host}
 use Rattle.voice_script.specs.Served.{Answer}
 use Rattle.console_spec.specs.Samples.{octets_of}
 use Rattle.script_server.specs.Runs.{Devices, no_sink}
@@ -23,7 +25,6 @@ use Rattle.mem_rec.specs.declared.MemRec.{MemRec}
 use Rattle.host_map.specs.declared.placed.Owner.TheVariants.{Record, Scratch}
 use Rattle.host_map.specs.declared.placed.Placed.{Placed}
 use Rattle.host_spec.specs.Calls as host_calls
-use Rattle.host_spec.specs.State.{with_living}
 use Rattle.host_spec.specs.Answers.{AreLawful}
 use Rattle.channel_spec.specs.Channels.{Channels}
 use Rattle.channel_spec.specs.Calls as calls
@@ -72,7 +73,7 @@ module _ (poison : Option ℤ) (lawful : AreLawful voice_meaning poison) where
   abbrev s1 : Channels Voice
   s1 = record s0 {
     host = record s0.host {
-      living = with_living s0.host.living 2 (Some (newborn Fir 1 mean table));
+      living = with_at s0.host.living 2 (Some (newborn Fir 1 mean table));
       map = record { daram = group_block 1 0 ∷ []; saram = record_block 2 1 0 ∷ []; external = record_block 2 0 0 ∷ [] };
     };
   }
@@ -80,7 +81,7 @@ module _ (poison : Option ℤ) (lawful : AreLawful voice_meaning poison) where
   abbrev s2 : Channels Voice
   s2 = record s1 {
     host = record s1.host {
-      living = with_living s1.host.living 0 (Some (newborn Fir 0 mean table));
+      living = with_at s1.host.living 0 (Some (newborn Fir 0 mean table));
       map = record {
         daram = group_block 1 0 ∷ group_block 0 1040 ∷ [];
         saram = record_block 2 1 0 ∷ record_block 0 1 4 ∷ [];
@@ -92,7 +93,7 @@ module _ (poison : Option ℤ) (lawful : AreLawful voice_meaning poison) where
   abbrev s3 : Channels Voice
   s3 = record s2 {
     host = record s2.host {
-      living = with_living s2.host.living 1 (Some (newborn Fir 0 mean table));
+      living = with_at s2.host.living 1 (Some (newborn Fir 0 mean table));
       map = record {
         daram = group_block 1 0 ∷ group_block 0 1040 ∷ [];
         saram = record_block 2 1 0 ∷ record_block 0 1 4 ∷ record_block 1 1 8 ∷ [];
@@ -166,7 +167,7 @@ module _ (poison : Option ℤ) (lawful : AreLawful voice_meaning poison) where
         earlier = host_calls.Create 2 Fir 1 mean (Ok tt) ∷ [];
         rest = host_calls.Delete 0 (Ok tt) ∷ [];
         created = made.asked_is;
-        spared = (tt, (tt, (tt, (λ e. omega (arith, e), (tt, (tt, tt))))));
+        spared = All-from_recursion (Spares 0) (life made.one made.two made.three) (tt, (tt, (tt, (λ e. omega (arith, e), (tt, (tt, tt))))));
       } in
       let gave : outputs_in 0 (life made.one made.two made.three) ≡ pos 1 ∷ pos 3 ∷ pos 5 ∷ [] =
       (says.each 0 Fir 0 mean (life made.one made.two made.three) (lawful Fir mean) born).gives.outputs ∙ fir mean (Sample (pos 6) ∷ Sample (pos 4) ∷ Sample (pos 2) ∷ []) in

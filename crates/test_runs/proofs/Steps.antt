@@ -1,27 +1,31 @@
 -- Lines whose calls are known, one after the other.
 use Rattle.std.proofs.Common.{◌≡◌, ◌<◌, ◌+◌, ℕ, ℤ, Bool, true, false, List, [], ◌∷◌, ◌++◌, length, take, drop, Option, None, Result, Ok, Err, inl, inr, ap, sym, ◌∙◌, subst, arith, length-append}
 use Rattle.std.proofs.Math.Seq.{drop-append_seam, take-append_seam}
-use Rattle.std.specs.Prelude.{◌==◌, nat_le, if◌then◌else◌}
-use Rattle.std.proofs.lemmas.Bool.{false≢true, leb-true}
+use Rattle.std.specs.Prelude.{◌==◌, nat_le, nat_lt, if◌then◌else◌}
+use Rattle.std.proofs.lemmas.Bool.{false≢true, le-ltb, leb-true}
 use Rattle.std.proofs.lemmas.Bool.Decides.{eqb_tells}
 use Rattle.relocate.proofs.RangeTests.{either}
 use Rattle.ialg.specs.declared.refusal.Refusal.{Refusal}
+use Rattle.ialg.specs.declared.refusal.Refusal.TheVariants.{Long}
 use Rattle.ialg.specs.Meaning.{Meaning}
 use Rattle.host_spec.specs.State.{State}
-use Rattle.host_spec.specs.Steps.{processed}
+use Rattle.host_spec.specs.Steps.{processed, unless}
 use Rattle.host_spec.specs.Calls as host_calls
 use Rattle.host_spec.specs.Calls.Call.{Process}
 use Rattle.host_spec.specs.Answers.{AreLawful}
 use Rattle.channel_spec.specs.Channels.{Channels, members_at}
-use Rattle.channel_spec.specs.Steps.{channel_refusal, on_host, unless}
-use Rattle.channel_spec.specs.Calls.{Call, Feeds, Passes}
+use Rattle.channel_spec.specs.Steps.{channel_refusal}
+use Rattle.channel_spec.specs.Parts.{Passes, on_host}
+use Rattle.channel_spec.proofs.PassingLemmas.{fed_passes}
+use Rattle.channel_spec.specs.Cuts.{Feeds}
+use Rattle.channel_spec.specs.Calls.{Call, IsPassing}
 use Rattle.channel_spec.specs.Calls.Call.{Ready, Feed}
 use Rattle.channel_spec.specs.Answers.{answered}
 use Rattle.channel_spec.proofs.AnswerLemmas.{computed}
 use Rattle.voice_script.specs.Script as script
 use Rattle.voice_script.specs.Script.{parsed}
 use Rattle.voice_script.specs.declared.limits.TheConstants.{LINE_OCTETS}
-use Rattle.console_spec.specs.HostRuns.{AsHostCalls, IsPassing, RunsOnHost}
+use Rattle.console_spec.specs.HostRuns.{AsHostCalls, RunsOnHost}
 use Rattle.console_spec.specs.Lines.{CommandMakes, IsFed, IsSameBut, IsShort, Left, LineMakes, LinesMake, Makes}
 
 -- where the inputs of these channels are followed, which are honest
@@ -30,6 +34,12 @@ module _ {M : Type 0} (kinds : Meaning M) (named : List ℕ → Option M) (hones
   pub record Holds (lines : List (List ℕ)) (known : ℕ → List ℤ) (state : Channels M) (P : List (Call M) → List (host_calls.Call M) → Type 0) : Type 0 where
     pub always : (left after : Left) (made : List (Call M)) (asked : List (host_calls.Call M)) (end : Channels M)
         → ((c : ℕ) → followed c ≡ true → left c ≡ known c) → LinesMake honest named lines left made after → RunsOnHost kinds state made asked end → P made asked
+
+  -- a line that isn't long makes what it asks
+  short_line : (line : List ℕ) (left between : Left) (first : List (Call M)) → nat_le (length line) LINE_OCTETS ≡ true
+      → LineMakes honest (if nat_lt LINE_OCTETS (length line) then Err Long else parsed named line) left first between → LineMakes honest (parsed named line) left first between
+  short_line line left between first fits makes =
+      subst (λ b. LineMakes honest (if b then Err Long else parsed named line) left first between) (le-ltb LINE_OCTETS (length line) (leb-true (length line) LINE_OCTETS fits)) makes
 
   pub ended : {known : ℕ → List ℤ} {state : Channels M} {P : List (Call M) → List (host_calls.Call M) → Type 0} → P [] [] → Holds [] known state P
   ended {state = state} {P = P} p = record {
@@ -50,7 +60,7 @@ module _ {M : Type 0} (kinds : Meaning M) (named : List ℕ → Option M) (hones
       → Holds (line ∷ lines) known state P
   told {line = line} {lines = lines} {state = state} {P = P} call answer next host lawful fits makes same hosts go = record {
     always = λ left after made asked end k m r.
-        let one = makes left m.0 m.1 (m.3.fits (leb-true (length line) LINE_OCTETS fits)) in
+        let one = makes left m.0 m.1 (short_line line left m.0 m.1 fits m.3) in
         let made_is : made ≡ call one.0 ∷ m.2 = m.5 ∙ ap (λ first. first ++ m.2) one.1 in
         let ran = subst (λ calls. RunsOnHost kinds state calls asked end) made_is r in
         let c = computed kinds state ran.0 lawful (call one.0) ran.3 ∙ same one.0 in
@@ -94,8 +104,8 @@ module _ {M : Type 0} (kinds : Meaning M) (named : List ℕ → Option M) (hones
     module _ (x : ℤ) (xs out : List ℤ) where
       fed_state : (after : Channels M) → Feeds kinds state c (x ∷ xs) out after → after ≡ fed_with (x ∷ xs)
       fed_state after f =
-          let passes : Passes kinds state.host (i ∷ []) (x ∷ xs) out after.host = subst (λ is. Passes kinds state.host is (x ∷ xs) out after.host) only f.passes in
-          moved state after (processed state.host i (x ∷ xs)) (passes.3.1 ∙ passes.2.outcome) f.chained
+          let passes : Passes kinds state.host (i ∷ []) (x ∷ xs) out after.host = subst (λ is. Passes kinds state.host is (x ∷ xs) out after.host) only (fed_passes kinds state after c (x ∷ xs) out f) in
+          moved state after (processed state.host i (x ∷ xs)) (passes.3.1 ∙ passes.2.outcome) f.4
 
       asked_is : (asked : List (host_calls.Call M)) → IsPassing (members_at state.chained c) (x ∷ xs) out asked → asked ≡ Process i (x ∷ xs) out ∷ []
       asked_is asked passing =
@@ -137,17 +147,17 @@ module _ {M : Type 0} (kinds : Meaning M) (named : List ℕ → Option M) (hones
         is_fed : IsFed honest c n left first between → P made asked
         is_fed f =
             let its = parts left (k c follows) in
-            let is : made ≡ Ready c (Ok tt) ∷ Feed c (x ∷ xs) f.out ∷ later =
-            joined ∙ ap (λ calls. calls ++ later) (f.calls ∙ ap (λ block. Ready c (Ok tt) ∷ Feed c block f.out ∷ []) (sym (f.first (are c follows)) ∙ its.0)) in
-            let gone = passes_on x xs f.out later asked end (goes_on (Feed c (x ∷ xs) f.out ∷ later) made asked end is r) in
+            let is : made ≡ Ready c (Ok tt) ∷ Feed c (x ∷ xs) f.1 ∷ later =
+            joined ∙ ap (λ calls. calls ++ later) (f.5 ∙ ap (λ block. Ready c (Ok tt) ∷ Feed c block f.1 ∷ []) (sym (f.3 (are c follows)) ∙ its.0)) in
+            let gone = passes_on x xs f.1 later asked end (goes_on (Feed c (x ∷ xs) f.1 ∷ later) made asked end is r) in
             let others : (d : ℕ) → followed d ≡ true → between d ≡ left_then d =
-            λ d follow. f.others d (are d follow) ∙ ap (λ ys. if d == c then ys else left d) its.1 ∙ ap (λ ys. if d == c then rest else ys) (k d follow) in
-            subst (λ calls. P calls asked) (sym is) (subst (λ all. P (Ready c (Ok tt) ∷ Feed c (x ∷ xs) f.out ∷ later) all) (sym gone.2)
-            ((go f.out).always between after later gone.0 end others on gone.1))
+            λ d follow. f.4 d (are d follow) ∙ ap (λ ys. if d == c then ys else left d) its.1 ∙ ap (λ ys. if d == c then rest else ys) (k d follow) in
+            subst (λ calls. P calls asked) (sym is) (subst (λ all. P (Ready c (Ok tt) ∷ Feed c (x ∷ xs) f.1 ∷ later) all) (sym gone.2)
+            ((go f.1).always between after later gone.0 end others on gone.1))
 
         by_three : CommandMakes honest (script.Feed c n) left first between → P made asked
         by_three (inl refused) = not_refused refused.0 later made asked end (joined ∙ ap (λ calls. calls ++ later) refused.1) r
-        by_three (inr (inl short)) = not_short left (k c follows) (short.few (are c follows))
+        by_three (inr (inl short)) = not_short left (k c follows) (short.0 (are c follows))
         by_three (inr (inr f)) = is_fed f
 
       pub fed : {line : List ℕ} {lines : List (List ℕ)} {P : List (Call M) → List (host_calls.Call M) → Type 0}
@@ -156,7 +166,7 @@ module _ {M : Type 0} (kinds : Meaning M) (named : List ℕ → Option M) (hones
           → ((out : List ℤ) → Holds lines left_then (fed_with (x ∷ xs)) (λ made asked. P (Ready c (Ok tt) ∷ Feed c (x ∷ xs) out ∷ made) (Process i (x ∷ xs) out ∷ asked)))
           → Holds (line ∷ lines) known state P
       fed {line = line} {lines = lines} {P = P} fits makes go = record {
-        always = λ left after made asked end k m r. by_three P lines go left after made asked end k m.0 m.1 m.2 m.4 m.5 r (makes left m.0 m.1 (m.3.fits (leb-true (length line) LINE_OCTETS fits)));
+        always = λ left after made asked end k m r. by_three P lines go left after made asked end k m.0 m.1 m.2 m.4 m.5 r (makes left m.0 m.1 (short_line line left m.0 m.1 fits m.3));
       }
 
     -- ---- a channel whose input isn't followed is fed one sample, whatever that is, or is short
@@ -177,9 +187,9 @@ module _ {M : Type 0} (kinds : Meaning M) (named : List ℕ → Option M) (hones
           (r : RunsOnHost kinds state made asked end) where
         is_short : IsShort honest c 1 left first between → P made asked
         is_short short =
-            let is : made ≡ Ready c (Ok tt) ∷ later = joined ∙ ap (λ calls. calls ++ later) short.calls in
+            let is : made ≡ Ready c (Ok tt) ∷ later = joined ∙ ap (λ calls. calls ++ later) short.2 in
             subst (λ calls. P calls asked) (sym is)
-            (go_short.always between after later asked end (are_others [] left between k short.none) on (goes_on later made asked end is r))
+            (go_short.always between after later asked end (are_others [] left between k short.1) on (goes_on later made asked end is r))
 
         is_one : (block out : List ℤ) → length block ≡ 1 → ((d : ℕ) → followed d ≡ true → between d ≡ known d) → first ≡ Ready c (Ok tt) ∷ Feed c block out ∷ [] → P made asked
         is_one [] out e others calls = absurd (omega (arith, e))
@@ -193,7 +203,7 @@ module _ {M : Type 0} (kinds : Meaning M) (named : List ℕ → Option M) (hones
         by_any : CommandMakes honest (script.Feed c 1) left first between → P made asked
         by_any (inl refused) = not_refused refused.0 later made asked end (joined ∙ ap (λ calls. calls ++ later) refused.1) r
         by_any (inr (inl short)) = is_short short
-        by_any (inr (inr f)) = is_one f.block f.out f.counted (are_others (drop 1 (left c)) left between k f.others) f.calls
+        by_any (inr (inr f)) = is_one f.0 f.1 f.2 (are_others (drop 1 (left c)) left between k f.4) f.5
 
       pub fed_any : {line : List ℕ} {lines : List (List ℕ)} {P : List (Call M) → List (host_calls.Call M) → Type 0}
           → nat_le (length line) LINE_OCTETS ≡ true
@@ -202,5 +212,5 @@ module _ {M : Type 0} (kinds : Meaning M) (named : List ℕ → Option M) (hones
           → ((x : ℤ) (out : List ℤ) → Holds lines known (fed_with (x ∷ [])) (λ made asked. P (Ready c (Ok tt) ∷ Feed c (x ∷ []) out ∷ made) (Process i (x ∷ []) out ∷ asked)))
           → Holds (line ∷ lines) known state P
       fed_any {line = line} {lines = lines} {P = P} fits makes go_short go = record {
-        always = λ left after made asked end k m r. by_any P lines go_short go left after made asked end k m.0 m.1 m.2 m.4 m.5 r (makes left m.0 m.1 (m.3.fits (leb-true (length line) LINE_OCTETS fits)));
+        always = λ left after made asked end k m r. by_any P lines go_short go left after made asked end k m.0 m.1 m.2 m.4 m.5 r (makes left m.0 m.1 (short_line line left m.0 m.1 fits m.3));
       }

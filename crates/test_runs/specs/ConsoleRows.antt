@@ -1,9 +1,8 @@
 -- Worked rows: what a console of the hosted kinds serves for a script and the samples of its inputs.
 use Rattle.std.specs.Prelude.{◌≡◌, ℕ, ℤ, pos, neg_ℤ, Some, None, List, [], ◌∷◌, ◌++◌, map, length, replicate, codes, ◌==◌, if◌then◌else◌}
-use Rattle.std.specs.List.{flat_map}
+use Rattle.std.specs.List.{flat_map, range_with_len}
 use Prim.Native.String.{String}
 use Rattle.host_map.specs.declared.parts.Sizes.{Sizes}
-use Rattle.relocate.specs.Places.{numbers_below}
 use Rattle.voice_set.specs.declared.voice.Voice.{Voice}
 use Rattle.voice_set.specs.Voices.{voice_meaning, voice_named}
 use Rattle.channel_spec.specs.Channels.{Channels}
@@ -42,7 +41,7 @@ seen answer =
     let octets = order_of answer.written in
     record {
       replies = held_by None octets;
-      outputs = map (λ c. held_by (Some c) octets) (numbers_below (length answer.run.inputs));
+      outputs = map (λ c. held_by (Some c) octets) (range_with_len 0 (length answer.run.inputs));
       left = answer.run.inputs;
       refused = refusals answer.written;
     }

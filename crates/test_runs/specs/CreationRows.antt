@@ -1,5 +1,5 @@
 -- Worked rows: which blocks a creation places and replaces, for kinds that ask for any memory.
-use Rattle.std.specs.Prelude.{ℕ, Bool, true, false, ◌==◌, ◌&&◌, pos, List, [], ◌∷◌, length, Some}
+use Rattle.std.specs.Prelude.{ℕ, Bool, true, false, ◌==◌, ◌&&◌, pos, List, [], ◌∷◌, Some}
 use Rattle.mem_rec.specs.declared.MemRec.{MemRec}
 use Rattle.mem_rec.specs.declared.Space.{Space}
 use Rattle.mem_rec.specs.declared.Space.TheVariants.{Daram, Saram, External}
@@ -35,9 +35,7 @@ same_shape _ _ = false
 abbrev pub shapes : Meaning Shape
 shapes = record {
   same = same_shape;
-  bound = λ shape. length shape;
   table = λ shape p. Some shape;
-  fill = λ shape p k. [];
   gives = λ shape p h. word_at (samples_since_reset h) 0 ∷ [];
   accepts = λ shape p c. true;
   got = λ shape p h. [];

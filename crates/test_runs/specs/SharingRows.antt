@@ -1,5 +1,5 @@
 -- Worked rows: which instances share a write-once block, whose it is, and when it goes.
-use Rattle.std.specs.Prelude.{ℕ, true, ◌==◌, pos, [], ◌∷◌, length, Some}
+use Rattle.std.specs.Prelude.{ℕ, true, ◌==◌, pos, [], ◌∷◌, Some}
 use Rattle.mem_rec.specs.declared.Space.TheVariants.{Saram, External}
 use Rattle.ialg.specs.declared.refusal.Refusal.TheVariants.{Room}
 use Rattle.ialg.specs.History.{word_at, samples_since_reset}
@@ -27,9 +27,7 @@ Named = ℕ × Shape
 abbrev pub named : Meaning Named
 named = record {
   same = λ a b. a.0 == b.0;
-  bound = λ kind. length kind.1;
   table = λ kind p. Some kind.1;
-  fill = λ kind p k. [];
   gives = λ kind p h. word_at (samples_since_reset h) 0 ∷ [];
   accepts = λ kind p c. true;
   got = λ kind p h. [];

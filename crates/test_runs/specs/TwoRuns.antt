@@ -1,12 +1,13 @@
 -- Two runs of the engine, and what they have in common.
 use Rattle.std.specs.Prelude.{ℕ, ℤ, ◌≡◌, ◌+◌, ◌≤◌, ◌⊎◌, ◌↔◌, List, [], ◌∷◌, ◌++◌, Option, Result, IfOk, IsErrOf, IsTrue, length}
+use Rattle.std.specs.Result.{result_err}
 use Rattle.ialg.specs.declared.refusal.Refusal.{Refusal}
 use Rattle.ialg.specs.History.{Ctl}
 use Rattle.ialg.specs.Meaning.{Meaning, Status}
 use Rattle.octet_ports.specs.Ports.{GivesWithin, Sink, Source}
 use Rattle.host_map.specs.declared.parts.Sizes.{Sizes}
 use Rattle.host_map.specs.MemoryMap.{AreSizes}
-use Rattle.host_spec.specs.Calls.{Call, refusal_in}
+use Rattle.host_spec.specs.Calls.{Call}
 use Rattle.host_spec.specs.Calls.Call.{Control}
 use Rattle.host_spec.specs.Runs.{history_of_run, outputs_in, statuses_in}
 use Rattle.script_server.specs.declared.limits.TheConstants.{SCRIPT_OCTETS}
@@ -57,7 +58,7 @@ pub record RunsAgree {M : Type 0} (kinds : Meaning M) (named : List ℕ → Opti
       → IsTrue (kinds.lawful kind p other_poison) → Born j kind h p two.says.asked since
       → (control : Ctl) (first rest : List (Call M)) (answer : Result Status Refusal) → later ≡ first ++ Control i control answer ∷ rest
       → (other_first other_rest : List (Call M)) (other_answer : Result Status Refusal) → since ≡ other_first ++ Control j control other_answer ∷ other_rest
-      → refusal_in answer ≡ refusal_in other_answer
+      → result_err answer ≡ result_err other_answer
 
 -- what is known of the ports of a run
 abbrev pub ports_known : {S I O P : Type 0} → (S → Source) → (I → Source) → (O → Sink) → (P → Sink) → Ports S I O P → Devices

@@ -13,12 +13,14 @@ use Rattle.ialg.specs.Laws.{Laws}
 use Rattle.host_table.specs.declared.member.Member.{Member}
 use Rattle.host_spec.specs.State.{Living, State, is_instance_number}
 use Rattle.host_spec.specs.Steps as steps
+use Rattle.host_spec.specs.Steps.{Outcome, unless}
 use Rattle.host_spec.specs.Calls.Call.{Delete}
 use Rattle.host_moves.specs.Kept.{IsLiving}
 use Rattle.alg_host.specs.Hosts.{HostState}
 use Rattle.alg_host.specs.Hosts as hosts
-use Rattle.channel_spec.specs.Channels.{Channels, is_in_channel, lives, all_live}
-use Rattle.channel_spec.specs.Steps.{Outcome, unless, with_members, on_host, delete}
+use Rattle.channel_spec.specs.Channels.{Channels, is_in_channel}
+use Rattle.channel_spec.specs.Steps.{delete}
+use Rattle.channel_spec.specs.Parts.{all_live, lives, on_host, with_members}
 use Rattle.channel_spec.specs.Calls.{Call, Does}
 use Rattle.channel_spec.specs.Calls.Call.{Remove}
 use Rattle.voice_channel.specs.Channels.{ChannelsState, Serves}
@@ -84,10 +86,10 @@ module _ {M : Type 0} (laws : Laws M) (law : HoldsOn laws.meaning) where
 module _ {M : Type 0} (before : Channels M) where
   as_host : (number none : Bool) (left : State M)
       → unless {A = Unit {0}} (first_refusal ((not number, Range) ∷ (none, Missing) ∷ (false, Busy) ∷ [])) before
-      (Ok tt, on_host before (steps.unless {A = Unit {0}} (first_refusal ((not number, Range) ∷ (none, Missing) ∷ [])) before.host (Ok tt, left)).1)
+      (Ok tt, on_host before (unless {A = Unit {0}} (first_refusal ((not number, Range) ∷ (none, Missing) ∷ [])) before.host (Ok tt, left)).1)
       ≡ (
-        (steps.unless {A = Unit {0}} (first_refusal ((not number, Range) ∷ (none, Missing) ∷ [])) before.host (Ok tt, left)).0,
-        on_host before (steps.unless {A = Unit {0}} (first_refusal ((not number, Range) ∷ (none, Missing) ∷ [])) before.host (Ok tt, left)).1,
+        (unless {A = Unit {0}} (first_refusal ((not number, Range) ∷ (none, Missing) ∷ [])) before.host (Ok tt, left)).0,
+        on_host before (unless {A = Unit {0}} (first_refusal ((not number, Range) ∷ (none, Missing) ∷ [])) before.host (Ok tt, left)).1,
       )
   as_host false none left = refl
   as_host true true left = refl
@@ -108,7 +110,7 @@ module _ {M : Type 0} (before : Channels M) where
   -- one that is in a channel isn't deleted
   pub busy_delete : (kinds : Meaning M) (i : ℕ) → is_instance_number i ≡ true → lives before.host i ≡ true → is_in_channel before.chained i ≡ true → (Err Busy, before) ≡ delete kinds before i
   busy_delete kinds i number living busy =
-      let of_tests : Bool → Bool → Bool → Outcome M (Unit {0}) =
+      let of_tests : Bool → Bool → Bool → Outcome (Channels M) (Unit {0}) =
       λ n m b. unless (first_refusal ((not n, Range) ∷ (m, Missing) ∷ (b, Busy) ∷ [])) before (Ok tt, on_host before (steps.delete kinds before.host i).1) in
       sym
       (ap (λ n. of_tests n (is_none (before.host.living i)) (is_in_channel before.chained i)) number

@@ -12,9 +12,11 @@ use Rattle.host_spec.specs.State.{State}
 use Rattle.host_spec.specs.Calls.Call.{Process}
 use Rattle.alg_host.specs.Hosts.{HostState}
 use Rattle.alg_host.specs.Hosts as hosts
-use Rattle.channel_spec.specs.Channels.{Channels, members_at, is_chained, has_number, lives, all_live}
-use Rattle.channel_spec.specs.Steps.{channel_refusal, on_host}
-use Rattle.channel_spec.specs.Calls.{Passes, Feeds}
+use Rattle.channel_spec.specs.Channels.{Channels, members_at, is_chained, has_number}
+use Rattle.channel_spec.specs.Steps.{channel_refusal}
+use Rattle.channel_spec.specs.Parts.{Passes, all_live, lives, on_host}
+use Rattle.channel_spec.proofs.PassingLemmas.{asked_of}
+use Rattle.channel_spec.specs.Cuts.{Feeds}
 use Rattle.channel_spec.specs.Calls.Call.{Feed}
 use Rattle.channel_spec.proofs.LivingLemmas.{passes_live}
 use Rattle.voice_channel.specs.Channels.{ChannelsState, PassesThrough, Serves}
@@ -111,9 +113,7 @@ module _ {M : Type 0} (laws : Laws M) where
         (all_named (lives before.host) (members_at before.chained c) (keeps.held.live c)) in
         let end = through before.host keeps.host live in
         let after : Channels M = on_host before end.0 in
-        let does : Feeds laws.meaning before c block out after = record {
-          ready = ready_of before c (ap is_chained its ∙ some);
-          passes = subst (λ is. Passes laws.meaning before.host is block out end.0) (sym its) end.1;
-          chained = refl;
-        } in
+        let asked = asked_of laws.meaning (members_at before.chained c) before.host end.0 block out
+        (subst (λ is. Passes laws.meaning before.host is block out end.0) (sym its) end.1) in
+        let does : Feeds laws.meaning before c block out after = (ready_of before c (ap is_chained its ∙ some), asked.0, asked.1, asked.2, refl) in
         (after, does, record { host = end.2; chained = keeps.chained ∙ sym same; held = law before after (Feed c block out) does keeps.held })

@@ -22,7 +22,7 @@ module _ {M : Type 0} (laws : Laws M) (law : HoldsOn laws.meaning) where
   passed_on call on old new chained serves = λ before keeps.
       let did = serves before.host keeps.host in
       let after : Channels M = record before { host = did.0 } in
-      let does : Does laws.meaning before (OfHost call) after = record { kind = on; does = did.1; chained = refl } in
+      let does : Does laws.meaning before (OfHost call) after = (on, did.1, refl) in
       (after, does, record { host = did.2; chained = keeps.chained; held = law before after (OfHost call) does keeps.held })
 
   -- the same of channels that are seen so

@@ -3,8 +3,9 @@ use Rattle.std.specs.Prelude.{ℕ, ℤ, ◌≡◌, true, List}
 use Rattle.alg_host.specs.Hosts.{HostState}
 use Rattle.alg_host.specs.Hosts as hosts
 use Rattle.host_spec.specs.State.{State}
-use Rattle.channel_spec.specs.Channels.{Channels, all_live}
-use Rattle.channel_spec.specs.Calls.{Call, Does, Passes}
+use Rattle.channel_spec.specs.Channels.{Channels}
+use Rattle.channel_spec.specs.Parts.{Passes, all_live}
+use Rattle.channel_spec.specs.Calls.{Call, Does}
 use Rattle.channel_spec.specs.Laws.{AreHeld}
 use Rattle.ialg.specs.Laws.{Laws}
 

@@ -2,8 +2,8 @@
 ghost use Rattle.std.specs.Prelude.{◌≡◌, ◌<◌, ◌≤◌, OnErr, IfNone, length, set};
 ghost use Rattle.std.specs.List.{list_all, list_any};
 ghost use Rattle.alg_host.specs.Hosts.{lives};
-ghost use Rattle.channel_spec.specs.Channels.{Channels as State, is_in_channel, all_live};
-ghost use Rattle.channel_spec.specs.Steps.{chain_refusal};
+ghost use Rattle.channel_spec.specs.Channels.{Channels as State, is_in_channel};
+ghost use Rattle.channel_spec.specs.Parts.{all_live, chain_refusal};
 ghost use Rattle.channel_spec.specs.Calls.Call.{Chain, Unchain, Remove};
 ghost use Rattle.voice_channel.specs.Channels.{Serves};
 

@@ -1,7 +1,8 @@
 //! Which instances are in which channel.
 ghost use Rattle.std.specs.Prelude.{◌≡◌, ◌<◌, true, Ok, None, IfNone, IsOk, length};
 ghost use Rattle.channel_spec.specs.Channels.{Channels as State, members_at, is_chained};
-ghost use Rattle.channel_spec.specs.Steps.{channel_refusal, unless};
+ghost use Rattle.host_spec.specs.Steps.{unless};
+ghost use Rattle.channel_spec.specs.Steps.{channel_refusal};
 ghost use Rattle.channel_spec.specs.Calls.Call.{Ready};
 ghost use Rattle.voice_channel.specs.Channels.{Serves};
 

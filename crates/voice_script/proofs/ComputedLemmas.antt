@@ -1,5 +1,5 @@
 -- What a feed's answer is where its input is honest; and a machine that does no more than a computed one answers as that one does.
-use Rattle.std.proofs.Common.{◌≡◌, ◌≤◌, ◌<◌, ◌+◌, ℕ, Bool, List, [], ◌∷◌, ◌++◌, length, take, drop, true, false, cond, ap, refl, sym, ◌∙◌, subst, ⊎_elim, length-append}
+use Rattle.std.proofs.Common.{◌≡◌, ◌≤◌, ◌<◌, ◌+◌, ℕ, Bool, List, [], ◌∷◌, ◌++◌, length, take, drop, true, cond, ap, refl, sym, ◌∙◌, subst, ⊎_elim, length-append}
 use Rattle.std.specs.Prelude.{nat_lt}
 use Rattle.std.proofs.Common.{arith}
 use Rattle.std.proofs.Math.Seq.{drop-append_seam, take-append_seam}
@@ -7,8 +7,9 @@ use Rattle.std.proofs.lemmas.Bool.{cases_Bool}
 use Rattle.std.proofs.lemmas.Grind.{common_steps}
 use Rattle.ialg.specs.declared.refusal.Refusal.TheVariants.{Long, Short}
 use Rattle.voice_script.specs.declared.limits.TheConstants.{LINE_OCTETS}
-use Rattle.voice_script.specs.Served.{Asked, Nothing, Tell, Feed, Machine, Run, Answer, Output, Replied, refuses, replies, at_state, octets_left, with_left, then_answer, FedAnswer, FeedAnswer, AskedAnswer, ServedAnswer, LineAnswer, LinesAnswer}
-use Rattle.voice_script.specs.Computed.{Computed, IsComputed, after_reading, machine_of, fed_answer, feed_answer, asked_answer, line_answer, lines_answer}
+use Rattle.voice_script.specs.Replies.{Count}
+use Rattle.voice_script.specs.Served.{Asked, Nothing, Tell, Feed, Machine, Run, Answer, Output, Replied, refuses, with_left, FedAnswer, FeedAnswer, AskedAnswer, ServedAnswer, LineAnswer, LinesAnswer}
+use Rattle.voice_script.specs.Computed.{Computed, IsComputed, replies, at_state, octets_left, then_answer, after_reading, machine_of, fed_answer, feed_answer, asked_answer, line_answer, lines_answer}
 
 -- ---- a feed whose input is honest
 
@@ -66,17 +67,17 @@ module _ {S T : Type 0} (machine : Machine S) (computed : Computed T) (standing 
   at run = standing_run standing run
 
   -- what a channel gave
-  abbrev gave : Run S → ℕ → (output told : List ℕ) → Answer S
-  gave run channel output told = record { run = run; written = Output channel output ∷ Replied told false ∷ [] }
+  abbrev gave : Run S → ℕ → (output : List ℕ) → (samples : ℕ) → Answer S
+  gave run channel output samples = record { run = run; written = Output channel output ∷ Replied (Count samples) ∷ [] }
 
   fed : (run : Run T) (channel : ℕ) (octets : List ℕ) (answer : Answer S) → FedAnswer machine (at run) channel octets answer
       → answer ≡ shown (fed_answer computed run channel octets)
   fed run channel octets answer a =
-      let e = is.gives run.state channel octets a.output a.told a.state a.taken in
-      a.answered
-      ∙ ap (λ o. gave (at_state (at run) a.state) channel o a.told) e.0
-      ∙ ap (λ t. gave (at_state (at run) a.state) channel (computed.output run.state channel octets) t) e.1
-      ∙ ap (λ s. gave (at_state (at run) s) channel (computed.output run.state channel octets) (computed.told run.state channel octets)) e.2
+      let e = is.gives run.state channel octets a.0 a.1 a.2 a.3 in
+      a.4
+      ∙ ap (λ o. gave (at_state (at run) a.2) channel o a.1) e.0
+      ∙ ap (λ t. gave (at_state (at run) a.2) channel (computed.output run.state channel octets) t) e.1
+      ∙ ap (λ s. gave (at_state (at run) s) channel (computed.output run.state channel octets) (computed.samples run.state channel octets)) e.2
 
   -- ---- what is answered is an answer of the machine that does it and nothing else
 
@@ -88,13 +89,8 @@ module _ {S T : Type 0} (machine : Machine S) (computed : Computed T) (standing 
   Stands MayAnswer answer = (its : Answer T) × MayAnswer its × (answer ≡ shown its)
 
   own_fed : (run : Run T) (channel : ℕ) (octets : List ℕ) → FedAnswer own run channel octets (fed_answer computed run channel octets)
-  own_fed run channel octets = record {
-    output = computed.output run.state channel octets;
-    told = computed.told run.state channel octets;
-    state = computed.fed run.state channel octets;
-    taken = (refl, refl, refl);
-    answered = refl;
-  }
+  own_fed run channel octets =
+      (computed.output run.state channel octets, computed.samples run.state channel octets, computed.fed run.state channel octets, (refl, refl, refl), refl)
 
   feed_stands : (run : Run T) (channel count : ℕ) (answer : Answer S) → FeedAnswer machine honest (at run) channel count answer
       → Stands (FeedAnswer own honest run channel count) answer
@@ -124,17 +120,17 @@ module _ {S T : Type 0} (machine : Machine S) (computed : Computed T) (standing 
 
   asked_stands : (run : Run T) (asked : Asked) (answer : Answer S) → AskedAnswer machine honest (at run) asked answer → Stands (AskedAnswer own honest run asked) answer
   asked_stands run Nothing answer a = (record { run = run; written = [] }, refl, a)
-  asked_stands run (Tell text refused) answer a = (replies run text refused, refl, a)
+  asked_stands run (Tell reply) answer a = (replies run reply, refl, a)
   asked_stands run (Feed channel count) answer a = feed_stands run channel count answer a
 
   served_stands : (run : Run T) (line : List ℕ) (answer : Answer S) → ServedAnswer machine honest (at run) line answer → Stands (ServedAnswer own honest run line) answer
   served_stands run line answer a =
-      let e = is.asks run.state line a.asked a.state a.asks in
+      let e = is.asks run.state line a.0 a.1 a.2 in
       let stands = asked_stands (at_state run (computed.after run.state line)) (computed.asked run.state line) answer
       (subst (λ s. AskedAnswer machine honest (at_state (at run) s) (computed.asked run.state line) answer) e.1
-      (subst (λ x. AskedAnswer machine honest (at_state (at run) a.state) x answer) e.0 a.answered)) in (
+      (subst (λ x. AskedAnswer machine honest (at_state (at run) a.1) x answer) e.0 a.3)) in (
         stands.0,
-        record { asked = computed.asked run.state line; state = computed.after run.state line; asks = (refl, refl); answered = stands.1 },
+        (computed.asked run.state line, computed.after run.state line, (refl, refl), stands.1),
         stands.2,
       )
 
@@ -175,16 +171,16 @@ module _ {S T : Type 0} (machine : Machine S) (computed : Computed T) (standing 
 
     asked_is : (run : Run T) (asked : Asked) (answer : Answer S) → AskedAnswer machine honest (at run) asked answer → answer ≡ shown (asked_answer computed run asked)
     asked_is run Nothing answer a = a
-    asked_is run (Tell text refused) answer a = a
+    asked_is run (Tell reply) answer a = a
     asked_is run (Feed channel count) answer a = feed run channel count answer a
 
     served : (run : Run T) (line : List ℕ) (answer : Answer S) → ServedAnswer machine honest (at run) line answer
         → answer ≡ shown (asked_answer computed (at_state run (computed.after run.state line)) (computed.asked run.state line))
     served run line answer a =
-        let e = is.asks run.state line a.asked a.state a.asks in
+        let e = is.asks run.state line a.0 a.1 a.2 in
         asked_is (at_state run (computed.after run.state line)) (computed.asked run.state line) answer
         (subst (λ s. AskedAnswer machine honest (at_state (at run) s) (computed.asked run.state line) answer) e.1
-        (subst (λ x. AskedAnswer machine honest (at_state (at run) a.state) x answer) e.0 a.answered))
+        (subst (λ x. AskedAnswer machine honest (at_state (at run) a.1) x answer) e.0 a.3))
 
     abbrev asked : Run T → List ℕ → Answer T
     asked run line = asked_answer computed (at_state run (computed.after run.state line)) (computed.asked run.state line)

@@ -1,15 +1,16 @@
 -- What a contract sees of parsed lines.
 use Rattle.std.specs.Prelude.{Option, Some, None, Result, Ok, Err}
 use Rattle.ialg.specs.declared.refusal.Refusal.{Refusal}
+use Rattle.ialg.specs.History as history
 use Rattle.voice_script.specs.Script as script
 use Rattle.voice_script.specs.declared.commands.Command.{Command}
 use Rattle.voice_script.specs.declared.commands.Command.TheVariants.{Create, Set, Reset, Get, Delete, Chain, Unchain, Feed, Compact, Step, Release, Map, Stat}
 
 abbrev pub command_of : {M : Type 0} → Command M → script.Command M
 command_of (Create instance kind group parameters) = script.Create instance kind group parameters.now.items
-command_of (Set instance words) = script.Set instance words.now.items
-command_of (Reset instance) = script.Reset instance
-command_of (Get instance) = script.Get instance
+command_of (Set instance words) = script.Control instance (history.Set words.now.items)
+command_of (Reset instance) = script.Control instance history.Reset
+command_of (Get instance) = script.Control instance history.Get
 command_of (Delete instance) = script.Delete instance
 command_of (Chain channel members) = script.Chain channel members.numbers.items
 command_of (Unchain channel) = script.Unchain channel

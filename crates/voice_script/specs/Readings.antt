@@ -1,12 +1,17 @@
--- What the clauses of private functions alone name: a line as it is cut, and words as they are read one by one.
-use Rattle.std.specs.Prelude.{◌≡◌, ◌≤◌, ◌<◌, ℕ, length, take, slice_index_or, Bool, true, false, List, [], ◌∷◌, ◌++◌, All, ℤ, pos, neg_ℤ, ◌≤ℤ◌, ◌<ℤ◌, Option, Some, None, Result, Ok, Err, if◌then◌else◌, codes}
+-- What the clauses of private functions alone name: a line as it is cut, words as they are read one by one, and parts of rows and of replies.
+use Rattle.std.specs.Prelude.{◌≡◌, ◌≤◌, ◌<◌, ℕ, length, take, slice_index_or, Bool, true, false, List, [], ◌∷◌, ◌++◌, All, ℤ, pos, neg_ℤ, ◌≤ℤ◌, ◌<ℤ◌, ◌&&◌, nat_le, map, decimal, Option, Some, None, Result, Ok, Err, if◌then◌else◌, codes}
 use Rattle.std.specs.List.{list_all}
+use Rattle.std.specs.Option.{option_map_or}
 use Rattle.std.specs.Char.{is_ascii_digit}
+use Rattle.std.specs.Fmt.{signed_decimal}
+use Rattle.ialg.specs.History.{Set, Reset, Get}
 use Rattle.ialg.specs.declared.refusal.Refusal.{Refusal}
 use Rattle.ialg.specs.declared.refusal.Refusal.TheVariants.{Range, Syntax}
+use Rattle.host_map.specs.declared.placed.Placed.{Placed}
 use Rattle.voice_script.specs.Script as script
+use Rattle.voice_script.specs.Replies.{block_text}
 use Rattle.voice_script.specs.declared.words.Words.{Words}
-use Rattle.voice_script.specs.declared.limits.TheConstants.{GREATEST_MAGNITUDE, SHORT_DIGITS}
+use Rattle.voice_script.specs.declared.limits.TheConstants.{FEED_SAMPLES, GREATEST_MAGNITUDE, MEMBERS, SHORT_DIGITS}
 
 abbrev pub IsNoBlank : ℕ → Type 0
 IsNoBlank b = script.is_blank b ≡ false
@@ -81,3 +86,42 @@ at_end (w ∷ ws) = Err Syntax
 -- why the words of a list of numbers aren't taken: one is no number, or else one is out of its range or there are too many
 abbrev pub why_unfit : List (List ℕ) → Refusal
 why_unfit ws = if list_all script.is_number ws then Range else Syntax
+
+-- ---- ranges
+
+abbrev pub fits_word : List ℕ → Bool
+fits_word w = script.fits (neg_ℤ (pos 32768)) (pos 32767) w
+
+abbrev pub fits_samples : List ℕ → Bool
+fits_samples w = script.fits (pos 1) (pos FEED_SAMPLES) w
+
+-- for the members of a channel
+abbrev pub fit_members : List (List ℕ) → Bool
+fit_members ws = nat_le (length ws) MEMBERS && list_all script.fits_byte ws
+
+-- ---- rows of `control`
+
+abbrev pub set_row : {M : Type 0} → List ℕ → List (List ℕ) → Result (script.Command M) Refusal
+set_row i ws =
+    script.row (list_all script.is_number (i ∷ ws)) (script.fits_byte i && script.fit_words ws)
+    (script.Control (script.natural i) (Set (map script.value_of ws)))
+
+abbrev pub reset_row : {M : Type 0} → List ℕ → List (List ℕ) → Result (script.Command M) Refusal
+reset_row i ws = script.to (λ n. script.Control n Reset) (script.only_number (i ∷ ws))
+
+abbrev pub get_row : {M : Type 0} → List ℕ → List (List ℕ) → Result (script.Command M) Refusal
+get_row i ws = script.to (λ n. script.Control n Get) (script.only_number (i ∷ ws))
+
+-- ---- parts of replies
+
+-- each word after one space
+abbrev pub word_text : ℤ → List ℕ
+word_text z = codes " " ++ signed_decimal z
+
+-- each block after one space
+abbrev pub entry_text : Placed → List ℕ
+entry_text b = codes " " ++ block_text b
+
+-- a minus where no member is active
+abbrev pub active_text : Option ℕ → List ℕ
+active_text active = option_map_or decimal active (codes "-")

@@ -1,6 +1,7 @@
 -- Rows on both sides of every limit: what lines ask, and the texts of replies.
 use Rattle.std.specs.Prelude.{◌≡◌, ℕ, List, [], ◌∷◌, ◌++◌, fold, replicate, length, true, false, pos, negsuc, Option, Some, None, Result, Ok, Err, if◌then◌else◌, bytes_eq, codes}
 use Prim.Native.String.{String}
+use Rattle.ialg.specs.History.{Set, Reset, Get}
 use Rattle.ialg.specs.declared.refusal.Refusal.{Refusal}
 use Rattle.ialg.specs.declared.refusal.Refusal.TheVariants.{Long, Syntax, Range, Taken, Missing, Params, Room, Busy, Command, Short}
 use Rattle.mem_rec.specs.declared.Space.TheVariants.{Daram, Saram, External}
@@ -8,7 +9,7 @@ use Rattle.host_map.specs.declared.placed.Owner.{Owner}
 use Rattle.host_map.specs.declared.placed.Owner.TheVariants.{Record, Scratch}
 use Rattle.host_map.specs.declared.placed.Placed.{Placed}
 use Rattle.voice_script.specs.Script as script
-use Rattle.voice_script.specs.Script.{Create, Set, Reset, Get, Delete, Chain, Unchain, Feed, Compact, Step, Release, Map, Stat, parsed}
+use Rattle.voice_script.specs.Script.{Create, Control, Delete, Chain, Unchain, Feed, Compact, Step, Release, Map, Stat, parsed}
 use Rattle.voice_script.specs.Replies.{Reply, Done, Words, Count, Flag, Stat as Told, Map as Mapped, No, reply_text}
 
 -- ---- lines
@@ -117,22 +118,22 @@ pub record NameRows : Type 0 where
   pub third_word_before_range : Refuses (codes "feed 256 0 x") Syntax
 
 pub record ControlRows : Type 0 where
-  pub set_no_words : Asks (codes "control 3 set") (Set 3 [])
-  pub set_words : Asks (codes "control 3 set 5 -6") (Set 3 (pos 5 ∷ negsuc 5 ∷ []))
-  pub set_72_words : Asks (codes "control 3 set" ++ times 72 " 9") (Set 3 (replicate 72 (pos 9)))
+  pub set_no_words : Asks (codes "control 3 set") (Control 3 (Set []))
+  pub set_words : Asks (codes "control 3 set 5 -6") (Control 3 (Set (pos 5 ∷ negsuc 5 ∷ [])))
+  pub set_72_words : Asks (codes "control 3 set" ++ times 72 " 9") (Control 3 (Set (replicate 72 (pos 9))))
   pub set_73_words : Refuses (codes "control 3 set" ++ times 73 " 9") Range
   pub last_of_73_no_number : Refuses (codes "control 3 set" ++ times 72 " 9" ++ codes " x") Syntax
-  pub set_least_word : Asks (codes "control 3 set -32768") (Set 3 (negsuc 32767 ∷ []))
+  pub set_least_word : Asks (codes "control 3 set -32768") (Control 3 (Set (negsuc 32767 ∷ [])))
   pub set_below_words : Refuses (codes "control 3 set -32769") Range
-  pub set_greatest_word : Asks (codes "control 3 set 32767") (Set 3 (pos 32767 ∷ []))
+  pub set_greatest_word : Asks (codes "control 3 set 32767") (Control 3 (Set (pos 32767 ∷ [])))
   pub set_above_words : Refuses (codes "control 3 set 32768") Range
-  pub set_of_255 : Asks (codes "control 255 set") (Set 255 [])
+  pub set_of_255 : Asks (codes "control 255 set") (Control 255 (Set []))
   pub set_of_256 : Refuses (codes "control 256 set") Range
   pub set_of_256_no_number : Refuses (codes "control 256 set x") Syntax
-  pub reset : Asks (codes "control 255 reset") (Reset 255)
+  pub reset : Asks (codes "control 255 reset") (Control 255 Reset)
   pub reset_of_256 : Refuses (codes "control 256 reset") Range
   pub reset_with_a_word : Refuses (codes "control 256 reset 0") Syntax
-  pub get : Asks (codes "control 255 get") (Get 255)
+  pub get : Asks (codes "control 255 get") (Control 255 Get)
   pub get_of_256 : Refuses (codes "control 256 get") Range
   pub get_with_a_word : Refuses (codes "control 3 get 0") Syntax
   pub no_control : Refuses (codes "control 3") Syntax

@@ -1,32 +1,30 @@
 -- What may be served for a script's lines and the octets of the inputs, by what a machine may do with a line.
-use Rattle.std.specs.Prelude.{ℕ, ◌≡◌, ◌≤◌, ◌<◌, ◌-◌, Bool, true, false, List, [], ◌∷◌, ◌++◌, map, filter, length, take, Option, Some, None, ◌==◌, slice_index_or, slice_set}
+use Rattle.std.specs.Prelude.{ℕ, ◌≡◌, ◌≤◌, ◌<◌, ◌-◌, Bool, true, false, List, [], ◌∷◌, ◌++◌, map, filter, length, take, Option, Some, None, nat_eq, slice_index_or, slice_set}
 use Rattle.std.specs.List.{flat_map, count_by}
+use Rattle.std.specs.Option.{option_eq}
 use Rattle.ialg.specs.declared.refusal.Refusal.{Refusal}
 use Rattle.ialg.specs.declared.refusal.Refusal.TheVariants.{Long, Short}
 use Rattle.voice_script.specs.declared.limits.TheConstants.{LINE_OCTETS}
 use Rattle.voice_script.specs.Script.{lines_of}
-use Rattle.voice_script.specs.Replies.{Reply, No, is_refusal, reply_text}
+use Rattle.voice_script.specs.Replies.{Reply, Count, No, reply_text}
 
 -- what a line asks: nothing, a reply, or so many octets of a channel's input
 pub data Asked : Type 0 where
   Nothing : Asked
-  Tell : (text : List ℕ) (refused : Bool) → Asked
+  Tell : (reply : Reply) → Asked
   Feed : (channel count : ℕ) → Asked
-
-abbrev pub tells : Reply → Asked
-tells reply = Tell (reply_text reply) (is_refusal reply)
 
 -- what a machine may do with lines, by its state
 pub record Machine (S : Type 0) : Type 1 where
   -- a line may ask this, and lead to this state
   pub Asks : S → (line : List ℕ) → Asked → S → Type 0
-  -- to the octets that a line asked for, the channel may give this output and this reply, and lead to this state
-  pub Gives : S → (channel : ℕ) → (octets output told : List ℕ) → S → Type 0
+  -- to the octets that a line asked for, the channel may give this output, of so many samples, and lead to this state
+  pub Gives : S → (channel : ℕ) → (octets output : List ℕ) → (samples : ℕ) → S → Type 0
 
 -- what is written for a line, in order
 pub data Written : Type 0 where
   Output : (channel : ℕ) (octets : List ℕ) → Written
-  Replied : (text : List ℕ) (refused : Bool) → Written
+  Replied : (reply : Reply) → Written
 
 -- the machine's state, and the octets left on each input
 pub record Run (S : Type 0) : Type 0 where
@@ -38,32 +36,18 @@ pub record Answer (S : Type 0) : Type 0 where
   pub written : List Written
 
 module _ {S : Type 0} where
-  abbrev pub replies : Run S → List ℕ → Bool → Answer S
-  replies run text refused = record { run = run; written = Replied text refused ∷ [] }
-
   abbrev pub refuses : Run S → Refusal → Answer S
-  refuses run refusal = replies run (reply_text (No refusal)) true
-
-  abbrev pub at_state : Run S → S → Run S
-  at_state run state = record run { state = state }
-
-  abbrev pub octets_left : Run S → ℕ → List ℕ
-  octets_left run channel = slice_index_or run.inputs channel []
+  refuses run refusal = record { run = run; written = Replied (No refusal) ∷ [] }
 
   abbrev pub with_left : Run S → ℕ → List ℕ → Run S
   with_left run channel left = record run { inputs = slice_set run.inputs channel left }
 
-  abbrev pub then_answer : List Written → Answer S → Answer S
-  then_answer written answer = record { run = answer.run; written = written ++ answer.written }
-
 module _ {S : Type 0} (machine : Machine S) where
   -- the channel took the octets
-  pub record FedAnswer (run : Run S) (channel : ℕ) (octets : List ℕ) (answer : Answer S) : Type 0 where
-    pub output : List ℕ
-    pub told : List ℕ
-    pub state : S
-    pub taken : machine.Gives run.state channel octets output told state
-    pub answered : answer ≡ record { run = at_state run state; written = Output channel output ∷ Replied told false ∷ [] }
+  abbrev pub FedAnswer : Run S → ℕ → List ℕ → Answer S → Type 0
+  FedAnswer run channel octets answer =
+      (output : List ℕ) × (samples : ℕ) × (state : S) × machine.Gives run.state channel octets output samples state
+      × (answer ≡ record { run = record run { state = state }; written = Output channel output ∷ Replied (Count samples) ∷ [] })
 
 -- where these inputs are honest: of the others nothing is known
 module _ {S : Type 0} (machine : Machine S) (honest : ℕ → Bool) where
@@ -71,21 +55,18 @@ module _ {S : Type 0} (machine : Machine S) (honest : ℕ → Bool) where
   pub record FeedAnswer (run : Run S) (channel count : ℕ) (answer : Answer S) : Type 0 where
     pub octets : List ℕ
     pub left : List ℕ
-    pub first : honest channel ≡ true → octets_left run channel ≡ octets ++ left
+    pub first : honest channel ≡ true → slice_index_or run.inputs channel [] ≡ octets ++ left
     pub short : length octets < count → (honest channel ≡ true → left ≡ []) × (answer ≡ refuses (with_left run channel left) Short)
     pub whole : count ≤ length octets → (length octets ≡ count) × FedAnswer machine (with_left run channel left) channel octets answer
 
   abbrev pub AskedAnswer : Run S → Asked → Answer S → Type 0
   AskedAnswer run Nothing answer = answer ≡ record { run = run; written = [] }
-  AskedAnswer run (Tell text refused) answer = answer ≡ replies run text refused
+  AskedAnswer run (Tell reply) answer = answer ≡ record { run = run; written = Replied reply ∷ [] }
   AskedAnswer run (Feed channel count) answer = FeedAnswer run channel count answer
 
   -- the line asked something, and that was answered
-  pub record ServedAnswer (run : Run S) (line : List ℕ) (answer : Answer S) : Type 0 where
-    pub asked : Asked
-    pub state : S
-    pub asks : machine.Asks run.state line asked state
-    pub answered : AskedAnswer (at_state run state) asked answer
+  abbrev pub ServedAnswer : Run S → List ℕ → Answer S → Type 0
+  ServedAnswer run line answer = (asked : Asked) × (next : S) × machine.Asks run.state line asked next × AskedAnswer (record run { state = next }) asked answer
 
   -- a long line asks for nothing
   pub record LineAnswer (run : Run S) (line : List ℕ) (answer : Answer S) : Type 0 where
@@ -96,7 +77,8 @@ module _ {S : Type 0} (machine : Machine S) (honest : ℕ → Bool) where
   abbrev pub LinesAnswer : Run S → List (List ℕ) → Answer S → Type 0
   LinesAnswer run [] answer = answer ≡ record { run = run; written = [] }
   LinesAnswer run (line ∷ lines) answer =
-      (first : Answer S) × LineAnswer run line first × (rest : Answer S) × LinesAnswer first.run lines rest × (answer ≡ then_answer first.written rest)
+      (first : Answer S) × LineAnswer run line first × (rest : Answer S) × LinesAnswer first.run lines rest
+      × (answer ≡ record { run = rest.run; written = first.written ++ rest.written })
 
 -- ---- the script
 
@@ -112,24 +94,18 @@ Octet = Option ℕ × ℕ
 
 abbrev pub octets_written : Written → List Octet
 octets_written (Output channel octets) = map (λ b. (Some channel, b)) octets
-octets_written (Replied text refused) = map (λ b. (None, b)) text
-
-abbrev pub same_port : Option ℕ → Option ℕ → Bool
-same_port None None = true
-same_port (Some c) (Some d) = c == d
-same_port (Some c) None = false
-same_port None (Some d) = false
+octets_written (Replied reply) = map (λ b. (None, b)) (reply_text reply)
 
 -- what one port holds of octets in their order
 unfoldable pub held_by : Option ℕ → List Octet → List ℕ
-held_by port octets = map (λ o. o.1) (filter (λ o. same_port port o.0) octets)
+held_by port octets = map (λ o. o.1) (filter (λ o. option_eq nat_eq port o.0) octets)
 
 unfoldable pub order_of : List Written → List Octet
 order_of written = flat_map octets_written written
 
 abbrev pub is_refused : Written → Bool
-is_refused (Output channel octets) = false
-is_refused (Replied text refused) = refused
+is_refused (Replied (No refusal)) = true
+is_refused _ = false
 
 unfoldable pub refusals : List Written → ℕ
 refusals written = count_by is_refused written

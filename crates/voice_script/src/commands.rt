@@ -1,7 +1,7 @@
 //! Commands, and the lines that ask them.
 ghost use Rattle.std.specs.Prelude.{◌≡◌};
-ghost use Rattle.voice_script.specs.Script.{create_row, set_row, reset_row, get_row, control_row, chain_row, feed_row, command_of, parsed};
-ghost use Rattle.voice_script.specs.Readings.{to_come};
+ghost use Rattle.voice_script.specs.Script.{create_row, control_row, chain_row, feed_row, command_of, parsed};
+ghost use Rattle.voice_script.specs.Readings.{get_row, reset_row, set_row, to_come};
 ghost use Rattle.voice_script.specs.Commands.{line_of};
 ghost use Rattle.voice_script.specs.RowViews.{row_of};
 

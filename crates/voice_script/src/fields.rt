@@ -1,8 +1,8 @@
 //! The words of a row, by what each stands for.
 ghost use Rattle.std.specs.Prelude.{◌≡◌, Ok, Err, true, false, ◌&&◌, ◌+◌, ◌++◌, ◌∷◌, [], ◌≤◌, nat_le, nat_lt, length, map, IfOk, IfErr, IsOk, is_ok, IsErr};
 ghost use Rattle.std.specs.List.{list_all};
-ghost use Rattle.voice_script.specs.Script.{is_number, value_of, natural, fits_byte, fits_word, fit_words, fit_members, only_number, only_space, space_named};
-ghost use Rattle.voice_script.specs.Readings.{begins_with_number, kind_first, at_end, to_come, why_unfit};
+ghost use Rattle.voice_script.specs.Script.{is_number, value_of, natural, fits_byte, fit_words, only_number, only_space, space_named};
+ghost use Rattle.voice_script.specs.Readings.{begins_with_number, fit_members, fits_word, kind_first, at_end, to_come, why_unfit};
 ghost use Rattle.voice_script.specs.declared.limits.TheConstants.{MEMBERS};
 
 use crate::members::MemberNumbers;

@@ -96,7 +96,8 @@ pub(crate) struct Number<'a> {
 }
 
 impl<'a> Number<'a> {
-    ghost use Rattle.voice_script.specs.Script.{fits_byte, fits_samples, fits_word, natural};
+    ghost use Rattle.voice_script.specs.Script.{fits_byte, natural};
+    ghost use Rattle.voice_script.specs.Readings.{fits_samples, fits_word};
 
     /// None where the word is no number.
     pub(crate) fn of(word: &'a [u8]) -> Option<Number<'a>>

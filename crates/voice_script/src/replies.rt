@@ -2,7 +2,8 @@
 ghost use Rattle.std.specs.Prelude.{◌≡◌, ◌≤◌, ◌+◌, ◌*◌, ◌++◌, ◌<◌, [], length, decimal};
 ghost use Rattle.std.specs.List.{flat_map};
 ghost use Rattle.std.specs.Fmt.{signed_decimal};
-ghost use Rattle.voice_script.specs.Replies.{active_text, owner_text, block_text, word_text, entry_text, line_text, reply_text, is_refusal, Stat as told_stat, No as told_no};
+ghost use Rattle.voice_script.specs.Replies.{owner_text, line_text, reply_text, Stat as told_stat, No as told_no};
+ghost use Rattle.voice_script.specs.Readings.{active_text, word_text, entry_text};
 
 use crate::limits::{
     BYTE_DIGITS, ENTRY_OCTETS, NUMBER_DIGITS, OWNER_OCTETS, REPLY_OCTETS, WORD_TEXT_OCTETS,
@@ -172,7 +173,7 @@ fn push_refusal(text: &mut ReplyText, refusal: Refusal)
 }
 
 impl Reply<'_> {
-    ghost use Rattle.voice_script.specs.ReplyViews.{reply_of};
+    ghost use Rattle.voice_script.specs.ReplyViews.{is_refusal, reply_of};
 
     /// Puts the line without its line feed.
     fn push_line(&self, text: &mut ReplyText)

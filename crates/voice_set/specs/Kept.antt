@@ -5,8 +5,7 @@ use Rattle.ialg.specs.History.{History, IsWordHistory}
 use Rattle.ialg.specs.Records.{HoldFill}
 use Rattle.voice_set.specs.declared.voice.Voice.{Voice}
 use Rattle.voice_set.specs.declared.voice.Voice.TheVariants.{Fir, Decim, Biquad, Tone, G711}
-use Rattle.voice_set.specs.Voices.{voice_meaning}
-use Rattle.voice_set.specs.Keeps.{IsIdle, IsActive}
+use Rattle.voice_set.specs.Keeps.{voice_fill, IsIdle, IsActive}
 
 pub idle_words : (voice : Voice) (p : List ℤ) (rs : List MemRec) (wss : List (List ℤ)) (h : History)
     → IsIdle voice p rs wss h → IsWordHistory h
@@ -25,7 +24,7 @@ active_words Tone p rs wss h keeps = keeps.keeps.history
 active_words G711 p rs wss h keeps = keeps.history
 
 pub idle_fill : (voice : Voice) (p : List ℤ) (rs : List MemRec) (wss : List (List ℤ)) (h : History)
-    → IsIdle voice p rs wss h → HoldFill (voice_meaning.fill voice p) rs wss
+    → IsIdle voice p rs wss h → HoldFill (voice_fill voice p) rs wss
 idle_fill Fir p rs wss h keeps k once = absurd (keeps.placed.none_once k once)
 idle_fill Decim p rs wss h keeps k once = keeps.constants.constants k once
 idle_fill Biquad p rs wss h keeps k once = absurd (keeps.placed.none_once k once)
@@ -33,7 +32,7 @@ idle_fill Tone p rs wss h keeps k once = absurd (keeps.placed.none_once k once)
 idle_fill G711 p rs wss h keeps k once = keeps.samples k once
 
 pub active_fill : (voice : Voice) (p : List ℤ) (rs : List MemRec) (wss : List (List ℤ)) (h : History)
-    → IsActive voice p rs wss h → HoldFill (voice_meaning.fill voice p) rs wss
+    → IsActive voice p rs wss h → HoldFill (voice_fill voice p) rs wss
 active_fill Fir p rs wss h keeps k once = absurd (keeps.placed.none_once k once)
 active_fill Decim p rs wss h keeps k once = keeps.constants.constants k once
 active_fill Biquad p rs wss h keeps k once = absurd (keeps.placed.none_once k once)

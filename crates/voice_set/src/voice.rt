@@ -3,7 +3,7 @@ ghost use Rattle.std.proofs.Common.{rules};
 ghost use Rattle.std.specs.Cmp.Rules.{comparing};
 ghost use Rattle.ialg.specs.Meaning.{AreAlwaysLawful};
 ghost use Rattle.voice_set.specs.Voices.{voice_meaning, voice_named};
-ghost use Rattle.voice_set.specs.Keeps.{IsIdle, IsActive};
+ghost use Rattle.voice_set.specs.Keeps.{voice_bound, voice_fill, IsIdle, IsActive};
 ghost use Rattle.voice_set.specs.Kept.{idle_words, active_words, idle_fill, active_fill};
 
 use alg_biquad::Biquad;
@@ -51,6 +51,8 @@ impl Named for Voice {
 impl Ialg for Voice {
     ghost law = { record {
       meaning = voice_meaning;
+      bound = voice_bound;
+      fill = voice_fill;
       idle_keeps = IsIdle;
       active_keeps = IsActive;
     } };

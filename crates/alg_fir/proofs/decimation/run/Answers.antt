@@ -3,7 +3,8 @@ use Rattle.std.proofs.Math.Seq.{take-length}
 use Rattle.ialg.specs.History.{with_samples}
 use Rattle.fir_kernel.specs.Rings.{IsRing}
 use Rattle.alg_fir.specs.Keeps.{KeepsRing, AreOutputs}
-use Rattle.alg_fir.specs.Decimation.{factor, coefficients_of, taps_of, phase}
+use Rattle.alg_fir.specs.Decimation.{factor}
+use Rattle.alg_fir.specs.DecimKeeps.{taps_of, coefficients_of, phase}
 use Rattle.alg_fir.proofs.DecimSteps.{is_taken, block_outputs}
 use Rattle.alg_fir.proofs.decimation.run.Goals as goal
 

@@ -3,9 +3,8 @@ use Rattle.mem_rec.specs.declared.Space.TheVariants.{External}
 use Rattle.ialg.specs.History.{word_at}
 use Rattle.ialg.proofs.Taking.{persist_not_once}
 use Rattle.ialg.proofs.Finding.{NamedAt-SameBut}
-use Rattle.alg_fir.specs.Decimation.{taps_of}
 use Rattle.alg_fir.specs.DecimMeaning.{decim_records}
-use Rattle.alg_fir.specs.DecimKeeps.{decim_kind}
+use Rattle.alg_fir.specs.DecimKeeps.{taps_of, decim_kind}
 use Rattle.alg_fir.proofs.DecimRecords.{visited}
 use Rattle.alg_fir.proofs.decimator.count.Goals as goal
 

@@ -1,7 +1,6 @@
 use Rattle.std.proofs.Common.{◌∙◌}
-use Rattle.alg_fir.specs.Decimation.{taps_of}
 use Rattle.alg_fir.specs.DecimMeaning.{decim_records}
-use Rattle.alg_fir.specs.DecimKeeps.{decim_kind}
+use Rattle.alg_fir.specs.DecimKeeps.{taps_of, decim_kind}
 use Rattle.alg_fir.proofs.decimator.count_with.Goals as goal
 
 pub returns-in-Some : goal.returns-in-Some

@@ -1,6 +1,5 @@
-use Rattle.alg_fir.specs.Decimation.{taps_of}
 use Rattle.alg_fir.specs.DecimMeaning.{decim_records}
-use Rattle.alg_fir.specs.DecimKeeps.{decim_kind}
+use Rattle.alg_fir.specs.DecimKeeps.{taps_of, decim_kind}
 use Rattle.alg_fir.proofs.DecimRecords.{finds}
 use Rattle.alg_fir.proofs.decimator.get.Goals as goal
 

@@ -1,6 +1,7 @@
 use Rattle.std.proofs.Common.{◌≡◌, ◌+◌, ◌-◌, length, sym, ap, ◌∙◌, pos, arith}
 use Rattle.ialg.specs.Loans.{lent_words}
-use Rattle.alg_fir.specs.Decimation.{factor, taps_of}
+use Rattle.alg_fir.specs.Decimation.{factor}
+use Rattle.alg_fir.specs.DecimKeeps.{taps_of}
 use Rattle.alg_fir.proofs.DecimRecords.{constants_same, ring_size, finds, lent_still}
 use Rattle.alg_fir.proofs.DecimSteps.{is_taken}
 use Rattle.ialg.specs.History.{word_at}

@@ -3,9 +3,8 @@ use Rattle.mem_rec.specs.declared.Space.TheVariants.{Saram, External}
 use Rattle.ialg.proofs.Taking.{scratch_not_once}
 use Rattle.ialg.proofs.Finding.{NamedAt-SameBut}
 use Rattle.alg_fir.specs.Keeps.{KeepsRing}
-use Rattle.alg_fir.specs.Decimation.{taps_of}
 use Rattle.alg_fir.specs.DecimMeaning.{decim_records}
-use Rattle.alg_fir.specs.DecimKeeps.{decim_kind, KeepsPhase, RanDecim}
+use Rattle.alg_fir.specs.DecimKeeps.{taps_of, decim_kind, KeepsPhase, RanDecim}
 use Rattle.alg_fir.proofs.DecimRecords.{visited}
 use Rattle.alg_fir.proofs.decimator.run_ring.Goals as goal
 

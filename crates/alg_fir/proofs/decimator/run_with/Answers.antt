@@ -1,7 +1,6 @@
 use Rattle.std.proofs.Common.{sym, subst, ◌∙◌}
-use Rattle.alg_fir.specs.Decimation.{taps_of}
 use Rattle.alg_fir.specs.DecimMeaning.{decim_records}
-use Rattle.alg_fir.specs.DecimKeeps.{decim_kind, KeepsPhase}
+use Rattle.alg_fir.specs.DecimKeeps.{taps_of, decim_kind, KeepsPhase}
 use Rattle.alg_fir.proofs.decimator.run_with.Goals as goal
 
 pub returns-in_default-clause-ran : goal.returns-in_default-clause-ran

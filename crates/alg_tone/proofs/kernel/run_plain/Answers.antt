@@ -2,9 +2,9 @@ use Rattle.std.proofs.Common.{◌≡◌, ◌+◌, ◌-◌, ◌<◌, ◌≤◌, �
 use Rattle.std.proofs.lemmas.Int.{to_z-of_z, to_z_pos}
 use mir.Val.{SFits}
 use mir.Syntax.{w16}
-use Rattle.ialg.specs.History.{word_at}
+use Rattle.ialg.specs.History.{word_at, samples_in_frame}
 use Rattle.ialg.proofs.Histories.{fits_more}
-use Rattle.alg_tone.specs.Equation.{samples_in_frame, tone_value}
+use Rattle.alg_tone.specs.Equation.{frame_length, tone_value}
 use Rattle.alg_tone.specs.Frames.{Gives}
 use Rattle.alg_tone.proofs.Steps.{gives_within, all_counted, word_of_part}
 use Rattle.alg_tone.proofs.kernel.run_plain.Goals as goal
@@ -22,7 +22,7 @@ loop-x-init c =
       fit = subst (λ n. (k : ℕ) → k < n → SFits w16 (word_at xs k)) none c.run_quiet-quiet.ensures.fit;
       gives = λ p h tuned frame inside.
           rw (to_z-of_z w16 quiet.v1 f1, to_z-of_z w16 quiet.v2 f2)
-          (subst (λ n. Gives p h (take n xs) (record { samples = pos (samples_in_frame p h + n); v1 = quiet.v1; v2 = quiet.v2 }) []) none
+          (subst (λ n. Gives p h (take n xs) (record { samples = pos (samples_in_frame (frame_length p) h + n); v1 = quiet.v1; v2 = quiet.v2 }) []) none
           (c.run_quiet-quiet.ensures.law p h tuned frame inside));
     }
 
@@ -56,14 +56,14 @@ loop-x-preserved c =
       gives = λ p h tuned frame inside.
           let before = rw (c.loop-x.v1-is, c.loop-x.v2-is) at (c.loop-x.invariant.gives p h tuned frame inside) in
           rw (to_z-of_z w16 v fv, c.loop-x.v1-is)
-          (subst (λ n. Gives p h (take n xs) (record { samples = pos (samples_in_frame p h + n); v1 = v; v2 = v1 }) []) next
+          (subst (λ n. Gives p h (take n xs) (record { samples = pos (samples_in_frame (frame_length p) h + n); v1 = v; v2 = v1 }) []) next
           (gives_within p h xs i t v1 v2 v below tuned inside before value));
     }
 
 pub returns-clause-law : goal.returns-clause-law
 returns-clause-law c p h tuned frame inside =
     let xs = c.args.input.now in
-    let n = samples_in_frame p h in
+    let n = samples_in_frame (frame_length p) h in
     let i = c.run_quiet-quiet.result.count + c.loop-x.x-index in
     let few = tuned.few in
     let quiet = c.run_quiet-quiet.ensures.count in

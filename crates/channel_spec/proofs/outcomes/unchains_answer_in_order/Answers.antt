@@ -1,5 +1,5 @@
 use Rattle.std.specs.Prelude.{[], Ok}
-use Rattle.channel_spec.specs.Steps.{with_members}
+use Rattle.channel_spec.specs.Parts.{with_members}
 use Rattle.channel_spec.proofs.OutcomeLemmas.{about_range, about_missing, about_granted}
 use Rattle.channel_spec.proofs.outcomes.unchains_answer_in_order.Goals as goal
 

@@ -1,6 +1,5 @@
-use Rattle.std.proofs.Common.{rules, ◌≡◌, ◌∙◌, refl, ap, sym, subst, w32, List, ℤ}
+use Rattle.std.proofs.Common.{◌∙◌, subst, w32, List, ℤ}
 use Rattle.std.proofs.Math.Facts.{to_z-of_z}
-use Rattle.std.specs.Prelude.{Some, Ok, Err, length, take}
 use Rattle.dsp_library.specs.declared.machine.Machine.{Machine}
 use Rattle.dsp_library.specs.Calls.{Serves}
 use Rattle.dsp_library.proofs.There.{same_there}

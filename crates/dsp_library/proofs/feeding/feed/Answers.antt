@@ -1,4 +1,4 @@
-use Rattle.std.proofs.Common.{◌≡◌, ◌∙◌, ◌<◌, refl, subst, w32, List, ℤ, ℕ}
+use Rattle.std.proofs.Common.{◌≡◌, ◌∙◌, refl, subst, w32, List, ℤ}
 use Rattle.std.proofs.Math.Facts.{to_z-of_z}
 use Rattle.std.specs.Prelude.{length, take, drop}
 use Rattle.dsp_library.specs.Calls.FeedEnds.{Refused, Given}

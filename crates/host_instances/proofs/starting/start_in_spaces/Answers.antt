@@ -119,7 +119,7 @@ returns-clause-activity g c k =
 pub returns-clause-keeps : goal.returns-clause-keeps
 returns-clause-keeps g c histories lawful before =
     c.begin.ensures.keeps c.args.poison histories lawful
-    (are_new c.args.poison (g.M.Ialg.law.meaning.fill c.args.instance.kind c.args.instance.params.now.items) c.args.instance.table c.in-Ok.placed.own c.in-Ok.placed.shared c.in-Ok.ensures.poison.own (λ k. inl (c.in-Ok.ensures.poison.shared k)))
+    (are_new c.args.poison (g.M.Ialg.law.fill c.args.instance.kind c.args.instance.params.now.items) c.args.instance.table c.in-Ok.placed.own c.in-Ok.placed.shared c.in-Ok.ensures.poison.own (λ k. inl (c.in-Ok.ensures.poison.shared k)))
     (c.grow.ensures.keeps histories before)
 
 pub returns-clause-stays : goal.returns-clause-stays

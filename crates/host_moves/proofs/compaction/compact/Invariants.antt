@@ -1,6 +1,5 @@
-use Rattle.std.proofs.Common.{◌≡◌, ℤ, ◌+◌, Option}
-use Rattle.relocate.specs.Packing.{unpacked_count}
-use Rattle.host_map.specs.Moves.{spots_of}
+use Rattle.std.proofs.Common.{◌≡◌, ℤ, ◌+◌, length, Option}
+use Rattle.host_map.specs.Moves.{unpacked_behind}
 use Rattle.host_map.specs.MemoryMap.{blocks_in}
 use Rattle.host_spaces.specs.MemoryMap.{map_of}
 use Rattle.host_spaces.specs.Spaces.{HasFront}
@@ -17,10 +16,10 @@ invariant-loop-space g l = record {
   standing : AgreeWithMap l.tables.instances l.tables.sharing l.tables.groups l.spaces;
   front : HasFront l.packed (blocks_in (map_of l.spaces) l.space);
   poisoned : (w : Option ℤ) → ArePoisoned w l.fn.tables.groups → ArePoisoned w l.tables.groups;
-  counted : l.moved + unpacked_count (spots_of (blocks_in (map_of l.spaces) l.space)) ≡ unpacked_count (spots_of (blocks_in (map_of l.fn.spaces) l.space));
+  counted : l.moved + length (unpacked_behind 0 (blocks_in (map_of l.spaces) l.space)) ≡ length (unpacked_behind 0 (blocks_in (map_of l.fn.spaces) l.space));
   amid : (before : State _) → HostKeeps g.M.Ialg.law l.fn.tables.instances l.fn.tables.sharing l.fn.tables.groups l.fn.spaces before
       → IsAmid g.M.Ialg.law l.space l.tables.instances l.tables.sharing l.tables.groups l.spaces l.moved before;
 }
 
 abbrev pub decreases-loop-space : goal.decreases-loop-space
-decreases-loop-space g l = unpacked_count (spots_of (blocks_in (map_of l.spaces) l.space))
+decreases-loop-space g l = length (unpacked_behind 0 (blocks_in (map_of l.spaces) l.space))

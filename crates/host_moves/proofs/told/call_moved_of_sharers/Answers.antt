@@ -1,6 +1,6 @@
-use Rattle.std.proofs.Common.{◌+◌, ◌∙◌, refl, arith}
+use Rattle.std.proofs.Common.{◌+◌, ◌∙◌, arith}
 use Rattle.host_table.proofs.Activities.{inactive_then}
-use Rattle.host_table.proofs.Told.{members_then, same_members}
+use Rattle.host_table.proofs.Told.{members_then}
 use Rattle.host_moves.specs.Waiting.{holds_with}
 use Rattle.host_moves.proofs.Sharing.{all_wait, none_waits, not_equal, owner_below, passed_over}
 use Rattle.host_moves.proofs.told.call_moved_of_sharers.Goals as goal

@@ -6,34 +6,34 @@ use Rattle.host_shared.proofs.Stands.{four_pieces}
 use Rattle.host_shared.proofs.Owners.{owners1, owners2, owners3, owners_lent, count_seen, seen1, seen2, seen3, lent_here}
 use Rattle.host_shared.proofs.locations.take_each.Goals as goal
 
-pub take_record-requires-clause-owner : goal.take_record-requires-clause-owner
-take_record-requires-clause-owner c = c.requires.owners 0
+pub take_record-p0-requires-clause-owner : goal.take_record-p0-requires-clause-owner
+take_record-p0-requires-clause-owner c = c.requires.owners 0
 
-pub take_record-requires-2-clause-owner : goal.take_record-requires-2-clause-owner
-take_record-requires-2-clause-owner c =
-    rw c.take_record.ensures.left (owners1 _ _ c.requires.owners no_pieces 1)
+pub take_record-p1-requires-clause-owner : goal.take_record-p1-requires-clause-owner
+take_record-p1-requires-clause-owner c =
+    rw c.take_record-p0.ensures.left (owners1 _ _ c.requires.owners no_pieces 1)
 
-pub take_record-requires-3-clause-owner : goal.take_record-requires-3-clause-owner
-take_record-requires-3-clause-owner c =
-    rw (c.take_record-2.ensures.left, c.take_record.ensures.left) (owners2 _ _ c.requires.owners no_pieces 2)
+pub take_record-p2-requires-clause-owner : goal.take_record-p2-requires-clause-owner
+take_record-p2-requires-clause-owner c =
+    rw (c.take_record-p1.ensures.left, c.take_record-p0.ensures.left) (owners2 _ _ c.requires.owners no_pieces 2)
 
-pub take_record-requires-4-clause-owner : goal.take_record-requires-4-clause-owner
-take_record-requires-4-clause-owner c =
-    rw (c.take_record-3.ensures.left, c.take_record-2.ensures.left, c.take_record.ensures.left) (owners3 _ _ c.requires.owners no_pieces 3)
+pub take_record-p3-requires-clause-owner : goal.take_record-p3-requires-clause-owner
+take_record-p3-requires-clause-owner c =
+    rw (c.take_record-p2.ensures.left, c.take_record-p1.ensures.left, c.take_record-p0.ensures.left) (owners3 _ _ c.requires.owners no_pieces 3)
 
 pub returns-clause-pieces : goal.returns-clause-pieces
 returns-clause-pieces c =
     four_pieces _ (shared_at c.args.sharing.now.items c.args.i)
-    c.take_record.ensures.piece
-    (c.take_record-2.ensures.piece ∙ rw c.take_record.ensures.left (seen1 _ _ c.requires.owners no_pieces 1 (omega arith)))
-    (c.take_record-3.ensures.piece ∙ rw (c.take_record-2.ensures.left, c.take_record.ensures.left) (seen2 _ _ c.requires.owners no_pieces 2 (omega arith) (omega arith)))
-    (c.take_record-4.ensures.piece
-    ∙ rw (c.take_record-3.ensures.left, c.take_record-2.ensures.left, c.take_record.ensures.left) (seen3 _ _ c.requires.owners no_pieces 3 (omega arith) (omega arith) (omega arith)))
+    c.take_record-p0.ensures.piece
+    (c.take_record-p1.ensures.piece ∙ rw c.take_record-p0.ensures.left (seen1 _ _ c.requires.owners no_pieces 1 (omega arith)))
+    (c.take_record-p2.ensures.piece ∙ rw (c.take_record-p1.ensures.left, c.take_record-p0.ensures.left) (seen2 _ _ c.requires.owners no_pieces 2 (omega arith) (omega arith)))
+    (c.take_record-p3.ensures.piece
+    ∙ rw (c.take_record-p2.ensures.left, c.take_record-p1.ensures.left, c.take_record-p0.ensures.left) (seen3 _ _ c.requires.owners no_pieces 3 (omega arith) (omega arith) (omega arith)))
 
 pub returns-clause-left : goal.returns-clause-left
 unfolding with_pieces_of
 returns-clause-left c =
-    rw (c.take_record-4.ensures.left, c.take_record-3.ensures.left, c.take_record-2.ensures.left, c.take_record.ensures.left)
+    rw (c.take_record-p3.ensures.left, c.take_record-p2.ensures.left, c.take_record-p1.ensures.left, c.take_record-p0.ensures.left)
 
 pub returns-clause-length : goal.returns-clause-length
 returns-clause-length c = rw (returns-clause-left c) (count_seen _ _ c.requires.owners no_pieces)

@@ -16,16 +16,16 @@ each sharing i t first second third fourth (suc (suc (suc (suc k)))) = sym (next
 
 pub returns : goal.returns
 returns c =
-    each c.args.sharing.now.items c.args.i (record { t0 = c.next_sharer.result; t1 = c.next_sharer-2.result; t2 = c.next_sharer-3.result; t3 = c.next_sharer-4.result }) c.next_sharer.ensures c.next_sharer-2.ensures c.next_sharer-3.ensures c.next_sharer-4.ensures
+    each c.args.sharing.now.items c.args.i (record { t0 = c.next_sharer-t0.result; t1 = c.next_sharer-t1.result; t2 = c.next_sharer-t2.result; t3 = c.next_sharer-t3.result }) c.next_sharer-t0.ensures c.next_sharer-t1.ensures c.next_sharer-t2.ensures c.next_sharer-t3.ensures
 
-pub next_sharer-requires-clause-held : goal.next_sharer-requires-clause-held
-next_sharer-requires-clause-held c = c.requires.held 0
+pub next_sharer-t0-requires-clause-held : goal.next_sharer-t0-requires-clause-held
+next_sharer-t0-requires-clause-held c = c.requires.held 0
 
-pub next_sharer-requires-2-clause-held : goal.next_sharer-requires-2-clause-held
-next_sharer-requires-2-clause-held c = c.requires.held 1
+pub next_sharer-t1-requires-clause-held : goal.next_sharer-t1-requires-clause-held
+next_sharer-t1-requires-clause-held c = c.requires.held 1
 
-pub next_sharer-requires-3-clause-held : goal.next_sharer-requires-3-clause-held
-next_sharer-requires-3-clause-held c = c.requires.held 2
+pub next_sharer-t2-requires-clause-held : goal.next_sharer-t2-requires-clause-held
+next_sharer-t2-requires-clause-held c = c.requires.held 2
 
-pub next_sharer-requires-4-clause-held : goal.next_sharer-requires-4-clause-held
-next_sharer-requires-4-clause-held c = c.requires.held 3
+pub next_sharer-t3-requires-clause-held : goal.next_sharer-t3-requires-clause-held
+next_sharer-t3-requires-clause-held c = c.requires.held 3

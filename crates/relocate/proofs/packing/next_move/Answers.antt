@@ -1,4 +1,4 @@
-use Rattle.std.proofs.Common.{◌≡◌, map, Some, None, true, false, sym, ◌∙◌}
+use Rattle.std.proofs.Common.{map}
 use Rattle.relocate.proofs.CompactionLemmas.{first_if_any, packed_iff_none}
 use Rattle.relocate.proofs.packing.next_move.Goals as goal
 

@@ -22,13 +22,13 @@ pub returns-in-Ok-tell-clause-served : goal.returns-in-Ok-tell-clause-served
 returns-in-Ok-tell-clause-served g c = λ octets s honest line k h.
     let asks = c.in-Tell.ensures.asks s k in
     served_asked (g.T.LineMachine.machine (g.T.LineMachine.widths c.args.machine.now)) honest (g.T.LineMachine.keeps c.ask.new.self) s _ (rw c.if-long.false at line) asks.1
-    (rw c.is_refusal-refused.ensures (served_reply (g.T.LineMachine.machine (g.T.LineMachine.widths c.args.machine.now)) honest (g.T.LineMachine.keeps c.ask.new.self) _ _ _ _ _ asks.2 h (c.in-Ok-tell.ensures.ok refl)))
+    (rw c.is_refusal-refused.ensures (served_reply (g.T.LineMachine.machine (g.T.LineMachine.widths c.args.machine.now)) honest (g.T.LineMachine.keeps c.ask.new.self) _ _ _ _ asks.2 h (c.in-Ok-tell.ensures.ok refl)))
 
 pub returns-in-Err-tell-clause-cut : goal.returns-in-Err-tell-clause-cut
 returns-in-Err-tell-clause-cut g c = λ is octets s honest line k h.
     let asks = c.in-Tell.ensures.asks s k in
     cut_asked (g.T.LineMachine.machine (g.T.LineMachine.widths c.args.machine.now)) honest s _ (rw c.if-long.false at line) asks.1
-    (cut_reply (g.T.LineMachine.machine (g.T.LineMachine.widths c.args.machine.now)) honest _ _ _ _ _ (c.in-Err-tell.ensures.fault refl))
+    (cut_reply (g.T.LineMachine.machine (g.T.LineMachine.widths c.args.machine.now)) honest _ _ _ _ (c.in-Err-tell.ensures.fault refl))
 
 pub returns-in-Feed-clause-served : goal.returns-in-Feed-clause-served
 returns-in-Feed-clause-served g c = IfOk-weaker c.serve_feed.result _ _ (λ refused fed octets s honest line k h.

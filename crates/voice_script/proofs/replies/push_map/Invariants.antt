@@ -1,6 +1,6 @@
 use Rattle.std.proofs.Common.{◌≡◌, ◌≤◌, ◌+◌, ◌*◌, ◌++◌, take, length}
 use Rattle.std.specs.List.{flat_map}
-use Rattle.voice_script.specs.Replies.{entry_text}
+use Rattle.voice_script.specs.Readings.{entry_text}
 use Rattle.voice_script.specs.declared.limits.TheConstants.{ENTRY_OCTETS}
 use Rattle.voice_script.proofs.replies.push_map.Given as goal
 

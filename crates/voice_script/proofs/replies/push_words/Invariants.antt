@@ -1,6 +1,6 @@
 use Rattle.std.proofs.Common.{◌≡◌, ◌≤◌, ◌+◌, ◌*◌, ◌++◌, take, length}
 use Rattle.std.specs.List.{flat_map}
-use Rattle.voice_script.specs.Replies.{word_text}
+use Rattle.voice_script.specs.Readings.{word_text}
 use Rattle.voice_script.specs.declared.limits.TheConstants.{WORD_TEXT_OCTETS}
 use Rattle.voice_script.proofs.replies.push_words.Given as goal
 

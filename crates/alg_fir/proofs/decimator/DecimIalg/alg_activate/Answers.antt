@@ -1,7 +1,6 @@
 use Rattle.std.proofs.Common.{sym, ap, subst, arith}
 use Rattle.ialg.specs.Loans.{lent_words}
-use Rattle.alg_fir.specs.Decimation.{taps_of}
-use Rattle.alg_fir.specs.DecimKeeps.{KeepsPhase}
+use Rattle.alg_fir.specs.DecimKeeps.{taps_of, KeepsPhase}
 use Rattle.alg_fir.proofs.DecimRecords.{constants_same, awake, kept_size, ring_size, finds}
 use Rattle.alg_fir.proofs.DecimSteps.{is_taken}
 use Rattle.alg_fir.proofs.decimator.DecimIalg.alg_activate.Goals as goal

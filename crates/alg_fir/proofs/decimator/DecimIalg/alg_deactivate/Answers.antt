@@ -1,6 +1,6 @@
 use Rattle.std.proofs.Common.{ap, ◌∙◌, arith}
 use Rattle.ialg.specs.Loans.{lent_words}
-use Rattle.alg_fir.specs.Decimation.{taps_of}
+use Rattle.alg_fir.specs.DecimKeeps.{taps_of}
 use Rattle.alg_fir.proofs.DecimRecords.{constants_same, asleep, finds}
 use Rattle.alg_fir.proofs.DecimSteps.{is_taken}
 use Rattle.alg_fir.proofs.decimator.DecimIalg.alg_deactivate.Goals as goal

@@ -2,9 +2,9 @@ use Rattle.std.proofs.Common.{◌≡◌, refl, ◌+◌, length, sym, ap, ◌∙�
 use Rattle.mem_rec.specs.declared.Space.TheVariants.{Saram}
 use Rattle.ialg.specs.Loans.{lent_words}
 use Rattle.ialg.specs.Records.{unplaced}
-use Rattle.alg_fir.specs.Decimation.{factor, taps_of}
+use Rattle.alg_fir.specs.Decimation.{factor}
 use Rattle.alg_fir.specs.DecimMeaning.{decim_takes, decim_records}
-use Rattle.alg_fir.specs.DecimKeeps.{decim_kind}
+use Rattle.alg_fir.specs.DecimKeeps.{taps_of, decim_kind}
 use Rattle.alg_fir.proofs.DecimRecords.{has_constants, asleep, kept_at, constants_at}
 use Rattle.alg_fir.proofs.DecimSteps.{is_taken}
 use Rattle.ialg.proofs.Finding.{NamedAt-SameBut}

@@ -2,9 +2,8 @@ use Rattle.std.proofs.Common.{◌≡◌, length, sym, ap, subst, ◌∙◌, arit
 use Rattle.ialg.specs.Loans.{lent_words}
 use Rattle.ialg.specs.Records.{lasting, unplaced}
 use Rattle.alg_fir.specs.Keeps.{KeepsPast, KeepsRing}
-use Rattle.alg_fir.specs.Decimation.{taps_of}
 use Rattle.alg_fir.specs.DecimMeaning.{decim_records}
-use Rattle.alg_fir.specs.DecimKeeps.{KeepsPhase}
+use Rattle.alg_fir.specs.DecimKeeps.{taps_of, KeepsPhase}
 use Rattle.alg_fir.proofs.DecimRecords.{has_constants, constants_are, asleep}
 use Rattle.ialg.proofs.Tables.{lasting_at}
 use Rattle.alg_fir.proofs.decimator.DecimIalg.alg_moved.Goals as goal

@@ -1,11 +1,11 @@
 use Rattle.std.proofs.Common.{◌≡◌, Some, true, [], length, ap, sym, ◌∙◌, arith}
-use Rattle.ialg.specs.Records.{unplaced}
+use Rattle.ialg.specs.Records.{unplaced, idle_size}
 use Rattle.ialg.specs.Loans.{lent_words}
 use Rattle.ialg.specs.Objects.{Names}
 use Rattle.ialg.proofs.Tables.{idle_lent_size}
 use Rattle.alg_g711.specs.declared.coder.Direction.TheVariants.{Encode, Decode}
 use Rattle.alg_g711.specs.Meaning.{coder_named, kind_word, records_of}
-use Rattle.alg_g711.proofs.Keeping.{asleep, begun, granted_records, samples_named}
+use Rattle.alg_g711.proofs.Keeping.{asleep, begun, first_record, granted_records, samples_named}
 use Rattle.alg_g711.proofs.kind.G711Ialg.alg_init.Goals as goal
 
 encodes_not : Encode ≡ Decode → ⊥
@@ -19,7 +19,8 @@ returns-in-Encode-clause-law c w lawful taken table lent writable poison =
     let granted : coder_named p ≡ Some coder = ap coder_named (sym c.as_slice.ensures.value) ∙ sym c.by_parameters.ensures ∙ c.in-Some.is in
     let records = granted_records (coder_named p) coder (unplaced tab) granted taken in
     let sizes = idle_lent_size tab (records_of coder.direction) records (lent_words c.args.mem.now) lent in
-    let names = c.write_object_of.ensures.names (sizes 0) in
+    let size = sizes 0 ∙ ap (λ r. idle_size r.attr r.size) (first_record coder.direction) in
+    let names = c.write_object_of.ensures.names size in
     let new = lent_words c.write_object_of.new.mem in
     asleep p tab new [] (begun p tab new coder granted records names (λ e. absurd (encodes_not (sym c.in-Encode.is ∙ e))))
 

@@ -3,14 +3,14 @@ use Rattle.std.specs.Int.{int_max}
 use Rattle.std.proofs.lemmas.Int.{to_z-of_z}
 use Rattle.std.proofs.lemmas.Nat.{mod_below}
 use Rattle.basic_op.specs.Operators.{sub_of}
-use Rattle.ialg.specs.History.{samples_since_reset}
-use Rattle.alg_tone.specs.Equation.{frame_length, samples_in_frame}
+use Rattle.ialg.specs.History.{samples_since_reset, samples_in_frame}
+use Rattle.alg_tone.specs.Equation.{frame_length}
 use Rattle.alg_tone.proofs.Limits.{before_last}
 use Rattle.alg_tone.proofs.kernel.Tuning.room.Goals as goal
 
 pub returns : goal.returns
 returns c p h tuned frame =
-    let n = samples_in_frame p h in
+    let n = samples_in_frame (frame_length p) h in
     let m = frame_length p in
     let few = tuned.few in
     let below : n < m = mod_below (length (samples_since_reset h)) m tuned.some in

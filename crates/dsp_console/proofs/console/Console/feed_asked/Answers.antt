@@ -1,6 +1,6 @@
 use Rattle.std.proofs.Common.{ap, refl, sym}
 use Rattle.channel_spec.specs.Calls.Call.{Ready}
-use Rattle.console_spec.specs.Console.{feed_asked}
+use Rattle.console_spec.specs.Told.{feed_asked}
 use Rattle.dsp_console.specs.Consoles.{port_widths_of}
 use Rattle.dsp_console.proofs.Served.{called}
 use Rattle.dsp_console.proofs.console.Console.feed_asked.Goals as goal

@@ -1,11 +1,11 @@
 use Rattle.std.proofs.Common.{ap}
 use Rattle.channel_spec.specs.Calls.Call.{Unchain}
-use Rattle.console_spec.specs.Console.{told_by}
+use Rattle.console_spec.specs.Told.{told_by}
 use Rattle.voice_script.specs.Replies.{Done}
-use Rattle.voice_script.specs.Served.{tells}
+use Rattle.voice_script.specs.Served.{Tell}
 use Rattle.dsp_console.proofs.Served.{called}
 use Rattle.dsp_console.proofs.console.Console.unchain.Goals as goal
 
 pub returns-clause-asks : goal.returns-clause-asks
 returns-clause-asks g c =
-    called g.M.Ialg.law (λ a. Unchain c.args.c a) (λ a. tells (told_by (λ _. Done) a)) c.unchain.result _ _ _ c.unchain.ensures.machine (ap tells c.tell_done.ensures)
+    called g.M.Ialg.law (λ a. Unchain c.args.c a) (λ a. Tell (told_by (λ _. Done) a)) c.unchain.result _ _ _ c.unchain.ensures.machine (ap Tell c.tell_done.ensures)

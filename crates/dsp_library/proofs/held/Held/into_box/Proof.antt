@@ -27,9 +27,8 @@ use denote.Triple.Spec.{triple_of}
 use denote.Triple.Statement.{Contract}
 use denote.Triple.Table.{framed}
 use denote.Triple.Walked.{says, Stays, stay_dropped, walk_of, ends_at}
-use Rattle.std.proofs.alloc.Calls.{Goes-blank, token}
-use Rattle.std_alloc.specs.Box.Ownership.{box_owns}
-use Rattle.std_alloc.proofs.BoxSteps.Form.{Bx, D, R, P, B, word, box_ty, box_typed}
+use Rattle.std.proofs.alloc.Calls.{Goes-blank}
+use Rattle.std_alloc.proofs.BoxSteps.Form.{Bx, D, B, word, box_ty, box_typed}
 use Rattle.std_alloc.proofs.BoxSteps.Steps.{box_out, box_in}
 use Rattle.std_alloc.specs.contracts.boxed.Box.from_raw as shuts
 use Rattle.std_alloc.proofs.boxed.Box.from_raw.Met as shuts_met

@@ -1,5 +1,5 @@
 -- `join` moves the parts into the struct. Assumes `Logic`.
-use Rattle.std.proofs.Common.{◌≡◌, refl, sym, ap, ◌∙◌, List, [], ◌∷◌, ◌++◌}
+use Rattle.std.proofs.Common.{refl, List, [], ◌∷◌, ◌++◌}
 use Rattle.std.specs.Prelude.{Some}
 use Rattle.std.proofs.raw_atomic.Walks.{proved_at}
 use base.Fml.{ftrue}

@@ -1,11 +1,12 @@
 -- The block of the move's index.
-use Rattle.std.proofs.Common.{◌≡◌, ◌<◌, ◌+◌, List, length, Option, Some, get_or, subst, sym, ◌∙◌, ap, arith}
+use Rattle.std.proofs.Common.{◌≡◌, ◌<◌, ◌+◌, List, length, Option, Some, None, get_or, subst, sym, ◌∙◌, ap, arith}
 use Rattle.std.specs.Option.{option_map}
 use Rattle.relocate.specs.declared.packing.Move.{Move}
 use Rattle.relocate.specs.Spots.{AreSpots}
 use Rattle.host_map.specs.declared.placed.Owner.TheVariants.{Record}
 use Rattle.host_map.specs.declared.placed.Placed.{Placed}
-use Rattle.host_map.specs.Moves.{moved, next_block, next_in, spots_of}
+use Rattle.host_map.specs.Moves.{block_to_move, moved, next_block, next_in, spots_of}
+use Rattle.host_map.proofs.MoveLemmas.{next_is}
 use Rattle.host_spaces.specs.Spaces.{HasFront, SpaceState}
 use Rattle.host_spaces.proofs.Moving.{front_moved, move_inside, next_found}
 use Rattle.host_spaces.proofs.blocks.SpaceBlocks.next_move_behind.Goals as goal
@@ -55,3 +56,9 @@ returns-in-Some-clause-index c some =
     let bs = c.self.inside.blocks.items in let m = c.in-Some.field-0 in
     subst (λ (v : SpaceState). option_map (λ (x : Move). x.index + 1) (next_in v.blocks) ≡ Some (m.index + 1)) c.self.view_is
     (ap (option_map (λ (x : Move). x.index + 1)) (next bs c.as_slice.result.now c.next_move_behind.result m c.as_slice.ensures.value c.next_move_behind.ensures.value c.in-Some.is))
+
+pub returns-in-None-clause-value : goal.returns-in-None-clause-value
+returns-in-None-clause-value c =
+    let bs = c.self.inside.blocks.items in
+    let none : next_in bs ≡ None = sym (ap next_in c.as_slice.ensures.value) ∙ sym c.next_move_behind.ensures.value ∙ c.in-None.is in
+    sym (ap (λ (o : Option Move). block_to_move o bs) none) ∙ next_is bs ∙ ap (λ (v : SpaceState). next_block v.blocks) c.self.view_is

@@ -24,4 +24,4 @@ returns-clause-keeps g c w is new lawful =
     let same = unplaced-placed c.args.self.now.instance.table c.rebase.new.table c.args.self.now.instance.own c.args.shared.now c.args.group.now c.rebase.ensures in
     started g.M.Ialg.law c.args.self.now.instance.kind c.rebase.new.table c.args.self.now.instance.own c.lend_lasting.new.own c.args.shared.now c.lend_lasting.new.shared c.args.group.now c.args.self.now.instance.params.items
     fits c.lend_lasting.ensures.done w lawful (is ∙ ap Some same)
-    (are_new-same w (g.M.Ialg.law.meaning.fill c.args.self.now.instance.kind c.args.self.now.instance.params.items) c.args.self.now.instance.table c.rebase.new.table c.args.self.now.instance.own c.args.shared.now (sym same) new)
+    (are_new-same w (g.M.Ialg.law.fill c.args.self.now.instance.kind c.args.self.now.instance.params.items) c.args.self.now.instance.table c.rebase.new.table c.args.self.now.instance.own c.args.shared.now (sym same) new)

@@ -1,5 +1,6 @@
 use Rattle.std.proofs.Common.{Ok, ◌∙◌, ap, set, sym}
-use Rattle.channel_spec.specs.Steps.{unless, with_members}
+use Rattle.host_spec.specs.Steps.{unless}
+use Rattle.channel_spec.specs.Parts.{with_members}
 use Rattle.channel_spec.specs.Calls.Call.{Chain}
 use Rattle.voice_channel.proofs.Chained.{all_live_alike, given}
 use Rattle.voice_channel.proofs.channels.Channels.chain.Goals as goal

@@ -1,5 +1,5 @@
 use Rattle.std.proofs.Common.{Ok, ◌∙◌, ap, sym}
-use Rattle.channel_spec.specs.Steps.{unless}
+use Rattle.host_spec.specs.Steps.{unless}
 use Rattle.voice_channel.proofs.channels.Channels.ready.Goals as goal
 
 pub returns-clause-machine : goal.returns-clause-machine

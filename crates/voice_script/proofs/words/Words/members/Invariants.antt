@@ -1,8 +1,8 @@
 use Rattle.std.proofs.Common.{◌≡◌, ◌+◌, ◌≤◌, true, ◌&&◌, ◌++◌, length, nat_le, map}
 use Rattle.std.specs.List.{list_all}
 use Rattle.voice_script.specs.declared.limits.TheConstants.{MEMBERS}
-use Rattle.voice_script.specs.Script.{is_number, natural, fits_byte, fit_members}
-use Rattle.voice_script.specs.Readings.{to_come}
+use Rattle.voice_script.specs.Script.{is_number, natural, fits_byte}
+use Rattle.voice_script.specs.Readings.{fit_members, to_come}
 use Rattle.voice_script.proofs.words.Words.members.Given as goal
 
 -- the words so far are numbers; what is kept, with those to come, is what all give

@@ -1,8 +1,8 @@
 use Rattle.std.proofs.Common.{◌≡◌, ◌+◌, ◌≤◌, true, ◌&&◌, ◌++◌, length, nat_le, map}
 use Rattle.std.specs.List.{list_all}
 use Rattle.ialg.specs.declared.TheConstants.{PARAMETER_WORDS}
-use Rattle.voice_script.specs.Script.{is_number, value_of, fits_word, fit_words}
-use Rattle.voice_script.specs.Readings.{to_come}
+use Rattle.voice_script.specs.Script.{is_number, value_of, fit_words}
+use Rattle.voice_script.specs.Readings.{fits_word, to_come}
 use Rattle.voice_script.proofs.words.Words.parameters.Given as goal
 
 -- the words so far are numbers; what is kept, with those to come, is what all give

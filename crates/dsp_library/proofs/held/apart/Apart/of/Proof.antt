@@ -1,5 +1,5 @@
 -- `of` lets go of the box, and its parts own what it owned. Assumes `Logic`.
-use Rattle.std.proofs.Common.{◌≡◌, refl, sym, ap, ◌∙◌, List, [], ◌∷◌, ◌++◌}
+use Rattle.std.proofs.Common.{◌≡◌, refl, sym, ap, List, [], ◌∷◌, ◌++◌}
 use Rattle.std.proofs.raw_atomic.Walks.{proved_at}
 use base.Fml.{ftrue, flft}
 use base.Fraction.{full_share}
@@ -9,9 +9,8 @@ use contract.Monad.{fact, fact_i}
 use contract.Running.{tables}
 use mir.MapTy.{inst_fn}
 use mir.Syntax.{Fn, Args, a_type, dcons, dnil}
-use mir.Val.{Val, vptr}
+use mir.Val.{Val}
 use prog.Wp.{WpFn}
-use types.Logic.{Logic}
 use types.Kit.{Item, use2, rewrite, ‵, raw, prop, ◌⊛◌, some, later, ◌$◌, ◌∵◌, !, qed, move, drop, join, split, pick, await, fsplit, fjoin, use0, use1, regoal, suffices, done}
 use types.Part.{whole, sub, agg}
 use types.Run.{stop, fld, no_more, and_then, of_opd, returns, enter}
@@ -19,7 +18,7 @@ use types.ByLocal.{alloc_all, pass_all, free_all, look_at, get, get_in, sets, la
 use denote.Param.{bounded, param}
 use denote.Param.NoDrop.{glues}
 use denote.RattleType.{owns}
-use denote.RawPtr.{Ptr, RawPtr, block_ptr}
+use denote.RawPtr.{Ptr, RawPtr}
 use denote.Signature.{plain, types_at}
 use denote.Steps.{heard, nothing, only}
 use denote.Struct.Tuple.{Tuple}
