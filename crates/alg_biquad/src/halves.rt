@@ -28,7 +28,9 @@ pub(crate) fn half_product(c: i16, v: i16) -> i32
     ensures half { IsHalfOf result (l_mult_of c v) }
     ensures within { unsigned_abs result ≤ 2 ^ 30 - 2 ^ 15 }
 {
-    i32::from(c) * i32::from(v)
+    let coefficient = i32::from(c);
+    let word = i32::from(v);
+    coefficient * word
 }
 
 /// The half sum, where it is less than the limit.
@@ -60,7 +62,10 @@ fn limited_less(ahead: i32, newer: i32) -> i16
     requires { unsigned_abs (ahead -ℤ newer) < 2 ^ 31 }
     ensures { result ≡ saturate_to_bits 15 (shr_z (ahead -ℤ newer) 16384) }
 {
-    ((ahead - newer) >> HALF_BITS).clamp(i32::from(i16::MIN), i32::from(i16::MAX)) as i16
+    let word = (ahead - newer) >> HALF_BITS;
+    let least = i32::from(i16::MIN);
+    let most = i32::from(i16::MAX);
+    word.clamp(least, most) as i16
 }
 
 /// The sum less the product, in Q15, limited. Where it is beyond words it is made once more, from its two parts: if it alone were passed on,

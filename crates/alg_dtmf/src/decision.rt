@@ -41,11 +41,16 @@ fn is_at_most(a: i16, b: i16) -> bool
 fn is_strongest(dominance: i16, shift: i16, v: i32, a: i32, b: i32, c: i32) -> bool
     ensures { result ≡ stands_out dominance shift v a b c }
 {
-    let most = mult(normal(shift, v), dominance);
-    let first = is_at_most(normal(shift, a), most);
-    let second = is_at_most(normal(shift, b), most);
-    let third = is_at_most(normal(shift, c), most);
-    both(both(first, second), third)
+    let v = normal(shift, v);
+    let most = mult(v, dominance);
+    let a = normal(shift, a);
+    let first = is_at_most(a, most);
+    let b = normal(shift, b);
+    let second = is_at_most(b, most);
+    let c = normal(shift, c);
+    let third = is_at_most(c, most);
+    let two = both(first, second);
+    both(two, third)
 }
 
 /// Whether both are so.
@@ -95,10 +100,18 @@ fn is_digit(p: &[i16], shift: i16, energy: i32, low: i32, high: i32) -> bool
     let l = normal(shift, low);
     let h = normal(shift, high);
     let whole = mult(shl(p[0], SHARE_BITS), normal(shift, energy));
-    let loud = both(reaches(low, least), reaches(high, least));
-    let level = both(is_at_most(mult(l, p[3]), h), is_at_most(mult(h, p[4]), l));
-    let alone = is_at_most(mult(p[6], whole), add(l, h));
-    both(both(loud, level), alone)
+    let low_is_loud = reaches(low, least);
+    let high_is_loud = reaches(high, least);
+    let loud = both(low_is_loud, high_is_loud);
+    let least_high = mult(l, p[3]);
+    let high_is_level = is_at_most(least_high, h);
+    let least_low = mult(h, p[4]);
+    let low_is_level = is_at_most(least_low, l);
+    let level = both(high_is_level, low_is_level);
+    let share = mult(p[6], whole);
+    let alone = is_at_most(share, add(l, h));
+    let two = both(loud, level);
+    both(two, alone)
 }
 
 /// Whether a level reaches the least one.

@@ -178,11 +178,15 @@ impl Frame {
         ensures low { result.low ≡ next_band low.now scale.gain x self.low }
         ensures high { result.high ≡ next_band high.now scale.gain x self.high }
     {
+        let samples = add(self.samples, 1);
+        let energy = add_square(scale.energy_bits, x, self.energy);
+        let next_low = next_band(low, scale.gain, x, self.low);
+        let next_high = next_band(high, scale.gain, x, self.high);
         Frame {
-            samples: add(self.samples, 1),
-            energy: add_square(scale.energy_bits, x, self.energy),
-            low: next_band(low, scale.gain, x, self.low),
-            high: next_band(high, scale.gain, x, self.high),
+            samples,
+            energy,
+            low: next_low,
+            high: next_high,
         }
     }
 

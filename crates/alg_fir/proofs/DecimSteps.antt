@@ -5,15 +5,19 @@ use Rattle.std.proofs.lemmas.Bool.Decides.{nat_tests}
 use Rattle.std.proofs.lemmas.Nat.{mod_below, le-div}
 use Rattle.std.proofs.Math.Nat.{suc-mod, mod-eq_of_lt, div-eq_of_lt, div-eq_of_eq-mul_left, div-add-mod, div-mul-le_self, add-mul-div_left}
 use Rattle.std.proofs.Math.Seq.{take-suc, take-length}
-use Rattle.ialg.specs.History.{History, Sample, samples_since_reset, with_samples, word_at, outputs_by}
+use Rattle.ialg.specs.History.{History, Sample, samples_since_reset, samples_in_frame, with_samples, word_at, outputs_by}
 use Rattle.ialg.proofs.Histories.{with_samples-take, with_samples-whole}
 use Rattle.fir_kernel.specs.declared.TheConstants.{MOST_COEFFICIENTS}
 use Rattle.alg_fir.specs.declared.TheConstants.{MOST_FACTOR}
 use Rattle.alg_fir.specs.Equation.{fir_output}
 use Rattle.alg_fir.specs.Keeps.{AreOutputs}
 use Rattle.alg_fir.specs.Decimation.{factor, decim_gives}
-use Rattle.alg_fir.specs.DecimKeeps.{taps_of, coefficients_of, phase}
+use Rattle.alg_fir.specs.DecimKeeps.{taps_of, coefficients_of}
 use Rattle.alg_fir.specs.DecimMeaning.{decim_takes}
+
+-- how many samples there are since the last output
+abbrev pub phase : List ℤ → History → ℕ
+phase p h = samples_in_frame (factor p) h
 
 -- which parameters are taken
 pub record IsTaken (p : List ℤ) : Type 0 where

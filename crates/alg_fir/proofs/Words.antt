@@ -1,6 +1,5 @@
 -- What stands in the words after past samples or coefficients were copied.
-use Rattle.std.proofs.Common.{◌≡◌, ℕ, ℤ, ◌<◌, ◌≤◌, List, ◌++◌, length, take, drop, refl, ◌∙◌, arith}
-use Rattle.std.proofs.lemmas.List.{take_at}
+use Rattle.std.proofs.Common.{◌≡◌, ℕ, ℤ, ◌<◌, ◌≤◌, List, length, ◌∙◌, arith}
 use Rattle.ialg.specs.History.{History, word_at}
 use Rattle.ialg.proofs.Histories.{take_same}
 use Rattle.alg_fir.specs.Keeps.{KeepsCoefficients}
@@ -17,7 +16,3 @@ coefficients_stay p h kept new at b l same coefficients =
       size = l ∙ size;
       coefficients = take_same (length p) new kept (omega arith) (omega arith) (λ k s. same k (omega arith)) ∙ coefficients.coefficients;
     }
-
--- a list was written over as many places
-pub first_is : (ys room : List ℤ) → length ys ≡ length room → take (length room) (ys ++ drop (length ys) room) ≡ ys
-first_is ys room e = rw (← e) (take_at ys (drop (length ys) room) (length ys) refl)

@@ -3,7 +3,7 @@ use Rattle.std.specs.Prelude.{ℕ, ℤ, pos, ◌≡◌, ◌≤◌, ◌+◌, ◌-
 use Rattle.mem_rec.specs.declared.Space.TheVariants.{Daram, Saram, External}
 use Rattle.ialg.specs.declared.TheConstants.{BLOCK_SAMPLES}
 use Rattle.ialg.specs.declared.memory.Lent.{Lent}
-use Rattle.ialg.specs.History.{History, Control, Reset, Get, word_at}
+use Rattle.ialg.specs.History.{History, Control, Reset, Get, samples_in_frame, word_at}
 use Rattle.ialg.specs.Records.{AllLent}
 use Rattle.ialg.specs.Loans.{lent_words, SameBut}
 use Rattle.ialg.specs.Objects.{NamedAt}
@@ -11,7 +11,7 @@ use Rattle.fir_kernel.specs.declared.TheConstants.{MOST_COEFFICIENTS}
 use Rattle.alg_fir.specs.Keeps.{KeepsPast, KeepsRing}
 use Rattle.alg_fir.specs.Decimation.{factor}
 use Rattle.alg_fir.specs.DecimMeaning.{decim_records, decim_takes}
-use Rattle.alg_fir.specs.DecimKeeps.{taps_of, phase, decim_kind, Finds, IsActiveDecim, KeepsPhase, RanDecim}
+use Rattle.alg_fir.specs.DecimKeeps.{taps_of, decim_kind, Finds, IsActiveDecim, KeepsPhase, RanDecim}
 
 -- ---- over plain words
 
@@ -112,7 +112,7 @@ ResetsDecim old new = (p : List ℤ) (h : History) → AllLent old.table.now (le
 -- it answers its phase to `get`
 abbrev pub AnswersPhase : Lent → List ℤ → Type 0
 AnswersPhase mem answer = (p : List ℤ) (h : History) → AllLent mem.table.now (lent_words mem)
-    → IsActiveDecim p mem.table.now (lent_words mem) h → answer ≡ pos (phase p h) ∷ []
+    → IsActiveDecim p mem.table.now (lent_words mem) h → answer ≡ pos (samples_in_frame (factor p) h) ∷ []
 
 -- it keeps a `get` behind what it kept
 abbrev pub GetsDecim : Lent → Type 0

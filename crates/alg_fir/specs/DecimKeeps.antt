@@ -20,10 +20,6 @@ coefficients_of p = drop 1 p
 abbrev pub taps_of : List ℤ → ℕ
 taps_of p = length p - 1
 
--- how many samples there are since the last output, the last reset or the start
-abbrev pub phase : List ℤ → History → ℕ
-phase p h = samples_in_frame (factor p) h
-
 -- the kind word of a decimator's object
 abbrev pub decim_kind : ℤ
 decim_kind = pos 2
@@ -34,12 +30,12 @@ pub record HasConstants (p : List ℤ) (rs : List MemRec) (wss : List (List ℤ)
   pub object : Names decim_kind (decim_records (taps_of p)) rs (words_of wss 0)
   pub constants : HoldFill (λ k. p) rs wss
 
--- the first of the kept words is the phase; no `set` came
+-- the first of the kept words is the phase: how many samples there are since the last output, the last reset or the start. No `set` came
 pub record KeepsPhase (p : List ℤ) (h : History) (kept : List ℤ) : Type 0 where
   pub history : IsWordHistory h
   pub unset : words_in_force (coefficients_of p) h ≡ coefficients_of p
   pub size : length kept ≡ taps_of p
-  pub counted : word_at kept 0 ≡ pos (phase p h)
+  pub counted : word_at kept 0 ≡ pos (samples_in_frame (factor p) h)
 
 -- an idle decimator keeps its past samples behind the phase
 pub record IsIdleDecim (p : List ℤ) (rs : List MemRec) (wss : List (List ℤ)) (h : History) : Type 0 where

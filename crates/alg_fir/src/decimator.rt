@@ -154,9 +154,10 @@ fn write_constants(mem: &mut Lent<'_>, p: &[i16])
     ensures loans { SameLoans mem.old mem.new }
     ensures written { WritesConstants p.now mem.old mem.new }
 {
-    let Some(Record { k, words }) = mem.take_named(Space::External, CONSTANTS) else {
+    let Some(taken) = mem.take_named(Space::External, CONSTANTS) else {
         return;
     };
+    let Record { k, words } = taken;
     overwrite(words, p);
     mem.put(k, words);
 }
@@ -166,9 +167,10 @@ fn clear_kept(mem: &mut Lent<'_>)
     ensures loans { SameLoans mem.old mem.new }
     ensures cleared { ClearsKept mem.old mem.new }
 {
-    let Some(Record { k, words: kept }) = mem.take_named(Space::Saram, KEPT) else {
+    let Some(taken) = mem.take_named(Space::Saram, KEPT) else {
         return;
     };
+    let Record { k, words: kept } = taken;
     clear(kept);
     mem.put(k, kept);
 }
@@ -178,9 +180,10 @@ fn clear_ring(mem: &mut Lent<'_>)
     ensures loans { SameLoans mem.old mem.new }
     ensures cleared { ClearsRing mem.old mem.new }
 {
-    let Some(Record { k, words: ring }) = mem.take_named(Space::Daram, RING) else {
+    let Some(taken) = mem.take_named(Space::Daram, RING) else {
         return;
     };
+    let Record { k, words: ring } = taken;
     clear(ring);
     mem.put(k, ring);
 }
@@ -190,9 +193,10 @@ fn restore_ring(mem: &mut Lent<'_>)
     ensures loans { SameLoans mem.old mem.new }
     ensures restored { FillsRing mem.old mem.new }
 {
-    let Some(Record { k, words }) = mem.take_named(Space::Daram, RING) else {
+    let Some(taken) = mem.take_named(Space::Daram, RING) else {
         return;
     };
+    let Record { k, words } = taken;
     restore_from(mem, words);
     mem.put(k, words);
 }
@@ -210,9 +214,10 @@ fn save_past(mem: &mut Lent<'_>)
     ensures loans { SameLoans mem.old mem.new }
     ensures saved { FillsKept mem.old mem.new }
 {
-    let Some(Record { k, words }) = mem.take_named(Space::Saram, KEPT) else {
+    let Some(taken) = mem.take_named(Space::Saram, KEPT) else {
         return;
     };
+    let Record { k, words } = taken;
     save_from(mem, words);
     mem.put(k, words);
 }
@@ -234,9 +239,10 @@ fn run_ring(mem: &mut Lent<'_>, input: &[i16], out: &mut Block)
     ensures bounded { length out.new.items ≤ length input.now }
     ensures ran { RunsRing input.now out.new.items mem.old mem.new }
 {
-    let Some(Record { k, words }) = mem.take_named(Space::Daram, RING) else {
+    let Some(taken) = mem.take_named(Space::Daram, RING) else {
         return;
     };
+    let Record { k, words } = taken;
     run_with(mem, words, input, out);
     mem.put(k, words);
 }
@@ -262,9 +268,10 @@ fn count(mem: &mut Lent<'_>, samples: usize)
     ensures loans { SameLoans mem.old mem.new }
     ensures counted { CountsPhase samples mem.old mem.new }
 {
-    let Some(Record { k, words: counter }) = mem.take_named(Space::Saram, KEPT) else {
+    let Some(taken) = mem.take_named(Space::Saram, KEPT) else {
         return;
     };
+    let Record { k, words: counter } = taken;
     count_with(mem, counter, samples);
     mem.put(k, counter);
 }

@@ -93,20 +93,6 @@ fn is_straight(taps: usize, ring_words: usize, next: usize, samples: usize) -> b
         && next + samples + MOST_COEFFICIENTS <= ring_words + taps
 }
 
-/// Gives as many outputs their room as these samples are: the filter writes over them.
-#[inline(always)]
-fn make_room(samples: &[i16], out: &mut Block)
-    requires empty { out.old.items ≡ [] }
-    requires within { length samples.now ≤ BLOCK_SAMPLES }
-    ensures { length out.new.items ≡ length samples.now }
-{
-    // one sample needs no call that copies
-    let _fits = match samples {
-        [sample] => out.try_push(*sample).is_ok(),
-        _ => out.try_extend_from_slice(samples).is_ok(),
-    };
-}
-
 /// Runs a filter over a block as [`run_block`] does, in the ring itself.
 #[inline(always)]
 fn run_straight(
@@ -135,13 +121,14 @@ fn run_straight(
     let past = coefficients.len() - 1;
     let size = ring.len() - 1;
     let after = enter(ring, size, next, input);
-    make_room(&input[..taken.count], out);
+    out.set_len(taken.count);
+    let (outputs, _room) = out.room_mut().split_at_mut(taken.count);
     filter(
         coefficients,
         &ring[next - past..],
         taken.first,
         taken.step,
-        out.as_mut_slice(),
+        outputs,
     );
     ring[size] = after as i16;
 }
@@ -176,14 +163,9 @@ fn run_line<const N: usize>(
     let mut line = [0; N];
     unroll(ring, size, next, past, &mut line, 0);
     place(&mut line, past, input);
-    make_room(&input[..taken.count], out);
-    filter(
-        coefficients,
-        &line,
-        taken.first,
-        taken.step,
-        out.as_mut_slice(),
-    );
+    out.set_len(taken.count);
+    let (outputs, _room) = out.room_mut().split_at_mut(taken.count);
+    filter(coefficients, &line, taken.first, taken.step, outputs);
     let after = enter(ring, size, next, input);
     ring[size] = after as i16;
 }

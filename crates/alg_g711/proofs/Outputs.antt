@@ -1,7 +1,6 @@
 -- Blocks of codes and samples.
-use Rattle.std.proofs.Common.{◌≡◌, ℕ, suc, ℤ, pos, ◌%◌, ◌<◌, Some, List, [], ◌∷◌, ◌++◌, length, map, take, drop, refl, sym, ap, ◌∙◌, append_assoc, append-nil, arith}
+use Rattle.std.proofs.Common.{◌≡◌, ℕ, suc, ℤ, pos, ◌%◌, ◌<◌, Some, List, [], ◌∷◌, ◌++◌, length, map, refl, sym, ap, ◌∙◌, append_assoc, append-nil, arith}
 use Rattle.std.specs.Int.{w16, cast_unsigned}
-use Rattle.std.proofs.lemmas.List.{take_at}
 use Rattle.std.proofs.lemmas.List.FromFn.{length-map-range_with_len, get_or-map-range_with_len}
 use Rattle.ialg.specs.History.{History, Sample, with_samples, word_at, outputs_by}
 use Rattle.alg_g711.specs.declared.TheConstants.{CODES}
@@ -39,13 +38,6 @@ outputs-with_samples coder h (x ∷ xs) =
     let before = outputs_by (given_by (Some coder)) h in
     let y = coded coder.law coder.direction x in
     outputs-with_samples coder (Sample x ∷ h) xs ∙ append_assoc before (y ∷ []) (map (coded coder.law coder.direction) xs)
-
--- a block was written over as many words
-pub given_block : (f : ℤ → ℤ) (xs room ys : List ℤ) → length room ≡ length xs → length ys ≡ length room
-    → ((k : ℕ) → k < length xs → word_at ys k ≡ f (word_at xs k)) → take (length room) (ys ++ drop (length ys) room) ≡ map f xs
-given_block f xs room ys long many at =
-    let first : take (length room) (ys ++ drop (length ys) room) ≡ ys = rw (← many) (take_at ys (drop (length ys) room) (length ys) refl) in
-    first ∙ is_map f xs ys (many ∙ long) at
 
 -- a sample by the samples of all codes
 pub sample_by : (law : Law) (table : List ℤ) (x : ℤ) → table ≡ samples_of_codes law

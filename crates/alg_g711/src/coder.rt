@@ -29,6 +29,7 @@ pub struct Coder {
 }
 
 /// The law that this parameter names.
+#[tactic(auto, using(std::proofs::lemmas::Int::ints))]
 fn law_by(word: i16) -> Option<Law>
     ensures { result ≡ law_named word }
 {
@@ -40,6 +41,7 @@ fn law_by(word: i16) -> Option<Law>
 }
 
 /// The direction that this parameter names.
+#[tactic(auto, using(std::proofs::lemmas::Int::ints))]
 fn direction_by(word: i16) -> Option<Direction>
     ensures { result ≡ direction_named word }
 {
@@ -65,6 +67,7 @@ impl Coder {
     }
 
     /// The coder that this kind word names.
+    #[tactic(auto, using(std::proofs::lemmas::Int::ints))]
     pub(crate) fn by_kind(kind: i16) -> Option<Coder>
         ensures { (coder : Coder) → kind ≡ kind_word coder.law coder.direction → result ≡ Some coder }
     {

@@ -1,5 +1,5 @@
 //! The kind `G711`: its calls find the coder in the object, and leave the words to it.
-ghost use Rattle.std.specs.Prelude.{◌≡◌, ◌<◌, ◌≤◌, ◌%◌, ◌++◌, ◌∷◌, Option, Some, ℕ, ℤ, [], List, length, map, true, FitsSigned};
+ghost use Rattle.std.specs.Prelude.{◌≡◌, ◌<◌, ◌≤◌, ◌%◌, ◌++◌, ◌∷◌, ◌↔◌, IsTrue, Option, Some, ℕ, ℤ, [], List, length, map, true, FitsSigned};
 ghost use Rattle.std.specs.List.{All};
 ghost use Rattle.std.specs.Int.{w16, cast_unsigned};
 ghost use Rattle.mem_rec.specs.declared.MemRec.{MemRec};
@@ -18,7 +18,7 @@ ghost use Rattle.alg_g711.specs.Meaning.{coded, coder_named, g711_meaning, kind_
 use crate::blocks::{decode_words, encode_words, sample_of, write_samples};
 use crate::coder::{Coder, Direction};
 use crate::companding::Law;
-use crate::{CODER_RECORDS, CODES};
+use crate::{A_DECODER_KIND, CODER_RECORDS, CODES, MU_DECODER_KIND};
 use ialg::{BLOCK_SAMPLES, Block, Ctl, Ialg, Lent, Params, Record, Status, Words, copied};
 use mem_rec::{MemTab, Space};
 
@@ -123,6 +123,17 @@ fn coder_of(mem: &Lent<'_>) -> Option<Coder>
     Coder::by_kind(object[0])
 }
 
+/// Whether the object's kind word is a decoder's.
+fn is_decoder(mem: &Lent<'_>) -> bool
+    ensures { (coder : Coder) (records table : List MemRec)
+        → Names (kind_word coder.law coder.direction) records table mem.now.r0.now → IsTrue result ↔ (coder.direction ≡ Decode) }
+{
+    match mem.object() {
+        [kind, ..] => *kind == A_DECODER_KIND || *kind == MU_DECODER_KIND,
+        [] => false,
+    }
+}
+
 /// Writes the instance object: the kind word, and the bases of the table.
 fn write_object_of(coder: Coder, tab: &MemTab, mem: &mut Lent<'_>)
     ensures loans { SameLoans mem.old mem.new }
@@ -141,9 +152,10 @@ fn fill(law: Law, mem: &mut Lent<'_>)
     ensures samples { NamedAt mem.old External 1 (kind_word law Decode) (records_of Decode) → mem.old.writable ≡ true
         → length mem.old.r1.now ≡ CODES → mem.new.r1.now ≡ samples_of_codes law }
 {
-    let Some(Record { k, words }) = mem.take_named(Space::External, SAMPLES) else {
+    let Some(taken) = mem.take_named(Space::External, SAMPLES) else {
         return;
     };
+    let Record { k, words } = taken;
     write_samples(law, words);
     mem.put(k, words);
 }
@@ -160,12 +172,10 @@ fn run(mem: &Lent<'_>, input: &[i16], out: &mut Block)
     ensures read { (p : List ℤ) (h : History) → Keeps p mem.now.table.now (lent_words mem.now) h
         → AllLent mem.now.table.now (lent_words mem.now) → All (FitsSigned w16) input.now }
 {
-    let Some(coder) = coder_of(mem) else {
-        return;
-    };
-    match coder.direction {
-        Direction::Encode => encode_block(coder.law, input, out),
-        Direction::Decode => decode_block(mem, input, out),
+    if is_decoder(mem) {
+        decode_block(mem, input, out);
+    } else if let Some(coder) = coder_of(mem) {
+        encode_block(coder.law, input, out);
     }
 }
 
@@ -176,8 +186,9 @@ fn encode_block(law: Law, input: &[i16], out: &mut Block)
     ensures given { out.new.items ≡ map (coded law Encode) input.now }
     ensures read { All (FitsSigned w16) input.now }
 {
-    let _fits = out.try_extend_from_slice(input);
-    encode_words(law, input, out.as_mut_slice());
+    out.set_len(input.len());
+    let (codes, _room) = out.room_mut().split_at_mut(input.len());
+    encode_words(law, input, codes);
 }
 
 /// Gives out the samples of the codes, by the samples that `mem` has.
@@ -191,7 +202,7 @@ fn decode_block(mem: &Lent<'_>, input: &[i16], out: &mut Block)
     ensures read { (law : Law) → NamedAt mem.now External 1 (kind_word law Decode) (records_of Decode)
         → mem.now.r1.now ≡ samples_of_codes law → All (FitsSigned w16) input.now }
 {
-    let Some(table) = mem.read_named(Space::External, SAMPLES) else {
+    let Some(table) = mem.read_own(Space::External, SAMPLES) else {
         return;
     };
     if table.len() == CODES {
@@ -199,7 +210,7 @@ fn decode_block(mem: &Lent<'_>, input: &[i16], out: &mut Block)
     }
 }
 
-/// Gives out the samples of the codes, by the samples of all codes. One code needs neither a call that copies nor a loop.
+/// Gives out the samples of the codes, by the samples of all codes. One code needs no loop.
 #[inline(always)]
 fn decode_by(table: &[i16], input: &[i16], out: &mut Block)
     requires all { length table.now ≡ CODES }
@@ -212,11 +223,12 @@ fn decode_by(table: &[i16], input: &[i16], out: &mut Block)
 {
     match input {
         [code] => {
-            let _fits = out.try_push(sample_of(table, *code));
+            out.push(sample_of(table, *code));
         }
         _ => {
-            let _fits = out.try_extend_from_slice(input);
-            decode_words(table, input, out.as_mut_slice());
+            out.set_len(input.len());
+            let (samples, _room) = out.room_mut().split_at_mut(input.len());
+            decode_words(table, input, samples);
         }
     }
 }

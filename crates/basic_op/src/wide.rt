@@ -24,5 +24,7 @@ pub fn product(a: i16, b: i16) -> i32
     ensures value { result ≡ a *ℤ b }
     ensures within { unsigned_abs result ≤ 2 ^ 30 }
 {
-    i32::from(a) * i32::from(b)
+    let first = i32::from(a);
+    let second = i32::from(b);
+    first * second
 }

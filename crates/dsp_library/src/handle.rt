@@ -61,10 +61,9 @@ fn new_machine(
         Err(StartError::BadSize) => return Err(BAD_SIZE),
         Err(StartError::Memory) => return Err(NO_MEMORY),
     };
-    let machine = Machine {
-        channels: Channels::new(host, channels),
-        given: Block::new(),
-    };
+    let channels = Channels::new(host, channels);
+    let given = Block::new();
+    let machine = Machine { channels, given };
     match Box::new(alloc, machine) {
         Ok(machine) => Ok(machine),
         Err(_refused) => Err(NO_MEMORY),

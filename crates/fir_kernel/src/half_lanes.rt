@@ -57,14 +57,14 @@ pub(crate) fn sum_beside(
         g = add_pair(g, coefficients, pair, line, first + LANES * 6);
         h = add_pair(h, coefficients, pair, line, first + LANES * 7);
     }
-    write(a, sums, at);
-    write(b, sums, at + LANES);
-    write(c, sums, at + LANES * 2);
-    write(d, sums, at + LANES * 3);
-    write(e, sums, at + LANES * 4);
-    write(f, sums, at + LANES * 5);
-    write(g, sums, at + LANES * 6);
-    write(h, sums, at + LANES * 7);
+    let second = write(a, sums, at);
+    let third = write(b, sums, second);
+    let fourth = write(c, sums, third);
+    let fifth = write(d, sums, fourth);
+    let sixth = write(e, sums, fifth);
+    let seventh = write(f, sums, sixth);
+    let eighth = write(g, sums, seventh);
+    let _end = write(h, sums, eighth);
 }
 
 /// Writes the sums of four neighbouring outputs by halves, that at sample `first` first, from sum `at` on.
@@ -87,7 +87,7 @@ pub(crate) fn sum_four(
     for pair in 0..coefficients.len() / 2 {
         halves = add_pair(halves, coefficients, pair, line, first);
     }
-    write(halves, sums, at);
+    let _end = write(halves, sums, at);
 }
 
 /// The sums of four outputs before the first pair of taps: with a tap already where there is an odd number of them.
@@ -153,13 +153,15 @@ pub(crate) fn limited(sums: i32x4) -> i32x4
         .simd_min(i32x4::splat(MOST_HALF))
 }
 
-/// Writes the half sums, from sum `at` on.
+/// Writes the half sums, from sum `at` on, and answers which sum is behind them.
 #[inline(always)]
-pub(crate) fn write(halves: i32x4, sums: &mut [Half], at: usize)
+pub(crate) fn write(halves: i32x4, sums: &mut [Half], at: usize) -> usize
     requires four { length halves ≡ LANES }
     requires within { AreHalves halves }
     requires room { at + LANES ≤ length sums.old }
-    ensures { AreWritten halves at sums.old sums.new }
+    ensures next { result ≡ at + LANES }
+    ensures written { AreWritten halves at sums.old sums.new }
 {
     halves.copy_to_slice(&mut sums[at..]);
+    at + LANES
 }

@@ -108,10 +108,14 @@ pub(crate) fn sum_sixteen(
             d = add_in_order(d, coefficients, tap, line, first + 9);
         }
     }
-    write(low_of(a, b), sums, at);
-    write(high_of(a, b), sums, at + 4);
-    write(low_of(c, d), sums, at + 8);
-    write(high_of(c, d), sums, at + 12);
+    let first_sums = low_of(a, b);
+    let second = write(first_sums, sums, at);
+    let second_sums = high_of(a, b);
+    let third = write(second_sums, sums, second);
+    let third_sums = low_of(c, d);
+    let fourth = write(third_sums, sums, third);
+    let fourth_sums = high_of(c, d);
+    let _end = write(fourth_sums, sums, fourth);
 }
 
 /// Whether the magnitudes of all sums are below the room.

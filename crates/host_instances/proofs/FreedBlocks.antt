@@ -104,7 +104,7 @@ module _ {M : Type 0} (g : ℕ) (instances : List (Option (Member M))) (sharing 
 
   pub keeps_without : (laws : Laws M) (w : Option ℤ) (histories : ℕ → History)
       → Keeps laws w instances sharing groups histories → Keeps laws w instances sharing groups' histories
-  keeps_without laws w histories keeps = words_seen laws w histories instances instances sharing sharing groups groups' ok words_without keeps
+  keeps_without laws w histories keeps = words_seen laws w histories ok words_without keeps
 
   module _ (map : map_of spaces' ≡ without_owners (is_group's g) (map_of spaces))
       (beside : (o : Owner) (space : Space) → o ≢ GroupScratch g → owned o (blocks_in (map_of spaces') space) ≡ owned o (blocks_in (map_of spaces) space))

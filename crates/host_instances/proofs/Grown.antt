@@ -164,9 +164,9 @@ larger_same (Some b) None (Some n) same larger = absurd same.0
 larger_same (Some b) (Some c) (Some n) same larger =
     (let long = larger.0 in let e = same.0.2 in omega (arith, long, e), let fine = larger.1 in let e = same.1 in omega (arith, fine, e))
 
-pub placed_stays : {M : Type 0} (g : ℕ) (blocks : NewBlocks) (instances instances' : List (Option (Member M))) (sharing sharing' : List Locations) (groups groups' : List Group) (spaces : Spaces)
+pub placed_stays : {M : Type 0} {instances instances' : List (Option (Member M))} {sharing sharing' : List Locations} {groups groups' : List Group} (g : ℕ) (blocks : NewBlocks) (spaces : Spaces)
     → SameMembers instances sharing groups instances' sharing' groups' → ArePlaced g blocks instances sharing groups spaces → ArePlaced g blocks instances' sharing' groups' spaces
-placed_stays g blocks instances instances' sharing sharing' groups groups' spaces same placed = record {
+placed_stays {M} {instances} {instances'} {sharing} {sharing'} {groups} {groups'} g blocks spaces same placed = record {
   before = placed.before;
   standing = standing_stays instances instances' sharing sharing' groups groups' placed.before same placed.standing;
   records = λ i k n space at.
@@ -179,9 +179,9 @@ placed_stays g blocks instances instances' sharing sharing' groups groups' space
   larger = λ space. larger_same _ _ (new_block blocks space) (same.blocks g space) (placed.larger space);
 }
 
-pub grown_stays : {M : Type 0} (g : ℕ) (instances instances' : List (Option (Member M))) (sharing sharing' : List Locations) (groups groups' : List Group) (spaces : Spaces)
+pub grown_stays : {M : Type 0} {instances instances' : List (Option (Member M))} {sharing sharing' : List Locations} {groups groups' : List Group} (g : ℕ) (spaces : Spaces)
     → SameMembers instances sharing groups instances' sharing' groups' → AreGrown g instances sharing groups spaces → AreGrown g instances' sharing' groups' spaces
-grown_stays g instances instances' sharing sharing' groups groups' spaces same grown = record {
+grown_stays {M} {instances} {instances'} {sharing} {sharing'} {groups} {groups'} g spaces same grown = record {
   owners = λ i n at.
       let was = before (slot_at instances i) n (subst (λ x. IsSameMember (slot_at instances i) x) at (same.slot i)) in
       let m = was.0 in

@@ -23,9 +23,10 @@ fn replaces(group: &Group, space: Space, new: &Option<ScratchBlock>) -> bool
 pub fn replaces_any(group: &Group, blocks: &NewBlocks) -> bool
     ensures { result ≡ replaced_in blocks.now group.now }
 {
-    replaces(group, Space::Daram, &blocks.daram)
-        || replaces(group, Space::Saram, &blocks.saram)
-        || replaces(group, Space::External, &blocks.external)
+    let daram = replaces(group, Space::Daram, &blocks.daram);
+    let saram = replaces(group, Space::Saram, &blocks.saram);
+    let external = replaces(group, Space::External, &blocks.external);
+    daram || saram || external
 }
 
 /// Puts a new block into a space of a group, if there is one, and gives back the one that stood there.
@@ -57,9 +58,12 @@ pub fn put_new_blocks(groups: &mut Vec<Group>, g: u8, blocks: NewBlocks) -> OldB
         saram,
         external,
     } = blocks;
+    let daram = put_new(groups, g, Space::Daram, daram);
+    let saram = put_new(groups, g, Space::Saram, saram);
+    let external = put_new(groups, g, Space::External, external);
     OldBlocks {
-        daram: put_new(groups, g, Space::Daram, daram),
-        saram: put_new(groups, g, Space::Saram, saram),
-        external: put_new(groups, g, Space::External, external),
+        daram,
+        saram,
+        external,
     }
 }

@@ -8,7 +8,7 @@ ghost use Rattle.host_moves.specs.Standing.{MapAgrees};
 use crate::leaving::{give_blocks, give_records};
 use crate::members::members_left;
 use host_spaces::Spaces;
-use host_table::{Tables, group_number};
+use host_table::Tables;
 use ialg::Ialg;
 
 /// Ends an instance. Its records are given back, and its group's blocks where no other member is left. An active one is deactivated
@@ -25,7 +25,7 @@ pub fn end_instance<M: Ialg>(
     requires poisoned { ArePoisoned poison tables.old.groups }
     ensures { InstanceHasEnded M.law poison i tables.old spaces.old tables.new spaces.new }
 {
-    let g = group_number(&tables.instances, i);
+    let g = tables.group_number(i);
     give_records(tables, spaces, poison, i);
     if !members_left(&tables.instances, g) {
         give_blocks(

@@ -3,24 +3,28 @@ ghost use Rattle.std.specs.Prelude.{◌≡◌, ◌≢◌, ◌<◌, length, None,
 ghost use Rattle.mem_rec.specs.declared.TheConstants.{GROUPS};
 ghost use Rattle.host_table.specs.Table.{group_at, ArePoisoned, SameActivities, ActivitiesAre};
 ghost use Rattle.host_table.specs.Frames.{InactiveGroupsStay};
+ghost use Rattle.host_spaces.specs.MemoryMap.{AreSameSpaces, map_of};
+ghost use Rattle.host_spaces.specs.MapChanges.{AllButGroupStay};
+ghost use Rattle.host_spaces.specs.Pieces.{without_pieces};
+ghost use Rattle.host_spaces.specs.Placing.{AreInTheirSpaces, AreOfGroup};
+ghost use Rattle.host_moves.specs.Standing.{AreOrdered};
 ghost use Rattle.host_instances.specs.Blocks.{no_blocks, replaced_in};
 ghost use Rattle.host_instances.specs.Growth.{CanGrow, HasGrown, activity_grown};
 ghost use Rattle.host_table.specs.Steps.{AreConsistent, MembersAreTold, MembersStay, HistoriesStay, AllHistoriesStay};
 
 use crate::blocks::{put_new_blocks, replaces_any};
 use host_moves::in_order;
-use host_spaces::{NewBlocks, Spaces};
+use host_spaces::{NewBlocks, OldBlocks, Spaces};
 use host_table::{Tables, call_moved_in_group};
 use ialg::Ialg;
-use scratch_group::Group;
 use space_raw::end_none;
 
 /// Whether a new block stands in place of an old one of the group.
-fn replaces_in(groups: &Vec<Group>, g: u8, blocks: &NewBlocks) -> bool
-    requires { g < length groups.now.items }
-    ensures { result ≡ replaced_in blocks.now (group_at groups.now.items g) }
+fn replaces_in<M: Ialg>(tables: &Tables<M>, g: u8, blocks: &NewBlocks) -> bool
+    requires { g < length tables.now.groups }
+    ensures { result ≡ replaced_in blocks.now (group_at tables.now.groups g) }
 {
-    replaces_any(&groups[g as usize], blocks)
+    replaces_any(&tables.groups[g as usize], blocks)
 }
 
 /// Deactivates the active member of the group, if there is one, where a block is replaced.
@@ -78,6 +82,19 @@ fn end_no_blocks(blocks: NewBlocks)
     end_none(external);
 }
 
+/// Gives the old blocks of the group back.
+fn give_back_old(spaces: &mut Spaces, g: u8, pieces: OldBlocks)
+    requires regions { AreInTheirSpaces pieces spaces.old }
+    requires owner { AreOfGroup g pieces (map_of spaces.old) }
+    ensures ordered { AreOrdered spaces.new }
+    ensures map { map_of spaces.new ≡ without_pieces (map_of spaces.old) pieces }
+    ensures others { AllButGroupStay g (map_of spaces.old) (map_of spaces.new) }
+    ensures stays { AreSameSpaces spaces.old spaces.new }
+{
+    spaces.take_out_blocks(g, pieces);
+    in_order(spaces);
+}
+
 /// Puts new blocks into the group, as [`grow`] does.
 #[inline(never)]
 fn grow_by_blocks<M: Ialg>(
@@ -90,12 +107,11 @@ fn grow_by_blocks<M: Ialg>(
     requires { CanGrow poison g blocks tables.old spaces.old }
     ensures { HasGrown M.law poison g blocks tables.old tables.new spaces.old spaces.new }
 {
-    let replaced = replaces_in(&tables.groups, g, &blocks);
+    let replaced = replaces_in(tables, g, &blocks);
     rest_where(tables, poison, g, replaced);
     in_order(spaces);
     let old = put_new_blocks(&mut tables.groups, g, blocks);
-    spaces.take_out_blocks(g, old);
-    in_order(spaces);
+    give_back_old(spaces, g, old);
     tell_where(tables, g, replaced);
 }
 

@@ -26,42 +26,6 @@ piece_there ps (suc (suc zero)) p e = omega arith
 piece_there ps (suc (suc (suc zero))) p e = omega arith
 piece_there ps (suc (suc (suc (suc k)))) p e = absurd (none-some _ e)
 
-pub piece_with_same : (ps : Pieces) (k : ℕ) (x : Option Span) → k < 4 → piece_at (with_piece ps k x) k ≡ x
-piece_with_same ps zero x h = refl
-piece_with_same ps (suc zero) x h = refl
-piece_with_same ps (suc (suc zero)) x h = refl
-piece_with_same ps (suc (suc (suc zero))) x h = refl
-piece_with_same ps (suc (suc (suc (suc k)))) x h = absurd (too_many k h)
-  where
-    too_many : (n : ℕ) → suc (suc (suc (suc n))) < 4 → ⊥
-    too_many n less = omega (arith, less)
-
-pub piece_with_other : (ps : Pieces) (k j : ℕ) (x : Option Span) → j ≢ k → piece_at (with_piece ps k x) j ≡ piece_at ps j
-piece_with_other ps zero zero x h = absurd (h refl)
-piece_with_other ps zero (suc j) x h = later j
-  where
-    later : (n : ℕ) → piece_at (with_piece ps zero x) (suc n) ≡ piece_at ps (suc n)
-    later zero = refl
-    later (suc zero) = refl
-    later (suc (suc zero)) = refl
-    later (suc (suc (suc n))) = refl
-piece_with_other ps (suc zero) zero x h = refl
-piece_with_other ps (suc zero) (suc zero) x h = absurd (h refl)
-piece_with_other ps (suc zero) (suc (suc zero)) x h = refl
-piece_with_other ps (suc zero) (suc (suc (suc zero))) x h = refl
-piece_with_other ps (suc zero) (suc (suc (suc (suc j)))) x h = refl
-piece_with_other ps (suc (suc zero)) zero x h = refl
-piece_with_other ps (suc (suc zero)) (suc zero) x h = refl
-piece_with_other ps (suc (suc zero)) (suc (suc zero)) x h = absurd (h refl)
-piece_with_other ps (suc (suc zero)) (suc (suc (suc zero))) x h = refl
-piece_with_other ps (suc (suc zero)) (suc (suc (suc (suc j)))) x h = refl
-piece_with_other ps (suc (suc (suc zero))) zero x h = refl
-piece_with_other ps (suc (suc (suc zero))) (suc zero) x h = refl
-piece_with_other ps (suc (suc (suc zero))) (suc (suc zero)) x h = refl
-piece_with_other ps (suc (suc (suc zero))) (suc (suc (suc zero))) x h = absurd (h refl)
-piece_with_other ps (suc (suc (suc zero))) (suc (suc (suc (suc j)))) x h = refl
-piece_with_other ps (suc (suc (suc (suc k)))) j x h = refl
-
 -- a piece that is replaced twice
 pub piece_again : (ps : Pieces) (k : ℕ) (x y : Option Span) → with_piece (with_piece ps k x) k y ≡ with_piece ps k y
 piece_again ps zero x y = refl

@@ -32,6 +32,7 @@ use Rattle.host_shared.specs.declared.locations.Location.TheVariants.{Here}
 use Rattle.host_shared.specs.Locations.{location_at, piece_here, locations_at, owner_by, owner_of, shared_at}
 use Rattle.host_shared.specs.Owners.{AllHaveOwners}
 use Rattle.host_table.specs.Table.{slot_at, group_at, AreBare, instance_of, is_member_of}
+use Rattle.host_shared.proofs.Stands.{piece_with_same, piece_with_other}
 use Rattle.host_shared.proofs.Lent.{no_location, seen_at}
 use Rattle.host_table.proofs.Held.{IsSameSharer}
 use Rattle.host_table.proofs.Together.{together_by_owners}
@@ -43,7 +44,7 @@ use Rattle.host_moves.specs.Standing.{IsPieceThere, IsOf, AgreeWithMap, table_of
 use Rattle.host_moves.proofs.Rooms.{either, space_itself}
 use Rattle.host_moves.proofs.Owners.{owner_by_same, owner_record, owner_elsewhere}
 use Rattle.host_moves.proofs.Nexts.{IsIn, in_space}
-use Rattle.host_moves.proofs.Instances.{piece_there, piece_with_same, piece_with_other, one_space, other_space, persists, written_once, other_instance, other_record, not_a_group, inst_is}
+use Rattle.host_moves.proofs.Instances.{piece_there, one_space, other_space, persists, written_once, other_instance, other_record, not_a_group, inst_is}
 
 -- an instance that has other pieces holds the same records
 sharer_itself : {M : Type 0} (slot : Option (Member M)) → IsSameSharer slot slot

@@ -30,6 +30,7 @@ use Rattle.host_shared.specs.Locations.{location_at, piece_here, locations_at, o
 use Rattle.host_shared.specs.Owners.{HasOwners, AllHaveOwners, with_pieces_of}
 use Rattle.host_shared.specs.Sharing.{AreLeast}
 use Rattle.host_table.specs.Table.{slot_at, group_at, instance_of, TablesOk}
+use Rattle.host_shared.proofs.Stands.{piece_with_same, piece_with_other}
 use Rattle.host_shared.proofs.Owners.{lent_here, count_seen}
 use Rattle.host_shared.proofs.Lent.{owners_of_all, lent_last, seen_at}
 use Rattle.host_table.proofs.Held.{owners_of_held}
@@ -43,7 +44,7 @@ use Rattle.host_moves.proofs.Moved.{OneMoves, seen_there, standing_once}
 use Rattle.host_moves.proofs.MovedBlocks.{room_of_standing, block_stays_itself}
 use Rattle.host_moves.proofs.Nexts.{IsNextRecord, next_record}
 use Rattle.host_moves.proofs.OwnMoves.{kept_slot}
-use Rattle.host_moves.proofs.Instances.{only_one, written_once, piece_there, piece_with_same, piece_with_other, piece_again}
+use Rattle.host_moves.proofs.Instances.{only_one, written_once, piece_there, piece_again}
 
 here_of : (s : Location) (p : Span) → piece_here s ≡ Some p → s ≡ Here (Some p)
 here_of (Here x) p e = ap Here e

@@ -38,6 +38,7 @@ use Rattle.host_shared.specs.declared.locations.Location.TheVariants.{Here, At}
 use Rattle.host_shared.specs.Locations.{location_at, locations_at, owner_by, owner_of, shared_at}
 use Rattle.host_table.specs.Table.{slot_at, group_at, instance_of, own_of, IsSharer, AreHeld, EachIsHoused, TablesOk}
 use Rattle.host_table.specs.Frames.{SameMembers}
+use Rattle.host_shared.proofs.Stands.{piece_with_same, piece_with_other}
 use Rattle.host_moves.specs.Waiting.{inst_with, slot_with, own_set, IsThere, IsHousedBut, TablesThere, TablesBut, MemberStays, SlotStays, SameWords, WordsStay}
 use Rattle.host_moves.proofs.Owns.{tables_map, set_again, active_with, own_set_same, own_set_other, but_all, but_own}
 use Rattle.host_moves.specs.Standing.{IsPieceThere, AreOrdered, AgreeWithMap, table_of, IsSameKind, SlotIsSame, SameInstances}
@@ -46,7 +47,7 @@ use Rattle.host_moves.proofs.Owners.{owner_record, slot_same}
 use Rattle.host_moves.proofs.Moved.{OneMoves, standing_moved}
 use Rattle.host_moves.proofs.MovedBlocks.{room_of_standing, block_stays_itself}
 use Rattle.host_moves.proofs.Nexts.{IsNextRecord, next_record}
-use Rattle.host_moves.proofs.Instances.{only_one, persists, piece_there, piece_with_same, piece_with_other, piece_again, inst_is}
+use Rattle.host_moves.proofs.Instances.{only_one, persists, piece_there, piece_again, inst_is}
 
 -- ---- one slot
 

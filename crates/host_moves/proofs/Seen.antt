@@ -96,11 +96,11 @@ module _ {M : Type 0} (laws : Laws M) (w : Option ℤ) (h : History) where
       (inst_seen m.group m.inst n.inst o o' (group_at groups m.group) (group_at groups' m.group) stays.state stays.kind stays.params stays.table stays.own shared
       (λ active space. blocks m.group space active) (housed m refl) keeps)
 
-pub words_seen : {M : Type 0} (laws : Laws M) (w : Option ℤ) (histories : ℕ → History)
-    (instances instances' : List (Option (Member M))) (sharing sharing' : List Locations) (groups groups' : List Group) → TablesOk instances sharing groups
+pub words_seen : {M : Type 0} {instances instances' : List (Option (Member M))} {sharing sharing' : List Locations} {groups groups' : List Group}
+    (laws : Laws M) (w : Option ℤ) (histories : ℕ → History) → TablesOk instances sharing groups
     → WordsStay instances sharing groups instances' sharing' groups'
     → Keeps laws w instances sharing groups histories → Keeps laws w instances' sharing' groups' histories
-words_seen laws w histories instances instances' sharing sharing' groups groups' ok stays keeps i =
+words_seen {M} {instances} {instances'} {sharing} {sharing'} {groups} {groups'} laws w histories ok stays keeps i =
     slot_seen laws w (histories i) (slot_at instances i) (slot_at instances' i) (shared_at sharing i) (shared_at sharing' i) groups groups' (stays.slot i) (stays.pieces i)
     (λ g space active. stays.blocks g i space active) (λ m at. ok.housed i m at) (keeps i)
 

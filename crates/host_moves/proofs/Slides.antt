@@ -13,53 +13,10 @@ use Rattle.host_shared.specs.declared.locations.Locations.{Locations}
 use Rattle.host_shared.specs.Locations.{location_at, piece_here, pieces_here, no_locations, locations_at, owner_by, owner_of, piece_seen, shared_at}
 use Rattle.host_shared.specs.Owners.{HasOwners, IsPieceHere, AllHaveOwners}
 use Rattle.host_table.specs.Table.{slot_at, group_at, instance_of, IsSharer, AreHeld, AreBare, EachIsHoused, TablesOk}
-use Rattle.host_shared.proofs.Stands.{four_pieces}
+use Rattle.host_shared.proofs.Stands.{four_pieces, piece_with_same, piece_with_other}
 use Rattle.host_shared.proofs.Owners.{lent_at, lent_apart, location_seen, count_seen}
 use Rattle.host_shared.proofs.Lent.{four_locations, no_location, owners_of_all, piece_inside, seen_at}
 use Rattle.host_moves.specs.Waiting.{holds_with, slid_to, TablesWaiting}
-
--- pieces with another one for a record
-with_same : (o : Pieces) (k : ℕ) (p : Option Span) → k < 4 → piece_at (with_piece o k p) k ≡ p
-with_same o zero p below = refl
-with_same o (suc zero) p below = refl
-with_same o (suc (suc zero)) p below = refl
-with_same o (suc (suc (suc zero))) p below = refl
-with_same o (suc (suc (suc (suc k)))) p below = absurd (omega (arith, below))
-
-with_other : (o : Pieces) (k l : ℕ) (p : Option Span) → l ≢ k → piece_at (with_piece o k p) l ≡ piece_at o l
-with_other o zero zero p apart = absurd (apart refl)
-with_other o zero (suc l) p apart = one_of l
-  where
-    one_of : (l : ℕ) → piece_at (with_piece o 0 p) (suc l) ≡ piece_at o (suc l)
-    one_of zero = refl
-    one_of (suc zero) = refl
-    one_of (suc (suc zero)) = refl
-    one_of (suc (suc (suc l))) = refl
-with_other o (suc zero) l p apart = others l apart
-  where
-    others : (l : ℕ) → l ≢ 1 → piece_at (with_piece o 1 p) l ≡ piece_at o l
-    others zero apart = refl
-    others (suc zero) apart = absurd (apart refl)
-    others (suc (suc zero)) apart = refl
-    others (suc (suc (suc zero))) apart = refl
-    others (suc (suc (suc (suc l)))) apart = refl
-with_other o (suc (suc zero)) l p apart = others l apart
-  where
-    others : (l : ℕ) → l ≢ 2 → piece_at (with_piece o 2 p) l ≡ piece_at o l
-    others zero apart = refl
-    others (suc zero) apart = refl
-    others (suc (suc zero)) apart = absurd (apart refl)
-    others (suc (suc (suc zero))) apart = refl
-    others (suc (suc (suc (suc l)))) apart = refl
-with_other o (suc (suc (suc zero))) l p apart = others l apart
-  where
-    others : (l : ℕ) → l ≢ 3 → piece_at (with_piece o 3 p) l ≡ piece_at o l
-    others zero apart = refl
-    others (suc zero) apart = refl
-    others (suc (suc zero)) apart = refl
-    others (suc (suc (suc zero))) apart = absurd (apart refl)
-    others (suc (suc (suc (suc l)))) apart = refl
-with_other o (suc (suc (suc (suc k)))) l p apart = refl
 
 module _ (sharing : List Locations) (owners : AllHaveOwners sharing) (i k : ℕ) (p q : Span) (below : k < 4) (there : location_at (locations_at sharing i) k ≡ Here (Some p)) where
   abbrev slid : List Locations
@@ -82,7 +39,7 @@ module _ (sharing : List Locations) (owners : AllHaveOwners sharing) (i k : ℕ)
   slid_here =
       location_seen sharing i its (with_piece (shared_at sharing i) k (Some q)) k i below
       ∙ lent_at (owner_of sharing i k) (piece_at (with_piece (shared_at sharing i) k (Some q)) k) i (location_at (locations_at sharing i) k) (sym at_owner)
-      ∙ ap Here (with_same (shared_at sharing i) k (Some q) below)
+      ∙ ap Here (piece_with_same (shared_at sharing i) k (Some q) below)
 
   -- the same record of another instance
   slid_there : (j : ℕ) → j ≢ i → location_at (locations_at slid j) k ≡ location_at (locations_at sharing j) k
@@ -94,7 +51,7 @@ module _ (sharing : List Locations) (owners : AllHaveOwners sharing) (i k : ℕ)
   slid_beside : (l j : ℕ) → l < 4 → l ≢ k → location_at (locations_at slid j) l ≡ location_at (locations_at sharing j) l
   slid_beside l j small apart =
       let o = with_piece (shared_at sharing i) k (Some q) in
-      let seen : piece_at o l ≡ piece_seen sharing i l = with_other (shared_at sharing i) k l (Some q) apart ∙ seen_at sharing i l small in
+      let seen : piece_at o l ≡ piece_seen sharing i l = piece_with_other (shared_at sharing i) k l (Some q) apart ∙ seen_at sharing i l small in
       location_seen sharing i its o l j small
       ∙ elim (eqb_tells j (owner_of sharing i l)) [
         | inl e ↦
@@ -147,8 +104,8 @@ module _ (sharing : List Locations) (owners : AllHaveOwners sharing) (i k : ℕ)
         | inl h ↦
             rw h.0
             (elim (eqb_tells l k) [
-              | inl e ↦ rw e.1 (seen_new j h.1 ∙ sym (with_same (shared_at sharing j) k (Some q) below))
-              | inr e ↦ seen_beside j l e.1 ∙ sym (seen_at sharing j l small) ∙ sym (with_other (shared_at sharing j) k l (Some q) e.1)
+              | inl e ↦ rw e.1 (seen_new j h.1 ∙ sym (piece_with_same (shared_at sharing j) k (Some q) below))
+              | inr e ↦ seen_beside j l e.1 ∙ sym (seen_at sharing j l small) ∙ sym (piece_with_other (shared_at sharing j) k l (Some q) e.1)
             ])
         | inr h ↦
             rw h.0
@@ -177,8 +134,8 @@ module _ (sharing : List Locations) (owners : AllHaveOwners sharing) (i k : ℕ)
         | inl f ↦
             rw f.0
             (elim (eqb_tells l k) [
-              | inl e ↦ rw (e.1, f.1) (ap piece_here slid_here ∙ sym (with_same (pieces_here (locations_at sharing i)) k (Some q) below))
-              | inr e ↦ ap piece_here (any_beside l j e.1) ∙ sym (here_piece (locations_at sharing j) l small) ∙ sym (with_other (pieces_here (locations_at sharing j)) k l (Some q) e.1)
+              | inl e ↦ rw (e.1, f.1) (ap piece_here slid_here ∙ sym (piece_with_same (pieces_here (locations_at sharing i)) k (Some q) below))
+              | inr e ↦ ap piece_here (any_beside l j e.1) ∙ sym (here_piece (locations_at sharing j) l small) ∙ sym (piece_with_other (pieces_here (locations_at sharing j)) k l (Some q) e.1)
             ])
         | inr f ↦
             rw f.0

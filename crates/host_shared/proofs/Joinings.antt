@@ -75,7 +75,7 @@ module _ (sharing sharing' : List Locations) (i k : ℕ) (p : Option Span) where
 over_column : (a b : List Locations) (i k t j : ℕ) → ((l : ℕ) → location_at (locations_at a l) k ≡ location_at (locations_at b l) k) → location_over a i k t j ≡ location_over b i k t j
 over_column a b i k t j same = rw (same j, same t) refl
 
-joined_column : (a b : List Locations) (i k : ℕ) (t : Option ℕ) (p : Option Span) (j : ℕ) → ((l : ℕ) → location_at (locations_at a l) k ≡ location_at (locations_at b l) k)
+pub joined_column : (a b : List Locations) (i k : ℕ) (t : Option ℕ) (p : Option Span) (j : ℕ) → ((l : ℕ) → location_at (locations_at a l) k ≡ location_at (locations_at b l) k)
     → location_joined a i k t p j ≡ location_joined b i k t p j
 joined_column a b i k None p j same = rw (same j) refl
 joined_column a b i k (Some t) p j same =
@@ -88,27 +88,16 @@ pub can_column : (a b : List Locations) (k : ℕ) (t : Option ℕ) (p : Option S
 can_column a b k None p same can = tt
 can_column a b k (Some t) p same can = record { here = rw (same t) can.here; none = can.none }
 
--- record k has joined, and no other
-pub record JoinsOn (i k : ℕ) (t : Option ℕ) (p : Option Span) (sharing sharing' : List Locations) : Type 0 where
-  pub joined : (j : ℕ) → location_at (locations_at sharing' j) k ≡ location_joined sharing i k t p j
-  pub beside : (j l : ℕ) → l ≢ k → location_at (locations_at sharing' j) l ≡ location_at (locations_at sharing j) l
-
--- all four, in turn
-module _ (i : ℕ) (sharers : Sharers) (placed : Pieces) (a b c d e : List Locations) (first : JoinsOn i 0 sharers.t0 placed.p0 a b) (second : JoinsOn i 1 sharers.t1 placed.p1 b c)
-    (third : JoinsOn i 2 sharers.t2 placed.p2 c d) (fourth : JoinsOn i 3 sharers.t3 placed.p3 d e) where
-  pub all_joined : (j k : ℕ) → location_at (locations_at e j) k ≡ location_joined a i k (sharer_at sharers k) (piece_at placed k) j
-  all_joined j zero = fourth.beside j 0 (omega arith) ∙ third.beside j 0 (omega arith) ∙ second.beside j 0 (omega arith) ∙ first.joined j
-  all_joined j (suc zero) =
-      fourth.beside j 1 (omega arith) ∙ third.beside j 1 (omega arith) ∙ second.joined j
-      ∙ joined_column b a i 1 sharers.t1 placed.p1 j (λ l. first.beside l 1 (omega arith))
-  all_joined j (suc (suc zero)) =
-      fourth.beside j 2 (omega arith) ∙ third.joined j
-      ∙ joined_column c a i 2 sharers.t2 placed.p2 j (λ l. second.beside l 2 (omega arith) ∙ first.beside l 2 (omega arith))
-  all_joined j (suc (suc (suc zero))) =
-      fourth.joined j
-      ∙ joined_column d a i 3 sharers.t3 placed.p3 j (λ l. third.beside l 3 (omega arith) ∙ second.beside l 3 (omega arith) ∙ first.beside l 3 (omega arith))
-  all_joined j (suc (suc (suc (suc k)))) =
-      elim (eqb_tells j i) [
-        | inl f ↦ rw f.0 refl
-        | inr f ↦ rw f.0 refl
-      ]
+-- all four have joined
+pub all_joined : (i : ℕ) (sharers : Sharers) (placed : Pieces) (a b : List Locations)
+    → ((j k : ℕ) → k < 4 → location_at (locations_at b j) k ≡ location_joined a i k (sharer_at sharers k) (piece_at placed k) j)
+    → (j k : ℕ) → location_at (locations_at b j) k ≡ location_joined a i k (sharer_at sharers k) (piece_at placed k) j
+all_joined i sharers placed a b each j zero = each j 0 (omega arith)
+all_joined i sharers placed a b each j (suc zero) = each j 1 (omega arith)
+all_joined i sharers placed a b each j (suc (suc zero)) = each j 2 (omega arith)
+all_joined i sharers placed a b each j (suc (suc (suc zero))) = each j 3 (omega arith)
+all_joined i sharers placed a b each j (suc (suc (suc (suc k)))) =
+    elim (eqb_tells j i) [
+      | inl f ↦ rw f.0 refl
+      | inr f ↦ rw f.0 refl
+    ]

@@ -147,3 +147,11 @@ module _ (sharing : List Locations) (i : ℕ) (owners : HasOwners sharing i) (o 
     p2 = seen_same 2 j (omega arith);
     p3 = seen_same 3 j (omega arith);
   }
+
+-- one that sees no piece has none for record k
+pub none_at : (sharing : List Locations) (i : ℕ) → shared_at sharing i ≡ no_pieces → (k : ℕ) → k < 4 → piece_seen sharing i k ≡ None
+none_at sharing i none zero below = ap (λ (o : Pieces). o.p0) none
+none_at sharing i none (suc zero) below = ap (λ (o : Pieces). o.p1) none
+none_at sharing i none (suc (suc zero)) below = ap (λ (o : Pieces). o.p2) none
+none_at sharing i none (suc (suc (suc zero))) below = ap (λ (o : Pieces). o.p3) none
+none_at sharing i none (suc (suc (suc (suc k)))) below = absurd (omega (arith, below))

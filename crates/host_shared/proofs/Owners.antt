@@ -1,5 +1,5 @@
 -- What is seen of the locations, where pieces are put at the owners of records.
-use Rattle.std.proofs.Common.{◌≡◌, ◌≢◌, ℕ, zero, suc, ◌<◌, inl, inr, List, length, Option, get_or-set_same, get_or-set_other, nat_eq, if◌then◌else◌, refl, sym, ◌∙◌, ap, subst, arith}
+use Rattle.std.proofs.Common.{◌≡◌, ◌≢◌, ℕ, zero, suc, ◌<◌, ◌≤◌, inl, inr, List, length, Option, get_or-set_same, get_or-set_other, nat_eq, if◌then◌else◌, refl, sym, ◌∙◌, ap, subst, arith}
 use Rattle.std.proofs.lemmas.Bool.Decides.{eqb_tells}
 use Rattle.std.proofs.lemmas.List.{length-set}
 use Rattle.space_raw.specs.Span.{Span}
@@ -218,6 +218,24 @@ module _ (sharing : List Locations) (i : ℕ) (owners : HasOwners sharing i) (o 
   pub count_seen : length (with_pieces_of sharing i o) ≡ length sharing
   unfolding with_pieces_of
   count_seen = simp length-set
+
+-- the first n of the pieces are put
+abbrev pub with_first : List Locations → ℕ → Pieces → ℕ → List Locations
+with_first sharing i o zero = sharing
+with_first sharing i o (suc n) = put_piece (with_first sharing i o n) i n (piece_at o n)
+
+module _ (sharing : List Locations) (i : ℕ) (owners : HasOwners sharing i) (o : Pieces) where
+  pub owners_first : (n : ℕ) → n ≤ 4 → HasOwners (with_first sharing i o n) i
+  owners_first zero most = owners
+  owners_first (suc n) most = λ l.
+      let before = owners_first n (omega (arith, most)) in
+      owner_after (with_first sharing i o n) i n (piece_at o n) (before n) (omega (arith, most)) l (before l)
+
+  pub seen_first : (n : ℕ) → n ≤ 4 → (l : ℕ) → n ≤ l → piece_seen (with_first sharing i o n) i l ≡ piece_seen sharing i l
+  seen_first zero most l behind = refl
+  seen_first (suc n) most l behind =
+      seen_beside (with_first sharing i o n) i n (piece_at o n) (owners_first n (omega (arith, most)) n) (omega (arith, most)) l (omega (arith, behind))
+      ∙ seen_first n (omega (arith, most)) l (omega (arith, behind))
 
 -- what instance i sees then, and each other one
 module _ (sharing : List Locations) (i : ℕ) (owners : HasOwners sharing i) (o : Pieces) (k : ℕ) (below : k < 4) where

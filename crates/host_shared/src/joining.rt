@@ -10,7 +10,8 @@ ghost use Rattle.host_shared.specs.Sharing.{AreLeast};
 
 use crate::locations::{Location, Locations, replace_location};
 use crate::sharers::{point_all, put_location};
-use record_loans::Pieces;
+use mem_rec::TABLE_RECORDS;
+use record_loans::{Pieces, end_absent};
 use space_raw::{Piece, end_none};
 
 /// For each record of an instance the least-numbered other one that shares it, if there is one.
@@ -20,6 +21,21 @@ pub struct Sharers {
     pub t1: Option<u8>,
     pub t2: Option<u8>,
     pub t3: Option<u8>,
+}
+
+impl Sharers {
+    /// The sharer of record `k`.
+    fn sharer(&self, k: usize) -> Option<u8>
+        requires { k < TABLE_RECORDS }
+        ensures { result ≡ sharer_at self.now k }
+    {
+        match k {
+            0 => self.t0,
+            1 => self.t1,
+            2 => self.t2,
+            _ => self.t3,
+        }
+    }
 }
 
 /// Makes instance `i` the owner of record `k` in place of `sharer`, for all that share it.
@@ -98,9 +114,10 @@ pub fn join(sharing: &mut Vec<Locations>, i: u8, placed: Pieces, sharers: Sharer
     ensures owners { AllHaveOwners sharing.new.items }
     ensures least { AreLeast sharing.old.items → AreLeast sharing.new.items }
 {
-    let Pieces { p0, p1, p2, p3 } = placed;
-    join_record(sharing, i, 0, sharers.t0, p0);
-    join_record(sharing, i, 1, sharers.t1, p1);
-    join_record(sharing, i, 2, sharers.t2, p2);
-    join_record(sharing, i, 3, sharers.t3, p3);
+    let mut left = placed;
+    for k in 0..TABLE_RECORDS {
+        let piece = left.take(k);
+        join_record(sharing, i, k, sharers.sharer(k), piece);
+    }
+    end_absent(left);
 }

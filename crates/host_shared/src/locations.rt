@@ -8,8 +8,8 @@ ghost use Rattle.host_shared.specs.Locations.{location_at, piece_here, pieces_he
 ghost use Rattle.host_shared.specs.Owners.{with_location, set_location, put_piece, with_pieces_of, HasOwner, HasOwners};
 ghost use Rattle.host_shared.specs.Sharing.{is_at, names_owner, NameNoOwner};
 
-use mem_rec::INSTANCES;
-use record_loans::{CONSTANTS, Pieces};
+use mem_rec::{INSTANCES, TABLE_RECORDS};
+use record_loans::{CONSTANTS, Pieces, end_absent};
 use space_raw::{Piece, end_none};
 use std::mem;
 
@@ -319,11 +319,12 @@ fn put_each(sharing: &mut Vec<Locations>, i: usize, pieces: Pieces)
     requires none { shared_at sharing.old.items i ≡ no_pieces }
     ensures { sharing.new.items ≡ with_pieces_of sharing.old.items i pieces }
 {
-    let Pieces { p0, p1, p2, p3 } = pieces;
-    put_record(sharing, i, 0, p0);
-    put_record(sharing, i, 1, p1);
-    put_record(sharing, i, 2, p2);
-    put_record(sharing, i, 3, p3);
+    let mut left = pieces;
+    for k in 0..TABLE_RECORDS {
+        let piece = left.take(k);
+        put_record(sharing, i, k, piece);
+    }
+    end_absent(left);
 }
 
 /// Takes the piece of record `k` out of its owner, to be moved: [`put_moved`] puts it back.
@@ -400,7 +401,7 @@ pub fn has_none_but_third(sharing: &Vec<Locations>, i: usize) -> bool
 /// Exchanges the piece of record 2 of an instance, which its owner has, for that of these pieces, in place: where the instance has no other,
 /// its pieces are borrowed for none, and given back for none.
 #[inline(always)]
-pub fn exchange_third(sharing: &mut Vec<Locations>, i: usize, pieces: &mut Pieces)
+fn exchange_third(sharing: &mut Vec<Locations>, i: usize, pieces: &mut Pieces)
     requires number { i < length sharing.old.items }
     requires owners { HasOwners sharing.old.items i }
     requires seen0 { piece_seen sharing.old.items i 0 ≡ None }
@@ -417,6 +418,39 @@ pub fn exchange_third(sharing: &mut Vec<Locations>, i: usize, pieces: &mut Piece
 {
     let at = owner(sharing, i, 2);
     sharing[at].s2.exchange(&mut pieces.p2);
+}
+
+/// Borrows the piece of record 2 of an instance from its owner, in place, where the instance has no other: [`give_back_third`] returns it.
+#[inline(always)]
+pub fn borrow_third(sharing: &mut Vec<Locations>, i: usize, pieces: &mut Pieces)
+    requires number { i < length sharing.old.items }
+    requires owners { HasOwners sharing.old.items i }
+    requires seen0 { piece_seen sharing.old.items i 0 ≡ None }
+    requires seen1 { piece_seen sharing.old.items i 1 ≡ None }
+    requires seen3 { piece_seen sharing.old.items i 3 ≡ None }
+    requires empty { pieces.old ≡ no_pieces }
+    ensures pieces { pieces.new ≡ shared_at sharing.old.items i }
+    ensures left { sharing.new.items ≡ with_pieces_of sharing.old.items i no_pieces }
+    ensures length { length sharing.new.items ≡ length sharing.old.items }
+    ensures owners { HasOwners sharing.new.items i }
+    ensures none { shared_at sharing.new.items i ≡ no_pieces }
+{
+    exchange_third(sharing, i, pieces);
+}
+
+/// Gives the piece of record 2 of an instance back to its owner, who has none, in place.
+#[inline(always)]
+pub fn give_back_third(sharing: &mut Vec<Locations>, i: usize, pieces: &mut Pieces)
+    requires number { i < length sharing.old.items }
+    requires owners { HasOwners sharing.old.items i }
+    requires none { shared_at sharing.old.items i ≡ no_pieces }
+    requires p0 { pieces.old.p0 ≡ None }
+    requires p1 { pieces.old.p1 ≡ None }
+    requires p3 { pieces.old.p3 ≡ None }
+    ensures back { sharing.new.items ≡ with_pieces_of sharing.old.items i pieces.old }
+    ensures left { pieces.new ≡ no_pieces }
+{
+    exchange_third(sharing, i, pieces);
 }
 
 /// Whether the owner of record `k` has its piece.
@@ -443,15 +477,4 @@ pub fn sees(sharing: &Vec<Locations>, i: usize, k: usize) -> bool
         Location::Here(piece) => piece.is_some(),
         Location::At(owner) => has_piece(sharing, *owner as usize, k),
     }
-}
-
-/// Ends a table of no pieces. It answers nothing and leaves nothing behind, so that there is no more to say.
-pub fn end_absent(pieces: Pieces)
-    requires { pieces ≡ no_pieces }
-{
-    let Pieces { p0, p1, p2, p3 } = pieces;
-    end_none(p0);
-    end_none(p1);
-    end_none(p2);
-    end_none(p3);
 }

@@ -4,9 +4,9 @@ ghost use Rattle.mem_rec.specs.declared.TheConstants.{INSTANCES};
 ghost use Rattle.record_loans.specs.Pieces.{no_pieces};
 ghost use Rattle.host_shared.specs.Locations.{no_locations, locations_at, shared_at, IsUnshared};
 
-use crate::locations::{Locations, end_absent};
+use crate::locations::Locations;
 use mem_rec::INSTANCES;
-use record_loans::Pieces;
+use record_loans::{Pieces, end_absent};
 use std::alloc::{AllocError, Allocator};
 
 /// The table of shared records, without a piece. It is of any allocator, which is asked once.

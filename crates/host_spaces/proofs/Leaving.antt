@@ -1,6 +1,6 @@
 -- Blocks that go back, by their owners and by their places.
 use Rattle.std.proofs.lemmas.Bool.{eq-eqb}
-use Rattle.std.proofs.Common.{◌≡◌, ◌≢◌, ℕ, zero, suc, ◌==◌, Bool, true, false, not, ◌&&◌, cond, if◌then◌else◌, List, [], ◌∷◌, filter, length, Option, Some, None, IfSome, IsSome, refl, sym, ap, subst, ◌∙◌, arith, inl, inr}
+use Rattle.std.proofs.Common.{◌≡◌, ◌≢◌, ℕ, zero, suc, ◌+◌, ◌<◌, ◌≤◌, ◌==◌, Bool, true, false, not, ◌&&◌, cond, if◌then◌else◌, List, [], ◌∷◌, filter, length, Option, Some, None, IfSome, IsSome, refl, sym, ap, subst, ◌∙◌, add-one, get_or, arith, inl, inr}
 use Rattle.std.specs.Option.{option_map, option_map_or, option_or}
 use Rattle.mem_rec.specs.declared.MemRec.{MemRec}
 use Rattle.mem_rec.specs.declared.Space.{Space}
@@ -12,7 +12,7 @@ use Rattle.space_raw.specs.Span.{Extent, Span}
 use Rattle.relocate.specs.Places.{placed_size}
 use Rattle.ialg.specs.Records.{record_at}
 use Rattle.record_loans.specs.declared.pieces.Pieces.{Pieces}
-use Rattle.record_loans.specs.Pieces.{piece_at}
+use Rattle.record_loans.specs.Pieces.{no_pieces, piece_at, with_piece}
 use Rattle.relocate.proofs.RangeTests.{clash, true_or_false, when_not}
 use Rattle.host_map.specs.declared.placed.Owner.{Owner}
 use Rattle.host_map.specs.declared.placed.Owner.TheVariants.{Record, Scratch}
@@ -25,11 +25,14 @@ use Rattle.host_spaces.proofs.Owners.{disowned_none, owned_beside, owns_one}
 use Rattle.host_spaces.specs.declared.pieces.OldBlocks.{OldBlocks}
 use Rattle.host_spaces.specs.declared.spaces.Spaces.{Spaces}
 use Rattle.host_map.specs.MemoryMap.{MemoryMap, blocks_in, is_group's, is_instance's, without_owners}
-use Rattle.host_spaces.specs.MemoryMap.{map_of, space_in}
+use Rattle.host_spaces.specs.MemoryMap.{AreSameSpaces, map_of, space_in}
 use Rattle.host_map.specs.Creation.{replaced_block, without_replaced}
 use Rattle.lifecycle.specs.Rooms.{lasting_piece}
-use Rattle.host_spaces.specs.Pieces.{ArePlacedPieces, HasRecords, IsPieceOf, is_placed_once, old_piece, record_block, without_pieces}
-use Rattle.host_spaces.proofs.Maps.{by_space, daram_external, daram_saram, maps_equal, saram_external, seen_blocks}
+use Rattle.host_spaces.specs.Changes.{LeavesAnyOwner, OthersStayBesideAny}
+use Rattle.host_spaces.specs.MapChanges.{AllButGroupStay, OtherSpacesStay}
+use Rattle.host_spaces.specs.Placing.{AreOfGroup, LeaveTheirGroup}
+use Rattle.host_spaces.specs.Pieces.{ArePlacedPieces, AreRecordsOf, HasRecords, IsPieceOf, is_placed_once, old_piece, record_block, spaces_of, without_pieces}
+use Rattle.host_spaces.proofs.Maps.{by_space, maps_equal, same_then, seen_blocks}
 use Rattle.host_spaces.proofs.Granting.{block_if, itself_space, other_is}
 
 pub if_some : (o : Option Span) (P Q : Span → Type 0) → ((p : Span) → P p → Q p) → IfSome o P → IfSome o Q
@@ -178,11 +181,6 @@ module _ (o : Owner) (sp : Space) (al : ℕ) (s : Spaces) where
       (λ away. ap (λ (x : SpaceState). x.blocks) (elsewhere any away)
       ∙ sym (disowned_none o (space_in s any).blocks (its any ∙ ap (λ t. if t then block_of_piece o al q else []) (other_is sp any away))))
 
--- the blocks of another owner are there as before
-pub still_there : (s t : Spaces) (p q : Owner) (what : Space → List Placed) → p ≢ q → ((any : Space) → (space_in t any).blocks ≡ disowned q (space_in s any).blocks)
-    → ((any : Space) → owned p (space_in s any).blocks ≡ what any) → (any : Space) → owned p (space_in t any).blocks ≡ what any
-still_there s t p q what apart gone its any = ap (owned p) (gone any) ∙ owned_beside p q (space_in s any).blocks apart ∙ its any
-
 lasting_none : (a : Attr) → lasting_piece a None None ≡ None
 lasting_none ScratchRecord = refl
 lasting_none Persist = refl
@@ -213,41 +211,12 @@ module _ (old new : Spaces) (i : ℕ) (table : List MemRec) (own shared : Pieces
       ∙ owned_beside o (Record i 0) bs (apart 0)
       ∙ sym (ap (owned o) (seen_blocks old space))
 
--- ---- a group's blocks
+-- ---- the records of an instance, one after the other
 
-module _ (old first second new : Spaces) (pieces : OldBlocks)
-    (daram : (space_in first Daram).blocks ≡ without_piece pieces.daram (space_in old Daram).blocks) (not_daram : (other : Space) → other ≢ Daram → space_in first other ≡ space_in old other)
-    (saram : (space_in second Saram).blocks ≡ without_piece pieces.saram (space_in first Saram).blocks) (not_saram : (other : Space) → other ≢ Saram → space_in second other ≡ space_in first other)
-    (external : (space_in new External).blocks ≡ without_piece pieces.external (space_in second External).blocks) (not_external : (other : Space) → other ≢ External → space_in new other ≡ space_in second other) where
-  at_daram : (space_in new Daram) ≡ space_in first Daram
-  at_daram = not_external Daram daram_external ∙ not_saram Daram daram_saram
-
-  at_saram : (space_in first Saram) ≡ space_in old Saram
-  at_saram = not_daram Saram (λ e. daram_saram (sym e))
-
-  at_external : (space_in second External) ≡ space_in old External
-  at_external = not_saram External (λ e. saram_external (sym e)) ∙ not_daram External (λ e. daram_external (sym e))
-
-  pub pieces_left : map_of new ≡ without_pieces (map_of old) pieces
-  pieces_left =
-      maps_equal (map_of new) (without_pieces (map_of old) pieces)
-      (ap (λ (s : SpaceState). s.blocks) at_daram ∙ daram)
-      (ap (λ (s : SpaceState). s.blocks) (not_external Saram saram_external) ∙ saram ∙ ap (λ (s : SpaceState). without_piece pieces.saram s.blocks) at_saram)
-      (external ∙ ap (λ (s : SpaceState). without_piece pieces.external s.blocks) at_external)
-
-  pub group_left : (g : ℕ) → (space_in first Daram).blocks ≡ disowned (Scratch g) (space_in old Daram).blocks → (space_in second Saram).blocks ≡ disowned (Scratch g) (space_in first Saram).blocks
-      → (space_in new External).blocks ≡ disowned (Scratch g) (space_in second External).blocks → map_of new ≡ without_owners (is_group's g) (map_of old)
-  group_left g one two three =
-      maps_equal (map_of new) (without_owners (is_group's g) (map_of old))
-      (ap (λ (s : SpaceState). s.blocks) at_daram ∙ one ∙ group_gone g old.daram.blocks)
-      (ap (λ (s : SpaceState). s.blocks) (not_external Saram saram_external) ∙ two ∙ ap (λ (s : SpaceState). disowned (Scratch g) s.blocks) at_saram ∙ group_gone g old.saram.blocks)
-      (three ∙ ap (λ (s : SpaceState). disowned (Scratch g) s.blocks) at_external ∙ group_gone g old.external.blocks)
-
-  pub group_others : (o : Owner) → owned o (space_in first Daram).blocks ≡ owned o (space_in old Daram).blocks → owned o (space_in second Saram).blocks ≡ owned o (space_in first Saram).blocks
-      → owned o (space_in new External).blocks ≡ owned o (space_in second External).blocks → (space : Space) → owned o (blocks_in (map_of new) space) ≡ owned o (blocks_in (map_of old) space)
-  group_others o one two three Daram = ap (λ (s : SpaceState). owned o s.blocks) at_daram ∙ one
-  group_others o one two three Saram = ap (λ (s : SpaceState). owned o s.blocks) (not_external Saram saram_external) ∙ two ∙ ap (λ (s : SpaceState). owned o s.blocks) at_saram
-  group_others o one two three External = three ∙ ap (λ (s : SpaceState). owned o s.blocks) at_external
+-- the blocks without those of its first n records
+abbrev pub without_first : ℕ → ℕ → List Placed → List Placed
+without_first i zero bs = bs
+without_first i (suc n) bs = disowned (Record i n) (without_first i n bs)
 
 abbrev number_of : Owner → ℕ
 number_of (Record i k) = k
@@ -256,8 +225,111 @@ number_of (Scratch g) = 0
 record_number : (i j k : ℕ) → Record i j ≡ Record i k → j ≡ k
 record_number i j k e = ap number_of e
 
-pub record_apart : (i j k : ℕ) → (j == k) ≡ false → Record i j ≢ Record i k
-record_apart i j k out e = clash (j == k) (eq-eqb j k (record_number i j k e)) out
+-- a record behind them has its own
+beside_first : (i k n : ℕ) (bs : List Placed) → n ≤ k → owned (Record i k) (without_first i n bs) ≡ owned (Record i k) bs
+beside_first i k zero bs few = refl
+beside_first i k (suc n) bs few =
+    owned_beside (Record i k) (Record i n) (without_first i n bs) (λ e. let same = record_number i k n e in omega arith) ∙ beside_first i k n bs (omega arith)
+
+-- the first n records have left
+pub record HaveLeft (i n : ℕ) (old new : Spaces) : Type 0 where
+  pub blocks : (any : Space) → (space_in new any).blocks ≡ without_first i n (space_in old any).blocks
+  pub stays : AreSameSpaces old new
+
+-- the pieces without those of the first n records
+abbrev pub left_from : ℕ → Pieces → Pieces
+left_from zero ps = ps
+left_from (suc n) ps = with_piece (left_from n ps) n None
+
+left_there : (ps : Pieces) (k : ℕ) → k < 4 → piece_at (left_from k ps) k ≡ piece_at ps k
+left_there ps zero few = refl
+left_there ps (suc zero) few = refl
+left_there ps (suc (suc zero)) few = refl
+left_there ps (suc (suc (suc zero))) few = refl
+left_there ps (suc (suc (suc (suc k)))) few = absurd (omega arith)
+
+pub none_left : (ps : Pieces) (k : ℕ) → k ≡ 4 → left_from k ps ≡ no_pieces
+none_left ps k all = ap (λ n. left_from n ps) all
+
+pub all_left : {i n : ℕ} {old new : Spaces} → HaveLeft i n old new → n ≡ 4
+    → (any : Space) → (space_in new any).blocks ≡ disowned (Record i 3) (disowned (Record i 2) (disowned (Record i 1) (disowned (Record i 0) (space_in old any).blocks)))
+all_left {i} {n} {old} {new} left all any = left.blocks any ∙ ap (λ m. without_first i m (space_in old any).blocks) all
+
+pub either_each : {p0 p1 p2 p3 : Option Span} (own shared : Pieces) → p0 ≡ option_or own.p0 shared.p0 → p1 ≡ option_or own.p1 shared.p1 → p2 ≡ option_or own.p2 shared.p2
+    → p3 ≡ option_or own.p3 shared.p3 → (k : ℕ) → piece_at (record { p0 = p0; p1 = p1; p2 = p2; p3 = p3 }) k ≡ option_or (piece_at own k) (piece_at shared k)
+either_each own shared object first second third zero = object
+either_each own shared object first second third (suc zero) = first
+either_each own shared object first second third (suc (suc zero)) = second
+either_each own shared object first second third (suc (suc (suc zero))) = third
+either_each own shared object first second third (suc (suc (suc (suc k)))) = refl
+
+pub never_both : (old : Spaces) (table : List MemRec) (own shared : Pieces) → (sharers : ℕ → Option ℕ) × ArePlacedPieces old table sharers own shared
+    → (k : ℕ) → IsSome (piece_at own k) → piece_at shared k ≡ None
+never_both old table own shared pieces k =
+    not_both (space_in old (record_at table k).space).region (placed_size (record_at table k).size) (record_at table k).attr (pieces.0 k)
+    (piece_at own k) (piece_at shared k) (pieces.1.persistent k) (pieces.1.write_once k)
+
+space_is : (table : List MemRec) (k : ℕ) → k < 4 → get_or (spaces_of table) k Daram ≡ (record_at table k).space
+space_is table zero few = refl
+space_is table (suc zero) few = refl
+space_is table (suc (suc zero)) few = refl
+space_is table (suc (suc (suc zero))) few = refl
+space_is table (suc (suc (suc (suc k)))) few = absurd (omega arith)
+
+-- the next one leaves
+module _ {old : Spaces} {i : ℕ} {spaces : List Space} {own shared : Pieces} (leaving : AreRecordsOf old i spaces own shared)
+    (all : Pieces) (either : (k : ℕ) → piece_at all k ≡ option_or (piece_at own k) (piece_at shared k))
+    {k : ℕ} (few : k < 4) {now : Spaces} (left : HaveLeft i k old now) {rest : Pieces} (from : rest ≡ left_from k all)
+    {sp : Space} (there : sp ≡ get_or spaces k Daram) {q : Option Span} (taken : q ≡ piece_at rest k) where
+  its_space : sp ≡ (record_at leaving.table k).space
+  its_space = there ∙ ap (λ (xs : List Space). get_or xs k Daram) leaving.there ∙ space_is leaving.table k few
+
+  its_piece : q ≡ option_or (piece_at own k) (piece_at shared k)
+  its_piece = taken ∙ ap (λ (ps : Pieces). piece_at ps k) from ∙ left_there all k few ∙ either k
+
+  its_still : (any : Space) → owned (Record i k) (space_in now any).blocks ≡ placed_in (Record i k) sp (record_at leaving.table k).align q any
+  its_still any =
+      ap (owned (Record i k)) (left.blocks any) ∙ beside_first i k k (space_in old any).blocks (omega arith)
+      ∙ its_block old i leaving.table own shared leaving.pieces leaving.records k sp its_space q its_piece any
+
+  pub next_region : IfSome q (λ p. p.region ≡ (space_in now sp).region)
+  next_region =
+      subst (λ (x : Extent). IfSome q (λ p. p.region ≡ x)) (sym (left.stays sp).region)
+      (its_owner old i leaving.table own shared leaving.pieces leaving.records k sp its_space q its_piece)
+
+  pub next_owner : IfSome q (λ p. (owner : Owner) × Owns (space_in now sp).blocks owner p)
+  next_owner = owner_there (Record i k) sp (record_at leaving.table k).align now q its_still
+
+  pub next_left : (last : Spaces) → LeavesAnyOwner q (space_in now sp).blocks (space_in last sp).blocks → OtherSpacesStay sp now last → AreSameSpaces now last → HaveLeft i (k + 1) old last
+  next_left last only elsewhere stays = record {
+    blocks = λ any. one_gone (Record i k) sp (record_at leaving.table k).align now q its_still last only elsewhere any ∙ ap (disowned (Record i k)) (left.blocks any)
+        ∙ ap (λ n. without_first i n (space_in old any).blocks) (sym (add-one k));
+    stays = same_then old now last left.stays stays;
+  }
+
+pub next_rest : (all : Pieces) (k : ℕ) {rest more : Pieces} → rest ≡ left_from k all → more ≡ with_piece rest k None → more ≡ left_from (k + 1) all
+next_rest all k from taken = taken ∙ ap (λ (ps : Pieces). with_piece ps k None) from ∙ ap (λ n. left_from n all) (sym (add-one k))
+
+-- ---- a group's blocks
+
+module _ (g : ℕ) (pieces : OldBlocks) (old : Spaces) where
+  -- each space without its piece
+  pub group_left : (new : MemoryMap) → LeavesAnyOwner pieces.daram old.daram.blocks new.daram → LeavesAnyOwner pieces.saram old.saram.blocks new.saram
+      → LeavesAnyOwner pieces.external old.external.blocks new.external → LeaveTheirGroup g pieces (map_of old) new
+  group_left new daram saram external align all =
+      maps_equal new (without_owners (is_group's g) (map_of old))
+      (daram (Scratch g) (align Daram) (all Daram) ∙ group_gone g old.daram.blocks)
+      (saram (Scratch g) (align Saram) (all Saram) ∙ group_gone g old.saram.blocks)
+      (external (Scratch g) (align External) (all External) ∙ group_gone g old.external.blocks)
+
+  pub group_others : (new : MemoryMap) → AreOfGroup g pieces (map_of old) → OthersStayBesideAny pieces.daram old.daram.blocks new.daram
+      → OthersStayBesideAny pieces.saram old.saram.blocks new.saram → OthersStayBesideAny pieces.external old.external.blocks new.external → AllButGroupStay g (map_of old) new
+  group_others new own daram saram external o Daram apart = daram (Scratch g) o (own Daram) apart
+  group_others new own daram saram external o Saram apart = saram (Scratch g) o (own Saram) apart
+  group_others new own daram saram external o External apart = external (Scratch g) o (own External) apart
+
+pub owns_any : (g : ℕ) (piece : Option Span) (blocks : List Placed) → IfSome piece (Owns blocks (Scratch g)) → IfSome piece (λ p. (owner : Owner) × Owns blocks owner p)
+owns_any g piece blocks it = if_some piece (Owns blocks (Scratch g)) (λ p. (owner : Owner) × Owns blocks owner p) (λ p here. (Scratch g, here)) it
 
 -- ---- a creation
 

@@ -1,5 +1,5 @@
 //! One space.
-ghost use Rattle.std.specs.Prelude.{◌≡◌, ◌≢◌, ◌+◌, ◌-◌, ◌<◌, ◌≤◌, ◌^◌, [], length, min, None, IsSome, Contains, slice_index_or, IfOk, IfErr, IfNone, IsErrOf};
+ghost use Rattle.std.specs.Prelude.{◌≡◌, ◌≢◌, ◌+◌, ◌-◌, ◌<◌, ◌≤◌, ◌^◌, [], length, min, None, IsSome, Contains, slice_index_or, IfOk, IfErr, IfSome, IfNone, IsErrOf};
 ghost use Rattle.std.specs.Vec.{vec_capacity};
 ghost use Rattle.relocate.specs.Places.{IsAlignment, IsSpaceSize};
 ghost use Rattle.relocate.specs.declared.limits.TheConstants.{GREATEST_NEED};
@@ -7,11 +7,11 @@ ghost use Rattle.host_map.specs.declared.TheConstants.{MAP_BLOCKS, SPACE_BLOCKS}
 ghost use Rattle.host_map.specs.declared.placed.Owner.{Owner};
 ghost use Rattle.host_map.specs.declared.placed.Placed.{Placed};
 ghost use Rattle.host_map.specs.Blocks.{owned, renamed_block, renamed_blocks, renaming, with_block, without_at};
-ghost use Rattle.host_spaces.specs.Blocks.{Owns};
+ghost use Rattle.host_spaces.specs.Blocks.{Owns, without_piece};
 ghost use Rattle.host_map.specs.Moves.{moved, moved_to, next_block, spots_of};
 ghost use Rattle.relocate.specs.Spots.{AreSpots};
 ghost use Rattle.host_spaces.specs.Spaces.{AreInOrder, HasFront};
-ghost use Rattle.host_spaces.specs.Changes.{AllButBothStay, FirstAreBefore, GoesOnAs, IsAdded, IsAllThatIsNew, IsAtLeastPlace, IsOwned, IsIndexOfNext, IsNextToMove, IsPieceOf, IsPlaceOfNext, IsRenamedTo, LeavesItsOwner, MovesLastOf, OthersAreBehind, OthersStay, OthersStayBeside, StaySingle};
+ghost use Rattle.host_spaces.specs.Changes.{AllButBothStay, FirstAreBefore, GoesOnAs, IsAdded, IsAllThatIsNew, IsAtLeastPlace, IsOwned, IsIndexOfNext, IsNextToMove, IsPieceOf, IsPlaceOfNext, IsRenamedTo, LeavesAnyOwner, LeavesItsOwner, MovesLastOf, OthersAreBehind, OthersStay, OthersStayBeside, OthersStayBesideAny, StaySingle};
 
 use arrayvec::ArrayVec;
 use host_map::{MAP_BLOCKS, Map, Owner, Placed, SPACE_BLOCKS};
@@ -89,15 +89,19 @@ impl SpaceBlocks {
         ensures none { IfNone result (self.new ≡ self.old) }
         ensures stays { (self.new.region ≡ self.old.region) × (self.new.slid ≡ self.old.slid) }
     {
-        let piece = self.heap.take(words, align)?;
-        let block = Placed {
-            owner,
-            place: piece.place(),
-            size: piece.len(),
-            align,
-        };
-        enter(&mut self.blocks, block);
-        Some(piece)
+        match self.heap.take(words, align) {
+            Some(piece) => {
+                let block = Placed {
+                    owner,
+                    place: piece.place(),
+                    size: piece.len(),
+                    align,
+                };
+                enter(&mut self.blocks, block);
+                Some(piece)
+            }
+            None => None,
+        }
     }
 
     /// The owner's block goes back.
@@ -112,6 +116,21 @@ impl SpaceBlocks {
         let index = position(self.blocks.as_slice(), piece.place());
         let _block = self.blocks.remove(index);
         self.heap.give(piece);
+    }
+
+    /// The owner's block goes back, if there is one.
+    pub(crate) fn give_back(&mut self, piece: Option<Piece>)
+        requires region { IfSome piece (λ p. p.region ≡ self.old.region) }
+        requires owner { IfSome piece (λ p. (owner : Owner) × Owns self.old.blocks owner p) }
+        ensures blocks { self.new.blocks ≡ without_piece piece self.old.blocks }
+        ensures only { LeavesAnyOwner piece self.old.blocks self.new.blocks }
+        ensures others { OthersStayBesideAny piece self.old.blocks self.new.blocks }
+        ensures stays { (self.new.region ≡ self.old.region) × (self.new.slid ≡ self.old.slid) }
+    {
+        match piece {
+            Some(piece) => self.take_out(piece),
+            None => {}
+        }
     }
 
     /// What is the block of one owner is another owner's from now on. Nothing else of it changes.
@@ -137,7 +156,8 @@ impl SpaceBlocks {
         ensures none { result ≡ None → packed.new ≡ packed.old }
     {
         match next_move_behind(self.blocks.as_slice(), *packed) {
-            Some(Move { index, to: _ }) => {
+            Some(next) => {
+                let Move { index, to: _ } = next;
                 *packed = index + 1;
                 Some(self.blocks.as_slice()[index])
             }

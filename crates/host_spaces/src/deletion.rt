@@ -1,11 +1,12 @@
 //! Blocks that go back.
-ghost use Rattle.std.specs.Prelude.{◌≡◌, ◌<◌, None, IfSome, IsSome, slice_index_or};
+ghost use Rattle.std.specs.Prelude.{◌≡◌, ◌<◌, ℕ, None, IfSome, IsSome, slice_index_or};
 ghost use Rattle.std.specs.Option.{option_or};
 ghost use Rattle.mem_rec.specs.declared.Space.TheVariants.{Daram};
 ghost use Rattle.mem_rec.specs.declared.TheConstants.{TABLE_RECORDS};
 ghost use Rattle.host_map.specs.declared.placed.Owner.{Owner};
 ghost use Rattle.host_spaces.specs.Blocks.{Owns, without_piece};
 ghost use Rattle.ialg.specs.Records.{record_at};
+ghost use Rattle.record_loans.specs.Pieces.{piece_at};
 ghost use Rattle.host_spaces.specs.MemoryMap.{AreSameSpaces, map_of, space_in};
 ghost use Rattle.host_map.specs.MemoryMap.{is_instance's, without_owners};
 ghost use Rattle.host_spaces.specs.Pieces.{AreRecordsOf, spaces_of, without_pieces};
@@ -16,7 +17,7 @@ ghost use Rattle.host_spaces.specs.Placing.{AreInTheirSpaces, AreOfGroup, LeaveT
 use crate::pieces::OldBlocks;
 use crate::spaces::Spaces;
 use mem_rec::{MemTab, Space, TABLE_RECORDS};
-use record_loans::Pieces;
+use record_loans::{Pieces, end_absent};
 use space_raw::Piece;
 
 impl Spaces {
@@ -30,9 +31,10 @@ impl Spaces {
         ensures elsewhere { OtherSpacesStay space self.old self.new }
         ensures stays { AreSameSpaces self.old self.new }
     {
-        match piece {
-            Some(piece) => self.take_out(space, piece),
-            None => {}
+        match space {
+            Space::Daram => self.daram.give_back(piece),
+            Space::Saram => self.saram.give_back(piece),
+            Space::External => self.external.give_back(piece),
         }
     }
 
@@ -45,14 +47,15 @@ impl Spaces {
         ensures others { AllButGroupStay g (map_of self.old) (map_of self.new) }
         ensures stays { AreSameSpaces self.old self.new }
     {
+        are_blocks(g, &pieces, self);
         let OldBlocks {
             daram,
             saram,
             external,
         } = pieces;
-        self.give_back(Space::Daram, daram);
-        self.give_back(Space::Saram, saram);
-        self.give_back(Space::External, external);
+        self.daram.give_back(daram);
+        self.saram.give_back(saram);
+        self.external.give_back(external);
     }
 
     /// The pieces of the records of instance `i`, which lie in these spaces, go back: those that no other instance shares.
@@ -68,19 +71,26 @@ impl Spaces {
         ensures others { AllButInstanceStay i (map_of self.old) (map_of self.new) }
         ensures stays { AreSameSpaces self.old self.new }
     {
-        let Pieces { p0, p1, p2, p3 } = own;
-        let Pieces {
-            p0: once0,
-            p1: once1,
-            p2: once2,
-            p3: once3,
-        } = shared;
-        self.give_back(space_at(spaces, 0), either_piece(p0, once0));
-        self.give_back(space_at(spaces, 1), either_piece(p1, once1));
-        self.give_back(space_at(spaces, 2), either_piece(p2, once2));
-        self.give_back(space_at(spaces, 3), either_piece(p3, once3));
+        let mut pieces = either_pieces(own, shared);
+        for k in 0..TABLE_RECORDS {
+            let piece = pieces.take(k);
+            self.give_back(space_at(spaces, k), piece);
+        }
+        end_absent(pieces);
     }
 }
+
+// The law that the pieces of a group's blocks are blocks of their spaces. The call does nothing: its contract is the law.
+fn are_blocks(g: u8, pieces: &OldBlocks, spaces: &Spaces)
+    requires regions { AreInTheirSpaces pieces.now spaces.now }
+    requires owner { AreOfGroup g pieces.now (map_of spaces.now) }
+    ensures daram_region { IfSome pieces.now.daram (λ p. p.region ≡ spaces.now.daram.region) }
+    ensures daram_owner { IfSome pieces.now.daram (λ p. (owner : Owner) × Owns spaces.now.daram.blocks owner p) }
+    ensures saram_region { IfSome pieces.now.saram (λ p. p.region ≡ spaces.now.saram.region) }
+    ensures saram_owner { IfSome pieces.now.saram (λ p. (owner : Owner) × Owns spaces.now.saram.blocks owner p) }
+    ensures external_region { IfSome pieces.now.external (λ p. p.region ≡ spaces.now.external.region) }
+    ensures external_owner { IfSome pieces.now.external (λ p. (owner : Owner) × Owns spaces.now.external.blocks owner p) }
+{}
 
 /// The spaces of a table's records.
 pub fn record_spaces(table: &MemTab) -> [Space; TABLE_RECORDS]
@@ -111,6 +121,25 @@ fn space_of(table: &MemTab, k: usize) -> Space
     } else {
         Space::Daram
     }
+}
+
+// The pieces of all records, their own and those that are lent. No record has both.
+fn either_pieces(own: Pieces, shared: Pieces) -> Pieces
+    requires one { (k : ℕ) → IsSome (piece_at own k) → piece_at shared k ≡ None }
+    ensures { (k : ℕ) → piece_at result k ≡ option_or (piece_at own k) (piece_at shared k) }
+{
+    let Pieces { p0, p1, p2, p3 } = own;
+    let Pieces {
+        p0: once0,
+        p1: once1,
+        p2: once2,
+        p3: once3,
+    } = shared;
+    let p0 = either_piece(p0, once0);
+    let p1 = either_piece(p1, once1);
+    let p2 = either_piece(p2, once2);
+    let p3 = either_piece(p3, once3);
+    Pieces { p0, p1, p2, p3 }
 }
 
 // A record's piece: its own, or the one that is lent. It doesn't have both.

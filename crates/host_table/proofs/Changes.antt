@@ -439,9 +439,9 @@ once_then : (rs : List MemRec) (a b c : Pieces) → SameOnce rs a b → SameOnce
 once_then rs a b c e f k attr = f k attr ∙ e k attr
 
 -- two steps in turn
-pub tables_then : {M : Type 0} (instances instances' instances'' : List (Option (Member M))) (sharing sharing' sharing'' : List Locations) (groups groups' groups'' : List Group)
+pub tables_then : {M : Type 0} {instances instances' instances'' : List (Option (Member M))} {sharing sharing' sharing'' : List Locations} {groups groups' groups'' : List Group}
     → SameTables instances sharing groups instances' sharing' groups' → SameTables instances' sharing' groups' instances'' sharing'' groups'' → SameTables instances sharing groups instances'' sharing'' groups''
-tables_then instances instances' instances'' sharing sharing' sharing'' groups groups' groups'' a b = record {
+tables_then {M} {instances} {instances'} {instances''} {sharing} {sharing'} {sharing''} {groups} {groups'} {groups''} a b = record {
   slot = λ i. slot_then _ _ _ (a.slot i) (b.slot i);
   pieces = λ i. pieces_then _ _ _ (a.pieces i) (b.pieces i);
   stands = locations_then sharing sharing' sharing'' a.stands b.stands;

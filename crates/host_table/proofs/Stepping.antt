@@ -58,7 +58,7 @@ pub steps_then : {M : Type 0} {laws : Laws M} {w : Option ℤ} {a b c : View M} 
 steps_then {goes = goes} one two = record {
   ok = two.ok;
   poisoned = two.poisoned;
-  same = tables_then _ _ _ _ _ _ _ _ _ one.same two.same;
+  same = tables_then one.same two.same;
   activity = two.activity;
   keeps = λ histories kept. two.keeps (goes histories) (one.keeps histories kept);
 }

@@ -1,5 +1,5 @@
 -- What a call of the tables does.
-use Rattle.std.specs.Prelude.{ℕ, ℤ, ◌≡◌, ◌≢◌, ◌++◌, ◌∷◌, Bool, List, length, Option, Some, slice_set}
+use Rattle.std.specs.Prelude.{ℕ, ℤ, ◌≡◌, ◌++◌, ◌∷◌, Bool, List, Option, Some}
 use Rattle.ialg.specs.Meaning.{Status}
 use Rattle.ialg.specs.History.{History, Ctl, Control, with_samples}
 use Rattle.ialg.specs.Laws.{Laws}
@@ -111,10 +111,3 @@ KeepsAnyHistories laws t = (w : Option ℤ) (histories : ℕ → History) → Ar
 abbrev pub SaysWhetherTaken : {M : Type 0} → Laws M → Option ℤ → View M → ℕ → Ctl → Bool → Type 0
 SaysWhetherTaken {M = M} laws w t i c answer = (m : Member M) → slot_at t.instances i ≡ Some m → IsLawful laws.meaning (instance_of m.inst) w
     → answer ≡ laws.meaning.accepts (instance_of m.inst).kind (instance_of m.inst).params.items c
-
--- slot i has this in it, and no other one changed
-pub record IsPut {M : Type 0} (i : ℕ) (x : Option (Member M)) (old new : View M) : Type 0 where
-  pub is : new ≡ record old { instances = slice_set old.instances i x }
-  pub length : length new.instances ≡ length old.instances
-  pub there : slot_at new.instances i ≡ x
-  pub others : (j : ℕ) → j ≢ i → slot_at new.instances j ≡ slot_at old.instances j

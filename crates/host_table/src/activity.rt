@@ -1,18 +1,18 @@
 //! Which member of a group is active.
-ghost use Rattle.std.specs.Prelude.{◌≡◌, ◌<◌, Option, Some, IsSome, is_some};
+ghost use Rattle.std.specs.Prelude.{◌≡◌, ◌<◌, Option, Some, IsSome, IfSome, IfNone, OnSome, is_some};
 ghost use Rattle.lifecycle.specs.States.{FitsIn};
 ghost use Rattle.mem_rec.specs.declared.TheConstants.{GROUPS};
 ghost use Rattle.host_shared.specs.Owners.{OnlyItsPiecesChange};
-ghost use Rattle.host_table.specs.Table.{slot_at, group_at, IsActiveAt, IsIdleAt};
+ghost use Rattle.host_table.specs.Table.{slot_at, group_at, group_of, IsActiveAt, IsIdleAt};
 ghost use Rattle.host_table.specs.Turns.{CanBeLent, Deactivated, Activated, DeactivatedSharing};
 ghost use Rattle.host_table.specs.Steps.{Ready, Activates, Deactivates, DeactivatesIn};
 
 use crate::member::{active_group, idle_in, make_active, make_idle};
 use crate::tables::Tables;
-use host_shared::{Locations, borrow_pieces, end_absent, give_back_pieces};
+use host_shared::{Locations, borrow_pieces, give_back_pieces};
 use ialg::Ialg;
 use lifecycle::{Active, Idle, Inst};
-use record_loans::Pieces;
+use record_loans::{Pieces, end_absent};
 use scratch_group::{Group, is_filter};
 
 /// Deactivates the active member of a group, in place. In a host of a poison word the blocks are filled with it.
@@ -130,6 +130,17 @@ impl<M: Ialg> Tables<M> {
         self.deactivate_in(poison, g)
     }
 
+    /// The group of an idle instance, or None where the instance is active.
+    #[inline(always)]
+    pub(crate) fn idle_in(&self, i: u8) -> Option<u8>
+        requires { IsSome (slot_at self.now.instances i) }
+        ensures active { IfNone result (IsActiveAt self.now.instances i) }
+        ensures group { IfSome result (λ g. g ≡ group_of (slot_at self.now.instances i)) }
+        ensures idle { OnSome result (IsIdleAt self.now.instances i) }
+    {
+        idle_in(&self.instances, i)
+    }
+
     /// Activates the instance, unless it is active; another active member of its group is deactivated first.
     pub fn activate(&mut self, poison: Option<i16>, i: u8)
         requires living { IsSome (slot_at self.old.instances i) }
@@ -137,7 +148,7 @@ impl<M: Ialg> Tables<M> {
         ensures active { IsActiveAt self.new.instances i }
         ensures step { Activates M.law poison i self.old self.new }
     {
-        let Some(g) = idle_in(&self.instances, i) else {
+        let Some(g) = self.idle_in(i) else {
             return;
         };
         let _deactivated = self.deactivate_in(poison, g);

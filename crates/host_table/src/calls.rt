@@ -9,12 +9,12 @@ ghost use Rattle.host_table.specs.Table.{slot_at, group_of, activity_at, newly_a
 ghost use Rattle.host_table.specs.Steps.{Ready, Stays, given, GivesOut, AnswersTo, AreConsistent, ActivatesAndControls, ActivatesAndFeeds, SaysWhetherTaken};
 ghost use Rattle.host_table.specs.Turns.{CanBeLent, ActivatedAndRan, ActivatedAndRanSharing, AnswersInAnyHost, GivesOutInAnyHost, ObeysInAnyHost, RanSharing, StepsInAnyHost};
 
-use crate::member::{idle_in, make_active};
+use crate::member::make_active;
 use crate::tables::Tables;
-use host_shared::{Location, Locations, borrow_pieces, end_absent, give_back_pieces, owner};
+use host_shared::{Location, Locations, borrow_pieces, give_back_pieces, owner};
 use ialg::{BLOCK_SAMPLES, Block, Ctl, Ialg, Status};
 use lifecycle::{Active, Idle, Inst};
-use record_loans::{ONCE, Pieces, ReaderSizes};
+use record_loans::{ONCE, Pieces, ReaderSizes, end_absent};
 use scratch_group::{Group, is_filter, reader_sizes};
 
 /// Gives the active member of a group a block of samples, with its write-once records borrowed from their owners.
@@ -277,7 +277,7 @@ impl<M: Ialg> Tables<M> {
         ensures bounded { length out.new.items ≤ length input.now }
         ensures output { GivesOut M.law poison self.old i input.now out.new.items }
     {
-        let Some(g) = idle_in(&self.instances, i) else {
+        let Some(g) = self.idle_in(i) else {
             self.run(i, input, out);
             return;
         };

@@ -1,5 +1,5 @@
 //! The start and the end of instances.
-ghost use Rattle.std.specs.Prelude.{◌≡◌, ◌<◌, ℕ, Option, None, IsSome, length, slice_set};
+ghost use Rattle.std.specs.Prelude.{◌≡◌, ◌<◌, ℕ, Option, Some, None, IsSome, length, slice_set};
 ghost use Rattle.record_loans.specs.Pieces.{SamePieces, no_pieces};
 ghost use Rattle.lifecycle.specs.States.{FitsIn, SameOnce};
 ghost use Rattle.lifecycle.specs.declared.instance.Inst.TheVariants.{Idling};
@@ -19,13 +19,13 @@ ghost use Rattle.host_table.specs.Turns.{CanBeLent, CanBegin, WasStarted, WasFre
 use crate::member::group_number;
 use crate::{Member, Tables};
 use host_shared::{
-    Locations, Sharers, borrow_pieces, end_absent, exchange_third, give_back_pieces, hand_on,
+    Locations, Sharers, borrow_pieces, borrow_third, give_back_pieces, give_back_third, hand_on,
     has_none_but_third, join,
 };
 use ialg::{Ialg, Params};
 use lifecycle::{Idle, Inst};
 use mem_rec::MemTab;
-use record_loans::Pieces;
+use record_loans::{Pieces, end_absent};
 use scratch_group::{Group, is_filter};
 use std::mem;
 
@@ -40,6 +40,19 @@ pub struct NewInstance<'a, M> {
     pub params: &'a Params,
     /// The memory that its kind asks for.
     pub table: MemTab,
+}
+
+/// Puts an instance into an empty slot.
+fn fill_slot<M: Ialg>(instances: &mut Vec<Option<Member<M>>>, i: u8, member: Member<M>)
+    requires room { i < length instances.old.items }
+    requires empty { slot_at instances.old.items i ≡ None }
+    ensures filled { instances.new.items ≡ slice_set instances.old.items i (Some member) }
+    ensures there { slot_at instances.new.items i ≡ Some member }
+{
+    match mem::replace(&mut instances[i as usize], Some(member)) {
+        Some(_) => unreachable!(),
+        None => {}
+    }
 }
 
 /// Starts an instance in an empty slot, in the pieces that were placed for it and those of its sharers, with which it shares the others. It is
@@ -80,7 +93,8 @@ pub fn start<M: Ialg>(
     } = instance;
     let _records = table.records();
     join(&mut tables.sharing, i, shared, sharers);
-    tables.put_in(
+    fill_slot(
+        &mut tables.instances,
         i,
         Member {
             group: g,
@@ -119,9 +133,9 @@ fn start_third<M: Ialg>(idle: &mut Idle<M>, sharing: &mut Vec<Locations>, i: u8,
     ensures { WasStarted M.law i idle.old idle.new sharing.old.items sharing.new.items group.now }
 {
     let mut shared = Pieces::none();
-    exchange_third(sharing, i as usize, &mut shared);
+    borrow_third(sharing, i as usize, &mut shared);
     idle.start(&mut shared, group);
-    exchange_third(sharing, i as usize, &mut shared);
+    give_back_third(sharing, i as usize, &mut shared);
     end_absent(shared);
 }
 
@@ -249,9 +263,9 @@ fn free_third<M: Ialg>(
     ensures { WasFreed i idle.old idle.new sharing.old.items sharing.new.items result }
 {
     let mut shared = Pieces::none();
-    exchange_third(sharing, i as usize, &mut shared);
+    borrow_third(sharing, i as usize, &mut shared);
     let own = free_lent(idle, &mut shared, group);
-    exchange_third(sharing, i as usize, &mut shared);
+    give_back_third(sharing, i as usize, &mut shared);
     end_absent(shared);
     own
 }

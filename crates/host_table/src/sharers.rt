@@ -50,7 +50,9 @@ fn are_same_once(r: &MemRec, s: &MemRec) -> bool
 fn have_same(table: &MemTab, other: &MemTab, k: usize) -> bool
     ensures { result ≡ is_same_once (record_at (unplaced table.now) k) (record_at (unplaced other.now) k) }
 {
-    are_same_once(&record_of(table, k), &record_of(other, k))
+    let record = record_of(table, k);
+    let others = record_of(other, k);
+    are_same_once(&record, &others)
 }
 
 /// Whether both kinds are one.
@@ -145,10 +147,9 @@ pub fn find_sharers<M: Ialg>(
     ensures { AreLeastSharers M.law.meaning.same instances.now.items (asked kind params.now.items table.now) result }
 {
     let _records = table.records();
-    Sharers {
-        t0: find_sharer(instances, kind, params, table, 0),
-        t1: find_sharer(instances, kind, params, table, 1),
-        t2: find_sharer(instances, kind, params, table, 2),
-        t3: find_sharer(instances, kind, params, table, 3),
-    }
+    let t0 = find_sharer(instances, kind, params, table, 0);
+    let t1 = find_sharer(instances, kind, params, table, 1);
+    let t2 = find_sharer(instances, kind, params, table, 2);
+    let t3 = find_sharer(instances, kind, params, table, 3);
+    Sharers { t0, t1, t2, t3 }
 }

@@ -1,14 +1,12 @@
 //! The tables of a host as one value.
-ghost use Rattle.std.specs.Prelude.{◌≡◌, ℕ, ◌<◌, length, Option, Some, None, IsSome, is_some};
-ghost use Rattle.host_table.specs.Table.{slot_at};
-ghost use Rattle.host_table.specs.Steps.{IsPut};
+ghost use Rattle.std.specs.Prelude.{◌≡◌, IsSome, is_some};
+ghost use Rattle.host_table.specs.Table.{group_of, slot_at};
 
-use crate::member::Member;
+use crate::member::{Member, group_number};
 use host_shared::Locations;
 use ialg::Ialg;
 use scratch_group::Group;
 use std::marker::Model;
-use std::mem;
 
 /// The tables of a host: the instances by their numbers, where their write-once records are, and the groups.
 pub struct Tables<M> {
@@ -36,27 +34,11 @@ impl<M: Ialg> Tables<M> {
         }
     }
 
-    /// Takes the instance out of its slot.
-    pub fn take_out(&mut self, i: u8) -> Member<M>
-        requires { IsSome (slot_at self.old.instances i) }
-        ensures member { slot_at self.old.instances i ≡ Some result }
-        ensures emptied { IsPut i None self.old self.new }
+    /// The number of an instance's group.
+    pub fn group_number(&self, i: u8) -> u8
+        requires { IsSome (slot_at self.now.instances i) }
+        ensures { result ≡ group_of (slot_at self.now.instances i) }
     {
-        match mem::replace(&mut self.instances[i as usize], None) {
-            Some(member) => member,
-            None => unreachable!(),
-        }
-    }
-
-    /// Puts an instance into an empty slot.
-    pub fn put_in(&mut self, i: u8, member: Member<M>)
-        requires room { i < length self.old.instances }
-        requires empty { slot_at self.old.instances i ≡ None }
-        ensures filled { IsPut i (Some member) self.old self.new }
-    {
-        match mem::replace(&mut self.instances[i as usize], Some(member)) {
-            Some(_) => unreachable!(),
-            None => {}
-        }
+        group_number(&self.instances, i)
     }
 }

@@ -38,17 +38,19 @@ impl<K: Filter> Ialg for K {
 
     fn alg_init(&self, tab: &MemTab, p: &Params, mem: &mut Lent<'_>) {
         write_object_of::<K>(tab, mem);
-        let Some(Record { k, words }) = mem.take_named(Space::Saram, KEPT) else {
+        let Some(taken) = mem.take_named(Space::Saram, KEPT) else {
             return;
         };
+        let Record { k, words } = taken;
         K::start(p.as_slice(), words);
         mem.put(k, words);
     }
 
     fn alg_activate(&self, mem: &mut Lent<'_>) {
-        let Some(Record { k, words }) = mem.take_named(Space::Daram, RUNNING) else {
+        let Some(taken) = mem.take_named(Space::Daram, RUNNING) else {
             return;
         };
+        let Record { k, words } = taken;
         restore_from::<K>(mem, words);
         mem.put(k, words);
     }
@@ -64,17 +66,19 @@ impl<K: Filter> Ialg for K {
         // No word changes but those of the scratch record.
         ensures leaves { LeavesLasting K.KIND K.filter K.runs mem.old mem.new }
     {
-        let Some(Record { k, words }) = mem.take_named(Space::Daram, RUNNING) else {
+        let Some(taken) = mem.take_named(Space::Daram, RUNNING) else {
             return;
         };
+        let Record { k, words } = taken;
         run_with::<K>(mem, words, input, out);
         mem.put(k, words);
     }
 
     fn alg_deactivate(&self, mem: &mut Lent<'_>) {
-        let Some(Record { k, words }) = mem.take_named(Space::Saram, KEPT) else {
+        let Some(taken) = mem.take_named(Space::Saram, KEPT) else {
             return;
         };
+        let Record { k, words } = taken;
         save_from::<K>(mem, words);
         mem.put(k, words);
     }
@@ -189,9 +193,10 @@ fn set<K: Filter>(mem: &mut Lent<'_>, words: &[i16])
     ensures loans { SameLoans mem.old mem.new }
     ensures law { SetsInLent K.KIND K.filter K.runs words.now mem.old mem.new }
 {
-    let Some(Record { k, words: kept }) = mem.take_named(Space::Saram, KEPT) else {
+    let Some(taken) = mem.take_named(Space::Saram, KEPT) else {
         return;
     };
+    let Record { k, words: kept } = taken;
     K::set(kept, words);
     mem.put(k, kept);
 }
@@ -201,9 +206,10 @@ fn reset<K: Filter>(mem: &mut Lent<'_>)
     ensures loans { SameLoans mem.old mem.new }
     ensures law { ResetsInLent K.KIND K.filter K.runs mem.old mem.new }
 {
-    let Some(Record { k, words }) = mem.take_named(Space::Daram, RUNNING) else {
+    let Some(taken) = mem.take_named(Space::Daram, RUNNING) else {
         return;
     };
+    let Record { k, words } = taken;
     K::reset(words);
     mem.put(k, words);
 }

@@ -84,8 +84,8 @@ fn processed(rt: &impl Print, host: &mut Host<Voice>, i: u8, input: &Block) -> i
         return println!(rt; "not given");
     }
     let mut out = Block::new();
-    host.process(i, input, &mut out);
-    words(rt, &out)
+    host.process(i, input.as_slice(), &mut out);
+    words(rt, out.as_slice())
 }
 
 /// Calls the host, and prints what it answers.

@@ -1,7 +1,7 @@
 //! One line of a trace.
 
 use host_map::Sizes;
-use ialg::{Block, Ctl, Named, Params};
+use ialg::{BLOCK_SAMPLES, Block, Ctl, Named, Params};
 use mem_rec::Space;
 use std::str::SplitWhitespace;
 use voice_set::Voice;
@@ -62,7 +62,10 @@ fn parameters(words: &mut SplitWhitespace<'_>) -> Option<Params> {
 fn samples(words: &mut SplitWhitespace<'_>) -> Option<Block> {
     let mut read = Block::new();
     while let Some(word) = words.next() {
-        read.try_push(word.parse::<i16>().ok()?).ok()?;
+        if read.len() == BLOCK_SAMPLES {
+            return None;
+        }
+        read.push(word.parse::<i16>().ok()?);
     }
     Some(read)
 }

@@ -78,12 +78,14 @@ impl Desk {
             return self.seen();
         }
         let vector = self.vector.take(words, align);
-        let Some(block) = self.heap.take(words, align) else {
-            return self.both(None, vector);
-        };
-        let place = block.place();
-        self.held.push_reserved(block);
-        self.both(Some(place), vector)
+        match self.heap.take(words, align) {
+            Some(block) => {
+                let place = block.place();
+                self.held.push_reserved(block);
+                self.both(Some(place), vector)
+            }
+            None => self.both(None, vector),
+        }
     }
 
     /// The i-th block goes back.
@@ -92,8 +94,9 @@ impl Desk {
             return self.seen();
         }
         let block = self.held.remove(i);
-        self.vector.give(block.place(), block.len());
+        let (place, len) = (block.place(), block.len());
         self.heap.give(block);
+        self.vector.give(place, len);
         self.seen()
     }
 

@@ -31,6 +31,13 @@ pub struct Journal<W, R> {
     failed: bool,
 }
 
+/// Whether a line's end is the last of these octets.
+fn ends_line(octets: &[u8]) -> bool
+    ensures { EndsLine octets.now → result ≡ true }
+{
+    octets.last() == Some(&LINE_FEED)
+}
+
 impl<W: Write, R: Write> Journal<W, R> {
     /// Nothing waits, and there is no output yet. Of the marks there are none.
     pub fn new(alloc: Global, marks: Marks, replies: R, passing: Passing) -> Self
@@ -159,10 +166,12 @@ impl<W: Write, R: Write> Journal<W, R> {
         }
         self.make_room_at(number)?;
         let count = self.outputs[number].take_some(octets);
+        let least = self.outputs[number].len();
+        let before = self.replies.len();
         self.marks.push(Mark {
             output: number,
-            least: self.outputs[number].len(),
-            before: self.replies.len(),
+            least,
+            before,
         });
         Ok(count)
     }
@@ -186,7 +195,7 @@ impl<W: Write, R: Write> Journal<W, R> {
         }
         self.make_room_for_reply()?;
         let count = self.replies.take_some(octets);
-        if self.passing == Passing::EachLine && octets[..count].last() == Some(&LINE_FEED) {
+        if self.passing == Passing::EachLine && ends_line(&octets[..count]) {
             self.pass_on()?;
         }
         Ok(count)

@@ -14,7 +14,8 @@ pub fn write_octets<O: PortOut>(output: &mut O, octets: &[u8]) -> Result<(), Por
 {
     let mut done = 0;
     while done < octets.len() {
-        done += output.put(&octets[done..])?;
+        let count = output.put(&octets[done..])?;
+        done += count;
     }
     Ok(())
 }

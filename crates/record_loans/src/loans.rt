@@ -83,11 +83,9 @@ pub fn lend_with_blocks<O, S: Step<O>>(
         .third
         .take(&mut own.p3, &mut shared.p3, daram, saram, external);
     lend_object(loan, &mut own.p0, &mut first, &mut second, &mut third, out);
-    plan.third
-        .put_back(third, &mut own.p3, &mut shared.p3, daram, saram, external);
-    plan.second.put_back(second, &mut own.p2, &mut shared.p2, daram, saram, external);
-    plan.first
-        .put_back(first, &mut own.p1, &mut shared.p1, daram, saram, external);
+    plan.put_back_third(third, &mut own.p3, &mut shared.p3, daram, saram, external);
+    plan.put_back_second(second, &mut own.p2, &mut shared.p2, daram, saram, external);
+    plan.put_back_first(first, &mut own.p1, &mut shared.p1, daram, saram, external);
 }
 
 /// Performs the step with the records of a filter, out of its own pieces and the block in `daram`. Most instances are filters, and theirs
@@ -116,7 +114,8 @@ pub fn lend_filter<O, S: Step<O>>(
                 Some(block) => {
                     let (object, _rest) = object.words_mut().split_at_mut(sizes.object);
                     let (kept, _rest) = kept.words_mut().split_at_mut(sizes.kept);
-                    let (running, _rest) = block.piece.words_mut().split_at_mut(sizes.running);
+                    let scratch = block.piece.words_mut();
+                    let (running, _rest) = scratch.split_at_mut(sizes.running);
                     lend(loan, object, kept, running, &mut [], out);
                 }
                 None => unreachable!(),
@@ -156,8 +155,10 @@ pub fn lend_sharing_filter<O, S: Step<O>>(
                     Some(block) => {
                         let (object, _end) = object.words_mut().split_at_mut(sizes.object);
                         let (kept, _end) = kept.words_mut().split_at_mut(sizes.kept);
-                        let (constants, _end) = once.words_mut().split_at_mut(sizes.constants);
-                        let (running, _end) = block.piece.words_mut().split_at_mut(sizes.running);
+                        let shared = once.words_mut();
+                        let (constants, _end) = shared.split_at_mut(sizes.constants);
+                        let scratch = block.piece.words_mut();
+                        let (running, _end) = scratch.split_at_mut(sizes.running);
                         lend(loan, object, kept, constants, running, out);
                     }
                     None => unreachable!(),

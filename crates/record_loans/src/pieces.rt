@@ -1,8 +1,10 @@
 //! The pieces of an instance's records.
 ghost use Rattle.std.specs.Prelude.{◌≡◌, ◌≤◌, ◌<◌, Option, Some, None, IsSome, length};
+ghost use Rattle.mem_rec.specs.declared.TheConstants.{TABLE_RECORDS};
 ghost use Rattle.record_loans.specs.Pieces.{no_pieces, piece_at, with_piece, piece_words, piece_place, IsInSpace};
 
-use space_raw::Piece;
+use mem_rec::TABLE_RECORDS;
+use space_raw::{Piece, end_none};
 
 /// A piece for each of some records of a table. The pieces of an instance's own records are kept by the instance, those of its
 /// write-once records are lent to it.
@@ -49,20 +51,28 @@ impl Pieces {
         place_of(self.piece(k))
     }
 
+    /// Takes the piece of record `k` out, if there is one.
+    pub fn take(&mut self, k: usize) -> Option<Piece>
+        requires { k < TABLE_RECORDS }
+        ensures piece { result ≡ piece_at self.old k }
+        ensures left { self.new ≡ with_piece self.old k None }
+    {
+        match k {
+            0 => self.p0.take(),
+            1 => self.p1.take(),
+            2 => self.p2.take(),
+            _ => self.p3.take(),
+        }
+    }
+
     /// Takes the piece of record `k` out.
     pub fn take_out(&mut self, k: usize) -> Piece
         requires { IsSome (piece_at self.old k) }
         ensures piece { piece_at self.old k ≡ Some result }
         ensures left { self.new ≡ with_piece self.old k None }
     {
-        let piece = match k {
-            0 => self.p0.take(),
-            1 => self.p1.take(),
-            2 => self.p2.take(),
-            _ => self.p3.take(),
-        };
-        match piece {
-            Some(p) => p,
+        match self.take(k) {
+            Some(piece) => piece,
             None => unreachable!(),
         }
     }
@@ -100,4 +110,15 @@ pub fn place_of(piece: &Option<Piece>) -> u16
         }
         None => unreachable!(),
     }
+}
+
+/// Ends a table of no pieces. It answers nothing and leaves nothing behind, so that there is no more to say.
+pub fn end_absent(pieces: Pieces)
+    requires { pieces ≡ no_pieces }
+{
+    let Pieces { p0, p1, p2, p3 } = pieces;
+    end_none(p0);
+    end_none(p1);
+    end_none(p2);
+    end_none(p3);
 }

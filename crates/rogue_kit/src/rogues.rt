@@ -79,9 +79,10 @@ pub(crate) fn fill_record(mem: &mut Lent<'_>, space: Space, base: u16, word: i16
     ensures filled { FillsAt word space base mem.old mem.new }
     ensures kept { KeepsFilled word mem.old mem.new }
 {
-    let Some(Record { k, words }) = mem.take(space, base) else {
+    let Some(taken) = mem.take(space, base) else {
         return;
     };
+    let Record { k, words } = taken;
     flood(words, word);
     mem.put(k, words);
 }
@@ -92,5 +93,5 @@ pub(crate) fn echo(samples: &[i16], out: &mut Block)
     requires within { length samples.now ≤ BLOCK_SAMPLES }
     ensures { out.new.items ≡ samples.now }
 {
-    let _fits = out.try_extend_from_slice(samples);
+    out.extend_from_slice(samples);
 }

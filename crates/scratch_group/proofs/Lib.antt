@@ -6,3 +6,4 @@ pub mod Fills
 pub mod Filters
 pub mod Readers
 pub mod Sharing
+pub mod NoBlocks

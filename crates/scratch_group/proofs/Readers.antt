@@ -1,7 +1,7 @@
 -- What is lent to a reader is each record's words.
 use Rattle.std.proofs.Common.{◌≡◌, ℕ, zero, suc, inl, inr, IsTrue, List, [], length, take, drop, refl, ap, sym, ◌∙◌, arith}
 use Rattle.mem_rec.specs.declared.MemRec.{MemRec}
-use Rattle.mem_rec.specs.declared.Attr.TheVariants.{Scratch, Persist, WriteOnce}
+use Rattle.mem_rec.specs.declared.Attr.TheVariants.{WriteOnce}
 use Rattle.mem_rec.specs.Records.{is_table}
 use Rattle.ialg.specs.Records.{record_at}
 use Rattle.record_loans.specs.declared.plan.ReaderSizes.{ReaderSizes}

@@ -1,5 +1,5 @@
 -- What is lent to a filter that shares its constants is each record's words.
-use Rattle.std.proofs.Common.{◌≡◌, ℕ, ℤ, ◌+◌, ◌<◌, ◌≤◌, IsTrue, List, [], ◌∷◌, length, take, refl, ap, sym, ◌∙◌, arith}
+use Rattle.std.proofs.Common.{◌≡◌, ℕ, ◌+◌, ◌<◌, ◌≤◌, IsTrue, List, [], ◌∷◌, length, take, refl, ap, sym, ◌∙◌, arith}
 use Rattle.std.specs.Int.{next_multiple_of}
 use Rattle.mem_rec.specs.declared.MemRec.{MemRec}
 use Rattle.mem_rec.specs.declared.Space.TheVariants.{Daram}

@@ -1,5 +1,5 @@
 -- How the records of a table are cut. No public contract speaks of it.
-use Rattle.std.specs.Prelude.{ℕ, ◌≡◌, ◌-◌, ◌≤◌, List, length}
+use Rattle.std.specs.Prelude.{ℕ, ◌-◌, ◌≤◌, List}
 use Rattle.mem_rec.specs.declared.TheConstants.{RECORD_WORDS, LEAST_ALIGNMENT, GREATEST_ALIGNMENT}
 use Rattle.mem_rec.specs.declared.MemRec.{MemRec}
 use Rattle.mem_rec.specs.declared.Space.{Space}

@@ -289,6 +289,7 @@ impl Group {
 
     /// Ends a group whose blocks were all taken out. It answers nothing and leaves nothing behind, so that there is no more to say: a
     /// block that still stood there would have to be given back, and that is what the call asks.
+    #[tactic(auto, using(crate::proofs::NoBlocks::no_daram, crate::proofs::NoBlocks::no_saram, crate::proofs::NoBlocks::no_external))]
     pub fn end(self)
         requires { (space : Space) → block_in self space ≡ None }
     {

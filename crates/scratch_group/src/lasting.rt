@@ -182,7 +182,8 @@ fn lend_sharing_filter_at_rest<O, S: Step<O>>(
                 Some(once) => {
                     let (object, _end) = object.words_mut().split_at_mut(sizes.object);
                     let (kept, _end) = kept.words_mut().split_at_mut(sizes.kept);
-                    let (constants, _end) = once.words_mut().split_at_mut(sizes.constants);
+                    let shared = once.words_mut();
+                    let (constants, _end) = shared.split_at_mut(sizes.constants);
                     lend(loan, object, kept, constants, &mut [], out);
                 }
                 None => unreachable!(),

@@ -135,7 +135,8 @@ fn serve_feed<T: LineMachine, I: PortIn, O: PortOut, P: PortOut>(
     if write_to(outputs, c, &buffers.block[..output_width.octets_of(count)]).is_err() {
         return Err(PortsFault::Write);
     }
-    match tell(replies, &Reply::Count(count as u32), &mut buffers.text) {
+    let told = tell(replies, &Reply::Count(count as u32), &mut buffers.text);
+    match told {
         Ok(()) => Ok(false),
         Err(fault) => Err(fault),
     }

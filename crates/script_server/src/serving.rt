@@ -58,7 +58,7 @@ fn serve_script<T: LineMachine, S: PortIn, I: PortIn, O: PortOut, P: PortOut>(
         text.clear();
         let line = match reader.read_line(script, &mut text) {
             Ok(line) => line,
-            Err(_) => return Err(PortsFault::Read),
+            Err(_fault) => return Err(PortsFault::Read),
         };
         let is_refused = match serve_line(
             machine,
@@ -117,7 +117,8 @@ pub fn serve<T: LineMachine, S: PortIn, I: PortIn, O: PortOut, P: PortOut>(
     if flush_outputs(outputs).is_err() {
         return Err(PortsFault::Write);
     }
-    if replies.flush().is_err() {
+    let replies_fail = replies.flush().is_err();
+    if replies_fail {
         return Err(PortsFault::Write);
     }
     Ok(refused)

@@ -127,21 +127,20 @@ impl<A: Allocator> Heap<A> {
         ensures stays { self.new.region ≡ self.old.region }
     {
         let mut piece = piece;
-        let Some(fit) = gap_before(&mut self.rest, self.first, &mut piece, align) else {
-            return piece;
-        };
-        let len = piece.len();
-        let gap = carve(
-            &mut self.rest,
-            &mut self.first,
-            fit,
-            piece.place() - fit.place,
-        );
-        let (block, behind) = Piece::slide(gap, piece);
-        let front = Front::behind(fit, behind.place());
-        put_behind(&mut self.rest, &mut self.first, front, behind);
-        self.slid = self.slid.saturating_add(u64::from(len));
-        block
+        match gap_before(&mut self.rest, self.first, &mut piece, align) {
+            Some(fit) => {
+                let len = piece.len();
+                let words = piece.place() - fit.place;
+                let gap = carve(&mut self.rest, &mut self.first, fit, words);
+                let (block, behind) = Piece::slide(gap, piece);
+                let end = behind.place();
+                let front = Front::behind(fit, end);
+                put_behind(&mut self.rest, &mut self.first, front, behind);
+                self.slid = self.slid.saturating_add(u64::from(len));
+                block
+            }
+            None => piece,
+        }
     }
 
     /// The words of the space.

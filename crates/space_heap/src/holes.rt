@@ -100,7 +100,8 @@ fn join_front(rest: &Rest, first: Option<u32>, place: u32) -> Front
     ensures { IsFront rest.now.slots first place result }
 {
     match last_before(rest, first, place) {
-        Some(Found { before, hole }) => {
+        Some(found) => {
+            let Found { before, hole } = found;
             if hole.end() == place {
                 Front {
                     before,
@@ -199,9 +200,10 @@ pub(crate) fn gap_before(
     ensures place { IsLowestBefore rest.old.slots piece.old.place align result }
 {
     rest.apart(piece);
-    let found = last_before(rest, first, piece.place())?;
+    let start = piece.place();
+    let found = last_before(rest, first, start)?;
     let place = found.hole.place.next_multiple_of(align);
-    if found.hole.end() == piece.place() && place < piece.place() {
+    if found.hole.end() == start && place < start {
         Some(Fit { found, place })
     } else {
         None

@@ -80,22 +80,21 @@ impl Piece {
         } = self;
         let (left, right) = words.split(n as usize);
         let (inner, outer) = places.part(place as usize, n as usize);
-        (
-            Piece {
-                base,
-                place,
-                len: n,
-                words: left,
-                places: inner,
-            },
-            Piece {
-                base,
-                place: place + n,
-                len: len - n,
-                words: right,
-                places: outer,
-            },
-        )
+        let front = Piece {
+            base,
+            place,
+            len: n,
+            words: left,
+            places: inner,
+        };
+        let back = Piece {
+            base,
+            place: place + n,
+            len: len - n,
+            words: right,
+            places: outer,
+        };
+        (front, back)
     }
 
     /// One piece of two, where `next` begins at the end of `self`.

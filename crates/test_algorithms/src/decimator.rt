@@ -215,7 +215,7 @@ fn loud_samples(rt: &impl Abort, count: usize) -> Block {
     }
     assert!(rt; count <= BLOCK_SAMPLES);
     let mut block = Block::new();
-    let _fits = block.try_extend_from_slice(&samples[..count]);
+    block.extend_from_slice(&samples[..count]);
     block
 }
 

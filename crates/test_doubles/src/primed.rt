@@ -47,9 +47,10 @@ impl Ialg for Primed {
 
     fn alg_init(&self, tab: &MemTab, p: &Params, mem: &mut Lent<'_>) {
         mem.name_records(PRIMED_KIND, tab);
-        let Some(Record { k, words }) = mem.take_named(Space::External, ONCE) else {
+        let Some(taken) = mem.take_named(Space::External, ONCE) else {
             return;
         };
+        let Record { k, words } = taken;
         overwrite(words, once_word(p.as_slice()));
         mem.put(k, words);
     }
@@ -134,10 +135,12 @@ fn kept_words(mem: &Lent<'_>) -> Words
     let Some(once) = mem.read_named(Space::External, ONCE) else {
         return Words::new();
     };
-    let Some(primed) = mem.read_named(Space::Saram, PRIMED) else {
+    let primed = mem.read_named(Space::Saram, PRIMED);
+    let Some(primed) = primed else {
         return Words::new();
     };
-    let Some(scratch) = mem.read_named(Space::Daram, SCRATCH) else {
+    let scratch = mem.read_named(Space::Daram, SCRATCH);
+    let Some(scratch) = scratch else {
         return Words::new();
     };
     joined(scratch, primed, once)

@@ -176,7 +176,8 @@ fn scribble(mem: &mut Lent<'_>)
 // Gives the samples that it takes.
 fn echo(input: &[i16], out: &mut Block)
     requires empty { out.old.items ≡ [] }
+    requires within { length input.now ≤ BLOCK_SAMPLES }
     ensures { length out.new.items ≤ length input.now }
 {
-    let _fits = out.try_extend_from_slice(input);
+    out.extend_from_slice(input);
 }

@@ -4,12 +4,13 @@ ghost use Rattle.std.specs.List.{All};
 ghost use Rattle.std.specs.Int.{w16};
 ghost use Rattle.mem_rec.specs.declared.MemRec.{MemRec};
 ghost use Rattle.mem_rec.specs.declared.Attr.TheVariants.{Scratch};
+ghost use Rattle.mem_rec.specs.declared.Space.TheVariants.{Daram, Saram};
 ghost use Rattle.ialg.specs.declared.TheConstants.{BLOCK_SAMPLES, PARAMETER_WORDS};
 ghost use Rattle.ialg.specs.History.{History};
 ghost use Rattle.ialg.specs.Records.{record_at, words_of, AllLent};
 ghost use Rattle.ialg.specs.Loans.{lent_words, SameLoans};
 ghost use Rattle.ialg.specs.Objects.{NamedAt};
-ghost use Rattle.test_doubles.specs.declared.TheConstants.{SLICER_RECORDS};
+ghost use Rattle.test_doubles.specs.declared.TheConstants.{HIGH, LOW, SLICER_RECORDS};
 ghost use Rattle.test_doubles.specs.Slicer.{HoldsLevels, IsSpread, SpreadsLevels, sliced, slicer_fill, slicer_meaning, slicer_records};
 
 use crate::primed::read;
@@ -57,20 +58,22 @@ impl Ialg for Slicer {
 
     fn alg_init(&self, tab: &MemTab, p: &Params, mem: &mut Lent<'_>) {
         mem.name_records(SLICER_KIND, tab);
-        let Some(Record { k, words }) = mem.take_named(Space::External, ONCE) else {
+        let Some(taken) = mem.take_named(Space::External, ONCE) else {
             return;
         };
+        let Record { k, words } = taken;
         overwrite(words, p.as_slice());
         mem.put(k, words);
     }
 
     fn alg_activate(&self, mem: &mut Lent<'_>) {
         let levels = kept_levels(mem);
-        let [low, high] = levels.as_slice() else {
+        let levels = levels.as_slice();
+        if levels.len() != LEVELS {
             return;
-        };
-        spread(mem, Space::Daram, LOW, *low);
-        spread(mem, Space::Saram, HIGH, *high);
+        }
+        spread_low(mem, levels[0]);
+        spread_high(mem, levels[1]);
     }
 
     fn process(&self, mem: &mut Lent<'_>, input: &[i16], out: &mut Block) {
@@ -156,15 +159,34 @@ fn fitted(words: &[i16]) -> Words
     kept
 }
 
+/// Makes each word of the low level's record this one.
+fn spread_low(mem: &mut Lent<'_>, word: i16)
+    ensures loans { SameLoans mem.old mem.new }
+    ensures spread { (kind : ℤ) (records : List MemRec) → NamedAt mem.old Daram LOW kind records
+        → (record_at records LOW).attr ≡ Scratch → IsSpread LOW word (lent_words mem.old) (lent_words mem.new) }
+{
+    spread(mem, Space::Daram, LOW, word);
+}
+
+/// Makes each word of the high level's record this one.
+fn spread_high(mem: &mut Lent<'_>, word: i16)
+    ensures loans { SameLoans mem.old mem.new }
+    ensures spread { (kind : ℤ) (records : List MemRec) → NamedAt mem.old Saram HIGH kind records
+        → (record_at records HIGH).attr ≡ Scratch → IsSpread HIGH word (lent_words mem.old) (lent_words mem.new) }
+{
+    spread(mem, Space::Saram, HIGH, word);
+}
+
 /// Makes each word of a scratch record this one. The base of the record stands in word `n` of the object.
 fn spread(mem: &mut Lent<'_>, space: Space, n: usize, word: i16)
     ensures loans { SameLoans mem.old mem.new }
     ensures spread { (kind : ℤ) (records : List MemRec) → NamedAt mem.old space n kind records
         → (record_at records n).attr ≡ Scratch → IsSpread n word (lent_words mem.old) (lent_words mem.new) }
 {
-    let Some(Record { k, words }) = mem.take_named(space, n) else {
+    let Some(taken) = mem.take_named(space, n) else {
         return;
     };
+    let Record { k, words } = taken;
     flood(words, word);
     mem.put(k, words);
 }

@@ -41,7 +41,7 @@ fn control(instance: u8, control: Ctl) -> Request<Trial> {
 fn process(rt: &impl Abort, instance: u8, samples: &[i16]) -> Request<Trial> {
     assert!(rt; samples.len() <= BLOCK_SAMPLES);
     let mut input = Block::new();
-    assert!(rt; input.try_extend_from_slice(samples).is_ok());
+    input.extend_from_slice(samples);
     Request::Process {
         instance,
         input,

@@ -74,7 +74,7 @@ impl Ialg for Diary {
 
     fn process(&self, mem: &mut Lent<'_>, input: &[i16], out: &mut Block) {
         note(mem, PROCESS);
-        let _fits = out.try_extend_from_slice(input);
+        out.extend_from_slice(input);
     }
 
     fn alg_deactivate(&self, mem: &mut Lent<'_>) {

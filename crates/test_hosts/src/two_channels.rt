@@ -7,6 +7,7 @@ ghost use Rattle.channel_spec.specs.Calls.Call.{Feed};
 ghost use Rattle.voice_channel.specs.Channels.{Keeps, Serves};
 ghost use Rattle.test_hosts.specs.TwoFeeds.{ServesBoth};
 
+use crate::cut_feeds::fed;
 use channel_spec::channels_agree;
 use ialg::{BLOCK_SAMPLES, Block, Ialg};
 use voice_channel::Channels;
@@ -45,13 +46,8 @@ pub fn feed_both<M: Ialg>(
         → result.early.items ++ result.late.items ≡ result.whole.items }
 {
     channels_agree::<M>();
-    let mut outputs = Outputs {
-        early: Block::new(),
-        late: Block::new(),
-        whole: Block::new(),
-    };
-    one.feed(c, first, &mut outputs.early);
-    one.feed(c, second, &mut outputs.late);
-    other.feed(d, whole, &mut outputs.whole);
-    outputs
+    let early = fed(one, c, first);
+    let late = fed(one, c, second);
+    let whole = fed(other, d, whole);
+    Outputs { early, late, whole }
 }

@@ -21,7 +21,7 @@ use Rattle.scratch_group.specs.Words.{placed, HasPieces}
 use Rattle.lifecycle.specs.Rooms.{NoNeed, AreSeparate, piece_of_record}
 use Rattle.lifecycle.specs.States.{Fits}
 use Rattle.lifecycle.proofs.Places.{there_is_room}
-use Rattle.test_lives.specs.Owners.{two_taps, IsPieceThere, IsReady}
+use Rattle.test_lives.specs.Owners.{two_taps, IsAllOf, IsPieceThere, IsReady}
 
 none_needed : (t : Bool) (x : Need) → t ≡ true → (if t then None else Some x) ≡ None
 none_needed true x h = refl
@@ -196,3 +196,8 @@ same_block_span align p s b1 b2 e1 same e2 =
 
 pub same_piece_span : (p s : Span) (a b : Option Span) → IsSamePiece (Some p) a → IsSamePiece a b → b ≡ Some s → IsSamePiece (Some p) (Some s)
 same_piece_span p s a b e f is = subst (λ (x : Option Span). IsSamePiece (Some p) x) is (same_then (Some p) a b e f)
+
+pub all_same : (r : Extent) (p q : Option Span) → IsAllOf r p → IsSamePiece p q → IsAllOf r q
+all_same r None q all same = absurd all
+all_same r (Some p) None all same = absurd same
+all_same r (Some p) (Some q) all same = still_whole p q r all same

@@ -1,6 +1,6 @@
 -- Where the filters of the tests stand. No public contract speaks of it.
 use Rattle.std.specs.Prelude.{ℕ, ◌≡◌, ◌≤◌, List, length, Option, None, MatchOption}
-use Rattle.space_raw.specs.Span.{Span, Extent}
+use Rattle.space_raw.specs.Span.{Span, Extent, IsWhole}
 use Rattle.mem_rec.specs.declared.TheConstants.{RECORD_WORDS}
 use Rattle.mem_rec.specs.declared.MemRec.{MemRec}
 use Rattle.ialg.specs.Filters.{filter_records}
@@ -29,6 +29,10 @@ pub record IsReady (g : Group) : Type 0 where
 -- a piece of n words of that region, from this place on
 abbrev pub IsAt : Extent → ℕ → ℕ → Option Span → Type 0
 IsAt region place n p = MatchOption p ⊥ (λ s. (s.region ≡ region) × (s.place ≡ place) × (length s.words ≡ n))
+
+-- the one piece of that region
+abbrev pub IsAllOf : Extent → Option Span → Type 0
+IsAllOf region p = MatchOption p ⊥ (λ s. (s.region ≡ region) × IsWhole s)
 
 -- a filter stands in these regions, where its group's block and its kept words begin at these places
 pub record Stands {M : Type 0} (daram saram external : Extent) (block kept : ℕ) (s : Instance M) (shared : Pieces) (g : Group) : Type 0 where

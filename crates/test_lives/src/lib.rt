@@ -8,6 +8,8 @@ mod neighbour_moves;
 #[cfg(test)]
 mod neighbour_tests;
 mod neighbours;
+#[cfg(test)]
+mod regions;
 mod slicer;
 #[cfg(test)]
 mod slicer_tests;

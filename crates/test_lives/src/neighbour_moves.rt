@@ -1,18 +1,20 @@
 //! A filter is moved, idle and active: the records go by their new places, and it gives the outputs of its samples.
-ghost use Rattle.std.specs.Prelude.{◌≡◌, ◌+◌, length, Option, Some, None, MatchOption};
+ghost use Rattle.std.specs.Prelude.{◌≡◌, ◌≤◌, ◌+◌, length, Option, Some, None, MatchOption};
 ghost use Rattle.space_raw.specs.Span.{Adjoins, IsWhole};
 ghost use Rattle.mem_rec.specs.declared.Space.{Space};
 ghost use Rattle.mem_rec.specs.declared.Space.TheVariants.{Daram};
 ghost use Rattle.record_loans.specs.Blocks.{block_align, block_piece, block_words};
-ghost use Rattle.scratch_group.specs.Blocks.{block_in, SameBut};
-ghost use Rattle.lifecycle.specs.States.{Fits};
-ghost use Rattle.record_loans.specs.Pieces.{no_pieces};
+ghost use Rattle.scratch_group.specs.Blocks.{block_in, SameBut, SameGroup};
+ghost use Rattle.lifecycle.specs.States.{Fits, FitsIn, SameInstance};
+ghost use Rattle.lifecycle.specs.Moves.{ComesBack, HasRoom};
+ghost use Rattle.record_loans.specs.Pieces.{SamePieces, no_pieces};
 ghost use Rattle.test_lives.specs.Owners.{IsAt, Stands};
 
-use crate::neighbour_tests::{both, end, filter, give, nothing};
+use crate::neighbour_tests::{both, end, filter, give};
+use crate::regions::{nothing, region};
 use alg_fir::Fir;
-use ialg::Block;
-use lifecycle::Idle;
+use ialg::{BLOCK_SAMPLES, Block};
+use lifecycle::{Active, Idle};
 use mem_rec::{MemTab, Space};
 use record_loans::Pieces;
 use scratch_group::Group;
@@ -60,6 +62,42 @@ fn shift(rt: &impl Abort, group: &mut Group, hole: Piece) -> Piece
     left
 }
 
+/// Tells an idle filter that the block of its group lies elsewhere.
+fn follow_block(member: &mut Idle<Fir>, none: &mut Pieces, group: &Group)
+    requires { HasRoom member.old.instance none.old group.now }
+    ensures same { ComesBack member.old.instance None none.old group.now member.new.instance }
+    ensures none { SamePieces none.old none.new }
+    ensures fits { FitsIn member.new.instance none.new group.now }
+{
+    member.moved(None, none, group);
+}
+
+/// Tells an active filter that the block of its group lies elsewhere.
+fn follow_block_active(active: &mut Active<Fir>, none: &mut Pieces, group: &mut Group)
+    requires { HasRoom active.old.instance none.old group.old }
+    ensures same { ComesBack active.old.instance None none.old group.old active.new.instance }
+    ensures none { SamePieces none.old none.new }
+    ensures group { SameGroup group.old group.new }
+    ensures fits { FitsIn active.new.instance none.new group.new }
+{
+    active.moved(None, none, group);
+}
+
+/// What an active filter gives for these samples.
+fn run(active: &mut Active<Fir>, none: &mut Pieces, group: &mut Group, input: &[i16]) -> Block
+    requires fits { FitsIn active.old.instance none.old group.old }
+    requires some { 1 ≤ length input.now }
+    requires within { length input.now ≤ BLOCK_SAMPLES }
+    ensures same { SameInstance active.old.instance active.new.instance }
+    ensures none { SamePieces none.old none.new }
+    ensures group { SameGroup group.old group.new }
+    ensures fits { FitsIn active.new.instance none.new group.new }
+{
+    let mut out = Block::new();
+    active.run(none, group, input, &mut out);
+    out
+}
+
 /// Ends a filter whose block and kept words stand before holes of 16 and of 4 words, and its regions.
 fn close<A: Allocator>(
     rt: &impl Abort,
@@ -96,9 +134,9 @@ fn base(table: &MemTab, k: usize) -> Option<u16> {
 
 #[test]
 fn an_idle_member_is_moved(rt: HostRuntime) {
-    let (daram, all) = Region::make(rt.alloc(), 1_044).expect(&rt, "memory");
-    let (saram, low) = Region::make(rt.alloc(), 8).expect(&rt, "memory");
-    let (external, object) = Region::make(rt.alloc(), 4).expect(&rt, "memory");
+    let (daram, all) = region(&rt, rt.alloc(), 1_044);
+    let (saram, low) = region(&rt, rt.alloc(), 8);
+    let (external, object) = region(&rt, rt.alloc(), 4);
     let mut group = Group::new();
     let mut none = Pieces::none();
     let (member, hole, space) = settled(&rt, all, low, object, &mut none, &mut group);
@@ -108,42 +146,40 @@ fn an_idle_member_is_moved(rt: HostRuntime) {
     assert_eq!(rt; out.as_slice(), [1i16].as_slice());
 
     let hole = shift(&rt, &mut group, hole);
-    member.moved(None, &mut none, &group);
+    follow_block(&mut member, &mut none, &group);
     assert_eq!(rt; base(&member.instance.table, 2), Some(0));
     let kept = member.detach(1);
     let (kept, space) = Piece::slide(space, kept);
     member.moved(Some((1, kept)), &mut none, &group);
     assert_eq!(rt; base(&member.instance.table, 1), Some(0));
-    let (member, out) = give(member, &mut none, &mut group, &[4]);
+    let (fed_again, out) = give(member, &mut none, &mut group, &[4]);
     assert_eq!(rt; out.as_slice(), [3i16].as_slice());
     close(
-        &rt, daram, saram, external, member, none, group, hole, space,
+        &rt, daram, saram, external, fed_again, none, group, hole, space,
     );
 }
 
 #[test]
 fn an_active_member_is_moved(rt: HostRuntime) {
-    let (daram, all) = Region::make(rt.alloc(), 1_044).expect(&rt, "memory");
-    let (saram, low) = Region::make(rt.alloc(), 8).expect(&rt, "memory");
-    let (external, object) = Region::make(rt.alloc(), 4).expect(&rt, "memory");
+    let (daram, all) = region(&rt, rt.alloc(), 1_044);
+    let (saram, low) = region(&rt, rt.alloc(), 8);
+    let (external, object) = region(&rt, rt.alloc(), 4);
     let mut group = Group::new();
     let mut none = Pieces::none();
     let (member, hole, space) = settled(&rt, all, low, object, &mut none, &mut group);
     let mut active = member.activated(&mut none, &mut group);
-    let mut out = Block::new();
-    active.run(&mut none, &mut group, &[2], &mut out);
+    let out = run(&mut active, &mut none, &mut group, &[2]);
     assert_eq!(rt; out.as_slice(), [1i16].as_slice());
 
     let hole = shift(&rt, &mut group, hole);
-    active.moved(None, &mut none, &mut group);
+    follow_block_active(&mut active, &mut none, &mut group);
     assert_eq!(rt; base(&active.instance.table, 2), Some(0));
     let kept = active.detach(1);
     let (kept, space) = Piece::slide(space, kept);
     active.moved(Some((1, kept)), &mut none, &mut group);
     assert_eq!(rt; base(&active.instance.table, 1), Some(0));
-    let mut out = Block::new();
-    active.run(&mut none, &mut group, &[4], &mut out);
-    assert_eq!(rt; out.as_slice(), [3i16].as_slice());
+    let later = run(&mut active, &mut none, &mut group, &[4]);
+    assert_eq!(rt; later.as_slice(), [3i16].as_slice());
     let member = active.deactivated(&mut none, &mut group);
     close(
         &rt, daram, saram, external, member, none, group, hole, space,

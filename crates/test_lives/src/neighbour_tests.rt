@@ -5,9 +5,10 @@ ghost use Rattle.ialg.specs.Records.{unplaced};
 ghost use Rattle.record_loans.specs.Pieces.{IsSamePiece, SamePieces, no_pieces};
 ghost use Rattle.scratch_group.specs.Blocks.{SameGroup};
 ghost use Rattle.lifecycle.specs.States.{Fits, SameInstance};
-ghost use Rattle.test_lives.specs.Owners.{IsPieceThere, IsReady, two_taps};
+ghost use Rattle.test_lives.specs.Owners.{IsAllOf, IsPieceThere, IsReady, two_taps};
 
 use crate::feed;
+use crate::regions::{close_both, nothing, region, take_block};
 use alg_fir::Fir;
 use ialg::{BLOCK_SAMPLES, Block, Ctl, Ialg, PARAMETER_WORDS, Params, Status, Words, copied};
 use lifecycle::{Idle, room};
@@ -15,6 +16,7 @@ use mem_rec::{MemTab, Space};
 use record_loans::Pieces;
 use scratch_group::{Group, lends_at_the_layout};
 use space_raw::{Piece, Region};
+use std::alloc::Allocator;
 use std::process::Abort;
 
 fn words(rt: &impl Abort, values: &[i16]) -> Words
@@ -102,17 +104,6 @@ pub(crate) fn give<M: Ialg>(
     (member, out)
 }
 
-/// Looks that there is no piece.
-pub(crate) fn nothing(rt: &impl Abort, piece: Option<Piece>)
-    ensures { piece ≡ None }
-{
-    assert!(rt; piece.is_none(), "no piece");
-    match piece {
-        Some(_piece) => unreachable!(),
-        None => {}
-    }
-}
-
 /// Ends pieces that are none.
 pub(crate) fn end(rt: &impl Abort, pieces: Pieces)
     ensures { pieces ≡ no_pieces }
@@ -135,13 +126,35 @@ pub(crate) fn both(rt: &impl Abort, pieces: Pieces) -> (Piece, Piece)
     (p0.expect(rt, "the object"), p1.expect(rt, "the kept words"))
 }
 
+/// Ends a filter, and closes the regions of its object and of its kept words. How many records its kind told of by algFree.
+fn end_filter<A: Allocator>(
+    rt: &impl Abort,
+    member: Idle<Fir>,
+    none: Pieces,
+    group: &Group,
+    external: Region<A>,
+    saram: Region<A>,
+) -> usize
+    requires fits { Fits member.instance.table member.instance.own none group.now }
+    requires object { IsAllOf external member.instance.own.p0 }
+    requires kept { IsAllOf saram member.instance.own.p1 }
+{
+    let mut member = member;
+    let mut none = none;
+    let told = member.freed(&mut none, group);
+    let (object, kept) = both(rt, member.finish());
+    close_both(external, object, saram, kept);
+    end(rt, none);
+    told.len()
+}
+
 #[test]
 fn members_take_turns(rt: HostRuntime) {
-    let (daram, block) = Region::make(rt.alloc(), 1_028).expect(&rt, "memory");
-    let (external, object) = Region::make(rt.alloc(), 4).expect(&rt, "memory");
-    let (saram, kept) = Region::make(rt.alloc(), 4).expect(&rt, "memory");
-    let (other_external, other_object) = Region::make(rt.alloc(), 4).expect(&rt, "memory");
-    let (other_saram, other_kept) = Region::make(rt.alloc(), 4).expect(&rt, "memory");
+    let (daram, block) = region(&rt, rt.alloc(), 1_028);
+    let (external, object) = region(&rt, rt.alloc(), 4);
+    let (saram, kept) = region(&rt, rt.alloc(), 4);
+    let (other_external, other_object) = region(&rt, rt.alloc(), 4);
+    let (other_saram, other_kept) = region(&rt, rt.alloc(), 4);
     let mut group = Group::new();
     nothing(&rt, group.replace(Space::Daram, block, 16));
     let mut none = Pieces::none();
@@ -149,31 +162,32 @@ fn members_take_turns(rt: HostRuntime) {
     let first = filter(&rt, object, kept, &mut none, &group);
     let second = filter(&rt, other_object, other_kept, &mut other_none, &group);
 
-    let (first, out) = give(first, &mut none, &mut group, &[2, 4]);
+    let (first_once, out) = give(first, &mut none, &mut group, &[2, 4]);
     assert_eq!(rt; out.as_slice(), [1i16, 3].as_slice());
-    let (second, out) = give(second, &mut other_none, &mut group, &[10]);
+    let (second_once, out) = give(second, &mut other_none, &mut group, &[10]);
     assert_eq!(rt; out.as_slice(), [5i16].as_slice());
-    let (first, status) = control(first, &mut none, &mut group, &Ctl::Get);
+    let (first_asked, status) = control(first_once, &mut none, &mut group, &Ctl::Get);
     assert_eq!(rt; status, Status::Words(words(&rt, &[16384, 16384])));
-    let (mut first, out) = give(first, &mut none, &mut group, &[6]);
+    let (first_twice, out) = give(first_asked, &mut none, &mut group, &[6]);
     assert_eq!(rt; out.as_slice(), [5i16].as_slice());
-    assert!(rt; first.accepts(&Ctl::Get));
-    let told = first.freed(&mut none, &group);
-    assert_eq!(rt; told.len(), 3);
-    let (second, out) = give(second, &mut other_none, &mut group, &[20]);
+    assert!(rt; first_twice.accepts(&Ctl::Get));
+    let told = end_filter(&rt, first_twice, none, &group, external, saram);
+    assert_eq!(rt; told, 3);
+    let (second_twice, out) = give(second_once, &mut other_none, &mut group, &[20]);
     assert_eq!(rt; out.as_slice(), [15i16].as_slice());
+    let other_told = end_filter(
+        &rt,
+        second_twice,
+        other_none,
+        &group,
+        other_external,
+        other_saram,
+    );
+    assert_eq!(rt; other_told, 3);
 
-    let (object, kept) = both(&rt, first.finish());
-    let (other_object, other_kept) = both(&rt, second.finish());
-    let block = group.remove(Space::Daram).expect(&rt, "a block");
+    let block = take_block(&rt, &mut group, Space::Daram);
     group.end();
     daram.close(block);
-    external.close(object);
-    saram.close(kept);
-    other_external.close(other_object);
-    other_saram.close(other_kept);
-    end(&rt, none);
-    end(&rt, other_none);
 }
 
 #[test]

@@ -59,8 +59,8 @@ pub fn interleave<M: Ialg, N: Ialg>(
     ensures output { GivesBoth M.law first.instance shared.old before.now after.now out.new.items more.new.items }
     ensures output_between { GivesBlock N.law second.instance others.old between.now other.new.items }
 {
-    let first = feed(first, shared, group, before, out);
+    let waiting = feed(first, shared, group, before, out);
     let second = feed(second, others, group, between, other);
-    let first = feed(first, shared, group, after, more);
+    let first = feed(waiting, shared, group, after, more);
     (first, second)
 }

@@ -5,11 +5,12 @@ ghost use Rattle.test_doubles.specs.declared.TheConstants.{LEVELS};
 ghost use Rattle.test_doubles.specs.Slicer.{slicer_records};
 
 use crate::live;
+use crate::regions::{close_both, nothing, region, take_block};
 use ialg::{Block, Ialg, PARAMETER_WORDS, Params, Status, Words, copied};
 use mem_rec::{LEAST_ALIGNMENT, MemTab, Space};
 use record_loans::Pieces;
 use scratch_group::Group;
-use space_raw::{Piece, Region};
+use space_raw::Piece;
 use std::process::Abort;
 use test_doubles::{HIGH_ALIGNMENT, Slicer};
 
@@ -28,17 +29,6 @@ fn table(rt: &impl Abort, levels: &Params) -> MemTab
     Slicer.alg_alloc(levels).expect(rt, "a table")
 }
 
-/// Looks that there is no piece.
-fn nothing(rt: &impl Abort, piece: Option<Piece>)
-    ensures { piece ≡ None }
-{
-    assert!(rt; piece.is_none(), "no piece");
-    match piece {
-        Some(_piece) => unreachable!(),
-        None => {}
-    }
-}
-
 /// The first two of some pieces, the others of which are none.
 fn two(rt: &impl Abort, pieces: Pieces) -> (Option<Piece>, Option<Piece>)
     ensures { (result.0 ≡ pieces.p0) × (result.1 ≡ pieces.p1) }
@@ -51,13 +41,15 @@ fn two(rt: &impl Abort, pieces: Pieces) -> (Option<Piece>, Option<Piece>)
 
 #[test]
 fn a_slicer_lives(rt: HostRuntime) {
-    let (daram, low) = Region::make(rt.alloc(), 8).expect(&rt, "memory");
-    let (saram, high) = Region::make(rt.alloc(), 4).expect(&rt, "memory");
-    let (external, all) = Region::make(rt.alloc(), 6).expect(&rt, "memory");
+    let (daram, low) = region(&rt, rt.alloc(), 8);
+    let (saram, high) = region(&rt, rt.alloc(), 4);
+    let (external, all) = region(&rt, rt.alloc(), 6);
     let (object, levels) = all.split(4);
     let mut group = Group::new();
-    nothing(&rt, group.replace(Space::Daram, low, LEAST_ALIGNMENT));
-    nothing(&rt, group.replace(Space::Saram, high, HIGH_ALIGNMENT));
+    let old_daram = group.replace(Space::Daram, low, LEAST_ALIGNMENT);
+    let old_saram = group.replace(Space::Saram, high, HIGH_ALIGNMENT);
+    nothing(&rt, old_daram);
+    nothing(&rt, old_saram);
     let own = Pieces {
         p0: Some(object),
         p1: None,
@@ -91,10 +83,9 @@ fn a_slicer_lives(rt: HostRuntime) {
     nothing(&rt, none);
     let levels = levels.expect(&rt, "the levels");
     assert_eq!(rt; levels.words(), [-5i16, 7].as_slice());
-    let low = group.remove(Space::Daram).expect(&rt, "a block");
-    let high = group.remove(Space::Saram).expect(&rt, "a block");
+    let low = take_block(&rt, &mut group, Space::Daram);
+    let high = take_block(&rt, &mut group, Space::Saram);
     group.end();
-    daram.close(low);
-    saram.close(high);
+    close_both(daram, low, saram, high);
     external.close(object.expect(&rt, "the object").join(levels));
 }

@@ -2,6 +2,7 @@
 //! alignments, beside a write-once record: these tables have.
 ghost use Rattle.std.specs.Prelude.{◌≡◌, ⊤};
 ghost use Rattle.ialg.specs.Loans.{SameLoans};
+ghost use Rattle.space_raw.specs.Span.{IsWhole};
 ghost use Rattle.test_memory.specs.Tables.{two_spaces, one_space};
 
 use ialg::{Lent, Record, Step};
@@ -9,6 +10,7 @@ use mem_rec::{Attr, MemRec, MemTab, Space};
 use record_loans::Pieces;
 use scratch_group::{Group, Need};
 use space_raw::{Piece, Region};
+use std::alloc::Global;
 use std::process::Abort;
 
 fn record(space: Space, base: u16, attr: Attr, size: u32, align: u32) -> MemRec
@@ -53,6 +55,23 @@ fn need(size: u32, align: u32) -> Option<Need> {
     Some(Need { size, align })
 }
 
+/// A region of that many words, and all of them as one piece.
+fn memory(rt: &impl Abort, alloc: Global, words: u32) -> (Region, Piece)
+    ensures size { result.0.size ≡ words }
+    ensures whole { (result.1.region ≡ result.0) × IsWhole result.1 }
+{
+    Region::make(alloc, words).expect(rt, "memory")
+}
+
+/// Closes two regions, all of whose words are back.
+fn close_both(daram: Region, fast: Piece, saram: Region, slow: Piece)
+    requires daram { (fast.region ≡ daram) × IsWhole fast }
+    requires saram { (slow.region ≡ saram) × IsWhole slow }
+{
+    daram.close(fast);
+    saram.close(slow);
+}
+
 /// Looks that there is no piece.
 fn nothing(rt: &impl Abort, piece: Option<Piece>) {
     assert!(rt; piece.is_none(), "no piece");
@@ -89,9 +108,9 @@ fn blocks_are_needed_by_size_and_alignment(rt: HostRuntime) {
 fn activations_are_counted(rt: HostRuntime) {
     let mut group = Group::new();
     assert!(rt; (group.active(), group.activations()) == (None, 0));
-    group.set_active(Some(63));
-    group.set_active(None);
-    group.set_active(Some(0));
+    for member in [Some(63), None, Some(0)] {
+        group.set_active(member);
+    }
     assert!(rt; (group.active(), group.activations()) == (Some(0), 2));
     group.end();
 }
@@ -142,30 +161,41 @@ fn write(mem: &mut Lent<'_>, space: Space, base: u16, word: i16)
 #[test]
 fn records_are_lent_in_two_spaces(rt: HostRuntime) {
     let table = two_spaces(&rt);
-    let (daram, fast) = Region::make(rt.alloc(), 8).expect(&rt, "memory");
-    let (saram, slow) = Region::make(rt.alloc(), 4).expect(&rt, "memory");
-    let (external, all) = Region::make(rt.alloc(), 16).expect(&rt, "memory");
+    let (daram, fast) = memory(&rt, rt.alloc(), 8);
+    let (saram, slow) = memory(&rt, rt.alloc(), 4);
+    let (external, all) = memory(&rt, rt.alloc(), 16);
     let (object, once) = all.split(8);
     let mut group = Group::new();
-    nothing(&rt, group.replace(Space::Daram, fast, 16));
-    nothing(&rt, group.replace(Space::Saram, slow, 64));
-    let mut own = Pieces::none();
-    own.put_in(0, object);
-    let mut shared = Pieces::none();
-    shared.put_in(1, once);
+    let was_in_daram = group.replace(Space::Daram, fast, 16);
+    nothing(&rt, was_in_daram);
+    let was_in_saram = group.replace(Space::Saram, slow, 64);
+    nothing(&rt, was_in_saram);
+    let mut own = Pieces {
+        p0: Some(object),
+        p1: None,
+        p2: None,
+        p3: None,
+    };
+    let mut shared = Pieces {
+        p0: None,
+        p1: Some(once),
+        p2: None,
+        p3: None,
+    };
     let mut once_is_read = false;
     group.lend(&Mark, &table, &mut own, &mut shared, &mut once_is_read);
     assert!(rt; once_is_read);
-    let fast = group.remove(Space::Daram).expect(&rt, "a block");
-    let slow = group.remove(Space::Saram).expect(&rt, "a block");
+    let in_daram = group.remove(Space::Daram);
+    let fast = in_daram.expect(&rt, "a block");
+    let in_saram = group.remove(Space::Saram);
+    let slow = in_saram.expect(&rt, "a block");
     let (object, once) = (own.take_out(0), shared.take_out(1));
     assert!(rt; object.words() == [1i16, 1, 1, 1, 0, 0, 0, 0].as_slice());
     assert!(rt; once.words() == [0i16; 8].as_slice());
     assert!(rt; fast.words() == [4i16, 4, 4, 4, 4, 0, 0, 0].as_slice());
     assert!(rt; slow.words() == [6i16, 6, 6, 0].as_slice());
     group.end();
-    daram.close(fast);
-    saram.close(slow);
+    close_both(daram, fast, saram, slow);
     external.close(object.join(once));
     end(&rt, own);
     end(&rt, shared);
@@ -174,8 +204,8 @@ fn records_are_lent_in_two_spaces(rt: HostRuntime) {
 #[test]
 fn records_are_lent_at_their_offsets(rt: HostRuntime) {
     let table = one_space(&rt);
-    let (daram, block) = Region::make(rt.alloc(), 28).expect(&rt, "memory");
-    let (external, object) = Region::make(rt.alloc(), 4).expect(&rt, "memory");
+    let (daram, block) = memory(&rt, rt.alloc(), 28);
+    let (external, object) = memory(&rt, rt.alloc(), 4);
     let mut group = Group::new();
     nothing(&rt, group.replace(Space::Daram, block, 16));
     let mut own = Pieces::none();

@@ -128,7 +128,8 @@ fn records_are_found_by_their_bases(rt: HostRuntime) {
 #[test]
 fn words_and_blocks_have_their_room(rt: HostRuntime) {
     assert!(rt; Words::new().remaining_capacity() == 72);
-    assert!(rt; Block::new().remaining_capacity() == 1_024);
+    let mut block = Block::new();
+    assert!(rt; block.room_mut().len() == 1_024);
 }
 
 #[test]

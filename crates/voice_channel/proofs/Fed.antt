@@ -1,8 +1,9 @@
 -- Blocks of samples that pass through members.
-use Rattle.std.proofs.Common.{◌≡◌, ◌<◌, ◌≤◌, ℕ, ℤ, zero, suc, Bool, true, List, [], ◌∷◌, length, None, refl, ap, sym, ◌∙◌, subst, nat_eq, arith}
+use Rattle.std.proofs.Common.{◌≡◌, ◌<◌, ◌≤◌, ℕ, ℤ, zero, suc, Bool, true, List, [], ◌∷◌, length, ◌-◌, get_or, take, drop, None, refl, ap, sym, ◌∙◌, subst, nat_eq, arith}
 use Rattle.std.specs.Prelude.{not}
 use Rattle.std.specs.List.{list_all}
 use Rattle.std.proofs.Math.Nat.{not-suc-le-zero}
+use Rattle.std.proofs.lemmas.List.{take_all}
 use Rattle.std.proofs.lemmas.Bool.{lt-ltb, false≢true, and_from}
 use Rattle.relocate.proofs.RangeTests.{both_true, left_true, right_true}
 use Rattle.ialg.specs.declared.refusal.Refusal.TheVariants.{Range, Missing}
@@ -23,6 +24,17 @@ use Rattle.voice_channel.specs.Channels.{ChannelsState, PassesThrough, Serves}
 use Rattle.voice_channel.proofs.Served.{HoldsOn}
 
 -- ---- lists
+
+-- a list with a first number is that number before the others
+pub first_before : (is : List ℕ) → 1 ≤ length is → is ≡ get_or is 0 0 ∷ take (length is - 1) (drop 1 is)
+first_before [] b = absurd (omega arith)
+first_before (i ∷ is) b = sym (ap (λ js. i ∷ js) (take_all (length (i ∷ is) - 1) is (omega arith)))
+
+-- a list with two is these before the others
+pub first_two_before : (is : List ℕ) → 2 ≤ length is → is ≡ get_or is 0 0 ∷ get_or is 1 0 ∷ take (length is - 2) (drop 2 is)
+first_two_before [] b = absurd (omega arith)
+first_two_before (i ∷ []) b = absurd (omega arith)
+first_two_before (i ∷ j ∷ is) b = sym (ap (λ js. i ∷ j ∷ js) (take_all (length (i ∷ j ∷ is) - 2) is (omega arith)))
 
 all_more : (p q : ℕ → Bool) → ((i : ℕ) → p i ≡ true → q i ≡ true) → (is : List ℕ) → list_all p is ≡ true → list_all q is ≡ true
 all_more p q more [] all = refl

@@ -9,7 +9,7 @@ use alg_host::Host;
 use channel_spec::members_live_in_one_channel;
 use ialg::{BLOCK_SAMPLES, Block, Ialg};
 
-/// What members give one another stands in two blocks by turns. They are made once, since a new block is cleared.
+/// What members give one another stands in two blocks by turns. They are made once, since the words of a new block are cleared.
 #[derive(Drop)]
 pub(crate) struct Between {
     one: Block,
@@ -39,19 +39,7 @@ fn give_out(block: &[i16], out: &mut Block)
     requires empty { out.old.items ≡ [] }
     ensures { out.new.items ≡ block.now }
 {
-    let _fits = out.try_extend_from_slice(block);
-}
-
-/// Empties a block. One sample needs no call that clears.
-#[inline(always)]
-fn empty(block: &mut Block)
-    ensures { block.new.items ≡ [] }
-{
-    if block.len() == 1 {
-        let _sample = block.pop();
-    } else {
-        block.clear();
-    }
+    out.extend_from_slice(block);
 }
 
 /// Gives a member the block, unless that is empty: what the member gives takes the place of what `given` held.
@@ -60,7 +48,7 @@ fn run<M: Ialg>(host: &mut Host<M>, member: u8, block: &[i16], given: &mut Block
     ensures bounded { length given.new.items ≤ length block.now }
     ensures passes { PassesThrough M.law (member ∷ []) block.now given.new.items host.old host.new }
 {
-    empty(given);
+    given.clear();
     // Members live in every state that the channels keep, so the second is always so.
     if !block.is_empty() && host.living(member) {
         host.process(member, block, given);
@@ -80,12 +68,13 @@ fn pass_on<M: Ialg>(
     ensures bounded { length out.new.items ≤ length from.old.items }
     ensures passes { PassesThrough M.law (member ∷ further.now) from.old.items out.new.items host.old host.new }
 {
-    let Some((next, behind)) = further.split_first() else {
-        run(host, member, from, out);
-        return;
-    };
-    run(host, member, from, to);
-    pass_on(host, *next, behind, to, from, out);
+    match further {
+        [] => run(host, member, from.as_slice(), out),
+        [next, behind @ ..] => {
+            run(host, member, from.as_slice(), to);
+            pass_on(host, *next, behind, to, from, out);
+        }
+    }
 }
 
 /// Passes a block through members in order: each takes what the one before it gave. What the last gives takes the place of what `out` held.
@@ -100,24 +89,24 @@ fn pass<M: Ialg>(
     ensures bounded { length out.new.items ≤ length block.now }
     ensures passes { PassesThrough M.law members.now block.now out.new.items host.old host.new }
 {
-    let Some((member, further)) = members.split_first() else {
-        empty(out);
-        give_out(block, out);
-        return;
-    };
-    let Some((next, behind)) = further.split_first() else {
-        run(host, *member, block, out);
-        return;
-    };
-    run(host, *member, block, &mut between.one);
-    pass_on(
-        host,
-        *next,
-        behind,
-        &mut between.one,
-        &mut between.other,
-        out,
-    );
+    match members {
+        [] => {
+            out.clear();
+            give_out(block, out);
+        }
+        [member] => run(host, *member, block, out),
+        [member, next, behind @ ..] => {
+            run(host, *member, block, &mut between.one);
+            pass_on(
+                host,
+                *next,
+                behind,
+                &mut between.one,
+                &mut between.other,
+                out,
+            );
+        }
+    }
 }
 
 impl<M: Ialg> Channels<M> {

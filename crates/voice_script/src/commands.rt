@@ -87,10 +87,12 @@ fn create_row<'a, M: Named + Copy>(
     let kind = words.kind()?;
     let group = words.number()?;
     words.parameters(room)?;
+    let i = instance.byte()?;
+    let g = group.byte()?;
     Ok(Command::Create {
-        instance: instance.byte()?,
+        instance: i,
         kind,
-        group: group.byte()?,
+        group: g,
         parameters: room,
     })
 }
@@ -174,13 +176,16 @@ fn feed_row<'a, M: Copy>(mut words: Words<'_>) -> Result<Command<'a, M>, Refusal
     let channel = words.number()?;
     let samples = words.number()?;
     words.end()?;
+    let c = channel.byte()?;
+    let n = samples.samples()?;
     Ok(Command::Feed {
-        channel: channel.byte()?,
-        samples: samples.samples()?,
+        channel: c,
+        samples: n,
     })
 }
 
 /// The command of a line that begins with this word.
+#[tactic(auto, using(crate::proofs::ReadingLemmas::unfit))]
 fn command_of<'a, M: Named + Copy>(
     name: &[u8],
     words: Words<'_>,

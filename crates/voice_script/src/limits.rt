@@ -14,6 +14,9 @@ pub(crate) const NUMBER_DIGITS: usize = 10;
 /// The most digits of the number of an instance, a record or a group.
 pub(crate) const BYTE_DIGITS: usize = 3;
 
+/// The most octets of the name of a refusal.
+pub(crate) const NAME_OCTETS: usize = 7;
+
 /// The most octets of a block's owner.
 pub(crate) const OWNER_OCTETS: usize = 9;
 

@@ -1,5 +1,5 @@
 //! Words that are numbers, and their ranges.
-ghost use Rattle.std.specs.Prelude.{◌≡◌, ◌≤◌, ◌<◌, ◌+◌, ◌∷◌, length, take, drop, min, MatchOption, IfSome, IfOk, IfErr, is_ok, false, true};
+ghost use Rattle.std.specs.Prelude.{◌≡◌, ◌≤◌, ◌<◌, ◌+◌, ◌∷◌, length, get_or, take, drop, min, MatchOption, IfSome, IfOk, IfErr, is_ok, false, true};
 ghost use Rattle.voice_script.specs.Script.{is_digits, digits_value, is_number, value_of, words_of};
 ghost use Rattle.voice_script.specs.Readings.{Limits, BeginsWithDigits, HasShortNumber, HasNoShortNumber};
 
@@ -155,11 +155,28 @@ impl<'a> Number<'a> {
         ensures short { MatchOption result (HasNoShortNumber line.now) (λ parts. HasShortNumber line.now (length parts.0.word.now)) }
     {
         if line.len() > SHORT_DIGITS {
-            let (count, magnitude) = short_digits(line)?;
-            return Some(Number::part_before(line, count, magnitude as i32));
+            let (end, magnitude) = short_digits(line)?;
+            return Some(Number::part_before(line, end, magnitude as i32));
         }
         let (count, magnitude) = last_digits(line)?;
         Some(Number::part(line, count, magnitude as i32))
+    }
+
+    /// As [`leading`](Self::leading) does, for a line that begins with a minus.
+    #[inline(always)]
+    fn leading_negative(line: &'a [u8]) -> Option<(Number<'a>, &'a [u8])>
+        requires some { 1 ≤ length line.now }
+        requires minus { get_or line.now 0 0 ≡ 45 }
+        ensures word { IfSome result (λ parts. words_of line.now ≡ parts.0.word.now ∷ words_of parts.1.now) }
+        ensures shorter { IfSome result (λ parts. length parts.1.now < length line.now) }
+    {
+        let digits = &line[1..];
+        if digits.len() > SHORT_DIGITS {
+            let (end, magnitude) = short_digits(digits)?;
+            return Some(Number::part_before(line, end + 1, -(magnitude as i32)));
+        }
+        let (count, magnitude) = last_digits(digits)?;
+        Some(Number::part(line, count + 1, -(magnitude as i32)))
     }
 
     /// The number that a line begins with, where it is a word, and what stands behind the blank that follows it. None for every other line, and
@@ -171,14 +188,7 @@ impl<'a> Number<'a> {
     {
         match line {
             [] => None,
-            [b'-', digits @ ..] => {
-                if digits.len() > SHORT_DIGITS {
-                    let (count, magnitude) = short_digits(digits)?;
-                    return Some(Number::part_before(line, count + 1, -(magnitude as i32)));
-                }
-                let (count, magnitude) = last_digits(digits)?;
-                Some(Number::part(line, count + 1, -(magnitude as i32)))
-            }
+            [b'-', ..] => Number::leading_negative(line),
             _ => Number::leading_natural(line),
         }
     }

@@ -2,11 +2,13 @@
 ghost use Rattle.std.specs.Prelude.{◌≡◌, ◌≤◌, ◌+◌, ◌*◌, ◌++◌, ◌<◌, [], length, decimal};
 ghost use Rattle.std.specs.List.{flat_map};
 ghost use Rattle.std.specs.Fmt.{signed_decimal};
+ghost use Rattle.ialg.specs.Refusals.{refusal_name};
 ghost use Rattle.voice_script.specs.Replies.{owner_text, line_text, reply_text, Stat as told_stat, No as told_no};
 ghost use Rattle.voice_script.specs.Readings.{active_text, word_text, entry_text};
 
 use crate::limits::{
-    BYTE_DIGITS, ENTRY_OCTETS, NUMBER_DIGITS, OWNER_OCTETS, REPLY_OCTETS, WORD_TEXT_OCTETS,
+    BYTE_DIGITS, ENTRY_OCTETS, NAME_OCTETS, NUMBER_DIGITS, OWNER_OCTETS, REPLY_OCTETS,
+    WORD_TEXT_OCTETS,
 };
 use host_map::{Map, Owner, Placed, Stat};
 use ialg::{Refusal, Words};
@@ -45,11 +47,9 @@ fn push_digits(text: &mut ReplyText, number: u32)
     requires { length text.old.items + length (decimal number) ≤ REPLY_OCTETS }
     ensures { text.new.items ≡ text.old.items ++ decimal number }
 {
-    if number < 10 {
-        text.push(b'0' + number as u8);
-        return;
+    if number >= 10 {
+        push_digits(text, number / 10);
     }
-    push_digits(text, number / 10);
     text.push(b'0' + (number % 10) as u8);
 }
 
@@ -161,6 +161,15 @@ fn push_stat(text: &mut ReplyText, stat: Stat)
     push_number(text, stat.activations);
 }
 
+/// Puts the name of a refusal.
+fn push_name(text: &mut ReplyText, refusal: Refusal)
+    requires { length text.old.items + NAME_OCTETS ≤ REPLY_OCTETS }
+    ensures text { text.new.items ≡ text.old.items ++ refusal_name refusal }
+    ensures room { length text.new.items ≤ length text.old.items + NAME_OCTETS }
+{
+    push_all(text, refusal.name().as_bytes());
+}
+
 fn push_refusal(text: &mut ReplyText, refusal: Refusal)
     requires { text.old.items ≡ [] }
     ensures line { text.new.items ≡ line_text (told_no refusal) }
@@ -169,7 +178,7 @@ fn push_refusal(text: &mut ReplyText, refusal: Refusal)
     push_all(text, b"no ");
     push_number(text, u32::from(refusal.number()));
     push_all(text, b" ");
-    push_all(text, refusal.name().as_bytes());
+    push_name(text, refusal);
 }
 
 impl Reply<'_> {

@@ -128,6 +128,7 @@ impl<'a> Iterator for Words<'a> {
         }
         let word = self.line;
         self.line = &[];
-        if word.is_empty() { None } else { Some(word) }
+        let is_over = word.is_empty();
+        if is_over { None } else { Some(word) }
     }
 }

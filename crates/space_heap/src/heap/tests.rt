@@ -29,14 +29,17 @@ fn of_eight_words(region: Region, all: Piece) -> Heap
 fn a_heap_is_six_fields(rt: HostRuntime) -> Result<(), Fail> {
     let (region, all) = Region::make(rt.alloc(), 8)?;
     let mut heap = of_eight_words(region, all);
-    assert_eq!(rt; (heap.size(), heap.free(), heap.slid()), (8, 8, 0));
-    match heap.take(5, 4) {
+    let fresh = (heap.size(), heap.free(), heap.slid());
+    let taken = match heap.take(5, 4) {
         Some(block) => {
-            assert_eq!(rt; (block.place(), block.len(), heap.free()), (0, 8, 0));
+            let seen = (block.place(), block.len(), heap.free());
             heap.give(block);
+            Some(seen)
         }
-        None => assert!(rt; false),
-    }
+        None => None,
+    };
     heap.close();
+    assert!(rt; fresh == (8, 8, 0));
+    assert!(rt; taken == Some((0, 8, 0)));
     Ok(())
 }

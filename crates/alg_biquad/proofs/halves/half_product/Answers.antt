@@ -8,8 +8,8 @@ pub returns-clause-half : goal.returns-clause-half
 returns-clause-half c =
     let a = c.args.c in
     let b = c.args.v in
-    let ea : to_z w32 (of_z w32 c.from.result) ≡ a = to_z-of_z w32 c.from.result (record { sfits = c.from.type_inv }) ∙ c.from.ensures ∙ to_z-of_z w16 a c.ranges.c in
-    let eb : to_z w32 (of_z w32 c.from-2.result) ≡ b = to_z-of_z w32 c.from-2.result (record { sfits = c.from-2.type_inv }) ∙ c.from-2.ensures ∙ to_z-of_z w16 b c.ranges.v in
+    let ea : to_z w32 (of_z w32 c.from-coefficient.result) ≡ a = to_z-of_z w32 c.from-coefficient.result (record { sfits = c.from-coefficient.type_inv }) ∙ c.from-coefficient.ensures ∙ to_z-of_z w16 a c.ranges.c in
+    let eb : to_z w32 (of_z w32 c.from-word.result) ≡ b = to_z-of_z w32 c.from-word.result (record { sfits = c.from-word.type_inv }) ∙ c.from-word.ensures ∙ to_z-of_z w16 b c.ranges.v in
     let half = half_of_product a b c.requires (nat_abs-le b c.ranges.v.sfits) in
     let small = half.small in
     let fits : SFits w32 (a *ℤ b) = fits_signed_from_abs w32 (a *ℤ b) (omega arith) in
@@ -19,8 +19,8 @@ pub returns-clause-within : goal.returns-clause-within
 returns-clause-within c =
     let a = c.args.c in
     let b = c.args.v in
-    let ea : to_z w32 (of_z w32 c.from.result) ≡ a = to_z-of_z w32 c.from.result (record { sfits = c.from.type_inv }) ∙ c.from.ensures ∙ to_z-of_z w16 a c.ranges.c in
-    let eb : to_z w32 (of_z w32 c.from-2.result) ≡ b = to_z-of_z w32 c.from-2.result (record { sfits = c.from-2.type_inv }) ∙ c.from-2.ensures ∙ to_z-of_z w16 b c.ranges.v in
+    let ea : to_z w32 (of_z w32 c.from-coefficient.result) ≡ a = to_z-of_z w32 c.from-coefficient.result (record { sfits = c.from-coefficient.type_inv }) ∙ c.from-coefficient.ensures ∙ to_z-of_z w16 a c.ranges.c in
+    let eb : to_z w32 (of_z w32 c.from-word.result) ≡ b = to_z-of_z w32 c.from-word.result (record { sfits = c.from-word.type_inv }) ∙ c.from-word.ensures ∙ to_z-of_z w16 b c.ranges.v in
     let half = half_of_product a b c.requires (nat_abs-le b c.ranges.v.sfits) in
     let small = half.small in
     let fits : SFits w32 (a *ℤ b) = fits_signed_from_abs w32 (a *ℤ b) (omega arith) in

@@ -4,8 +4,8 @@ use Rattle.ialg.specs.History.{with_samples}
 use Rattle.fir_kernel.specs.Rings.{IsRing}
 use Rattle.alg_fir.specs.Keeps.{KeepsRing, AreOutputs}
 use Rattle.alg_fir.specs.Decimation.{factor}
-use Rattle.alg_fir.specs.DecimKeeps.{taps_of, coefficients_of, phase}
-use Rattle.alg_fir.proofs.DecimSteps.{is_taken, block_outputs}
+use Rattle.alg_fir.specs.DecimKeeps.{taps_of, coefficients_of}
+use Rattle.alg_fir.proofs.DecimSteps.{is_taken, phase, block_outputs}
 use Rattle.alg_fir.proofs.decimation.run.Goals as goal
 
 -- all words but the first

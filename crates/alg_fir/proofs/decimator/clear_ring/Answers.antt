@@ -14,5 +14,5 @@ pub returns-clause-cleared : goal.returns-clause-cleared
 returns-clause-cleared c taps finds =
     let m = c.args.mem.now in
     let found = c.in-Some.ensures.named decim_kind (decim_records taps) finds.ring scratch_not_once in
-    let v = visited 3 m _ _ c.in-Some.field-0 _ found c.in-Some.ensures.left c.put.ensures.others c.put.ensures.back in
+    let v = visited 3 m _ _ c.in-Some.taken _ found c.in-Some.ensures.left c.put.ensures.others c.put.ensures.back in
     (v.but, λ k. ap (λ b. word_at b.now k) v.written ∙ c.clear.ensures k)

@@ -17,9 +17,9 @@ returns-clause-counted c p before takes finds constants some counted =
     let m = c.args.mem.now in
     let records = decim_records (taps_of p) in
     let found = c.in-Some.ensures.named decim_kind records finds.kept persist_not_once in
-    let v = visited 1 m _ _ c.in-Some.field-0 _ found c.in-Some.ensures.left c.put.ensures.others c.put.ensures.back in
+    let v = visited 1 m _ _ c.in-Some.taken _ found c.in-Some.ensures.left c.put.ensures.others c.put.ensures.back in
     let named = NamedAt-SameBut 1 2 m _ External decim_kind records v.left (λ e. omega arith) (λ e. omega arith) finds.constants in
     let same = ap (λ b. b.now) (v.left.others2 (λ e. omega arith)) in
-    let long : length c.in-Some.field-0.words.now ≡ length m.r1.now = ap (λ b. length b.now) v.taken in
+    let long : length c.in-Some.taken.words.now ≡ length m.r1.now = ap (λ b. length b.now) v.taken in
     let now = c.count_with.ensures p before takes named (same ∙ constants) (omega arith) (ap (λ b. word_at b.now 0) v.taken ∙ counted) in
     (v.but, ap (λ b. word_at b.now 0) v.written ∙ now)

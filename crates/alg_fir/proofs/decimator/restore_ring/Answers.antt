@@ -16,7 +16,7 @@ pub returns-clause-restored : goal.returns-clause-restored
 returns-clause-restored c taps h finds some few size ring past =
     let m = c.args.mem.now in
     let found = c.in-Some.ensures.named decim_kind (decim_records taps) finds.ring scratch_not_once in
-    let v = visited 3 m _ _ c.in-Some.field-0 _ found c.in-Some.ensures.left c.put.ensures.others c.put.ensures.back in
+    let v = visited 3 m _ _ c.in-Some.taken _ found c.in-Some.ensures.left c.put.ensures.others c.put.ensures.back in
     let named = NamedAt-SameBut 3 1 m _ Saram decim_kind (decim_records taps) v.left (λ e. omega arith) (λ e. omega arith) finds.kept in
     let same = ap (λ b. b.now) (v.left.others1 (λ e. omega arith)) in
     let restored = c.restore_from.ensures taps h named some few (ap length same ∙ size) (ap (λ b. length b.now) v.taken ∙ ring)

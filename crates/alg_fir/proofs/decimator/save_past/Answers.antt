@@ -17,7 +17,7 @@ pub returns-clause-saved : goal.returns-clause-saved
 returns-clause-saved c taps h finds some size ring =
     let m = c.args.mem.now in
     let found = c.in-Some.ensures.named decim_kind (decim_records taps) finds.kept persist_not_once in
-    let v = visited 1 m _ _ c.in-Some.field-0 _ found c.in-Some.ensures.left c.put.ensures.others c.put.ensures.back in
+    let v = visited 1 m _ _ c.in-Some.taken _ found c.in-Some.ensures.left c.put.ensures.others c.put.ensures.back in
     let named = NamedAt-SameBut 1 3 m _ Daram decim_kind (decim_records taps) v.left (λ e. omega arith) (λ e. omega arith) finds.ring in
     let same = ap (λ b. b.now) (v.left.others3 (λ e. omega arith)) in
     let now = ap (λ b. b.now) v.written in

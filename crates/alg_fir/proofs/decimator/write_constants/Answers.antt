@@ -14,8 +14,8 @@ returns-clause-written c taps named may size =
     let m = c.args.mem.now in
     let new = c.overwrite.new.words in
     let found = c.in-Some.ensures.named decim_kind (decim_records taps) named (λ once. may) in
-    let v = visited 2 m _ _ c.in-Some.field-0 _ found c.in-Some.ensures.left c.put.ensures.others c.put.ensures.back in
-    let old : length c.in-Some.field-0.words.now ≡ length c.args.p.now = ap (λ b. length b.now) v.taken ∙ size in
+    let v = visited 2 m _ _ c.in-Some.taken _ found c.in-Some.ensures.left c.put.ensures.others c.put.ensures.back in
+    let old : length c.in-Some.taken.words.now ≡ length c.args.p.now = ap (λ b. length b.now) v.taken ∙ size in
     let all : length new ≡ length c.args.p.now = c.overwrite.auto.words ∙ old in
     let whole = sym (take-length new) ∙ ap (λ n. take n new) all ∙ c.overwrite.ensures.first (omega arith) in
     (v.but, ap (λ b. b.now) v.written ∙ whole)

@@ -1,11 +1,11 @@
-use Rattle.std.proofs.Common.{◌≡◌, ◌≢◌, ◌+◌, ◌-◌, ℕ, ℤ, pos, List, length, to_z, w16, rules, arith, sym, ◌∙◌, ap, subst, get_or-set_other}
+use Rattle.std.proofs.Common.{◌≡◌, ◌≢◌, ◌+◌, ◌-◌, ℕ, ℤ, pos, List, length, to_z, w16, arith, sym, ◌∙◌, ap, subst, get_or-set_other}
 use Rattle.std.proofs.Math.ListN.{set}
 use Rattle.std.proofs.lemmas.Int.{to_z_pos}
+use Rattle.std.proofs.lemmas.List.{take_at}
 use Rattle.ialg.specs.History.{word_at, past, with_samples}
 use Rattle.fir_kernel.specs.Rings.{IsRing}
 use Rattle.alg_fir.specs.Keeps.{AreOutputs}
 use Rattle.alg_fir.proofs.Steps.{ran, outputs_are}
-use Rattle.alg_fir.proofs.Words.{first_is}
 use Rattle.alg_fir.proofs.Rings.{placed_at}
 use Rattle.alg_fir.proofs.delay.run_line.Goals as goal
 
@@ -15,16 +15,15 @@ returns-clause-law g c p h in_force taps size ring =
     let cs = c.args.coefficients.now in
     let words = c.args.ring.now in
     let ys = c.filter.new.out in
-    let room = c.make_room.new.out.items in
     let line = c.place.new.words in
     let entered = c.enter-after.new.words in
     let after = c.enter-after.result in
     let some = c.requires.some in
-    let long : length room ≡ c.args.taken.count = search rules in
     let d = length cs - 1 in
     let count : length cs ≡ d + 1 = omega arith in
     let coefficients : length p ≡ d + 1 = omega arith in
-    let many : length ys ≡ length room = c.filter.auto.out ∙ ap length c.as_mut_slice.ensures.value in
+    let many : length ys ≡ c.args.taken.count = c.filter.auto.out ∙ c.split_at_mut-outputs.ensures.front_len in
+    let written = take_at ys c.split_at_mut-outputs.result.1.now (length c.set_len.new.self.items) (many ∙ sym c.set_len.ensures.len) in
     let less : length p - 1 ≡ d = omega arith in
     let before_ring : IsRing d (length words - 1) words c.args.next h = subst (λ n. IsRing n (length words - 1) words c.args.next h) less ring in
     let before : (j k : ℕ) → j + k + 1 ≡ d → word_at line j ≡ past h k =
@@ -40,7 +39,7 @@ returns-clause-law g c p h in_force taps size ring =
     let keeps = placed_at (length p) (with_samples h xs) entered after (length words - 1) (to_z w16 after) last small (all ∙ size) after_ring in
     let P : List ℤ → Type 0 = λ zs. AreOutputs p h xs c.args.taken.first c.args.taken.step zs in (
       ran p h xs cs line d coefficients count in_force before c.place.ensures.copied new c.place.ensures.read keeps,
-      subst P (sym (first_is ys room many))
+      subst P (sym written)
           (outputs_are p h xs cs line d coefficients count in_force before c.place.ensures.copied ys c.args.taken.first c.args.taken.step
           (λ i b. c.requires.reach i (omega arith)) (λ i b. c.filter.ensures i (omega arith))),
     )

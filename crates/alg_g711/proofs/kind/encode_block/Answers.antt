@@ -1,12 +1,13 @@
-use Rattle.std.proofs.Common.{◌≡◌, ◌∙◌, ap, length, rules}
+use Rattle.std.proofs.Common.{◌≡◌, ◌∙◌, length, sym}
+use Rattle.std.proofs.lemmas.List.{take_at}
 use Rattle.alg_g711.specs.declared.coder.Direction.TheVariants.{Encode}
 use Rattle.alg_g711.specs.Meaning.{coded}
-use Rattle.alg_g711.proofs.Outputs.{given_block}
+use Rattle.alg_g711.proofs.Outputs.{is_map}
 use Rattle.alg_g711.proofs.kind.encode_block.Goals as goal
 
 pub returns-clause-given : goal.returns-clause-given
 returns-clause-given c =
-    let room = c.try_extend_from_slice-fits.new.self.items in
-    let long : length room ≡ length c.args.input.now = search rules in
-    given_block (coded c.args.law Encode) c.args.input.now room c.encode_words.new.codes long
-    (c.encode_words.auto.codes ∙ ap length c.as_mut_slice.ensures.value) c.encode_words.ensures.codes
+    let codes = c.encode_words.new.codes in
+    let many : length codes ≡ length c.args.input.now = c.encode_words.auto.codes ∙ c.split_at_mut-codes.ensures.front_len in
+    take_at codes c.split_at_mut-codes.result.1.now (length c.set_len.new.self.items) (many ∙ sym c.set_len.ensures.len)
+    ∙ is_map (coded c.args.law Encode) c.args.input.now codes many c.encode_words.ensures.codes

@@ -11,5 +11,5 @@ returns-in_default-clause-samples c named writable size =
 pub returns-clause-samples : goal.returns-clause-samples
 returns-clause-samples c named writable size =
     let found = c.in-Some.ensures.named (kind_word c.args.law Decode) (records_of Decode) named (λ e. writable) in
-    let v = visit 1 c.args.mem.now _ _ c.in-Some.field-0 _ found (lit< tt) (λ e. omega arith) c.in-Some.ensures.left c.put.ensures.others c.put.ensures.back in
+    let v = visit 1 c.args.mem.now _ _ c.in-Some.taken _ found (lit< tt) (λ e. omega arith) c.in-Some.ensures.left c.put.ensures.others c.put.ensures.back in
     v.written.written ∙ c.write_samples.ensures (ap (λ r. length r.now) v.taken ∙ size)

@@ -4,15 +4,15 @@ use Rattle.std.proofs.Math.Nat.{mul-le-mul}
 use Rattle.std.proofs.lemmas.Int.{to_z-of_z, fits_signed_mul, unsigned_abs-mul}
 use Rattle.basic_op.proofs.wide.product.Goals as goal
 
-first_is : (c : goal.After-from-2) → to_z w32 (of_z w32 c.from.result) ≡ c.args.a
+first_is : (c : goal.After-from-second) → to_z w32 (of_z w32 c.from-first.result) ≡ c.args.a
 first_is c =
-    to_z-of_z w32 c.from.result (record { sfits = c.from.type_inv }) ∙ c.from.ensures ∙ to_z-of_z w16 c.args.a c.ranges.a
+    to_z-of_z w32 c.from-first.result (record { sfits = c.from-first.type_inv }) ∙ c.from-first.ensures ∙ to_z-of_z w16 c.args.a c.ranges.a
 
-second_is : (c : goal.After-from-2) → to_z w32 (of_z w32 c.from-2.result) ≡ c.args.b
+second_is : (c : goal.After-from-second) → to_z w32 (of_z w32 c.from-second.result) ≡ c.args.b
 second_is c =
-    to_z-of_z w32 c.from-2.result (record { sfits = c.from-2.type_inv }) ∙ c.from-2.ensures ∙ to_z-of_z w16 c.args.b c.ranges.b
+    to_z-of_z w32 c.from-second.result (record { sfits = c.from-second.type_inv }) ∙ c.from-second.ensures ∙ to_z-of_z w16 c.args.b c.ranges.b
 
-fits : (c : goal.After-from-2) → SFits w32 (c.args.a *ℤ c.args.b)
+fits : (c : goal.After-from-second) → SFits w32 (c.args.a *ℤ c.args.b)
 fits c =
     fits_signed_mul w32 c.args.a c.args.b (2 ^ 15) (2 ^ 15) (nat_abs-le c.args.a c.ranges.a.sfits) (nat_abs-le c.args.b c.ranges.b.sfits) (lit< tt)
 

@@ -7,7 +7,7 @@ use Rattle.dsp_library.proofs.handle.new_machine.Goals as goal
 -- the laws of the kinds as one record are those of their set
 pub returns-in-Ok-new-clause-keeps : goal.returns-in-Ok-new-clause-keeps
 returns-in-Ok-new-clause-keeps c =
-    let kept : Keeps c.new-2.result (record { host = new_state c.args.sizes c.args.poison; chained = replicate c.args.channels [] }) =
-    c.new-2.ensures.keeps _ c.in-Ok.ensures.host in
-    let same : c.in-Ok-new.machine.value ≡ record { channels = c.new-2.result; given = c.new-3.result } = c.in-Ok-new.ensures.ok in
+    let kept : Keeps c.new-channels.result (record { host = new_state c.args.sizes c.args.poison; chained = replicate c.args.channels [] }) =
+    c.new-channels.ensures.keeps _ c.in-Ok.ensures.host in
+    let same : c.in-Ok-new.machine.value ≡ record { channels = c.new-channels.result; given = c.new-given.result } = c.in-Ok-new.ensures.ok in
     subst (λ (m : MachineOf). Keeps m.channels (record { host = new_state c.args.sizes c.args.poison; chained = replicate c.args.channels [] })) (sym same) kept

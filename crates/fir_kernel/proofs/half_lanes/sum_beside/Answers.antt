@@ -37,11 +37,18 @@ returns c =
     let all : taps ≡ length cs = omega arith in
     let old = c.args.sums.now in
     let none = none_written cs line old first at c.requires.halves in
-    let one = four_written cs line old _ c.write.new.sums _ first at 0 taps at first all (omega arith) (omega arith) none c.write.ensures i.a in
-    let two = four_written cs line old _ c.write-2.new.sums _ first at 4 taps (at + 4) (first + 4) all (omega arith) (omega arith) one c.write-2.ensures i.b in
-    let three = four_written cs line old _ c.write-3.new.sums _ first at 8 taps (at + 8) (first + 8) all (omega arith) (omega arith) two c.write-3.ensures i.c in
-    let more = four_written cs line old _ c.write-4.new.sums _ first at 12 taps (at + 12) (first + 12) all (omega arith) (omega arith) three c.write-4.ensures i.d in
-    let five = four_written cs line old _ c.write-5.new.sums _ first at 16 taps (at + 16) (first + 16) all (omega arith) (omega arith) more c.write-5.ensures i.e in
-    let six = four_written cs line old _ c.write-6.new.sums _ first at 20 taps (at + 20) (first + 20) all (omega arith) (omega arith) five c.write-6.ensures i.f in
-    let seven = four_written cs line old _ c.write-7.new.sums _ first at 24 taps (at + 24) (first + 24) all (omega arith) (omega arith) six c.write-7.ensures i.g in
-    four_written cs line old _ c.write-8.new.sums _ first at 28 taps (at + 28) (first + 28) all (omega arith) (omega arith) seven c.write-8.ensures i.h
+    let one = four_written cs line old _ c.write-second.new.sums _ first at 0 taps at first all (omega arith) (omega arith) none c.write-second.ensures.written i.a in
+    let at4 : c.write-second.result ≡ at + 4 = c.write-second.ensures.next in
+    let two = four_written cs line old _ c.write-third.new.sums _ first at 4 taps c.write-second.result (first + 4) all at4 (omega arith) one c.write-third.ensures.written i.b in
+    let at8 : c.write-third.result ≡ at + 8 = omega (arith, c.write-third.ensures.next, at4) in
+    let three = four_written cs line old _ c.write-fourth.new.sums _ first at 8 taps c.write-third.result (first + 8) all at8 (omega arith) two c.write-fourth.ensures.written i.c in
+    let at12 : c.write-fourth.result ≡ at + 12 = omega (arith, c.write-fourth.ensures.next, at8) in
+    let more = four_written cs line old _ c.write-fifth.new.sums _ first at 12 taps c.write-fourth.result (first + 12) all at12 (omega arith) three c.write-fifth.ensures.written i.d in
+    let at16 : c.write-fifth.result ≡ at + 16 = omega (arith, c.write-fifth.ensures.next, at12) in
+    let five = four_written cs line old _ c.write-sixth.new.sums _ first at 16 taps c.write-fifth.result (first + 16) all at16 (omega arith) more c.write-sixth.ensures.written i.e in
+    let at20 : c.write-sixth.result ≡ at + 20 = omega (arith, c.write-sixth.ensures.next, at16) in
+    let six = four_written cs line old _ c.write-seventh.new.sums _ first at 20 taps c.write-sixth.result (first + 20) all at20 (omega arith) five c.write-seventh.ensures.written i.f in
+    let at24 : c.write-seventh.result ≡ at + 24 = omega (arith, c.write-seventh.ensures.next, at20) in
+    let seven = four_written cs line old _ c.write-eighth.new.sums _ first at 24 taps c.write-seventh.result (first + 24) all at24 (omega arith) six c.write-eighth.ensures.written i.g in
+    let at28 : c.write-eighth.result ≡ at + 28 = omega (arith, c.write-eighth.ensures.next, at24) in
+    four_written cs line old _ c.write-end.new.sums _ first at 28 taps c.write-eighth.result (first + 28) all at28 (omega arith) seven c.write-end.ensures.written i.h

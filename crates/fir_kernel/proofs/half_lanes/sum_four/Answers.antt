@@ -18,4 +18,4 @@ returns c =
     let taps = length cs % 2 + 2 * c.loop-pair.pair in
     let all : taps ≡ length cs = omega arith in
     let none = none_written cs line old first at c.requires.halves in
-    four_written cs line old _ c.write.new.sums _ first at 0 taps at first all (omega arith) (omega arith) none c.write.ensures c.loop-pair.invariant
+    four_written cs line old _ c.write-end.new.sums _ first at 0 taps at first all (omega arith) (omega arith) none c.write-end.ensures.written c.loop-pair.invariant

@@ -1,7 +1,7 @@
 use Rattle.fir_kernel.proofs.HalfLanes.{halves_fit, kept_lanes, put_lanes}
 use Rattle.fir_kernel.proofs.half_lanes.write.Goals as goal
 
-pub returns : goal.returns
-returns c =
+pub returns-clause-written : goal.returns-clause-written
+returns-clause-written c =
     let halves = c.args.halves in
     rw (kept_lanes halves (halves_fit halves c.requires.within)) (put_lanes halves c.args.sums.now c.args.at c.requires.four c.requires.room)

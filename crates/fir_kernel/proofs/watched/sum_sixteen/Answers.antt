@@ -86,45 +86,45 @@ loop-group-preserved c =
       ];
     }
 
-pub write-requires-clause-within : goal.write-requires-clause-within
-write-requires-clause-within c =
+pub write-second-requires-clause-within : goal.write-second-requires-clause-within
+write-second-requires-clause-within c =
     let cs = c.args.coefficients.now in
     let line = c.args.line.now in
     let first = c.args.first in
     let i = c.loop-group.invariant in
     let taps = length cs % 8 + 8 * c.loop-group.group in
     let ab = between cs line _ first (first + 1) taps (omega arith) i.b in
-    (halved_kept c.low_of.result _ (c.low_of.ensures (λ j. taps_sum cs line taps (first + j)) i.a ab)).within
+    (halved_kept c.low_of-first_sums.result _ (c.low_of-first_sums.ensures (λ j. taps_sum cs line taps (first + j)) i.a ab)).within
 
-pub write-requires-2-clause-within : goal.write-requires-2-clause-within
-write-requires-2-clause-within c =
+pub write-third-requires-clause-within : goal.write-third-requires-clause-within
+write-third-requires-clause-within c =
     let cs = c.args.coefficients.now in
     let line = c.args.line.now in
     let first = c.args.first in
     let i = c.loop-group.invariant in
     let taps = length cs % 8 + 8 * c.loop-group.group in
     let ab = between cs line _ first (first + 1) taps (omega arith) i.b in
-    (halved_kept c.high_of.result _ (c.high_of.ensures (λ j. taps_sum cs line taps (first + j)) i.a ab)).within
+    (halved_kept c.high_of-second_sums.result _ (c.high_of-second_sums.ensures (λ j. taps_sum cs line taps (first + j)) i.a ab)).within
 
-pub write-requires-3-clause-within : goal.write-requires-3-clause-within
-write-requires-3-clause-within c =
+pub write-fourth-requires-clause-within : goal.write-fourth-requires-clause-within
+write-fourth-requires-clause-within c =
     let cs = c.args.coefficients.now in
     let line = c.args.line.now in
     let first = c.args.first in
     let i = c.loop-group.invariant in
     let taps = length cs % 8 + 8 * c.loop-group.group in
     let ab = between cs line _ (first + 8) (first + 9) taps (omega arith) i.d in
-    (halved_kept c.low_of-2.result _ (c.low_of-2.ensures (λ j. taps_sum cs line taps (first + 8 + j)) i.c ab)).within
+    (halved_kept c.low_of-third_sums.result _ (c.low_of-third_sums.ensures (λ j. taps_sum cs line taps (first + 8 + j)) i.c ab)).within
 
-pub write-requires-4-clause-within : goal.write-requires-4-clause-within
-write-requires-4-clause-within c =
+pub write-end-requires-clause-within : goal.write-end-requires-clause-within
+write-end-requires-clause-within c =
     let cs = c.args.coefficients.now in
     let line = c.args.line.now in
     let first = c.args.first in
     let i = c.loop-group.invariant in
     let taps = length cs % 8 + 8 * c.loop-group.group in
     let ab = between cs line _ (first + 8) (first + 9) taps (omega arith) i.d in
-    (halved_kept c.high_of-2.result _ (c.high_of-2.ensures (λ j. taps_sum cs line taps (first + 8 + j)) i.c ab)).within
+    (halved_kept c.high_of-fourth_sums.result _ (c.high_of-fourth_sums.ensures (λ j. taps_sum cs line taps (first + 8 + j)) i.c ab)).within
 
 pub returns : goal.returns
 returns c =
@@ -138,12 +138,15 @@ returns c =
     let old = c.args.sums.now in
     let ab = between cs line _ first (first + 1) taps (omega arith) i.b in
     let cd = between cs line _ (first + 8) (first + 9) taps (omega arith) i.d in
-    let a = halved_kept c.low_of.result _ (c.low_of.ensures (λ j. taps_sum cs line taps (first + j)) i.a ab) in
-    let b = halved_kept c.high_of.result _ (ahead cs line c.high_of.result first (first + 4) taps (omega arith) (c.high_of.ensures (λ j. taps_sum cs line taps (first + j)) i.a ab)) in
-    let e = halved_kept c.low_of-2.result _ (c.low_of-2.ensures (λ j. taps_sum cs line taps (first + 8 + j)) i.c cd) in
-    let d = halved_kept c.high_of-2.result _ (ahead cs line c.high_of-2.result (first + 8) (first + 12) taps (omega arith) (c.high_of-2.ensures (λ j. taps_sum cs line taps (first + 8 + j)) i.c cd)) in
+    let a = halved_kept c.low_of-first_sums.result _ (c.low_of-first_sums.ensures (λ j. taps_sum cs line taps (first + j)) i.a ab) in
+    let b = halved_kept c.high_of-second_sums.result _ (ahead cs line c.high_of-second_sums.result first (first + 4) taps (omega arith) (c.high_of-second_sums.ensures (λ j. taps_sum cs line taps (first + j)) i.a ab)) in
+    let e = halved_kept c.low_of-third_sums.result _ (c.low_of-third_sums.ensures (λ j. taps_sum cs line taps (first + 8 + j)) i.c cd) in
+    let d = halved_kept c.high_of-fourth_sums.result _ (ahead cs line c.high_of-fourth_sums.result (first + 8) (first + 12) taps (omega arith) (c.high_of-fourth_sums.ensures (λ j. taps_sum cs line taps (first + 8 + j)) i.c cd)) in
     let none = none_written cs line old first at c.requires.halves in
-    let one = four_written cs line old _ c.write.new.sums _ first at 0 taps at first all (omega arith) (omega arith) none c.write.ensures a in
-    let two = four_written cs line old _ c.write-2.new.sums _ first at 4 taps (at + 4) (first + 4) all (omega arith) (omega arith) one c.write-2.ensures b in
-    let three = four_written cs line old _ c.write-3.new.sums _ first at 8 taps (at + 8) (first + 8) all (omega arith) (omega arith) two c.write-3.ensures e in
-    four_written cs line old _ c.write-4.new.sums _ first at 12 taps (at + 12) (first + 12) all (omega arith) (omega arith) three c.write-4.ensures d
+    let one = four_written cs line old _ c.write-second.new.sums _ first at 0 taps at first all (omega arith) (omega arith) none c.write-second.ensures.written a in
+    let at4 : c.write-second.result ≡ at + 4 = c.write-second.ensures.next in
+    let two = four_written cs line old _ c.write-third.new.sums _ first at 4 taps c.write-second.result (first + 4) all at4 (omega arith) one c.write-third.ensures.written b in
+    let at8 : c.write-third.result ≡ at + 8 = omega (arith, c.write-third.ensures.next, at4) in
+    let three = four_written cs line old _ c.write-fourth.new.sums _ first at 8 taps c.write-third.result (first + 8) all at8 (omega arith) two c.write-fourth.ensures.written e in
+    let at12 : c.write-fourth.result ≡ at + 12 = omega (arith, c.write-fourth.ensures.next, at8) in
+    four_written cs line old _ c.write-end.new.sums _ first at 12 taps c.write-fourth.result (first + 12) all at12 (omega arith) three c.write-end.ensures.written d

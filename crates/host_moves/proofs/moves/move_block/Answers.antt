@@ -52,5 +52,5 @@ returns g c =
       sizes = same_sizes _ _ c.make_move-moved.ensures.regions;
       copied = words_copied (blocks_in (map_of c.args.spaces.now) c.args.space) _ _ _ _ c.in-Some.piece
           (next_is _ _ _ _ _ c.args.g c.args.align (rw (← c.tables.view_is) at c.requires.ok) (rw (← c.tables.view_is) at c.requires.standing) c.requires.next c.requires.align _ (sym c.take_block.ensures.old ∙ c.in-Some.is)) c.make_move-moved.ensures.copied;
-      keeps = λ w histories before. c.call_moved_in_group.ensures.keeps w histories (words_seen g.M.Ialg.law w histories _ _ _ _ _ _ (rw (← c.tables.view_is) at c.requires.ok) words before);
+      keeps = λ w histories before. c.call_moved_in_group.ensures.keeps w histories (words_seen g.M.Ialg.law w histories (rw (← c.tables.view_is) at c.requires.ok) words before);
     })

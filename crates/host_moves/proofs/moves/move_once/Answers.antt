@@ -82,5 +82,5 @@ returns g c =
       map = c.make_move-moved.ensures.map;
       sizes = same_sizes _ _ c.make_move-moved.ensures.regions;
       copied = words_copied (blocks_in (map_of c.args.spaces.now) c.args.space) _ _ _ _ c.take_to_move-piece.result (next_is _ _ _ _ _ c.args.i c.args.k _ (rw (← c.tables.view_is) at c.requires.ok) (rw (← c.tables.view_is) at c.requires.standing) c.requires.next (rw (← c.tables.view_is) at c.requires.number) c.take_to_move-piece.ensures.piece) c.make_move-moved.ensures.copied;
-      keeps = λ w histories before. keeps w histories (words_seen g.M.Ialg.law w histories _ _ _ _ _ _ (rw (← c.tables.view_is) at c.requires.ok) words before);
+      keeps = λ w histories before. keeps w histories (words_seen g.M.Ialg.law w histories (rw (← c.tables.view_is) at c.requires.ok) words before);
     })

@@ -21,7 +21,7 @@ use Rattle.host_table.proofs.Told.{told_member}
 use Rattle.host_moves.proofs.Owns.{member_back}
 use Rattle.host_moves.proofs.Tells.{ok_of_idle, waiting_of_idle, same_of_idle, keeps_of_idle, ok_of_active, waiting_of_active, same_of_active, keeps_of_active}
 use Rattle.host_moves.proofs.told.tell.Goals as goal
-use Rattle.host_moves.proofs.told.tell.Goals.{After-tables-1, After-tables-in-Running-2-1}
+use Rattle.host_moves.proofs.told.tell.Goals.{After-follow, After-follow_active}
 use Rattle.host_moves.proofs.told.tell.Given.{Over}
 
 pub follow-requires-clause-fits : goal.follow-requires-clause-fits
@@ -43,7 +43,7 @@ pub follow_active-requires-clause-owners : goal.follow_active-requires-clause-ow
 follow_active-requires-clause-owners g c = owners_in _ _ _ (rw (← c.tables.view_is) at c.requires.there) c.args.i c.requires.number
 
 -- an idle instance
-module _ (g : Over) (c : After-tables-1 g) where
+module _ (g : Over) (c : After-follow g) where
   idle_in_slot : slot_at c.tables.inside.instances.items c.args.i ≡ Some c.in-Some.member
   idle_in_slot = read_ok_slot _ _ _ (rw (← c.tables.view_is) at c.requires.there) c.args.i c.requires.number _ c.index_mut.ensures.value ∙ c.in-Some.is
 
@@ -74,39 +74,43 @@ module _ (g : Over) (c : After-tables-1 g) where
 
 pub returns-in-Idling-clause-ok : goal.returns-in-Idling-clause-ok
 returns-in-Idling-clause-ok g c =
+    let d = (goal.at.returns-in-Idling-clause-ok g c).After-follow in
     rw (← c.tables.view_is)
     (λ before.
     rw c.follow.ensures.seen
-    (ok_of_idle _ _ _ c.args.i c.in-Some.member c.args.back (rw (← c.tables.view_is) at c.requires.there) (idle_in_slot g c) c.requires.number (record { group = c.in-Some.member.group; inst = Idling c.follow.new.idle }) _ (idle_was g c) refl
-    (idle_same g c) (idle_pieces g c) (idle_written g c) (idle_range g c) (idle_housed g c) before))
+    (ok_of_idle _ _ _ c.args.i c.in-Some.member c.args.back (rw (← c.tables.view_is) at c.requires.there) (idle_in_slot g d) c.requires.number (record { group = c.in-Some.member.group; inst = Idling c.follow.new.idle }) _ (idle_was g d) refl
+    (idle_same g d) (idle_pieces g d) (idle_written g d) (idle_range g d) (idle_housed g d) before))
 
 pub returns-in-Idling-clause-waiting : goal.returns-in-Idling-clause-waiting
 returns-in-Idling-clause-waiting g c =
+    let d = (goal.at.returns-in-Idling-clause-waiting g c).After-follow in
     rw (← c.tables.view_is)
     (λ waits before.
     rw c.follow.ensures.seen
-    (waiting_of_idle _ _ _ c.args.i c.in-Some.member c.args.back (rw (← c.tables.view_is) at c.requires.there) (idle_in_slot g c) c.requires.number (record { group = c.in-Some.member.group; inst = Idling c.follow.new.idle }) _ (idle_was g c) refl
-    (idle_same g c) (idle_pieces g c) (idle_written g c) (idle_range g c) (idle_housed g c) waits before))
+    (waiting_of_idle _ _ _ c.args.i c.in-Some.member c.args.back (rw (← c.tables.view_is) at c.requires.there) (idle_in_slot g d) c.requires.number (record { group = c.in-Some.member.group; inst = Idling c.follow.new.idle }) _ (idle_was g d) refl
+    (idle_same g d) (idle_pieces g d) (idle_written g d) (idle_range g d) (idle_housed g d) waits before))
 
 pub returns-in-Idling-clause-same : goal.returns-in-Idling-clause-same
 returns-in-Idling-clause-same g c =
+    let d = (goal.at.returns-in-Idling-clause-same g c).After-follow in
     rw (← c.tables.view_is)
     (rw c.follow.ensures.seen
-    (same_of_idle _ _ _ c.args.i c.in-Some.member c.args.back (rw (← c.tables.view_is) at c.requires.there) (idle_in_slot g c) c.requires.number (record { group = c.in-Some.member.group; inst = Idling c.follow.new.idle }) _ (idle_was g c) refl
-    (idle_same g c) (idle_pieces g c) (idle_written g c)))
+    (same_of_idle _ _ _ c.args.i c.in-Some.member c.args.back (rw (← c.tables.view_is) at c.requires.there) (idle_in_slot g d) c.requires.number (record { group = c.in-Some.member.group; inst = Idling c.follow.new.idle }) _ (idle_was g d) refl
+    (idle_same g d) (idle_pieces g d) (idle_written g d)))
 
 pub returns-in-Idling-clause-keeps : goal.returns-in-Idling-clause-keeps
 returns-in-Idling-clause-keeps g c =
+    let d = (goal.at.returns-in-Idling-clause-keeps g c).After-follow in
     rw (← c.tables.view_is)
     (λ w histories keeps.
     rw c.follow.ensures.seen
-    (keeps_of_idle _ _ _ c.args.i c.in-Some.member c.args.back (rw (← c.tables.view_is) at c.requires.there) (idle_in_slot g c) c.requires.number (record { group = c.in-Some.member.group; inst = Idling c.follow.new.idle }) _ (idle_was g c) refl
-    (idle_same g c) (idle_pieces g c) (idle_written g c)
+    (keeps_of_idle _ _ _ c.args.i c.in-Some.member c.args.back (rw (← c.tables.view_is) at c.requires.there) (idle_in_slot g d) c.requires.number (record { group = c.in-Some.member.group; inst = Idling c.follow.new.idle }) _ (idle_was g d) refl
+    (idle_same g d) (idle_pieces g d) (idle_written g d)
     g.M.Ialg.law w histories
     (λ before. c.follow.ensures.follows.keeps w (histories c.args.i) (rw c.in-Idling.is at before)) keeps))
 
 -- an active instance
-module _ (g : Over) (c : After-tables-in-Running-2-1 g) where
+module _ (g : Over) (c : After-follow_active g) where
   active_in_slot : slot_at c.tables.inside.instances.items c.args.i ≡ Some c.in-Some.member
   active_in_slot = read_ok_slot _ _ _ (rw (← c.tables.view_is) at c.requires.there) c.args.i c.requires.number _ c.index_mut.ensures.value ∙ c.in-Some.is
 
@@ -150,50 +154,56 @@ module _ (g : Over) (c : After-tables-in-Running-2-1 g) where
 
 pub returns-in-Running-clause-ok : goal.returns-in-Running-clause-ok
 returns-in-Running-clause-ok g c =
+    let d = (goal.at.returns-in-Running-clause-ok g c).After-follow_active in
     rw (← c.tables.view_is)
     (λ before.
     rw c.follow_active.ensures.seen
-    (ok_of_active _ _ _ c.args.i c.in-Some.member c.args.back (rw (← c.tables.view_is) at c.requires.there) (active_in_slot g c) c.requires.number (Running c.follow_active.new.active) _ _ (active_alone g c) (active_now g c) (active_same g c) (active_pieces g c) (active_written g c) (active_blocks g c)
+    (ok_of_active _ _ _ c.args.i c.in-Some.member c.args.back (rw (← c.tables.view_is) at c.requires.there) (active_in_slot g d) c.requires.number (Running c.follow_active.new.active) _ _ (active_alone g d) (active_now g d) (active_same g d) (active_pieces g d) (active_written g d) (active_blocks g d)
     (rw (
-      lent_here c.tables.inside.sharing.items c.args.i (active_owners g c) (shared_at c.follow_active.new.sharing.items c.args.i),
-      get_or-set_same c.tables.inside.groups.items c.in-Some.member.group c.follow_active.new.group no_group (omega (arith, (active_range g c), (rw (← c.tables.view_is) at c.requires.there).group_count)),
-    ) (active_housed g c)) before))
+      lent_here c.tables.inside.sharing.items c.args.i (active_owners g d) (shared_at c.follow_active.new.sharing.items c.args.i),
+      get_or-set_same c.tables.inside.groups.items c.in-Some.member.group c.follow_active.new.group no_group (omega (arith, (active_range g d), (rw (← c.tables.view_is) at c.requires.there).group_count)),
+    ) (active_housed g d)) before))
 
 pub returns-in-Running-clause-waiting : goal.returns-in-Running-clause-waiting
 returns-in-Running-clause-waiting g c =
+    let d = (goal.at.returns-in-Running-clause-waiting g c).After-follow_active in
     rw (← c.tables.view_is)
     (λ waits before.
     rw c.follow_active.ensures.seen
-    (waiting_of_active _ _ _ c.args.i c.in-Some.member c.args.back (rw (← c.tables.view_is) at c.requires.there) (active_in_slot g c) c.requires.number (Running c.follow_active.new.active) _ _ (active_alone g c) (active_now g c) (active_same g c) (active_pieces g c) (active_written g c) (active_blocks g c)
+    (waiting_of_active _ _ _ c.args.i c.in-Some.member c.args.back (rw (← c.tables.view_is) at c.requires.there) (active_in_slot g d) c.requires.number (Running c.follow_active.new.active) _ _ (active_alone g d) (active_now g d) (active_same g d) (active_pieces g d) (active_written g d) (active_blocks g d)
     (rw (
-      lent_here c.tables.inside.sharing.items c.args.i (active_owners g c) (shared_at c.follow_active.new.sharing.items c.args.i),
-      get_or-set_same c.tables.inside.groups.items c.in-Some.member.group c.follow_active.new.group no_group (omega (arith, (active_range g c), (rw (← c.tables.view_is) at c.requires.there).group_count)),
-    ) (active_housed g c)) waits before))
+      lent_here c.tables.inside.sharing.items c.args.i (active_owners g d) (shared_at c.follow_active.new.sharing.items c.args.i),
+      get_or-set_same c.tables.inside.groups.items c.in-Some.member.group c.follow_active.new.group no_group (omega (arith, (active_range g d), (rw (← c.tables.view_is) at c.requires.there).group_count)),
+    ) (active_housed g d)) waits before))
 
 pub returns-in-Running-clause-inactive : goal.returns-in-Running-clause-inactive
 returns-in-Running-clause-inactive g c =
+    let d = (goal.at.returns-in-Running-clause-inactive g c).After-follow_active in
     rw (← c.tables.view_is)
     (inactive_beside c.tables.inside.groups.items c.in-Some.member.group c.args.i c.follow_active.new.group
-    ((rw (← c.tables.view_is) at c.requires.there).active_known c.in-Some.member.group c.args.i (ap slot_active_in (active_in_slot g c) ∙ rw c.in-Running.is refl)))
+    ((rw (← c.tables.view_is) at c.requires.there).active_known c.in-Some.member.group c.args.i (ap slot_active_in (active_in_slot g d) ∙ rw c.in-Running.is refl)))
 
 pub returns-in-Running-clause-same : goal.returns-in-Running-clause-same
 returns-in-Running-clause-same g c =
+    let d = (goal.at.returns-in-Running-clause-same g c).After-follow_active in
     rw (← c.tables.view_is)
     (rw c.follow_active.ensures.seen
-    (same_of_active _ _ _ c.args.i c.in-Some.member c.args.back (rw (← c.tables.view_is) at c.requires.there) (active_in_slot g c) c.requires.number (Running c.follow_active.new.active) _ _ (active_alone g c) (active_now g c) (active_same g c) (active_pieces g c) (active_written g c) (active_blocks g c)))
+    (same_of_active _ _ _ c.args.i c.in-Some.member c.args.back (rw (← c.tables.view_is) at c.requires.there) (active_in_slot g d) c.requires.number (Running c.follow_active.new.active) _ _ (active_alone g d) (active_now g d) (active_same g d) (active_pieces g d) (active_written g d) (active_blocks g d)))
 
 pub returns-in-Running-clause-activity : goal.returns-in-Running-clause-activity
 returns-in-Running-clause-activity g c =
+    let d = (goal.at.returns-in-Running-clause-activity g c).After-follow_active in
     rw (← c.tables.view_is)
     (λ k.
-    group_change c.tables.inside.groups.items c.in-Some.member.group _ (omega (arith, (active_range g c), (rw (← c.tables.view_is) at c.requires.there).group_count)) k
-    ∙ activity_stays (activity_at c.tables.inside.groups.items) c.in-Some.member.group _ (rw (active_group_is g c) c.follow_active.ensures.follows.group.active) (rw (active_group_is g c) c.follow_active.ensures.follows.group.activations) k)
+    group_change c.tables.inside.groups.items c.in-Some.member.group _ (omega (arith, (active_range g d), (rw (← c.tables.view_is) at c.requires.there).group_count)) k
+    ∙ activity_stays (activity_at c.tables.inside.groups.items) c.in-Some.member.group _ (rw (active_group_is g d) c.follow_active.ensures.follows.group.active) (rw (active_group_is g d) c.follow_active.ensures.follows.group.activations) k)
 
 pub returns-in-Running-clause-keeps : goal.returns-in-Running-clause-keeps
 returns-in-Running-clause-keeps g c =
+    let d = (goal.at.returns-in-Running-clause-keeps g c).After-follow_active in
     rw (← c.tables.view_is)
     (λ w histories keeps.
     rw c.follow_active.ensures.seen
-    (keeps_of_active _ _ _ c.args.i c.in-Some.member c.args.back (rw (← c.tables.view_is) at c.requires.there) (active_in_slot g c) c.requires.number (Running c.follow_active.new.active) _ _ (active_alone g c) (active_now g c) (active_same g c) (active_pieces g c) (active_written g c) (active_blocks g c)
+    (keeps_of_active _ _ _ c.args.i c.in-Some.member c.args.back (rw (← c.tables.view_is) at c.requires.there) (active_in_slot g d) c.requires.number (Running c.follow_active.new.active) _ _ (active_alone g d) (active_now g d) (active_same g d) (active_pieces g d) (active_written g d) (active_blocks g d)
     g.M.Ialg.law w histories
-    (λ before. c.follow_active.ensures.follows.keeps w (histories c.args.i) (rw (active_group_is g c, c.in-Running.is) at before)) keeps))
+    (λ before. c.follow_active.ensures.follows.keeps w (histories c.args.i) (rw (active_group_is g d, c.in-Running.is) at before)) keeps))

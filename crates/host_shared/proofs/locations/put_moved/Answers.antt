@@ -1,4 +1,4 @@
-use Rattle.std.proofs.Common.{◌≡◌, ℕ, Some, sym, ◌∙◌, ap}
+use Rattle.std.proofs.Common.{ℕ, Some, sym, ◌∙◌, ap}
 use Rattle.host_shared.specs.declared.locations.Location.TheVariants.{Here}
 use Rattle.host_shared.specs.Owners.{set_location}
 use Rattle.host_shared.proofs.Bare.{over_put}

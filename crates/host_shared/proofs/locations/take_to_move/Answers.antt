@@ -1,4 +1,4 @@
-use Rattle.std.proofs.Common.{◌≡◌, ℕ, None, sym, ◌∙◌, ap}
+use Rattle.std.proofs.Common.{ℕ, None, sym, ◌∙◌, ap}
 use Rattle.record_loans.specs.Pieces.{with_piece}
 use Rattle.host_shared.specs.declared.locations.Location.TheVariants.{Here}
 use Rattle.host_shared.specs.Locations.{shared_at}

@@ -1,13 +1,11 @@
-use Rattle.std.proofs.Common.{◌≡◌, ℕ, IsTrue, List, [], Some, None, rules, set, set-set, get_or-set_other, slice_index_or, sym, ap, subst, ◌∙◌, arith}
+use Rattle.std.proofs.Common.{◌≡◌, ℕ, IsTrue, [], Some, None, rules, set, set-set, get_or-set_other, sym, ap, subst, ◌∙◌, arith}
 use Rattle.std.proofs.lemmas.Grind.{common_steps}
 use Rattle.lifecycle.specs.declared.instance.Inst.TheVariants.{Idling}
 use Rattle.lifecycle.specs.States.{IdleKeeps}
 use Rattle.ialg.specs.Records.{unplaced}
 use Rattle.record_loans.specs.declared.pieces.Pieces.{Pieces}
-use Rattle.scratch_group.specs.declared.group.Group.{Group}
 use Rattle.scratch_group.proofs.Tables.{unplaced-with_bases}
 use Rattle.record_loans.specs.Pieces.{piece_at, SamePieces}
-use Rattle.host_shared.specs.declared.locations.Locations.{Locations}
 use Rattle.host_shared.specs.Owners.{with_pieces_of}
 use Rattle.host_table.specs.Table.{IsHoused, EachIsHoused, group_at, instance_of, active_in, slot_active_in}
 use Rattle.host_table.specs.Turns.{HasBegun}
@@ -17,13 +15,13 @@ use Rattle.host_table.proofs.Housing.{settled_stays}
 use Rattle.host_shared.proofs.Lent.{owners_of_all}
 use Rattle.host_table.proofs.Held.{owners_of_held}
 use Rattle.host_table.proofs.Changes.{read_ok_group}
-use Rattle.host_table.proofs.Stepping.{ok_in, tables, same_instances, same_sharing, same_groups}
+use Rattle.host_table.proofs.Stepping.{ok_in}
 use Rattle.host_table.proofs.Idles.{is_new, ok_after_still, keeps_by_still}
 use Rattle.host_table.proofs.Shared.{tells_sharer_as, can_join}
 use Rattle.host_table.proofs.Sharing.{TellsSharer}
 use Rattle.host_table.proofs.Starts.{Begins, begun_at, put_there, idle_inst, stands_joined, held_start, bare_start, least_start, together_start, views_start, written_start, new_start, keeps_slot}
 use Rattle.host_table.proofs.life.start.Goals as goal
-use Rattle.host_table.proofs.life.start.Goals.{After-tables-1}
+use Rattle.host_table.proofs.life.start.Goals.{After-start_member}
 use Rattle.host_table.proofs.life.start.Given.{Over}
 
 pub join-requires-clause-owners : goal.join-requires-clause-owners
@@ -36,41 +34,44 @@ join-requires-clause-sharers g c k =
     (record { kind = c.args.instance.kind; params = c.args.instance.params.now; table = c.args.instance.table; own = c.args.own }) c.records-records.ensures.table
     k (sharer_at c.args.sharers k) (piece_at c.args.shared k) ((rw (← c.tables.view_is) at c.requires.sharers) k) (c.requires.placed k)
 
+pub fill_slot-requires-clause-room : goal.fill_slot-requires-clause-room
+fill_slot-requires-clause-room g c = omega (arith, c.requires.number, (ok_in c.tables.view_is c.requires.ok).slot_count)
+
+pub fill_slot-requires-clause-empty : goal.fill_slot-requires-clause-empty
+fill_slot-requires-clause-empty g c = rw (← c.tables.view_is) at c.requires.empty
+
 pub start_member-requires-clause-can : goal.start_member-requires-clause-can
 start_member-requires-clause-can g c = record {
   number = search rules;
-  owners = rw (same_sharing (c.tables-2.view_is ∙ c.put_in.ensures.filled.is)) (owners_of_all c.join.new.sharing.items c.args.instance.number c.join.ensures.owners (omega (arith, c.requires.number, c.join.ensures.count)));
+  owners = owners_of_all c.join.new.sharing.items c.args.instance.number c.join.ensures.owners (omega (arith, c.requires.number, c.join.ensures.count));
   room = grind (arith, common_steps);
 }
 
 -- the instance has joined its sharers, and was started in its slot
-module _ (g : Over) (c : After-tables-1 g) where
-  view : tables c.tables-2.inside.instances.items c.tables-2.inside.sharing.items c.tables-2.inside.groups.items ≡ tables (set c.tables.inside.instances.items c.args.instance.number (Some (record { group = c.args.instance.group; inst = Idling c.new.result }))) c.join.new.sharing.items c.tables.inside.groups.items
-  view = c.tables-2.view_is ∙ c.put_in.ensures.filled.is
-
+module _ (g : Over) (c : After-start_member g) where
   member : c.in-Some.member ≡ (record { group = c.args.instance.group; inst = Idling c.new.result })
   member =
-      put_there c.tables.inside.instances.items c.tables-2.inside.instances.items c.args.instance.number c.in-Some.member (record { group = c.args.instance.group; inst = Idling c.new.result }) _ (omega (arith, c.requires.number, (ok_in c.tables.view_is c.requires.ok).slot_count)) (same_instances view)
+      put_there c.tables.inside.instances.items c.fill_slot.new.instances.items c.args.instance.number c.in-Some.member (record { group = c.args.instance.group; inst = Idling c.new.result }) _ (omega (arith, c.requires.number, (ok_in c.tables.view_is c.requires.ok).slot_count)) c.fill_slot.ensures.filled
       c.index_mut.ensures.value c.in-Some.is
 
   group : c.in-Some.member.group ≡ c.args.instance.group
   group = ap (λ m. m.group) member
 
-  filled : set c.tables-2.inside.instances.items c.args.instance.number (Some (record { group = c.in-Some.member.group; inst = c.start_member.new.inst })) ≡ set c.tables.inside.instances.items c.args.instance.number (Some (record { group = c.in-Some.member.group; inst = c.start_member.new.inst }))
-  filled = ap (λ l. set l c.args.instance.number (Some (record { group = c.in-Some.member.group; inst = c.start_member.new.inst }))) (same_instances view) ∙ set-set c.tables.inside.instances.items c.args.instance.number _ (Some (record { group = c.in-Some.member.group; inst = c.start_member.new.inst }))
+  filled : set c.fill_slot.new.instances.items c.args.instance.number (Some (record { group = c.in-Some.member.group; inst = c.start_member.new.inst })) ≡ set c.tables.inside.instances.items c.args.instance.number (Some (record { group = c.in-Some.member.group; inst = c.start_member.new.inst }))
+  filled = ap (λ l. set l c.args.instance.number (Some (record { group = c.in-Some.member.group; inst = c.start_member.new.inst }))) c.fill_slot.ensures.filled ∙ set-set c.tables.inside.instances.items c.args.instance.number _ (Some (record { group = c.in-Some.member.group; inst = c.start_member.new.inst }))
 
   group_is : group_at c.tables.inside.groups.items c.args.instance.group ≡ c.index.result.now
   group_is =
       read_ok_group _ _ _ (ok_in c.tables.view_is c.requires.ok) c.args.instance.group c.requires.group _
-      (subst (λ (l : List Group). c.index.result.now ≡ slice_index_or l c.args.instance.group c.index.result.now) (same_groups view) c.index.ensures)
+      c.index.ensures
 
   begun : HasBegun g.M.Ialg.law (record { kind = c.args.instance.kind; params = c.args.instance.params.now; table = c.args.instance.table; own = c.args.own }) (instance_of c.start_member.new.inst) (pieces_joined c.tables.inside.sharing.items c.args.sharers c.args.shared) (shared_at c.start_member.new.sharing.items c.args.instance.number) (group_at c.tables.inside.groups.items c.args.instance.group)
   begun =
       begun_at g.M.Ialg.law _ (record { kind = c.args.instance.kind; params = c.args.instance.params.now; table = c.args.instance.table; own = c.args.own }) (instance_of c.start_member.new.inst) _ _ (shared_at c.start_member.new.sharing.items c.args.instance.number) _ _ (ap (λ m. instance_of m.inst) member ∙ c.new.ensures)
-      (ap (λ (l : List Locations). shared_at l c.args.instance.number) (same_sharing view) ∙ c.join.ensures.pieces) (sym group_is) c.start_member.ensures.started.begun
+      c.join.ensures.pieces (sym group_is) c.start_member.ensures.started.begun
 
   put : c.start_member.new.sharing.items ≡ with_pieces_of c.join.new.sharing.items c.args.instance.number (shared_at c.start_member.new.sharing.items c.args.instance.number)
-  put = c.start_member.ensures.started.seen ∙ ap (λ (l : List Locations). with_pieces_of l c.args.instance.number (shared_at c.start_member.new.sharing.items c.args.instance.number)) (same_sharing view)
+  put = c.start_member.ensures.started.seen
 
   pieces : SamePieces (shared_at c.join.new.sharing.items c.args.instance.number) (shared_at c.start_member.new.sharing.items c.args.instance.number)
   pieces = subst (λ (x : Pieces). SamePieces x (shared_at c.start_member.new.sharing.items c.args.instance.number)) (sym c.join.ensures.pieces) begun.pieces
@@ -110,43 +111,54 @@ module _ (g : Over) (c : After-tables-1 g) where
 
 pub returns-clause-ok : goal.returns-clause-ok
 returns-clause-ok g c =
-    rw (filled g c, same_groups (view g c))
+    let d = (goal.at.returns-clause-ok g c).After-start_member in
+    rw (filled g d)
     (ok_after_still _ _ _ c.args.instance.number (Some (record { group = c.in-Some.member.group; inst = c.start_member.new.inst })) (shared_at c.start_member.new.sharing.items c.args.instance.number) c.start_member.new.sharing.items
-    (views_start (begins g c) (shared_at c.start_member.new.sharing.items c.args.instance.number) (pieces g c) c.start_member.new.sharing.items (put g c))
-    (held_start (begins g c) (shared_at c.start_member.new.sharing.items c.args.instance.number) (pieces g c) c.start_member.new.sharing.items (put g c))
-    (bare_start (begins g c) (shared_at c.start_member.new.sharing.items c.args.instance.number) (pieces g c) c.start_member.new.sharing.items (put g c))
-    (ok_in c.tables.view_is c.requires.ok) c.requires.number (ap slot_active_in (rw (← c.tables.view_is) at c.requires.empty)) (at_rest g c)
-    (is_new EachIsHoused _ c.args.instance.number (shared_at c.start_member.new.sharing.items c.args.instance.number) (record { group = c.in-Some.member.group; inst = c.start_member.new.inst }) (rw (group g c) c.requires.group) (housed g c)))
+    (views_start (begins g d) (shared_at c.start_member.new.sharing.items c.args.instance.number) (pieces g d) c.start_member.new.sharing.items (put g d))
+    (held_start (begins g d) (shared_at c.start_member.new.sharing.items c.args.instance.number) (pieces g d) c.start_member.new.sharing.items (put g d))
+    (bare_start (begins g d) (shared_at c.start_member.new.sharing.items c.args.instance.number) (pieces g d) c.start_member.new.sharing.items (put g d))
+    (ok_in c.tables.view_is c.requires.ok) c.requires.number (ap slot_active_in (rw (← c.tables.view_is) at c.requires.empty)) (at_rest g d)
+    (is_new EachIsHoused _ c.args.instance.number (shared_at c.start_member.new.sharing.items c.args.instance.number) (record { group = c.in-Some.member.group; inst = c.start_member.new.inst }) (rw (group g d) c.requires.group) (housed g d)))
 
 pub returns-clause-others : goal.returns-clause-others
-returns-clause-others g c = rw (filled g c, ← c.tables.view_is) (record {
-  slot = λ j apart. get_or-set_other c.tables.inside.instances.items c.args.instance.number j (Some (record { group = c.in-Some.member.group; inst = c.start_member.new.inst })) None apart;
-  pieces = λ j apart. (views_start (begins g c) (shared_at c.start_member.new.sharing.items c.args.instance.number) (pieces g c) c.start_member.new.sharing.items (put g c)).others j apart;
-})
+returns-clause-others g c =
+    let d = (goal.at.returns-clause-others g c).After-start_member in
+    rw (filled g d, ← c.tables.view_is) (record {
+      slot = λ j apart. get_or-set_other c.tables.inside.instances.items c.args.instance.number j (Some (record { group = c.in-Some.member.group; inst = c.start_member.new.inst })) None apart;
+      pieces = λ j apart. (views_start (begins g d) (shared_at c.start_member.new.sharing.items c.args.instance.number) (pieces g d) c.start_member.new.sharing.items (put g d)).others j apart;
+    })
 
 pub returns-clause-stands : goal.returns-clause-stands
-returns-clause-stands g c j k = rw (← c.tables.view_is) (stands_joined (begins g c) (shared_at c.start_member.new.sharing.items c.args.instance.number) (pieces g c) c.start_member.new.sharing.items (put g c) j k)
+returns-clause-stands g c j k =
+    let d = (goal.at.returns-clause-stands g c).After-start_member in
+    rw (← c.tables.view_is) (stands_joined (begins g d) (shared_at c.start_member.new.sharing.items c.args.instance.number) (pieces g d) c.start_member.new.sharing.items (put g d) j k)
 
 pub returns-clause-least : goal.returns-clause-least
-returns-clause-least g c = least_start (begins g c) (shared_at c.start_member.new.sharing.items c.args.instance.number) (pieces g c) c.start_member.new.sharing.items (put g c) (rw (← c.tables.view_is) at c.requires.least)
+returns-clause-least g c =
+    let d = (goal.at.returns-clause-least g c).After-start_member in
+    least_start (begins g d) (shared_at c.start_member.new.sharing.items c.args.instance.number) (pieces g d) c.start_member.new.sharing.items (put g d) (rw (← c.tables.view_is) at c.requires.least)
 
 pub returns-clause-together : goal.returns-clause-together
-returns-clause-together g c = rw (filled g c) (together_start (begins g c) (shared_at c.start_member.new.sharing.items c.args.instance.number) (pieces g c) c.start_member.new.sharing.items (put g c) (rw (← c.tables.view_is) at c.requires.together))
+returns-clause-together g c =
+    let d = (goal.at.returns-clause-together g c).After-start_member in
+    rw (filled g d) (together_start (begins g d) (shared_at c.start_member.new.sharing.items c.args.instance.number) (pieces g d) c.start_member.new.sharing.items (put g d) (rw (← c.tables.view_is) at c.requires.together))
 
 pub returns-clause-keeps : goal.returns-clause-keeps
-returns-clause-keeps g c = rw (← c.tables.view_is, filled g c, same_groups (view g c)) (λ w histories table new keeps.
+returns-clause-keeps g c =
+    let d = (goal.at.returns-clause-keeps g c).After-start_member in
+    rw (← c.tables.view_is, filled g d) (λ w histories table new keeps.
     let kept : IdleKeeps g.M.Ialg.law (instance_of c.start_member.new.inst) w (shared_at c.start_member.new.sharing.items c.args.instance.number) [] =
     (λ lawful.
-    let before : IsTrue (g.M.Ialg.law.meaning.lawful c.args.instance.kind c.args.instance.params.now.items w) = rw ((begun g c).same.kind, (begun g c).same.params) at lawful in
-    (begun g c).keeps w (table before)
-    (new_start (begins g c) g.M.Ialg.law g.met.M.Ialg.idle_fill g.met.M.Ialg.active_fill w histories keeps (record { kind = c.args.instance.kind; params = c.args.instance.params.now; table = c.args.instance.table; own = c.args.own })
-    (begun g c).same.kind (begun g c).same.params (table_same g c) before new)
+    let before : IsTrue (g.M.Ialg.law.meaning.lawful c.args.instance.kind c.args.instance.params.now.items w) = rw ((begun g d).same.kind, (begun g d).same.params) at lawful in
+    (begun g d).keeps w (table before)
+    (new_start (begins g d) g.M.Ialg.law g.met.M.Ialg.idle_fill g.met.M.Ialg.active_fill w histories keeps (record { kind = c.args.instance.kind; params = c.args.instance.params.now; table = c.args.instance.table; own = c.args.own })
+    (begun g d).same.kind (begun g d).same.params (table_same g d) before new)
     lawful) in
     let known = idle_inst g.M.Ialg.law w c.start_member.new.inst (shared_at c.start_member.new.sharing.items c.args.instance.number) (group_at c.tables.inside.groups.items c.in-Some.member.group) [] c.start_member.ensures.idle kept in
-    keeps_by_still EachIsHoused _ _ _ c.args.instance.number (Some (record { group = c.in-Some.member.group; inst = c.start_member.new.inst })) (shared_at c.start_member.new.sharing.items c.args.instance.number) (ok_in c.tables.view_is c.requires.ok) c.requires.number (ap slot_active_in (rw (← c.tables.view_is) at c.requires.empty)) (at_rest g c)
-    c.start_member.new.sharing.items (views_start (begins g c) (shared_at c.start_member.new.sharing.items c.args.instance.number) (pieces g c) c.start_member.new.sharing.items (put g c))
+    keeps_by_still EachIsHoused _ _ _ c.args.instance.number (Some (record { group = c.in-Some.member.group; inst = c.start_member.new.inst })) (shared_at c.start_member.new.sharing.items c.args.instance.number) (ok_in c.tables.view_is c.requires.ok) c.requires.number (ap slot_active_in (rw (← c.tables.view_is) at c.requires.empty)) (at_rest g d)
+    c.start_member.new.sharing.items (views_start (begins g d) (shared_at c.start_member.new.sharing.items c.args.instance.number) (pieces g d) c.start_member.new.sharing.items (put g d))
     g.M.Ialg.law w histories []
     (λ j m apart slot lawful.
-    written_start (begins g c) (shared_at c.start_member.new.sharing.items c.args.instance.number) (pieces g c) c.start_member.new.sharing.items (put g c) g.M.Ialg.law
+    written_start (begins g d) (shared_at c.start_member.new.sharing.items c.args.instance.number) (pieces g d) c.start_member.new.sharing.items (put g d) g.M.Ialg.law
     g.met.M.Ialg.idle_fill g.met.M.Ialg.active_fill w (group_at c.tables.inside.groups.items c.in-Some.member.group) [] known j m (group_at c.tables.inside.groups.items m.group) (histories j) apart slot lawful (keeps_slot c.tables.inside.groups.items g.M.Ialg.law w _ m (shared_at c.tables.inside.sharing.items j) (histories j) slot (keeps j)))
     known keeps)

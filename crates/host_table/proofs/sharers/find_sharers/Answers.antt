@@ -7,5 +7,5 @@ use Rattle.host_table.proofs.sharers.find_sharers.Goals as goal
 pub returns : goal.returns
 returns g c =
     four_sharers _ (λ k. sharer_of g.M.Ialg.law.meaning.same (λ j. asked_by (slot_at c.args.instances.now.items j)) (asked c.args.kind c.args.params.now.items c.args.table.now) k)
-    c.find_sharer.ensures c.find_sharer-2.ensures c.find_sharer-3.ensures c.find_sharer-4.ensures
+    c.find_sharer-t0.ensures c.find_sharer-t1.ensures c.find_sharer-t2.ensures c.find_sharer-t3.ensures
     (λ k past. no_sharer_past g.M.Ialg.law.meaning.same (λ j. asked_by (slot_at c.args.instances.now.items j)) c.args.kind c.args.params.now.items c.args.table.now k c.records-records.ensures.table past)

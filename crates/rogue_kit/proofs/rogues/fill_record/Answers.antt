@@ -11,7 +11,7 @@ use Rattle.rogue_kit.proofs.rogues.fill_record.Goals as goal
 
 pub returns-clause-filled : goal.returns-clause-filled
 returns-clause-filled c k may apart =
-    let taken = c.in-Some.field-0 in
+    let taken = c.in-Some.taken in
     let after = c.put.new.self in
     let same = same_record c.args.mem.now c.args.space c.args.base taken.k k apart c.in-Some.ensures.found.at may.at in
     let fits : SFits w16 c.args.word = search rules in
@@ -23,7 +23,7 @@ returns-clause-filled c k may apart =
 
 pub returns-clause-kept : goal.returns-clause-kept
 returns-clause-kept c k filled =
-    let taken = c.in-Some.field-0 in
+    let taken = c.in-Some.taken in
     let after = c.put.new.self in
     let left = c.in-Some.ensures.left in
     let fits : SFits w16 c.args.word = search rules in

@@ -1,4 +1,4 @@
-use Rattle.std.proofs.Common.{sym, ◌∙◌, arith}
+use Rattle.std.proofs.Common.{sym, ◌∙◌}
 use Rattle.record_loans.specs.Pieces.{no_pieces}
 use Rattle.mem_rec.specs.declared.Space.TheVariants.{Daram}
 use Rattle.scratch_group.specs.Filters.{filter_sizes_in}
@@ -34,7 +34,8 @@ returns c =
     let object = object_begins rs (filter_sizes_in rs) c.requires.table c.requires.filter own no_pieces group in
     let kept = kept_begins rs (filter_sizes_in rs) c.requires.table c.requires.filter own no_pieces group in
     let running = running_begins rs (filter_sizes_in rs) c.requires.table c.requires.filter own no_pieces group in
-    three_bases rs _ _ _ (record_place rs own no_pieces group)
+    let all =
+    three_bases rs (record_place rs own no_pieces group)
     c.place-object.result c.place-kept.result c.place_in-running.result c.requires.filter.three
-    (c.place-object.ensures ∙ sym object) (c.place-kept.ensures ∙ sym kept) (c.place_in-running.ensures ∙ sym running)
-    c.set_base.ensures c.set_base-2.ensures c.set_base-3.ensures
+    (c.place-object.ensures ∙ sym object) (c.place-kept.ensures ∙ sym kept) (c.place_in-running.ensures ∙ sym running) in
+    cc

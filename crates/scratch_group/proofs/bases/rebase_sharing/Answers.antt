@@ -44,8 +44,9 @@ returns c =
     let kept = kept_begins rs (sharing_sizes_in rs) c.requires.table c.requires.sharing own once group in
     let constants = constants_begin rs (sharing_sizes_in rs) c.requires.table c.requires.sharing own once group in
     let running = running_begins rs (sharing_sizes_in rs) c.requires.table c.requires.sharing own once group in
-    all_bases rs _ _ _ _ (record_place rs own once group)
+    let all =
+    all_bases rs (record_place rs own once group)
     c.place-object.result c.place-kept.result c.place_of-constants.result c.place_in-running.result c.requires.table
     (λ there. c.place-object.ensures ∙ sym object) (λ there. c.place-kept.ensures ∙ sym kept)
-    (λ there. c.place_of-constants.ensures ∙ sym constants) (λ there. c.place_in-running.ensures ∙ sym running)
-    c.set_base.ensures c.set_base-2.ensures c.set_base-3.ensures c.set_base-4.ensures
+    (λ there. c.place_of-constants.ensures ∙ sym constants) (λ there. c.place_in-running.ensures ∙ sym running) in
+    cc

@@ -46,8 +46,8 @@ returns-then-is_err-clause-cut g c = λ is s honest k h.
     cut_output (g.T.LineMachine.machine (g.T.LineMachine.widths c.args.machine.now)) honest s _ there pairs h count (rw number at (c.read_from.ensures.filled answer)) (given_first (g.T.LineMachine.machine (g.T.LineMachine.widths c.args.machine.now)) s _ count given.1)
     (rw (number, taken) at (c.write_to.ensures.fault (sym c.is_err.ensures.value ∙ c.if-is_err.true)))
 
-pub returns-in-Ok-tell-2-clause-served : goal.returns-in-Ok-tell-2-clause-served
-returns-in-Ok-tell-2-clause-served g c = λ s honest k h.
+pub returns-in-Ok-told-clause-served : goal.returns-in-Ok-told-clause-served
+returns-in-Ok-told-clause-served g c = λ s honest k h.
     let number = c.from-c.ensures in
     let there = there_in g.I.PortIn.source c.args.inputs.now.items c.requires.one c.requires.channel.there in
     let pairs = same_length g.O.PortOut.sink g.I.PortIn.source c.args.outputs.now.items c.args.inputs.now.items c.requires.pairs c.requires.one in
@@ -59,10 +59,10 @@ returns-in-Ok-tell-2-clause-served g c = λ s honest k h.
     let given = c.feed-count.ensures.gives s k in
     served_whole (g.T.LineMachine.machine (g.T.LineMachine.widths c.args.machine.now)) honest s (g.T.LineMachine.keeps c.feed-count.new.self) given.2 there pairs h count
     (rw number at (c.read_from.ensures.filled answer)) (given_first (g.T.LineMachine.machine (g.T.LineMachine.widths c.args.machine.now)) s _ count given.1)
-    (rw (number, taken) at (c.write_to.ensures.ok c.if-is_err.ensures.negation)) (c.in-Ok-tell-2.ensures.ok refl)
+    (rw (number, taken) at (c.write_to.ensures.ok c.if-is_err.ensures.negation)) (c.in-Ok-told.ensures.ok refl)
 
-pub returns-in-Err-tell-2-clause-cut : goal.returns-in-Err-tell-2-clause-cut
-returns-in-Err-tell-2-clause-cut g c = λ is s honest k h.
+pub returns-in-Err-told-clause-cut : goal.returns-in-Err-told-clause-cut
+returns-in-Err-told-clause-cut g c = λ is s honest k h.
     let number = c.from-c.ensures in
     let there = there_in g.I.PortIn.source c.args.inputs.now.items c.requires.one c.requires.channel.there in
     let pairs = same_length g.O.PortOut.sink g.I.PortIn.source c.args.outputs.now.items c.args.inputs.now.items c.requires.pairs c.requires.one in
@@ -72,7 +72,7 @@ returns-in-Err-tell-2-clause-cut g c = λ is s honest k h.
     let count = long ∙ asked in
     let taken : c.octets_of.result ≡ octet_count ((g.T.LineMachine.widths c.args.machine.now).output c.args.channel) c.feed-count.result = rw c.output_width-output_width.ensures at c.octets_of.ensures.count in
     let given = c.feed-count.ensures.gives s k in
-    cut_told (g.T.LineMachine.machine (g.T.LineMachine.widths c.args.machine.now)) honest s there pairs h count (rw number at (c.read_from.ensures.filled answer)) (given_first (g.T.LineMachine.machine (g.T.LineMachine.widths c.args.machine.now)) s _ count given.1) (rw (number, taken) at (c.write_to.ensures.ok c.if-is_err.ensures.negation)) (c.in-Err-tell-2.ensures.fault refl)
+    cut_told (g.T.LineMachine.machine (g.T.LineMachine.widths c.args.machine.now)) honest s there pairs h count (rw number at (c.read_from.ensures.filled answer)) (given_first (g.T.LineMachine.machine (g.T.LineMachine.widths c.args.machine.now)) s _ count given.1) (rw (number, taken) at (c.write_to.ensures.ok c.if-is_err.ensures.negation)) (c.in-Err-told.ensures.fault refl)
 
 pub returns-in-Err-clause-unread : goal.returns-in-Err-clause-unread
 returns-in-Err-clause-unread g c = λ is.
@@ -97,12 +97,12 @@ returns-then-is_err-clause-waits g c =
     let there = there_in g.O.PortOut.sink c.args.outputs.now.items c.requires.pairs (subst (λ n. n < g.T.LineMachine.channels c.args.machine.now) (sym c.from-c.ensures) c.requires.channel.there) in
     wait_took_first _ there (c.write_to.ensures.fault (sym c.is_err.ensures.value ∙ c.if-is_err.true))
 
-pub returns-in-Ok-tell-2-clause-waits : goal.returns-in-Ok-tell-2-clause-waits
-returns-in-Ok-tell-2-clause-waits g c =
+pub returns-in-Ok-told-clause-waits : goal.returns-in-Ok-told-clause-waits
+returns-in-Ok-told-clause-waits g c =
     let there = there_in g.O.PortOut.sink c.args.outputs.now.items c.requires.pairs (subst (λ n. n < g.T.LineMachine.channels c.args.machine.now) (sym c.from-c.ensures) c.requires.channel.there) in
-    wait_more (wait_took _ there (c.write_to.ensures.ok c.if-is_err.ensures.negation)) (wait_reply _ (c.in-Ok-tell-2.ensures.ok refl).waits)
+    wait_more (wait_took _ there (c.write_to.ensures.ok c.if-is_err.ensures.negation)) (wait_reply _ (c.in-Ok-told.ensures.ok refl).waits)
 
-pub returns-in-Err-tell-2-clause-waits : goal.returns-in-Err-tell-2-clause-waits
-returns-in-Err-tell-2-clause-waits g c =
+pub returns-in-Err-told-clause-waits : goal.returns-in-Err-told-clause-waits
+returns-in-Err-told-clause-waits g c =
     let there = there_in g.O.PortOut.sink c.args.outputs.now.items c.requires.pairs (subst (λ n. n < g.T.LineMachine.channels c.args.machine.now) (sym c.from-c.ensures) c.requires.channel.there) in
-    wait_more (wait_took _ there (c.write_to.ensures.ok c.if-is_err.ensures.negation)) (wait_reply _ (c.in-Err-tell-2.ensures.fault refl).first.waits)
+    wait_more (wait_took _ there (c.write_to.ensures.ok c.if-is_err.ensures.negation)) (wait_reply _ (c.in-Err-told.ensures.fault refl).first.waits)

@@ -38,13 +38,13 @@ returns-then-is_err-clause-write g c = λ is.
     }
 
 -- the replies' flush failed
-pub returns-then-is_err-2-clause-write : goal.returns-then-is_err-2-clause-write
-returns-then-is_err-2-clause-write g c = λ is.
+pub returns-then-replies_fail-clause-write : goal.returns-then-replies_fail-clause-write
+returns-then-replies_fail-clause-write g c = λ is.
     let m = g.T.LineMachine.machine (g.T.LineMachine.widths c.args.machine.now) in
     let start = run_of g.state (map g.I.PortIn.source c.args.inputs.now.items) in
     let all_hold = writes_more (c.flush_outputs.ensures.holds _) (writes_reply _ c.flush.ensures.octets) in
     record {
-      failed = inr (c.flush.ensures.failed ∙ sym c.is_err-2.ensures.value ∙ c.if-is_err-2.true);
+      failed = inr (c.flush.ensures.failed ∙ sym c.is_err-replies_fail.ensures.value ∙ c.if-replies_fail.true);
       passed = inr (c.flush_outputs.ensures.passed c.if-is_err.ensures.negation);
       order = order_after _ c.serve_script.ensures.waits c.flush_outputs.ensures.order;
       served = λ honest. all_is_first m start (all_passed_on m start (c.in-Ok.ensures.ok.served honest) all_hold);
@@ -57,14 +57,14 @@ returns-clause-ok g c =
     let serves = c.in-Ok.ensures.ok in
     let both_hold = writes_more (c.flush_outputs.ensures.holds _) (writes_reply _ c.flush.ensures.octets) in
     let outputs_passed_on = c.if-is_err.ensures.negation in
-    let replies_passed_on = c.if-is_err-2.ensures.negation in
+    let replies_passed_on = c.if-replies_fail.ensures.negation in
     record {
       serves = record {
         script = serves.script;
         ready = record {
           inputs = serves.ready.inputs;
           outs = c.flush_outputs.ensures.ready outputs_passed_on;
-          reply = c.flush.ensures.failed ∙ sym c.is_err-2.ensures.value ∙ c.if-is_err-2.false;
+          reply = c.flush.ensures.failed ∙ sym c.is_err-replies_fail.ensures.value ∙ c.if-replies_fail.false;
         };
         served = λ honest. all_passed_on m start (serves.served honest) both_hold;
       };

@@ -36,9 +36,9 @@ ends_by machine start Write old new by_read by_write = by_write refl
 
 pub returns-in-Err-clause-fault : goal.returns-in-Err-clause-fault
 returns-in-Err-clause-fault g c = record {
-  failed = why_failed _ c.in-Err.field-0 c.lines.invariant.came c.in-Err.ensures.err;
+  failed = why_failed _ c.in-Err._fault c.lines.invariant.came c.in-Err.ensures.err;
   passed = c.lines.invariant.waits;
-  served = stops_in_script (g.T.LineMachine.machine (g.T.LineMachine.widths c.args.machine.now)) _ _ _ c.lines.invariant.served c.in-Err.field-0 c.in-Err.ensures.err;
+  served = stops_in_script (g.T.LineMachine.machine (g.T.LineMachine.widths c.args.machine.now)) _ _ _ c.lines.invariant.served c.in-Err._fault c.in-Err.ensures.err;
 }
 
 pub returns-in-Err-serve_line-clause-fault : goal.returns-in-Err-serve_line-clause-fault
@@ -95,7 +95,7 @@ lines-preserved g c =
     }
 
 pub returns-in-Err-clause-few : goal.returns-in-Err-clause-few
-returns-in-Err-clause-few g c = consumes_then c.in-Err.field-0 c.lines.invariant.came c.in-Err.ensures.err
+returns-in-Err-clause-few g c = consumes_then c.in-Err._fault c.lines.invariant.came c.in-Err.ensures.err
 
 pub returns-in-Err-serve_line-clause-few : goal.returns-in-Err-serve_line-clause-few
 returns-in-Err-serve_line-clause-few g c = consumes_within c.read_line.new.self.octets (g.S.PortIn.source c.read_line.new.script) (consumes_more c.lines.invariant.came c.in-Ok.ensures.ok) c.in-Ok.ensures.within

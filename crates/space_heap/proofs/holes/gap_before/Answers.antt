@@ -10,13 +10,13 @@ use Rattle.space_heap.proofs.Ends.{found_chains, free_before, taken_before, take
 use Rattle.relocate.proofs.Multiples.{not_lower}
 use Rattle.space_heap.proofs.Finds.{unit_multiple}
 use Rattle.space_heap.proofs.Words.{away_within}
-use Rattle.space_heap.proofs.holes.gap_before.Goals.{else-end-place-via-then-end-place+else-place, else-end-place-via-else-end-place}
+use Rattle.space_heap.proofs.holes.gap_before.Goals.{else-end-start-via-then-end-start+else-place-start, else-end-start-via-else-end-start}
 use Rattle.space_heap.proofs.holes.gap_before.Goals as goal
 
 pub returns-in_err-found-clause-place : goal.returns-in_err-found-clause-place
 returns-in_err-found-clause-place c =
     let slots = c.args.rest.now.slots in let place = c.args.piece.now.place in
-    let at : c.place.result ≡ place = c.place.ensures.value ∙ ap (λ (s : Span). s.place) c.apart.ensures.same.1 in
+    let at : c.place-start.result ≡ place = c.place-start.ensures.value ∙ ap (λ (s : Span). s.place) c.apart.ensures.same.1 in
     let late = subst (λ p. IsFromOn p c.args.first) at c.in_err-found.ensures.none in let inside = c.requires.block.inside in
     subst (λ (o : Option Fit). (start : ℕ) × IsFreeFrom (in_rest slots) place start × MatchOption o (place ≤ next_multiple_of start c.args.align) (λ f. f.place ≡ next_multiple_of start c.args.align))
     (sym c.from_residual.ensures)
@@ -40,33 +40,33 @@ end-requires c =
     end_small c.args.rest.now.slots c.args.first c.in_ok-found.found c.args.piece.now c.apart.new.self c.in_ok-found.ensures.found.0
     (ap (λ (r : Scattered). r.slots) c.apart.ensures.same.0) c.requires.block.inside
 
-pub returns-then-place-clause-found : goal.returns-then-place-clause-found
-returns-then-place-clause-found c =
+pub returns-then-place-start-clause-found : goal.returns-then-place-start-clause-found
+returns-then-place-start-clause-found c =
     let here = ap (λ (s : Span). s.place) c.apart.ensures.same.1 in let told = c.next_multiple_of-place.ensures in
-    let end = c.end.ensures in let at = c.place-2.ensures.value in let again = c.place-then-end-place.ensures.value in let test = c.if-end-place.true in let less = c.if-place.true in
+    let end = c.end.ensures in let at = c.place-start.ensures.value in let test = c.if-end-start.true in let less = c.if-place-start.true in
     lowered c.args.rest.now.slots c.args.first c.in_ok-found.found c.args.piece.now c.apart.new.self c.in_ok-found.ensures.found.0
     (ap (λ (r : Scattered). r.slots) c.apart.ensures.same.0) c.requires.block.inside c.next_multiple_of-place.result c.args.align
     (omega arith) told.lower_bound (omega arith) told.multiple c.requires.align.2
 
-pub returns-then-place-clause-place : goal.returns-then-place-clause-place
-returns-then-place-clause-place c =
+pub returns-then-place-start-clause-place : goal.returns-then-place-start-clause-place
+returns-then-place-start-clause-place c =
     let here = ap (λ (s : Span). s.place) c.apart.ensures.same.1 in let slots = c.args.rest.now.slots in let f = c.in_ok-found.found in
-    let end = c.end.ensures in let at = c.place-2.ensures.value in let test = c.if-end-place.true in
+    let end = c.end.ensures in let at = c.place-start.ensures.value in let test = c.if-end-start.true in
     let found = its slots c.args.first f c.args.piece.now c.apart.new.self c.in_ok-found.ensures.found.0 (ap (λ (r : Scattered). r.slots) c.apart.ensures.same.0) c.requires.block.inside in
     (f.hole.place, free_before slots c.args.first f found c.args.piece.now.place (omega arith), c.next_multiple_of-place.ensures.value)
 
-pub returns-else-end-place-clause-place : goal.returns-else-end-place-clause-place
-returns-else-end-place-clause-place c =
+pub returns-else-end-start-clause-place : goal.returns-else-end-start-clause-place
+returns-else-end-start-clause-place c =
     let here = ap (λ (s : Span). s.place) c.apart.ensures.same.1 in let slots = c.args.rest.now.slots in let f = c.in_ok-found.found in let place = c.args.piece.now.place in
-    let end = c.end.ensures in let at = c.place-2.ensures.value in let first_at = c.place.ensures.value in let told = c.next_multiple_of-place.ensures.value in
+    let end = c.end.ensures in let at = c.place-start.ensures.value in let told = c.next_multiple_of-place.ensures.value in
     let known = c.in_ok-found.ensures.found in let early = known.1 in let block = c.requires.block in let inside = block.inside in let some = block.some in
     let found = its slots c.args.first f c.args.piece.now c.apart.new.self known.0 (ap (λ (r : Scattered). r.slots) c.apart.ensures.same.0) inside in
-    elim c.else-end-place.branch [
-      | else-end-place-via-then-end-place+else-place w ↦
-          let test = w.if-end-place.true in let again = w.place-then-end-place.ensures.value in let not_less = w.if-place.false in
+    elim c.else-end-start.branch [
+      | else-end-start-via-then-end-start+else-place-start w ↦
+          let test = w.if-end-start.true in let not_less = w.if-place-start.false in
           (f.hole.place, free_before slots c.args.first f found place (omega arith), omega arith)
-      | else-end-place-via-else-end-place w ↦
-          let test = w.if-end-place.false in
+      | else-end-start-via-else-end-start w ↦
+          let test = w.if-end-start.false in
           let late = subst (λ p. IsFromOn p f.hole.next) {y = place} (omega arith) known.2 in
           let away = away_within slots place (length c.args.piece.now.words) c.apart.ensures.apart place (omega arith) (omega arith) in
           (place, taken_before slots c.args.first f found place (omega arith) (omega arith) away (λ e. test (omega arith)) late, not_lower place c.args.align)

@@ -10,7 +10,7 @@ pub returns-clause-spread : goal.returns-clause-spread
 returns-clause-spread c kind records named scratch =
     let m = c.args.mem.now in
     let found = c.in-Some.ensures.named kind records named (λ once. scratch_not_once (sym scratch ∙ once)) in
-    let v = visit c.args.n m _ _ c.in-Some.field-0 _ found (let w = named.within in let f = named.few in omega arith) (let w = named.not_the_object in λ e. omega (arith, w, e)) c.in-Some.ensures.left c.put.ensures.others c.put.ensures.back in
+    let v = visit c.args.n m _ _ c.in-Some.taken _ found (let w = named.within in let f = named.few in omega arith) (let w = named.not_the_object in λ e. omega (arith, w, e)) c.in-Some.ensures.left c.put.ensures.others c.put.ensures.back in
     let fits : SFits w16 c.args.word = search rules in
     let same : to_z w16 (of_z w16 c.args.word) ≡ c.args.word = to_z-of_z w16 c.args.word fits in
     let flooded : All (λ x. x ≡ c.args.word) c.flood.new.words = rw same at c.flood.ensures in

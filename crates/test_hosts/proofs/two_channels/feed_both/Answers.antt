@@ -3,11 +3,11 @@ use Rattle.test_hosts.proofs.TwoFeeds.{serves_both}
 use Rattle.test_hosts.proofs.two_channels.feed_both.Goals as goal
 
 pub returns-clause-both : goal.returns-clause-both
-returns-clause-both g c = serves_both g.M.Ialg.law _ _ _ _ _ _ _ _ c.feed.ensures.machine c.feed-2.ensures.machine
+returns-clause-both g c = serves_both g.M.Ialg.law _ _ _ _ _ _ _ _ c.fed-early.ensures.machine c.fed-late.ensures.machine
 
 pub returns-clause-agree : goal.returns-clause-agree
 returns-clause-agree g c =
     as_given g.M.Ialg.law (c.channels_agree.ensures g.M.Ialg.law.meaning) c.args.c c.args.d
-    c.args.first.now c.args.second.now c.args.whole.now c.feed.new.out.items c.feed-2.new.out.items c.feed-3.new.out.items
-    c.args.one.now c.feed.new.self c.feed-2.new.self c.args.other.now c.feed-3.new.self c.requires.joined
-    c.feed.ensures.machine c.feed-2.ensures.machine c.feed-3.ensures.machine
+    c.args.first.now c.args.second.now c.args.whole.now c.fed-early.result.items c.fed-late.result.items c.fed-whole.result.items
+    c.args.one.now c.fed-early.new.channels c.fed-late.new.channels c.args.other.now c.fed-whole.new.channels c.requires.joined
+    c.fed-early.ensures.machine c.fed-late.ensures.machine c.fed-whole.ensures.machine

@@ -1,122 +1,76 @@
-use Rattle.std.proofs.Common.{◌∙◌, ap, sym, lit≤}
-use Rattle.record_loans.specs.declared.pieces.Pieces.{Pieces}
+use Rattle.std.proofs.Common.{Some, lit≤}
 use Rattle.lifecycle.proofs.Frames.{fits_beside}
-use Rattle.test_lives.proofs.Housing.{owner, ready_group, all_gone, same_group_then, same_then, same_block_span, same_piece_span, still_whole}
+use Rattle.test_lives.proofs.Housing.{owner, ready_group, all_gone, all_same, same_group_then, same_pieces_then, same_block_span, still_whole}
 use Rattle.test_lives.proofs.neighbour_tests.members_take_turns.Goals as goal
 
 pub filter-first-requires-clause-object : goal.filter-first-requires-clause-object
-filter-first-requires-clause-object g c =
-    let whole = rw c.expect-external.ensures at c.make-2.ensures.whole in
-    let size = rw c.expect-external.ensures at c.make-2.ensures.region in
-    owner 4 c.expect-external.result.1 c.expect-external.result.0 (lit≤ tt) size whole
+filter-first-requires-clause-object g c = owner 4 c.region-external.result.1 c.region-external.result.0 (lit≤ tt) c.region-external.ensures.size (c.region-external.ensures.region, c.region-external.ensures.whole)
 
 pub filter-first-requires-clause-kept : goal.filter-first-requires-clause-kept
-filter-first-requires-clause-kept g c =
-    let whole = rw c.expect-saram.ensures at c.make-3.ensures.whole in
-    let size = rw c.expect-saram.ensures at c.make-3.ensures.region in
-    owner 4 c.expect-saram.result.1 c.expect-saram.result.0 (lit≤ tt) size whole
+filter-first-requires-clause-kept g c = owner 4 c.region-saram.result.1 c.region-saram.result.0 (lit≤ tt) c.region-saram.ensures.size (c.region-saram.ensures.region, c.region-saram.ensures.whole)
 
 pub filter-first-requires-clause-ready : goal.filter-first-requires-clause-ready
 filter-first-requires-clause-ready g c =
-    let whole = rw c.expect-daram.ensures at c.make.ensures.whole in
-    let size = rw c.expect-daram.ensures at c.make.ensures.region in
-    ready_group c.new-group.result c.replace.new.self c.expect-daram.result.1 c.new-group.ensures.blocks c.replace.ensures.new c.replace.ensures.others
-    (owner 1028 c.expect-daram.result.1 c.expect-daram.result.0 (lit≤ tt) size whole)
+    ready_group c.new-group.result c.replace.new.self c.region-daram.result.1 c.new-group.ensures.blocks c.replace.ensures.new c.replace.ensures.others
+    (owner 1028 c.region-daram.result.1 c.region-daram.result.0 (lit≤ tt) c.region-daram.ensures.size (c.region-daram.ensures.region, c.region-daram.ensures.whole))
 
 pub filter-second-requires-clause-object : goal.filter-second-requires-clause-object
-filter-second-requires-clause-object g c =
-    let whole = rw c.expect-other_external.ensures at c.make-4.ensures.whole in
-    let size = rw c.expect-other_external.ensures at c.make-4.ensures.region in
-    owner 4 c.expect-other_external.result.1 c.expect-other_external.result.0 (lit≤ tt) size whole
+filter-second-requires-clause-object g c = owner 4 c.region-other_external.result.1 c.region-other_external.result.0 (lit≤ tt) c.region-other_external.ensures.size (c.region-other_external.ensures.region, c.region-other_external.ensures.whole)
 
 pub filter-second-requires-clause-kept : goal.filter-second-requires-clause-kept
-filter-second-requires-clause-kept g c =
-    let whole = rw c.expect-other_saram.ensures at c.make-5.ensures.whole in
-    let size = rw c.expect-other_saram.ensures at c.make-5.ensures.region in
-    owner 4 c.expect-other_saram.result.1 c.expect-other_saram.result.0 (lit≤ tt) size whole
+filter-second-requires-clause-kept g c = owner 4 c.region-other_saram.result.1 c.region-other_saram.result.0 (lit≤ tt) c.region-other_saram.ensures.size (c.region-other_saram.ensures.region, c.region-other_saram.ensures.whole)
 
 pub filter-second-requires-clause-ready : goal.filter-second-requires-clause-ready
 filter-second-requires-clause-ready g c =
-    let whole = rw c.expect-daram.ensures at c.make.ensures.whole in
-    let size = rw c.expect-daram.ensures at c.make.ensures.region in
-    ready_group c.new-group.result c.replace.new.self c.expect-daram.result.1 c.new-group.ensures.blocks c.replace.ensures.new c.replace.ensures.others
-    (owner 1028 c.expect-daram.result.1 c.expect-daram.result.0 (lit≤ tt) size whole)
+    ready_group c.new-group.result c.replace.new.self c.region-daram.result.1 c.new-group.ensures.blocks c.replace.ensures.new c.replace.ensures.others
+    (owner 1028 c.region-daram.result.1 c.region-daram.result.0 (lit≤ tt) c.region-daram.ensures.size (c.region-daram.ensures.region, c.region-daram.ensures.whole))
 
-pub give-second-requires-clause-fits : goal.give-second-requires-clause-fits
-give-second-requires-clause-fits g c =
-    fits_beside _ _ _ c.replace.new.self c.give-first.new.group c.give-first.ensures.group c.filter-second.ensures.fits
+pub give-second_once-requires-clause-fits : goal.give-second_once-requires-clause-fits
+give-second_once-requires-clause-fits g c =
+    fits_beside _ _ _ c.replace.new.self c.give-first_once.new.group c.give-first_once.ensures.group c.filter-second.ensures.fits
 
-pub control-first-requires : goal.control-first-requires
-control-first-requires g c = record { fits = fits_beside _ _ _ c.give-first.new.group c.give-second.new.group c.give-second.ensures.group c.give-first.ensures.fits }
+pub control-first_asked-requires : goal.control-first_asked-requires
+control-first_asked-requires g c = record { fits = fits_beside _ _ _ c.give-first_once.new.group c.give-second_once.new.group c.give-second_once.ensures.group c.give-first_once.ensures.fits }
 
-pub give-second-requires-2-clause-fits : goal.give-second-requires-2-clause-fits
-give-second-requires-2-clause-fits g c =
-    fits_beside _ _ _ c.give-second.new.group c.give-first-2.new.group (same_group_then c.give-second.new.group c.control-first.new.group c.give-first-2.new.group c.control-first.ensures.group c.give-first-2.ensures.group) c.give-second.ensures.fits
+pub give-second_twice-requires-clause-fits : goal.give-second_twice-requires-clause-fits
+give-second_twice-requires-clause-fits g c =
+    fits_beside _ _ _ c.give-second_once.new.group c.give-first_twice.new.group
+    (same_group_then _ _ _ c.control-first_asked.ensures.group c.give-first_twice.ensures.group) c.give-second_once.ensures.fits
+
+pub end_filter-told-requires-clause-object : goal.end_filter-told-requires-clause-object
+end_filter-told-requires-clause-object g c =
+    all_same c.region-external.result.0 c.filter-first.result.instance.own.p0 c.give-first_twice.result.0.instance.own.p0
+    (all_same c.region-external.result.0 (Some c.region-external.result.1) c.filter-first.result.instance.own.p0 (c.region-external.ensures.region, c.region-external.ensures.whole) c.filter-first.ensures.object)
+    (same_pieces_then _ _ _ (same_pieces_then _ _ _ c.give-first_once.ensures.same.own c.control-first_asked.ensures.same.own) c.give-first_twice.ensures.same.own).p0
+
+pub end_filter-told-requires-clause-kept : goal.end_filter-told-requires-clause-kept
+end_filter-told-requires-clause-kept g c =
+    all_same c.region-saram.result.0 c.filter-first.result.instance.own.p1 c.give-first_twice.result.0.instance.own.p1
+    (all_same c.region-saram.result.0 (Some c.region-saram.result.1) c.filter-first.result.instance.own.p1 (c.region-saram.ensures.region, c.region-saram.ensures.whole) c.filter-first.ensures.kept)
+    (same_pieces_then _ _ _ (same_pieces_then _ _ _ c.give-first_once.ensures.same.own c.control-first_asked.ensures.same.own) c.give-first_twice.ensures.same.own).p1
+
+pub end_filter-other_told-requires-clause-object : goal.end_filter-other_told-requires-clause-object
+end_filter-other_told-requires-clause-object g c =
+    all_same c.region-other_external.result.0 c.filter-second.result.instance.own.p0 c.give-second_twice.result.0.instance.own.p0
+    (all_same c.region-other_external.result.0 (Some c.region-other_external.result.1) c.filter-second.result.instance.own.p0 (c.region-other_external.ensures.region, c.region-other_external.ensures.whole) c.filter-second.ensures.object)
+    (same_pieces_then _ _ _ c.give-second_once.ensures.same.own c.give-second_twice.ensures.same.own).p0
+
+pub end_filter-other_told-requires-clause-kept : goal.end_filter-other_told-requires-clause-kept
+end_filter-other_told-requires-clause-kept g c =
+    all_same c.region-other_saram.result.0 c.filter-second.result.instance.own.p1 c.give-second_twice.result.0.instance.own.p1
+    (all_same c.region-other_saram.result.0 (Some c.region-other_saram.result.1) c.filter-second.result.instance.own.p1 (c.region-other_saram.ensures.region, c.region-other_saram.ensures.whole) c.filter-second.ensures.kept)
+    (same_pieces_then _ _ _ c.give-second_once.ensures.same.own c.give-second_twice.ensures.same.own).p1
 
 pub end-requires : goal.end-requires
 end-requires g c =
-    let whole = rw c.expect-daram.ensures at c.make.ensures.whole in
-    let size = rw c.expect-daram.ensures at c.make.ensures.region in
-    let ready = ready_group c.new-group.result c.replace.new.self c.expect-daram.result.1 c.new-group.ensures.blocks c.replace.ensures.new c.replace.ensures.others
-    (owner 1028 c.expect-daram.result.1 c.expect-daram.result.0 (lit≤ tt) size whole) in
-    all_gone c.replace.new.self c.give-second-2.new.group c.remove.new.self ready (same_group_then c.replace.new.self c.give-first-2.new.group c.give-second-2.new.group (same_group_then c.replace.new.self c.control-first.new.group c.give-first-2.new.group (same_group_then c.replace.new.self c.give-second.new.group c.control-first.new.group (same_group_then c.replace.new.self c.give-first.new.group c.give-second.new.group c.give-first.ensures.group c.give-second.ensures.group) c.control-first.ensures.group) c.give-first-2.ensures.group) c.give-second-2.ensures.group) c.remove.ensures.others c.remove.ensures.new
+    let ready = ready_group c.new-group.result c.replace.new.self c.region-daram.result.1 c.new-group.ensures.blocks c.replace.ensures.new c.replace.ensures.others
+    (owner 1028 c.region-daram.result.1 c.region-daram.result.0 (lit≤ tt) c.region-daram.ensures.size (c.region-daram.ensures.region, c.region-daram.ensures.whole)) in
+    let same = same_group_then _ _ _ c.give-first_once.ensures.group (same_group_then _ _ _ c.give-second_once.ensures.group (same_group_then _ _ _ c.control-first_asked.ensures.group (same_group_then _ _ _ c.give-first_twice.ensures.group c.give-second_twice.ensures.group))) in
+    all_gone c.replace.new.self c.give-second_twice.new.group c.take_block-block.new.group ready same c.take_block-block.ensures.others c.take_block-block.ensures.new
 
-pub close-requires-clause-region : goal.close-requires-clause-region
-close-requires-clause-region g c =
-    let whole = rw c.expect-daram.ensures at c.make.ensures.whole in
-    let same = same_block_span 16 c.expect-daram.result.1 c.expect-block.result c.replace.new.self.daram c.give-second-2.new.group.daram c.replace.ensures.new (same_group_then c.replace.new.self c.give-first-2.new.group c.give-second-2.new.group (same_group_then c.replace.new.self c.control-first.new.group c.give-first-2.new.group (same_group_then c.replace.new.self c.give-second.new.group c.control-first.new.group (same_group_then c.replace.new.self c.give-first.new.group c.give-second.new.group c.give-first.ensures.group c.give-second.ensures.group) c.control-first.ensures.group) c.give-first-2.ensures.group) c.give-second-2.ensures.group).daram (sym c.remove.ensures.old ∙ c.expect-block.ensures) in
-    (still_whole c.expect-daram.result.1 _ c.expect-daram.result.0 whole same).0
-
-pub close-requires-clause-whole : goal.close-requires-clause-whole
-close-requires-clause-whole g c =
-    let whole = rw c.expect-daram.ensures at c.make.ensures.whole in
-    let same = same_block_span 16 c.expect-daram.result.1 c.expect-block.result c.replace.new.self.daram c.give-second-2.new.group.daram c.replace.ensures.new (same_group_then c.replace.new.self c.give-first-2.new.group c.give-second-2.new.group (same_group_then c.replace.new.self c.control-first.new.group c.give-first-2.new.group (same_group_then c.replace.new.self c.give-second.new.group c.control-first.new.group (same_group_then c.replace.new.self c.give-first.new.group c.give-second.new.group c.give-first.ensures.group c.give-second.ensures.group) c.control-first.ensures.group) c.give-first-2.ensures.group) c.give-second-2.ensures.group).daram (sym c.remove.ensures.old ∙ c.expect-block.ensures) in
-    (still_whole c.expect-daram.result.1 _ c.expect-daram.result.0 whole same).1
-
-pub close-requires-2-clause-region : goal.close-requires-2-clause-region
-close-requires-2-clause-region g c =
-    let whole = rw c.expect-external.ensures at c.make-2.ensures.whole in
-    let same = same_piece_span c.expect-external.result.1 _ _ c.freed-told.new.self.instance.own.p0 c.filter-first.ensures.object (same_then _ _ _ (same_then _ _ _ (same_then _ _ _ c.give-first.ensures.same.own.p0 c.control-first.ensures.same.own.p0) c.give-first-2.ensures.same.own.p0) c.freed-told.ensures.same.own.p0) (sym (ap (λ (ps : Pieces). ps.p0) c.finish.ensures) ∙ c.both-object.ensures.object) in
-    (still_whole c.expect-external.result.1 _ c.expect-external.result.0 whole same).0
-
-pub close-requires-2-clause-whole : goal.close-requires-2-clause-whole
-close-requires-2-clause-whole g c =
-    let whole = rw c.expect-external.ensures at c.make-2.ensures.whole in
-    let same = same_piece_span c.expect-external.result.1 _ _ c.freed-told.new.self.instance.own.p0 c.filter-first.ensures.object (same_then _ _ _ (same_then _ _ _ (same_then _ _ _ c.give-first.ensures.same.own.p0 c.control-first.ensures.same.own.p0) c.give-first-2.ensures.same.own.p0) c.freed-told.ensures.same.own.p0) (sym (ap (λ (ps : Pieces). ps.p0) c.finish.ensures) ∙ c.both-object.ensures.object) in
-    (still_whole c.expect-external.result.1 _ c.expect-external.result.0 whole same).1
-
-pub close-requires-3-clause-region : goal.close-requires-3-clause-region
-close-requires-3-clause-region g c =
-    let whole = rw c.expect-saram.ensures at c.make-3.ensures.whole in
-    let same = same_piece_span c.expect-saram.result.1 _ _ c.freed-told.new.self.instance.own.p1 c.filter-first.ensures.kept (same_then _ _ _ (same_then _ _ _ (same_then _ _ _ c.give-first.ensures.same.own.p1 c.control-first.ensures.same.own.p1) c.give-first-2.ensures.same.own.p1) c.freed-told.ensures.same.own.p1) (sym (ap (λ (ps : Pieces). ps.p1) c.finish.ensures) ∙ c.both-object.ensures.kept) in
-    (still_whole c.expect-saram.result.1 _ c.expect-saram.result.0 whole same).0
-
-pub close-requires-3-clause-whole : goal.close-requires-3-clause-whole
-close-requires-3-clause-whole g c =
-    let whole = rw c.expect-saram.ensures at c.make-3.ensures.whole in
-    let same = same_piece_span c.expect-saram.result.1 _ _ c.freed-told.new.self.instance.own.p1 c.filter-first.ensures.kept (same_then _ _ _ (same_then _ _ _ (same_then _ _ _ c.give-first.ensures.same.own.p1 c.control-first.ensures.same.own.p1) c.give-first-2.ensures.same.own.p1) c.freed-told.ensures.same.own.p1) (sym (ap (λ (ps : Pieces). ps.p1) c.finish.ensures) ∙ c.both-object.ensures.kept) in
-    (still_whole c.expect-saram.result.1 _ c.expect-saram.result.0 whole same).1
-
-pub close-requires-4-clause-region : goal.close-requires-4-clause-region
-close-requires-4-clause-region g c =
-    let whole = rw c.expect-other_external.ensures at c.make-4.ensures.whole in
-    let same = same_piece_span c.expect-other_external.result.1 _ _ c.give-second-2.result.0.instance.own.p0 c.filter-second.ensures.object (same_then _ _ _ c.give-second.ensures.same.own.p0 c.give-second-2.ensures.same.own.p0) (sym (ap (λ (ps : Pieces). ps.p0) c.finish-2.ensures) ∙ c.both-other_object.ensures.object) in
-    (still_whole c.expect-other_external.result.1 _ c.expect-other_external.result.0 whole same).0
-
-pub close-requires-4-clause-whole : goal.close-requires-4-clause-whole
-close-requires-4-clause-whole g c =
-    let whole = rw c.expect-other_external.ensures at c.make-4.ensures.whole in
-    let same = same_piece_span c.expect-other_external.result.1 _ _ c.give-second-2.result.0.instance.own.p0 c.filter-second.ensures.object (same_then _ _ _ c.give-second.ensures.same.own.p0 c.give-second-2.ensures.same.own.p0) (sym (ap (λ (ps : Pieces). ps.p0) c.finish-2.ensures) ∙ c.both-other_object.ensures.object) in
-    (still_whole c.expect-other_external.result.1 _ c.expect-other_external.result.0 whole same).1
-
-pub close-requires-5-clause-region : goal.close-requires-5-clause-region
-close-requires-5-clause-region g c =
-    let whole = rw c.expect-other_saram.ensures at c.make-5.ensures.whole in
-    let same = same_piece_span c.expect-other_saram.result.1 _ _ c.give-second-2.result.0.instance.own.p1 c.filter-second.ensures.kept (same_then _ _ _ c.give-second.ensures.same.own.p1 c.give-second-2.ensures.same.own.p1) (sym (ap (λ (ps : Pieces). ps.p1) c.finish-2.ensures) ∙ c.both-other_object.ensures.kept) in
-    (still_whole c.expect-other_saram.result.1 _ c.expect-other_saram.result.0 whole same).0
-
-pub close-requires-5-clause-whole : goal.close-requires-5-clause-whole
-close-requires-5-clause-whole g c =
-    let whole = rw c.expect-other_saram.ensures at c.make-5.ensures.whole in
-    let same = same_piece_span c.expect-other_saram.result.1 _ _ c.give-second-2.result.0.instance.own.p1 c.filter-second.ensures.kept (same_then _ _ _ c.give-second.ensures.same.own.p1 c.give-second-2.ensures.same.own.p1) (sym (ap (λ (ps : Pieces). ps.p1) c.finish-2.ensures) ∙ c.both-other_object.ensures.kept) in
-    (still_whole c.expect-other_saram.result.1 _ c.expect-other_saram.result.0 whole same).1
+pub close-requires : goal.close-requires
+close-requires g c =
+    let same = same_group_then _ _ _ c.give-first_once.ensures.group (same_group_then _ _ _ c.give-second_once.ensures.group (same_group_then _ _ _ c.control-first_asked.ensures.group (same_group_then _ _ _ c.give-first_twice.ensures.group c.give-second_twice.ensures.group))) in
+    let back = same_block_span 16 c.region-daram.result.1 c.take_block-block.result c.replace.new.self.daram c.give-second_twice.new.group.daram c.replace.ensures.new same.daram c.take_block-block.ensures.old in
+    let whole = still_whole c.region-daram.result.1 _ c.region-daram.result.0 (c.region-daram.ensures.region, c.region-daram.ensures.whole) back in
+    record { region = whole.0; whole = whole.1 }

@@ -1,4 +1,4 @@
-use Rattle.std.proofs.Common.{◌≡◌, ℕ, None}
+use Rattle.std.proofs.Common.{◌≡◌, None}
 use Rattle.record_loans.specs.Pieces.{no_pieces}
 use Rattle.host_shared.proofs.Stands.{seen_of}
 use Rattle.host_table.specs.Table.{slot_at}

@@ -9,12 +9,12 @@ use Rattle.test_memory.proofs.groups.records_are_lent_at_their_offsets.Goals as 
 
 pub lend-requires-clause-sizes : goal.lend-requires-clause-sizes
 lend-requires-clause-sizes g c =
-    let whole = rw c.expect-external.ensures at c.make-2.ensures.whole in
-    let size = rw c.expect-external.ensures at c.make-2.ensures.region in
-    let object : length c.expect-external.result.1.words ≡ 4 = whole.1.1 ∙ ap (λ (r : Extent). r.size) whole.0 ∙ size in
-    let all = rw c.expect-daram.ensures at c.make.ensures.whole in
-    let large = rw c.expect-daram.ensures at c.make.ensures.region in
-    let block : length c.expect-daram.result.1.words ≡ 28 = all.1.1 ∙ ap (λ (r : Extent). r.size) all.0 ∙ large in
+    let whole = c.memory-external.ensures.whole in
+    let size = c.memory-external.ensures.size in
+    let object : length c.memory-external.result.1.words ≡ 4 = whole.1.1 ∙ ap (λ (r : Extent). r.size) whole.0 ∙ size in
+    let all = c.memory-daram.ensures.whole in
+    let large = c.memory-daram.ensures.size in
+    let block : length c.memory-daram.result.1.words ≡ 28 = all.1.1 ∙ ap (λ (r : Extent). r.size) all.0 ∙ large in
     let own : length (piece_words c.put_in.new.self.p0) ≡ 4 = ap (λ (ps : Pieces). length (piece_words ps.p0)) c.put_in.ensures ∙ object in
     let lent : length (block_words c.replace.new.self.daram) ≡ 28 = ap (λ (b : Option ScratchBlock). length (block_words b)) c.replace.ensures.new ∙ block in
     one_has_words c.one_space-table.result c.put_in.new.self c.none-none.result c.replace.new.self c.one_space-table.ensures (omega (arith, own)) (omega (arith, lent))

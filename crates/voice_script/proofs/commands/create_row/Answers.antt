@@ -18,8 +18,8 @@ returns-in_err-group c = grind (arith, and_parts, unfit)
 pub returns-in_err-parameters : goal.returns-in_err-parameters
 returns-in_err-parameters c = grind (arith, and_parts, unfit)
 
-pub returns-in_err-byte : goal.returns-in_err-byte
-returns-in_err-byte c = grind (arith, and_parts, unfit)
+pub returns-in_err-i : goal.returns-in_err-i
+returns-in_err-i c = grind (arith, and_parts, unfit)
 
-pub returns-in_err-byte-2 : goal.returns-in_err-byte-2
-returns-in_err-byte-2 c = grind (arith, and_parts, unfit)
+pub returns-in_err-g : goal.returns-in_err-g
+returns-in_err-g c = grind (arith, and_parts, unfit)

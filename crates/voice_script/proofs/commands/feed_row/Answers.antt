@@ -13,8 +13,8 @@ returns-in_err-samples c = grind arith
 pub returns-in_err-end : goal.returns-in_err-end
 returns-in_err-end c = grind arith
 
-pub returns-in_err-byte : goal.returns-in_err-byte
-returns-in_err-byte c = grind arith
+pub returns-in_err-c : goal.returns-in_err-c
+returns-in_err-c c = grind arith
 
-pub returns-in_err-samples-2 : goal.returns-in_err-samples-2
-returns-in_err-samples-2 c = grind arith
+pub returns-in_err-n : goal.returns-in_err-n
+returns-in_err-n c = grind arith

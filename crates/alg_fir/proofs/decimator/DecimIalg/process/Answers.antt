@@ -1,9 +1,9 @@
 use Rattle.std.proofs.Common.{◌≡◌, length, sym, ap, subst, ◌∙◌, pos, arith}
 use Rattle.ialg.specs.Loans.{lent_words}
 use Rattle.alg_fir.specs.Keeps.{KeepsRing}
-use Rattle.alg_fir.specs.DecimKeeps.{taps_of, coefficients_of, phase}
+use Rattle.alg_fir.specs.DecimKeeps.{taps_of, coefficients_of}
 use Rattle.alg_fir.proofs.DecimRecords.{constants_are, constants_same, finds, lent_still}
-use Rattle.alg_fir.proofs.DecimSteps.{is_taken, phase_after}
+use Rattle.alg_fir.proofs.DecimSteps.{is_taken, phase, phase_after}
 use Rattle.ialg.specs.History.{word_at, with_samples}
 use Rattle.ialg.proofs.Histories.{IsWordHistory-with_samples, words_in_force-with_samples}
 use Rattle.alg_fir.proofs.decimator.DecimIalg.process.Goals as goal

@@ -23,37 +23,37 @@ inside bs slice again found m order same one is some = subst (λ (xs : List Plac
 
 pub overflow_add-packed : goal.overflow_add-packed
 overflow_add-packed c =
-    let lt = inside c.self.inside.blocks.items c.as_slice.result.now c.as_slice.result.now c.next_move_behind.result c.in-Some.field-0 c.self.invariant.0.order
+    let lt = inside c.self.inside.blocks.items c.as_slice.result.now c.as_slice.result.now c.next_move_behind.result c.in-Some.next c.self.invariant.0.order
     c.as_slice.ensures.value c.as_slice.ensures.value c.next_move_behind.ensures.value c.in-Some.is in
     let v = c.self.inside.blocks in omega (arith, lt, c.as_slice.ensures.len, v.ok.1, c.self.invariant.1)
 
 pub bounds-as_slice-index : goal.bounds-as_slice-index
 bounds-as_slice-index c =
-    inside c.self.inside.blocks.items c.as_slice.result.now c.as_slice-in-Some.result.now c.next_move_behind.result c.in-Some.field-0 c.self.invariant.0.order
+    inside c.self.inside.blocks.items c.as_slice.result.now c.as_slice-in-Some.result.now c.next_move_behind.result c.in-Some.next c.self.invariant.0.order
     c.as_slice.ensures.value c.as_slice-in-Some.ensures.value c.next_move_behind.ensures.value c.in-Some.is
 
 pub offset_bounds-as_slice-index : goal.offset_bounds-as_slice-index
 offset_bounds-as_slice-index c =
-    let lt = inside c.self.inside.blocks.items c.as_slice.result.now c.as_slice-in-Some.result.now c.next_move_behind.result c.in-Some.field-0 c.self.invariant.0.order
+    let lt = inside c.self.inside.blocks.items c.as_slice.result.now c.as_slice-in-Some.result.now c.next_move_behind.result c.in-Some.next c.self.invariant.0.order
     c.as_slice.ensures.value c.as_slice-in-Some.ensures.value c.next_move_behind.ensures.value c.in-Some.is in
     let v = c.self.inside.blocks in omega (arith, lt, c.as_slice-in-Some.ensures.len, v.ok.1, c.self.invariant.1)
 
 pub returns-in-Some-clause-value : goal.returns-in-Some-clause-value
 returns-in-Some-clause-value c =
-    let bs = c.self.inside.blocks.items in let m = c.in-Some.field-0 in
+    let bs = c.self.inside.blocks.items in let m = c.in-Some.next in
     ap (λ (xs : List Placed). Some (get_or xs m.index blank)) c.as_slice-in-Some.ensures.value ∙ next_found bs m blank c.self.invariant.0.order
     (next bs c.as_slice.result.now c.next_move_behind.result m c.as_slice.ensures.value c.next_move_behind.ensures.value c.in-Some.is)
     ∙ ap (λ (v : SpaceState). next_block v.blocks) c.self.view_is
 
 pub returns-in-Some-clause-front : goal.returns-in-Some-clause-front
 returns-in-Some-clause-front c some =
-    let bs = c.self.inside.blocks.items in let m = c.in-Some.field-0 in
+    let bs = c.self.inside.blocks.items in let m = c.in-Some.next in
     subst (λ (v : SpaceState). HasFront (m.index + 1) (moved v.blocks)) c.self.view_is
     (front_moved bs m c.self.invariant.0.order (next bs c.as_slice.result.now c.next_move_behind.result m c.as_slice.ensures.value c.next_move_behind.ensures.value c.in-Some.is))
 
 pub returns-in-Some-clause-index : goal.returns-in-Some-clause-index
 returns-in-Some-clause-index c some =
-    let bs = c.self.inside.blocks.items in let m = c.in-Some.field-0 in
+    let bs = c.self.inside.blocks.items in let m = c.in-Some.next in
     subst (λ (v : SpaceState). option_map (λ (x : Move). x.index + 1) (next_in v.blocks) ≡ Some (m.index + 1)) c.self.view_is
     (ap (option_map (λ (x : Move). x.index + 1)) (next bs c.as_slice.result.now c.next_move_behind.result m c.as_slice.ensures.value c.next_move_behind.ensures.value c.in-Some.is))
 

@@ -11,7 +11,7 @@ use Rattle.relocate.specs.Spots.{AreSpots}
 use Rattle.host_spaces.proofs.Keeping.{is_without, kept_given, kept_sorted, piece_block, stands_there}
 use Rattle.host_spaces.proofs.Owners.{others_without, removed_only}
 use Rattle.host_spaces.proofs.blocks.SpaceBlocks.take_out.Goals as goal
-use Rattle.host_spaces.proofs.blocks.SpaceBlocks.take_out.Goals.{After-give, After-give-arg-1}
+use Rattle.host_spaces.proofs.blocks.SpaceBlocks.take_out.Goals.{After-give}
 
 -- what a read past the end would give
 abbrev blank : Placed

@@ -1,10 +1,10 @@
-use Rattle.std.proofs.Common.{sym}
-use Rattle.host_spaces.proofs.Owners.{disowned_none}
-use Rattle.host_spaces.specs.MemoryMap.{space_in}
 use Rattle.host_spaces.proofs.spaces.Spaces.give_back.Goals as goal
 
-pub returns-in-Some-clause-others : goal.returns-in-Some-clause-others
-returns-in-Some-clause-others c = rw (c.in-Some.is) c.take_out.ensures.others
+pub returns-in-Daram-clause-others : goal.returns-in-Daram-clause-others
+returns-in-Daram-clause-others c = rw (c.in-Daram.is) c.give_back.ensures.others
 
-pub returns-in-None-clause-only : goal.returns-in-None-clause-only
-returns-in-None-clause-only c = rw (c.in-None.is) (λ owner align none. sym (disowned_none owner (space_in c.args.self.now c.args.space).blocks none))
+pub returns-in-Saram-clause-others : goal.returns-in-Saram-clause-others
+returns-in-Saram-clause-others c = rw (c.in-Saram.is) c.give_back-in-Saram.ensures.others
+
+pub returns-in-External-clause-others : goal.returns-in-External-clause-others
+returns-in-External-clause-others c = rw (c.in-External.is) c.give_back-in-External.ensures.others

@@ -1,4 +1,4 @@
-use Rattle.std.proofs.Common.{◌≡◌, ◌<◌, ℕ, Some, None, refl, sym, ◌∙◌, ap, subst}
+use Rattle.std.proofs.Common.{◌≡◌, ◌<◌, ℕ, Some, refl, sym, ◌∙◌, ap, subst}
 use Rattle.std.proofs.lemmas.Option.{none-some}
 use Rattle.mem_rec.specs.declared.TheConstants.{GROUPS}
 use Rattle.host_table.specs.Table.{slot_at, group_at, group_of, slot_active_in, activity_at}
@@ -13,8 +13,7 @@ pub activate_and_run-requires-clause-idle : goal.activate_and_run-requires-claus
 activate_and_run-requires-clause-idle g c =
     let m = member_of (slot_at c.args.self.now.instances c.args.i) c.requires.living in
     let later = later_member _ _ m.0 m.1 (c.deactivate_in-deactivated.ensures.step.same.slot c.args.i) in
-    let at_group : c.in-Some.g ≡ group_of (slot_at c.args.self.now.instances c.args.i) = rw (← c.self.view_is) c.in-Some.ensures.group in
-    let group : c.in-Some.g ≡ later.0.group = at_group ∙ sym (same_group_of _ _ (c.deactivate_in-deactivated.ensures.step.same.slot c.args.i)) ∙ ap group_of later.1.0 in
+    let group : c.in-Some.g ≡ later.0.group = c.in-Some.ensures.group ∙ sym (same_group_of _ _ (c.deactivate_in-deactivated.ensures.step.same.slot c.args.i)) ∙ ap group_of later.1.0 in
     let none = none_active_after (activity_at c.args.self.now.groups) (activity_at c.deactivate_in-deactivated.new.self.groups) c.in-Some.g c.deactivate_in-deactivated.ensures.step.activity in
     ap slot_active_in later.1.0
     ∙ never_active later.0.group later.0.inst
@@ -23,14 +22,12 @@ activate_and_run-requires-clause-idle g c =
 pub returns-clause-step : goal.returns-clause-step
 returns-clause-step g c =
     let m = member_of (slot_at c.args.self.now.instances c.args.i) c.requires.living in
-    let at_group : c.in-Some.g ≡ group_of (slot_at c.args.self.now.instances c.args.i) = rw (← c.self.view_is) c.in-Some.ensures.group in
-    let group : m.0.group ≡ c.in-Some.g = ap group_of (sym m.1) ∙ sym at_group in
+    let group : m.0.group ≡ c.in-Some.g = ap group_of (sym m.1) ∙ sym c.in-Some.ensures.group in
     let in_range : c.in-Some.g < GROUPS = subst (λ (k : ℕ). k < GROUPS) group (c.requires.ready.ok.group_range c.args.i m.0 m.1) in
-    let at_idle : slot_active_in (slot_at c.args.self.now.instances c.args.i) ≡ None = rw (← c.self.view_is) c.in-Some.ensures.idle in
     let idle = not_active (group_at c.args.self.now.groups c.in-Some.g).active c.args.i
-    (λ active. none-some _ (sym at_idle ∙ c.requires.ready.ok.active_there _ _ in_range active)) in
+    (λ active. none-some _ (sym c.in-Some.ensures.idle ∙ c.requires.ready.ok.active_there _ _ in_range active)) in
     steps_told
-    (λ k. rw (← at_group)
+    (λ k. rw (← c.in-Some.ensures.group)
     (activity_after_activation (activity_at c.args.self.now.groups) (activity_at c.deactivate_in-deactivated.new.self.groups) c.in-Some.g c.args.i
     (newly_active c.args.i (activity_at c.deactivate_in-deactivated.new.self.groups c.in-Some.g)) c.deactivate_in-deactivated.ensures.step.activity idle refl refl k))
     (steps_then c.deactivate_in-deactivated.ensures.step (c.activate_and_run.ensures.step c.args.poison c.deactivate_in-deactivated.ensures.step.poisoned))
@@ -45,6 +42,5 @@ returns-clause-output g c histories keeps m at lawful =
 
 pub returns-in_default-clause-step : goal.returns-in_default-clause-step
 returns-in_default-clause-step g c =
-    let active : slot_active_in (slot_at c.args.self.now.instances c.args.i) ≡ Some (group_of (slot_at c.args.self.now.instances c.args.i)) = rw (← c.self.view_is) c.in_default.ensures.active in
-    steps_told (touched_stays (activity_at c.args.self.now.groups) _ c.args.i (c.requires.ready.ok.active_known _ _ active))
+    steps_told (touched_stays (activity_at c.args.self.now.groups) _ c.args.i (c.requires.ready.ok.active_known _ _ c.in_default.ensures.active))
     (c.run.ensures.step c.args.poison c.requires.ready.poisoned)

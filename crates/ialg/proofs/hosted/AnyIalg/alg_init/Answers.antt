@@ -24,7 +24,7 @@ returns-clause-law g c w lawful taken table lent writable poison =
     let valid = rw s.records at (is_table-unplaced tab c.write_object_of.ensures.valid) in
     let named = kept_at s.memory valid m F.KIND (rw same names) (rw same lent.apart) size in
     let found = c.in-Some.ensures.named F.KIND records named persist_not_once in
-    let v = visit 1 m _ _ c.in-Some.field-0 _ found (lit< tt) (λ e. omega arith) c.in-Some.ensures.left c.put.ensures.others c.put.ensures.back in
+    let v = visit 1 m _ _ c.in-Some.taken _ found (lit< tt) (λ e. omega arith) c.in-Some.ensures.left c.put.ensures.others c.put.ensures.back in
     let fresh = (rw c.as_slice.ensures.value at c.start.ensures) s.memory s.granted (ap (λ r. length r.now) v.taken ∙ size) in
     let placed : IsPlaced F.KIND asked tab (lent_words m) = record { memory = s.memory; granted = s.granted; valid = valid; object = names; none_once = none_once s.memory tab s.records } in
     asleep F.KIND asked tab (F.rests p []) (lent_words c.put.new.self)

@@ -18,10 +18,10 @@ returns-clause-law g c p w h lawful closed lent active =
     let placed = active.placed in
     let records = filter_records placed.memory in
     let found = c.in-Some.ensures.named F.KIND records (running_named F.KIND asked m placed lent) scratch_not_once in
-    let v = visit 2 m _ _ c.in-Some.field-0 _ found (lit< tt) (λ e. omega arith) c.in-Some.ensures.left c.put.ensures.others c.put.ensures.back in
+    let v = visit 2 m _ _ c.in-Some.taken _ found (lit< tt) (λ e. omega arith) c.in-Some.ensures.left c.put.ensures.others c.put.ensures.back in
     let named = v.named 1 Saram F.KIND records (λ e. omega arith) (kept_named F.KIND asked m placed lent) in
     let same = v.others 1 (λ e. omega arith) in
-    let runs : F.runs p h c.take_named.new.self.r1.now c.in-Some.field-0.words.now = rw (same, v.taken) active.keeps in
+    let runs : F.runs p h c.take_named.new.self.r1.now c.in-Some.taken.words.now = rw (same, v.taken) active.keeps in
     let after = c.run_with.ensures.history p h placed.memory named runs in (
       running_now F.KIND asked m.table.now _ (lent_words m) (lent_words c.put.new.self) placed (F.runs p (with_samples h xs)) v.written (rw same at after),
       c.run_with.ensures.outputs p h placed.memory named runs,
@@ -42,7 +42,7 @@ returns-clause-leaves g c p h lent active =
     let placed = active.placed in
     let records = filter_records placed.memory in
     let found = c.in-Some.ensures.named F.KIND records (running_named F.KIND asked m placed lent) scratch_not_once in
-    let v = visit 2 m _ _ c.in-Some.field-0 _ found (lit< tt) (λ e. omega arith) c.in-Some.ensures.left c.put.ensures.others c.put.ensures.back in
+    let v = visit 2 m _ _ c.in-Some.taken _ found (lit< tt) (λ e. omega arith) c.in-Some.ensures.left c.put.ensures.others c.put.ensures.back in
     lasting-Rewritten 2 _ m.table.now (lent_words m) (lent_words c.put.new.self) v.written refl
     (attr_of m.table.now records placed.object.on_table 2)
 

@@ -7,8 +7,8 @@ use Rattle.memory_trace.specs.Held.{AreOf}
 use Rattle.memory_trace.proofs.HeldLemmas.{ranges, ranges_around, of_with}
 use Rattle.memory_trace.proofs.desk.Desk.take.Goals as goal
 
-pub invariant_of-self-2 : goal.invariant_of-self-2
-invariant_of-self-2 c =
+pub invariant_of-self : goal.invariant_of-self
+invariant_of-self c =
     let xs = c.self.inside.held.items in let heap = c.self.inside.heap in let block = c.in-Some.block in let told = c.in-Some.ensures in
     let items = c.push_reserved.ensures.items in let stays = told.stays.0 in
     let before : Holds heap (ranges xs ++ []) = subst (λ rs. Holds heap rs) (sym (append-nil (ranges xs))) c.self.invariant.0 in

@@ -7,7 +7,7 @@ returns-clause-marked g c = λ _.
     let made = c.make_room_at.new.self in
     let outputs = set made.outputs.items c.args.number c.take_some-count.new.self in
     marked_last c.args.number outputs c.index.result.now made.replies _ c.push.new.self.items _
-    c.push.ensures.items refl c.len-2.ensures (rw (length-set, c.make_room_at.ensures.count) c.requires) c.index.ensures c.len.ensures
+    c.push.ensures.items refl c.len-before.ensures (rw (length-set, c.make_room_at.ensures.count) c.requires) c.index.ensures c.len-least.ensures
 
 pub returns-clause-remembers : goal.returns-clause-remembers
 returns-clause-remembers g c = λ _.

@@ -1,8 +1,8 @@
-use Rattle.std.proofs.Common.{◌≡◌, ◌∙◌, false, true, inr, refl, sym, take}
+use Rattle.std.proofs.Common.{◌≡◌, ◌∙◌, false, true, inr, refl, sym}
 use Rattle.std.proofs.lemmas.Bool.{false≢true}
-use Rattle.octet_ports.proofs.PassLemmas.{gets_last, gets_passed, is_last, loses_none_twice}
+use Rattle.octet_ports.proofs.PassLemmas.{gets_last, gets_passed, loses_none_twice}
 use Rattle.octet_ports.proofs.journal.Journal.put_reply.Goals as goal
-use Rattle.octet_ports.proofs.journal.Journal.put_reply.Goals.{else-eq-via-then-eq+else-eq-2, else-eq-via-else-eq}
+use Rattle.octet_ports.proofs.journal.Journal.put_reply.Goals.{else-eq-via-then-eq+else-ends_line, else-eq-via-else-eq}
 
 pub returns-in_ok-pass_on-clause-gets : goal.returns-in_ok-pass_on-clause-gets
 returns-in_ok-pass_on-clause-gets g c =
@@ -36,10 +36,8 @@ returns-else-eq-clause-gets g c = gets_last g.R.Write.contents _ c.args.self.now
 
 pub returns-else-eq-clause-passed : goal.returns-else-eq-clause-passed
 returns-else-eq-clause-passed g c = λ line ends. elim c.else-eq.branch [
-  | else-eq-via-then-eq+else-eq-2 w ↦
-      let octets = take c.take_some-count.result c.args.octets.now in
-      let last : w.eq-then-eq.result ≡ true = w.eq-then-eq.ensures ∙ is_last w.last.result _ octets ends.0 w.last.ensures.value ends.1 in
-      absurd (false≢true (sym w.if-eq-2.false ∙ last))
+  | else-eq-via-then-eq+else-ends_line w ↦
+      absurd (false≢true (sym w.if-ends_line.false ∙ w.ends_line.ensures ends))
   | else-eq-via-else-eq w ↦
       let same : c.eq.result ≡ true = rw (c.make_room_for_reply.ensures.passing, line) at c.eq.ensures in
       absurd (false≢true (sym w.if-eq.false ∙ same))

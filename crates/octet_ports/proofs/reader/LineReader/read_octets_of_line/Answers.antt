@@ -1,4 +1,4 @@
-use Rattle.std.proofs.Common.{rules, ◌≡◌, ◌≤◌, ◌∙◌, Ok, ap, length, arith}
+use Rattle.std.proofs.Common.{rules, ◌≡◌, ◌≤◌, ◌∙◌, Ok, Some, None, length, arith}
 use Rattle.std.proofs.lemmas.Bool.Decides.{nat_tests}
 use Rattle.octet_ports.specs.Readers.{OctetCame}
 use Rattle.octet_ports.proofs.Ahead.{some_where_feed, feed_behind}
@@ -14,8 +14,9 @@ pub octets-preserved-then-is_full : goal.octets-preserved-then-is_full
 octets-preserved-then-is_full g c =
     let octet = c.in-Ok-Some.octet in
     let came = c.octets.invariant.came in
+    let read : c.next_octet.result ≡ Ok (Some octet) = cc in
     let next : OctetCame octet c.octets.self c.next_octet.new.self (g.S.PortIn.source c.octets.script) (g.S.PortIn.source c.next_octet.new.script) =
-    rw c.in-Ok-Some.field-0-is at c.in-Ok-Some.ensures.some in
+    rw read at c.next_octet.ensures.some in
     let full : length c.octets.text.items ≡ g.row.MOST = grind (arith, nat_tests) in
     record {
       ready = search rules;
@@ -28,8 +29,9 @@ pub octets-preserved : goal.octets-preserved
 octets-preserved g c =
     let octet = c.in-Ok-Some.octet in
     let came = c.octets.invariant.came in
+    let read : c.next_octet.result ≡ Ok (Some octet) = cc in
     let next : OctetCame octet c.octets.self c.next_octet.new.self (g.S.PortIn.source c.octets.script) (g.S.PortIn.source c.next_octet.new.script) =
-    rw c.in-Ok-Some.field-0-is at c.in-Ok-Some.ensures.some in
+    rw read at c.next_octet.ensures.some in
     let room : length c.octets.text.items ≡ g.row.MOST → ⊥ = grind (arith, nat_tests) in
     let fits : length c.octets.text.items ≤ g.row.MOST = search rules in
     record {
@@ -41,14 +43,16 @@ octets-preserved g c =
 
 pub returns-in-Ok-None-clause-ok : goal.returns-in-Ok-None-clause-ok
 returns-in-Ok-None-clause-ok g c =
-    let end = c.in-Ok-None.ensures.none (ap Ok c.in-Ok-None.field-0-is) in
+    let read : c.next_octet.result ≡ Ok None = cc in
+    let end = c.next_octet.ensures.none read in
     rw end.none (line_last (rw end.before at c.octets.invariant.came) end.gives end.at_end end.left)
 
 pub returns-then-octet-eq-LINE_FEED-clause-ok : goal.returns-then-octet-eq-LINE_FEED-clause-ok
 returns-then-octet-eq-LINE_FEED-clause-ok g c =
     let octet = c.in-Ok-Some.octet in
+    let read : c.next_octet.result ≡ Ok (Some octet) = cc in
     let next : OctetCame octet c.octets.self c.next_octet.new.self (g.S.PortIn.source c.octets.script) (g.S.PortIn.source c.next_octet.new.script) =
-    rw c.in-Ok-Some.field-0-is at c.in-Ok-Some.ensures.some in
+    rw read at c.next_octet.ensures.some in
     line_came octet c.octets.invariant.came c.if-octet-eq-LINE_FEED.true next.gives next.used
 
 pub returns-then-octet-eq-LINE_FEED-clause-waits : goal.returns-then-octet-eq-LINE_FEED-clause-waits

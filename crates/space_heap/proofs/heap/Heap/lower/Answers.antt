@@ -13,15 +13,16 @@ use Rattle.space_heap.proofs.Counts.{there, there_less}
 use Rattle.space_heap.proofs.MapLemmas.{agree, same_marks, moved_blocks, moved_agrees}
 use Rattle.space_heap.proofs.PlaceLemmas.{lowered, not_lowered}
 use Rattle.space_heap.proofs.heap.Heap.lower.Given.{Over}
+use Rattle.space_heap.proofs.heap.Heap.lower.Goals.{After-put_behind}
 use Rattle.space_heap.proofs.heap.Heap.lower.Goals as goal
 
-pub returns-in_default-clause-place : goal.returns-in_default-clause-place
-returns-in_default-clause-place g c =
+pub returns-in-None-clause-place : goal.returns-in-None-clause-place
+returns-in-None-clause-place g c =
     let heap = c.self.inside in let slots = heap.rest.slots in let words = heap.region.size in let r = range_of c.args.piece in
     λ before after holds.
     let map = subst (λ (v : HeapState). Holds v (before ++ r ∷ after)) (sym c.self.view_is) holds in
     let same = agree words slots (before ++ r ∷ after) c.self.invariant.long map.free in
-    let place = c.in_default.ensures.place in
+    let place = c.in-None.ensures.place in
     ap (λ (s : Span). s.place) c.gap_before.ensures.same.1 ∙ not_lowered words before after r (in_rest slots) place.0 map.placed same place.1 c.args.align place.2
 
 -- the words that the block leaves come behind it, and it behind what is left of the hole
@@ -48,10 +49,10 @@ put_behind-requires-clause-front g c =
     let gap = c.carve-gap.ensures.block.1 in let hole = moved.hole.1 in let as_long = ap (λ (t : Span). length t.words) same.1 in
     left_front c.self.inside.rest.slots c.carve-gap.new.rest.slots c.self.inside.first c.carve-gap.new.first r fit (c.place.result - fit.place)
     block c.gap_before.ensures.taken told.0 told.1 told.2 long (omega arith) c.carve-gap.ensures.holes
-    c.slide-block.result.1.place c.place-2.result c.behind-front.result (omega arith) c.place-2.ensures.value c.behind-front.ensures
+    c.slide-block.result.1.place c.place-end.result c.behind-front.result (omega arith) c.place-end.ensures.value c.behind-front.ensures
 
 -- the gap that is taken out, the block in its place, and what is behind it
-module _ (g : Over) (c : goal.After-self-1 g) where
+module _ (g : Over) (c : After-put_behind g) where
   abbrev old : List (Option ℤ)
   old = c.self.inside.rest.slots
 
@@ -129,17 +130,17 @@ module _ (g : Over) (c : goal.After-self-1 g) where
     inside = omega arith;
   }
 
-pub invariant_of-self-2 : goal.invariant_of-self-2
-invariant_of-self-2 g c = record {
+pub invariant_of-self : goal.invariant_of-self
+invariant_of-self g c = let d = (goal.at.invariant_of-self g c).After-put_behind in record {
   owner = c.put_behind.ensures.rest.0 ∙ c.carve-gap.ensures.rest.0 ∙ ap (λ (t : Scattered). t.region) c.gap_before.ensures.same.0 ∙ c.self.invariant.owner;
   same_size = c.self.invariant.same_size;
-  long = new_long g c ∙ c.self.invariant.long;
+  long = new_long g d ∙ c.self.invariant.long;
   holes = c.put_behind.ensures.holes;
-  counted = c.self.invariant.counted ∙ sym (as_many g c);
+  counted = c.self.invariant.counted ∙ sym (as_many g d);
 }
 
-pub returns-clause-place : goal.returns-clause-place
-returns-clause-place g c =
+pub returns-in-Some-clause-place : goal.returns-in-Some-clause-place
+returns-in-Some-clause-place g c =
     let heap = c.self.inside in let slots = heap.rest.slots in let words = heap.region.size in let r = range_of c.args.piece in
     λ before after holds.
     let map = subst (λ (v : HeapState). Holds v (before ++ r ∷ after)) (sym c.self.view_is) holds in
@@ -148,17 +149,18 @@ returns-clause-place g c =
     c.slide-block.ensures.block.1 ∙ c.carve-gap.ensures.block.1
     ∙ lowered words before after r (in_rest slots) place.0 map.placed same place.1 c.args.align c.in-Some.fit.place place.2 found.0
 
-pub returns-clause-taken : goal.returns-clause-taken
-returns-clause-taken g c =
+pub returns-in-Some-clause-taken : goal.returns-in-Some-clause-taken
+returns-in-Some-clause-taken g c =
+    let d = (goal.at.returns-in-Some-clause-taken g c).After-put_behind in
     let words = c.self.inside.region.size in let long = c.self.invariant.long in
-    let block = subst (λ n. IsBlock n (s g c)) long (is_block g c) in
+    let block = subst (λ n. IsBlock n (s g d)) long (is_block g d) in
     λ before after holds.
-    let map = subst (λ (v : HeapState). Holds v (before ++ r g c ∷ after)) (sym c.self.view_is) holds in
-    let same = agree words (old g c) (before ++ r g c ∷ after) long map.free in
+    let map = subst (λ (v : HeapState). Holds v (before ++ r g d ∷ after)) (sym c.self.view_is) holds in
+    let same = agree words (old g d) (before ++ r g d ∷ after) long map.free in
     record {
-      placed = moved_blocks words before after (in_rest (old g c)) (in_rest (rest g c)) (in_rest (new g c)) (gap g c) (behind g c) (r g c) (s g c) (out g c) (back g c) (start g c) (meeting g c) (size g c) (next g c) (end g c) map.placed same block;
-      free = same_marks words (new g c) (before ++ s g c ∷ after) (new_long g c ∙ long)
-          (moved_agrees words before after (in_rest (old g c)) (in_rest (rest g c)) (in_rest (new g c)) (gap g c) (behind g c) (r g c) (s g c) (out g c) (back g c) (start g c) (meeting g c) (size g c) (next g c) (end g c) map.placed same block);
+      placed = moved_blocks words before after (in_rest (old g d)) (in_rest (rest g d)) (in_rest (new g d)) (gap g d) (behind g d) (r g d) (s g d) (out g d) (back g d) (start g d) (meeting g d) (size g d) (next g d) (end g d) map.placed same block;
+      free = same_marks words (new g d) (before ++ s g d ∷ after) (new_long g d ∙ long)
+          (moved_agrees words before after (in_rest (old g d)) (in_rest (rest g d)) (in_rest (new g d)) (gap g d) (behind g d) (r g d) (s g d) (out g d) (back g d) (start g d) (meeting g d) (size g d) (next g d) (end g d) map.placed same block);
     }
 
 -- what was moved is counted once
@@ -166,10 +168,10 @@ moved_words : (result was old len words place from : ℕ) → result ≡ min (wa
     → result ≡ min (old + (if place == from then 0 else words)) (2 ^ 64 - 1)
 moved_words result was old len words place from sum same long low = grind (arith, common_steps)
 
-pub returns-clause-slid : goal.returns-clause-slid
-returns-clause-slid g c =
+pub returns-in-Some-clause-slid : goal.returns-in-Some-clause-slid
+returns-in-Some-clause-slid g c =
     let was = ap (λ (v : HeapState). v.slid) c.self.view_is in
-    let long : c.from.result ≡ length c.args.piece.words = c.from.ensures ∙ c.len-len.ensures.value ∙ as_long g c in
+    let long : c.from.result ≡ length c.args.piece.words = c.from.ensures ∙ c.len-len.ensures.value ∙ as_long g (goal.at.returns-in-Some-clause-slid g c).After-put_behind in
     let low : c.slide-block.result.0.place < c.args.piece.place =
     let at = c.slide-block.ensures.block.1 ∙ c.carve-gap.ensures.block.1 in let less = c.in-Some.ensures.found.0 in omega arith in
     moved_words _ _ _ _ _ _ _ c.saturating_add-self-inside.ensures was long low

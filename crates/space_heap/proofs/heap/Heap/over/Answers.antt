@@ -1,9 +1,7 @@
 -- One hole is all of the space, and no block is taken.
-use Rattle.std.proofs.Common.{◌≡◌, ℕ, ◌<◌, [], List, length, Option, Some, true, replicate, pos, sym, subst, ap, arith, ◌∙◌}
+use Rattle.std.proofs.Common.{◌≡◌, ℕ, ◌<◌, [], List, length, Option, Some, true, replicate, pos, sym, ap, arith, ◌∙◌}
 use Rattle.std.proofs.lemmas.List.{length-map, length-replicate}
 use Rattle.std.specs.Prelude.{ℤ}
-use Rattle.space_raw.specs.Span.{Extent}
-use Rattle.relocate.specs.Places.{IsSpaceSize}
 use Rattle.space_heap.specs.Holes.{in_rest}
 use Rattle.space_heap.proofs.Counts.{all_there}
 use Rattle.space_heap.proofs.MapLemmas.{same_marks}

@@ -1,5 +1,5 @@
 -- `of` makes words of a region loose, and leaves those behind them away. Assumes `Logic`.
-use Rattle.space_raw.proofs.Steps.{use1, Some, map, vint, usize, and_then, get, never, id⊢, block_ptr, in_a_block, sym, ◌≡◌, ℕ, List, [], ◌∷◌, ◌++◌, refl, Val, SProp, WpFn, fact, tables, Ptr, ‵, raw, ◌⊛◌, prop, ◌$◌, ◌∵◌, !, qed, move, drop, split, fsplit, fjoin, regoal, rewrite, suffices, done, agg, enter, returns, no_more, alloc_all, pass_all, free_all, look_at, sets, owns, types_at, plain, nothing, heard, alive, says, Stays, stay_dropped, walk_of, ends_at, Goes-blank, proved_at}
+use Rattle.space_raw.proofs.Steps.{use1, Some, map, vint, usize, never, id⊢, block_ptr, in_a_block, sym, ◌≡◌, ℕ, List, [], ◌∷◌, ◌++◌, refl, Val, SProp, WpFn, fact, tables, Ptr, ‵, raw, ◌⊛◌, prop, ◌$◌, ◌∵◌, !, qed, move, drop, split, fsplit, fjoin, regoal, rewrite, suffices, done, agg, enter, returns, no_more, alloc_all, pass_all, free_all, look_at, sets, owns, types_at, plain, nothing, heard, alive, says, Stays, stay_dropped, walk_of, ends_at, Goes-blank, proved_at}
 use Rattle.std.proofs.Common.{replicate}
 use Rattle.std.specs.Prelude.{ℤ, Option, None}
 use mir.Syntax.{w64}

@@ -2,7 +2,7 @@
 use Rattle.std.proofs.Common.{rules, length, map, ap, arith, subst, ◌∙◌, sym}
 use Rattle.std.proofs.lemmas.List.{length-map}
 use Rattle.std.specs.Prelude.{is_some}
-use Rattle.space_raw.specs.Slots.{IsRun, run_of, without}
+use Rattle.space_raw.specs.Slots.{IsRun, run_of}
 use Rattle.space_raw.proofs.Marks.{carved_places, left_places}
 use Rattle.space_raw.proofs.Slots.{run_long, without_long}
 use Rattle.space_raw.specs.Stores.{slots_of}

@@ -1,5 +1,5 @@
 -- The rest has the places of all words.
-use Rattle.std.proofs.Common.{◌≡◌, length, map, replicate, pos, ap, arith, sym, ◌∙◌}
+use Rattle.std.proofs.Common.{◌≡◌, length, map, replicate, pos, ap, sym, ◌∙◌}
 use Rattle.std.proofs.lemmas.List.{length-map, length-replicate}
 use Rattle.std.specs.Prelude.{Some, is_some}
 use Rattle.space_raw.proofs.Marks.{all_held}

@@ -1,8 +1,7 @@
 -- The rest has the same places.
-use Rattle.std.proofs.Common.{rules, ◌≡◌, List, [], ◌∷◌, length, map, ap, subst, ◌∙◌, sym}
+use Rattle.std.proofs.Common.{rules, List, [], ◌∷◌, length, map, ap, subst, ◌∙◌, sym}
 use Rattle.std.specs.Prelude.{ℤ, is_some}
-use Rattle.std.specs.List.{refill}
-use Rattle.space_raw.specs.Slots.{IsRun, run_of, with_run}
+use Rattle.space_raw.specs.Slots.{IsRun}
 use Rattle.space_raw.specs.Stores.{slots_of}
 use Rattle.space_raw.proofs.Slots.{rewritten_long, rewritten_places}
 use Rattle.space_raw.proofs.rest.Rest.set_tag.Goals as goal

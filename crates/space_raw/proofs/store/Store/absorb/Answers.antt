@@ -1,8 +1,8 @@
 -- What comes back ends before the mark.
-use Rattle.std.proofs.Common.{◌≡◌, ◌+◌, length, ap, arith, subst, sym, ◌∙◌}
+use Rattle.std.proofs.Common.{ap, arith, ◌∙◌}
 use Rattle.space_raw.specs.Slots.{with_run}
 use Rattle.space_raw.specs.Stores.{seen}
-use Rattle.space_raw.proofs.Stores.{seen_long, seen_with}
+use Rattle.space_raw.proofs.Stores.{seen_with}
 use Rattle.space_raw.proofs.store.Store.absorb.Goals as goal
 
 pub returns-clause-slots : goal.returns-clause-slots

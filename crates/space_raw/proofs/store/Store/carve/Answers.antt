@@ -1,5 +1,5 @@
 -- The run that leaves lies before the mark.
-use Rattle.std.proofs.Common.{◌≤◌, ap, arith, subst, sym, ◌∙◌}
+use Rattle.std.proofs.Common.{ap, arith, subst, sym, ◌∙◌}
 use Rattle.space_raw.specs.Slots.{IsRun, run_of, without}
 use Rattle.space_raw.specs.Stores.{seen}
 use Rattle.space_raw.proofs.Stores.{seen_long, there_is, run_is, seen_without}

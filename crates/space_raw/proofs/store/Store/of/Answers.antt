@@ -1,5 +1,5 @@
 -- All slots are before the mark.
-use Rattle.std.proofs.Common.{length, map, ap, arith, ◌∙◌}
+use Rattle.std.proofs.Common.{map, ap, arith, ◌∙◌}
 use Rattle.std.proofs.lemmas.List.{length-map}
 use Rattle.std.specs.Prelude.{Some}
 use Rattle.space_raw.specs.Stores.{seen}

@@ -1,5 +1,5 @@
 -- Two words, of which one may not be written.
-use Rattle.std.proofs.Common.{◌+◌, ◌≤◌, [], ◌∷◌, ap, arith, sym, w16, ◌∙◌}
+use Rattle.std.proofs.Common.{◌+◌, ◌≤◌, [], ◌∷◌, arith, sym, w16, ◌∙◌}
 use Rattle.std.proofs.lemmas.Int.{to_z-of_z}
 use Rattle.space_raw.specs.Stores.{slots_of}
 use Rattle.space_raw.proofs.Stores.{seen_long, there_is, run_is, first_run, second_run, both_words}

@@ -1,5 +1,5 @@
 -- `end` adds the room of no words behind them. Assumes `Logic`.
-use Rattle.space_raw.proofs.Steps.{never, id⊢, ftrue, Ptr, block_ptr, in_a_block, rewrite, sym, use0, ◌+◌, List, [], ◌∷◌, ◌++◌, length, refl, Val, SProp, WpFn, fact, tables, ‵, raw, ◌⊛◌, prop, ◌$◌, ◌∵◌, !, qed, move, drop, split, fsplit, fjoin, regoal, suffices, done, agg, enter, returns, and_then, no_more, alloc_all, pass_all, free_all, look_at, get, sets, owns, types_at, plain, nothing, alive, Stays, stay_dropped, walk_of, ends_at, Goes-blank, proved_at}
+use Rattle.space_raw.proofs.Steps.{never, id⊢, ftrue, Ptr, block_ptr, in_a_block, rewrite, sym, use0, ◌+◌, List, [], ◌∷◌, ◌++◌, length, refl, Val, SProp, WpFn, tables, ‵, raw, ◌⊛◌, prop, ◌$◌, ◌∵◌, !, qed, move, drop, split, fsplit, fjoin, regoal, suffices, done, agg, enter, returns, and_then, no_more, alloc_all, pass_all, free_all, look_at, get, sets, owns, types_at, plain, nothing, alive, Stays, stay_dropped, walk_of, ends_at, Goes-blank, proved_at}
 use Rattle.space_raw.specs.Ownership.{words_own, blank_owns}
 use Rattle.space_raw.proofs.Rows.{no_room}
 use Rattle.space_raw.proofs.Walks.{says_two, none, two, none_told, two_owners}

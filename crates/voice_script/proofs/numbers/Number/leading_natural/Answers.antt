@@ -4,10 +4,10 @@ use Rattle.voice_script.proofs.numbers.Number.leading_natural.Goals as goal
 
 pub returns-then-line-gt-SHORT_DIGITS-clause-word : goal.returns-then-line-gt-SHORT_DIGITS-clause-word
 returns-then-line-gt-SHORT_DIGITS-clause-word c =
-    words_of-digits c.args.line.now c.in_ok-count.count c.in_ok-count.magnitude c.in_ok-count.ensures.digits
+    words_of-digits c.args.line.now c.in_ok-end.end c.in_ok-end.magnitude c.in_ok-end.ensures.digits
     ∙ rw (c.part_before.ensures.word, c.part_before.ensures.after) refl
 
 pub returns-clause-word : goal.returns-clause-word
 returns-clause-word c =
-    words_of-digits c.args.line.now c.in_ok-count-2.count c.in_ok-count-2.magnitude c.in_ok-count-2.ensures.digits
+    words_of-digits c.args.line.now c.in_ok-count.count c.in_ok-count.magnitude c.in_ok-count.ensures.digits
     ∙ rw (c.part.ensures.word, c.part.ensures.after) refl

@@ -19,12 +19,12 @@ returns-then-not-is_empty-clause-goes c =
       rests = λ _. tt;
     }
 
-pub returns-else-is_empty-clause-steps : goal.returns-else-is_empty-clause-steps
-returns-else-is_empty-clause-steps c =
-    let some : is_empty c.loop-word.self.line.now ≡ false = sym (is_empty-length c.loop-word.self.line.now) ∙ sym c.is_empty-2.ensures ∙ c.if-is_empty.false in
+pub returns-else-is_over-clause-steps : goal.returns-else-is_over-clause-steps
+returns-else-is_over-clause-steps c =
+    let some : is_empty c.loop-word.self.line.now ≡ false = sym (is_empty-length c.loop-word.self.line.now) ∙ sym c.is_empty-is_over.ensures ∙ c.if-is_over.false in
     sym c.loop-word.invariant ∙ words_of-last _ c.in_default.ensures ∙ rw some refl
 
-pub returns-then-is_empty-clause-steps : goal.returns-then-is_empty-clause-steps
-returns-then-is_empty-clause-steps c =
-    let none : is_empty c.loop-word.self.line.now ≡ true = sym (is_empty-length c.loop-word.self.line.now) ∙ sym c.is_empty-2.ensures ∙ c.if-is_empty.true in
+pub returns-then-is_over-clause-steps : goal.returns-then-is_over-clause-steps
+returns-then-is_over-clause-steps c =
+    let none : is_empty c.loop-word.self.line.now ≡ true = sym (is_empty-length c.loop-word.self.line.now) ∙ sym c.is_empty-is_over.ensures ∙ c.if-is_over.true in
     (sym c.loop-word.invariant ∙ words_of-last _ c.in_default.ensures ∙ rw none refl, refl)

@@ -1,0 +1,13 @@
+use Rattle.std.proofs.Common.{◌∙◌, refl}
+use Rattle.voice_script.proofs.WordLemmas.{words_of-minus}
+use Rattle.voice_script.proofs.numbers.Number.leading_negative.Goals as goal
+
+pub returns-then-digits-gt-SHORT_DIGITS-clause-word : goal.returns-then-digits-gt-SHORT_DIGITS-clause-word
+returns-then-digits-gt-SHORT_DIGITS-clause-word c =
+    words_of-minus c.args.line.now c.in_ok-end.end c.in_ok-end.magnitude c.requires.some c.requires.minus c.in_ok-end.ensures.digits
+    ∙ rw (c.part_before.ensures.word, c.part_before.ensures.after) refl
+
+pub returns-clause-word : goal.returns-clause-word
+returns-clause-word c =
+    words_of-minus c.args.line.now c.in_ok-count.count c.in_ok-count.magnitude c.requires.some c.requires.minus c.in_ok-count.ensures.digits
+    ∙ rw (c.part.ensures.word, c.part.ensures.after) refl
