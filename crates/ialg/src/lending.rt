@@ -1,9 +1,12 @@
 //! What records are lent for.
-ghost use Rattle.std.specs.Prelude.{ℤ, Bool, List, [], ◌∷◌};
+ghost use Rattle.std.specs.Prelude.{◌≡◌, ◌≤◌, ℤ, Bool, List, [], ◌∷◌, length};
 ghost use Rattle.mem_rec.specs.declared.MemRec.{MemRec};
 ghost use Rattle.ialg.specs.Loans.{lent_words, SameLoans, KeepsOnce};
+ghost use Rattle.ialg.specs.Calls.{ProcessesBlock};
 
+use crate::laws::Ialg;
 use crate::memory::Lent;
+use crate::{BLOCK_SAMPLES, Block};
 use mem_rec::MemTab;
 
 /// A step of an instance, for which its records are lent. Its answer is put into `out`.
@@ -54,4 +57,22 @@ pub fn lend<O, S: Step<O>>(
         r3,
     };
     lending.step.perform(&mut mem, out);
+}
+
+/// Gives the kind a block of samples, as [`Ialg::process`] does, with the loans moved to a place of their own.
+///
+/// It is for a kind that is one of several: no kind gets the place of `mem` itself, so the compiler has the loans in registers where it finds out which
+/// kind it is, and one that only reads a record, as a decoder, never has them written to memory.
+#[inline(always)]
+pub fn process_apart<M: Ialg>(kind: &M, mem: &mut Lent<'_>, input: &[i16], out: &mut Block)
+    requires empty { out.old.items ≡ [] }
+    requires some { 1 ≤ length input.now }
+    requires within { length input.now ≤ BLOCK_SAMPLES }
+    ensures loans { SameLoans mem.old mem.new }
+    ensures bounded { length out.new.items ≤ length input.now }
+    ensures law { ProcessesBlock M.law kind.now input.now out.new.items mem.old mem.new }
+{
+    let mut apart = mem.take_all();
+    kind.process(&mut apart, input, out);
+    *mem = apart;
 }

@@ -6,7 +6,7 @@ ghost use Rattle.kind_parts.specs.declared.either.Or.{Or};
 ghost use Rattle.kind_parts.specs.declared.either.Or.TheVariants.{First, Second};
 ghost use Rattle.kind_parts.specs.Either.{told, either_means, either_keeps, either_named};
 
-use ialg::{Block, Ctl, Ialg, Lent, Named, Params, Status};
+use ialg::{Block, Ctl, Ialg, Lent, Named, Params, Status, process_apart};
 use mem_rec::MemTab;
 
 /// A kind of either of two sets of kinds. Each call is that of the kind, and a name that both sets have is the first one's.
@@ -75,7 +75,7 @@ impl<A: Ialg, B: Ialg> Ialg for Or<A, B> {
     fn process(&self, mem: &mut Lent<'_>, input: &[i16], out: &mut Block) {
         match self {
             Or::First(kind) => kind.process(mem, input, out),
-            Or::Second(kind) => kind.process(mem, input, out),
+            Or::Second(kind) => process_apart(kind, mem, input, out),
         }
     }
 

@@ -43,6 +43,9 @@ fn give_out(block: &[i16], out: &mut Block)
 }
 
 /// Gives a member the block, unless that is empty: what the member gives takes the place of what `given` held.
+///
+/// Inlined for the member of a channel that has no other, whose work at one sample is less than a call.
+#[inline(always)]
 fn run<M: Ialg>(host: &mut Host<M>, member: u8, block: &[i16], given: &mut Block)
     requires within { length block.now ≤ BLOCK_SAMPLES }
     ensures bounded { length given.new.items ≤ length block.now }
@@ -53,6 +56,16 @@ fn run<M: Ialg>(host: &mut Host<M>, member: u8, block: &[i16], given: &mut Block
     if !block.is_empty() && host.living(member) {
         host.process(member, block, given);
     }
+}
+
+/// Gives one of several members the block, as [`run`] does.
+#[inline(never)]
+fn run_one_of_several<M: Ialg>(host: &mut Host<M>, member: u8, block: &[i16], given: &mut Block)
+    requires within { length block.now ≤ BLOCK_SAMPLES }
+    ensures bounded { length given.new.items ≤ length block.now }
+    ensures passes { PassesThrough M.law (member ∷ []) block.now given.new.items host.old host.new }
+{
+    run(host, member, block, given);
 }
 
 /// Passes the block that stands in `from` through a member and those behind it. They fill the two blocks by turns, but for the last, which
@@ -69,9 +82,9 @@ fn pass_on<M: Ialg>(
     ensures passes { PassesThrough M.law (member ∷ further.now) from.old.items out.new.items host.old host.new }
 {
     match further {
-        [] => run(host, member, from.as_slice(), out),
+        [] => run_one_of_several(host, member, from.as_slice(), out),
         [next, behind @ ..] => {
-            run(host, member, from.as_slice(), to);
+            run_one_of_several(host, member, from.as_slice(), to);
             pass_on(host, *next, behind, to, from, out);
         }
     }
@@ -96,7 +109,7 @@ fn pass<M: Ialg>(
         }
         [member] => run(host, *member, block, out),
         [member, next, behind @ ..] => {
-            run(host, *member, block, &mut between.one);
+            run_one_of_several(host, *member, block, &mut between.one);
             pass_on(
                 host,
                 *next,

@@ -10,7 +10,7 @@ use alg_biquad::Biquad;
 use alg_fir::{Decim, Fir};
 use alg_g711::G711;
 use alg_tone::Tone;
-use ialg::{Block, Ctl, Ialg, Lent, Named, Params, Status};
+use ialg::{Block, Ctl, Ialg, Lent, Named, Params, Status, process_apart};
 use mem_rec::MemTab;
 
 /// One of the hosted kinds. Each call is that of the kind.
@@ -100,10 +100,11 @@ impl Ialg for Voice {
     #[inline(always)]
     fn process(&self, mem: &mut Lent<'_>, input: &[i16], out: &mut Block) {
         match self {
-            Voice::Fir => Fir.process(mem, input, out),
-            Voice::Decim => Decim.process(mem, input, out),
-            Voice::Biquad => Biquad.process(mem, input, out),
-            Voice::Tone => Tone.process(mem, input, out),
+            Voice::Fir => process_apart(&Fir, mem, input, out),
+            Voice::Decim => process_apart(&Decim, mem, input, out),
+            Voice::Biquad => process_apart(&Biquad, mem, input, out),
+            Voice::Tone => process_apart(&Tone, mem, input, out),
+            // inlined, and needs no loan in memory
             Voice::G711 => G711.process(mem, input, out),
         }
     }
