@@ -4,4 +4,4 @@ pub returns-in-First-clause-law : goal.returns-in-First-clause-law
 returns-in-First-clause-law g c = rw c.in-First.is c.process.ensures.law
 
 pub returns-in-Second-clause-law : goal.returns-in-Second-clause-law
-returns-in-Second-clause-law g c = rw c.in-Second.is c.process-in-Second.ensures.law
+returns-in-Second-clause-law g c = rw c.in-Second.is c.process_apart.ensures.law
