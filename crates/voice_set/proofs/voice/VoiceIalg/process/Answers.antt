@@ -1,16 +1,16 @@
 use Rattle.voice_set.proofs.voice.VoiceIalg.process.Goals as goal
 
 pub returns-in-Fir-clause-law : goal.returns-in-Fir-clause-law
-returns-in-Fir-clause-law c = rw c.in-Fir.is c.process.ensures.law
+returns-in-Fir-clause-law c = rw c.in-Fir.is c.process_apart.ensures.law
 
 pub returns-in-Decim-clause-law : goal.returns-in-Decim-clause-law
-returns-in-Decim-clause-law c = rw c.in-Decim.is c.process-in-Decim.ensures.law
+returns-in-Decim-clause-law c = rw c.in-Decim.is c.process_apart-in-Decim.ensures.law
 
 pub returns-in-Biquad-clause-law : goal.returns-in-Biquad-clause-law
-returns-in-Biquad-clause-law c = rw c.in-Biquad.is c.process-in-Biquad.ensures.law
+returns-in-Biquad-clause-law c = rw c.in-Biquad.is c.process_apart-in-Biquad.ensures.law
 
 pub returns-in-Tone-clause-law : goal.returns-in-Tone-clause-law
-returns-in-Tone-clause-law c = rw c.in-Tone.is c.process-in-Tone.ensures.law
+returns-in-Tone-clause-law c = rw c.in-Tone.is c.process_apart-in-Tone.ensures.law
 
 pub returns-in-G711-clause-law : goal.returns-in-G711-clause-law
-returns-in-G711-clause-law c = rw c.in-G711.is c.process-in-G711.ensures.law
+returns-in-G711-clause-law c = rw c.in-G711.is c.process.ensures.law
