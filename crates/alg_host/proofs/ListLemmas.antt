@@ -1,5 +1,5 @@
 -- Lists of requests, made one after the other.
-use Rattle.std.proofs.Common.{◌≡◌, ℕ, zero, suc, ◌+◌, ◌<◌, ◌≤◌, List, [], ◌∷◌, ◌++◌, length, map, take, refl, sym, ap, ◌∙◌, subst, arith, set, get_or, append-nil, append_assoc}
+use Rattle.std.proofs.Common.{◌≡◌, ℕ, zero, suc, ◌+◌, ◌<◌, List, [], ◌∷◌, ◌++◌, length, map, take, refl, sym, ap, ◌∙◌, subst, arith, set, get_or, append-nil, append_assoc}
 use Rattle.std.proofs.lemmas.List.{length-map}
 use Rattle.ialg.specs.Meaning.{Meaning}
 use Rattle.ialg.specs.Laws.{Laws}
@@ -47,12 +47,6 @@ asked_still (q ∷ qs) (suc k) r d lt same = ap (λ xs. asked q ∷ xs) (asked_s
 
 pub as_many : {M : Type 0} (requests requests' : List (Request M)) → map asked requests' ≡ map asked requests → length requests' ≡ length requests
 as_many requests requests' same = sym (length-map requests' asked) ∙ ap length same ∙ length-map requests asked
-
-pub take_all : {A : Type 0} (xs : List A) (n : ℕ) → length xs ≤ n → take n xs ≡ xs
-take_all [] zero h = refl
-take_all [] (suc n) h = refl
-take_all (x ∷ xs) zero h = absurd (omega arith)
-take_all (x ∷ xs) (suc n) h = ap (λ ys. x ∷ ys) (take_all xs n (omega arith))
 
 -- the first k of the requests were made
 pub record MadeUpTo {M : Type 0} (laws : Laws M) (k : ℕ) (requests requests' : List (Request M)) (host host' : HostState M) : Type 0 where

@@ -23,10 +23,9 @@ fn replaces(group: &Group, space: Space, new: &Option<ScratchBlock>) -> bool
 pub fn replaces_any(group: &Group, blocks: &NewBlocks) -> bool
     ensures { result ≡ replaced_in blocks.now group.now }
 {
-    let daram = replaces(group, Space::Daram, &blocks.daram);
-    let saram = replaces(group, Space::Saram, &blocks.saram);
-    let external = replaces(group, Space::External, &blocks.external);
-    daram || saram || external
+    replaces(group, Space::Daram, &blocks.daram)
+        || replaces(group, Space::Saram, &blocks.saram)
+        || replaces(group, Space::External, &blocks.external)
 }
 
 /// Puts a new block into a space of a group, if there is one, and gives back the one that stood there.

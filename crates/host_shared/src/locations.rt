@@ -4,7 +4,7 @@ ghost use Rattle.host_shared.specs.declared.locations.Location.TheVariants.{Here
 ghost use Rattle.mem_rec.specs.declared.TheConstants.{TABLE_RECORDS, INSTANCES};
 ghost use Rattle.host_shared.specs.declared.locations.TheConstants.{RUN};
 ghost use Rattle.record_loans.specs.Pieces.{piece_at, with_piece, no_pieces};
-ghost use Rattle.host_shared.specs.Locations.{location_at, piece_here, pieces_here, locations_of, no_locations, locations_at, owner_of, piece_seen, shared_at};
+ghost use Rattle.host_shared.specs.Locations.{location_at, piece_here, pieces_here, locations_of, locations_at, owner_of, piece_seen, shared_at};
 ghost use Rattle.host_shared.specs.Owners.{with_location, set_location, put_piece, with_pieces_of, HasOwner, HasOwners};
 ghost use Rattle.host_shared.specs.Sharing.{is_at, names_owner, NameNoOwner};
 
@@ -398,10 +398,10 @@ pub fn has_none_but_third(sharing: &Vec<Locations>, i: usize) -> bool
     sharing[i].is_bare_but_third()
 }
 
-/// Exchanges the piece of record 2 of an instance, which its owner has, for that of these pieces, in place: where the instance has no other,
-/// its pieces are borrowed for none, and given back for none.
+/// Exchanges the piece of record 2 of an instance, which its owner has, for that of these pieces, in place, where the instance has no other: its
+/// pieces are borrowed for none, and a second exchange gives them back.
 #[inline(always)]
-fn exchange_third(sharing: &mut Vec<Locations>, i: usize, pieces: &mut Pieces)
+pub fn exchange_third(sharing: &mut Vec<Locations>, i: usize, pieces: &mut Pieces)
     requires number { i < length sharing.old.items }
     requires owners { HasOwners sharing.old.items i }
     requires seen0 { piece_seen sharing.old.items i 0 ≡ None }
@@ -418,39 +418,6 @@ fn exchange_third(sharing: &mut Vec<Locations>, i: usize, pieces: &mut Pieces)
 {
     let at = owner(sharing, i, 2);
     sharing[at].s2.exchange(&mut pieces.p2);
-}
-
-/// Borrows the piece of record 2 of an instance from its owner, in place, where the instance has no other: [`give_back_third`] returns it.
-#[inline(always)]
-pub fn borrow_third(sharing: &mut Vec<Locations>, i: usize, pieces: &mut Pieces)
-    requires number { i < length sharing.old.items }
-    requires owners { HasOwners sharing.old.items i }
-    requires seen0 { piece_seen sharing.old.items i 0 ≡ None }
-    requires seen1 { piece_seen sharing.old.items i 1 ≡ None }
-    requires seen3 { piece_seen sharing.old.items i 3 ≡ None }
-    requires empty { pieces.old ≡ no_pieces }
-    ensures pieces { pieces.new ≡ shared_at sharing.old.items i }
-    ensures left { sharing.new.items ≡ with_pieces_of sharing.old.items i no_pieces }
-    ensures length { length sharing.new.items ≡ length sharing.old.items }
-    ensures owners { HasOwners sharing.new.items i }
-    ensures none { shared_at sharing.new.items i ≡ no_pieces }
-{
-    exchange_third(sharing, i, pieces);
-}
-
-/// Gives the piece of record 2 of an instance back to its owner, who has none, in place.
-#[inline(always)]
-pub fn give_back_third(sharing: &mut Vec<Locations>, i: usize, pieces: &mut Pieces)
-    requires number { i < length sharing.old.items }
-    requires owners { HasOwners sharing.old.items i }
-    requires none { shared_at sharing.old.items i ≡ no_pieces }
-    requires p0 { pieces.old.p0 ≡ None }
-    requires p1 { pieces.old.p1 ≡ None }
-    requires p3 { pieces.old.p3 ≡ None }
-    ensures back { sharing.new.items ≡ with_pieces_of sharing.old.items i pieces.old }
-    ensures left { pieces.new ≡ no_pieces }
-{
-    exchange_third(sharing, i, pieces);
 }
 
 /// Whether the owner of record `k` has its piece.

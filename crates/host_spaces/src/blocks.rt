@@ -89,19 +89,15 @@ impl SpaceBlocks {
         ensures none { IfNone result (self.new ≡ self.old) }
         ensures stays { (self.new.region ≡ self.old.region) × (self.new.slid ≡ self.old.slid) }
     {
-        match self.heap.take(words, align) {
-            Some(piece) => {
-                let block = Placed {
-                    owner,
-                    place: piece.place(),
-                    size: piece.len(),
-                    align,
-                };
-                enter(&mut self.blocks, block);
-                Some(piece)
-            }
-            None => None,
-        }
+        let piece = self.heap.take(words, align)?;
+        let block = Placed {
+            owner,
+            place: piece.place(),
+            size: piece.len(),
+            align,
+        };
+        enter(&mut self.blocks, block);
+        Some(piece)
     }
 
     /// The owner's block goes back.

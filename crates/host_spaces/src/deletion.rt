@@ -47,7 +47,6 @@ impl Spaces {
         ensures others { AllButGroupStay g (map_of self.old) (map_of self.new) }
         ensures stays { AreSameSpaces self.old self.new }
     {
-        are_blocks(g, &pieces, self);
         let OldBlocks {
             daram,
             saram,
@@ -79,18 +78,6 @@ impl Spaces {
         end_absent(pieces);
     }
 }
-
-// The law that the pieces of a group's blocks are blocks of their spaces. The call does nothing: its contract is the law.
-fn are_blocks(g: u8, pieces: &OldBlocks, spaces: &Spaces)
-    requires regions { AreInTheirSpaces pieces.now spaces.now }
-    requires owner { AreOfGroup g pieces.now (map_of spaces.now) }
-    ensures daram_region { IfSome pieces.now.daram (λ p. p.region ≡ spaces.now.daram.region) }
-    ensures daram_owner { IfSome pieces.now.daram (λ p. (owner : Owner) × Owns spaces.now.daram.blocks owner p) }
-    ensures saram_region { IfSome pieces.now.saram (λ p. p.region ≡ spaces.now.saram.region) }
-    ensures saram_owner { IfSome pieces.now.saram (λ p. (owner : Owner) × Owns spaces.now.saram.blocks owner p) }
-    ensures external_region { IfSome pieces.now.external (λ p. p.region ≡ spaces.now.external.region) }
-    ensures external_owner { IfSome pieces.now.external (λ p. (owner : Owner) × Owns spaces.now.external.blocks owner p) }
-{}
 
 /// The spaces of a table's records.
 pub fn record_spaces(table: &MemTab) -> [Space; TABLE_RECORDS]

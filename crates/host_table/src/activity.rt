@@ -7,7 +7,7 @@ ghost use Rattle.host_table.specs.Table.{slot_at, group_at, group_of, IsActiveAt
 ghost use Rattle.host_table.specs.Turns.{CanBeLent, Deactivated, Activated, DeactivatedSharing};
 ghost use Rattle.host_table.specs.Steps.{Ready, Activates, Deactivates, DeactivatesIn};
 
-use crate::member::{active_group, idle_in, make_active, make_idle};
+use crate::member::{active_group, make_active, make_idle};
 use crate::tables::Tables;
 use host_shared::{Locations, borrow_pieces, give_back_pieces};
 use ialg::Ialg;
@@ -138,7 +138,13 @@ impl<M: Ialg> Tables<M> {
         ensures group { IfSome result (λ g. g ≡ group_of (slot_at self.now.instances i)) }
         ensures idle { OnSome result (IsIdleAt self.now.instances i) }
     {
-        idle_in(&self.instances, i)
+        match &self.instances[i as usize] {
+            Some(member) => match &member.inst {
+                Inst::Idling(_) => Some(member.group),
+                Inst::Running(_) => None,
+            },
+            None => unreachable!(),
+        }
     }
 
     /// Activates the instance, unless it is active; another active member of its group is deactivated first.

@@ -16,10 +16,9 @@ ghost use Rattle.host_table.specs.Starts.{asked_for, BeginsHistory, HasRoomWithS
 ghost use Rattle.host_table.specs.Ends.{HandsOnRecords, NextSharersAreLeast, OtherInstancesAreSame, StayTogether};
 ghost use Rattle.host_table.specs.Turns.{CanBeLent, CanBegin, WasStarted, WasFreed, IsEndedAt, SeesTheSame, SlotCanBeLent, SlotKeepsOnce, idle_of};
 
-use crate::member::group_number;
 use crate::{Member, Tables};
 use host_shared::{
-    Locations, Sharers, borrow_pieces, borrow_third, give_back_pieces, give_back_third, hand_on,
+    Locations, Sharers, borrow_pieces, exchange_third, give_back_pieces, hand_on,
     has_none_but_third, join,
 };
 use ialg::{Ialg, Params};
@@ -133,9 +132,10 @@ fn start_third<M: Ialg>(idle: &mut Idle<M>, sharing: &mut Vec<Locations>, i: u8,
     ensures { WasStarted M.law i idle.old idle.new sharing.old.items sharing.new.items group.now }
 {
     let mut shared = Pieces::none();
-    borrow_third(sharing, i as usize, &mut shared);
+    exchange_third(sharing, i as usize, &mut shared);
     idle.start(&mut shared, group);
-    give_back_third(sharing, i as usize, &mut shared);
+    // its owner has it again
+    exchange_third(sharing, i as usize, &mut shared);
     end_absent(shared);
 }
 
@@ -205,7 +205,7 @@ pub fn end<M: Ialg>(
     ensures keeps { HistoriesStay M.law poison tables.old tables.new }
 {
     tables.deactivate(poison, i);
-    let g = group_number(&tables.instances, i);
+    let g = tables.group_number(i);
     let own = end_idle(
         &mut tables.instances,
         &mut tables.sharing,
@@ -263,9 +263,10 @@ fn free_third<M: Ialg>(
     ensures { WasFreed i idle.old idle.new sharing.old.items sharing.new.items result }
 {
     let mut shared = Pieces::none();
-    borrow_third(sharing, i as usize, &mut shared);
+    exchange_third(sharing, i as usize, &mut shared);
     let own = free_lent(idle, &mut shared, group);
-    give_back_third(sharing, i as usize, &mut shared);
+    // its owner has it again
+    exchange_third(sharing, i as usize, &mut shared);
     end_absent(shared);
     own
 }

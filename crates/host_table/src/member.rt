@@ -1,7 +1,7 @@
 //! Slots of the table of instances.
-ghost use Rattle.std.specs.Prelude.{◌≡◌, ℕ, IsSome, IfSome, IfNone, OnSome};
+ghost use Rattle.std.specs.Prelude.{◌≡◌, IsSome};
 ghost use Rattle.lifecycle.specs.declared.instance.Inst.TheVariants.{Idling, Running};
-ghost use Rattle.host_table.specs.Table.{slot_at, group_of, slot_active_in, instance_of, IsActiveAt, IsIdleAt};
+ghost use Rattle.host_table.specs.Table.{slot_at, slot_active_in, instance_of};
 ghost use Rattle.host_table.specs.Turns.{IsMadeActive, IsMadeIdle};
 
 use core::mem::replace_with;
@@ -52,33 +52,6 @@ pub(crate) fn make_active<M: Ialg>(instances: &mut Vec<Option<Member<M>>>, i: u8
 {
     match &mut instances[i as usize] {
         Some(member) => replace_with(&mut member.inst, (), as_active),
-        None => unreachable!(),
-    }
-}
-
-/// The group of an instance.
-pub fn group_number<M: Ialg>(instances: &Vec<Option<Member<M>>>, i: u8) -> u8
-    requires { IsSome (slot_at instances.now.items i) }
-    ensures { result ≡ group_of (slot_at instances.now.items i) }
-{
-    match &instances[i as usize] {
-        Some(member) => member.group,
-        None => unreachable!(),
-    }
-}
-
-/// The group of an idle instance, or None where the instance is active.
-pub(crate) fn idle_in<M: Ialg>(instances: &Vec<Option<Member<M>>>, i: u8) -> Option<u8>
-    requires { IsSome (slot_at instances.now.items i) }
-    ensures active { IfNone result (IsActiveAt instances.now.items i) }
-    ensures group { IfSome result (λ g. g ≡ group_of (slot_at instances.now.items i)) }
-    ensures idle { OnSome result (IsIdleAt instances.now.items i) }
-{
-    match &instances[i as usize] {
-        Some(member) => match &member.inst {
-            Inst::Idling(_) => Some(member.group),
-            Inst::Running(_) => None,
-        },
         None => unreachable!(),
     }
 }

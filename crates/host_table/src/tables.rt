@@ -2,7 +2,7 @@
 ghost use Rattle.std.specs.Prelude.{◌≡◌, IsSome, is_some};
 ghost use Rattle.host_table.specs.Table.{group_of, slot_at};
 
-use crate::member::{Member, group_number};
+use crate::member::Member;
 use host_shared::Locations;
 use ialg::Ialg;
 use scratch_group::Group;
@@ -39,6 +39,9 @@ impl<M: Ialg> Tables<M> {
         requires { IsSome (slot_at self.now.instances i) }
         ensures { result ≡ group_of (slot_at self.now.instances i) }
     {
-        group_number(&self.instances, i)
+        match &self.instances[i as usize] {
+            Some(member) => member.group,
+            None => unreachable!(),
+        }
     }
 }

@@ -1,12 +1,14 @@
 -- What is passed on, and what waits behind it.
-use Rattle.std.proofs.Common.{◌≡◌, ◌<◌, ◌≤◌, ◌∙◌, ◌-◌, ℕ, true, nat_eq, ⊎_elim, inl, inr, refl, ap, sym, subst, arith}
+use Rattle.std.proofs.Common.{◌≡◌, ◌<◌, ◌≤◌, ◌∙◌, ◌+◌, ◌-◌, ℕ, true, nat_eq, ⊎_elim, inl, inr, refl, ap, sym, subst, arith}
 use Rattle.std.proofs.Common.{List, [], ◌∷◌, ◌++◌, length, set, take, get_or, get_or-set_other, length-set, All, Option, Some, Bor, slice_get}
 use Rattle.std.specs.Option.{option_copied, option_eq}
 use Rattle.std.specs.Io.KnownBytes.{Appends}
 use Rattle.std.proofs.KnownBytes.{Appends-trans}
 use Rattle.std.proofs.Math.Seq.{get_or-append_seam}
+use Rattle.std.proofs.lemmas.Bool.Decides.{nat_tests}
 use Rattle.std.proofs.lemmas.Grind.{common_steps}
-use Rattle.std.proofs.lemmas.Option.{slice_get_cases, slice_get_read}
+use Rattle.std.proofs.lemmas.List.{take_all, take_more}
+use Rattle.std.proofs.lemmas.Option.{get_or_from_slice_get, slice_get_cases, slice_get_read, slice_get_within}
 use Rattle.octet_ports.specs.declared.waiting.Waiting.{Waiting}
 use Rattle.octet_ports.specs.declared.marks.Mark.{Mark}
 use Rattle.octet_ports.specs.Passing.{EachDoes, Gets, HasNothing, HoldsStill, LosesNothing, PassesFirst, PassesOn, TakesAll}
@@ -87,3 +89,13 @@ marked_last number outputs output replies old new mark pushed there before insid
 pub is_last : (last : Option (Bor ℕ)) (end : Bor ℕ) (octets front : List ℕ) → option_copied last ≡ slice_get octets (length octets - 1)
     → octets ≡ front ++ end.now ∷ [] → option_eq (λ x y. nat_eq x.now y.now) last (Some end) ≡ true
 is_last last end octets front copied ends = grind (arith, common_steps, slice_get_cases)
+
+-- what was found is the last octet
+pub found_last : (last : Option (Bor ℕ)) (end : Bor ℕ) (octets : List ℕ) → option_copied last ≡ slice_get octets (length octets - 1)
+    → option_eq (λ x y. nat_eq x.now y.now) last (Some end) ≡ true → octets ≡ take (length octets - 1) octets ++ end.now ∷ []
+found_last last end octets copied found =
+    let is : slice_get octets (length octets - 1) ≡ Some end.now = grind (arith, common_steps, nat_tests) in
+    let within = slice_get_within octets (length octets - 1) end.now is in
+    sym (take_all (length octets - 1 + 1) octets (omega arith))
+    ∙ take_more octets (length octets - 1) end.now within
+    ∙ ap (λ x. take (length octets - 1) octets ++ x ∷ []) (get_or_from_slice_get octets (length octets - 1) end.now end.now is)

@@ -1,5 +1,5 @@
 //! Outputs and replies that are passed on together.
-ghost use Rattle.std.specs.Prelude.{◌≡◌, ◌<◌, ◌≤◌, ◌++◌, ◌∷◌, ◌⊎◌, [], true, false, length, take, All, IfOk, IsOk};
+ghost use Rattle.std.specs.Prelude.{◌≡◌, ◌<◌, ◌≤◌, ◌++◌, ◌∷◌, ◌⊎◌, ◌↔◌, [], true, false, length, take, All, IfOk, IsOk, IsTrue};
 ghost use Rattle.std.specs.Result.{is_err};
 ghost use Rattle.octet_ports.specs.Passing.{EachDoes, EndsLine, Gets, GetsAt, HasNothing, HasRoom, HasRoomAt, LosesNothing, NothingIsLost, PassesOn, TakesAll, WaitsLast, WaitsLastAt};
 ghost use Rattle.octet_ports.specs.Marks.{IsMarked, MarksOneMore, Remembers, TellsTruth};
@@ -33,7 +33,7 @@ pub struct Journal<W, R> {
 
 /// Whether a line's end is the last of these octets.
 fn ends_line(octets: &[u8]) -> bool
-    ensures { EndsLine octets.now → result ≡ true }
+    ensures { IsTrue result ↔ EndsLine octets.now }
 {
     octets.last() == Some(&LINE_FEED)
 }

@@ -83,9 +83,11 @@ pub fn lend_with_blocks<O, S: Step<O>>(
         .third
         .take(&mut own.p3, &mut shared.p3, daram, saram, external);
     lend_object(loan, &mut own.p0, &mut first, &mut second, &mut third, out);
-    plan.put_back_third(third, &mut own.p3, &mut shared.p3, daram, saram, external);
-    plan.put_back_second(second, &mut own.p2, &mut shared.p2, daram, saram, external);
-    plan.put_back_first(first, &mut own.p1, &mut shared.p1, daram, saram, external);
+    plan.third
+        .put_back(third, &mut own.p3, &mut shared.p3, daram, saram, external);
+    plan.second.put_back(second, &mut own.p2, &mut shared.p2, daram, saram, external);
+    plan.first
+        .put_back(first, &mut own.p1, &mut shared.p1, daram, saram, external);
 }
 
 /// Performs the step with the records of a filter, out of its own pieces and the block in `daram`. Most instances are filters, and theirs

@@ -7,7 +7,7 @@ ghost use Rattle.record_loans.specs.Pieces.{piece_words};
 ghost use Rattle.record_loans.specs.Taken.{taken_words, front_of, behind, joined, IsFrontOf, CanPut, CutsOut, PutsBack};
 
 use crate::block::ScratchBlock;
-use crate::plan::{Cut, Plan, Source};
+use crate::plan::{Cut, Source};
 use space_raw::{Piece, end_none};
 use std::mem;
 
@@ -56,62 +56,6 @@ impl Cut {
             Source::InSaram => put_front(piece, saram),
             Source::InExternal => put_front(piece, external),
         }
-    }
-}
-
-impl Plan {
-    /// Puts back what was taken for record 1.
-    #[inline(always)]
-    pub(crate) fn put_back_first(
-        &self,
-        piece: Option<Piece>,
-        own: &mut Option<Piece>,
-        shared: &mut Option<Piece>,
-        daram: &mut Option<ScratchBlock>,
-        saram: &mut Option<ScratchBlock>,
-        external: &mut Option<ScratchBlock>,
-    )
-        requires can { CanPut self.now.first.source piece own.old shared.old daram.old saram.old external.old }
-        ensures put { PutsBack self.now.first piece own.old shared.old daram.old saram.old external.old own.new shared.new daram.new saram.new external.new }
-    {
-        self.first
-            .put_back(piece, own, shared, daram, saram, external);
-    }
-
-    /// Puts back what was taken for record 2.
-    #[inline(always)]
-    pub(crate) fn put_back_second(
-        &self,
-        piece: Option<Piece>,
-        own: &mut Option<Piece>,
-        shared: &mut Option<Piece>,
-        daram: &mut Option<ScratchBlock>,
-        saram: &mut Option<ScratchBlock>,
-        external: &mut Option<ScratchBlock>,
-    )
-        requires can { CanPut self.now.second.source piece own.old shared.old daram.old saram.old external.old }
-        ensures put { PutsBack self.now.second piece own.old shared.old daram.old saram.old external.old own.new shared.new daram.new saram.new external.new }
-    {
-        self.second
-            .put_back(piece, own, shared, daram, saram, external);
-    }
-
-    /// Puts back what was taken for record 3.
-    #[inline(always)]
-    pub(crate) fn put_back_third(
-        &self,
-        piece: Option<Piece>,
-        own: &mut Option<Piece>,
-        shared: &mut Option<Piece>,
-        daram: &mut Option<ScratchBlock>,
-        saram: &mut Option<ScratchBlock>,
-        external: &mut Option<ScratchBlock>,
-    )
-        requires can { CanPut self.now.third.source piece own.old shared.old daram.old saram.old external.old }
-        ensures put { PutsBack self.now.third piece own.old shared.old daram.old saram.old external.old own.new shared.new daram.new saram.new external.new }
-    {
-        self.third
-            .put_back(piece, own, shared, daram, saram, external);
     }
 }
 

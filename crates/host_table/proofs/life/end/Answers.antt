@@ -23,7 +23,7 @@ use Rattle.host_table.proofs.life.end.Given.{Over}
 pub index-requires : goal.index-requires
 index-requires g c =
     let ok = (steps_in c.tables.view_is c.deactivate.ensures.step).ok in let there = (there_in c.tables.view_is c.deactivate.ensures.step c.args.i c.requires.living) in
-    let inside = ok.group_range c.args.i there.0 there.1 in let is = c.group_number-g.ensures ∙ ap group_of there.1 in
+    let inside = ok.group_range c.args.i there.0 there.1 in let is = (rw (← c.tables.view_is) at c.group_number-g.ensures) ∙ ap group_of there.1 in
     omega (arith, inside, is, ok.group_count)
 
 pub end_idle-own-requires-clause-living : goal.end_idle-own-requires-clause-living
@@ -35,7 +35,7 @@ end_idle-own-requires-clause-idle g c = rw (← c.tables.view_is) at c.deactivat
 pub end_idle-own-requires-clause-lent : goal.end_idle-own-requires-clause-lent
 end_idle-own-requires-clause-lent g c m at =
     let ok = (steps_in c.tables.view_is c.deactivate.ensures.step).ok in let i_in = slot_in c.tables.inside.instances.items c.args.i m at in
-    let of_group : m.group ≡ c.group_number-g.result = sym (c.group_number-g.ensures ∙ ap group_of at) in
+    let of_group : m.group ≡ c.group_number-g.result = sym ((rw (← c.tables.view_is) at c.group_number-g.ensures) ∙ ap group_of at) in
     let below : c.group_number-g.result < GROUPS = subst (λ n. n < GROUPS) of_group (ok.group_range c.args.i m at) in
     record {
       number = omega (arith, i_in, ok.slot_count, ok.sharing_count);

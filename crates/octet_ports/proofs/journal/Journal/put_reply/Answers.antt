@@ -37,7 +37,7 @@ returns-else-eq-clause-gets g c = gets_last g.R.Write.contents _ c.args.self.now
 pub returns-else-eq-clause-passed : goal.returns-else-eq-clause-passed
 returns-else-eq-clause-passed g c = λ line ends. elim c.else-eq.branch [
   | else-eq-via-then-eq+else-ends_line w ↦
-      absurd (false≢true (sym w.if-ends_line.false ∙ w.ends_line.ensures ends))
+      absurd (false≢true (sym w.if-ends_line.false ∙ w.ends_line.ensures.1 ends))
   | else-eq-via-else-eq w ↦
       let same : c.eq.result ≡ true = rw (c.make_room_for_reply.ensures.passing, line) at c.eq.ensures in
       absurd (false≢true (sym w.if-eq.false ∙ same))
