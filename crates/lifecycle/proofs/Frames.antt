@@ -4,12 +4,11 @@ use Rattle.space_raw.specs.Span.{Span}
 use Rattle.mem_rec.specs.declared.MemRec.{MemRec}
 use Rattle.mem_rec.specs.declared.Space.{Space}
 use Rattle.mem_rec.specs.declared.Space.TheVariants.{Daram, Saram, External}
-use Rattle.mem_rec.specs.declared.Attr.{Attr}
 use Rattle.mem_rec.specs.declared.Attr.TheVariants.{Scratch, Persist, WriteOnce}
 use Rattle.ialg.specs.Records.{record_at, words_of, unplaced}
 use Rattle.scratch_group.specs.declared.group.Group.{Group}
 use Rattle.record_loans.specs.declared.pieces.Pieces.{Pieces}
-use Rattle.record_loans.specs.Blocks.{block_piece}
+use Rattle.record_loans.specs.Blocks.{block_piece, block_words}
 use Rattle.scratch_group.specs.Blocks.{block_in, SameGroup}
 use Rattle.record_loans.specs.Pieces.{piece_at, piece_words, piece_place, IsSamePiece, SamePieces, IsInSpace}
 use Rattle.scratch_group.specs.Words.{words_by, record_words, active_words, scratch_end, scratch_offset, place_by, record_place, with_bases, placed}
@@ -42,17 +41,21 @@ same_space (Some a) (Some b) e h = rw e.0 h
 take_same : (n : ℕ) (xs ys : List ℤ) → length ys ≡ length xs → length (take n ys) ≡ length (take n xs)
 take_same n xs ys e = simp (length-take, e)
 
-length_by : (a : Attr) (n at : ℕ) (o o' s s' b b' : List ℤ) → length o' ≡ length o → length s' ≡ length s → length b' ≡ length b
-    → length (words_by a n o' s' (drop at b')) ≡ length (words_by a n o s (drop at b))
-length_by Scratch n at o o' s s' b b' eo es eb = take_same n (drop at b) (drop at b') (simp (length-drop, eb))
-length_by Persist n at o o' s s' b b' eo es eb = take_same n o o' eo
-length_by WriteOnce n at o o' s s' b b' eo es eb = take_same n s s' es
-
 record_length : (rs : List MemRec) (own own' shared shared' : Pieces) (g g' : Group) (k : ℕ) → SamePieces own own' → SamePieces shared shared' → AreSameBlocks g g'
     → length (record_words rs own' shared' g' k) ≡ length (record_words rs own shared g k)
 record_length rs own own' shared shared' g g' k so ss sb =
-    length_by (record_at rs k).attr (record_at rs k).size (scratch_offset rs k) _ _ _ _ _ _
-    (same_length _ _ (piece_same own own' k so)) (same_length _ _ (piece_same shared shared' k ss)) (same_length _ _ (sb (record_at rs k).space))
+    let r = record_at rs k in
+    let o = piece_words (piece_at own k) in
+    let o' = piece_words (piece_at own' k) in
+    let s = piece_words (piece_at shared k) in
+    let s' = piece_words (piece_at shared' k) in
+    let b = drop (scratch_offset rs k) (block_words (block_in g r.space)) in
+    let b' = drop (scratch_offset rs k) (block_words (block_in g' r.space)) in
+    elim r.attr as (λ a. length (words_by a r.size o' s' b') ≡ length (words_by a r.size o s b)) [
+      | Scratch ↦ take_same r.size b b' (simp (length-drop, same_length _ _ (sb r.space)))
+      | Persist ↦ take_same r.size o o' (same_length _ _ (piece_same own own' k so))
+      | WriteOnce ↦ take_same r.size s s' (same_length _ _ (piece_same shared shared' k ss))
+    ]
 
 all_lengths : (rs : List MemRec) (own own' shared shared' : Pieces) (g g' : Group) (k : ℕ) → SamePieces own own' → SamePieces shared shared' → AreSameBlocks g g'
     → length (words_of (active_words rs own' shared' g') k) ≡ length (words_of (active_words rs own shared g) k)
@@ -77,9 +80,9 @@ fits_at rs own own' shared shared' g g' so ss sb f = record {
   };
 }
 
-pub fits_stay : (rs : List MemRec) (own own' shared shared' : Pieces) (g g' : Group) → SamePieces own own' → SamePieces shared shared' → SameGroup g g'
+pub fits_stay : {rs : List MemRec} {own own' shared shared' : Pieces} {g g' : Group} → SamePieces own own' → SamePieces shared shared' → SameGroup g g'
     → Fits rs own shared g → Fits rs own' shared' g'
-fits_stay rs own own' shared shared' g g' so ss sg f = fits_at rs own own' shared shared' g g' so ss (λ space. block_same g g' space sg) f
+fits_stay {rs} {own} {own'} {shared} {shared'} {g} {g'} so ss sg f = fits_at rs own own' shared shared' g g' so ss (λ space. block_same g g' space sg) f
 
 pub same_group : (g : Group) → SameGroup g g
 same_group g = record {
@@ -113,7 +116,7 @@ unplaced-placed rs rs' own shared g e = sym (ap unplaced e ∙ unplaced-with_bas
 
 -- another member was active meanwhile
 pub fits_beside : (rs : List MemRec) (own shared : Pieces) (g g' : Group) → SameGroup g g' → Fits rs own shared g → Fits rs own shared g'
-fits_beside rs own shared g g' sg f = fits_stay rs own own shared shared g g' (same_pieces own) (same_pieces shared) sg f
+fits_beside rs own shared g g' sg f = fits_stay (same_pieces own) (same_pieces shared) sg f
 
 -- where records are placed, the old bases don't matter: so what fits without bases fits after a move
 

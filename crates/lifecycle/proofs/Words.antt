@@ -19,8 +19,8 @@ use Rattle.scratch_group.specs.Blocks.{block_in, BlocksArePoison}
 use Rattle.record_loans.specs.Pieces.{piece_at, piece_words}
 use Rattle.scratch_group.specs.Words.{words_by, record_words, active_words, lasting_words_by, idle_record_words, idle_words, scratch_end, scratch_offset}
 
-four : (a a' b b' c c' d d' : List ℤ) → a ≡ a' → b ≡ b' → c ≡ c' → d ≡ d' → a ∷ b ∷ c ∷ d ∷ [] ≡ a' ∷ b' ∷ c' ∷ d' ∷ []
-four a a' b b' c c' d d' ea eb ec ed = cc
+four : {a a' b b' c c' d d' : List ℤ} → a ≡ a' → b ≡ b' → c ≡ c' → d ≡ d' → a ∷ b ∷ c ∷ d ∷ [] ≡ a' ∷ b' ∷ c' ∷ d' ∷ []
+four ea eb ec ed = cc
 
 -- the words that last are those of the idle instance
 
@@ -49,7 +49,7 @@ record_lasts rs own shared g k = lasts (record_at rs k).attr (record_at rs k).si
 pub lasting_active : (rs : List MemRec) (own shared : Pieces) (g : Group) → lasting rs (active_words rs own shared g) ≡ idle_words rs own shared
 lasting_active rs own shared g =
     lasting_four rs (record_words rs own shared g 0) (record_words rs own shared g 1) (record_words rs own shared g 2) (record_words rs own shared g 3)
-    ∙ four _ _ _ _ _ _ _ _ (record_lasts rs own shared g 0) (record_lasts rs own shared g 1) (record_lasts rs own shared g 2) (record_lasts rs own shared g 3)
+    ∙ four (record_lasts rs own shared g 0) (record_lasts rs own shared g 1) (record_lasts rs own shared g 2) (record_lasts rs own shared g 3)
 
 idle_record_lasts : (rs : List MemRec) (own shared : Pieces) (k : ℕ) → lasting_words (record_at rs k).attr (idle_record_words rs own shared k) ≡ idle_record_words rs own shared k
 idle_record_lasts rs own shared k = last_already (record_at rs k).attr (record_at rs k).size (piece_words (piece_at own k)) (piece_words (piece_at shared k))
@@ -57,7 +57,7 @@ idle_record_lasts rs own shared k = last_already (record_at rs k).attr (record_a
 pub lasting_idle : (rs : List MemRec) (own shared : Pieces) → lasting rs (idle_words rs own shared) ≡ idle_words rs own shared
 lasting_idle rs own shared =
     lasting_four rs (idle_record_words rs own shared 0) (idle_record_words rs own shared 1) (idle_record_words rs own shared 2) (idle_record_words rs own shared 3)
-    ∙ four _ _ _ _ _ _ _ _ (idle_record_lasts rs own shared 0) (idle_record_lasts rs own shared 1) (idle_record_lasts rs own shared 2) (idle_record_lasts rs own shared 3)
+    ∙ four (idle_record_lasts rs own shared 0) (idle_record_lasts rs own shared 1) (idle_record_lasts rs own shared 2) (idle_record_lasts rs own shared 3)
 
 -- the records that last are lent to an idle instance
 
@@ -144,7 +144,7 @@ record_words-unplaced rs own shared g k =
 
 active_words-unplaced : (rs : List MemRec) (own shared : Pieces) (g : Group) → active_words (unplaced rs) own shared g ≡ active_words rs own shared g
 active_words-unplaced rs own shared g =
-    four _ _ _ _ _ _ _ _ (record_words-unplaced rs own shared g 0) (record_words-unplaced rs own shared g 1) (record_words-unplaced rs own shared g 2) (record_words-unplaced rs own shared g 3)
+    four (record_words-unplaced rs own shared g 0) (record_words-unplaced rs own shared g 1) (record_words-unplaced rs own shared g 2) (record_words-unplaced rs own shared g 3)
 
 pub active_words-same : (rs rs' : List MemRec) (own shared : Pieces) (g : Group) → unplaced rs' ≡ unplaced rs → active_words rs' own shared g ≡ active_words rs own shared g
 active_words-same rs rs' own shared g e = sym (active_words-unplaced rs' own shared g) ∙ ap (λ ts. active_words ts own shared g) e ∙ active_words-unplaced rs own shared g

@@ -22,23 +22,23 @@ pub scratch_out : (rs : List MemRec) (k : ℕ) (d r : MemRec) (space : Space) �
 scratch_out rs k d r space h e t = rw (drop_at rs k d r h e, t) refl
 
 -- one more record is laid out
-pub offsets_in : (xs ys whole : List ℕ) (end o end' : ℕ) (r : MemRec) (left all : List MemRec)
+pub offsets_in : (xs : List ℕ) {ys whole : List ℕ} (end : ℕ) {o end' : ℕ} {r : MemRec} {left all : List MemRec}
     → all ≡ r ∷ left → o ≡ next_multiple_of end r.align → ys ≡ xs ++ o ∷ [] → end' ≡ o + r.size
     → xs ++ offsets_from end all ≡ whole → ys ++ offsets_from end' left ≡ whole
-offsets_in xs ys whole end o end' r left all ea eo ey ee h =
+offsets_in xs end ea eo ey ee h =
     let step = rw ea at h in
     rw (ey, ee, eo, append_assoc) step
 
-pub end_in : (end o end' whole : ℕ) (r : MemRec) (left all : List MemRec)
+pub end_in : (end : ℕ) {o end' whole : ℕ} {r : MemRec} {left all : List MemRec}
     → all ≡ r ∷ left → o ≡ next_multiple_of end r.align → end' ≡ o + r.size
     → end_from end all ≡ whole → end_from end' left ≡ whole
-end_in end o end' whole r left all ea eo ee h =
+end_in end ea eo ee h =
     let step = rw ea at h in
     rw (ee, eo) step
 
-pub align_in : (a a' whole : ℕ) (r : MemRec) (left all : List MemRec)
+pub align_in : (a : ℕ) {a' whole : ℕ} {r : MemRec} {left all : List MemRec}
     → all ≡ r ∷ left → a' ≡ max a r.align → align_from a all ≡ whole → align_from a' left ≡ whole
-align_in a a' whole r left all ea e h =
+align_in a ea e h =
     let step = rw ea at h in
     rw e step
 

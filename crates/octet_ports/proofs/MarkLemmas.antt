@@ -9,7 +9,7 @@ pub record LeastLost {X : Type 0} (before : X → ℕ) (IsTaken : X → Type 0) 
   pub sure : (k : ℕ) → k < place → (d : X) → k < length xs → before (get_or xs k d) < count → IsTaken (get_or xs k d)
   pub lost : count < most → (k : ℕ) × (x : X) × (k < place) × (get_or xs k x ≡ x) × ((before x ≡ count) × (IsTaken x → ⊥))
 
-module _ {X : Type 0} (before : X → ℕ) (IsTaken : X → Type 0) (xs : List X) (place most count : ℕ) (so_far : LeastLost before IsTaken xs place most count)
+module _ {X : Type 0} {before : X → ℕ} {IsTaken : X → Type 0} {xs : List X} {place most count : ℕ} (so_far : LeastLost before IsTaken xs place most count)
     (e : X) (inside : place < length xs) where
   pub taken_next : IsTaken (get_or xs place e) → LeastLost before IsTaken xs (place + 1) most count
   taken_next taken = record {

@@ -19,10 +19,10 @@ pub still_taken : {W : Type 0} (olds news : List (Waiting W)) → EachDoes Holds
 still_taken olds news still mark taken = grind (arith, common_steps, slice_get_cases)
 
 -- the replies before the first lost sample were passed on
-pub tells_truth : {W R : Type 0} (contents : R → Option (List ℕ)) (marks : List Mark) (olds news : List (Waiting W)) (old passed new : Waiting R) (most : ℕ)
+pub tells_truth : {W R : Type 0} {contents : R → Option (List ℕ)} {marks : List Mark} {olds news : List (Waiting W)} {old passed new : Waiting R} {most : ℕ}
     → PassesFirst contents most old passed → HoldsStill passed new → most ≤ length old.octets.items → All (λ mark. mark.before < most → IsTaken olds mark) marks
     → EachDoes HoldsStill olds news → TellsTruth contents marks news old new
-tells_truth contents marks olds news old passed new most passes still within sure stays = record {
+tells_truth {contents} {marks} {olds} {news} {old} passes still within sure stays = record {
   count = passes.count;
   within = omega arith;
   gives = subst (λ w. Appends (contents old.writer) (contents w) (take passes.count old.octets.items)) (sym still.writer) passes.gives;

@@ -105,15 +105,15 @@ rest_is rs g k space =
     left_is (record_at rs k).attr (record_at rs k).space (record_at rs k).size (record_at rs k).align (scratch_end rs k) space (block_words (block_in g space))
     ∙ ap (λ n. drop n (block_words (block_in g space))) (sym (scratch_end-suc rs k space))
 
-all_three : (w w' : List ℤ) (cs : List Cut) (os : List (List ℤ)) (d d' s s' x x' : List ℤ) → w ≡ w' → d ≡ d' → s ≡ s' → x ≡ x'
+all_three : {w w' : List ℤ} (cs : List Cut) (os : List (List ℤ)) {d d' s s' x x' : List ℤ} → w ≡ w' → d ≡ d' → s ≡ s' → x ≡ x'
     → w ∷ cut_words cs os d s x ≡ w' ∷ cut_words cs os d' s' x'
-all_three w w' cs os d d' s s' x x' e ed es ex = cc
+all_three cs os e ed es ex = cc
 
 cut_step : (rs : List MemRec) (own shared : Pieces) (g : Group) (k : ℕ) (cs : List Cut) (os : List (List ℤ))
     → cut_words (cut_of rs k ∷ cs) (piece_words (held (cut_of rs k).source (piece_at own k) (piece_at shared k)) ∷ os) (rest rs g k Daram) (rest rs g k Saram) (rest rs g k External)
     ≡ record_words rs own shared g k ∷ cut_words cs os (rest rs g (suc k) Daram) (rest rs g (suc k) Saram) (rest rs g (suc k) External)
 cut_step rs own shared g k cs os =
-    all_three _ _ cs os _ _ _ _ _ _
+    all_three cs os
     (words_is (record_at rs k).attr (record_at rs k).space (record_at rs k).size (scratch_offset rs k) (scratch_end rs k) (λ space. block_words (block_in g space)) (piece_at own k) (piece_at shared k) (omega arith))
     (rest_is rs g k Daram) (rest_is rs g k Saram) (rest_is rs g k External)
 
@@ -153,8 +153,8 @@ pub object_words : (rs : List MemRec) (own shared : Pieces) (g : Group) → IsTr
 object_words rs own shared g t =
     sym (ap (λ a. words_by a (record_at rs 0).size (piece_words own.p0) (piece_words shared.p0) (drop (scratch_offset rs 0) (block_words (block_in g (record_at rs 0).space)))) (object_attr rs t))
 
-same_four : (w0 w0' w1 w2 w3 : List ℤ) (ws ws1 ws2 : List (List ℤ)) → w0 ≡ w0' → ws ≡ w1 ∷ ws1 → ws1 ≡ w2 ∷ ws2 → ws2 ≡ w3 ∷ [] → w0 ∷ ws ≡ w0' ∷ w1 ∷ w2 ∷ w3 ∷ []
-same_four w0 w0' w1 w2 w3 ws ws1 ws2 e0 e1 e2 e3 = cc
+same_four : {w0 w0' w1 w2 w3 : List ℤ} {ws ws1 ws2 : List (List ℤ)} → w0 ≡ w0' → ws ≡ w1 ∷ ws1 → ws1 ≡ w2 ∷ ws2 → ws2 ≡ w3 ∷ [] → w0 ∷ ws ≡ w0' ∷ w1 ∷ w2 ∷ w3 ∷ []
+same_four e0 e1 e2 e3 = cc
 
 -- the words that the plan cuts out are those of the records
 all_cut : (rs : List MemRec) (own shared : Pieces) (g : Group) → IsTrue (is_table rs)
@@ -165,7 +165,7 @@ all_cut rs own shared g t =
     let first = cut_step rs own shared g 1 (cut_of rs 2 ∷ cut_of rs 3 ∷ []) (h2 ∷ h3 ∷ []) in
     let second = cut_step rs own shared g 2 (cut_of rs 3 ∷ []) (h3 ∷ []) in
     let third = cut_step rs own shared g 3 [] [] in
-    same_four _ _ _ _ _ _ _ _ (object_words rs own shared g t)
+    same_four (object_words rs own shared g t)
     (rw (first_rest rs g Daram t, first_rest rs g Saram t, first_rest rs g External t) at first) second third
 
 pub active_lent : (rs : List MemRec) (plan : Plan) (own shared : Pieces) (g : Group) → plan ≡ active_plan_of rs → IsTrue (is_table rs)
@@ -208,7 +208,7 @@ idle_lent rs plan own shared e t =
     let h2 = piece_words (held (idle_cut_of rs 2).source own.p2 shared.p2) in
     let h3 = piece_words (held (idle_cut_of rs 3).source own.p3 shared.p3) in
     ap (λ (p : Plan). lent_by p own shared None None None) e
-    ∙ same_four _ _ _ _ _ _ _ _ (idle_object_words rs own shared t)
+    ∙ same_four (idle_object_words rs own shared t)
     (idle_step (record_at rs 1).attr (record_at rs 1).size own.p1 shared.p1 (idle_cut_of rs 2 ∷ idle_cut_of rs 3 ∷ []) (h2 ∷ h3 ∷ []) [] [] [])
     (idle_step (record_at rs 2).attr (record_at rs 2).size own.p2 shared.p2 (idle_cut_of rs 3 ∷ []) (h3 ∷ []) [] [] [])
     (idle_step (record_at rs 3).attr (record_at rs 3).size own.p3 shared.p3 [] [] [] [] [])

@@ -45,9 +45,9 @@ loop-r-preserved c =
           let behind = behind_object table k blank r _ valid at.is test in
           let bound = next_multiple_of_bound c.loop-r.end r.align (omega arith) in
           record {
-            offsets = offsets_in _ _ _ _ _ _ _ _ _ all o pushed w.end-is i.offsets;
-            end = end_in _ _ _ _ _ _ _ all o w.end-is i.end;
-            align = align_in _ _ _ _ _ _ all (w.align-is ∙ w.max-align.ensures) i.align;
+            offsets = offsets_in _ _ all o pushed w.end-is i.offsets;
+            end = end_in _ all o w.end-is i.end;
+            align = align_in _ all (w.align-is ∙ w.max-align.ensures) i.align;
             few = rw w.offsets-is (omega (arith, w.push.ensures.len));
             low = rw w.end-is (omega (arith, o));
           }

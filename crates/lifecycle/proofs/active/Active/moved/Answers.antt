@@ -17,7 +17,7 @@ lend-requires-clause-sizes g c =
 pub returns-clause-fits : goal.returns-clause-fits
 returns-clause-fits g c =
     let fits = fits_settled c.args.self.now.instance.table c.rebase.new.table c.restore.new.own _ c.args.shared.now c.args.group.now c.restore.ensures c.rebase.ensures c.requires.fits in
-    fits_stay c.rebase.new.table c.restore.new.own c.lend.new.own c.args.shared.now c.lend.new.shared c.args.group.now c.lend.new.self c.lend.ensures.own c.lend.ensures.shared c.lend.ensures.group fits
+    fits_stay c.lend.ensures.own c.lend.ensures.shared c.lend.ensures.group fits
 
 pub returns-clause-keeps : goal.returns-clause-keeps
 returns-clause-keeps g c w h keeps lawful =

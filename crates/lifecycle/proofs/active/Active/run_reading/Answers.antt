@@ -9,7 +9,7 @@ pub lend_reading-requires-clause-sizes : goal.lend_reading-requires-clause-sizes
 lend_reading-requires-clause-sizes g c = c.requires.fits.lent.sizes
 
 pub returns-clause-fits : goal.returns-clause-fits
-returns-clause-fits g c = fits_stay _ _ _ _ _ _ _ c.lend_reading.ensures.own (record { p0 = refl; p1 = c.lend_reading.ensures.once; p2 = refl; p3 = refl }) (same_group c.args.group.now) c.requires.fits
+returns-clause-fits g c = fits_stay c.lend_reading.ensures.own (record { p0 = refl; p1 = c.lend_reading.ensures.once; p2 = refl; p3 = refl }) (same_group c.args.group.now) c.requires.fits
 
 pub returns-clause-keeps : goal.returns-clause-keeps
 returns-clause-keeps g c w h keeps lawful = (c.lend_reading.ensures.done.1 c.args.self.now.instance.params.items w h lawful refl c.requires.fits.lent (keeps lawful)).0

@@ -7,7 +7,7 @@ pub lend-requires-clause-sizes : goal.lend-requires-clause-sizes
 lend-requires-clause-sizes g c = c.requires.fits.lent.sizes
 
 pub returns-clause-fits : goal.returns-clause-fits
-returns-clause-fits g c = fits_stay _ _ _ _ _ _ _ c.lend.ensures.own c.lend.ensures.shared c.lend.ensures.group c.requires.fits
+returns-clause-fits g c = fits_stay c.lend.ensures.own c.lend.ensures.shared c.lend.ensures.group c.requires.fits
 
 pub returns-clause-keeps : goal.returns-clause-keeps
 returns-clause-keeps g c w h poison keeps lawful =

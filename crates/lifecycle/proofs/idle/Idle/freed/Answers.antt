@@ -10,7 +10,7 @@ pub lend_lasting-requires-clause-sizes : goal.lend_lasting-requires-clause-sizes
 lend_lasting-requires-clause-sizes g c = (lasting_lent c.args.self.now.instance.table c.args.self.now.instance.own c.args.shared.now c.args.group.now c.requires.fits.lent).sizes
 
 pub returns-clause-fits : goal.returns-clause-fits
-returns-clause-fits g c = fits_stay _ _ _ _ _ _ _ c.lend_lasting.ensures.own c.lend_lasting.ensures.shared (same_group c.args.group.now) c.requires.fits
+returns-clause-fits g c = fits_stay c.lend_lasting.ensures.own c.lend_lasting.ensures.shared (same_group c.args.group.now) c.requires.fits
 
 pub returns-clause-table : goal.returns-clause-table
 returns-clause-table g c w h lawful keeps =

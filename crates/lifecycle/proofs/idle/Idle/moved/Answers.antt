@@ -18,7 +18,7 @@ lend_lasting-requires-clause-sizes g c =
 pub returns-clause-fits : goal.returns-clause-fits
 returns-clause-fits g c =
     let fits = fits_settled c.args.self.now.instance.table c.rebase.new.table c.restore.new.own _ c.args.shared.now c.args.group.now c.restore.ensures c.rebase.ensures c.requires.fits in
-    fits_stay c.rebase.new.table c.restore.new.own c.lend_lasting.new.own c.args.shared.now c.lend_lasting.new.shared c.args.group.now c.args.group.now c.lend_lasting.ensures.own c.lend_lasting.ensures.shared (same_group c.args.group.now) fits
+    fits_stay c.lend_lasting.ensures.own c.lend_lasting.ensures.shared (same_group c.args.group.now) fits
 
 pub returns-clause-keeps : goal.returns-clause-keeps
 returns-clause-keeps g c w h keeps lawful =

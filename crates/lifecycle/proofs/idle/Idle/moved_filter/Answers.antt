@@ -39,8 +39,7 @@ returns-clause-fits g c =
     let lent = c.lend_lasting_filter in
     let fits = fits_settled c.args.self.now.instance.table c.rebase_filter.new.table c.restore.new.own _ no_pieces c.args.group.now
     c.restore.ensures c.rebase_filter.ensures c.requires.fits in
-    fits_stay c.rebase_filter.new.table c.restore.new.own lent.new.own no_pieces no_pieces c.args.group.now c.args.group.now
-    lent.ensures.own (record { p0 = refl; p1 = refl; p2 = refl; p3 = refl }) (same_group c.args.group.now) fits
+    fits_stay lent.ensures.own (record { p0 = refl; p1 = refl; p2 = refl; p3 = refl }) (same_group c.args.group.now) fits
 
 pub returns-clause-keeps : goal.returns-clause-keeps
 returns-clause-keeps g c w h keeps lawful =

@@ -42,8 +42,7 @@ returns-clause-fits g c =
     let once = only_third c.args.once.now in
     let fits = fits_settled c.args.self.now.instance.table c.rebase_sharing.new.table c.restore.new.own _ once c.args.group.now
     c.restore.ensures c.rebase_sharing.ensures c.requires.fits in
-    fits_stay c.rebase_sharing.new.table c.restore.new.own lent.new.own once (only_third lent.new.once) c.args.group.now c.args.group.now
-    lent.ensures.own (record { p0 = refl; p1 = refl; p2 = lent.ensures.once; p3 = refl }) (same_group c.args.group.now) fits
+    fits_stay lent.ensures.own (record { p0 = refl; p1 = refl; p2 = lent.ensures.once; p3 = refl }) (same_group c.args.group.now) fits
 
 pub returns-clause-keeps : goal.returns-clause-keeps
 returns-clause-keeps g c w h keeps lawful =

@@ -9,7 +9,7 @@ returns-clause-failed g c = cc
 
 pub returns-clause-replies : goal.returns-clause-replies
 returns-clause-replies g c =
-    tells_truth _ _ _ _ _ _ _ _ c.pass_first.ensures.passes c.forget.ensures.stays (rw c.len-waiting.ensures at c.true_octets-count.ensures.within)
+    tells_truth c.pass_first.ensures.passes c.forget.ensures.stays (rw c.len-waiting.ensures at c.true_octets-count.ensures.within)
     (rw c.as_slice.ensures.value at c.true_octets-count.ensures.sure) c.forget_outputs.ensures.stays
 
 pub returns-clause-kept : goal.returns-clause-kept
@@ -28,5 +28,5 @@ returns-clause-kept g c = λ _.
 
 pub returns-then-self-clause-replies : goal.returns-then-self-clause-replies
 returns-then-self-clause-replies g c =
-    tells_truth _ _ _ _ _ _ _ _ c.pass_first.ensures.passes c.forget.ensures.stays (rw c.len-waiting.ensures at c.true_octets-count.ensures.within)
+    tells_truth c.pass_first.ensures.passes c.forget.ensures.stays (rw c.len-waiting.ensures at c.true_octets-count.ensures.within)
     (rw c.as_slice.ensures.value at c.true_octets-count.ensures.sure) c.forget_outputs.ensures.stays

@@ -164,9 +164,9 @@ returns-in-Some-clause-taken g c =
     }
 
 -- what was moved is counted once
-moved_words : (result was old len words place from : ℕ) → result ≡ min (was + len) (2 ^ 64 - 1) → was ≡ old → len ≡ words → place < from
+moved_words : {result was old len words place from : ℕ} → result ≡ min (was + len) (2 ^ 64 - 1) → was ≡ old → len ≡ words → place < from
     → result ≡ min (old + (if place == from then 0 else words)) (2 ^ 64 - 1)
-moved_words result was old len words place from sum same long low = grind (arith, common_steps)
+moved_words sum same long low = grind (arith, common_steps)
 
 pub returns-in-Some-clause-slid : goal.returns-in-Some-clause-slid
 returns-in-Some-clause-slid g c =
@@ -174,4 +174,4 @@ returns-in-Some-clause-slid g c =
     let long : c.from.result ≡ length c.args.piece.words = c.from.ensures ∙ c.len-len.ensures.value ∙ as_long g (goal.at.returns-in-Some-clause-slid g c).After-put_behind in
     let low : c.slide-block.result.0.place < c.args.piece.place =
     let at = c.slide-block.ensures.block.1 ∙ c.carve-gap.ensures.block.1 in let less = c.in-Some.ensures.found.0 in omega arith in
-    moved_words _ _ _ _ _ _ _ c.saturating_add-self-inside.ensures was long low
+    moved_words c.saturating_add-self-inside.ensures was long low
