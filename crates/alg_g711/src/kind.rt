@@ -74,7 +74,7 @@ impl Ialg for G711 {
     fn alg_deactivate(&self, _mem: &mut Lent<'_>) {}
 
     fn alg_moved(&self, tab: &MemTab, mem: &mut Lent<'_>) {
-        let Some(coder) = coder_of(mem) else {
+        let Some(coder) = coder_of(mem.object()) else {
             return;
         };
         write_object_of(coder, tab, mem);
@@ -112,11 +112,10 @@ impl Ialg for G711 {
 }
 
 /// The coder that the object names by its kind word.
-fn coder_of(mem: &Lent<'_>) -> Option<Coder>
+fn coder_of(object: &[i16]) -> Option<Coder>
     ensures { (coder : Coder) (records table : List MemRec)
-        → Names (kind_word coder.law coder.direction) records table mem.now.r0.now → result ≡ Some coder }
+        → Names (kind_word coder.law coder.direction) records table object.now → result ≡ Some coder }
 {
-    let object = mem.object();
     if object.is_empty() {
         return None;
     }
@@ -124,11 +123,11 @@ fn coder_of(mem: &Lent<'_>) -> Option<Coder>
 }
 
 /// Whether the object's kind word is a decoder's.
-fn is_decoder(mem: &Lent<'_>) -> bool
+fn is_decoder(object: &[i16]) -> bool
     ensures { (coder : Coder) (records table : List MemRec)
-        → Names (kind_word coder.law coder.direction) records table mem.now.r0.now → IsTrue result ↔ (coder.direction ≡ Decode) }
+        → Names (kind_word coder.law coder.direction) records table object.now → IsTrue result ↔ (coder.direction ≡ Decode) }
 {
-    match mem.object() {
+    match object {
         [kind, ..] => *kind == A_DECODER_KIND || *kind == MU_DECODER_KIND,
         [] => false,
     }
@@ -172,9 +171,28 @@ fn run(mem: &Lent<'_>, input: &[i16], out: &mut Block)
     ensures read { (p : List ℤ) (h : History) → Keeps p mem.now.table.now (lent_words mem.now) h
         → AllLent mem.now.table.now (lent_words mem.now) → All (FitsSigned w16) input.now }
 {
-    if is_decoder(mem) {
+    let object = mem.object();
+    if is_decoder(object) {
         decode_block(mem, input, out);
-    } else if let Some(coder) = coder_of(mem) {
+    } else {
+        encode_by(object, input, out);
+    }
+}
+
+/// Gives out the codes of the samples, by the law that the object names.
+///
+/// A call of its own, so that a decoder finds out that it is one, and no more.
+#[inline(never)]
+fn encode_by(object: &[i16], input: &[i16], out: &mut Block)
+    requires within { length input.now ≤ BLOCK_SAMPLES }
+    requires empty { out.old.items ≡ [] }
+    ensures bounded { length out.new.items ≤ length input.now }
+    ensures given { (law : Law) (records table : List MemRec) → Names (kind_word law Encode) records table object.now
+        → out.new.items ≡ map (coded law Encode) input.now }
+    ensures read { (law : Law) (records table : List MemRec) → Names (kind_word law Encode) records table object.now
+        → All (FitsSigned w16) input.now }
+{
+    if let Some(coder) = coder_of(object) {
         encode_block(coder.law, input, out);
     }
 }
@@ -237,7 +255,7 @@ fn decode_by(table: &[i16], input: &[i16], out: &mut Block)
 fn get(mem: &Lent<'_>) -> Words
     ensures { (p : List ℤ) (h : History) → Keeps p mem.now.table.now (lent_words mem.now) h → result.items ≡ p }
 {
-    match coder_of(mem) {
+    match coder_of(mem.object()) {
         Some(coder) => copied(&coder.parameters()),
         None => Words::new(),
     }

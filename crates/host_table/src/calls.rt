@@ -68,9 +68,11 @@ fn run_reading<M: Ialg>(
     }
 }
 
-/// Gives the active member of a group a block of samples, as [`run_sharing`] does. A filter has no write-once record,
-/// so nothing is borrowed for it, and for a reader no plan is made.
-fn run_member<M: Ialg>(
+/// Gives the active member of a group a block of samples, as [`run_sharing`] does. A filter has no write-once record, so nothing is borrowed for it.
+///
+/// A call of its own: a filter's work is much more than the call, and a reader, whose work isn't, goes without what is kept here.
+#[inline(never)]
+fn run_with_blocks<M: Ialg>(
     active: &mut Active<M>,
     sharing: &mut Vec<Locations>,
     i: u8,
@@ -89,10 +91,32 @@ fn run_member<M: Ialg>(
         let mut none = Pieces::none();
         active.run(&mut none, group, input, out);
         end_absent(none);
-    } else if let Some(sizes) = reader_sizes(&active.instance.table) {
-        run_reading(active, sizes, sharing, i, group, input, out);
     } else {
         run_sharing(active, sharing, i, group, input, out);
+    }
+}
+
+/// Gives the active member of a group a block of samples, as [`run_sharing`] does. For a reader no plan is made, and no block of its group is
+/// looked at.
+#[inline(always)]
+fn run_member<M: Ialg>(
+    active: &mut Active<M>,
+    sharing: &mut Vec<Locations>,
+    i: u8,
+    group: &mut Group,
+    input: &[i16],
+    out: &mut Block,
+)
+    requires lent { CanBeLent active.old.instance sharing.old.items i group.old }
+    requires empty { out.old.items ≡ [] }
+    requires some { 1 ≤ length input.now }
+    requires within { length input.now ≤ BLOCK_SAMPLES }
+    ensures seen { OnlyItsPiecesChange i sharing.old.items sharing.new.items }
+    ensures did { RanSharing M.law i input.now out.new.items active.old active.new sharing.old.items sharing.new.items group.old group.new }
+{
+    match reader_sizes(&active.instance.table) {
+        Some(sizes) => run_reading(active, sizes, sharing, i, group, input, out),
+        None => run_with_blocks(active, sharing, i, group, input, out),
     }
 }
 
@@ -170,6 +194,7 @@ fn activate_and_run_member<M: Ialg>(
 
 impl<M: Ialg> Tables<M> {
     /// Gives the active instance a block of samples.
+    #[inline(always)]
     fn run(&mut self, i: u8, input: &[i16], out: &mut Block)
         requires active { IsActiveAt self.old.instances i }
         requires ok { AreConsistent self.old }
@@ -265,8 +290,31 @@ impl<M: Ialg> Tables<M> {
         }
     }
 
+    /// Activates the instance, and gives it a block of samples; another active member of its group is deactivated before.
+    ///
+    /// A call of its own, since it is more work than the call.
+    #[inline(never)]
+    fn take_turn(&mut self, poison: Option<i16>, i: u8, g: u8, input: &[i16], out: &mut Block)
+        requires living { IsSome (slot_at self.old.instances i) }
+        requires group { g ≡ group_of (slot_at self.old.instances i) }
+        requires idle { IsIdleAt self.old.instances i }
+        requires ready { Ready poison self.old }
+        requires empty { out.old.items ≡ [] }
+        requires some { 1 ≤ length input.now }
+        requires within { length input.now ≤ BLOCK_SAMPLES }
+        ensures step { ActivatesAndFeeds M.law poison i input.now self.old self.new }
+        ensures bounded { length out.new.items ≤ length input.now }
+        ensures output { GivesOut M.law poison self.old i input.now out.new.items }
+    {
+        let _deactivated = self.deactivate_in(poison, g);
+        self.activate_and_run(i, g, input, out);
+    }
+
     /// Gives the instance a block of samples. It is activated first, unless it is active; another active member of its group is
     /// deactivated before.
+    ///
+    /// Inlined as far as a reader that is active goes, whose work at one sample is less than a call.
+    #[inline(always)]
     pub fn process(&mut self, poison: Option<i16>, i: u8, input: &[i16], out: &mut Block)
         requires living { IsSome (slot_at self.old.instances i) }
         requires ready { Ready poison self.old }
@@ -277,12 +325,10 @@ impl<M: Ialg> Tables<M> {
         ensures bounded { length out.new.items ≤ length input.now }
         ensures output { GivesOut M.law poison self.old i input.now out.new.items }
     {
-        let Some(g) = self.idle_in(i) else {
-            self.run(i, input, out);
-            return;
-        };
-        let _deactivated = self.deactivate_in(poison, g);
-        self.activate_and_run(i, g, input, out);
+        match self.idle_in(i) {
+            Some(g) => self.take_turn(poison, i, g, input, out),
+            None => self.run(i, input, out),
+        }
     }
 
     /// Gives the instance a control, activated as for a block. None where its kind doesn't take the control: then nothing has happened.

@@ -23,15 +23,12 @@ returns-then-is_decoder-clause-read c p h keeps lent =
     let d = decodes p c.args.mem.now h keeps.coder.law keeps refl way lent in
     c.decode_block.ensures.read keeps.coder.law d.named d.samples
 
-pub returns-in-Some-clause-law : goal.returns-in-Some-clause-law
-returns-in-Some-clause-law c p h keeps lent =
-    let e = same_coder c.coder_of.result c.in-Some.coder keeps.coder c.in-Some.is (c.coder_of.ensures keeps.coder _ _ keeps.object) in
+pub returns-else-is_decoder-clause-law : goal.returns-else-is_decoder-clause-law
+returns-else-is_decoder-clause-law c p h keeps lent =
     let way = encodes keeps.coder.direction (λ decode. false≢true (sym c.if-is_decoder.false ∙ (c.is_decoder.ensures keeps.coder _ _ keeps.object).1 decode)) in
-    let law = sym (ap (λ x. x.law) e) in
-    c.encode_block.ensures.given ∙ rw (way, law) refl
+    c.encode_by.ensures.given keeps.coder.law _ _ (rw way at keeps.object) ∙ rw way refl
 
-pub returns-in_default-clause-law : goal.returns-in_default-clause-law
-returns-in_default-clause-law c p h keeps lent = absurd (c.in_default.not-Some keeps.coder (c.coder_of.ensures keeps.coder _ _ keeps.object))
-
-pub returns-in_default-clause-read : goal.returns-in_default-clause-read
-returns-in_default-clause-read c p h keeps lent = absurd (c.in_default.not-Some keeps.coder (c.coder_of.ensures keeps.coder _ _ keeps.object))
+pub returns-else-is_decoder-clause-read : goal.returns-else-is_decoder-clause-read
+returns-else-is_decoder-clause-read c p h keeps lent =
+    let way = encodes keeps.coder.direction (λ decode. false≢true (sym c.if-is_decoder.false ∙ (c.is_decoder.ensures keeps.coder _ _ keeps.object).1 decode)) in
+    c.encode_by.ensures.read keeps.coder.law _ _ (rw way at keeps.object)
