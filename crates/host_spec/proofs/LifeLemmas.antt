@@ -53,7 +53,7 @@ module _ {M : Type 0} (kinds : Meaning M) (i : ℕ) where
 
 -- one list is longer than another by either of two
 same_rest : {A : Type 0} {a b c d xs ys : List A} → a ≡ b → c ≡ d → c ≡ a ++ xs → d ≡ b ++ ys → xs ≡ ys
-same_rest {b = b} {xs = xs} {ys = ys} e f longer longer' = append_cancel_left b xs ys (ap (λ s. s ++ xs) (sym e) ∙ sym longer ∙ f ∙ longer')
+same_rest {b} {xs} {ys} e f longer longer' = append_cancel_left b xs ys (ap (λ s. s ++ xs) (sym e) ∙ sym longer ∙ f ∙ longer')
 
 module _ {M : Type 0} (kinds : Meaning M) (i j : ℕ) (x y : Living M) (xs ys : List (Call M)) where
   pub agree : Life kinds i x xs → Life kinds j y ys → x.kind ≡ y.kind → x.params ≡ y.params → x.history ≡ y.history
