@@ -168,7 +168,7 @@ pub placed_stays : {M : Type 0} {instances instances' : List (Option (Member M))
     → SameMembers instances sharing groups instances' sharing' groups' → ArePlaced g blocks instances sharing groups spaces → ArePlaced g blocks instances' sharing' groups' spaces
 placed_stays {M} {instances} {instances'} {sharing} {sharing'} {groups} {groups'} g blocks spaces same placed = record {
   before = placed.before;
-  standing = standing_stays instances instances' sharing sharing' groups groups' placed.before same placed.standing;
+  standing = standing_stays same placed.standing;
   records = λ i k n space at.
       let was = before (slot_at instances i) n (subst (λ x. IsSameMember (slot_at instances i) x) at (same.slot i)) in
       placed.records i k was.0 space was.1.0;

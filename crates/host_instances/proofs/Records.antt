@@ -114,7 +114,8 @@ module _ {M : Type 0} (i : ℕ) (instances : List (Option (Member M))) (sharing 
 
 -- ---- those that stay
 
-module _ {M : Type 0} (i : ℕ) (instances instances' : List (Option (Member M))) (sharing sharing' : List Locations) (groups groups' : List Group) (spaces mid spaces' : Spaces)
+module _ {M : Type 0} (i : ℕ) {instances instances' : List (Option (Member M))} {sharing sharing' : List Locations} {groups groups' : List Group}
+    {spaces mid : Spaces} (spaces' : Spaces)
     (going : Going i instances sharing groups spaces mid) (others : OthersSame i instances sharing groups instances' sharing' groups')
     (left : slot_at instances' i ≡ None) (nothing : shared_at sharing' i ≡ no_pieces) (handed : (j k : ℕ) → IsSameLocation (location_without sharing i k j) (location_at (locations_at sharing' j) k))
     (least : AreLeast sharing') (together : AreTogether instances' sharing')
@@ -179,6 +180,6 @@ module _ {M : Type 0} (i : ℕ) (instances instances' : List (Option (Member M))
   }
 
 -- the other instances are the same
-pub same_beside : {M : Type 0} (i : ℕ) (instances instances' : List (Option (Member M))) (sharing sharing' : List Locations) (groups groups' : List Group)
+pub same_beside : {M : Type 0} (i : ℕ) {instances instances' : List (Option (Member M))} {sharing sharing' : List Locations} {groups groups' : List Group}
     → OthersSame i instances sharing groups instances' sharing' groups' → (j : ℕ) → j ≢ i → SlotIsSame (slot_at instances j) (slot_at instances' j)
-same_beside i instances instances' sharing sharing' groups groups' others j apart = slot_same _ _ (slot_of_same _ _ (others.slot j apart))
+same_beside i others j apart = slot_same _ _ (slot_of_same _ _ (others.slot j apart))

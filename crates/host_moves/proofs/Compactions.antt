@@ -95,12 +95,13 @@ module _ {M : Type 0} (laws : Laws M) (space : Space) where
   answer_is : (answer : Bool) (machine : State M) → (answer, (step machine space).1) ≡ step machine space → (step machine space).0 ≡ answer
   answer_is answer machine e = sym (ap (λ (o : Bool × State M). o.0) e)
 
-  module _ (instances instances' : List (Option (Member M))) (sharing sharing' : List Locations) (groups groups' : List Group) (spaces spaces' : Spaces) (moved : ℕ) (before : State M)
+  module _ {instances : List (Option (Member M))} {sharing : List Locations} {groups : List Group} {spaces : Spaces} (moved : ℕ) (before : State M)
       (amid : IsAmid laws space instances sharing groups spaces moved before) where
     steps : IsSteps amid.now space
     steps = steps_compact amid.now space (counted instances sharing groups spaces amid.now amid.kept)
 
-    pub amid_next : ((true, (step amid.now space).1) ≡ step amid.now space) → HostKeeps laws instances' sharing' groups' spaces' (step amid.now space).1
+    pub amid_next : {instances' : List (Option (Member M))} {sharing' : List Locations} {groups' : List Group} {spaces' : Spaces}
+        → ((true, (step amid.now space).1) ≡ step amid.now space) → HostKeeps laws instances' sharing' groups' spaces' (step amid.now space).1
         → IsAmid laws space instances' sharing' groups' spaces' (moved + 1) before
     amid_next is kept =
         let more = steps.more (answer_is true amid.now is) in
@@ -117,9 +118,10 @@ module _ {M : Type 0} (laws : Laws M) (space : Space) where
     stopped None machine e = refl
     stopped (Some b) machine e = absurd (true≢false e)
 
-    pub amid_end : ((false, (step amid.now space).1) ≡ step amid.now space) → HostKeeps laws instances' sharing' groups' spaces' (step amid.now space).1
+    pub amid_end : {instances' : List (Option (Member M))} {sharing' : List Locations} {groups' : List Group} {spaces' : Spaces}
+        → ((false, (step amid.now space).1) ≡ step amid.now space) → HostKeeps laws instances' sharing' groups' spaces' (step amid.now space).1
         → ((moved, (compact before space).1) ≡ compact before space) × HostKeeps laws instances' sharing' groups' spaces' (compact before space).1
-    amid_end is kept =
+    amid_end {instances'} {sharing'} {groups'} {spaces'} is kept =
         let still = answer_is false amid.now is in
         let last = steps.last still in
         let there : (step amid.now space).1 ≡ amid.now = stopped (next_block (blocks_in amid.now.map space)) amid.now still in

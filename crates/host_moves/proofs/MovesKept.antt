@@ -33,18 +33,18 @@ still_living (Some m) (Some n) (Some x) same is = record {
 
 -- the blocks of groups without an active member hold the poison word still
 pub poison_stays : {M : Type 0} (laws : Laws M) (space : Space)
-    (instances instances' : List (Option (Member M))) (sharing sharing' : List Locations) (groups groups' : List Group) (spaces spaces' : Spaces) (moved : Bool)
+    {instances instances' : List (Option (Member M))} {sharing sharing' : List Locations} {groups groups' : List Group} {spaces spaces' : Spaces} {moved : Bool}
     → (moved ≡ true → HasMoved laws space instances sharing groups spaces instances' sharing' groups' spaces') → (moved ≡ false → groups' ≡ groups)
     → (w : Option ℤ) → ArePoisoned w groups → ArePoisoned w groups'
-poison_stays laws space instances instances' sharing sharing' groups groups' spaces spaces' false moves packed w before = rw (packed refl) before
-poison_stays laws space instances instances' sharing sharing' groups groups' spaces spaces' true moves packed w before =
+poison_stays laws space {moved = false} moves packed w before = rw (packed refl) before
+poison_stays laws space {groups} {moved = true} moves packed w before =
     let it = moves refl in
     λ g below none s.
     let was : (group_at groups g).active ≡ None = sym (ap (λ (a : Activity). a.active) (it.activity g)) ∙ none in
     subst (ArePoison w) (sym (it.words g s was)) (before g below was s)
 
 module _ {M : Type 0} (laws : Laws M) (space : Space)
-    (instances instances' : List (Option (Member M))) (sharing sharing' : List Locations) (groups groups' : List Group) (spaces spaces' : Spaces) (before : State M)
+    {instances : List (Option (Member M))} {sharing : List Locations} {groups : List Group} {spaces : Spaces} (before : State M)
     (kept : HostKeeps laws instances sharing groups spaces before) where
   -- the state with a block of so many words elsewhere
   abbrev stepped : Placed → State M
@@ -53,10 +53,11 @@ module _ {M : Type 0} (laws : Laws M) (space : Space)
   next_in_state : next_block (blocks_in before.map space) ≡ next_block (blocks_in (map_of spaces) space)
   next_in_state = ap (λ p. next_block (blocks_in p space)) (sym kept.map)
 
-  keeps_moved : (b : Placed) → next_block (blocks_in (map_of spaces) space) ≡ Some b
+  keeps_moved : {instances' : List (Option (Member M))} {sharing' : List Locations} {groups' : List Group} {spaces' : Spaces} (b : Placed)
+      → next_block (blocks_in (map_of spaces) space) ≡ Some b
       → HasMoved laws space instances sharing groups spaces instances' sharing' groups' spaces'
       → HostKeeps laws instances' sharing' groups' spaces' (stepped b)
-  keeps_moved b next moved = record {
+  keeps_moved {instances'} b next moved = record {
     tables = record {
       living = λ i. still_living (slot_at instances i) (slot_at instances' i) (before.living i) (moved.same i) (kept.tables.living i);
       activity = λ g. moved.activity g ∙ kept.tables.activity g;
@@ -68,20 +69,22 @@ module _ {M : Type 0} (laws : Laws M) (space : Space)
   }
 
   -- what the step answers and leaves
-  abbrev IsStep : Bool → Bool × State M → Type 0
-  IsStep answer outcome = ((answer, outcome.1) ≡ outcome) × HostKeeps laws instances' sharing' groups' spaces' outcome.1
+  abbrev IsStep : List (Option (Member M)) → List Locations → List Group → Spaces → Bool → Bool × State M → Type 0
+  IsStep instances' sharing' groups' spaces' answer outcome = ((answer, outcome.1) ≡ outcome) × HostKeeps laws instances' sharing' groups' spaces' outcome.1
 
-  by_next : (next : Option Placed) (answer : Bool) → next_block (blocks_in (map_of spaces) space) ≡ next → answer ≡ is_some next
+  by_next : {instances' : List (Option (Member M))} {sharing' : List Locations} {groups' : List Group} {spaces' : Spaces} (next : Option Placed) (answer : Bool)
+      → next_block (blocks_in (map_of spaces) space) ≡ next → answer ≡ is_some next
       → (answer ≡ true → HasMoved laws space instances sharing groups spaces instances' sharing' groups' spaces')
       → (answer ≡ false → HostKeeps laws instances' sharing' groups' spaces' before)
-      → IsStep answer (moving before space next)
+      → IsStep instances' sharing' groups' spaces' answer (moving before space next)
   by_next None answer next is moved still = (ap (λ (a : Bool). let o : Bool × State M = (a, before) in o) is, still is)
   by_next (Some b) answer next is moved still = (ap (λ (a : Bool). let o : Bool × State M = (a, stepped b) in o) is, keeps_moved b next (moved is))
 
-  pub step_kept : (answer : Bool) → answer ≡ is_some (next_block (blocks_in (map_of spaces) space))
+  pub step_kept : {instances' : List (Option (Member M))} {sharing' : List Locations} {groups' : List Group} {spaces' : Spaces} {answer : Bool}
+      → answer ≡ is_some (next_block (blocks_in (map_of spaces) space))
       → (answer ≡ true → HasMoved laws space instances sharing groups spaces instances' sharing' groups' spaces')
       → (answer ≡ false → HostKeeps laws instances' sharing' groups' spaces' before)
-      → IsStep answer (step before space)
-  step_kept answer is moved still =
-      subst (λ n. IsStep answer (moving before space n)) (sym next_in_state)
+      → IsStep instances' sharing' groups' spaces' answer (step before space)
+  step_kept {instances'} {sharing'} {groups'} {spaces'} {answer} is moved still =
+      subst (λ n. IsStep instances' sharing' groups' spaces' answer (moving before space n)) (sym next_in_state)
       (by_next (next_block (blocks_in (map_of spaces) space)) answer refl is moved still)

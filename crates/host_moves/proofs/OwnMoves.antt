@@ -90,9 +90,10 @@ kind_then (Some a) (Some b) (Some c) e f = record {
   table = f.table ∙ e.table;
 }
 
-pub then_same : {M : Type 0} (instances instances' instances'' : List (Option (Member M))) (sharing sharing' : List Locations) (groups groups' : List Group) → SameInstances instances instances'
+pub then_same : {M : Type 0} (instances : List (Option (Member M))) {instances' instances'' : List (Option (Member M))}
+    {sharing sharing' : List Locations} {groups groups' : List Group} → SameInstances instances instances'
     → SameMembers instances' sharing groups instances'' sharing' groups' → SameInstances instances instances''
-then_same instances instances' instances'' sharing sharing' groups groups' kinds same i =
+then_same instances {instances'} {instances''} kinds same i =
     kind_then (slot_at instances i) (slot_at instances' i) (slot_at instances'' i) (kinds i) (slot_same (slot_at instances' i) (slot_at instances'' i) (same.slot i))
 
 pub same_sizes : (spaces spaces' : Spaces) → ((any : Space) → (space_in spaces' any).region ≡ (space_in spaces any).region) → sizes_of spaces' ≡ sizes_of spaces

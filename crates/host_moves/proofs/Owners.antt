@@ -159,9 +159,9 @@ slot_of_same None b e = e
 slot_of_same (Some m) None e = absurd e
 slot_of_same (Some m) (Some n) e = record { group = e.0; kind = e.1.kind; params = e.1.params; table = ap unplaced e.1.table; own = e.1.own }
 
-pub members_of_same : {M : Type 0} (instances instances' : List (Option (Member M))) (sharing sharing' : List Locations) (groups groups' : List Group)
+pub members_of_same : {M : Type 0} {instances instances' : List (Option (Member M))} {sharing sharing' : List Locations} {groups groups' : List Group}
     → SameTables instances sharing groups instances' sharing' groups' → SameMembers instances sharing groups instances' sharing' groups'
-members_of_same instances instances' sharing sharing' groups groups' same = record {
+members_of_same {instances} {instances'} same = record {
   slot = λ i. slot_of_same (slot_at instances i) (slot_at instances' i) (same.slot i);
   pieces = same.pieces;
   stands = same.stands;
@@ -202,9 +202,9 @@ none_same (Some b) c e none = absurd (none-some _ (sym none))
 pub align_same : (b c : Option ScratchBlock) (o : Owner) → IsSameBlock b c → block_of_piece o (block_align c) (block_piece c) ≡ block_of_piece o (block_align b) (block_piece b)
 align_same b c o e = ap (λ n. block_of_piece o n (block_piece c)) e.1 ∙ block_alike o (block_align b) (block_piece b) (block_piece c) e.0
 
-pub standing_stays : {M : Type 0} (instances instances' : List (Option (Member M))) (sharing sharing' : List Locations) (groups groups' : List Group) (spaces : Spaces)
+pub standing_stays : {M : Type 0} {instances instances' : List (Option (Member M))} {sharing sharing' : List Locations} {groups groups' : List Group} {spaces : Spaces}
     → SameMembers instances sharing groups instances' sharing' groups' → AgreeWithMap instances sharing groups spaces → AgreeWithMap instances' sharing' groups' spaces
-standing_stays instances instances' sharing sharing' groups groups' spaces same standing = record {
+standing_stays {instances} {instances'} {sharing} {sharing'} {groups} {groups'} {spaces} same standing = record {
   owners = λ i n at.
       let was = before (slot_at instances i) n (subst (λ x. IsSameMember (slot_at instances i) x) at (same.slot i)) in
       let m = was.0 in

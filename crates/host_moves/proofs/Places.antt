@@ -9,5 +9,4 @@ use Rattle.host_moves.proofs.Owners.{members_of_same, standing_stays}
 pub places_stay : {M : Type 0} (old new : View M) (spaces : Spaces)
     → SameTables old.instances old.sharing old.groups new.instances new.sharing new.groups → MapAgrees old spaces → MapAgrees new spaces
 places_stay old new spaces same agrees =
-    standing_stays old.instances new.instances old.sharing new.sharing old.groups new.groups spaces
-    (members_of_same old.instances new.instances old.sharing new.sharing old.groups new.groups same) agrees
+    standing_stays (members_of_same same) agrees

@@ -51,11 +51,11 @@ scratch_seen : (n at : ℕ) (b b' : Option ScratchBlock) → BlockStays b b' →
 scratch_seen n at None b' stays e = none_there n at (drop at (block_words b')) [] refl e
 scratch_seen n at (Some b) b' stays e = ap (λ (ws : List ℤ). take n (drop at ws)) stays
 
-record_seen : (a : Attr) (n at : ℕ) (o o' s s' : List ℤ) (b b' : Option ScratchBlock) → o' ≡ o → s' ≡ s → BlockStays b b'
+record_seen : (a : Attr) (n at : ℕ) {o o' s s' : List ℤ} (b b' : Option ScratchBlock) → o' ≡ o → s' ≡ s → BlockStays b b'
     → length (words_by a n o s (drop at (block_words b))) ≡ n → words_by a n o' s' (drop at (block_words b')) ≡ words_by a n o s (drop at (block_words b))
-record_seen Scratch n at o o' s s' b b' eo es stays e = scratch_seen n at b b' stays e
-record_seen Persist n at o o' s s' b b' eo es stays e = ap (take n) eo
-record_seen WriteOnce n at o o' s s' b b' eo es stays e = ap (take n) es
+record_seen Scratch n at b b' eo es stays e = scratch_seen n at b b' stays e
+record_seen Persist n at b b' eo es stays e = ap (take n) eo
+record_seen WriteOnce n at b b' eo es stays e = ap (take n) es
 
 active_words_seen : (rs : List MemRec) (own own' shared shared' : Pieces) (y y' : Group) → SameWords own own' → SameWords shared shared'
     → ((space : Space) → BlockStays (block_in y space) (block_in y' space))
@@ -63,7 +63,7 @@ active_words_seen : (rs : List MemRec) (own own' shared shared' : Pieces) (y y' 
     → active_words rs own' shared' y' ≡ active_words rs own shared y
 active_words_seen rs own own' shared shared' y y' o s stays sizes =
     let at : (k : ℕ) → length (record_words rs own shared y k) ≡ (record_at rs k).size → record_words rs own' shared' y' k ≡ record_words rs own shared y k =
-    λ k size. record_seen (record_at rs k).attr (record_at rs k).size (scratch_offset rs k) _ _ _ _ _ _ (o k) (s k) (stays (record_at rs k).space) size in
+    λ k size. record_seen (record_at rs k).attr (record_at rs k).size (scratch_offset rs k) _ _ (o k) (s k) (stays (record_at rs k).space) size in
     let old = record_words rs own shared y in
     let new = record_words rs own' shared' y' in
     ap (λ (ws : List ℤ). ws ∷ new 1 ∷ new 2 ∷ new 3 ∷ []) (at 0 (sizes 0))

@@ -52,8 +52,8 @@ module _ {M : Type 0} (kinds : Meaning M) (i : ℕ) where
     grows_by = (grown calls life.before life.after x life.born life.lawful life.spared life.leads).grows
 
 -- one list is longer than another by either of two
-same_rest : {A : Type 0} (a b c d xs ys : List A) → a ≡ b → c ≡ d → c ≡ a ++ xs → d ≡ b ++ ys → xs ≡ ys
-same_rest a b c d xs ys e f longer longer' = append_cancel_left b xs ys (ap (λ s. s ++ xs) (sym e) ∙ sym longer ∙ f ∙ longer')
+same_rest : {A : Type 0} {a b c d xs ys : List A} → a ≡ b → c ≡ d → c ≡ a ++ xs → d ≡ b ++ ys → xs ≡ ys
+same_rest {b} {xs} {ys} e f longer longer' = append_cancel_left b xs ys (ap (λ s. s ++ xs) (sym e) ∙ sym longer ∙ f ∙ longer')
 
 module _ {M : Type 0} (kinds : Meaning M) (i j : ℕ) (x y : Living M) (xs ys : List (Call M)) where
   pub agree : Life kinds i x xs → Life kinds j y ys → x.kind ≡ y.kind → x.params ≡ y.params → x.history ≡ y.history
@@ -66,6 +66,6 @@ module _ {M : Type 0} (kinds : Meaning M) (i j : ℕ) (x y : Living M) (xs ys : 
       λ (h k : History) (e : h ≡ k). ap (λ z. outputs_of kinds z x.params h) kind ∙ ap (λ p. outputs_of kinds y.kind p h) params ∙ ap (λ g. outputs_of kinds y.kind y.params g) e in
       let statuses : (h k : History) → h ≡ k → statuses_of kinds x.kind x.params h ≡ statuses_of kinds y.kind y.params k =
       λ (h k : History) (e : h ≡ k). ap (λ z. statuses_of kinds z x.params h) kind ∙ ap (λ p. statuses_of kinds y.kind p h) params ∙ ap (λ g. statuses_of kinds y.kind y.params g) e in (
-        same_rest _ _ _ _ _ _ (outputs _ _ before) (outputs _ _ after) first.outputs_more second.outputs_more,
-        same_rest _ _ _ _ _ _ (statuses _ _ before) (statuses _ _ after) first.statuses_more second.statuses_more,
+        same_rest (outputs _ _ before) (outputs _ _ after) first.outputs_more second.outputs_more,
+        same_rest (statuses _ _ before) (statuses _ _ after) first.statuses_more second.statuses_more,
       )

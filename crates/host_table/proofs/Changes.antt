@@ -392,10 +392,11 @@ pub read_group : (groups : List Group) (g : ℕ) (r : Group) → g < length grou
 read_group groups g r inside read = sym (get_or_read groups g r inside read no_group)
 
 -- the instance that was taken out of its slot fits there
-pub fits_in_slot : {M : Type 0} (instances : List (Option (Member M))) (sharing : List Locations) (groups : List Group) (i g : ℕ) (m : Member M) (inst : Inst M) (o : Pieces) (y : Group)
+pub fits_in_slot : {M : Type 0} {instances : List (Option (Member M))} {sharing : List Locations} {groups : List Group}
+    (i : ℕ) {g : ℕ} {m : Member M} {inst : Inst M} {o : Pieces} {y : Group}
     → TablesOk instances sharing groups → slot_at instances i ≡ Some m → m.inst ≡ inst → m.group ≡ g → shared_at sharing i ≡ o → group_at groups g ≡ y
     → Fits (instance_of inst).table (instance_of inst).own o y
-fits_in_slot instances sharing groups i g m inst o y ok at is of_group once_is group_is =
+fits_in_slot i {m} ok at is of_group once_is group_is =
     rw (is, of_group, once_is, group_is) at (ok.housed i m at).fits
 
 pub group_inside : {M : Type 0} {H : ℕ → Member M → Pieces → Group → Type 0} (instances : List (Option (Member M))) (sharing : List Locations) (groups : List Group) → Tables H instances sharing groups → (g : ℕ) → g < GROUPS → g < length groups
@@ -463,11 +464,12 @@ pub known_active : {M : Type 0} (instances : List (Option (Member M))) (sharing 
 known_active instances sharing groups ok i m at active = ok.active_known m.group i (active ∙ ap Some (ap group_of at))
 
 -- what the instance in a slot keeps
-pub kept_in_slot : {M : Type 0} (instances : List (Option (Member M))) (sharing : List Locations) (groups : List Group) (i : ℕ) (m : Member M) (inst : Inst M) (o : Pieces) (y : Group)
+pub kept_in_slot : {M : Type 0} (instances : List (Option (Member M))) (sharing : List Locations) (groups : List Group)
+    (i : ℕ) {m : Member M} {inst : Inst M} {o : Pieces} {y : Group}
     → slot_at instances i ≡ Some m → m.inst ≡ inst → shared_at sharing i ≡ o → group_at groups m.group ≡ y
     → (laws : Laws M) (w : Option ℤ) (histories : ℕ → History)
     → Keeps laws w instances sharing groups histories → InstKeeps laws w inst o y (histories i)
-kept_in_slot instances sharing groups i m inst o y at is once_is group_is laws w histories keeps =
+kept_in_slot instances sharing groups i {m} at is once_is group_is laws w histories keeps =
     let here : SlotKeeps laws w (Some m) (shared_at sharing i) groups (histories i) = rw at at (keeps i) in
     rw (is, once_is, group_is) at here
 

@@ -97,12 +97,13 @@ alike_stays k a b m n s t e =
       shape = second ∙ e.shape ∙ sym first;
     }
 
-pub sharer_stays : {M : Type 0} (k : ℕ) (a b a' b' : Option (Member M)) (s s' : Location) → IsSameSharer a a' → IsSameSharer b b' → (IsPieceHere s → IsPieceHere s') → IsSharer k a b s → IsSharer k a' b' s'
-sharer_stays k None b a' b' s s' e f here h = absurd h
-sharer_stays k (Some a) None a' b' s s' e f here h = absurd h
-sharer_stays k (Some a) (Some b) None b' s s' e f here h = absurd e
-sharer_stays k (Some a) (Some b) (Some m) None s s' e f here h = absurd f
-sharer_stays k (Some a) (Some b) (Some m) (Some n) s s' e f here h = (alike_stays k a b m n e f h.0, here h.1)
+pub sharer_stays : {M : Type 0} (k : ℕ) (a b a' b' : Option (Member M)) {s s' : Location}
+    → IsSameSharer a a' → IsSameSharer b b' → (IsPieceHere s → IsPieceHere s') → IsSharer k a b s → IsSharer k a' b' s'
+sharer_stays k None b a' b' e f here h = absurd h
+sharer_stays k (Some a) None a' b' e f here h = absurd h
+sharer_stays k (Some a) (Some b) None b' e f here h = absurd e
+sharer_stays k (Some a) (Some b) (Some m) None e f here h = absurd f
+sharer_stays k (Some a) (Some b) (Some m) (Some n) e f here h = (alike_stays k a b m n e f h.0, here h.1)
 
 -- the owner of a record that is held has its piece
 pub held_piece : {M : Type 0} (k : ℕ) (a b : Option (Member M)) (s : Location) → IsSharer k a b s → IsPieceHere s
@@ -139,7 +140,7 @@ none_after (At h) same = absurd same
 module _ {M : Type 0} (instances instances' : List (Option (Member M))) (sharing sharing' : List Locations) (same : (j : ℕ) → IsSameSharer (slot_at instances j) (slot_at instances' j)) (stands : SameLocations sharing sharing') where
   pub held_beside : AreHeld instances sharing → AreHeld instances' sharing'
   held_beside held i k owner is =
-      sharer_stays k _ _ _ _ _ _ (same i) (same owner) (piece_here_stays _ _ (stands owner k)) (held i k owner (with_before _ _ owner (stands i k) is))
+      sharer_stays k _ _ _ _ (same i) (same owner) (piece_here_stays _ _ (stands owner k)) (held i k owner (with_before _ _ owner (stands i k) is))
 
   pub bare_beside : AreBare instances sharing → AreBare instances' sharing'
   bare_beside bare i none =

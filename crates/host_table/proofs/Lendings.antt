@@ -61,8 +61,9 @@ module _ (rs : List MemRec) (none : (k : ℕ) → (record_at rs k).attr ≡ Writ
   active_any laws s w a b g h table keeps lawful = rw (active_written s.table s.own a b g (rw table (any_pieces a b))) (keeps lawful)
 
   -- a call that was lent no locations
-  pub deactivated_any : {M : Type 0} (laws : Laws M) (poison : Option ℤ) (s s' : Instance M) (a a' b : Pieces) (g g' : Group) → s.table ≡ rs → Deactivated laws poison s s' a a' g g' → Deactivated laws poison s s' b b g g'
-  deactivated_any laws poison s s' a a' b g g' table did = record {
+  pub deactivated_any : {M : Type 0} {laws : Laws M} {poison : Option ℤ} {s s' : Instance M} {a a' b : Pieces} {g g' : Group}
+      → s.table ≡ rs → Deactivated laws poison s s' a a' g g' → Deactivated laws poison s s' b b g g'
+  deactivated_any {laws} {s} {s'} {a} {a'} {b} {g} table did = record {
     same = did.same;
     pieces = same_pieces b;
     written = λ k attr. refl;
@@ -73,8 +74,9 @@ module _ (rs : List MemRec) (none : (k : ℕ) → (record_at rs k).attr ≡ Writ
     keeps = λ w h before. idle_any laws s' w a' b h (did.same.table ∙ table) (did.keeps w h (active_any laws s w b a g h table before));
   }
 
-  pub activated_any : {M : Type 0} (laws : Laws M) (i : ℕ) (input out : List ℤ) (s s' : Instance M) (a a' b : Pieces) (g g' : Group) → s.table ≡ rs → ActivatedAndRan laws i input out s s' a a' g g' → ActivatedAndRan laws i input out s s' b b g g'
-  activated_any laws i input out s s' a a' b g g' table did = record {
+  pub activated_any : {M : Type 0} {laws : Laws M} {i : ℕ} {input out : List ℤ} {s s' : Instance M} {a a' b : Pieces} {g g' : Group}
+      → s.table ≡ rs → ActivatedAndRan laws i input out s s' a a' g g' → ActivatedAndRan laws i input out s s' b b g g'
+  activated_any {laws} {input} {s} {s'} {a} {a'} {b} {g} {g'} table did = record {
     same = did.same;
     pieces = same_pieces b;
     written = λ k attr. refl;
@@ -86,8 +88,9 @@ module _ (rs : List MemRec) (none : (k : ℕ) → (record_at rs k).attr ≡ Writ
     output = λ w h lawful poisoned before. did.output w h lawful poisoned (idle_any laws s w b a h table before);
   }
 
-  pub ran_any : {M : Type 0} (laws : Laws M) (input out : List ℤ) (s s' : Instance M) (a a' b : Pieces) (g g' : Group) → s.table ≡ rs → Ran laws input out s s' a a' g g' → Ran laws input out s s' b b g g'
-  ran_any laws input out s s' a a' b g g' table did = record {
+  pub ran_any : {M : Type 0} {laws : Laws M} {input out : List ℤ} {s s' : Instance M} {a a' b : Pieces} {g g' : Group}
+      → s.table ≡ rs → Ran laws input out s s' a a' g g' → Ran laws input out s s' b b g g'
+  ran_any {laws} {input} {s} {s'} {a} {a'} {b} {g} {g'} table did = record {
     same = did.same;
     pieces = same_pieces b;
     written = λ k attr. refl;

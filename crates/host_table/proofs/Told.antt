@@ -138,9 +138,9 @@ member_then (Some a) (Some b) (Some c) e f = record {
   own = pieces_then (instance_of a.inst).own (instance_of b.inst).own (instance_of c.inst).own e.own f.own;
 }
 
-pub members_then : {M : Type 0} (instances instances' instances'' : List (Option (Member M))) (sharing sharing' sharing'' : List Locations) (groups groups' groups'' : List Group)
+pub members_then : {M : Type 0} {instances instances' instances'' : List (Option (Member M))} {sharing sharing' sharing'' : List Locations} {groups groups' groups'' : List Group}
     → SameMembers instances sharing groups instances' sharing' groups' → SameMembers instances' sharing' groups' instances'' sharing'' groups'' → SameMembers instances sharing groups instances'' sharing'' groups''
-members_then instances instances' instances'' sharing sharing' sharing'' groups groups' groups'' a b = record {
+members_then {sharing} {sharing'} {sharing''} a b = record {
   slot = λ i. member_then _ _ _ (a.slot i) (b.slot i);
   pieces = λ i. pieces_then _ _ _ (a.pieces i) (b.pieces i);
   stands = locations_then sharing sharing' sharing'' a.stands b.stands;

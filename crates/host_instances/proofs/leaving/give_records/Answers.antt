@@ -66,12 +66,12 @@ returns-clause-standing g c =
       left = c.hand_on.ensures.left;
       stays = c.hand_on.ensures.stays;
     } in
-    location_beside c.args.i _ _ _ _ _ _ c.args.spaces.now c.hand_on.new.self c.take_out_records.new.self going c.end-own.ensures.others c.end-own.ensures.gone c.end-own.ensures.none c.end-own.ensures.handed
+    location_beside c.args.i c.take_out_records.new.self going c.end-own.ensures.others c.end-own.ensures.gone c.end-own.ensures.none c.end-own.ensures.handed
     (c.end-own.ensures.least c.requires.standing.least) (c.end-own.ensures.together c.requires.standing.together)
     c.take_out_records.ensures.map c.take_out_records.ensures.others c.take_out_records.ensures.stays
 
 pub returns-clause-others : goal.returns-clause-others
-returns-clause-others g c = same_beside c.args.i _ _ _ _ _ _ c.end-own.ensures.others
+returns-clause-others g c = same_beside c.args.i c.end-own.ensures.others
 
 pub returns-clause-map : goal.returns-clause-map
 returns-clause-map g c =

@@ -23,7 +23,7 @@ loop-space-preserved g c = record {
   amid = λ before kept.
       let amid = c.loop-space.invariant.amid before kept in
       let next = c.step_behind.ensures.stepped.machine amid.now amid.kept in
-      amid_next g.M.Ialg.law c.args.space _ _ _ _ _ _ _ _ c.loop-space.moved before amid (rw c.loop-space-test.true at next.0) next.1;
+      amid_next g.M.Ialg.law c.args.space c.loop-space.moved before amid (rw c.loop-space-test.true at next.0) next.1;
 }
 
 pub returns-clause-poisoned : goal.returns-clause-poisoned
@@ -33,4 +33,4 @@ pub returns-clause-machine : goal.returns-clause-machine
 returns-clause-machine g c before kept =
     let amid = c.loop-space.invariant.amid before kept in
     let next = c.step_behind.ensures.stepped.machine amid.now amid.kept in
-    amid_end g.M.Ialg.law c.args.space _ _ _ _ _ _ _ _ c.loop-space.moved before amid (rw c.loop-space-test.false at next.0) next.1
+    amid_end g.M.Ialg.law c.args.space c.loop-space.moved before amid (rw c.loop-space-test.false at next.0) next.1

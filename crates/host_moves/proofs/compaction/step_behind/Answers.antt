@@ -7,11 +7,11 @@ pub returns-clause-stepped : goal.returns-clause-stepped
 returns-clause-stepped g c = record {
   fewer = λ moved. moved_one c.args.spaces.now c.make_next_move.new.spaces c.args.space (sym c.make_next_move.ensures.answer ∙ moved) (c.make_next_move.ensures.moved moved).map;
   machine = λ before kept.
-      step_kept g.M.Ialg.law c.args.space _ _ _ _ _ _ _ _ before kept _ c.make_next_move.ensures.answer c.make_next_move.ensures.moved
+      step_kept g.M.Ialg.law c.args.space before kept c.make_next_move.ensures.answer c.make_next_move.ensures.moved
       (λ packed. let still = c.make_next_move.ensures.packed packed in rw (still.0, still.1) kept);
 }
 
 pub returns-clause-poisoned : goal.returns-clause-poisoned
 returns-clause-poisoned g c =
-    poison_stays g.M.Ialg.law c.args.space _ _ _ _ _ _ _ _ _ c.make_next_move.ensures.moved
+    poison_stays g.M.Ialg.law c.args.space c.make_next_move.ensures.moved
     (λ packed. ap (λ t. t.groups) (c.make_next_move.ensures.packed packed).0)

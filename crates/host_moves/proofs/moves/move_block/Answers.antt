@@ -44,9 +44,9 @@ returns g c =
     _ (λ k. c.put_block-old.ensures.activity k ∙ c.take_block.ensures.activity k) c.call_moved_in_group.ensures.inactive in
     record {
       ok = c.call_moved_in_group.ensures.ok;
-      standing = standing_stays _ _ _ _ _ _ _ c.call_moved_in_group.ensures.same location;
+      standing = standing_stays c.call_moved_in_group.ensures.same location;
       words = resting;
-      same = then_same _ _ _ _ _ _ _ (λ j. kind_itself _) c.call_moved_in_group.ensures.same;
+      same = then_same _ (λ j. kind_itself _) c.call_moved_in_group.ensures.same;
       activity = λ k. c.call_moved_in_group.ensures.activity k ∙ c.put_block-old.ensures.activity k ∙ c.take_block.ensures.activity k;
       map = c.make_move-moved.ensures.map;
       sizes = same_sizes _ _ c.make_move-moved.ensures.regions;

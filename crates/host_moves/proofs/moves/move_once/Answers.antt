@@ -75,9 +75,9 @@ returns g c =
     c.make_move-moved.ensures.words.0 c.make_move-moved.ensures.words.1 in
     record {
       ok = c.call_moved_of_sharers.ensures.ok;
-      standing = standing_stays _ _ _ _ _ _ _ same location;
+      standing = standing_stays same location;
       words = words_at_rest _ _ c.call_moved_of_sharers.ensures.inactive;
-      same = then_same _ _ _ _ _ _ _ (λ j. kind_itself _) same;
+      same = then_same _ (λ j. kind_itself _) same;
       activity = c.call_moved_of_sharers.ensures.activity;
       map = c.make_move-moved.ensures.map;
       sizes = same_sizes _ _ c.make_move-moved.ensures.regions;

@@ -48,9 +48,9 @@ returns g c =
     c.make_move-moved.ensures.words.0 c.make_move-moved.ensures.words.1 in
     record {
       ok = c.tell.ensures.ok (rw c.take_own-piece.ensures.left (told_others _ _ _ _ _ c.args.i c.args.k _ (rw (← c.tables.view_is) at c.requires.ok) (rw (← c.tables.view_is) at c.requires.standing) c.requires.next c.take_own-piece.ensures.piece));
-      standing = standing_stays _ _ _ _ _ _ _ same stands;
+      standing = standing_stays same stands;
       words = words_at_rest _ _ c.tell.ensures.inactive;
-      same = then_same _ _ _ _ _ _ _ kinds same;
+      same = then_same _ kinds same;
       activity = c.tell.ensures.activity;
       map = c.make_move-moved.ensures.map;
       sizes = same_sizes _ _ c.make_move-moved.ensures.regions;

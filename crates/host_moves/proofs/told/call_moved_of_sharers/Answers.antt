@@ -38,7 +38,7 @@ loop-j-preserved g c = record {
       (λ l from before. rw (← c.tables-in-loop-j.view_is) (not_equal _ c.args.i (c.next_with_owner-j-in-loop-j.ensures.passed l from before)))
       c.call_moved_of_sharer-in-loop-j.ensures.waiting;
   inactive = inactive_then _ _ _ c.loop-j.invariant.inactive c.call_moved_of_sharer-in-loop-j.ensures.inactive;
-  same = members_then _ _ _ _ _ _ _ _ _ c.loop-j.invariant.same c.call_moved_of_sharer-in-loop-j.ensures.same;
+  same = members_then c.loop-j.invariant.same c.call_moved_of_sharer-in-loop-j.ensures.same;
   activity = λ k. c.call_moved_of_sharer-in-loop-j.ensures.activity k ∙ c.loop-j.invariant.activity k;
   keeps = λ v histories h. c.call_moved_of_sharer-in-loop-j.ensures.keeps v histories (c.loop-j.invariant.keeps v histories h);
 }

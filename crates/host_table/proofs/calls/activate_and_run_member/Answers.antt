@@ -14,4 +14,4 @@ returns-then-is_filter-clause-seen g c = sym (seen_again c.args.sharing.now.item
 
 pub returns-then-is_filter-clause-did : goal.returns-then-is_filter-clause-did
 returns-then-is_filter-clause-did g c =
-    activated_any c.args.idle.now.instance.table (none_once c.args.idle.now.instance.table c.is_filter.ensures.table (sym c.is_filter.ensures.exact ∙ c.if-is_filter.true)) _ _ _ _ _ _ _ _ _ _ _ refl c.activate_and_run_lent.ensures
+    activated_any c.args.idle.now.instance.table (none_once c.args.idle.now.instance.table c.is_filter.ensures.table (sym c.is_filter.ensures.exact ∙ c.if-is_filter.true)) refl c.activate_and_run_lent.ensures

@@ -14,7 +14,7 @@ returns-then-is_filter-clause-seen g c = sym (seen_again c.args.sharing.now.item
 
 pub returns-then-is_filter-clause-did : goal.returns-then-is_filter-clause-did
 returns-then-is_filter-clause-did g c =
-    ran_any c.args.active.now.instance.table (none_once c.args.active.now.instance.table c.is_filter.ensures.table (sym c.is_filter.ensures.exact ∙ c.if-is_filter.true)) _ _ _ _ _ _ _ _ _ _ refl (record {
+    ran_any c.args.active.now.instance.table (none_once c.args.active.now.instance.table c.is_filter.ensures.table (sym c.is_filter.ensures.exact ∙ c.if-is_filter.true)) refl (record {
       same = c.run.ensures.same;
       pieces = c.run.ensures.shared;
       written = c.run.ensures.once;

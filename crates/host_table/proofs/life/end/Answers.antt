@@ -40,7 +40,7 @@ end_idle-own-requires-clause-lent g c m at =
     record {
       number = omega (arith, i_in, ok.slot_count, ok.sharing_count);
       owners = owners_of_slot _ _ _ ok _ m at;
-      fits = fits_in_slot _ _ _ _ _ _ _ _ _ ok at refl of_group refl (read_ok_group _ _ _ ok _ below _ c.index.ensures);
+      fits = fits_in_slot _ ok at refl of_group refl (read_ok_group _ _ _ ok _ below _ c.index.ensures);
     }
 
 pub hand_on-requires-clause-count : goal.hand_on-requires-clause-count

@@ -16,7 +16,7 @@ pub loop-i-preserved : goal.loop-i-preserved
 loop-i-preserved g c = record {
   told = c.call_moved_in_slot.ensures.told;
   inactive = inactive_then _ _ _ c.loop-i.invariant.inactive c.call_moved_in_slot.ensures.inactive;
-  same = members_then _ _ _ _ _ _ _ _ _ c.loop-i.invariant.same c.call_moved_in_slot.ensures.same;
+  same = members_then c.loop-i.invariant.same c.call_moved_in_slot.ensures.same;
   activity = λ k. c.call_moved_in_slot.ensures.activity k ∙ c.loop-i.invariant.activity k;
   keeps = λ w histories h. c.call_moved_in_slot.ensures.keeps w histories (c.loop-i.invariant.keeps w histories h);
 }

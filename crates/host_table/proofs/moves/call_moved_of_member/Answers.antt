@@ -95,7 +95,7 @@ returns-in-Idling-clause-keeps g c =
     let at = read_ok_slot _ _ _ told c.args.i c.requires.number _ c.index_mut.ensures.value ∙ c.in-Some.is in
     let once_is = sym c.borrow_pieces-shared.ensures.pieces in
     let was : slot_active_in (slot_at c.tables.inside.instances.items c.args.i) ≡ None = rw (at, c.in-Idling.is) refl in
-    let kept = kept_in_slot _ _ _ c.args.i _ _ _ _ at c.in-Idling.is once_is refl g.M.Ialg.law w histories keeps in
+    let kept = kept_in_slot _ _ _ c.args.i at c.in-Idling.is once_is refl g.M.Ialg.law w histories keeps in
     let same : SameMember c.in-Some.member (record { group = c.in-Some.member.group; inst = Idling c.moved.new.self }) =
     told_member c.in-Some.member (Idling c.moved.new.self) c.borrow_pieces-shared.result c.index.result.now (rw c.in-Idling.is c.moved.ensures.same) in
     let pieces : SamePieces (shared_at c.tables.inside.sharing.items c.args.i) c.moved.new.shared = rw once_is c.moved.ensures.shared in

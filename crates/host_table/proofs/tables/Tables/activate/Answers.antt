@@ -36,7 +36,7 @@ activate_lent-requires g c =
     let in_range : c.in-Some.g < GROUPS = subst (λ (k : ℕ). k < GROUPS) group ((ok_in c.self.view_is c.deactivate_in-deactivated.ensures.step.ok).group_range _ _ in_slot) in
     let once_is = sym c.borrow_pieces-shared.ensures.pieces in
     let group_is = read_ok_group _ _ _ (ok_in c.self.view_is c.deactivate_in-deactivated.ensures.step.ok) _ in_range _ c.index_mut-in-Idling.ensures.value in
-    record { fits = fits_in_slot _ _ _ _ _ _ _ _ _ (ok_in c.self.view_is c.deactivate_in-deactivated.ensures.step.ok) in_slot c.in-Idling.is group once_is group_is }
+    record { fits = fits_in_slot _ (ok_in c.self.view_is c.deactivate_in-deactivated.ensures.step.ok) in_slot c.in-Idling.is group once_is group_is }
 
 pub deactivate_in-deactivated-requires-clause-range : goal.deactivate_in-deactivated-requires-clause-range
 deactivate_in-deactivated-requires-clause-range g c =

@@ -30,7 +30,7 @@ activate_and_run_member-requires-clause-lent g c =
     record {
       number = once_inside _ _ _ ok c.args.i _ in_slot;
       owners = owners_of_slot _ _ _ ok _ _ in_slot;
-      fits = fits_in_slot _ _ _ _ _ _ _ _ _ ok in_slot c.in-Idling.is group refl group_is;
+      fits = fits_in_slot _ ok in_slot c.in-Idling.is group refl group_is;
     }
 
 -- the instance stands in its slot, and its group has no active member
@@ -82,7 +82,7 @@ pub returns-clause-output : goal.returns-clause-output
 returns-clause-output g c w poisoned histories keeps m at lawful =
     let is : c.in-Some.member ≡ m = same_Some _ _ (sym (in_slot g c) ∙ (rw (← c.self.view_is) at at)) in
     let inst : m.inst ≡ Idling c.in-Idling.idle = ap (λ q. q.inst) (sym is) ∙ c.in-Idling.is in
-    let kept = kept_in_slot _ _ _ _ _ _ _ _ (in_slot g c) c.in-Idling.is refl refl g.M.Ialg.law w histories (rw (← c.self.view_is) at keeps) in
+    let kept = kept_in_slot _ _ _ _ (in_slot g c) c.in-Idling.is refl refl g.M.Ialg.law w histories (rw (← c.self.view_is) at keeps) in
     rw inst
     (c.activate_and_run_member.ensures.did.output w (histories c.args.i) (rw inst at lawful)
     (rw (group_is g c) at ((rw (← c.self.view_is) at poisoned) c.args.g (in_range g c) (rw (← c.self.view_is) at c.requires.resting))) kept)

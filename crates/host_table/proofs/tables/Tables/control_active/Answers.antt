@@ -50,7 +50,7 @@ control-status-requires g c =
     let in_slot = read_slot c.self.inside.instances.items c.args.i _ (rw (← c.self.view_is) at c.requires.active) _ c.index_mut.ensures.value ∙ c.in-Some.is in
     let once_is = sym c.borrow_pieces-shared.ensures.pieces in
     let group_is = read_ok_group _ _ _ (ok_in c.self.view_is c.requires.ok) _ ((ok_in c.self.view_is c.requires.ok).group_range c.args.i _ in_slot) _ c.index_mut-group.ensures.value in
-    record { fits = fits_in_slot _ _ _ _ _ _ _ _ _ (ok_in c.self.view_is c.requires.ok) in_slot c.in-Running.is refl once_is group_is }
+    record { fits = fits_in_slot _ (ok_in c.self.view_is c.requires.ok) in_slot c.in-Running.is refl once_is group_is }
 
 pub give_back_pieces-requires-clause-number : goal.give_back_pieces-requires-clause-number
 give_back_pieces-requires-clause-number g c =
@@ -109,5 +109,5 @@ pub returns-clause-status : goal.returns-clause-status
 returns-clause-status g c w histories m at lawful accepts keeps =
     let is : c.in-Some.member ≡ m = same_Some _ _ (sym (in_slot g c) ∙ (rw (← c.self.view_is) at at)) in
     let inst : m.inst ≡ Running c.in-Running.active = ap (λ q. q.inst) (sym is) ∙ c.in-Running.is in
-    let kept = kept_in_slot _ _ _ _ _ _ _ _ (in_slot g c) c.in-Running.is (once_is g c) (group_is g c) g.M.Ialg.law w histories (rw (← c.self.view_is) at keeps) in
+    let kept = kept_in_slot _ _ _ _ (in_slot g c) c.in-Running.is (once_is g c) (group_is g c) g.M.Ialg.law w histories (rw (← c.self.view_is) at keeps) in
     rw inst (c.control-status.ensures.status w (histories c.args.i) (rw inst at lawful) (rw inst at accepts) kept)

@@ -41,7 +41,7 @@ deactivate_member-requires g c =
       lent = record {
         number = once_inside _ _ _ ok c.in-Some.i _ in_slot;
         owners = owners_of_slot _ _ _ ok _ _ in_slot;
-        fits = fits_in_slot _ _ _ _ _ _ _ _ _ ok in_slot c.in-Running.is group refl group_is;
+        fits = fits_in_slot _ ok in_slot c.in-Running.is group refl group_is;
       };
     }
 

@@ -8,7 +8,7 @@ use Rattle.host_table.proofs.Changes.{once_inside, owners_of_slot, read_slot, re
 use Rattle.host_table.proofs.Activities.{activity_stays}
 use Rattle.host_table.proofs.Stepping.{Change, ok_in, steps_to, steps_after_step}
 use Rattle.host_table.proofs.tables.Tables.run.Goals as goal
-use Rattle.host_table.proofs.tables.Tables.run.Goals.{After-self-in-Running-1}
+use Rattle.host_table.proofs.tables.Tables.run.Goals.{After-run_member}
 use Rattle.host_table.proofs.tables.Tables.run.Given.{Over}
 
 pub run_member-requires-clause-lent : goal.run_member-requires-clause-lent
@@ -19,11 +19,11 @@ run_member-requires-clause-lent g c =
     record {
       number = once_inside _ _ _ ok c.args.i _ in_slot;
       owners = owners_of_slot _ _ _ ok _ _ in_slot;
-      fits = fits_in_slot _ _ _ _ _ _ _ _ _ ok in_slot c.in-Running.is refl refl group_is;
+      fits = fits_in_slot _ ok in_slot c.in-Running.is refl refl group_is;
     }
 
 -- the instance is the active member of its group
-module _ (g : Over) (c : After-self-in-Running-1 g) where
+module _ (g : Over) (c : After-run_member g) where
   in_slot : slot_at c.self.inside.instances.items c.args.i ≡ Some c.in-Some.member
   in_slot = read_slot c.self.inside.instances.items c.args.i _ (rw (← c.self.view_is) at c.requires.active) _ c.index_mut.ensures.value ∙ c.in-Some.is
 
@@ -54,15 +54,17 @@ module _ (g : Over) (c : After-self-in-Running-1 g) where
 
 pub returns-clause-step : goal.returns-clause-step
 returns-clause-step g c w poisoned =
+    let d = (goal.at.returns-clause-step g c).After-run_member in
     rw (← c.self.view_is)
     (steps_to refl c.run_member.ensures.seen
-    (steps_after_step (change g c) (rw (← c.self.view_is) at poisoned) (λ e. absurd (none-some _ (sym e ∙ now g c)))
-    (activity_stays (activity_at c.self.inside.groups.items) c.in-Some.member.group _ (now g c ∙ sym (known g c)) (rw (group_is g c) c.run_member.ensures.did.group.activations))
-    _ (λ histories before. c.run_member.ensures.did.keeps w (histories c.args.i) (rw (group_is g c, c.in-Running.is) at before))))
+    (steps_after_step (change g d) (rw (← c.self.view_is) at poisoned) (λ e. absurd (none-some _ (sym e ∙ now g d)))
+    (activity_stays (activity_at c.self.inside.groups.items) c.in-Some.member.group _ (now g d ∙ sym (known g d)) (rw (group_is g d) c.run_member.ensures.did.group.activations))
+    _ (λ histories before. c.run_member.ensures.did.keeps w (histories c.args.i) (rw (group_is g d, c.in-Running.is) at before))))
 
 pub returns-clause-output : goal.returns-clause-output
 returns-clause-output g c w histories keeps m at lawful =
-    let is : c.in-Some.member ≡ m = same_Some _ _ (sym (in_slot g c) ∙ (rw (← c.self.view_is) at at)) in
+    let d = (goal.at.returns-clause-output g c).After-run_member in
+    let is : c.in-Some.member ≡ m = same_Some _ _ (sym (in_slot g d) ∙ (rw (← c.self.view_is) at at)) in
     let inst : m.inst ≡ Running c.in-Running.active = ap (λ q. q.inst) (sym is) ∙ c.in-Running.is in
-    let kept = kept_in_slot _ _ _ _ _ _ _ _ (in_slot g c) c.in-Running.is refl (group_is g c) g.M.Ialg.law w histories (rw (← c.self.view_is) at keeps) in
+    let kept = kept_in_slot _ _ _ _ (in_slot g d) c.in-Running.is refl (group_is g d) g.M.Ialg.law w histories (rw (← c.self.view_is) at keeps) in
     rw inst (c.run_member.ensures.did.output w (histories c.args.i) (rw inst at lawful) kept)
