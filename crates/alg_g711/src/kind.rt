@@ -123,11 +123,11 @@ fn coder_of(object: &[i16]) -> Option<Coder>
 }
 
 /// Whether the object's kind word is a decoder's.
-fn is_decoder(object: &[i16]) -> bool
+fn is_decoder(mem: &Lent<'_>) -> bool
     ensures { (coder : Coder) (records table : List MemRec)
-        → Names (kind_word coder.law coder.direction) records table object.now → IsTrue result ↔ (coder.direction ≡ Decode) }
+        → Names (kind_word coder.law coder.direction) records table mem.now.r0.now → IsTrue result ↔ (coder.direction ≡ Decode) }
 {
-    match object {
+    match mem.object() {
         [kind, ..] => *kind == A_DECODER_KIND || *kind == MU_DECODER_KIND,
         [] => false,
     }
@@ -171,11 +171,10 @@ fn run(mem: &Lent<'_>, input: &[i16], out: &mut Block)
     ensures read { (p : List ℤ) (h : History) → Keeps p mem.now.table.now (lent_words mem.now) h
         → AllLent mem.now.table.now (lent_words mem.now) → All (FitsSigned w16) input.now }
 {
-    let object = mem.object();
-    if is_decoder(object) {
+    if is_decoder(mem) {
         decode_block(mem, input, out);
     } else {
-        encode_by(object, input, out);
+        encode_by(mem.object(), input, out);
     }
 }
 

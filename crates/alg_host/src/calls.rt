@@ -33,6 +33,8 @@ impl<M: Ialg> Host<M> {
 
     /// Gives instance `i` a block of samples, and pushes what it gives out, no more samples than it got. It becomes the active member of
     /// its group, unless it is so already.
+    // inlined as the tables' call is
+    #[inline(always)]
     pub fn process(&mut self, i: u8, input: &[i16], out: &mut Block)
         requires living { lives self.old i ≡ true }
         requires empty { out.old.items ≡ [] }

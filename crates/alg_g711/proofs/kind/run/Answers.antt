@@ -26,9 +26,9 @@ returns-then-is_decoder-clause-read c p h keeps lent =
 pub returns-else-is_decoder-clause-law : goal.returns-else-is_decoder-clause-law
 returns-else-is_decoder-clause-law c p h keeps lent =
     let way = encodes keeps.coder.direction (λ decode. false≢true (sym c.if-is_decoder.false ∙ (c.is_decoder.ensures keeps.coder _ _ keeps.object).1 decode)) in
-    c.encode_by.ensures.given keeps.coder.law _ _ (rw way at keeps.object) ∙ rw way refl
+    (rw c.object.ensures at c.encode_by.ensures.given) keeps.coder.law _ _ (rw way at keeps.object) ∙ rw way refl
 
 pub returns-else-is_decoder-clause-read : goal.returns-else-is_decoder-clause-read
 returns-else-is_decoder-clause-read c p h keeps lent =
     let way = encodes keeps.coder.direction (λ decode. false≢true (sym c.if-is_decoder.false ∙ (c.is_decoder.ensures keeps.coder _ _ keeps.object).1 decode)) in
-    c.encode_by.ensures.read keeps.coder.law _ _ (rw way at keeps.object)
+    (rw c.object.ensures at c.encode_by.ensures.read) keeps.coder.law _ _ (rw way at keeps.object)

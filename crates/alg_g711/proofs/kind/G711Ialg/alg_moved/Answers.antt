@@ -18,7 +18,7 @@ moved_words c p before h moved keeps =
     let m = c.args.mem.now in
     let new = c.write_object_of.new.mem in
     let tab = c.args.tab.now in
-    let coder = same_coder c.coder_of.result c.in-Some.coder keeps.coder c.in-Some.is (c.coder_of.ensures keeps.coder _ _ keeps.object) in
+    let coder = same_coder c.coder_of.result c.in-Some.coder keeps.coder c.in-Some.is ((rw c.object.ensures at c.coder_of.ensures) keeps.coder _ _ keeps.object) in
     let names : Names (kind_word keeps.coder.law keeps.coder.direction) (unplaced tab) tab new.r0.now = rw coder at (c.write_object_of.ensures.names keeps.object.long) in
     follows p before tab (lent_words m) (lent_words new) h moved keeps names
     (λ k other. words_but 0 k m new c.write_object_of.ensures.others other)
@@ -34,9 +34,9 @@ returns-clause-idle c p w h before lawful moved table closed lent keeps =
 
 pub returns-in_default-clause-active : goal.returns-in_default-clause-active
 returns-in_default-clause-active c p w h before lawful moved table closed lent keeps =
-    absurd (c.in_default.not-Some keeps.coder (c.coder_of.ensures keeps.coder _ _ keeps.object))
+    absurd (c.in_default.not-Some keeps.coder ((rw c.object.ensures at c.coder_of.ensures) keeps.coder _ _ keeps.object))
 
 pub returns-in_default-clause-idle : goal.returns-in_default-clause-idle
 returns-in_default-clause-idle c p w h before lawful moved table closed lent keeps =
     let all = awake p before c.args.tab.now (lent_words c.args.mem.now) h moved keeps in
-    absurd (c.in_default.not-Some all.coder (c.coder_of.ensures all.coder _ _ all.object))
+    absurd (c.in_default.not-Some all.coder ((rw c.object.ensures at c.coder_of.ensures) all.coder _ _ all.object))

@@ -39,4 +39,3 @@ returns-clause-output g c histories keeps m at lawful =
     rw (same.kind, same.params) at
     (c.activate_and_run.ensures.output c.args.poison c.deactivate_in-deactivated.ensures.step.poisoned histories (c.deactivate_in-deactivated.ensures.step.keeps histories keeps) later.0 later.1.0
     (lawful_after g.M.Ialg.law.meaning _ _ c.args.poison same lawful))
-
