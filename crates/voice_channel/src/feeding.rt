@@ -59,6 +59,8 @@ fn run<M: Ialg>(host: &mut Host<M>, member: u8, block: &[i16], given: &mut Block
 }
 
 /// Gives one of several members the block, as [`run`] does.
+///
+/// A call of its own: what `run` takes is inlined once here, and once for the channel of one member.
 #[inline(never)]
 fn run_one_of_several<M: Ialg>(host: &mut Host<M>, member: u8, block: &[i16], given: &mut Block)
     requires within { length block.now ≤ BLOCK_SAMPLES }
