@@ -398,26 +398,45 @@ pub fn has_none_but_third(sharing: &Vec<Locations>, i: usize) -> bool
     sharing[i].is_bare_but_third()
 }
 
-/// Exchanges the piece of record 2 of an instance, which its owner has, for that of these pieces, in place, where the instance has no other: its
-/// pieces are borrowed for none, and a second exchange gives them back.
+/// Borrows the piece of record 2 of an instance from its owner, where the instance has no other: [`give_back_third`] returns it. What comes back
+/// is all that the instance has, as of [`borrow_pieces`], but no other record is looked at.
 #[inline(always)]
-pub fn exchange_third(sharing: &mut Vec<Locations>, i: usize, pieces: &mut Pieces)
+pub fn borrow_third(sharing: &mut Vec<Locations>, i: usize) -> Pieces
     requires number { i < length sharing.old.items }
     requires owners { HasOwners sharing.old.items i }
     requires seen0 { piece_seen sharing.old.items i 0 ≡ None }
     requires seen1 { piece_seen sharing.old.items i 1 ≡ None }
     requires seen3 { piece_seen sharing.old.items i 3 ≡ None }
-    requires p0 { pieces.old.p0 ≡ None }
-    requires p1 { pieces.old.p1 ≡ None }
-    requires p3 { pieces.old.p3 ≡ None }
-    ensures pieces { pieces.new ≡ shared_at sharing.old.items i }
-    ensures left { sharing.new.items ≡ with_pieces_of sharing.old.items i pieces.old }
+    ensures pieces { result ≡ shared_at sharing.old.items i }
+    ensures left { sharing.new.items ≡ with_pieces_of sharing.old.items i no_pieces }
     ensures length { length sharing.new.items ≡ length sharing.old.items }
     ensures owners { HasOwners sharing.new.items i }
-    ensures seen { shared_at sharing.new.items i ≡ pieces.old }
+    ensures none { shared_at sharing.new.items i ≡ no_pieces }
 {
+    let mut pieces = Pieces::none();
     let at = owner(sharing, i, 2);
     sharing[at].s2.exchange(&mut pieces.p2);
+    pieces
+}
+
+/// Gives the piece of record 2 of an instance back to its owner, who has none, where the instance has no other: its owner has again what
+/// [`borrow_third`] took.
+#[inline(always)]
+pub fn give_back_third(sharing: &mut Vec<Locations>, i: usize, pieces: Pieces)
+    requires number { i < length sharing.old.items }
+    requires owners { HasOwners sharing.old.items i }
+    requires none { shared_at sharing.old.items i ≡ no_pieces }
+    requires p0 { pieces.p0 ≡ None }
+    requires p1 { pieces.p1 ≡ None }
+    requires p3 { pieces.p3 ≡ None }
+    ensures left { sharing.new.items ≡ with_pieces_of sharing.old.items i pieces }
+    ensures length { length sharing.new.items ≡ length sharing.old.items }
+    ensures owners { HasOwners sharing.new.items i }
+{
+    let mut left = pieces;
+    let at = owner(sharing, i, 2);
+    sharing[at].s2.exchange(&mut left.p2);
+    end_absent(left);
 }
 
 /// Whether the owner of record `k` has its piece.

@@ -18,7 +18,7 @@ ghost use Rattle.host_table.specs.Turns.{CanBeLent, CanBegin, WasStarted, WasFre
 
 use crate::{Member, Tables};
 use host_shared::{
-    Locations, Sharers, borrow_pieces, exchange_third, give_back_pieces, hand_on,
+    Locations, Sharers, borrow_pieces, borrow_third, give_back_pieces, give_back_third, hand_on,
     has_none_but_third, join,
 };
 use ialg::{Ialg, Params};
@@ -131,12 +131,9 @@ fn start_third<M: Ialg>(idle: &mut Idle<M>, sharing: &mut Vec<Locations>, i: u8,
     requires seen3 { piece_seen sharing.old.items i 3 ≡ None }
     ensures { WasStarted M.law i idle.old idle.new sharing.old.items sharing.new.items group.now }
 {
-    let mut shared = Pieces::none();
-    exchange_third(sharing, i as usize, &mut shared);
+    let mut shared = borrow_third(sharing, i as usize);
     idle.start(&mut shared, group);
-    // its owner has it again
-    exchange_third(sharing, i as usize, &mut shared);
-    end_absent(shared);
+    give_back_third(sharing, i as usize, shared);
 }
 
 /// Starts an idle instance, with its write-once records borrowed from their owners. Most that have any have record 2 alone.
@@ -262,12 +259,9 @@ fn free_third<M: Ialg>(
     requires seen3 { piece_seen sharing.old.items i 3 ≡ None }
     ensures { WasFreed i idle.old idle.new sharing.old.items sharing.new.items result }
 {
-    let mut shared = Pieces::none();
-    exchange_third(sharing, i as usize, &mut shared);
+    let mut shared = borrow_third(sharing, i as usize);
     let own = free_lent(idle, &mut shared, group);
-    // its owner has it again
-    exchange_third(sharing, i as usize, &mut shared);
-    end_absent(shared);
+    give_back_third(sharing, i as usize, shared);
     own
 }
 

@@ -6,7 +6,7 @@ use Rattle.host_map.specs.Activity.{newly_active}
 use Rattle.host_table.proofs.Changes.{later_member, member_of, never_active}
 use Rattle.host_table.proofs.Activities.{same_group_of, not_active, none_active_after, activity_after_activation}
 use Rattle.host_table.proofs.Housing.{lawful_after}
-use Rattle.host_table.proofs.Stepping.{steps_told, steps_then, touched_stays}
+use Rattle.host_table.proofs.Stepping.{steps_told, steps_then}
 use Rattle.host_table.proofs.tables.Tables.take_turn.Goals as goal
 
 pub activate_and_run-requires-clause-idle : goal.activate_and_run-requires-clause-idle
