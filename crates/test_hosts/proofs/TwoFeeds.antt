@@ -1,15 +1,15 @@
 -- One feed after another.
-use Rattle.std.proofs.Common.{ℕ, ℤ, List}
-use Rattle.channel_spec.specs.Calls.Call.{Feed}
-use Rattle.voice_channel.specs.Channels.{ChannelsState, Serves}
-use Rattle.test_hosts.specs.TwoFeeds.{ServesBoth}
+use Rattle.channel_spec.specs.Channels.{Channels}
+use Rattle.voice_channel.specs.Channels.{ChannelsState, Keeps}
 use Rattle.ialg.specs.Laws.{Laws}
 
 module _ {M : Type 0} (laws : Laws M) where
-  pub serves_both : (c : ℕ) (first early second late : List ℤ) (old between new : ChannelsState M)
-      → Serves laws (Feed c first early) old between → Serves laws (Feed c second late) between new
-      → ServesBoth laws c first early second late old new
-  serves_both c first early second late old between new one two before keeps =
+  -- from whatever state that is kept the first leads to one that is kept, and from that the second does. A feed is such a step, as each call is
+  pub serves_both : {First Second : Channels M → Channels M → Type 0} {old between new : ChannelsState M}
+      → ((before : Channels M) → Keeps laws old before → (after : Channels M) × First before after × Keeps laws between after)
+      → ((before : Channels M) → Keeps laws between before → (after : Channels M) × Second before after × Keeps laws new after)
+      → (before : Channels M) → Keeps laws old before → (mid after : Channels M) × First before mid × Second mid after × Keeps laws new after
+  serves_both one two before keeps =
       let fed = one before keeps in
       let next = two fed.0 fed.2 in
       (fed.0, next.0, fed.1, next.1, next.2)

@@ -3,7 +3,7 @@ use Rattle.test_hosts.proofs.TwoFeeds.{serves_both}
 use Rattle.test_hosts.proofs.cut_feeds.feed_in_two.Goals as goal
 
 pub returns-clause-both : goal.returns-clause-both
-returns-clause-both g c = serves_both g.M.Ialg.law _ _ _ _ _ _ _ _ c.fed-first_out.ensures.machine c.fed-second_out.ensures.machine
+returns-clause-both g c = serves_both g.M.Ialg.law c.fed-first_out.ensures.machine c.fed-second_out.ensures.machine
 
 pub returns-clause-joined : goal.returns-clause-joined
 returns-clause-joined g c =

@@ -3,7 +3,7 @@ use Rattle.test_hosts.proofs.TwoFeeds.{serves_both}
 use Rattle.test_hosts.proofs.two_channels.feed_both.Goals as goal
 
 pub returns-clause-both : goal.returns-clause-both
-returns-clause-both g c = serves_both g.M.Ialg.law _ _ _ _ _ _ _ _ c.fed-early.ensures.machine c.fed-late.ensures.machine
+returns-clause-both g c = serves_both g.M.Ialg.law c.fed-early.ensures.machine c.fed-late.ensures.machine
 
 pub returns-clause-agree : goal.returns-clause-agree
 returns-clause-agree g c =
