@@ -44,12 +44,12 @@ module _ {M : Type 0} (laws : Laws M) where
   lined widths result line asked old new e serves = subst (λ r. Serves (LineAsks laws.meaning widths r) asked old new) e serves
 
   -- a block of samples through a channel, as octets
-  pub gave : (widths : Widths) (c : ℕ) (octets : List ℕ) (out : List ℤ) (output : List ℕ) (count : ℕ) (old new : ChannelsState M)
+  pub gave : (widths : Widths) (c : ℕ) (octets : List ℕ) (out : List ℤ) {output : List ℕ} {count : ℕ} {old new : ChannelsState M}
       → channels.Serves laws (Feed c (samples_at (widths.input c) octets) out) old new
       → output ≡ octets_at (widths.output c) out → count ≡ length out
       → (before : Channels M) → Keeps old before
       → (after : Channels M) × FeedGives laws.meaning widths before c octets output count after × Keeps new after
-  gave widths c octets out output count old new serves given counted before keeps =
+  gave widths c octets out serves given counted before keeps =
       let step = serves before keeps in
       (step.0, (out, step.1, given, counted), step.2)
 

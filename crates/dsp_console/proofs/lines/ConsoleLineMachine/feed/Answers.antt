@@ -11,6 +11,6 @@ returns-clause-gives g c =
     let reads : c.input_width-input_width.result ≡ ports.input c.args.channel = c.input_width-input_width.ensures in
     let gives : c.output_width-output_width.result ≡ ports.output c.args.channel = c.output_width-output_width.ensures in
     let asked : c.octets_of-octets.result ≡ octet_count (ports.input c.args.channel) c.args.samples.number = rw (reads, c.from.ensures, c.number.ensures.value) at c.octets_of-octets.ensures.count in
-    gave g.M.Ialg.law ports c.args.channel _ _ _ _ _ _ (rw (asked, reads) at c.pass.ensures.machine)
+    gave g.M.Ialg.law ports c.args.channel _ _ (rw (asked, reads) at c.pass.ensures.machine)
     (stands_first (ports.output c.args.channel) _ _ _ _ ((rw gives at c.write_samples.ensures) ∙ ap (octets_at (ports.output c.args.channel)) c.as_slice.ensures.value) c.len-count.ensures.value)
     c.len-count.ensures.value
