@@ -12,7 +12,7 @@ use Rattle.record_loans.specs.declared.plan.Cut.{Cut}
 use Rattle.record_loans.specs.declared.plan.Plan.{Plan}
 use Rattle.record_loans.specs.declared.pieces.Pieces.{Pieces}
 use Rattle.record_loans.specs.Cuts.{start_of, words_from, left, less, CutFits}
-use Rattle.record_loans.specs.Pieces.{piece_words, IsSamePiece}
+use Rattle.record_loans.specs.Pieces.{piece_words, IsSamePiece, SamePieces}
 use Rattle.record_loans.specs.Blocks.{block_words, IsSameBlock}
 use Rattle.record_loans.specs.Loans.{held, lent_from, LentFits}
 use Rattle.record_loans.specs.Taken.{front_of, behind, joined, IsFrontOf, taken_from, own_left, shared_left, block_left, CanPut, own_put, shared_put, block_put, words_at, HasWords, taken, taken_words, record_words, words_taken, HasRecord, CutsOut, PutsBack}
@@ -198,10 +198,10 @@ module _ {c : Cut} {own shared : Option Span} {d s e : Option ScratchBlock} {t o
     lent : Lent c own shared d s e p d' s' e'
     lent = record { piece = rw cut.taken at piece; daram = rw cut.daram at daram; saram = rw cut.saram at saram; external = rw cut.external at external }
 
-    pub can_put : CanPut c.source p own1 shared1 d' s' e'
+    can_put : CanPut c.source p own1 shared1 d' s' e'
     can_put = rw (cut.own_left, cut.shared_left) (can_put_from c.source c.gap c.size own shared d s e p d' s' e' fit lent)
 
-    pub put_back : {own2 shared2 : Option Span} {d2 s2 e2 : Option ScratchBlock}
+    put_back : {own2 shared2 : Option Span} {d2 s2 e2 : Option ScratchBlock}
         → PutsBack c p own1 shared1 d' s' e' own2 shared2 d2 s2 e2 → Back c own shared d s e p d' s' e' own2 shared2 d2 s2 e2
     put_back put = rw (put.own_back, put.shared_back, put.daram, put.saram, put.external, cut.own_left, cut.shared_left)
         (back_from c.source c.gap c.size own shared d s e p d' s' e' fit lent)
@@ -255,3 +255,48 @@ module _ (plan : Plan) (own shared : Pieces) {d s e d1 s1 e1 d2 s2 e2 d3 s3 e3 :
     words_are second,
     words_are third,
   ) refl
+
+-- the three records of a plan were cut out, lent, and are put back, the last first: what may be asked before each, and what holds after all
+module _ (plan : Plan) (own shared : Pieces) {d s e d1 s1 e1 d2 s2 e2 d3 s3 e3 : Option ScratchBlock} {t1 o1 h1 t2 o2 h2 t3 o3 h3 : Option Span} (fit : LentFits plan own shared d s e)
+    (first : CutsOut plan.first own.p1 shared.p1 d s e t1 o1 h1 d1 s1 e1) (second : CutsOut plan.second own.p2 shared.p2 d1 s1 e1 t2 o2 h2 d2 s2 e2)
+    (third : CutsOut plan.third own.p3 shared.p3 d2 s2 e2 t3 o3 h3 d3 s3 e3)
+    (p1 p2 p3 : Option Span) (same1 : IsSamePiece t1 p1) (same2 : IsSamePiece t2 p2) (same3 : IsSamePiece t3 p3) where
+  pub third_can_put : CanPut plan.third.source p3 o3 h3 d3 s3 e3
+  third_can_put = can_put (third_fits plan own shared fit first second) third p3 _ _ _ same3 (same_block _) (same_block _) (same_block _)
+
+  module _ {o3' h3' : Option Span} {d2' s2' e2' : Option ScratchBlock} (put3 : PutsBack plan.third p3 o3 h3 d3 s3 e3 o3' h3' d2' s2' e2') where
+    back3 : Back plan.third own.p3 shared.p3 d2 s2 e2 p3 d3 s3 e3 o3' h3' d2' s2' e2'
+    back3 = put_back (third_fits plan own shared fit first second) third p3 _ _ _ same3 (same_block _) (same_block _) (same_block _) put3
+
+    pub second_can_put : CanPut plan.second.source p2 o2 h2 d2' s2' e2'
+    second_can_put = can_put (second_fits plan own shared fit first) second p2 _ _ _ same2 back3.same_daram back3.same_saram back3.same_external
+
+    module _ {o2' h2' : Option Span} {d1' s1' e1' : Option ScratchBlock} (put2 : PutsBack plan.second p2 o2 h2 d2' s2' e2' o2' h2' d1' s1' e1') where
+      back2 : Back plan.second own.p2 shared.p2 d1 s1 e1 p2 d2' s2' e2' o2' h2' d1' s1' e1'
+      back2 = put_back (second_fits plan own shared fit first) second p2 _ _ _ same2 back3.same_daram back3.same_saram back3.same_external put2
+
+      pub first_can_put : CanPut plan.first.source p1 o1 h1 d1' s1' e1'
+      first_can_put = can_put fit.1.0 first p1 _ _ _ same1 back2.same_daram back2.same_saram back2.same_external
+
+      module _ {o1' h1' : Option Span} {d' s' e' : Option ScratchBlock} (put1 : PutsBack plan.first p1 o1 h1 d1' s1' e1' o1' h1' d' s' e') where
+        back1 : Back plan.first own.p1 shared.p1 d s e p1 d1' s1' e1' o1' h1' d' s' e'
+        back1 = put_back fit.1.0 first p1 _ _ _ same1 back2.same_daram back2.same_saram back2.same_external put1
+
+        -- all is as it was but for the words, and what is lent of it once more is what was put
+        pub record AllBack : Type 0 where
+          pub again : (o h : Option Span) → lent_from (record { p0 = o; p1 = o1'; p2 = o2'; p3 = o3' }) (record { p0 = h; p1 = h1'; p2 = h2'; p3 = h3' }) d' s' e' plan ≡ words_taken o p1 p2 p3 plan
+          pub own_back : (o : Option Span) → IsSamePiece own.p0 o → SamePieces own (record { p0 = o; p1 = o1'; p2 = o2'; p3 = o3' })
+          pub shared_back : SamePieces shared (record { p0 = shared.p0; p1 = h1'; p2 = h2'; p3 = h3' })
+          pub daram : IsSameBlock d d'
+          pub saram : IsSameBlock s s'
+          pub external : IsSameBlock e e'
+
+        pub all_back : AllBack
+        all_back = record {
+          again = λ o h. taken_are_lent plan (record { p0 = o; p1 = o1'; p2 = o2'; p3 = o3' }) (record { p0 = h; p1 = h1'; p2 = h2'; p3 = h3' }) back1.again back2.again back3.again;
+          own_back = λ o same. record { p0 = same; p1 = back1.same_own; p2 = back2.same_own; p3 = back3.same_own };
+          shared_back = record { p0 = reflexive shared.p0; p1 = back1.same_shared; p2 = back2.same_shared; p3 = back3.same_shared };
+          daram = back1.same_daram;
+          saram = back1.same_saram;
+          external = back1.same_external;
+        }
