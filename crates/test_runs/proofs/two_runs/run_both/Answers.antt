@@ -1,6 +1,5 @@
 use Rattle.std.proofs.Common.{refl}
-use Rattle.voice_script.specs.Widths.{widths_of}
-use Rattle.test_runs.proofs.TwoRuns.{both, refused_alike}
+use Rattle.test_runs.proofs.TwoRuns.{both, runs_agree}
 use Rattle.test_runs.proofs.two_runs.run_both.Goals as goal
 
 pub returns-clause-one : goal.returns-clause-one
@@ -26,12 +25,4 @@ returns-clause-other g c = record {
 pub returns-clause-agree : goal.returns-clause-agree
 returns-clause-agree g c = λ one two.
     both _ _ _ c.run-ended.result c.run-other_ended.result (c.run-ended.ensures.headline one) (c.run-other_ended.ensures.headline two)
-    (λ summary other_summary first second. record {
-      one = first;
-      two = second;
-      agree = c.headline.ensures.two (widths_of c.args.config.in8 c.args.config.out8) (widths_of c.args.other_config.in8 c.args.other_config.out8) _ _ _ _ _ _ _ _ _ _ _ _ first.says second.says;
-      granted = λ i j g' h kind p later since lawful born lawful' born' control before rest answer at other_before other_rest other_answer other_at.
-          refused_alike g.M.Ialg.law.meaning kind p _ _ control answer other_answer
-          ((first.says.each i kind g' p later lawful born).gives.controls before rest control answer at)
-          ((second.says.each j kind h p since lawful' born').gives.controls other_before other_rest control other_answer other_at);
-    })
+    (λ summary other_summary. runs_agree c.headline.ensures.two)
