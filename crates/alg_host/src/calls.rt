@@ -1,12 +1,14 @@
 //! What an instance is given: controls and blocks of samples.
-ghost use Rattle.std.specs.Prelude.{◌≡◌, ◌≤◌, true, [], length, OnErr};
+ghost use Rattle.std.specs.Prelude.{◌≡◌, ◌≤◌, true, [], length, IfSome, IfNone, OnErr};
 ghost use Rattle.ialg.specs.Views.{control_of};
+ghost use Rattle.host_table.specs.Table.{slot_at, IsActiveReader};
 ghost use Rattle.host_spec.specs.Calls.Call.{Control, Process, Lives};
 ghost use Rattle.host_moves.specs.Kept.{told};
 ghost use Rattle.alg_host.specs.Hosts.{lives, Serves};
 
 use crate::Host;
 use crate::table_calls::{give_block, give_control};
+use host_table::ReaderSizes;
 use ialg::{BLOCK_SAMPLES, Block, Ctl, Ialg, Refusal, Status};
 
 impl<M: Ialg> Host<M> {
@@ -33,8 +35,6 @@ impl<M: Ialg> Host<M> {
 
     /// Gives instance `i` a block of samples, and pushes what it gives out, no more samples than it got. It becomes the active member of
     /// its group, unless it is so already.
-    // inlined as the tables' call is
-    #[inline(always)]
     pub fn process(&mut self, i: u8, input: &[i16], out: &mut Block)
         requires living { lives self.old i ≡ true }
         requires empty { out.old.items ≡ [] }
@@ -44,5 +44,31 @@ impl<M: Ialg> Host<M> {
         ensures machine { Serves M.law (Process i input.now out.new.items) self.old self.new }
     {
         give_block(&mut self.tables, self.poison, i, input, out);
+    }
+
+    /// The sizes of the records of an instance that is active and a reader: for such a one [`process_reader`](Host::process_reader) does
+    /// what [`process`](Host::process) does. None for every other instance, and where there is none.
+    #[inline(always)]
+    pub fn active_reader(&self, i: u8) -> Option<ReaderSizes>
+        ensures found { IfSome result (IsActiveReader (slot_at self.now.tables.instances i)) }
+        ensures none { IfNone result ((n : ReaderSizes) → IsActiveReader (slot_at self.now.tables.instances i) n → ⊥) }
+    {
+        self.tables.active_reader(i)
+    }
+
+    /// Gives instance `i`, an active reader whose records have these sizes, a block of samples, and pushes what it gives out, as
+    /// [`process`](Host::process) does.
+    ///
+    /// Inlined, since a reader's work at one sample is less than a call.
+    #[inline(always)]
+    pub fn process_reader(&mut self, i: u8, sizes: ReaderSizes, input: &[i16], out: &mut Block)
+        requires reader { IsActiveReader (slot_at self.old.tables.instances i) sizes }
+        requires empty { out.old.items ≡ [] }
+        requires some { 1 ≤ length input.now }
+        requires within { length input.now ≤ BLOCK_SAMPLES }
+        ensures bounded { length out.new.items ≤ length input.now }
+        ensures machine { Serves M.law (Process i input.now out.new.items) self.old self.new }
+    {
+        self.tables.process_reader(i, sizes, input, out);
     }
 }

@@ -15,8 +15,6 @@ use ialg::{BLOCK_SAMPLES, Block, Ctl, Ialg, Refusal, Status};
 use mem_rec::{GROUPS, INSTANCES};
 
 /// Gives the instance a block of samples, as the machine does.
-// inlined as the tables' call is
-#[inline(always)]
 pub fn give_block<M: Ialg>(
     tables: &mut Tables<M>,
     poison: Option<i16>,

@@ -1,11 +1,9 @@
 //! What an active instance is given.
-ghost use Rattle.std.specs.Prelude.{◌≡◌, ◌≤◌, ℤ, [], length, Option, None, IsSome, IfSome, IfNone, OnSome, is_some, IsTrue};
+ghost use Rattle.std.specs.Prelude.{◌≡◌, ◌≤◌, ℤ, [], length, Option, None, IsSome, IfSome, IfNone, OnSome, is_some};
 ghost use Rattle.ialg.specs.Views.{control_of, answer_of};
-ghost use Rattle.mem_rec.specs.Records.{is_table};
-ghost use Rattle.scratch_group.specs.Readers.{IsOfReader};
 ghost use Rattle.lifecycle.specs.States.{FitsIn};
 ghost use Rattle.host_shared.specs.Owners.{OnlyItsPiecesChange};
-ghost use Rattle.host_table.specs.Table.{slot_at, group_of, activity_at, newly_active_in, IsActiveAt, IsIdleAt};
+ghost use Rattle.host_table.specs.Table.{slot_at, group_of, activity_at, newly_active_in, IsActiveAt, IsActiveReader, IsIdleAt, IsReader};
 ghost use Rattle.host_table.specs.Steps.{Ready, Stays, given, GivesOut, AnswersTo, AreConsistent, ActivatesAndControls, ActivatesAndFeeds, SaysWhetherTaken};
 ghost use Rattle.host_table.specs.Turns.{CanBeLent, ActivatedAndRan, ActivatedAndRanSharing, AnswersInAnyHost, GivesOutInAnyHost, ObeysInAnyHost, RanSharing, StepsInAnyHost};
 
@@ -53,8 +51,7 @@ fn run_reading<M: Ialg>(
     out: &mut Block,
 )
     requires lent { CanBeLent active.old.instance sharing.old.items i group.now }
-    requires table { IsTrue (is_table active.old.instance.table) }
-    requires reader { IsOfReader active.old.instance.table sizes }
+    requires reader { IsReader active.old.instance.table sizes }
     requires empty { out.old.items ≡ [] }
     requires some { 1 ≤ length input.now }
     requires within { length input.now ≤ BLOCK_SAMPLES }
@@ -68,11 +65,9 @@ fn run_reading<M: Ialg>(
     }
 }
 
-/// Gives the active member of a group a block of samples, as [`run_sharing`] does. A filter has no write-once record, so nothing is borrowed for it.
-///
-/// A call of its own: a filter's work is much more than the call, and a reader, whose work isn't, goes without what is kept here.
-#[inline(never)]
-fn run_with_blocks<M: Ialg>(
+/// Gives the active member of a group a block of samples, as [`run_sharing`] does. A filter has no write-once record,
+/// so nothing is borrowed for it, and for a reader no plan is made.
+fn run_member<M: Ialg>(
     active: &mut Active<M>,
     sharing: &mut Vec<Locations>,
     i: u8,
@@ -91,16 +86,19 @@ fn run_with_blocks<M: Ialg>(
         let mut none = Pieces::none();
         active.run(&mut none, group, input, out);
         end_absent(none);
+    } else if let Some(sizes) = reader_sizes(&active.instance.table) {
+        run_reading(active, sizes, sharing, i, group, input, out);
     } else {
         run_sharing(active, sharing, i, group, input, out);
     }
 }
 
-/// Gives the active member of a group a block of samples, as [`run_sharing`] does. For a reader no plan is made, and no block of its group is
-/// looked at.
+/// Gives the active member of a group a block of samples, as [`run_member`] does. Where `reader` has the sizes of its records, it is known to
+/// be a reader, and its table isn't asked again.
 #[inline(always)]
-fn run_member<M: Ialg>(
+fn run_active<M: Ialg>(
     active: &mut Active<M>,
+    reader: Option<ReaderSizes>,
     sharing: &mut Vec<Locations>,
     i: u8,
     group: &mut Group,
@@ -108,15 +106,16 @@ fn run_member<M: Ialg>(
     out: &mut Block,
 )
     requires lent { CanBeLent active.old.instance sharing.old.items i group.old }
+    requires reader { IfSome reader (IsReader active.old.instance.table) }
     requires empty { out.old.items ≡ [] }
     requires some { 1 ≤ length input.now }
     requires within { length input.now ≤ BLOCK_SAMPLES }
     ensures seen { OnlyItsPiecesChange i sharing.old.items sharing.new.items }
     ensures did { RanSharing M.law i input.now out.new.items active.old active.new sharing.old.items sharing.new.items group.old group.new }
 {
-    match reader_sizes(&active.instance.table) {
+    match reader {
         Some(sizes) => run_reading(active, sizes, sharing, i, group, input, out),
-        None => run_with_blocks(active, sharing, i, group, input, out),
+        None => run_member(active, sharing, i, group, input, out),
     }
 }
 
@@ -193,10 +192,11 @@ fn activate_and_run_member<M: Ialg>(
 }
 
 impl<M: Ialg> Tables<M> {
-    /// Gives the active instance a block of samples.
+    /// Gives the active instance a block of samples. `reader` has the sizes of one that is known to be a reader.
     #[inline(always)]
-    fn run(&mut self, i: u8, input: &[i16], out: &mut Block)
+    fn run(&mut self, i: u8, reader: Option<ReaderSizes>, input: &[i16], out: &mut Block)
         requires active { IsActiveAt self.old.instances i }
+        requires reader { IfSome reader (IsActiveReader (slot_at self.old.instances i)) }
         requires ok { AreConsistent self.old }
         requires empty { out.old.items ≡ [] }
         requires some { 1 ≤ length input.now }
@@ -210,7 +210,7 @@ impl<M: Ialg> Tables<M> {
                 let group = &mut self.groups[member.group as usize];
                 match &mut member.inst {
                     Inst::Running(active) => {
-                        run_member(active, &mut self.sharing, i, group, input, out);
+                        run_active(active, reader, &mut self.sharing, i, group, input, out);
                     }
                     Inst::Idling(_) => unreachable!(),
                 }
@@ -290,31 +290,8 @@ impl<M: Ialg> Tables<M> {
         }
     }
 
-    /// Activates the instance, and gives it a block of samples; another active member of its group is deactivated before.
-    ///
-    /// A call of its own, since it is more work than the call.
-    #[inline(never)]
-    fn take_turn(&mut self, poison: Option<i16>, i: u8, g: u8, input: &[i16], out: &mut Block)
-        requires living { IsSome (slot_at self.old.instances i) }
-        requires group { g ≡ group_of (slot_at self.old.instances i) }
-        requires idle { IsIdleAt self.old.instances i }
-        requires ready { Ready poison self.old }
-        requires empty { out.old.items ≡ [] }
-        requires some { 1 ≤ length input.now }
-        requires within { length input.now ≤ BLOCK_SAMPLES }
-        ensures step { ActivatesAndFeeds M.law poison i input.now self.old self.new }
-        ensures bounded { length out.new.items ≤ length input.now }
-        ensures output { GivesOut M.law poison self.old i input.now out.new.items }
-    {
-        let _deactivated = self.deactivate_in(poison, g);
-        self.activate_and_run(i, g, input, out);
-    }
-
     /// Gives the instance a block of samples. It is activated first, unless it is active; another active member of its group is
     /// deactivated before.
-    ///
-    /// Inlined as far as a reader that is active goes, whose work at one sample is less than a call.
-    #[inline(always)]
     pub fn process(&mut self, poison: Option<i16>, i: u8, input: &[i16], out: &mut Block)
         requires living { IsSome (slot_at self.old.instances i) }
         requires ready { Ready poison self.old }
@@ -325,10 +302,46 @@ impl<M: Ialg> Tables<M> {
         ensures bounded { length out.new.items ≤ length input.now }
         ensures output { GivesOut M.law poison self.old i input.now out.new.items }
     {
-        match self.idle_in(i) {
-            Some(g) => self.take_turn(poison, i, g, input, out),
-            None => self.run(i, input, out),
+        let Some(g) = self.idle_in(i) else {
+            self.run(i, None, input, out);
+            return;
+        };
+        let _deactivated = self.deactivate_in(poison, g);
+        self.activate_and_run(i, g, input, out);
+    }
+
+    /// The sizes of the records of an instance that is active and a reader: for such a one [`process_reader`](Tables::process_reader) does
+    /// what [`process`](Tables::process) does. None for every other instance, and where there is none.
+    #[inline(always)]
+    pub fn active_reader(&self, i: u8) -> Option<ReaderSizes>
+        ensures found { IfSome result (IsActiveReader (slot_at self.now.instances i)) }
+        ensures none { IfNone result ((n : ReaderSizes) → IsActiveReader (slot_at self.now.instances i) n → ⊥) }
+    {
+        match self.instances.get(i as usize) {
+            Some(Some(member)) => match &member.inst {
+                Inst::Running(active) => reader_sizes(&active.instance.table),
+                Inst::Idling(_) => None,
+            },
+            _ => None,
         }
+    }
+
+    /// Gives an active reader, whose records have these sizes, a block of samples. Nobody is activated or deactivated for it, so that it
+    /// does the same in a host of any poison word, or of none.
+    ///
+    /// Inlined, since a reader's work at one sample is less than a call.
+    #[inline(always)]
+    pub fn process_reader(&mut self, i: u8, sizes: ReaderSizes, input: &[i16], out: &mut Block)
+        requires reader { IsActiveReader (slot_at self.old.instances i) sizes }
+        requires ok { AreConsistent self.old }
+        requires empty { out.old.items ≡ [] }
+        requires some { 1 ≤ length input.now }
+        requires within { length input.now ≤ BLOCK_SAMPLES }
+        ensures step { (w : Option ℤ) → Ready w self.old → ActivatesAndFeeds M.law w i input.now self.old self.new }
+        ensures bounded { length out.new.items ≤ length input.now }
+        ensures output { (w : Option ℤ) → GivesOut M.law w self.old i input.now out.new.items }
+    {
+        self.run(i, Some(sizes), input, out);
     }
 
     /// Gives the instance a control, activated as for a block. None where its kind doesn't take the control: then nothing has happened.

@@ -1,5 +1,5 @@
 -- Blocks of samples that pass through members.
-use Rattle.std.proofs.Common.{◌≡◌, ◌<◌, ◌≤◌, ℕ, ℤ, zero, suc, Bool, true, List, [], ◌∷◌, length, ◌-◌, get_or, take, drop, None, refl, ap, sym, ◌∙◌, subst, nat_eq, arith}
+use Rattle.std.proofs.Common.{◌≡◌, ◌<◌, ◌≤◌, ℕ, ℤ, zero, suc, Bool, true, false, List, [], ◌∷◌, length, ◌==◌, ◌-◌, get_or, take, drop, None, refl, ap, sym, ◌∙◌, subst, nat_eq, arith}
 use Rattle.std.specs.Prelude.{not}
 use Rattle.std.specs.List.{list_all}
 use Rattle.std.proofs.Math.Nat.{not-suc-le-zero}
@@ -35,6 +35,11 @@ pub first_two_before : (is : List ℕ) → 2 ≤ length is → is ≡ get_or is 
 first_two_before [] b = absurd (omega arith)
 first_two_before (i ∷ []) b = absurd (omega arith)
 first_two_before (i ∷ j ∷ is) b = sym (ap (λ js. i ∷ j ∷ js) (take_all (length (i ∷ j ∷ is) - 2) is (omega arith)))
+
+-- a block that isn't empty has a sample
+pub some_samples : (block : List ℤ) → false ≡ (length block == 0) → 1 ≤ length block
+some_samples [] e = absurd (false≢true e)
+some_samples (s ∷ block) e = omega arith
 
 all_more : (p q : ℕ → Bool) → ((i : ℕ) → p i ≡ true → q i ≡ true) → (is : List ℕ) → list_all p is ≡ true → list_all q is ≡ true
 all_more p q more [] all = refl

@@ -43,9 +43,7 @@ fn give_out(block: &[i16], out: &mut Block)
 }
 
 /// Gives a member the block, unless that is empty: what the member gives takes the place of what `given` held.
-///
-/// Inlined for the member of a channel that has no other, whose work at one sample is less than a call.
-#[inline(always)]
+#[inline(never)]
 fn run<M: Ialg>(host: &mut Host<M>, member: u8, block: &[i16], given: &mut Block)
     requires within { length block.now ≤ BLOCK_SAMPLES }
     ensures bounded { length given.new.items ≤ length block.now }
@@ -58,16 +56,21 @@ fn run<M: Ialg>(host: &mut Host<M>, member: u8, block: &[i16], given: &mut Block
     }
 }
 
-/// Gives one of several members the block, as [`run`] does.
+/// Gives the one member of a channel the block, as [`run`] does.
 ///
-/// A call of its own: what `run` takes is inlined once here, and once for the channel of one member.
-#[inline(never)]
-fn run_one_of_several<M: Ialg>(host: &mut Host<M>, member: u8, block: &[i16], given: &mut Block)
+/// An active reader is given it here, without a call, since its work at one sample is less than one.
+#[inline(always)]
+fn run_alone<M: Ialg>(host: &mut Host<M>, member: u8, block: &[i16], given: &mut Block)
     requires within { length block.now ≤ BLOCK_SAMPLES }
     ensures bounded { length given.new.items ≤ length block.now }
     ensures passes { PassesThrough M.law (member ∷ []) block.now given.new.items host.old host.new }
 {
-    run(host, member, block, given);
+    // Before the question: what is read for its answer is then at hand for the reader, with no write between.
+    given.clear();
+    match host.active_reader(member) {
+        Some(sizes) if !block.is_empty() => host.process_reader(member, sizes, block, given),
+        _ => run(host, member, block, given),
+    }
 }
 
 /// Passes the block that stands in `from` through a member and those behind it. They fill the two blocks by turns, but for the last, which
@@ -84,9 +87,9 @@ fn pass_on<M: Ialg>(
     ensures passes { PassesThrough M.law (member ∷ further.now) from.old.items out.new.items host.old host.new }
 {
     match further {
-        [] => run_one_of_several(host, member, from.as_slice(), out),
+        [] => run(host, member, from.as_slice(), out),
         [next, behind @ ..] => {
-            run_one_of_several(host, member, from.as_slice(), to);
+            run(host, member, from.as_slice(), to);
             pass_on(host, *next, behind, to, from, out);
         }
     }
@@ -109,9 +112,9 @@ fn pass<M: Ialg>(
             out.clear();
             give_out(block, out);
         }
-        [member] => run(host, *member, block, out),
+        [member] => run_alone(host, *member, block, out),
         [member, next, behind @ ..] => {
-            run_one_of_several(host, *member, block, &mut between.one);
+            run(host, *member, block, &mut between.one);
             pass_on(
                 host,
                 *next,

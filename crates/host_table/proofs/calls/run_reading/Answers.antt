@@ -19,7 +19,7 @@ run_reading-requires-clause-fits g c =
     let s = c.args.active.now.instance in
     let sharing = c.args.sharing.now.items in
     rw (seen_there sharing c.args.i 1 c.owner-at.result c.requires.lent.owners c.owner-at.ensures c.index_mut.result.now c.index_mut.ensures.value c.in-Here.once c.in-Here.is)
-    (fits_second s.table (once_second s.table c.args.sizes c.requires.table c.requires.reader) s.own (shared_at sharing c.args.i) c.args.group.now c.requires.lent.fits)
+    (fits_second s.table (once_second s.table c.args.sizes c.requires.reader.table c.requires.reader.sizes) s.own (shared_at sharing c.args.i) c.args.group.now c.requires.lent.fits)
 
 pub unreachable-requires : goal.unreachable-requires
 unreachable-requires g c = not_elsewhere c.args.sharing.now.items c.args.i 1 c.owner-at.result c.requires.lent.owners c.owner-at.ensures c.index_mut.result.now c.index_mut.ensures.value c.in-At._owner c.in-At.is
@@ -44,7 +44,7 @@ returns-clause-did g c =
     (put_there sharing c.args.i 1 c.owner-at.result c.requires.lent.owners c.owner-at.ensures c.index_mut.result.now c.index_mut.ensures.value lent) in
     let stays = same_pieces seen in
     rw after
-    (ran_second old.table (once_second old.table c.args.sizes c.requires.table c.requires.reader) g.M.Ialg.law c.args.input.now c.run_reading.new.out.items old new seen (record seen { p1 = lent }) c.args.group.now c.args.group.now refl
+    (ran_second old.table (once_second old.table c.args.sizes c.requires.reader.table c.requires.reader.sizes) g.M.Ialg.law c.args.input.now c.run_reading.new.out.items old new seen (record seen { p1 = lent }) c.args.group.now c.args.group.now refl
     (record { p0 = stays.p0; p1 = subst (λ (p : Option Span). IsSamePiece p lent) was did.shared; p2 = stays.p2; p3 = stays.p3 })
     (subst (λ (p : Option Span). Ran g.M.Ialg.law c.args.input.now c.run_reading.new.out.items old new (only_second p) (only_second lent) c.args.group.now c.args.group.now) was (record {
       same = did.same;

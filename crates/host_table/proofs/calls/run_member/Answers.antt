@@ -3,7 +3,7 @@ use Rattle.scratch_group.proofs.Filters.{none_once}
 use Rattle.host_shared.specs.Locations.{shared_at}
 use Rattle.host_shared.proofs.Bare.{seen_again}
 use Rattle.host_table.proofs.Lendings.{fits_without, ran_any}
-use Rattle.host_table.proofs.calls.run_with_blocks.Goals as goal
+use Rattle.host_table.proofs.calls.run_member.Goals as goal
 
 pub run-requires-clause-fits : goal.run-requires-clause-fits
 run-requires-clause-fits g c =
