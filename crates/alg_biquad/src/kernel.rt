@@ -124,9 +124,30 @@ fn run_plain(coefficients: &[i16], state: State, input: &[i16], out: &mut Block)
     State { x1, x2, y1, y2 }
 }
 
-/// Runs the filter over a block; `state` has the two newest samples and outputs before and after. Where a step saturates, others soon will:
-/// the rest of the block is run with a limit at each step.
-pub(crate) fn filter(coefficients: &[i16], state: &mut [i16], input: &[i16], out: &mut Block)
+/// Runs one sample, with a limit at each step; `state` has the two newest samples and outputs before and after. It isn't tried without limits:
+/// for a sample alone the test of the coefficients and the loop cost more.
+fn run_one(coefficients: &[i16], state: &mut [i16], x: i16, out: &mut Block)
+    requires five { length coefficients.now ≡ COEFFICIENTS }
+    requires four { length state.old ≡ STATE_WORDS }
+    requires empty { out.old.items ≡ [] }
+    ensures count { length out.new.items ≡ 1 }
+    ensures law { (p : List ℤ) (h : History) → coefficients.now ≡ words_in_force p h → state.old ≡ state_after p h
+        → Ran p h (x ∷ []) state.new out.new.items }
+{
+    let before = State::read(state);
+    let y = limited_output(coefficients, before, x);
+    let mut after = before;
+    after.shift(x, y);
+    out.push(y);
+    after.write(state);
+}
+
+/// Runs samples as [`filter`] does, as many as they are. Where a step saturates, others soon will: the rest of the block is run with a limit
+/// at each step.
+///
+/// A call of its own, so that its loops take no registers from one sample.
+#[inline(never)]
+fn run_block(coefficients: &[i16], state: &mut [i16], input: &[i16], out: &mut Block)
     requires five { length coefficients.now ≡ COEFFICIENTS }
     requires four { length state.old ≡ STATE_WORDS }
     requires within { length input.now ≤ BLOCK_SAMPLES }
@@ -144,4 +165,20 @@ pub(crate) fn filter(coefficients: &[i16], state: &mut [i16], input: &[i16], out
         out.push(y);
     }
     newest.write(state);
+}
+
+/// Runs the filter over a block; `state` has the two newest samples and outputs before and after.
+pub(crate) fn filter(coefficients: &[i16], state: &mut [i16], input: &[i16], out: &mut Block)
+    requires five { length coefficients.now ≡ COEFFICIENTS }
+    requires four { length state.old ≡ STATE_WORDS }
+    requires within { length input.now ≤ BLOCK_SAMPLES }
+    requires empty { out.old.items ≡ [] }
+    ensures bounded { length out.new.items ≡ length input.now }
+    ensures law { (p : List ℤ) (h : History) → coefficients.now ≡ words_in_force p h → state.old ≡ state_after p h
+        → Ran p h input.now state.new out.new.items }
+{
+    match input {
+        [x] => run_one(coefficients, state, *x, out),
+        _ => run_block(coefficients, state, input, out),
+    }
 }
