@@ -7,7 +7,7 @@ use Rattle.ialg.specs.declared.memory.Lent.{Lent}
 use Rattle.ialg.specs.declared.memory.Record.{Record}
 use Rattle.ialg.specs.declared.TheConstants.{BLOCK_SAMPLES}
 use Rattle.ialg.specs.History.{History}
-use Rattle.ialg.specs.Records.{record_at, words_of, lasting, AreApart, AllLent}
+use Rattle.ialg.specs.Records.{record_at, words_of, lasting, AllLent}
 use Rattle.ialg.specs.Loans.{lent_words, loan, SameBut, SameLoans}
 use Rattle.ialg.specs.Objects.{Names, NamedAt}
 use Rattle.ialg.proofs.Tables.{attr_of, lasting_at, lent_size}
@@ -62,11 +62,10 @@ module _ (p : List ℤ) (rs : List MemRec) where
         }
 
 -- a lent record is found by its name
-module _ (m : Lent) (taps : ℕ) (names : Names decim_kind (decim_records taps) m.table.now m.r0.now) (apart : AreApart m.table.now) where
+module _ (m : Lent) (taps : ℕ) (names : Names decim_kind (decim_records taps) m.table.now m.r0.now) where
   pub kept_at : 0 < length m.r1.now → NamedAt m Saram 1 decim_kind (decim_records taps)
   kept_at lent = record {
     names = names;
-    apart = apart;
     not_the_object = lit≤ tt;
     within = lit< tt;
     few = lit≤ tt;
@@ -77,7 +76,6 @@ module _ (m : Lent) (taps : ℕ) (names : Names decim_kind (decim_records taps) 
   pub constants_at : 0 < length m.r2.now → NamedAt m External 2 decim_kind (decim_records taps)
   constants_at lent = record {
     names = names;
-    apart = apart;
     not_the_object = lit≤ tt;
     within = lit< tt;
     few = lit≤ tt;
@@ -88,7 +86,6 @@ module _ (m : Lent) (taps : ℕ) (names : Names decim_kind (decim_records taps) 
   pub ring_at : 0 < length m.r3.now → NamedAt m Daram 3 decim_kind (decim_records taps)
   ring_at lent = record {
     names = names;
-    apart = apart;
     not_the_object = lit≤ tt;
     within = lit< tt;
     few = lit≤ tt;
@@ -113,9 +110,9 @@ module _ (p : List ℤ) (m : Lent) (has : HasConstants p m.table.now (lent_words
       let constants = size_at 2 in
       let ring = size_at 3 in
       record {
-        kept = kept_at m (taps_of p) has.object lent.apart (omega arith);
-        constants = constants_at m (taps_of p) has.object lent.apart (omega arith);
-        ring = ring_at m (taps_of p) has.object lent.apart (omega arith);
+        kept = kept_at m (taps_of p) has.object (omega arith);
+        constants = constants_at m (taps_of p) has.object (omega arith);
+        ring = ring_at m (taps_of p) has.object (omega arith);
       }
 
 -- the same records are lent

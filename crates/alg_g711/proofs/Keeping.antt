@@ -5,7 +5,7 @@ use Rattle.mem_rec.specs.declared.Space.TheVariants.{External}
 use Rattle.mem_rec.specs.declared.Attr.TheVariants.{Persist, WriteOnce}
 use Rattle.ialg.specs.declared.memory.Lent.{Lent}
 use Rattle.ialg.specs.History.{History, IsWordHistory}
-use Rattle.ialg.specs.Records.{record_at, words_of, unplaced, lasting, lasting_words, AreApart, AllLent, HoldFill}
+use Rattle.ialg.specs.Records.{record_at, words_of, unplaced, lasting, lasting_words, AllLent, HoldFill}
 use Rattle.ialg.specs.Loans.{lent_words}
 use Rattle.ialg.specs.Objects.{Names, NamedAt, object_memory}
 use Rattle.ialg.proofs.Tables.{words_of-lasting, lasting_at, lent_size, attr_of}
@@ -62,10 +62,9 @@ awake p before after wss h moved keeps =
 
 -- the samples of the codes are found
 pub samples_named : (m : Lent) (law : Law) → Names (kind_word law Decode) (records_of Decode) m.table.now m.r0.now
-    → AreApart m.table.now → length m.r1.now ≡ CODES → NamedAt m External 1 (kind_word law Decode) (records_of Decode)
-samples_named m law names apart size = record {
+    → length m.r1.now ≡ CODES → NamedAt m External 1 (kind_word law Decode) (records_of Decode)
+samples_named m law names size = record {
   names = names;
-  apart = apart;
   not_the_object = lit≤ tt;
   within = lit< tt;
   few = lit≤ tt;
@@ -86,7 +85,7 @@ decoder_of p m coder law granted is way object samples lent =
     let once = attr_of m.table.now (records_of Decode) names.on_table 1 in
     let all = lent_size m.table.now (records_of Decode) names.on_table (lent_words m) lent in
     record {
-      named = samples_named m law names lent.apart (all 1);
+      named = samples_named m law names (all 1);
       samples = samples 1 once ∙ ap (λ o. fill_of o 1) granted ∙ rw (is, way) refl;
     }
 

@@ -219,7 +219,7 @@ fn decode_block(mem: &Lent<'_>, input: &[i16], out: &mut Block)
     ensures read { (law : Law) → NamedAt mem.now External 1 (kind_word law Decode) (records_of Decode)
         → mem.now.r1.now ≡ samples_of_codes law → All (FitsSigned w16) input.now }
 {
-    let Some(table) = mem.read_own(Space::External, SAMPLES) else {
+    let Some(table) = mem.read_named(Space::External, SAMPLES) else {
         return;
     };
     if table.len() == CODES {

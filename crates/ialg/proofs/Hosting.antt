@@ -8,7 +8,7 @@ use Rattle.mem_rec.specs.declared.Attr.TheVariants.{WriteOnce}
 use Rattle.mem_rec.specs.Records.{is_table, is_record, first_is_persistent}
 use Rattle.ialg.specs.declared.memory.Lent.{Lent}
 use Rattle.ialg.specs.declared.filter.FilterMemory.{FilterMemory}
-use Rattle.ialg.specs.Records.{record_at, words_of, unplaced, lasting, AreApart, AllLent}
+use Rattle.ialg.specs.Records.{record_at, words_of, unplaced, lasting, AllLent}
 use Rattle.ialg.specs.Loans.{lent_words}
 use Rattle.ialg.specs.Objects.{Names, NamedAt}
 use Rattle.ialg.specs.Filters.{filter_records, IsPlaced, IsIdle, IsActive}
@@ -54,11 +54,10 @@ module _ (f : FilterMemory) (valid : IsTrue (is_table (filter_records f))) where
   some_running : 1 ≤ f.running
   some_running = grind (arith, nat_tests)
 
-  module _ (m : Lent) (kind : ℤ) (names : Names kind (filter_records f) m.table.now m.r0.now) (apart : AreApart m.table.now) where
+  module _ (m : Lent) (kind : ℤ) (names : Names kind (filter_records f) m.table.now m.r0.now) where
     pub kept_at : length m.r1.now ≡ f.kept → NamedAt m Saram 1 kind (filter_records f)
     kept_at size = let some = some_kept in record {
       names = names;
-      apart = apart;
       not_the_object = lit≤ tt;
       within = lit< tt;
       few = lit≤ tt;
@@ -69,7 +68,6 @@ module _ (f : FilterMemory) (valid : IsTrue (is_table (filter_records f))) where
     pub running_at : length m.r2.now ≡ f.running → NamedAt m Daram 2 kind (filter_records f)
     running_at size = let some = some_running in record {
       names = names;
-      apart = apart;
       not_the_object = lit≤ tt;
       within = lit< tt;
       few = lit≤ tt;
@@ -88,11 +86,11 @@ module _ (kind : ℤ) (asked : Option FilterMemory) where
 
     -- the kept words are found
     pub kept_named : NamedAt m Saram 1 kind (filter_records placed.memory)
-    kept_named = kept_at placed.memory placed.valid m kind placed.object lent.apart (size_at 1)
+    kept_named = kept_at placed.memory placed.valid m kind placed.object (size_at 1)
 
     -- the running words are found
     pub running_named : NamedAt m Daram 2 kind (filter_records placed.memory)
-    running_named = running_at placed.memory placed.valid m kind placed.object lent.apart running_size
+    running_named = running_at placed.memory placed.valid m kind placed.object running_size
 
   module _ (rs : List MemRec) where
     placed_same : (wss wss' : List (List ℤ)) → IsPlaced kind asked rs wss → words_of wss' 0 ≡ words_of wss 0 → IsPlaced kind asked rs wss'

@@ -1,7 +1,7 @@
 //! The rogue that puts forged bases into its object, and reads and writes by them.
 ghost use Rattle.ialg.specs.Loans.{SameLoans};
 
-use crate::rogues::{KEPT, OBJECT, fill_record, record_of};
+use crate::rogues::{OBJECT, fill_record, record_of};
 use ialg::{Lent, Record};
 use mem_rec::{LEAST_ALIGNMENT, MemTab, Space};
 use relocate::SPACE_WORDS;
@@ -22,19 +22,19 @@ fn base_of(place: u32) -> u16 {
     (place.wrapping_mul(LEAST_ALIGNMENT) % SPACE_WORDS) as u16
 }
 
-/// The first word of the record of `space` that the object's forged base names, 0 where it names none.
-fn read_forged(mem: &Lent<'_>, space: Space) -> i16 {
-    match mem.read_named(space, KEPT) {
+/// The first word of the record of `space` that begins at the forged base, 0 where none does.
+fn read_forged(mem: &Lent<'_>, space: Space, base: u16) -> i16 {
+    match mem.read(space, base) {
         Some([first, ..]) => *first,
         _ => 0,
     }
 }
 
-/// Writes `word` over the record of `space` that the object's forged base names, where it names one.
-fn write_forged(mem: &mut Lent<'_>, space: Space, word: i16)
+/// Writes `word` over the record of `space` that begins at the forged base, where one does.
+fn write_forged(mem: &mut Lent<'_>, space: Space, base: u16, word: i16)
     ensures { SameLoans mem.old mem.new }
 {
-    let Some(Record { k, words }) = mem.take_named(space, KEPT) else {
+    let Some(Record { k, words }) = mem.take(space, base) else {
         return;
     };
     words.fill(word);
@@ -50,8 +50,8 @@ fn try_base(mem: &mut Lent<'_>, base: u16)
     };
     fill_record(mem, object.space, object.base, base.cast_signed());
     for space in SPACES {
-        let seen = read_forged(mem, space);
-        write_forged(mem, space, seen.wrapping_add(1));
+        let seen = read_forged(mem, space, base);
+        write_forged(mem, space, base, seen.wrapping_add(1));
     }
 }
 

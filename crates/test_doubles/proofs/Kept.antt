@@ -7,7 +7,7 @@ use Rattle.mem_rec.specs.declared.Space.TheVariants.{Daram, Saram, External}
 use Rattle.mem_rec.specs.declared.Attr.TheVariants.{WriteOnce}
 use Rattle.ialg.specs.declared.memory.Lent.{Lent}
 use Rattle.ialg.specs.History.{History, Sample, Control, outputs_by}
-use Rattle.ialg.specs.Records.{record_at, words_of, lasting, lasting_words, unplaced, AreApart, ArePoison}
+use Rattle.ialg.specs.Records.{record_at, words_of, lasting, lasting_words, unplaced, ArePoison}
 use Rattle.ialg.specs.Objects.{Names, NamedAt}
 use Rattle.ialg.proofs.Tables.{attr_of, lasting_at, words_of-lasting}
 use Rattle.test_doubles.specs.Primed.{primed_records, primed_fill, is_primed, KeepsWords}
@@ -66,16 +66,16 @@ moved p before rs wss wss' h same keeps names first second =
       primed = second ∙ keeps.primed;
     }
 
-module _ (m : Lent) (names : Names (pos 9) primed_records m.table.now m.r0.now) (apart : AreApart m.table.now) where
+module _ (m : Lent) (names : Names (pos 9) primed_records m.table.now m.r0.now) where
   -- the records are found
   pub once_named : length m.r1.now ≡ 1 → NamedAt m External 1 (pos 9) primed_records
-  once_named size = record { names = names; apart = apart; not_the_object = lit≤ tt; within = lit< tt; few = lit≤ tt; its_space = refl; lent = omega arith }
+  once_named size = record { names = names; not_the_object = lit≤ tt; within = lit< tt; few = lit≤ tt; its_space = refl; lent = omega arith }
 
   pub primed_named : length m.r2.now ≡ 1 → NamedAt m Saram 2 (pos 9) primed_records
-  primed_named size = record { names = names; apart = apart; not_the_object = lit≤ tt; within = lit< tt; few = lit≤ tt; its_space = refl; lent = omega arith }
+  primed_named size = record { names = names; not_the_object = lit≤ tt; within = lit< tt; few = lit≤ tt; its_space = refl; lent = omega arith }
 
   pub scratch_named : length m.r3.now ≡ 1 → NamedAt m Daram 3 (pos 9) primed_records
-  scratch_named size = record { names = names; apart = apart; not_the_object = lit≤ tt; within = lit< tt; few = lit≤ tt; its_space = refl; lent = omega arith }
+  scratch_named size = record { names = names; not_the_object = lit≤ tt; within = lit< tt; few = lit≤ tt; its_space = refl; lent = omega arith }
 
 -- a word of the poison is the first parameter
 pub primed_word : (p : List ℤ) (w : Option ℤ) (ws : List ℤ) → IsTrue (is_primed p w) → length ws ≡ 1 → ArePoison w ws → ws ≡ take 1 p

@@ -5,7 +5,7 @@ use Rattle.mem_rec.specs.declared.Space.TheVariants.{Daram, Saram, External}
 use Rattle.mem_rec.specs.declared.Attr.TheVariants.{WriteOnce}
 use Rattle.ialg.specs.declared.memory.Lent.{Lent}
 use Rattle.ialg.specs.History.{History, Sample, with_samples, word_at, outputs_by, IsWordHistory}
-use Rattle.ialg.specs.Records.{record_at, words_of, lasting, unplaced, AreApart}
+use Rattle.ialg.specs.Records.{record_at, words_of, lasting, unplaced}
 use Rattle.ialg.specs.Objects.{Names, NamedAt}
 use Rattle.ialg.proofs.Tables.{attr_of, lasting_at}
 use Rattle.test_doubles.specs.declared.TheConstants.{SLICER_KIND}
@@ -63,16 +63,16 @@ moved p before rs wss wss' h same keeps names first =
 pub goes_on : (p : List ℤ) (rs : List MemRec) (wss : List (List ℤ)) (h after : History) → IsWordHistory after → HoldsLevels p rs wss h → HoldsLevels p rs wss after
 goes_on p rs wss h after words keeps = record { two = keeps.two; history = words; object = keeps.object; once = keeps.once }
 
-module _ (m : Lent) (names : Names SLICER_KIND slicer_records m.table.now m.r0.now) (apart : AreApart m.table.now) where
+module _ (m : Lent) (names : Names SLICER_KIND slicer_records m.table.now m.r0.now) where
   -- the records are found
   pub levels_named : length m.r1.now ≡ 2 → NamedAt m External 1 SLICER_KIND slicer_records
-  levels_named size = record { names = names; apart = apart; not_the_object = lit≤ tt; within = lit< tt; few = lit≤ tt; its_space = refl; lent = omega arith }
+  levels_named size = record { names = names; not_the_object = lit≤ tt; within = lit< tt; few = lit≤ tt; its_space = refl; lent = omega arith }
 
   pub low_named : length m.r2.now ≡ 5 → NamedAt m Daram 2 SLICER_KIND slicer_records
-  low_named size = record { names = names; apart = apart; not_the_object = lit≤ tt; within = lit< tt; few = lit≤ tt; its_space = refl; lent = omega arith }
+  low_named size = record { names = names; not_the_object = lit≤ tt; within = lit< tt; few = lit≤ tt; its_space = refl; lent = omega arith }
 
   pub high_named : length m.r3.now ≡ 3 → NamedAt m Saram 3 SLICER_KIND slicer_records
-  high_named size = record { names = names; apart = apart; not_the_object = lit≤ tt; within = lit< tt; few = lit≤ tt; its_space = refl; lent = omega arith }
+  high_named size = record { names = names; not_the_object = lit≤ tt; within = lit< tt; few = lit≤ tt; its_space = refl; lent = omega arith }
 
 -- both scratch records were written
 pub spread_over : (p : List ℤ) (rs : List MemRec) (old between new : List (List ℤ)) (h : History) → HoldsLevels p rs old h

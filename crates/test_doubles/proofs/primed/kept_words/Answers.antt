@@ -11,28 +11,28 @@ pub returns-in_default : goal.returns-in_default
 returns-in_default c p h lent keeps =
     let m = c.args.mem.now in
     let sizes = lent_size m.table.now primed_records keeps.idle.object.on_table (lent_words m) lent in
-    absurd (c.in_default.ensures.named (pos 9) primed_records (once_named m keeps.idle.object lent.apart (sizes 1)))
+    absurd (c.in_default.ensures.named (pos 9) primed_records (once_named m keeps.idle.object (sizes 1)))
 
 pub returns-in_default-primed : goal.returns-in_default-primed
 returns-in_default-primed c p h lent keeps =
     let m = c.args.mem.now in
     let sizes = lent_size m.table.now primed_records keeps.idle.object.on_table (lent_words m) lent in
-    absurd (c.in_default-primed.ensures.named (pos 9) primed_records (primed_named m keeps.idle.object lent.apart (sizes 2)))
+    absurd (c.in_default-primed.ensures.named (pos 9) primed_records (primed_named m keeps.idle.object (sizes 2)))
 
 pub returns-in_default-scratch : goal.returns-in_default-scratch
 returns-in_default-scratch c p h lent keeps =
     let m = c.args.mem.now in
     let sizes = lent_size m.table.now primed_records keeps.idle.object.on_table (lent_words m) lent in
-    absurd (c.in_default-scratch.ensures.named (pos 9) primed_records (scratch_named m keeps.idle.object lent.apart (sizes 3)))
+    absurd (c.in_default-scratch.ensures.named (pos 9) primed_records (scratch_named m keeps.idle.object (sizes 3)))
 
 pub returns : goal.returns
 returns c p h lent keeps =
     let m = c.args.mem.now in
     let records = keeps.idle.object.on_table in
     let sizes = lent_size m.table.now primed_records records (lent_words m) lent in
-    let once = c.in-Some.ensures.named (pos 9) primed_records (once_named m keeps.idle.object lent.apart (sizes 1)) in
-    let primed = c.in-Some-primed.ensures.named (pos 9) primed_records (primed_named m keeps.idle.object lent.apart (sizes 2)) in
-    let scratch = c.in-Some-scratch.ensures.named (pos 9) primed_records (scratch_named m keeps.idle.object lent.apart (sizes 3)) in
+    let once = c.in-Some.ensures.named (pos 9) primed_records (once_named m keeps.idle.object (sizes 1)) in
+    let primed = c.in-Some-primed.ensures.named (pos 9) primed_records (primed_named m keeps.idle.object (sizes 2)) in
+    let scratch = c.in-Some-scratch.ensures.named (pos 9) primed_records (scratch_named m keeps.idle.object (sizes 3)) in
     let word : words_of (lent_words m) 1 ≡ drop 1 p = keeps.idle.once 1 (attr_of m.table.now primed_records records 1) in
     let few : length (words_of (lent_words m) 3) + length (words_of (lent_words m) 2) + length (words_of (lent_words m) 1) ≤ 72 = omega (arith, sizes 1, sizes 2, sizes 3) in
     let all = (rw (once, primed, scratch) at c.joined.ensures) few in

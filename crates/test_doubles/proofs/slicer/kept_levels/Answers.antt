@@ -9,4 +9,4 @@ pub returns-in-None : goal.returns-in-None
 returns-in-None c p h lent keeps =
     let m = c.args.mem.now in
     let sizes = lent_size m.table.now slicer_records keeps.object.on_table (lent_words m) lent in
-    absurd (c.in-None.ensures.named SLICER_KIND slicer_records (levels_named m keeps.object lent.apart (sizes 1)))
+    absurd (c.in-None.ensures.named SLICER_KIND slicer_records (levels_named m keeps.object (sizes 1)))

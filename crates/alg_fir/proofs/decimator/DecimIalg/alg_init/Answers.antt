@@ -27,8 +27,8 @@ returns-clause-law c w lawful granted table lent writable fresh =
     let names = rw chose.1 at (c.name_records.ensures.names (sizes 0)) in
     let kept_long : length m1.r1.now ≡ taps_of p = c.name_records.ensures.loans.len1 ∙ sizes 1 in
     let long : length m1.r2.now ≡ taps_of p + 1 = c.name_records.ensures.loans.len2 ∙ sizes 2 in
-    let kept_named = kept_at m1 (taps_of p) (rw same names) (rw same lent.apart) (omega arith) in
-    let constants_named = constants_at m1 (taps_of p) (rw same names) (rw same lent.apart) (omega arith) in
+    let kept_named = kept_at m1 (taps_of p) (rw same names) (omega arith) in
+    let constants_named = constants_at m1 (taps_of p) (rw same names) (omega arith) in
     let given = c.as_slice.ensures.value in
     let written = c.write_constants.ensures.written (taps_of p) constants_named (c.name_records.ensures.others.writable ∙ writable)
     (long ∙ sym t.size ∙ sym (ap length given)) in

@@ -22,7 +22,7 @@ returns-clause-law g c w lawful taken table lent writable poison =
     let names = rw s.records at (c.write_object_of.ensures.names (sizes 0)) in
     let size = ap (λ r. length r.now) (c.write_object_of.ensures.others.others1 (λ e. omega arith)) ∙ sizes 1 in
     let valid = rw s.records at (is_table-unplaced tab c.write_object_of.ensures.valid) in
-    let named = kept_at s.memory valid m F.KIND (rw same names) (rw same lent.apart) size in
+    let named = kept_at s.memory valid m F.KIND (rw same names) size in
     let found = c.in-Some.ensures.named F.KIND records named persist_not_once in
     let v = visit 1 m _ _ c.in-Some.taken _ found (lit< tt) (λ e. omega arith) c.in-Some.ensures.left c.put.ensures.others c.put.ensures.back in
     let fresh = (rw c.as_slice.ensures.value at c.start.ensures) s.memory s.granted (ap (λ r. length r.now) v.taken ∙ size) in
@@ -42,7 +42,7 @@ returns-in_default-clause-law g c w lawful taken table lent writable poison =
     let names = rw s.records at (c.write_object_of.ensures.names (sizes 0)) in
     let size = ap (λ r. length r.now) (c.write_object_of.ensures.others.others1 (λ e. omega arith)) ∙ sizes 1 in
     let valid = rw s.records at (is_table-unplaced tab c.write_object_of.ensures.valid) in
-    let named = kept_at s.memory valid c.write_object_of.new.mem F.KIND (rw same names) (rw same lent.apart) size in
+    let named = kept_at s.memory valid c.write_object_of.new.mem F.KIND (rw same names) size in
     absurd (c.in_default.ensures.named F.KIND records named persist_not_once)
 
 pub returns-clause-loans : goal.returns-clause-loans

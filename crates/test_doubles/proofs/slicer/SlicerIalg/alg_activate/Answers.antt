@@ -24,11 +24,11 @@ returns-clause-law c p w h lawful closed lent poison asleep =
     let low_is : to_z w16 (of_z w16 (slice_index_or items 0 (pos 0))) ≡ word_at p 0 = to_z-of_z w16 (slice_index_or items 0 (pos 0)) low_fits ∙ ap (λ ws. word_at ws 0) levels in
     let high_is : to_z w16 (of_z w16 (slice_index_or items 1 (pos 0))) ≡ word_at p 1 = to_z-of_z w16 (slice_index_or items 1 (pos 0)) high_fits ∙ ap (λ ws. word_at ws 1) levels in
     let low : IsSpread 2 (word_at p 0) (lent_words m) (lent_words between) =
-    rw low_is at (c.spread_low.ensures.spread SLICER_KIND slicer_records (low_named m keeps.object lent.apart (sizes 2)) refl) in
+    rw low_is at (c.spread_low.ensures.spread SLICER_KIND slicer_records (low_named m keeps.object (sizes 2)) refl) in
     let object = low.others 0 (λ e. omega arith) in
     let table = ap (λ b. b.now) c.spread_low.ensures.loans.table in
     let size = ap length (low.others 3 (λ e. omega arith)) ∙ sizes 3 in
-    let named = high_named between (rw (table, object) keeps.object) (rw table lent.apart) size in
+    let named = high_named between (rw (table, object) keeps.object) size in
     let high : IsSpread 3 (word_at p 1) (lent_words between) (lent_words c.spread_high.new.mem) =
     rw high_is at (c.spread_high.ensures.spread SLICER_KIND slicer_records named refl) in
     spread_over p rs (lent_words m) (lent_words between) (lent_words c.spread_high.new.mem) h keeps low high

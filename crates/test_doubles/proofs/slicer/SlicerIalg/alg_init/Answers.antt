@@ -25,7 +25,7 @@ returns-clause-law c w lawful taken table lent writable new =
     let same = ap (λ b. b.now) others.table ∙ table in
     let names = rw asked.1 at (c.name_records.ensures.names (sizes 0)) in
     let size = ap (λ r. length r.now) (others.others1 (λ e. omega arith)) ∙ sizes 1 in
-    let named = levels_named m (rw same names) (rw same lent.apart) size in
+    let named = levels_named m (rw same names) size in
     let found = c.in-Some.ensures.named _ slicer_records named (λ once. c.name_records.ensures.loans.writable ∙ writable) in
     let v = visit 1 m _ _ c.in-Some.taken _ found (lit< tt) (λ e. omega arith) c.in-Some.ensures.left c.put.ensures.others c.put.ensures.back in
     let long = c.overwrite.auto.words ∙ ap (λ r. length r.now) v.taken ∙ size in
@@ -51,7 +51,7 @@ returns-in_default-clause-law c w lawful taken table lent writable new =
     let same = ap (λ b. b.now) others.table ∙ table in
     let names = rw asked.1 at (c.name_records.ensures.names (sizes 0)) in
     let size = ap (λ r. length r.now) (others.others1 (λ e. omega arith)) ∙ sizes 1 in
-    let named = levels_named m (rw same names) (rw same lent.apart) size in
+    let named = levels_named m (rw same names) size in
     absurd (c.in_default.ensures.named _ slicer_records named (λ once. c.name_records.ensures.loans.writable ∙ writable))
 
 pub returns-clause-loans : goal.returns-clause-loans
