@@ -1,13 +1,13 @@
 -- Active readers.
 use Rattle.std.proofs.Common.{◌≡◌, ℕ, Option, None, Some, refl}
-use Rattle.std.specs.Prelude.{IsSome, IfSome, IfNone, MatchOption}
+use Rattle.std.specs.Prelude.{IsSome, IfNone, MatchOption}
 use Rattle.record_loans.specs.declared.plan.ReaderSizes.{ReaderSizes}
-use Rattle.scratch_group.specs.Readers.{IsOfReader, IsOfNoReader}
+use Rattle.scratch_group.specs.Readers.{IsOfReader, IsOfNoReader, IsReader}
 use Rattle.lifecycle.specs.declared.active.Active.{Active}
 use Rattle.lifecycle.specs.declared.instance.Inst.{Inst}
 use Rattle.lifecycle.specs.declared.instance.Inst.TheVariants.{Idling, Running}
 use Rattle.host_table.specs.declared.member.Member.{Member}
-use Rattle.host_table.specs.Table.{active_in, slot_active_in, group_of, IsReader, IsReading, IsActiveReader}
+use Rattle.host_table.specs.Table.{active_in, slot_active_in, group_of, IsReading, IsActiveReader}
 
 reading_in : {M : Type 0} (g : ℕ) (inst : Inst M) (n : ReaderSizes) → IsReading inst n → active_in g inst ≡ Some g
 reading_in g (Idling s) n reads = absurd reads
@@ -21,11 +21,10 @@ pub reader_lives : {M : Type 0} (slot : Option (Member M)) (n : ReaderSizes) →
 reader_lives None n reads = absurd reads
 reader_lives (Some m) n reads = refl
 
--- the sizes that are known of the instance in the slot
-pub reader_of : {M : Type 0} {slot : Option (Member M)} {m : Member M} {s : Active M} (reader : Option ReaderSizes)
-    → slot ≡ Some m → m.inst ≡ Running s → IfSome reader (IsActiveReader slot) → IfSome reader (IsReader s.instance.table)
-reader_of None at is known = known
-reader_of (Some n) at is known = rw (at, is) at known
+-- the table of the instance in the slot
+pub reader_of : {M : Type 0} {slot : Option (Member M)} {m : Member M} {s : Active M} (n : ReaderSizes)
+    → slot ≡ Some m → m.inst ≡ Running s → IsActiveReader slot n → IsReader s.instance.table n
+reader_of n at is reads = rw (at, is) at reads
 
 -- the table of the active one is of no reader, or else the sizes are told
 pub no_reader : {M : Type 0} {slot : Option (Member M)} {m : Member M} {s : Active M} (told : Option ReaderSizes)

@@ -1,13 +1,12 @@
 -- The tables of a host: a slot for each instance number, the pieces of its write-once records, and the groups.
-use Rattle.std.specs.Prelude.{ℕ, ℤ, IsTrue, ◌≡◌, ◌≢◌, ◌⊎◌, ◌<◌, Bool, false, List, length, Option, Some, None, nat_eq, slice_index_or}
+use Rattle.std.specs.Prelude.{ℕ, ℤ, ◌≡◌, ◌≢◌, ◌⊎◌, ◌<◌, Bool, false, List, length, Option, Some, None, nat_eq, slice_index_or}
 use Rattle.mem_rec.specs.declared.MemRec.{MemRec}
 use Rattle.mem_rec.specs.declared.Space.{Space}
-use Rattle.mem_rec.specs.Records.{is_table}
 use Rattle.mem_rec.specs.declared.Attr.TheVariants.{WriteOnce}
 use Rattle.ialg.specs.Records.{record_at}
 use Rattle.record_loans.specs.declared.pieces.Pieces.{Pieces}
 use Rattle.record_loans.specs.declared.plan.ReaderSizes.{ReaderSizes}
-use Rattle.scratch_group.specs.Readers.{IsOfReader}
+use Rattle.scratch_group.specs.Readers.{IsReader}
 use Rattle.scratch_group.specs.declared.group.Group.{Group}
 use Rattle.host_map.specs.Activity.{Activity, never_activated, newly_active, without_active, activated, deactivated, with_at}
 use Rattle.scratch_group.specs.Blocks.{BlocksArePoison, block_in}
@@ -67,11 +66,6 @@ slot_active_in (Some m) = active_in m.group m.inst
 -- the instance in slot i is active, in its group
 abbrev pub IsActiveAt : {M : Type 0} → List (Option (Member M)) → ℕ → Type 0
 IsActiveAt instances i = slot_active_in (slot_at instances i) ≡ Some (group_of (slot_at instances i))
-
--- the table of a reader, whose records have these sizes
-pub record IsReader (rs : List MemRec) (n : ReaderSizes) : Type 0 where
-  pub table : IsTrue (is_table rs)
-  pub sizes : IsOfReader rs n
 
 -- the instance is active, and a reader whose records have these sizes
 abbrev pub IsReading : {M : Type 0} → Inst M → ReaderSizes → Type 0

@@ -1,9 +1,10 @@
 //! What an active instance is given.
 ghost use Rattle.std.specs.Prelude.{◌≡◌, ◌≤◌, ℤ, [], length, Option, None, IsSome, IfSome, IfNone, OnSome, is_some};
 ghost use Rattle.ialg.specs.Views.{control_of, answer_of};
+ghost use Rattle.scratch_group.specs.Readers.{IsReader};
 ghost use Rattle.lifecycle.specs.States.{FitsIn};
 ghost use Rattle.host_shared.specs.Owners.{OnlyItsPiecesChange};
-ghost use Rattle.host_table.specs.Table.{slot_at, group_of, activity_at, newly_active_in, IsActiveAt, IsActiveReader, IsIdleAt, IsReader};
+ghost use Rattle.host_table.specs.Table.{slot_at, group_of, activity_at, newly_active_in, IsActiveAt, IsActiveReader, IsIdleAt};
 ghost use Rattle.host_table.specs.Steps.{Ready, Stays, given, GivesOut, AnswersTo, AreConsistent, ActivatesAndControls, ActivatesAndFeeds, SaysWhetherTaken};
 ghost use Rattle.host_table.specs.Turns.{CanBeLent, ActivatedAndRan, ActivatedAndRanSharing, AnswersInAnyHost, GivesOutInAnyHost, ObeysInAnyHost, RanSharing, StepsInAnyHost};
 
@@ -93,32 +94,6 @@ fn run_member<M: Ialg>(
     }
 }
 
-/// Gives the active member of a group a block of samples, as [`run_member`] does. Where `reader` has the sizes of its records, it is known to
-/// be a reader, and its table isn't asked again.
-#[inline(always)]
-fn run_active<M: Ialg>(
-    active: &mut Active<M>,
-    reader: Option<ReaderSizes>,
-    sharing: &mut Vec<Locations>,
-    i: u8,
-    group: &mut Group,
-    input: &[i16],
-    out: &mut Block,
-)
-    requires lent { CanBeLent active.old.instance sharing.old.items i group.old }
-    requires reader { IfSome reader (IsReader active.old.instance.table) }
-    requires empty { out.old.items ≡ [] }
-    requires some { 1 ≤ length input.now }
-    requires within { length input.now ≤ BLOCK_SAMPLES }
-    ensures seen { OnlyItsPiecesChange i sharing.old.items sharing.new.items }
-    ensures did { RanSharing M.law i input.now out.new.items active.old active.new sharing.old.items sharing.new.items group.old group.new }
-{
-    match reader {
-        Some(sizes) => run_reading(active, sizes, sharing, i, group, input, out),
-        None => run_member(active, sharing, i, group, input, out),
-    }
-}
-
 /// Activates the member of this number, in place, of a group that has no active member, and gives it a block of samples:
 /// its records are lent once for both.
 ///
@@ -192,11 +167,9 @@ fn activate_and_run_member<M: Ialg>(
 }
 
 impl<M: Ialg> Tables<M> {
-    /// Gives the active instance a block of samples. `reader` has the sizes of one that is known to be a reader.
-    #[inline(always)]
-    fn run(&mut self, i: u8, reader: Option<ReaderSizes>, input: &[i16], out: &mut Block)
+    /// Gives the active instance a block of samples.
+    fn run(&mut self, i: u8, input: &[i16], out: &mut Block)
         requires active { IsActiveAt self.old.instances i }
-        requires reader { IfSome reader (IsActiveReader (slot_at self.old.instances i)) }
         requires ok { AreConsistent self.old }
         requires empty { out.old.items ≡ [] }
         requires some { 1 ≤ length input.now }
@@ -210,7 +183,7 @@ impl<M: Ialg> Tables<M> {
                 let group = &mut self.groups[member.group as usize];
                 match &mut member.inst {
                     Inst::Running(active) => {
-                        run_active(active, reader, &mut self.sharing, i, group, input, out);
+                        run_member(active, &mut self.sharing, i, group, input, out);
                     }
                     Inst::Idling(_) => unreachable!(),
                 }
@@ -303,7 +276,7 @@ impl<M: Ialg> Tables<M> {
         ensures output { GivesOut M.law poison self.old i input.now out.new.items }
     {
         let Some(g) = self.idle_in(i) else {
-            self.run(i, None, input, out);
+            self.run(i, input, out);
             return;
         };
         let _deactivated = self.deactivate_in(poison, g);
@@ -341,7 +314,18 @@ impl<M: Ialg> Tables<M> {
         ensures bounded { length out.new.items ≤ length input.now }
         ensures output { (w : Option ℤ) → GivesOut M.law w self.old i input.now out.new.items }
     {
-        self.run(i, Some(sizes), input, out);
+        match &mut self.instances[i as usize] {
+            Some(member) => {
+                let group = &mut self.groups[member.group as usize];
+                match &mut member.inst {
+                    Inst::Running(active) => {
+                        run_reading(active, sizes, &mut self.sharing, i, group, input, out);
+                    }
+                    Inst::Idling(_) => unreachable!(),
+                }
+            }
+            None => unreachable!(),
+        }
     }
 
     /// Gives the instance a control, activated as for a block. None where its kind doesn't take the control: then nothing has happened.

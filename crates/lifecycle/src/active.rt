@@ -1,9 +1,8 @@
 //! Active instances.
-ghost use Rattle.std.specs.Prelude.{◌≡◌, ◌≤◌, [], length, Some, IsSome, IsTrue};
+ghost use Rattle.std.specs.Prelude.{◌≡◌, ◌≤◌, [], length, Some, IsSome};
 ghost use Rattle.ialg.specs.Views.{control_of, answer_of};
-ghost use Rattle.mem_rec.specs.Records.{is_table};
 ghost use Rattle.scratch_group.specs.Blocks.{SameGroup};
-ghost use Rattle.scratch_group.specs.Readers.{IsOfReader};
+ghost use Rattle.scratch_group.specs.Readers.{IsReader};
 ghost use Rattle.record_loans.specs.Pieces.{only_second, piece_at, IsSamePiece, SamePieces};
 ghost use Rattle.lifecycle.specs.Moves.{CanRestore, with_back, HasRoom, without_piece, ComesBack};
 ghost use Rattle.lifecycle.specs.States.{FitsIn, SameInstance, SameOnce, SaysWhetherAccepted};
@@ -62,8 +61,7 @@ impl<M: Ialg> Active<M> {
         input: &[i16],
         out: &mut Block,
     )
-        requires reader { IsOfReader self.old.instance.table sizes }
-        requires table { IsTrue (is_table self.old.instance.table) }
+        requires reader { IsReader self.old.instance.table sizes }
         requires fits { FitsIn self.old.instance (only_second once.old) group.now }
         requires empty { out.old.items ≡ [] }
         requires some { 1 ≤ length input.now }

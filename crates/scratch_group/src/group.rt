@@ -1,12 +1,11 @@
 //! The scratch memory of a group.
-ghost use Rattle.std.specs.Prelude.{◌≡◌, ◌<◌, ◌+◌, length, Option, Some, None, false, IsTrue};
+ghost use Rattle.std.specs.Prelude.{◌≡◌, ◌<◌, ◌+◌, length, Option, Some, None, false};
 ghost use Rattle.record_loans.specs.Blocks.{block_piece, block_words};
 ghost use Rattle.scratch_group.specs.Blocks.{block_in, block_spot, block_to_place, filled, BlocksArePoison, SameBut, SameGroup};
 ghost use Rattle.host_map.specs.Activity.{count_after};
 ghost use Rattle.record_loans.specs.Pieces.{only_second, piece_place, IsInSpace, IsSamePiece, SamePieces};
 ghost use Rattle.scratch_group.specs.Words.{DoneActive, HasWords};
-ghost use Rattle.scratch_group.specs.Readers.{IsOfReader};
-ghost use Rattle.mem_rec.specs.Records.{is_table};
+ghost use Rattle.scratch_group.specs.Readers.{IsReader};
 
 use crate::plan::{active_plan, filter_sizes, reader_sizes, sharing_sizes};
 use host_map::Stat;
@@ -238,8 +237,7 @@ impl Group {
         out: &mut O,
     )
         requires can { S.can step.now out.old }
-        requires table { IsTrue (is_table table.now) }
-        requires reader { IsOfReader table.now sizes }
+        requires reader { IsReader table.now sizes }
         requires sizes { HasWords table.now own.old (only_second once.old) self.now }
         ensures done { DoneActive (S.done step.now) table.now false own.old (only_second once.old) self.now own.new (only_second once.new) self.now out.old out.new }
         ensures own { SamePieces own.old own.new }

@@ -5,5 +5,5 @@ use Rattle.scratch_group.proofs.group.Group.lend_reading.Goals as goal
 
 pub returns-clause-done : goal.returns-clause-done
 returns-clause-done g c =
-    let lent = reader_lent c.args.table.now c.args.sizes c.requires.table c.requires.reader in
+    let lent = reader_lent c.args.table.now c.args.sizes c.requires.reader.table c.requires.reader.sizes in
     rw (lent c.args.own.now (only_second c.args.once.now) c.args.self.now, lent c.lend_reader.new.own (only_second c.lend_reader.new.once) c.args.self.now, DoneActive) c.lend_reader.ensures.done

@@ -1,0 +1,93 @@
+-- The active member of a group is given samples where it stands.
+use Rattle.std.proofs.Common.{◌≡◌, ℕ, ℤ, List, set, Option, Some, sym, ◌∙◌, refl, ap, subst}
+use Rattle.std.specs.Prelude.{slice_index_or}
+use Rattle.std.proofs.lemmas.Option.{same_Some, none-some}
+use Rattle.ialg.specs.Laws.{Laws}
+use Rattle.scratch_group.specs.declared.group.Group.{Group}
+use Rattle.lifecycle.specs.declared.active.Active.{Active}
+use Rattle.lifecycle.specs.declared.instance.Inst.TheVariants.{Running}
+use Rattle.host_shared.specs.declared.locations.Locations.{Locations}
+use Rattle.host_shared.specs.Locations.{shared_at}
+use Rattle.host_shared.specs.Owners.{with_pieces_of}
+use Rattle.host_table.specs.declared.member.Member.{Member}
+use Rattle.host_table.specs.Table.{slot_at, group_at, activity_at, ArePoisoned, IsActiveAt, TablesOk}
+use Rattle.host_table.specs.Steps.{given, AreConsistent, GivesOut, Steps}
+use Rattle.host_table.specs.View.{View}
+use Rattle.host_table.specs.Turns.{CanBeLent, RanSharing}
+use Rattle.host_table.proofs.Housing.{same_blocks}
+use Rattle.host_table.proofs.Changes.{read_slot, read_ok_group, once_inside, owners_of_slot, known_active, kept_in_slot, fits_in_slot}
+use Rattle.host_table.proofs.Activities.{activity_stays}
+use Rattle.host_table.proofs.Stepping.{Change, tables, ok_in, steps_after_step}
+
+-- where the tables were opened: the instance in the slot, which is active, and its group
+pub record IsThere {M : Type 0} (instances : List (Option (Member M))) (sharing : List Locations) (groups : List Group) (i : ℕ) (m : Member M) (s : Active M) (y : Group) : Type 0 where
+  pub ok : TablesOk instances sharing groups
+  pub active : IsActiveAt instances i
+  pub in_slot : slot_at instances i ≡ Some m
+  pub running : m.inst ≡ Running s
+  pub group : group_at groups m.group ≡ y
+
+pub opened : {M : Type 0} {instances : List (Option (Member M))} {sharing : List Locations} {groups : List Group} {t : View M} {i : ℕ} {r : Option (Member M)} {m : Member M} {s : Active M} {y : Group}
+    → tables instances sharing groups ≡ t → AreConsistent t → IsActiveAt t.instances i
+    → r ≡ slice_index_or instances i r → r ≡ Some m → m.inst ≡ Running s → y ≡ slice_index_or groups m.group y
+    → IsThere instances sharing groups i m s y
+opened {instances} {sharing} {groups} {i} {r} {m} {y} view consistent active read is running group =
+    let ok = ok_in view consistent in
+    let here : IsActiveAt instances i = subst (λ x. IsActiveAt x.instances i) (sym view) active in
+    let in_slot = read_slot instances i _ here r read ∙ is in
+    record {
+      ok = ok;
+      active = here;
+      in_slot = in_slot;
+      running = running;
+      group = read_ok_group instances sharing groups ok m.group (ok.group_range i m in_slot) y group;
+    }
+
+module _ {M : Type 0} {instances : List (Option (Member M))} {sharing : List Locations} {groups : List Group} {i : ℕ} {m : Member M} {s : Active M} {y : Group}
+    (there : IsThere instances sharing groups i m s y) where
+  pub can_be_lent : CanBeLent s.instance sharing i y
+  can_be_lent = record {
+    number = once_inside _ _ _ there.ok i _ there.in_slot;
+    owners = owners_of_slot _ _ _ there.ok _ _ there.in_slot;
+    fits = fits_in_slot _ there.ok there.in_slot there.running refl refl there.group;
+  }
+
+  known : (group_at groups m.group).active ≡ Some i
+  known = known_active _ _ _ there.ok i _ there.in_slot there.active
+
+  alone : (j : ℕ) → (group_at groups m.group).active ≡ Some j → j ≡ i
+  alone j other = same_Some j i (sym other ∙ known)
+
+  now_active : (y' : Group) → y'.active ≡ y.active → y'.active ≡ Some i
+  now_active y' same = same ∙ rw there.group at known
+
+  ran_change : {laws : Laws M} {input out : List ℤ} (s' : Active M) (sharing' : List Locations) (y' : Group) → RanSharing laws i input out s s' sharing sharing' y y'
+      → Change instances sharing groups i m.group m (Running s') (shared_at sharing' i) y'
+  ran_change s' sharing' y' did = record {
+    ok = there.ok;
+    in_slot = there.in_slot;
+    of_group = refl;
+    alone = alone;
+    now = now_active y' did.group.active;
+    same = rw there.running did.same;
+    pieces = did.pieces;
+    written = rw there.running did.written;
+    blocks = λ space. rw there.group (same_blocks _ _ did.group space);
+  }
+
+  pub ran_steps : {laws : Laws M} {input out : List ℤ} (s' : Active M) (sharing' : List Locations) (y' : Group) → RanSharing laws i input out s s' sharing sharing' y y'
+      → (w : Option ℤ) → ArePoisoned w groups
+      → Steps laws w (tables instances sharing groups) (tables (set instances i (Some (record { group = m.group; inst = Running s' }))) (with_pieces_of sharing i (shared_at sharing' i)) (set groups m.group y'))
+      (activity_at groups) (given i input)
+  ran_steps s' sharing' y' did w poisoned =
+      steps_after_step (ran_change s' sharing' y' did) poisoned (λ e. absurd (none-some _ (sym e ∙ now_active y' did.group.active)))
+      (activity_stays (activity_at groups) m.group _ (now_active y' did.group.active ∙ sym known) (rw there.group did.group.activations))
+      _ (λ histories before. did.keeps w (histories i) (rw (there.group, there.running) at before))
+
+  pub ran_gives : {laws : Laws M} {input out : List ℤ} (s' : Active M) (sharing' : List Locations) (y' : Group) → RanSharing laws i input out s s' sharing sharing' y y'
+      → (w : Option ℤ) → GivesOut laws w (tables instances sharing groups) i input out
+  ran_gives {laws} s' sharing' y' did w histories keeps k at lawful =
+      let same : m ≡ k = same_Some _ _ (sym there.in_slot ∙ at) in
+      let inst : k.inst ≡ Running s = ap (λ q. q.inst) (sym same) ∙ there.running in
+      let kept = kept_in_slot _ _ _ _ there.in_slot there.running refl there.group laws w histories keeps in
+      rw inst (did.output w (histories i) (rw inst at lawful) kept)
