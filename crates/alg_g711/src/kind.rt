@@ -17,7 +17,7 @@ ghost use Rattle.alg_g711.specs.Meaning.{coded, coder_named, g711_meaning, kind_
 
 use crate::blocks::{decode_words, encode_words, sample_of, write_samples};
 use crate::coder::{Coder, Direction};
-use crate::companding::Law;
+use crate::companding::{Law, encode};
 use crate::{A_DECODER_KIND, CODER_RECORDS, CODES, MU_DECODER_KIND};
 use ialg::{BLOCK_SAMPLES, Block, Ctl, Ialg, Lent, Params, Record, Status, Words, copied};
 use mem_rec::{MemTab, Space};
@@ -196,16 +196,23 @@ fn encode_by(object: &[i16], input: &[i16], out: &mut Block)
     }
 }
 
-/// Gives out the codes of the samples.
+/// Gives out the codes of the samples. One sample needs no loop.
 fn encode_block(law: Law, input: &[i16], out: &mut Block)
     requires within { length input.now ≤ BLOCK_SAMPLES }
     requires empty { out.old.items ≡ [] }
     ensures given { out.new.items ≡ map (coded law Encode) input.now }
     ensures read { All (FitsSigned w16) input.now }
 {
-    out.set_len(input.len());
-    let (codes, _room) = out.room_mut().split_at_mut(input.len());
-    encode_words(law, input, codes);
+    match input {
+        [sample] => {
+            out.push(i16::from(encode(law, *sample)));
+        }
+        _ => {
+            out.set_len(input.len());
+            let (codes, _room) = out.room_mut().split_at_mut(input.len());
+            encode_words(law, input, codes);
+        }
+    }
 }
 
 /// Gives out the samples of the codes, by the samples that `mem` has.

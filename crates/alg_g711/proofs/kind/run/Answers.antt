@@ -1,8 +1,7 @@
-use Rattle.std.proofs.Common.{◌≡◌, ◌∙◌, sym, ap, refl}
+use Rattle.std.proofs.Common.{◌≡◌, ◌∙◌, sym, refl}
 use Rattle.std.proofs.lemmas.Bool.{false≢true}
 use Rattle.alg_g711.specs.declared.coder.Direction.{Direction}
 use Rattle.alg_g711.specs.declared.coder.Direction.TheVariants.{Encode, Decode}
-use Rattle.alg_g711.proofs.Coders.{same_coder}
 use Rattle.alg_g711.proofs.Keeping.{decodes}
 use Rattle.alg_g711.proofs.kind.run.Goals as goal
 
