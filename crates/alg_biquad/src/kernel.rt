@@ -92,20 +92,6 @@ fn plain_output(c: &[i16], state: &State, x: i16) -> Option<i16>
     Some(rounded_less(third, newer, older))
 }
 
-/// The output at the sample `x`, without limits where no coefficient is the least word and no step saturates.
-#[inline]
-fn output(c: &[i16], state: State, x: i16) -> i16
-    requires { length c.now ≡ COEFFICIENTS }
-    ensures { result ≡ biquad_value (word_at c.now) x state.x1 state.x2 state.y1 state.y2 }
-{
-    if are_above_least(c) {
-        if let Some(y) = plain_output(c, &state, x) {
-            return y;
-        }
-    }
-    limited_output(c, state, x)
-}
-
 /// Runs samples as long as no step saturates, and none where a coefficient is the least word: there are as many outputs. Gives the state after
 /// them.
 fn run_plain(coefficients: &[i16], state: State, input: &[i16], out: &mut Block) -> State
@@ -142,7 +128,8 @@ fn run_plain(coefficients: &[i16], state: State, input: &[i16], out: &mut Block)
     State { x1, x2, y1, y2 }
 }
 
-/// Runs one sample; `state` has the two newest samples and outputs before and after. A sample alone needs no loop.
+/// Runs one sample, with a limit at each step; `state` has the two newest samples and outputs before and after. For a sample alone the test of
+/// the coefficients and the loops cost more than limits.
 fn run_one(coefficients: &[i16], state: &mut [i16], x: i16, out: &mut Block)
     requires five { length coefficients.now ≡ COEFFICIENTS }
     requires four { length state.old ≡ STATE_WORDS }
@@ -152,7 +139,7 @@ fn run_one(coefficients: &[i16], state: &mut [i16], x: i16, out: &mut Block)
         → Ran p h (x ∷ []) state.new out.new.items }
 {
     let before = State::read(state);
-    let y = output(coefficients, before, x);
+    let y = limited_output(coefficients, before, x);
     let mut after = before;
     after.shift(x, y);
     out.push(y);
