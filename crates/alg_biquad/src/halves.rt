@@ -92,3 +92,26 @@ pub(crate) fn rounded_less(half: i32, newer: i32, older: i32) -> i16
 {
     nearest_less(half + HALF_STEP - older, newer)
 }
+
+/// The number, limited to a word. Few are beyond words.
+#[cold]
+#[inline(never)]
+fn limited_word(wide: i32) -> i16
+    ensures { result ≡ saturate_to_bits 15 wide }
+{
+    let least = i32::from(i16::MIN);
+    let most = i32::from(i16::MAX);
+    wide.clamp(least, most) as i16
+}
+
+/// Twice the sum, rounded to Q15, with one limit in place of those of `l_shl` and of `round`.
+#[inline]
+pub(crate) fn rounded_twice(sum: i32) -> i16
+    ensures { result ≡ round_of (l_shl_of sum (pos 1)) }
+{
+    let wide = ((sum >> HALF_BITS) + 1) >> 1;
+    match i16::try_from(wide) {
+        Ok(word) => word,
+        Err(_) => limited_word(wide),
+    }
+}

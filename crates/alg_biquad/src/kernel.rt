@@ -6,9 +6,11 @@ ghost use Rattle.alg_biquad.specs.Equation.{biquad_value};
 ghost use Rattle.alg_biquad.specs.Halves.{AreAboveLeast};
 ghost use Rattle.alg_biquad.specs.Keeps.{state_after, Gives, IsNewest, Ran};
 
-use crate::halves::{are_above_least, half_product, plus_product, rounded_less, within};
+use crate::halves::{
+    are_above_least, half_product, plus_product, rounded_less, rounded_twice, within,
+};
 use crate::{COEFFICIENTS, STATE_WORDS};
-use basic_op::{l_mac, l_msu, l_mult, l_shl, round};
+use basic_op::{l_mac, l_msu, l_mult};
 use ialg::{BLOCK_SAMPLES, Block};
 
 /// The two newest samples and the two newest outputs, in Q15.
@@ -73,7 +75,7 @@ fn limited_output(c: &[i16], state: State, x: i16) -> i16
 {
     let forward = l_mac(l_mac(l_mult(c[0], x), c[1], state.x1), c[2], state.x2);
     let sum = l_msu(l_msu(forward, c[3], state.y1), c[4], state.y2);
-    round(l_shl(sum, 1))
+    rounded_twice(sum)
 }
 
 /// The output where no step but the last saturates, and None where one does. Sums are halves of G.191's, which are doubled.

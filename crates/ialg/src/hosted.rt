@@ -55,8 +55,6 @@ impl<K: Filter> Ialg for K {
         mem.put(k, words);
     }
 
-    // Inlined with `run_with`, down to the filter's own words: between them no loan has to stand in memory.
-    #[inline(always)]
     fn process(&self, mem: &mut Lent<'_>, input: &[i16], out: &mut Block)
         requires empty { out.old.items ≡ [] }
         requires some { 1 ≤ length input.now }
@@ -178,7 +176,6 @@ fn save_from<K: Filter>(mem: &Lent<'_>, kept: &mut [i16])
 }
 
 /// Runs the filter with the kept words that `mem` has.
-#[inline(always)]
 fn run_with<K: Filter>(mem: &Lent<'_>, running: &mut [i16], input: &[i16], out: &mut Block)
     requires empty { out.old.items ≡ [] }
     requires within { length input.now ≤ BLOCK_SAMPLES }
