@@ -104,9 +104,9 @@ fn limited_word(wide: i32) -> i16
     wide.clamp(least, most) as i16
 }
 
-/// Twice the sum, rounded to Q15, with one limit in place of those of `l_shl` and of `round`.
+/// The sum doubled and then rounded to Q15, with one limit in place of those of `l_shl` and of `round`.
 #[inline]
-pub(crate) fn rounded_twice(sum: i32) -> i16
+pub(crate) fn doubled_and_rounded(sum: i32) -> i16
     ensures { result ≡ round_of (l_shl_of sum (pos 1)) }
 {
     let wide = ((sum >> HALF_BITS) + 1) >> 1;

@@ -7,7 +7,7 @@ ghost use Rattle.alg_biquad.specs.Halves.{AreAboveLeast};
 ghost use Rattle.alg_biquad.specs.Keeps.{state_after, Gives, IsNewest, Ran};
 
 use crate::halves::{
-    are_above_least, half_product, plus_product, rounded_less, rounded_twice, within,
+    are_above_least, doubled_and_rounded, half_product, plus_product, rounded_less, within,
 };
 use crate::{COEFFICIENTS, STATE_WORDS};
 use basic_op::{l_mac, l_msu, l_mult};
@@ -66,7 +66,7 @@ impl State {
     }
 }
 
-/// The output at the sample `x`, in Q15, each step saturated in its order. Coefficients are in Q14, so that the sum is in Q30, and in Q31
+/// The output at the sample `x`, in Q15, each step saturated in its order, the last two at once. Coefficients are in Q14, so that the sum is in Q30, and in Q31
 /// when it is doubled.
 #[inline]
 fn limited_output(c: &[i16], state: State, x: i16) -> i16
@@ -75,7 +75,7 @@ fn limited_output(c: &[i16], state: State, x: i16) -> i16
 {
     let forward = l_mac(l_mac(l_mult(c[0], x), c[1], state.x1), c[2], state.x2);
     let sum = l_msu(l_msu(forward, c[3], state.y1), c[4], state.y2);
-    rounded_twice(sum)
+    doubled_and_rounded(sum)
 }
 
 /// The output where no step but the last saturates, and None where one does. Sums are halves of G.191's, which are doubled.
