@@ -15,6 +15,7 @@ const HALF_BITS: u32 = 14;
 const HALF_STEP: i32 = 1 << 13;
 
 /// Whether no coefficient is the least word: then no product saturates.
+#[inline]
 pub(crate) fn are_above_least(coefficients: &[i16]) -> bool
     ensures { result ≡ true → AreAboveLeast coefficients.now }
 {

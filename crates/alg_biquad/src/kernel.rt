@@ -94,6 +94,34 @@ fn plain_output(c: &[i16], state: &State, x: i16) -> Option<i16>
     Some(rounded_less(third, newer, older))
 }
 
+/// [`limited_output`] of the state that these words have, as a call.
+#[cold]
+#[inline(never)]
+fn limited_alone(c: &[i16], words: &[i16], x: i16) -> i16
+    requires five { length c.now ≡ COEFFICIENTS }
+    requires four { length words.now ≡ STATE_WORDS }
+    ensures { result ≡ biquad_value (word_at c.now) x (word_at words.now 0) (word_at words.now 1) (word_at words.now 2) (word_at words.now 3) }
+{
+    limited_output(c, State::read(words), x)
+}
+
+/// The output at the sample `x`, in Q15, of the state that these words have, where that sample comes alone: few outputs are limited, so the
+/// limits are out of the way.
+#[inline]
+fn output_alone(c: &[i16], words: &[i16], x: i16) -> i16
+    requires five { length c.now ≡ COEFFICIENTS }
+    requires four { length words.now ≡ STATE_WORDS }
+    ensures { result ≡ biquad_value (word_at c.now) x (word_at words.now 0) (word_at words.now 1) (word_at words.now 2) (word_at words.now 3) }
+{
+    if !are_above_least(c) {
+        return limited_alone(c, words, x);
+    }
+    match plain_output(c, &State::read(words), x) {
+        Some(y) => y,
+        None => limited_alone(c, words, x),
+    }
+}
+
 /// Runs samples as long as no step saturates, and none where a coefficient is the least word: there are as many outputs. Gives the state after
 /// them.
 fn run_plain(coefficients: &[i16], state: State, input: &[i16], out: &mut Block) -> State
@@ -130,8 +158,8 @@ fn run_plain(coefficients: &[i16], state: State, input: &[i16], out: &mut Block)
     State { x1, x2, y1, y2 }
 }
 
-/// Runs one sample, with a limit at each step; `state` has the two newest samples and outputs before and after. For a sample alone the test of
-/// the coefficients and the loops cost more than limits.
+/// Runs one sample; `state` has the two newest samples and outputs before and after. For a sample alone the loops of a block cost more than its
+/// sums.
 fn run_one(coefficients: &[i16], state: &mut [i16], x: i16, out: &mut Block)
     requires five { length coefficients.now ≡ COEFFICIENTS }
     requires four { length state.old ≡ STATE_WORDS }
@@ -140,9 +168,8 @@ fn run_one(coefficients: &[i16], state: &mut [i16], x: i16, out: &mut Block)
     ensures law { (p : List ℤ) (h : History) → coefficients.now ≡ words_in_force p h → state.old ≡ state_after p h
         → Ran p h (x ∷ []) state.new out.new.items }
 {
-    let before = State::read(state);
-    let y = limited_output(coefficients, before, x);
-    let mut after = before;
+    let y = output_alone(coefficients, state, x);
+    let mut after = State::read(state);
     after.shift(x, y);
     out.push(y);
     after.write(state);

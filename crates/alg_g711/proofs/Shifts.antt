@@ -9,16 +9,11 @@ use Rattle.alg_g711.specs.declared.TheConstants.{INTERVALS}
 use Rattle.alg_g711.specs.declared.companding.Law.{Law}
 use Rattle.alg_g711.specs.declared.companding.Law.TheVariants.{A, Mu}
 use Rattle.alg_g711.specs.Companding.{interval_of}
-use Rattle.alg_g711.specs.Least.{IsLeast}
+use Rattle.alg_g711.specs.Least.{HasBitsPast, IsLeast}
 use Rattle.alg_g711.proofs.Dividing.{holds_step, interval_is}
 
 power_le : (i j : ℕ) → i ≤ j → 2 ^ i ≤ 2 ^ j
 power_le i j h = pow_mono h
-
--- n has five bits above the lower s
-pub record HasBitsPast (n s : ℕ) : Type 0 where
-  pub low : 2 ^ (s + 4) ≤ n
-  pub high : n < 2 ^ (s + 5)
 
 -- a number of 32 bits, counted from its leading zeros
 pub record IsCounted (n zeros : ℕ) : Type 0 where
@@ -38,6 +33,18 @@ counted n some b =
     let a : 27 - zeros + 4 ≡ j = omega arith in
     let b : 27 - zeros + 5 ≡ suc j = omega arith in
     record { enough = omega arith; bits = record { low = rw a top.2; high = rw b top.3 } }
+
+-- the bits below the five leading ones, counted from the leading one
+pub below_leading : (n log : ℕ) → 16 ≤ n → 2 ^ log ≤ n → n < 2 * 2 ^ log → (4 ≤ log) × HasBitsPast n (log - 4)
+below_leading n log some low high =
+    let four : 4 ≤ log = elim (cases_lt log 4) [
+      | inl less ↦ let few : 2 ^ log ≤ 2 ^ 3 = power_le log 3 (omega arith) in absurd (omega (arith, few, high))
+      | inr more ↦ more
+    ] in
+    let a : log - 4 + 4 ≡ log = omega arith in
+    let b : log - 4 + 5 ≡ log + 1 = omega arith in
+    let next : 2 ^ (log + 1) ≡ 2 ^ log * 2 = pow-add 2 log 1 in
+    (four, record { low = rw a low; high = rw b (omega (arith, next, high)) })
 
 -- the quotient by a width, where n has five bits above it
 record IsQuotient (n w : ℕ) : Type 0 where
@@ -94,6 +101,11 @@ mu_number y (suc e) some few bits =
     let same : number ≡ e * 16 + m = omega arith in
     record { few = omega arith; enough = omega arith; within = within; here = sym (interval_is Mu y number within (holds_step Mu y e m number within (omega arith) same (rw z q.low) (rw z q.high))) }
 
+-- steps leave out at least the one bit that the finest leave out
+pub past_bias : (y s : ℕ) → 32 ≤ y → HasBitsPast y s → 1 ≤ s
+past_bias y zero some bits = absurd (omega (arith, bits.high))
+past_bias y (suc e) some bits = omega arith
+
 -- of A-law, whose first two segments have steps of one width
 a_first : (n : ℕ) → n < 256 → IsNumber A n 4 64
 a_first n few =
@@ -121,13 +133,17 @@ a_next n i few bits =
     let same : number ≡ suc i * 16 + m = omega arith in
     record { few = omega arith; enough = omega arith; within = within; here = sym (interval_is A n number within (holds_step A n (suc i) m number within (omega arith) same (rw width q.low) (rw width q.high))) }
 
+-- steps leave out at least the bits that the finest leave out
+pub past_finest : (n s : ℕ) → HasBitsPast (max n 256) s → 4 ≤ s
+past_finest n s bits = elim (cases_lt s 4) [
+  | inl less ↦ let small : 2 ^ (s + 5) ≤ 2 ^ 8 = power_le (s + 5) 8 (omega arith) in absurd (omega (arith, small, bits.high))
+  | inr more ↦ more
+]
+
 pub a_number : (n s : ℕ) → n < 32768 → HasBitsPast (max n 256) s → IsNumber A n s 64
 a_number n s few bits =
     let i = s - 4 in
-    let four : 4 ≤ s = elim (cases_lt s 4) [
-      | inl less ↦ let small : 2 ^ (s + 5) ≤ 2 ^ 8 = power_le (s + 5) 8 (omega arith) in absurd (omega (arith, small, bits.high))
-      | inr more ↦ more
-    ] in
+    let four = past_finest n s bits in
     let z : i + 4 ≡ s = omega arith in
     elim (cases_lt n 256) [
       | inl less ↦
@@ -237,10 +253,7 @@ a_by : (n s least : ℕ) → n < 32768 → HasBitsPast (max n 256) s → IsLeast
 a_by n s least few bits is =
     let number = a_number n s few bits in
     let q = five_bits (max n 256) s bits in
-    let four : 4 ≤ s = elim (cases_lt s 4) [
-      | inl less ↦ let small : 2 ^ (s + 5) ≤ 2 ^ 8 = power_le (s + 5) 8 (omega arith) in absurd (omega (arith, small, bits.high))
-      | inr more ↦ more
-    ] in
+    let four = past_finest n s bits in
     let segment : s - 4 < 8 = elim (cases_lt s 11) [
       | inl less ↦ omega arith
       | inr more ↦ let many : 2 ^ 15 ≤ 2 ^ (s + 4) = power_le 15 (s + 4) (omega arith) in absurd (omega (arith, many, bits.low))

@@ -2,7 +2,7 @@
 ghost use Rattle.std.specs.Prelude.{◌≡◌, ◌≤◌, ◌<◌, ◌+◌, ◌*◌, ◌/◌, ◌^◌};
 ghost use Rattle.alg_g711.specs.Companding.{decoded, encoded, interval_of, lower_end, magnitude_of, middle_of, sample_of, turned};
 ghost use Rattle.alg_g711.specs.Steps.{step_width};
-ghost use Rattle.alg_g711.specs.Least.{IsLeast};
+ghost use Rattle.alg_g711.specs.Least.{HasBitsPast, IsLeast};
 ghost use Rattle.alg_g711.specs.declared.companding.Law.TheVariants.{A, Mu};
 
 use crate::{
@@ -14,6 +14,9 @@ const FINEST_A_BITS: u16 = 4;
 
 /// How many bits mu-law's finest steps leave out of a magnitude.
 const FINEST_MU_BITS: u16 = 1;
+
+/// The bits of the number of a step in its segment.
+const STEP_BITS: u32 = 4;
 
 /// The two laws of G.711, 3.2.
 #[derive(Clone, Copy, PartialEq, Eq, Debug)]
@@ -30,8 +33,26 @@ pub enum Law {
 pub fn encode(law: Law, x: i16) -> u8
     ensures { result ≡ encoded law x }
 {
+    code(law, x, interval(law, magnitude(law, x)))
+}
+
+/// The code of a sample, as [`encode`] makes it, for one that comes alone: its segment is looked for.
+#[inline]
+pub(crate) fn encode_alone(law: Law, x: i16) -> u8
+    ensures { result ≡ encoded law x }
+{
+    code(law, x, interval_alone(law, magnitude(law, x)))
+}
+
+/// The code of a sample whose magnitude the interval of this number holds.
+#[inline]
+fn code(law: Law, x: i16, number: u16) -> u8
+    requires number { number ≡ interval_of law (magnitude_of law x) }
+    requires within { number < INTERVALS }
+    ensures { result ≡ encoded law x }
+{
     let sign = if x < 0 { 0 } else { SIGN_BIT };
-    let bits = turn(law, interval(law, magnitude(law, x)));
+    let bits = turn(law, number);
     (sign + bits) as u8
 }
 
@@ -111,6 +132,53 @@ fn least_number(magnitude: u16, finest: u16) -> u16
         least = least.min(STEPS * segment + (magnitude >> (finest + segment)));
     }
     least
+}
+
+/// The number of the interval that holds the magnitude, as [`interval`] finds it, by the place of the magnitude's leading bit.
+#[inline]
+fn interval_alone(law: Law, magnitude: u16) -> u16
+    requires above { lower_end law 0 ≤ magnitude }
+    requires below { magnitude < lower_end law INTERVALS }
+    ensures number { result ≡ interval_of law magnitude }
+    ensures within { result < INTERVALS }
+{
+    match law {
+        Law::A => a_interval_alone(magnitude),
+        Law::Mu => mu_interval_alone(magnitude),
+    }
+}
+
+/// The number of the interval of A-law that holds the magnitude. The first segment is as fine as the second.
+#[inline]
+fn a_interval_alone(magnitude: u16) -> u16
+    requires { magnitude < 32768 }
+    ensures number { result ≡ interval_of A magnitude }
+    ensures within { result < INTERVALS }
+{
+    let past_first = magnitude.max(STEPS * FINEST_A_STEP);
+    let bits = bits_left_out(past_first);
+    STEPS * (bits - FINEST_A_BITS) + (magnitude >> bits)
+}
+
+/// The number of the interval of mu-law that holds the magnitude. The first steps lie below the bias, and no interval has them.
+#[inline]
+fn mu_interval_alone(magnitude: u16) -> u16
+    requires some { 32 ≤ magnitude }
+    requires few { magnitude < 8192 }
+    ensures number { result ≡ interval_of Mu magnitude }
+    ensures within { result < INTERVALS }
+{
+    let bits = bits_left_out(magnitude);
+    STEPS * (bits - FINEST_MU_BITS) + (magnitude >> bits) - STEPS
+}
+
+/// How many bits the steps of a magnitude's segment leave out: those below its five leading ones.
+#[inline]
+fn bits_left_out(magnitude: u16) -> u16
+    requires { STEPS ≤ magnitude }
+    ensures { HasBitsPast magnitude result }
+{
+    (magnitude.ilog2() - STEP_BITS) as u16
 }
 
 /// The bits of a number as a code has them, and the other way round.

@@ -17,7 +17,7 @@ ghost use Rattle.alg_g711.specs.Meaning.{coded, coder_named, g711_meaning, kind_
 
 use crate::blocks::{decode_words, encode_words, sample_of, write_samples};
 use crate::coder::{Coder, Direction};
-use crate::companding::{Law, encode};
+use crate::companding::{Law, encode_alone};
 use crate::{A_DECODER_KIND, CODER_RECORDS, CODES, MU_DECODER_KIND};
 use ialg::{BLOCK_SAMPLES, Block, Ctl, Ialg, Lent, Params, Record, Status, Words, copied};
 use mem_rec::{MemTab, Space};
@@ -205,7 +205,7 @@ fn encode_block(law: Law, input: &[i16], out: &mut Block)
 {
     match input {
         [sample] => {
-            out.push(i16::from(encode(law, *sample)));
+            out.push(i16::from(encode_alone(law, *sample)));
         }
         _ => {
             out.set_len(input.len());
