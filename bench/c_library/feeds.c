@@ -6,7 +6,8 @@
  * With best.c and -O3 -march=x86-64-v2 in place of baseline.c and -O2 it is the strongest C. A row has a channel, the samples of a feed,
  * nanoseconds a feed through the library and in C, the least of as many rounds, by turns, and how many times the C the library takes.
  * Kinds that the C has not are timed alone. Before that, both give the same samples over blocks of each length, or the command says so
- * and ends with 1. With two words, as in `out/c/feeds biquad 160`, the library alone feeds a million samples: for callgrind. */
+ * and ends with 1. With two words, as in `out/c/feeds biquad 160`, the library alone feeds a million samples, and with `in C` behind them
+ * the C alone: for callgrind. */
 #define _POSIX_C_SOURCE 200809L
 #include <host.h>
 #include <rokdaum.h>
@@ -15,7 +16,7 @@
 #include <string.h>
 #include <time.h>
 
-enum { TAPS = 16, MOST = 1024, ROUNDS = 15, MEMBERS = 3, PARAMETERS = 16 };
+enum { TAPS = 16, MOST = 1024, ROUNDS = 150, MEMBERS = 3, PARAMETERS = 16 };
 
 struct member {
     uint8_t kind; /* of the library; those up to ROKDAUM_G711 are in the C too */
@@ -175,17 +176,22 @@ static void time_feeds(const struct channel *channel, int n)
 int main(int count, char **words)
 {
     static const int lengths[] = {1, 8, 80, 160, 1024}, sizes[SPACES] = {65536, 65536, 65536};
+    int alone = count > 2, n = alone ? atoi(words[2]) : 0, in_c = count > 3;
     for (size_t i = 0; i < MOST; i++)
         in[i] = (int16_t)(i * 37 & 255);
     open_host(sizes, NO_POISON, CHANNELS);
     for (size_t c = 0; c < sizeof channels / sizeof *channels; c++) {
-        if (count == 3 && strcmp(words[1], channels[c].name))
+        if (alone && strcmp(words[1], channels[c].name))
             continue;
         open_channel(&channels[c]);
-        if (count == 3)
-            for (int n = atoi(words[2]), fed = 0; n > 0 && fed < 1000000; fed += n)
+        /* A loop each, so that each feed is inlined into its own. */
+        if (n > 0 && in_c)
+            for (int fed = 0; fed < 1000000; fed += n)
+                feed_c(n);
+        else if (n > 0)
+            for (int fed = 0; fed < 1000000; fed += n)
                 feed_library(n);
-        for (size_t k = 0; count != 3 && k < sizeof lengths / sizeof *lengths; k++) {
+        for (size_t k = 0; !alone && k < sizeof lengths / sizeof *lengths; k++) {
             if (is_in_c(&channels[c]))
                 compare(lengths[k]);
             time_feeds(&channels[c], lengths[k]);
