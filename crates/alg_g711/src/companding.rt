@@ -169,7 +169,8 @@ fn mu_interval_alone(magnitude: u16) -> u16
     ensures within { result < INTERVALS }
 {
     let bits = bits_left_out(magnitude);
-    STEPS * (bits - FINEST_MU_BITS) + (magnitude >> bits) - STEPS
+    let number = STEPS * (bits - FINEST_MU_BITS) + (magnitude >> bits);
+    number - STEPS
 }
 
 /// How many bits the steps of a magnitude's segment leave out: those below its five leading ones.

@@ -9,17 +9,17 @@ number c = mu_number c.args.magnitude c.bits_left_out-bits.result c.requires.som
 finest : (c : goal.After-bits_left_out-bits) → 1 ≤ c.bits_left_out-bits.result
 finest c = past_bias c.args.magnitude c.bits_left_out-bits.result c.requires.some c.bits_left_out-bits.ensures
 
-pub overflow_mul-result : goal.overflow_mul-result
-overflow_mul-result c = let n = number c in omega (arith, n.few)
+pub overflow_mul-number : goal.overflow_mul-number
+overflow_mul-number c = let n = number c in omega (arith, n.few)
 
-pub overflow_shr-result : goal.overflow_shr-result
-overflow_shr-result c = let n = number c in omega (arith, n.few)
+pub overflow_shr-number : goal.overflow_shr-number
+overflow_shr-number c = let n = number c in omega (arith, n.few)
 
-pub overflow_add-result : goal.overflow_add-result
-overflow_add-result c = let n = number c in omega (arith, n.few, n.within)
+pub overflow_add-number : goal.overflow_add-number
+overflow_add-number c = let n = number c in omega (arith, n.few, n.within)
 
-pub overflow_sub-result-2 : goal.overflow_sub-result-2
-overflow_sub-result-2 c = let n = number c in omega (arith, n.enough, n.few)
+pub overflow_sub-result : goal.overflow_sub-result
+overflow_sub-result c = let n = number c in omega (arith, n.enough, n.few)
 
 pub returns-clause-number : goal.returns-clause-number
 returns-clause-number c = let n = number c in let f = finest c in omega (arith, n.here, n.enough, f)
