@@ -37,17 +37,22 @@ class Row:
 def rows_of(log: str) -> dict[str, Row]:
     """The crates of a log of `rt ci`, in the order in which they were proved."""
     rows: dict[str, Row] = {}
-    section = ""
+    section, ran = "", 0
     for line in log.splitlines():
         head = re.fullmatch(r"== (\w+)(: its tests)?", line)
         if head:
             section = head[1]
             rows.setdefault(section, Row())
-        verdict = re.match(r"logic=proved (?:tests=(\d+) )?functions=(\d+)", line)
-        if verdict and verdict[1]:
-            rows[section].tests = int(verdict[1])
-        elif verdict:
-            rows[section].functions = int(verdict[2])
+        verdict = re.match(r"logic=proved functions=(\d+)", line)
+        if verdict:
+            rows[section].functions = int(verdict[1])
+        # Tests are run each time, also those of a crate whose proof is kept.
+        result = re.match(r"test result: ok\. (\d+) passed", line)
+        if result:
+            ran = int(result[1])
+        tests = re.match(r"rt: (\w+): its tests passed", line)
+        if tests:
+            rows.setdefault(tests[1], Row()).tests = ran
         kept = re.match(r"rt: (\w+) is kept: an earlier run on this machine proved the same files", line)
         if kept:
             rows.setdefault(kept[1], Row()).kept = True

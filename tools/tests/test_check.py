@@ -36,6 +36,18 @@ rt: low: its tests are proved
 rt: low: trying its must-fail edits (2)
 must-fail low/a_sum_is_dropped.edit: refused, as it must be: src/lib.rt:3:4: error
 rt: must-fail low/another.edit: refused, as it must be
+tests: 7
+test sums::one ... ok
+test result: ok. 7 passed; 0 failed; 0 ignored; 0 filtered out
+rt: low: its tests passed
+1 passed, 0 failed
+"""
+
+# The same crate once more on that machine: what was proved is kept, and the tests are run.
+KEPT_LOG = """rt: low is kept: an earlier run on this machine proved the same files over the same libraries
+tests: 7
+test result: ok. 7 passed; 0 failed; 0 ignored; 0 filtered out
+rt: low: its tests passed
 1 passed, 0 failed
 """
 
@@ -79,6 +91,10 @@ class Status(unittest.TestCase):
     def test_a_log_is_read_crate_by_crate(self) -> None:
         row = status.rows_of(LOG)["low"]
         self.assertEqual((row.functions, row.tests, row.refused), (31, 7, ["a_sum_is_dropped", "another"]))
+
+    def test_tests_of_a_kept_crate_count(self) -> None:
+        row = status.rows_of(KEPT_LOG)["low"]
+        self.assertEqual((row.kept, row.tests), (True, 7))
 
     def test_the_page_has_the_sums(self) -> None:
         summary = {"commit": "abc", "changed": False, "ended": "today", "kit": "k", "processors": 4, "parts": {"proofs": {"passed": 3, "failed": 0, "minutes": 2.5}}}
