@@ -20,6 +20,7 @@ int32_t rokdaum_proved_delete(rokdaum_handle *handle, uint8_t i);
 int32_t rokdaum_proved_chain(rokdaum_handle *handle, uint8_t channel, const uint8_t *members, size_t members_len);
 int32_t rokdaum_proved_unchain(rokdaum_handle *handle, uint8_t channel);
 int32_t rokdaum_proved_ready(rokdaum_handle *handle, uint8_t channel);
+int32_t rokdaum_proved_feed_sample(rokdaum_handle *handle, uint8_t channel, int16_t sample, int16_t *out, uint32_t *count);
 int32_t rokdaum_proved_feed(rokdaum_handle *handle, uint8_t channel, const int16_t *input, size_t input_len, int16_t *out, size_t out_len, uint32_t *count);
 int32_t rokdaum_proved_set(rokdaum_handle *handle, uint8_t i, const int16_t *words, size_t words_len);
 int32_t rokdaum_proved_reset(rokdaum_handle *handle, uint8_t i);

@@ -240,12 +240,16 @@ rokdaum_code rokdaum_g711_decode(rokdaum_law law, const uint8_t *codes, int16_t 
  * leaves them out. The rest is proved. A library for callers that see no header has rokdaum_feed too. */
 struct rokdaum_handle;
 int32_t rokdaum_proved_feed(struct rokdaum_handle *handle, uint8_t channel, const int16_t *input, size_t input_len, int16_t *out, size_t out_len, uint32_t *count);
+int32_t rokdaum_proved_feed_sample(struct rokdaum_handle *handle, uint8_t channel, int16_t sample, int16_t *out, uint32_t *count);
 
 inline rokdaum_code rokdaum_feed(rokdaum *host, uint8_t channel, const int16_t *samples, size_t count, int16_t *out, size_t room, uint32_t *given)
 {
     if (!host || (!samples && count) || (!out && room) || !given)
         return ROKDAUM_NULL;
-    return (rokdaum_code)rokdaum_proved_feed((struct rokdaum_handle *)(void *)&host->machine, channel, samples, count, out, room, given);
+    struct rokdaum_handle *handle = (struct rokdaum_handle *)(void *)&host->machine;
+    if (count == 1 && room) /* one sample is passed by value */
+        return (rokdaum_code)rokdaum_proved_feed_sample(handle, channel, *samples, out, given);
+    return (rokdaum_code)rokdaum_proved_feed(handle, channel, samples, count, out, room, given);
 }
 
 #ifdef __cplusplus

@@ -1,13 +1,14 @@
 /* SPDX-License-Identifier: Apache-2.0
- * How long a feed takes through the library, beside the same host in C (bench/c), whose `pass` activates and runs the same instances.
+ * How long a feed takes through the library, beside the same host in C (bench/c): by its `pass`, which finds the channel, activates and runs
+ * the same instances; and by its `process` alone (alone.c), which is told the instance, and writes where its caller wants it.
  *
- *     make -C c && clang -O2 -I c -I bench/c bench/c_library/feeds.c bench/c/host.c bench/c/baseline.c out/c/librokdaum.a -o out/c/feeds && out/c/feeds
+ *     make -C c && clang -O2 -I c -I bench/c bench/c_library/feeds.c bench/c_library/alone.c bench/c/host.c bench/c/baseline.c out/c/librokdaum.a -o out/c/feeds && out/c/feeds
  *
  * With best.c and -O3 -march=x86-64-v2 in place of baseline.c and -O2 it is the strongest C. A row has a channel, the samples of a feed,
- * nanoseconds a feed through the library and in C, the least of as many rounds, by turns, and how many times the C the library takes.
- * Kinds that the C has not are timed alone. Before that, both give the same samples over blocks of each length, or the command says so
- * and ends with 1. With two words, as in `out/c/feeds biquad 160`, the library alone feeds a million samples, and with `in C` behind them
- * the C alone: for callgrind. */
+ * nanoseconds a feed through the library, in C and by the C's `process` alone, the least of as many rounds, by turns, and how many times each
+ * of the two the library takes. Kinds that the C has not are timed alone. Before that, all give the same samples over blocks of each
+ * length, or the command says so and ends with 1. With two words, as in `out/c/feeds biquad 160`, the library alone feeds a million
+ * samples, with `in C` behind them the C, and with `in C alone` its `process`: for callgrind. */
 #define _POSIX_C_SOURCE 200809L
 #include <host.h>
 #include <rokdaum.h>
@@ -66,7 +67,13 @@ static void must(int code, const char *what)
     }
 }
 
-static int by_turns;
+/* Of alone.c. */
+void alone_open_host(const int spaces[SPACES], int poison, int channel_count);
+enum answer alone_create(int instance, enum kind kind, int group, const int *parameters, int count);
+enum answer alone_delete(int instance);
+int alone_feeds(long feeds, int by_turns, int members, const word16 *in, int n, word16 *out);
+
+static int by_turns, members;
 
 /* The channel that is fed now: the only one, or the next of two. */
 static uint8_t turn(void)
@@ -107,6 +114,7 @@ static void open_channel(const struct channel *channel)
     int numbers[MEMBERS] = {0, 1, 2};
     int lists = channel->by_turns ? 2 : 1, length = channel->by_turns ? 1 : channel->count;
     by_turns = channel->by_turns;
+    members = length;
     must((int)rokdaum_open(&library, &options), "rokdaum_open");
     for (int i = 0; i < channel->count; i++) {
         const struct member *it = &channel->members[i];
@@ -114,8 +122,10 @@ static void open_channel(const struct channel *channel)
         for (int k = 0; k < it->count; k++)
             parameters[k] = it->parameters[k];
         must((int)rokdaum_create(&library, (uint8_t)i, it->kind, it->group, it->parameters, (size_t)it->count, 0), "rokdaum_create");
-        if (is_in_c(channel))
+        if (is_in_c(channel)) {
             must((int)create(i, (enum kind)it->kind, it->group, parameters, it->count), "create");
+            must((int)alone_create(i, (enum kind)it->kind, it->group, parameters, it->count), "alone_create");
+        }
     }
     for (int c = 0; c < lists; c++) {
         must((int)rokdaum_chain(&library, (uint8_t)c, all + c, (size_t)length), "rokdaum_chain");
@@ -131,25 +141,40 @@ static void close_channel(const struct channel *channel)
         return;
     for (int c = 0; c <= channel->by_turns; c++)
         must((int)unchain(c), "unchain");
-    for (int i = 0; i < channel->count; i++)
+    for (int i = 0; i < channel->count; i++) {
         must((int)delete(i), "delete");
+        must((int)alone_delete(i), "alone_delete");
+    }
 }
 
-/* Both give the same over a block. */
+/* All give the same over a block. */
 static void compare(int n)
 {
     static int16_t first[MOST];
     int given = feed_library(n);
     memcpy(first, out, sizeof first);
-    if (feed_c(n) != given || memcmp(first, out, (size_t)given * sizeof *out)) {
+    int same = feed_c(n) == given && !memcmp(first, out, (size_t)given * sizeof *out);
+    if (!same || alone_feeds(1, 0, members, in, n, out) != given || memcmp(first, out, (size_t)given * sizeof *out)) {
         fprintf(stderr, "feeds: the samples of the library and of the C differ\n");
         exit(1);
     }
 }
 
+static int feeds_of(int n)
+{
+    return 200000 / (n + 20) + 1;
+}
+
+static double once_alone(int n)
+{
+    double begun = nanoseconds();
+    alone_feeds(feeds_of(n), by_turns, members, in, n, out);
+    return (nanoseconds() - begun) / feeds_of(n);
+}
+
 static double once(int (*feed)(int), int n)
 {
-    int calls = 200000 / (n + 20) + 1;
+    int calls = feeds_of(n);
     double begun = nanoseconds();
     for (int k = 0; k < calls; k++)
         feed(n);
@@ -158,17 +183,19 @@ static double once(int (*feed)(int), int n)
 
 static void time_feeds(const struct channel *channel, int n)
 {
-    double mine = 1e30, its = 1e30;
+    double mine = 1e30, its = 1e30, alone = 1e30;
     for (int round = 0; round < ROUNDS; round++) {
         double took = once(feed_library, n);
         mine = took < mine ? took : mine;
         if (is_in_c(channel)) {
             took = once(feed_c, n);
             its = took < its ? took : its;
+            took = once_alone(n);
+            alone = took < alone ? took : alone;
         }
     }
     if (is_in_c(channel))
-        printf("%-26s %5d %9.0f ns %9.0f ns in C %7.2f\n", channel->name, n, mine, its, mine / its);
+        printf("%-26s %5d %9.0f ns %9.0f ns in C %7.2f %9.0f ns alone %7.2f\n", channel->name, n, mine, its, mine / its, alone, mine / alone);
     else
         printf("%-26s %5d %9.0f ns\n", channel->name, n, mine);
 }
@@ -176,16 +203,19 @@ static void time_feeds(const struct channel *channel, int n)
 int main(int count, char **words)
 {
     static const int lengths[] = {1, 8, 80, 160, 1024}, sizes[SPACES] = {65536, 65536, 65536};
-    int alone = count > 2, n = alone ? atoi(words[2]) : 0, in_c = count > 3;
+    int alone = count > 2, n = alone ? atoi(words[2]) : 0, in_c = count > 3, by_process = count > 5;
     for (size_t i = 0; i < MOST; i++)
         in[i] = (int16_t)(i * 37 & 255);
     open_host(sizes, NO_POISON, CHANNELS);
+    alone_open_host(sizes, NO_POISON, CHANNELS);
     for (size_t c = 0; c < sizeof channels / sizeof *channels; c++) {
         if (alone && strcmp(words[1], channels[c].name))
             continue;
         open_channel(&channels[c]);
         /* A loop each, so that each feed is inlined into its own. */
-        if (n > 0 && in_c)
+        if (n > 0 && by_process)
+            alone_feeds((1000000 + n - 1) / n, by_turns, members, in, n, out);
+        else if (n > 0 && in_c)
             for (int fed = 0; fed < 1000000; fed += n)
                 feed_c(n);
         else if (n > 0)

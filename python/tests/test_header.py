@@ -26,9 +26,9 @@ TYPES: dict[str, type] = {
     "rokdaum_space": c_int, "rokdaum_law": c_int, "rokdaum_code": c_int, "rokdaum": library.Handle, "rokdaum_options": library.Options,
     "rokdaum_block": library.BlockRecord, "char": ctypes.c_char,
 }
-# What the package has no use for: it feeds by feed_all, asks by `line`, and lets the library allocate. The proved entry point stands in the header for
+# What the package has no use for: it feeds by feed_all, asks by `line`, and lets the library allocate. The proved entry points stand in the header for
 # the inline feed alone.
-NOT_CALLED = {"open_with", "feed", "proved_feed", "ready", "version", "error_text"}
+NOT_CALLED = {"open_with", "feed", "proved_feed", "proved_feed_sample", "ready", "version", "error_text"}
 
 
 def type_of(text: str) -> type:

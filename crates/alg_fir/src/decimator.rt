@@ -41,8 +41,8 @@ impl Ialg for Decim {
       meaning = decim_meaning;
       bound = λ _. DECIM_RECORDS;
       fill = λ _ p k. p;
-      idle_keeps = λ _ p rs wss h. IsIdleDecim p rs wss h;
-      active_keeps = λ _ p rs wss h. IsActiveDecim p rs wss h;
+      idle_refines = λ _ p rs wss h. IsIdleDecim p rs wss h;
+      active_refines = λ _ p rs wss h. IsActiveDecim p rs wss h;
     } };
 
     fn alg_num_alloc(&self) -> usize {

@@ -38,8 +38,8 @@ impl Ialg for G711 {
       meaning = g711_meaning;
       bound = λ _. CODER_RECORDS;
       fill = λ _ p. fill_of (coder_named p);
-      idle_keeps = λ _. Keeps;
-      active_keeps = λ _. Keeps;
+      idle_refines = λ _. Keeps;
+      active_refines = λ _. Keeps;
     } };
 
     fn alg_num_alloc(&self) -> usize {

@@ -7,7 +7,7 @@ use Rattle.host_spec.specs.State.{State}
 use Rattle.host_spec.specs.Calls.{Call, Leads}
 use Rattle.alg_host.specs.Hosts.{HostState}
 use Rattle.alg_host.specs.declared.request.Request.{Request}
-use Rattle.alg_host.specs.Requests.{made, all_made, asked, AreServed}
+use Rattle.alg_host.specs.Requests.{made, all_made, asked, HostCallsRefine}
 
 leads_more : {M : Type 0} (kinds : Meaning M) (calls more : List (Call M)) (before mid after : State M)
     → Leads kinds before calls mid → Leads kinds mid more after → Leads kinds before (calls ++ more) after
@@ -15,14 +15,14 @@ leads_more kinds [] more before mid after first then = subst (λ s. Leads kinds 
 leads_more kinds (call ∷ calls) more before mid after first then = (first.0, first.1, leads_more kinds calls more first.0 mid after first.2 then)
 
 pub served_more : {M : Type 0} (laws : Laws M) (calls more : List (Call M)) (a b c : HostState M)
-    → AreServed laws calls a b → AreServed laws more b c
-    → AreServed laws (calls ++ more) a c
+    → HostCallsRefine laws calls a b → HostCallsRefine laws more b c
+    → HostCallsRefine laws (calls ++ more) a c
 served_more laws calls more a b c first then before keeps =
     let mid = first before keeps in
     let end = then mid.0 mid.2 in
     (end.0, leads_more laws.meaning calls more before mid.0 end.0 mid.1 end.1, end.2)
 
-pub served_none : {M : Type 0} (laws : Laws M) (a : HostState M) → AreServed laws [] a a
+pub served_none : {M : Type 0} (laws : Laws M) (a : HostState M) → HostCallsRefine laws [] a a
 served_none laws a before keeps = (before, refl, keeps)
 
 -- one request of a list was made
@@ -52,4 +52,4 @@ as_many requests requests' same = sym (length-map requests' asked) ∙ ap length
 pub record MadeUpTo {M : Type 0} (laws : Laws M) (k : ℕ) (requests requests' : List (Request M)) (host host' : HostState M) : Type 0 where
   pub same : map asked requests' ≡ map asked requests
   pub count : length requests' ≡ length requests
-  pub served : AreServed laws (all_made (take k requests')) host host'
+  pub served : HostCallsRefine laws (all_made (take k requests')) host host'

@@ -14,8 +14,8 @@ use Rattle.host_map.specs.Creation.{created_map}
 use Rattle.host_spec.specs.State.{Living, State, sharers_of}
 use Rattle.host_spec.specs.Steps.{Outcome, unless, control_refusal, controlled, given, processed, release, group_refusal, step, moving, delete, instance_refusal, without_instance, create_refusal, newborn, with_memory, with_room}
 use Rattle.host_spec.specs.Calls.{Controls, Creates}
-use Rattle.host_moves.specs.Kept.{KeepsState}
-use Rattle.host_moves.specs.Hosts.{Refines}
+use Rattle.host_moves.specs.Refinement.{TablesRefine}
+use Rattle.host_moves.specs.Hosts.{TablesAndSpacesRefine}
 use Rattle.host_table.specs.View.{View}
 
 -- the same memory map in the same spaces
@@ -60,8 +60,8 @@ pub step_poison : {M : Type 0} (before : State M) (space : Space) → (step befo
 step_poison before space = moving_poison before space (next_block (blocks_in before.map space))
 
 -- the tables keep what comes after, and the spaces are as they were
-pub still_kept : {M : Type 0} (laws : Laws M) (old new : View M) (spaces : Spaces) (before after : State M) → Refines laws old spaces before
-    → SamePlaces before after → KeepsState laws new after → Refines laws new spaces after
+pub still_kept : {M : Type 0} (laws : Laws M) (old new : View M) (spaces : Spaces) (before after : State M) → TablesAndSpacesRefine laws old spaces before
+    → SamePlaces before after → TablesRefine laws new after → TablesAndSpacesRefine laws new spaces after
 still_kept laws old new spaces before after kept same tables = record {
   tables = tables;
   map = kept.map ∙ sym same.map;

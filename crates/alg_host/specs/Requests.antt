@@ -5,13 +5,13 @@ use Rattle.ialg.specs.Views.{control_of}
 use Rattle.ialg.specs.declared.refusal.Refusal.TheVariants.{Range}
 use Rattle.ialg.specs.Meaning.{Meaning}
 use Rattle.ialg.specs.Laws.{Laws}
-use Rattle.host_moves.specs.Kept.{told}
+use Rattle.host_moves.specs.Refinement.{told}
 use Rattle.host_spec.specs.State.{State, Living}
 use Rattle.host_spec.specs.Choices.{IsLawful}
 use Rattle.host_spec.specs.Calls as calls
 use Rattle.host_spec.specs.Calls.{Call, Leads}
 use Rattle.host_spec.specs.Runs.{AllSpare, Grows, history_of_run, outputs_in, statuses_in}
-use Rattle.alg_host.specs.Hosts.{HostState, Keeps}
+use Rattle.alg_host.specs.Hosts.{HostState, HostRefines}
 use Rattle.alg_host.specs.declared.request.Request.{Request}
 use Rattle.alg_host.specs.declared.request.Request.TheVariants.{Create, Control, Process, Delete, Release, Step, Compact}
 
@@ -44,14 +44,14 @@ asked (Release g answer) = Release g (Err Range)
 asked (Step space answer) = Step space false
 asked (Compact space answer) = Compact space 0
 
--- from every state that the host kept, the calls lead to one that it keeps
-abbrev pub AreServed : {M : Type 0} → Laws M → List (Call M) → HostState M → HostState M → Type 0
-AreServed {M} laws calls old new = (before : State M) → Keeps laws old before
-    → (after : State M) × Leads laws.meaning before calls after × Keeps laws new after
+-- from every state that the host refined, the calls lead to one that it refines
+abbrev pub HostCallsRefine : {M : Type 0} → Laws M → List (Call M) → HostState M → HostState M → Type 0
+HostCallsRefine {M} laws calls old new = (before : State M) → HostRefines laws old before
+    → (after : State M) × Leads laws.meaning before calls after × HostRefines laws new after
 
 -- each lawful instance that lived before, and wasn't deleted, gave the outputs of its history, and answered by it
 abbrev pub EachGrows : {M : Type 0} → Laws M → List (Call M) → HostState M → Type 0
-EachGrows {M} laws calls old = (before : State M) → Keeps laws old before
+EachGrows {M} laws calls old = (before : State M) → HostRefines laws old before
     → (i : ℕ) (x : Living M) → before.living i ≡ Some x → IsLawful laws.meaning before.poison x → AllSpare i calls
     → Grows laws.meaning x (history_of_run i x.history calls) (outputs_in i calls) (statuses_in i calls)
 
@@ -71,6 +71,6 @@ pub record AreGivenTheSame {M : Type 0} (i j : ℕ) (x y : Living M) (calls othe
 -- of two hosts: instances that were given the same, one in each, gave and answered the same
 abbrev pub LivesAgree : {M : Type 0} → Laws M → List (Call M) → List (Call M) → HostState M → HostState M → Type 0
 LivesAgree {M} laws calls others one other = (one_before other_before : State M)
-    → Keeps laws one one_before → Keeps laws other other_before
+    → HostRefines laws one one_before → HostRefines laws other other_before
     → (i j : ℕ) (x y : Living M) → LivesThrough laws.meaning calls one_before i x → LivesThrough laws.meaning others other_before j y
     → AreGivenTheSame i j x y calls others → (outputs_in i calls ≡ outputs_in j others) × (statuses_in i calls ≡ statuses_in j others)

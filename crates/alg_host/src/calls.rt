@@ -1,21 +1,21 @@
 //! What an instance is given: controls and blocks of samples.
 ghost use Rattle.std.specs.Prelude.{◌≡◌, ◌≤◌, true, [], length, IfSome, IfNone, OnErr};
 ghost use Rattle.ialg.specs.Views.{control_of};
-ghost use Rattle.host_table.specs.Table.{slot_at, IsActiveReader};
+ghost use Rattle.host_table.specs.Table.{slot_at, HasShortLoan};
 ghost use Rattle.host_spec.specs.Calls.Call.{Control, Process, Lives};
-ghost use Rattle.host_moves.specs.Kept.{told};
-ghost use Rattle.alg_host.specs.Hosts.{lives, Serves};
+ghost use Rattle.host_moves.specs.Refinement.{told};
+ghost use Rattle.alg_host.specs.Hosts.{lives, HostCallRefines};
 
 use crate::Host;
 use crate::table_calls::{give_block, give_control};
-use host_table::ReaderSizes;
+use host_table::ShortLoan;
 use ialg::{BLOCK_SAMPLES, Block, Ctl, Ialg, Refusal, Status};
 
 impl<M: Ialg> Host<M> {
     /// Whether an instance lives under the number.
     pub fn living(&self, i: u8) -> bool
         ensures value { result ≡ lives self.now i }
-        ensures machine { Serves M.law (Lives i result) self.now self.now }
+        ensures machine { HostCallRefines M.law (Lives i result) self.now self.now }
     {
         self.tables.lives(i)
     }
@@ -28,7 +28,7 @@ impl<M: Ialg> Host<M> {
     /// control. A refused control changes nothing.
     pub fn control(&mut self, i: u8, c: &Ctl) -> Result<Status, Refusal>
         ensures refused { OnErr result (self.new ≡ self.old) }
-        ensures machine { Serves M.law (Control i (control_of c.now) (told result)) self.old self.new }
+        ensures machine { HostCallRefines M.law (Control i (control_of c.now) (told result)) self.old self.new }
     {
         give_control(&mut self.tables, self.poison, i, c)
     }
@@ -41,34 +41,35 @@ impl<M: Ialg> Host<M> {
         requires some { 1 ≤ length input.now }
         requires within { length input.now ≤ BLOCK_SAMPLES }
         ensures bounded { length out.new.items ≤ length input.now }
-        ensures machine { Serves M.law (Process i input.now out.new.items) self.old self.new }
+        ensures machine { HostCallRefines M.law (Process i input.now out.new.items) self.old self.new }
     {
         give_block(&mut self.tables, self.poison, i, input, out);
     }
 
-    /// The sizes of the records of an instance that is active and a reader: for such a one [`process_reader`](Host::process_reader) does
-    /// what [`process`](Host::process) does. None for every other instance, and where there is none.
+    /// How the records of an instance that is active are lent to it without a plan: with such a loan
+    /// [`process_short`](Host::process_short) does what [`process`](Host::process) does. None for every other instance, and where there is
+    /// none.
     #[inline(always)]
-    pub fn active_reader(&self, i: u8) -> Option<ReaderSizes>
-        ensures found { IfSome result (IsActiveReader (slot_at self.now.tables.instances i)) }
-        ensures none { IfNone result ((n : ReaderSizes) → IsActiveReader (slot_at self.now.tables.instances i) n → ⊥) }
+    pub fn short_loan(&self, i: u8) -> Option<ShortLoan>
+        ensures found { IfSome result (HasShortLoan (slot_at self.now.tables.instances i)) }
+        ensures none { IfNone result ((loan : ShortLoan) → HasShortLoan (slot_at self.now.tables.instances i) loan → ⊥) }
     {
-        self.tables.active_reader(i)
+        self.tables.short_loan(i)
     }
 
-    /// Gives instance `i`, an active reader whose records have these sizes, a block of samples, and pushes what it gives out, as
+    /// Gives instance `i`, which is active and has this short loan, a block of samples, and pushes what it gives out, as
     /// [`process`](Host::process) does.
     ///
-    /// Inlined, since a reader's work at one sample is less than a call.
+    /// Inlined, since at one sample a call weighs as much as the work.
     #[inline(always)]
-    pub fn process_reader(&mut self, i: u8, sizes: ReaderSizes, input: &[i16], out: &mut Block)
-        requires reader { IsActiveReader (slot_at self.old.tables.instances i) sizes }
+    pub fn process_short(&mut self, i: u8, loan: ShortLoan, input: &[i16], out: &mut Block)
+        requires short { HasShortLoan (slot_at self.old.tables.instances i) loan }
         requires empty { out.old.items ≡ [] }
         requires some { 1 ≤ length input.now }
         requires within { length input.now ≤ BLOCK_SAMPLES }
         ensures bounded { length out.new.items ≤ length input.now }
-        ensures machine { Serves M.law (Process i input.now out.new.items) self.old self.new }
+        ensures machine { HostCallRefines M.law (Process i input.now out.new.items) self.old self.new }
     {
-        self.tables.process_reader(i, sizes, input, out);
+        self.tables.process_short(i, loan, input, out);
     }
 }

@@ -1,7 +1,7 @@
 //! How instances begin.
 ghost use Rattle.std.specs.Prelude.{◌≡◌, OnErr};
 ghost use Rattle.host_spec.specs.Calls.Call.{Create};
-ghost use Rattle.alg_host.specs.Hosts.{Serves};
+ghost use Rattle.alg_host.specs.Hosts.{HostCallRefines};
 
 use crate::Host;
 use ialg::{Ialg, Params, Refusal};
@@ -17,7 +17,7 @@ impl<M: Ialg> Host<M> {
     /// and `Room` with the space of the first record or block that has no place. Nothing has happened then.
     pub fn create(&mut self, i: u8, kind: M, group: u8, p: &Params) -> Result<(), Refusal>
         ensures refused { OnErr result (self.new ≡ self.old) }
-        ensures machine { Serves M.law (Create i kind group p.now.items result) self.old self.new }
+        ensures machine { HostCallRefines M.law (Create i kind group p.now.items result) self.old self.new }
     {
         host_instances::create(
             &mut self.tables,

@@ -1,7 +1,7 @@
 //! How instances go, and the host with them.
 ghost use Rattle.std.specs.Prelude.{◌≡◌, false, OnErr};
 ghost use Rattle.host_spec.specs.Calls.Call.{Delete};
-ghost use Rattle.alg_host.specs.Hosts.{lives, Serves};
+ghost use Rattle.alg_host.specs.Hosts.{lives, HostCallRefines};
 
 use crate::Host;
 use ialg::{Ialg, Refusal};
@@ -16,7 +16,7 @@ impl<M: Ialg> Host<M> {
     pub fn delete(&mut self, i: u8) -> Result<(), Refusal>
         ensures refused { OnErr result (self.new ≡ self.old) }
         ensures gone { lives self.new i ≡ false }
-        ensures machine { Serves M.law (Delete i result) self.old self.new }
+        ensures machine { HostCallRefines M.law (Delete i result) self.old self.new }
     {
         host_instances::delete(&mut self.tables, &mut self.spaces, self.poison, i)
     }

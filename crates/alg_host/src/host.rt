@@ -2,7 +2,7 @@
 ghost use Rattle.std.specs.Prelude.{◌≡◌, ℕ, false, IfOk, IfErr, IsErrOf};
 ghost use Rattle.host_map.specs.MemoryMap.{AreSizes};
 ghost use Rattle.host_spec.specs.State.{new_state};
-ghost use Rattle.alg_host.specs.Hosts.{Keeps, lives};
+ghost use Rattle.alg_host.specs.Hosts.{HostRefines, lives};
 
 use host_instances::HostMemory;
 use host_map::Sizes;
@@ -41,7 +41,7 @@ impl<M: Ialg> Host<M> {
         ensures bad_size { ¬ AreSizes sizes → IsErrOf result StartError.BadSize }
         ensures memory { AreSizes sizes → IfErr result (λ e. e ≡ StartError.Memory) }
         ensures empty { IfOk result (λ h. (i : ℕ) → lives h i ≡ false) }
-        ensures host { IfOk result (λ h. Keeps M.law h (new_state sizes poison)) }
+        ensures host { IfOk result (λ h. HostRefines M.law h (new_state sizes poison)) }
     {
         let memory = HostMemory::new(alloc, sizes)?;
         Ok(Host::in_memory(memory, poison))
@@ -51,7 +51,7 @@ impl<M: Ialg> Host<M> {
     /// and a group's blocks hold it wherever no member is active.
     pub fn in_memory(memory: HostMemory<M>, poison: Option<i16>) -> Host<M>
         ensures empty { (i : ℕ) → lives result i ≡ false }
-        ensures host { Keeps M.law result (new_state memory.spaces.sizes poison) }
+        ensures host { HostRefines M.law result (new_state memory.spaces.sizes poison) }
     {
         let (tables, spaces) = memory.open();
         Host {

@@ -1,6 +1,6 @@
 //! The calls of a list, one after the other.
 ghost use Rattle.std.specs.Prelude.{◌≡◌, map, length};
-ghost use Rattle.alg_host.specs.Requests.{made, all_made, asked, AreServed, EachGrows, LivesAgree};
+ghost use Rattle.alg_host.specs.Requests.{made, all_made, asked, HostCallsRefine, EachGrows, LivesAgree};
 
 use crate::Request;
 use crate::host::Host;
@@ -9,7 +9,7 @@ use ialg::{Block, Ialg};
 
 // Gives an instance a block, if there is an instance of the number, and a sample.
 fn give<M: Ialg>(host: &mut Host<M>, i: u8, input: &Block) -> Option<Block>
-    ensures { AreServed M.law (made (Request.Process i input.now result)) host.old host.new }
+    ensures { HostCallsRefine M.law (made (Request.Process i input.now result)) host.old host.new }
 {
     if !host.living(i) || input.is_empty() {
         return None;
@@ -22,7 +22,7 @@ fn give<M: Ialg>(host: &mut Host<M>, i: u8, input: &Block) -> Option<Block>
 /// Makes a call, and writes down what is answered.
 pub fn make<M: Ialg>(host: &mut Host<M>, request: &mut Request<M>)
     ensures same { asked request.new ≡ asked request.old }
-    ensures served { AreServed M.law (made request.new) host.old host.new }
+    ensures served { HostCallsRefine M.law (made request.new) host.old host.new }
 {
     match request {
         Request::Create {
@@ -53,7 +53,7 @@ pub fn make<M: Ialg>(host: &mut Host<M>, request: &mut Request<M>)
 /// whatever is asked of the others, and whatever they do.
 pub fn make_all<M: Ialg>(host: &mut Host<M>, requests: &mut [Request<M>])
     ensures same { map asked requests.new ≡ map asked requests.old }
-    ensures served { AreServed M.law (all_made requests.new) host.old host.new }
+    ensures served { HostCallsRefine M.law (all_made requests.new) host.old host.new }
     ensures grows { EachGrows M.law (all_made requests.new) host.old }
 {
     lives_go_by_their_histories::<M>();
@@ -72,8 +72,8 @@ pub fn make_both<M: Ialg>(
     others: &mut [Request<M>],
 )
     ensures same { (map asked requests.new ≡ map asked requests.old) × (map asked others.new ≡ map asked others.old) }
-    ensures served { AreServed M.law (all_made requests.new) one.old one.new }
-    ensures other_served { AreServed M.law (all_made others.new) other.old other.new }
+    ensures served { HostCallsRefine M.law (all_made requests.new) one.old one.new }
+    ensures other_served { HostCallsRefine M.law (all_made others.new) other.old other.new }
     ensures grows { EachGrows M.law (all_made requests.new) one.old }
     ensures other_grows { EachGrows M.law (all_made others.new) other.old }
     ensures agree { LivesAgree M.law (all_made requests.new) (all_made others.new) one.old other.old }

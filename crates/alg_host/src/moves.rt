@@ -1,7 +1,7 @@
 //! Where the blocks stand, and how they are moved together.
 ghost use Rattle.std.specs.Prelude.{◌≡◌, ◌≤◌, length};
 ghost use Rattle.host_spec.specs.Calls.Call.{Step, Compact, Map as MapCall, Copied};
-ghost use Rattle.alg_host.specs.Hosts.{Serves};
+ghost use Rattle.alg_host.specs.Hosts.{HostCallRefines};
 ghost use Rattle.host_map.specs.declared.TheConstants.{MAP_BLOCKS};
 
 use crate::Host;
@@ -14,21 +14,21 @@ impl<M: Ialg> Host<M> {
     /// Moves the first block of the space that doesn't stand at the least place behind the block before it to that place, with its
     /// words, and says whether a block moved. The instances that have records in it are told; an active one stays active.
     pub fn step(&mut self, space: Space) -> bool
-        ensures machine { Serves M.law (Step space result) self.old self.new }
+        ensures machine { HostCallRefines M.law (Step space result) self.old self.new }
     {
         host_moves::step(&mut self.tables, &mut self.spaces, space)
     }
 
     /// Steps until no block of the space moves, and says how many blocks moved; each moves once.
     pub fn compact(&mut self, space: Space) -> u32
-        ensures machine { Serves M.law (Compact space result) self.old self.new }
+        ensures machine { HostCallRefines M.law (Compact space result) self.old self.new }
     {
         host_moves::compact(&mut self.tables, &mut self.spaces, space)
     }
 
     /// The blocks of the space in place order: whose each is, where it stands, its size and its alignment in words.
     pub fn map(&self, space: Space) -> Map
-        ensures machine { Serves M.law (MapCall space result.items) self.now self.now }
+        ensures machine { HostCallRefines M.law (MapCall space result.items) self.now self.now }
     {
         maps_have_room::<M>();
         self.spaces.map(space)
@@ -36,7 +36,7 @@ impl<M: Ialg> Host<M> {
 
     /// The same blocks, lent as they stand.
     pub fn blocks_in(&self, space: Space) -> &[Placed]
-        ensures machine { Serves M.law (MapCall space result.now) self.now self.now }
+        ensures machine { HostCallRefines M.law (MapCall space result.now) self.now self.now }
         ensures few { length result.now ≤ MAP_BLOCKS }
     {
         maps_have_room::<M>();
@@ -45,7 +45,7 @@ impl<M: Ialg> Host<M> {
 
     /// The words that moves have copied, each time that they did. It stays at the greatest `u64`.
     pub fn copied(&self) -> u64
-        ensures machine { Serves M.law (Copied result) self.now self.now }
+        ensures machine { HostCallRefines M.law (Copied result) self.now self.now }
     {
         self.spaces.copied()
     }

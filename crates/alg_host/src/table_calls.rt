@@ -7,7 +7,7 @@ ghost use Rattle.host_spec.specs.State.{State};
 ghost use Rattle.host_spec.specs.Calls.{Processes, Controls, Does};
 ghost use Rattle.host_spec.specs.Calls.Call.{Release, Stat as StatCall};
 ghost use Rattle.host_spec.specs.Steps.{processed};
-ghost use Rattle.host_moves.specs.Kept.{KeepsState, told, stat_told};
+ghost use Rattle.host_moves.specs.Refinement.{TablesRefine, told, stat_told};
 
 use host_map::Stat;
 use host_table::Tables;
@@ -30,9 +30,9 @@ pub fn give_block<M: Ialg>(
     ensures stays { Stays poison tables.old tables.new }
     ensures bounded { length out.new.items ≤ length input.now }
     ensures machine { (before : State M) → before.poison ≡ poison
-        → KeepsState M.law tables.old before
+        → TablesRefine M.law tables.old before
         → Processes M.law.meaning before i input.now out.new.items (processed before i input.now)
-        × KeepsState M.law tables.new (processed before i input.now) }
+        × TablesRefine M.law tables.new (processed before i input.now) }
 {
     tables.process(poison, i, input, out);
 }
@@ -49,9 +49,9 @@ pub fn give_control<M: Ialg>(
     ensures stays { Stays poison tables.old tables.new }
     ensures refused { OnErr result (tables.new ≡ tables.old) }
     ensures machine { (before : State M) → before.poison ≡ poison
-        → KeepsState M.law tables.old before
+        → TablesRefine M.law tables.old before
         → (after : State M) × Controls M.law.meaning before i (control_of c.now) (told result) after
-        × KeepsState M.law tables.new after }
+        × TablesRefine M.law tables.new after }
 {
     if usize::from(i) >= INSTANCES {
         return Err(Refusal::Range);
@@ -76,9 +76,9 @@ pub fn deactivate_group<M: Ialg>(
     ensures stays { Stays poison tables.old tables.new }
     ensures refused { OnErr result (tables.new ≡ tables.old) }
     ensures machine { (before : State M) → before.poison ≡ poison
-        → KeepsState M.law tables.old before
+        → TablesRefine M.law tables.old before
         → (after : State M) × Does M.law.meaning before (Release g result) after
-        × KeepsState M.law tables.new after }
+        × TablesRefine M.law tables.new after }
 {
     if g >= GROUPS {
         return Err(Refusal::Range);
@@ -89,7 +89,7 @@ pub fn deactivate_group<M: Ialg>(
 /// The active member of the group and its count of activations, as the machine has them.
 pub fn stat<M: Ialg>(tables: &Tables<M>, g: u8) -> Result<Stat, Refusal>
     requires ready { AreConsistent tables.now }
-    ensures machine { (before : State M) → KeepsState M.law tables.now before
+    ensures machine { (before : State M) → TablesRefine M.law tables.now before
         → Does M.law.meaning before (StatCall g (stat_told result)) before }
 {
     if g >= GROUPS {

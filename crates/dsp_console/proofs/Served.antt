@@ -19,36 +19,36 @@ use Rattle.voice_script.specs.Script.{Command}
 
 module _ {M : Type 0} (laws : Laws M) where
   -- what a console serves is said of its channels alone
-  abbrev Keeps : ChannelsState M → Channels M → Type 0
-  Keeps = channels.Keeps laws
+  abbrev Refines : ChannelsState M → Channels M → Type 0
+  Refines = channels.ChannelsRefine laws
 
-  abbrev Serves : (Channels M → Asked → Channels M → Type 0) → Asked → ChannelsState M → ChannelsState M → Type 0
-  Serves Asks asked old new = (before : Channels M) → Keeps old before → (after : Channels M) × Asks before asked after × Keeps new after
+  abbrev CallRefines : (Channels M → Asked → Channels M → Type 0) → Asked → ChannelsState M → ChannelsState M → Type 0
+  CallRefines Asks asked old new = (before : Channels M) → Refines old before → (after : Channels M) × Asks before asked after × Refines new after
 
   -- what the channels were called for is what the line asked
   pub called : {A : Type 0} (call : A → Call M) (asked_by : A → Asked) (answer : A) (asked : Asked) (old new : ChannelsState M)
-      → channels.Serves laws (call answer) old new → asked ≡ asked_by answer
-      → Serves (Calls laws.meaning call asked_by) asked old new
+      → channels.ChannelsCallRefines laws (call answer) old new → asked ≡ asked_by answer
+      → CallRefines (Calls laws.meaning call asked_by) asked old new
   called call asked_by answer asked old new serves asks before keeps =
       let step = serves before keeps in
       (step.0, (answer, step.1, asks), step.2)
 
   -- a command asks what was done
   pub obeyed : (widths : Widths) (done command : Command M) (asked : Asked) (old new : ChannelsState M) → done ≡ command
-      → Serves (CommandAsks laws.meaning widths done) asked old new → Serves (CommandAsks laws.meaning widths command) asked old new
-  obeyed widths done command asked old new e serves = subst (λ d. Serves (CommandAsks laws.meaning widths d) asked old new) e serves
+      → CallRefines (CommandAsks laws.meaning widths done) asked old new → CallRefines (CommandAsks laws.meaning widths command) asked old new
+  obeyed widths done command asked old new e serves = subst (λ d. CallRefines (CommandAsks laws.meaning widths d) asked old new) e serves
 
   -- a line asks what its command asks, or what its refusal tells
   pub lined : (widths : Widths) (result line : Result (Option (Command M)) Refusal) (asked : Asked) (old new : ChannelsState M) → result ≡ line
-      → Serves (LineAsks laws.meaning widths result) asked old new → Serves (LineAsks laws.meaning widths line) asked old new
-  lined widths result line asked old new e serves = subst (λ r. Serves (LineAsks laws.meaning widths r) asked old new) e serves
+      → CallRefines (LineAsks laws.meaning widths result) asked old new → CallRefines (LineAsks laws.meaning widths line) asked old new
+  lined widths result line asked old new e serves = subst (λ r. CallRefines (LineAsks laws.meaning widths r) asked old new) e serves
 
   -- a block of samples through a channel, as octets
   pub gave : (widths : Widths) (c : ℕ) (octets : List ℕ) (out : List ℤ) {output : List ℕ} {count : ℕ} {old new : ChannelsState M}
-      → channels.Serves laws (Feed c (samples_at (widths.input c) octets) out) old new
+      → channels.ChannelsCallRefines laws (Feed c (samples_at (widths.input c) octets) out) old new
       → output ≡ octets_at (widths.output c) out → count ≡ length out
-      → (before : Channels M) → Keeps old before
-      → (after : Channels M) × FeedGives laws.meaning widths before c octets output count after × Keeps new after
+      → (before : Channels M) → Refines old before
+      → (after : Channels M) × FeedGives laws.meaning widths before c octets output count after × Refines new after
   gave widths c octets out serves given counted before keeps =
       let step = serves before keeps in
       (step.0, (out, step.1, given, counted), step.2)

@@ -14,12 +14,12 @@ use Rattle.script_server.specs.Runs.{Devices, EndsByRead, EndsByWrite, EndsWell,
 use Rattle.voice_script.specs.Widths.{Widths}
 use Rattle.console_spec.specs.Console.{console_machine, start}
 use Rattle.dsp_console.specs.declared.console.Console.{Console}
-use Rattle.dsp_console.specs.Consoles.{Keeps, port_widths_of}
+use Rattle.dsp_console.specs.Consoles.{ConsoleRefines, port_widths_of}
 use Rattle.dsp_console.specs.Fresh.{fresh}
 use Rattle.ialg.specs.Laws.{Laws}
 
 module _ {M : Type 0} (laws : Laws M) (console : Console M) (host : HostState M) (sizes : Sizes) (poison : Option ℤ) (sources : List Source)
-    (same : console.channels.host ≡ host) (keeps : hosts.Keeps laws host (new_state sizes poison)) where
+    (same : console.channels.host ≡ host) (keeps : hosts.HostRefines laws host (new_state sizes poison)) where
   is_fresh : fresh console sources ≡ unchained (new_state sizes poison) (length (octets_to_come sources))
   is_fresh =
       let its_sizes : sizes_of console.channels.host.spaces ≡ sizes = ap (λ h. sizes_of h.spaces) same ∙ keeps.kept.sizes in
@@ -32,9 +32,9 @@ module _ {M : Type 0} (laws : Laws M) (console : Console M) (host : HostState M)
 
   -- the console keeps it
   pub kept : (count : ℕ) → length (octets_to_come sources) ≡ count
-      → ((state : State M) → hosts.Keeps laws host state → Keeps laws console (record { host = state; chained = replicate count [] }))
-      → Keeps laws console (fresh console sources)
-  kept count counted made = subst (Keeps laws console) (sym (is_fresh ∙ ap (unchained (new_state sizes poison)) counted)) (made (new_state sizes poison) keeps)
+      → ((state : State M) → hosts.HostRefines laws host state → ConsoleRefines laws console (record { host = state; chained = replicate count [] }))
+      → ConsoleRefines laws console (fresh console sources)
+  kept count counted made = subst (ConsoleRefines laws console) (sym (is_fresh ∙ ap (unchained (new_state sizes poison)) counted)) (made (new_state sizes poison) keeps)
 
   -- and ends from there, by the widths that it was made with
   module _ (named : List ℕ → Option M) (widths : Widths) (same_widths : port_widths_of console ≡ widths) where

@@ -1,4 +1,4 @@
--- When a console keeps a state of the machine.
+-- When a console refines a state of the machine.
 use Rattle.std.specs.Prelude.{ℕ, ◌≡◌, true, length}
 use Rattle.channel_spec.specs.Channels.{Channels, members_at, is_chained}
 use Rattle.voice_channel.specs.Channels as channels
@@ -23,17 +23,18 @@ port_widths_of console = widths_in console.widths
 abbrev pub TakesFeeds : {M : Type 0} → Console M → ℕ → Type 0
 TakesFeeds console c = is_chained (members_at console.channels.chained c) ≡ true
 
-abbrev pub Keeps : {M : Type 0} → Laws M → Console M → Channels M → Type 0
-Keeps laws console state = channels.Keeps laws console.channels state
+-- its channels do
+abbrev pub ConsoleRefines : {M : Type 0} → Laws M → Console M → Channels M → Type 0
+ConsoleRefines laws console state = channels.ChannelsRefine laws console.channels state
 
--- whatever state the console kept, this was asked as it may be asked there, and the console keeps a state that comes after it
-abbrev pub Serves : {M : Type 0} → Laws M → (Channels M → Asked → Channels M → Type 0) → Asked → Console M → Console M → Type 0
-Serves {M} laws Asks asked old new = (before : Channels M) → Keeps laws old before
-    → (after : Channels M) × Asks before asked after × Keeps laws new after
+-- whatever state the console refined, this was asked as it may be asked there, and the console refines a state that comes after it
+abbrev pub ConsoleCallRefines : {M : Type 0} → Laws M → (Channels M → Asked → Channels M → Type 0) → Asked → Console M → Console M → Type 0
+ConsoleCallRefines {M} laws Asks asked old new = (before : Channels M) → ConsoleRefines laws old before
+    → (after : Channels M) × Asks before asked after × ConsoleRefines laws new after
 
 -- this was asked, as the command may ask it
 abbrev pub AsksByCommand : {M : Type 0} → Laws M → Command M → Asked → Console M → Console M → Type 0
-AsksByCommand laws command asked old new = Serves laws (CommandAsks laws.meaning (port_widths_of old) command) asked old new
+AsksByCommand laws command asked old new = ConsoleCallRefines laws (CommandAsks laws.meaning (port_widths_of old) command) asked old new
 
 -- the command was done, and this reply tells of it
 abbrev pub TellsOf : {M : Type 0} → Laws M → Command M → Reply → Console M → Console M → Type 0

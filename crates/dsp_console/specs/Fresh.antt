@@ -12,7 +12,7 @@ use Rattle.dsp_console.specs.declared.console.Console.{Console}
 use Rattle.dsp_console.specs.declared.serving.Summary.{Summary}
 use Rattle.dsp_console.specs.declared.serving.Fault.{Fault}
 use Rattle.dsp_console.specs.declared.serving.Fault.TheVariants.{Read, Write}
-use Rattle.dsp_console.specs.Consoles.{Keeps, port_widths_of}
+use Rattle.dsp_console.specs.Consoles.{ConsoleRefines, port_widths_of}
 
 -- its first state, of the sizes and the poison word that its host has, with these sources
 abbrev pub fresh : {M : Type 0} → Console M → List Source → Channels M
@@ -20,7 +20,7 @@ fresh console sources = unchained (new_state (sizes_of console.channels.host.spa
 
 -- it keeps that state
 abbrev pub IsFresh : {M : Type 0} → Laws M → List Source → Console M → Type 0
-IsFresh laws sources console = Keeps laws console (fresh console sources)
+IsFresh laws sources console = ConsoleRefines laws console (fresh console sources)
 
 -- from there it served, and answered so
 module _ {M : Type 0} (kinds : Meaning M) (named : List ℕ → Option M) (console : Console M) (result : Result Summary Fault) (old new : Devices) where

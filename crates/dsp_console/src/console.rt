@@ -3,7 +3,7 @@ ghost use Rattle.std.specs.Prelude.{◌≡◌, ◌≤◌, ℕ, false, length};
 ghost use Rattle.host_spec.specs.State.{State};
 ghost use Rattle.voice_channel.specs.Hosts.{lives};
 ghost use Rattle.voice_channel.specs.Hosts as hosts;
-ghost use Rattle.dsp_console.specs.Consoles.{Keeps, channels_of};
+ghost use Rattle.dsp_console.specs.Consoles.{ConsoleRefines, channels_of};
 ghost use Rattle.channel_spec.specs.Channels.{unchained};
 
 use ialg::{BLOCK_SAMPLES, Block, Ialg};
@@ -28,7 +28,7 @@ impl<M: Ialg> Console<M> {
         ensures host { result.channels.host ≡ host }
         ensures count { channels_of result ≡ count }
         ensures widths { result.widths ≡ widths }
-        ensures keeps { (state : State M) → hosts.Keeps M.law host state → Keeps M.law result (unchained state count) }
+        ensures refines { (state : State M) → hosts.HostRefines M.law host state → ConsoleRefines M.law result (unchained state count) }
     {
         Console {
             channels: Channels::new(host, count),

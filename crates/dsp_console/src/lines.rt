@@ -2,7 +2,7 @@
 ghost use Rattle.std.specs.Prelude.{◌≡◌, true, length};
 ghost use Rattle.channel_spec.specs.Channels.{members_at, is_chained};
 ghost use Rattle.channel_spec.specs.Calls.Call.{Feed};
-ghost use Rattle.voice_channel.specs.Channels.{Serves};
+ghost use Rattle.voice_channel.specs.Channels.{ChannelsCallRefines};
 ghost use Rattle.voice_script.specs.Widths.{octet_count};
 ghost use Rattle.console_spec.specs.Samples.{samples_at};
 
@@ -14,6 +14,9 @@ use voice_script::{Ask, BLOCK_OCTETS, Command, FeedSamples, LineMachine, Reply, 
 
 /// Passes the samples of the octets, by the width of their port, through a channel: they stand in `input` then, and what the channel gives takes the place of what
 /// `given` held.
+///
+/// A call, so that what a feed keeps takes no registers from the other commands.
+#[inline(never)]
 fn pass<M: Ialg>(
     channels: &mut Channels<M>,
     channel: u8,
@@ -26,7 +29,7 @@ fn pass<M: Ialg>(
     requires ready { is_chained (members_at channels.old.chained channel) ≡ true }
     requires whole { length octets.now ≡ octet_count width samples.number }
     ensures chained { channels.new.chained ≡ channels.old.chained }
-    ensures machine { Serves M.law (Feed channel (samples_at width octets.now) given.new.items) channels.old channels.new }
+    ensures machine { ChannelsCallRefines M.law (Feed channel (samples_at width octets.now) given.new.items) channels.old channels.new }
 {
     let block = &mut input[..usize::from(samples.number())];
     read_samples(width, octets, block);
@@ -36,13 +39,13 @@ fn pass<M: Ialg>(
 impl<M: Ialg + Named> LineMachine for Console<M> {
     ghost use Rattle.channel_spec.specs.Channels.{Channels};
     ghost use Rattle.console_spec.specs.Console.{console_machine};
-    ghost use Rattle.dsp_console.specs.Consoles.{Keeps, channels_of, port_widths_of, TakesFeeds};
+    ghost use Rattle.dsp_console.specs.Consoles.{ConsoleRefines, channels_of, port_widths_of, TakesFeeds};
 
     ghost State = { Channels M };
 
     ghost machine = { console_machine M.law.meaning M.named };
 
-    ghost keeps = { Keeps M.law };
+    ghost refines = { ConsoleRefines M.law };
 
     ghost channels = { channels_of };
 

@@ -2,7 +2,7 @@
 ghost use Rattle.std.specs.Prelude.{◌≡◌};
 ghost use Rattle.voice_script.specs.Replies as replies;
 ghost use Rattle.voice_script.specs.ReplyViews.{reply_of};
-ghost use Rattle.host_moves.specs.Kept.{told};
+ghost use Rattle.host_moves.specs.Refinement.{told};
 ghost use Rattle.voice_channel.specs.Hosts.{stat_told};
 ghost use Rattle.console_spec.specs.Console.{status_reply};
 ghost use Rattle.console_spec.specs.Told.{told_by};

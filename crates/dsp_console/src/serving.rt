@@ -83,7 +83,7 @@ fn new_host<M: Ialg>(alloc: Global, sizes: Sizes, poison: Option<i16>) -> Result
     ensures size { ¬ AreSizes sizes → IsErrOf result Fault.Size }
     ensures memory { AreSizes sizes → IfErr result (λ fault. fault ≡ Fault.Memory) }
     ensures empty { IfOk result (λ host. (i : ℕ) → lives host i ≡ false) }
-    ensures host { IfOk result (λ host. hosts.Keeps M.law host (new_state sizes poison)) }
+    ensures host { IfOk result (λ host. hosts.HostRefines M.law host (new_state sizes poison)) }
 {
     let memory = run_memory(alloc, sizes)?;
     Ok(Host::in_memory(memory, poison))

@@ -5,21 +5,21 @@ use Rattle.ialg.specs.declared.refusal.Refusal.{Refusal}
 use Rattle.ialg.specs.declared.control.Status.{Status}
 use Rattle.ialg.specs.Views.{answer_of}
 use Rattle.ialg.specs.Meaning as meaning
-use Rattle.host_moves.specs.Kept.{told}
+use Rattle.host_moves.specs.Refinement.{told}
 use Rattle.gateway_kinds.specs.Kinds.{Kind}
 use Rattle.channel_spec.specs.Calls.{Call}
 use Rattle.voice_channel.specs.Channels.{ChannelsState}
 use Rattle.dsp_library.specs.declared.machine.Machine.{Machine}
 use Rattle.dsp_library.specs.declared.handle.Handle.{Handle}
 use Rattle.dsp_library.specs.Codes.{code_of}
-use Rattle.dsp_library.specs.Calls.{Answers, Serves}
+use Rattle.dsp_library.specs.Calls.{Answers, LibraryCallRefines}
 
 pub answered : {A : Type 0} (call : Result A Refusal → Call Kind) {m taken : Machine} {new : Handle} {code : ℤ} (answer : Result A Refusal) (channels : ChannelsState Kind)
     → taken ≡ m → code ≡ code_of answer → new.held.machine ≡ Some (record { channels = channels; given = taken.given })
-    → Serves (call answer) taken (record { channels = channels; given = taken.given }) → Answers call m new code
-answered call {m} {taken} answer channels its coded kept serves =
+    → LibraryCallRefines (call answer) taken (record { channels = channels; given = taken.given }) → Answers call m new code
+answered call {m} {taken} answer channels its coded kept refines =
     let after : Machine = record { channels = channels; given = taken.given } in
-    record { answer = answer; after = after; coded = coded; kept = kept; serves = subst (λ (n : Machine). Serves (call answer) n after) its serves }
+    record { answer = answer; after = after; coded = coded; kept = kept; refines = subst (λ (n : Machine). LibraryCallRefines (call answer) n after) its refines }
 
 pub code_told : (r : Result Status Refusal) → code_of r ≡ code_of (told r)
 code_told (Ok status) = refl

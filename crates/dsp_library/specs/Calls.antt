@@ -16,7 +16,7 @@ use Rattle.channel_spec.specs.Calls.{Call}
 use Rattle.channel_spec.specs.Calls.Call.{Chain, Ready, Feed, OfHost}
 use Rattle.host_spec.specs.Calls.Call.{Create, Control, Step, Compact, Copied, Map, Release, Stat}
 use Rattle.channel_spec.specs.Channels.{Channels}
-use Rattle.voice_channel.specs.Channels.{ChannelsState, Keeps as KeepsOf, Serves as ServesOf}
+use Rattle.voice_channel.specs.Channels.{ChannelsState, ChannelsRefine, ChannelsCallRefines}
 use Rattle.voice_channel.specs.declared.TheConstants.{MEMBERS}
 use Rattle.dsp_library.specs.declared.machine.Machine.{Machine}
 use Rattle.dsp_library.specs.declared.handle.Handle.{Handle}
@@ -29,13 +29,13 @@ pub record IsHandle (handle : Handle) : Type 0 where
   pub opened : handle.mark ≡ MARK → is_some handle.held.machine ≡ true
   pub shut : handle.mark ≢ MARK → handle.held.machine ≡ None
 
--- the channels keep a state of the machine
-abbrev pub Keeps : ChannelsState Kind → Channels Kind → Type 0
-Keeps = KeepsOf kind_laws
+-- the channels behind a handle refine a state of the machine
+abbrev pub LibraryRefines : ChannelsState Kind → Channels Kind → Type 0
+LibraryRefines = ChannelsRefine kind_laws
 
--- whatever state the channels kept, the call was answered as the machine may answer it there, and they keep a state that comes after it
-abbrev pub Serves : Call Kind → Machine → Machine → Type 0
-Serves call old new = ServesOf kind_laws call old.channels new.channels
+-- whatever state the channels refined, the call was answered as the machine may answer it there, and they refine a state that comes after it
+abbrev pub LibraryCallRefines : Call Kind → Machine → Machine → Type 0
+LibraryCallRefines call old new = ChannelsCallRefines kind_laws call old.channels new.channels
 
 -- the machine takes a call whose answer has this code, and the handle has it as it is then
 pub record Answers {A : Type 0} (call : Result A Refusal → Call Kind) (old : Machine) (new : Handle) (code : ℤ) : Type 0 where
@@ -43,7 +43,7 @@ pub record Answers {A : Type 0} (call : Result A Refusal → Call Kind) (old : M
   pub after : Machine
   pub coded : code ≡ code_of answer
   pub kept : new.held.machine ≡ Some after
-  pub serves : Serves (call answer) old after
+  pub refines : LibraryCallRefines (call answer) old after
 
 -- the machine creates an instance or refuses to, and tells which space has no room
 pub record Creates (i : ℕ) (kind : Kind) (g : ℕ) (parameters : List ℤ) (old : Machine) (new : Handle) (code : ℤ) (before full : ℕ) : Type 0 where
@@ -52,13 +52,13 @@ pub record Creates (i : ℕ) (kind : Kind) (g : ℕ) (parameters : List ℤ) (ol
   pub coded : code ≡ code_of answer
   pub told : full ≡ full_after answer before
   pub kept : new.held.machine ≡ Some after
-  pub serves : Serves (OfHost (Create i kind g parameters answer)) old after
+  pub refines : LibraryCallRefines (OfHost (Create i kind g parameters answer)) old after
 
 -- the channel isn't ready, and nothing is written; or the block passes through it, and what it gave stands in the first places
 pub data FeedEnds (channel : ℕ) (block : List ℤ) (old after : Machine) (code : ℤ) (room out : List ℤ) (count : ℕ) : Type 0 where
-  Refused : (refusal : Refusal) → code ≡ code_of {A = Unit {0}} (Err refusal) → Serves (Ready channel (Err refusal)) old after → FeedEnds channel block old after code room out count
+  Refused : (refusal : Refusal) → code ≡ code_of {A = Unit {0}} (Err refusal) → LibraryCallRefines (Ready channel (Err refusal)) old after → FeedEnds channel block old after code room out count
   Given : (given : List ℤ) → code ≡ DONE → count ≡ length given → take (length given) out ≡ given → drop (length given) out ≡ drop (length given) room
-      → Serves (Feed channel block given) old after → FeedEnds channel block old after code room out count
+      → LibraryCallRefines (Feed channel block given) old after → FeedEnds channel block old after code room out count
 
 pub record Feeds (channel : ℕ) (block : List ℤ) (old : Machine) (new : Handle) (code : ℤ) (room out : List ℤ) (count : ℕ) : Type 0 where
   pub after : Machine
@@ -80,7 +80,7 @@ pub record Gets (i : ℕ) (old : Machine) (new : Handle) (code : ℤ) (words : L
   pub after : Machine
   pub coded : code ≡ code_of answer
   pub kept : new.held.machine ≡ Some after
-  pub serves : Serves (OfHost (Control i Get answer)) old after
+  pub refines : LibraryCallRefines (OfHost (Control i Get answer)) old after
   pub told : IfOk answer (λ status. AreTold status words count)
 
 -- the calls that are never refused: their answer, and the handle as it is then
@@ -89,23 +89,23 @@ pub record Steps (space : Space) (old : Machine) (new : Handle) (moved : ℕ) : 
   pub after : Machine
   pub told : moved ≡ flag_code answer
   pub kept : new.held.machine ≡ Some after
-  pub serves : Serves (OfHost (Step space answer)) old after
+  pub refines : LibraryCallRefines (OfHost (Step space answer)) old after
 
 pub record Compacts (space : Space) (old : Machine) (new : Handle) (moved : ℕ) : Type 0 where
   pub after : Machine
   pub kept : new.held.machine ≡ Some after
-  pub serves : Serves (OfHost (Compact space moved)) old after
+  pub refines : LibraryCallRefines (OfHost (Compact space moved)) old after
 
 pub record Copies (old : Machine) (new : Handle) (words : ℕ) : Type 0 where
   pub kept : new.held.machine ≡ Some old
-  pub serves : Serves (OfHost (Copied words)) old old
+  pub refines : LibraryCallRefines (OfHost (Copied words)) old old
 
 pub record Maps (space : Space) (old : Machine) (new : Handle) (blocks : List BlockShown) (count : ℕ) : Type 0 where
   pub answer : List Placed
   pub kept : new.held.machine ≡ Some old
   pub counted : count ≡ length answer
   pub shown : AreShown answer blocks
-  pub serves : Serves (OfHost (Map space answer)) old old
+  pub refines : LibraryCallRefines (OfHost (Map space answer)) old old
 
 -- those of a group
 pub record Releases (g : ℕ) (old : Machine) (new : Handle) (code : ℤ) (released : ℕ) : Type 0 where
@@ -114,14 +114,14 @@ pub record Releases (g : ℕ) (old : Machine) (new : Handle) (code : ℤ) (relea
   pub coded : code ≡ code_of answer
   pub told : IfOk answer (λ active. released ≡ flag_code active)
   pub kept : new.held.machine ≡ Some after
-  pub serves : Serves (OfHost (Release g answer)) old after
+  pub refines : LibraryCallRefines (OfHost (Release g answer)) old after
 
 pub record Stats (g : ℕ) (old : Machine) (new : Handle) (code active : ℤ) (activations : ℕ) : Type 0 where
   pub answer : Result Activity Refusal
   pub coded : code ≡ code_of answer
   pub told : IfOk answer (λ activity. (active ≡ active_code activity.active) × (activations ≡ activity.count))
   pub kept : new.held.machine ≡ Some old
-  pub serves : Serves (OfHost (Stat g answer)) old old
+  pub refines : LibraryCallRefines (OfHost (Stat g answer)) old old
 
 -- ---- what a call can be given
 
@@ -151,9 +151,9 @@ RefusesSpace old space code = old.mark ≡ MARK → space_numbered space ≡ Non
 abbrev pub RefusesMap : Handle → ℕ → List BlockShown → ℤ → Type 0
 RefusesMap old space blocks code = old.mark ≡ MARK → space_numbered space ≢ None → ¬ (MAP_BLOCKS ≤ length blocks) → code ≡ BAD_LENGTH
 
--- the handle is open, and its channels keep the state that these options open
+-- the handle is open, and its channels refine the state that these options open
 abbrev pub IsOpenedWith : Options → Handle → Type 0
-IsOpenedWith options new = (new.mark ≡ MARK) × ((m : Machine) × (new.held.machine ≡ Some m) × Keeps m.channels (opened_state options))
+IsOpenedWith options new = (new.mark ≡ MARK) × ((m : Machine) × (new.held.machine ≡ Some m) × LibraryRefines m.channels (opened_state options))
 
 -- the handle is closed, and has no machine
 abbrev pub IsShut : Handle → Type 0

@@ -1,5 +1,5 @@
 //! Blocks of samples.
-ghost use Rattle.std.specs.Prelude.{◌≡◌, ◌≢◌, ◌≤◌, length, take, drop};
+ghost use Rattle.std.specs.Prelude.{◌≡◌, ◌≢◌, ◌≤◌, [], ◌∷◌, length, take, drop};
 ghost use Rattle.ialg.specs.declared.TheConstants.{BLOCK_SAMPLES};
 ghost use Rattle.dsp_library.specs.declared.TheConstants.{DONE};
 ghost use Rattle.channel_spec.specs.Calls.Call.{Ready};
@@ -11,6 +11,7 @@ use crate::machine::Machine;
 use crate::{BAD_LENGTH, CLOSED, DONE, MARK};
 use ialg::BLOCK_SAMPLES;
 use std::alloc::Global;
+use std::slice;
 
 /// Writes the samples to the first places.
 pub(crate) fn write_first(samples: &[i16], out: &mut [i16])
@@ -74,6 +75,40 @@ pub extern "C" fn rokdaum_proved_feed(
     answer
 }
 
+/// Gives one sample to a channel, and writes what the channel gives, one sample or none, and their count: as [`rokdaum_proved_feed`] does
+/// with a block of one. It is a call of its own, since a sample is passed with fewer instructions than a block.
+#[unsafe(no_mangle)]
+pub extern "C" fn rokdaum_proved_feed_sample(
+    alloc: Global,
+    handle: &mut Handle,
+    channel: u8,
+    sample: i16,
+    out: &mut i16,
+    count: &mut u32,
+) -> i32
+    requires handle { IsHandle handle.old }
+    ensures handle { IsHandle handle.new }
+    ensures mark { handle.new.mark ≡ handle.old.mark }
+    ensures refused { result ≢ DONE → (out.new ≡ out.old) × (count.new ≡ count.old) }
+    ensures closed { RefusesClosed handle.old handle.new result }
+    ensures machine { TakesFeed handle.old handle.new result channel (sample ∷ []) (out.old ∷ []) (out.new ∷ []) count.new }
+{
+    if handle.mark != MARK {
+        return CLOSED;
+    }
+    let mut machine = handle.take(alloc);
+    let answer = feed(
+        &mut machine,
+        channel,
+        &[sample],
+        slice::from_mut(out),
+        count,
+    );
+    handle.put(machine);
+    answer
+}
+
+#[inline(always)]
 fn feed(machine: &mut Machine, channel: u8, input: &[i16], out: &mut [i16], count: &mut u32) -> i32
     requires some { 1 ≤ length input.now }
     requires within { length input.now ≤ BLOCK_SAMPLES }

@@ -3,7 +3,7 @@ ghost use Rattle.std.specs.Prelude.{◌≡◌, ◌≢◌, ◌≤◌, true, Some,
 ghost use Rattle.host_map.specs.MemoryMap.{AreSizes};
 ghost use Rattle.host_spec.specs.State.{new_state};
 ghost use Rattle.dsp_library.specs.declared.TheConstants.{DONE, BAD_SIZE, NO_MEMORY, OPEN, MARK};
-ghost use Rattle.dsp_library.specs.Calls.{IsHandle, IsOpenedWith, IsShut, Keeps, RefusesClosed};
+ghost use Rattle.dsp_library.specs.Calls.{IsHandle, IsOpenedWith, IsShut, LibraryRefines, RefusesClosed};
 ghost use Rattle.dsp_library.specs.Codes.{CanBeOpened};
 ghost use Rattle.channel_spec.specs.Channels.{unchained};
 
@@ -54,7 +54,7 @@ fn new_machine(
     requires most { channels ≤ CHANNELS }
     ensures size { ¬ AreSizes sizes → IsErrOf result BAD_SIZE }
     ensures memory { AreSizes sizes → IfErr result (λ e. e ≡ NO_MEMORY) }
-    ensures keeps { IfOk result (λ m. Keeps m.value.channels (unchained (new_state sizes poison) channels)) }
+    ensures refines { IfOk result (λ m. LibraryRefines m.value.channels (unchained (new_state sizes poison) channels)) }
 {
     let host: Host<GatewayKind> = match Host::new(alloc, sizes, poison) {
         Ok(host) => host,

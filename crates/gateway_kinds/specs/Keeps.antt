@@ -3,7 +3,7 @@ use Rattle.std.specs.Prelude.{[]}
 use Rattle.ialg.specs.declared.TheConstants.{FILTER_RECORDS}
 use Rattle.ialg.specs.Filters as filters
 use Rattle.ialg.specs.Laws.{Laws, Relation}
-use Rattle.kind_parts.specs.Either.{told, either_keeps}
+use Rattle.kind_parts.specs.Either.{told, either_refines}
 use Rattle.kind_parts.specs.declared.mapping.Mapped.{Mapped}
 use Rattle.kind_parts.specs.declared.framing.Framed.{Framed}
 use Rattle.kind_parts.specs.declared.words.TheConstants.{SUM_WORDS}
@@ -41,10 +41,10 @@ abbrev pub dtmf_active : Relation Dtmf
 dtmf_active _ p rs wss h = filters.IsActive DTMF_KIND (dtmf_memory p) (dtmf.Runs p h) rs wss
 
 abbrev pub IsIdle : Relation Kind
-IsIdle = either_keeps voice.IsIdle (either_keeps gain_idle (either_keeps level_idle dtmf_idle))
+IsIdle = either_refines voice.IsIdle (either_refines gain_idle (either_refines level_idle dtmf_idle))
 
 abbrev pub IsActive : Relation Kind
-IsActive = either_keeps voice.IsActive (either_keeps gain_active (either_keeps level_active dtmf_active))
+IsActive = either_refines voice.IsActive (either_refines gain_active (either_refines level_active dtmf_active))
 
 -- what the kinds mean, and what keeps a history of an instance of one
 abbrev pub kind_laws : Laws Kind
@@ -52,6 +52,6 @@ kind_laws = record {
   meaning = kind_meaning;
   bound = told voice.voice_bound (told (λ _. FILTER_RECORDS) (told (λ _. FILTER_RECORDS) (λ _. FILTER_RECORDS)));
   fill = told voice.voice_fill (told (λ _ p k. []) (told (λ _ p k. []) (λ _ p k. [])));
-  idle_keeps = IsIdle;
-  active_keeps = IsActive;
+  idle_refines = IsIdle;
+  active_refines = IsActive;
 }

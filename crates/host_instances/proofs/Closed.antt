@@ -31,7 +31,7 @@ use Rattle.host_spec.specs.Steps.{Outcome, closed, delete}
 use Rattle.host_spec.proofs.CallLemmas.{delete_keeps}
 use Rattle.host_moves.specs.Standing.{AgreeWithMap, SlotIsSame}
 use Rattle.host_moves.proofs.Rooms.{compare}
-use Rattle.host_moves.specs.Hosts.{HostKeeps}
+use Rattle.host_moves.specs.Hosts.{ListsAndSpacesRefine}
 
 -- ---- the state in which the first n instances are deleted
 
@@ -56,25 +56,25 @@ without_next kinds before n =
 pub record IsClosing {M : Type 0} (laws : Laws M) (instances : List (Option (Member M))) (sharing : List Locations) (groups : List Group) (spaces : Spaces)
     (n : ℕ) (w : Option ℤ) (before : State M) : Type 0 where
   pub poison : (without_first laws.meaning before n).poison ≡ w
-  pub kept : HostKeeps laws instances sharing groups spaces (without_first laws.meaning before n)
+  pub kept : ListsAndSpacesRefine laws instances sharing groups spaces (without_first laws.meaning before n)
 
 module _ {M : Type 0} (laws : Laws M) (instances : List (Option (Member M))) (sharing : List Locations) (groups : List Group) (spaces : Spaces)
     (w : Option ℤ) (before : State M) where
   pub closing_next : (n : ℕ) (answer : Result (Unit {0}) Refusal) (after : State M) → (without_first laws.meaning before n).poison ≡ w
       → ◌≡◌ {A = Outcome (State M) (Unit {0})} (answer, after) (delete laws.meaning (without_first laws.meaning before n) n)
-      → HostKeeps laws instances sharing groups spaces after
+      → ListsAndSpacesRefine laws instances sharing groups spaces after
       → IsClosing laws instances sharing groups spaces (n + 1) w before
   closing_next n answer after poison does kept =
       let now = without_first laws.meaning before n in
       let is : after ≡ without_first laws.meaning before (n + 1) = ap (λ (o : Outcome (State M) (Unit {0})). o.1) does ∙ sym (without_next laws.meaning before n) in
       record {
         poison = ap (λ (s : State M). s.poison) (without_next laws.meaning before n) ∙ (delete_keeps n now laws.meaning).host.poison ∙ poison;
-        kept = subst (HostKeeps laws instances sharing groups spaces) is kept;
+        kept = subst (ListsAndSpacesRefine laws instances sharing groups spaces) is kept;
       }
 
   pub closing_end : (n : ℕ) → n ≡ INSTANCES → IsClosing laws instances sharing groups spaces n w before
-      → HostKeeps laws instances sharing groups spaces (closed laws.meaning before)
-  closing_end n all closing = subst (λ k. HostKeeps laws instances sharing groups spaces (without_first laws.meaning before k)) all closing.kept
+      → ListsAndSpacesRefine laws instances sharing groups spaces (closed laws.meaning before)
+  closing_end n all closing = subst (λ k. ListsAndSpacesRefine laws instances sharing groups spaces (without_first laws.meaning before k)) all closing.kept
 
 -- ---- nothing is left
 

@@ -16,7 +16,7 @@ use Rattle.host_shared.specs.declared.locations.Locations.{Locations}
 use Rattle.host_table.specs.Table.{slot_at, activity_at}
 use Rattle.host_map.specs.Activity.{Activity, deactivated, with_at}
 use Rattle.host_shared.specs.Locations.{shared_at}
-use Rattle.host_table.specs.Keeps.{Keeps, SlotKeeps, with_history}
+use Rattle.host_table.specs.Refinement.{SlotsRefine, SlotRefines, with_history}
 use Rattle.host_map.specs.declared.parts.Sizes.{Sizes}
 use Rattle.host_spaces.specs.declared.spaces.Spaces.{Spaces}
 use Rattle.host_map.specs.Creation.{created_map, replaces}
@@ -29,8 +29,8 @@ use Rattle.host_spec.specs.State.{Living, State, sharers_of}
 use Rattle.host_moves.proofs.SharersKept.{sharers_same}
 use Rattle.host_spec.specs.Choices.{MayAsk}
 use Rattle.host_spec.specs.Steps.{created, newborn}
-use Rattle.host_moves.specs.Kept.{IsLiving, history_of}
-use Rattle.host_moves.specs.Hosts.{HostKeeps}
+use Rattle.host_moves.specs.Refinement.{IsLiving, history_of}
+use Rattle.host_moves.specs.Hosts.{ListsAndSpacesRefine}
 use Rattle.host_moves.proofs.MovesKept.{still_living}
 use Rattle.host_instances.specs.Growth.{activity_grown}
 use Rattle.host_instances.specs.Ends.{OtherSlotsSame}
@@ -63,7 +63,7 @@ asks meaning w kind p table asked without lawful =
     sym (asked.told (or_left (meaning.lawful kind p w) (meaning.declares kind p) lawful)) ∙ ap Some (sym (without lawful))
 
 module _ {M : Type 0} (laws : Laws M) (instances : List (Option (Member M))) (sharing : List Locations) (groups : List Group) (spaces : Spaces) (before : State M)
-    (kept : HostKeeps laws instances sharing groups spaces before) (i g : ℕ) (kind : M) (p : List ℤ) (table : List MemRec) where
+    (kept : ListsAndSpacesRefine laws instances sharing groups spaces before) (i g : ℕ) (kind : M) (p : List ℤ) (table : List MemRec) where
   pub is_free : slot_at instances i ≡ None → before.living i ≡ None
   is_free empty = living_none (slot_at instances i) (before.living i) (kept.tables.living i) empty
 
@@ -88,7 +88,7 @@ module _ {M : Type 0} (laws : Laws M) (instances : List (Option (Member M))) (sh
   module _ (instances' : List (Option (Member M))) (sharing' : List Locations) (groups' : List Group) (spaces' : Spaces)
       (others : OtherSlotsSame i instances instances') (new : IsNewborn g kind p table (slot_at instances' i))
       (activity : (k : ℕ) → activity_at groups' k ≡ activity_grown (replaces (map_of spaces) g table) groups g k)
-      (keeps : Keeps laws before.poison instances' sharing' groups' (with_history (λ j. history_of (before.living j)) i []))
+      (keeps : SlotsRefine laws before.poison instances' sharing' groups' (with_history (λ j. history_of (before.living j)) i []))
       (stays : AreSameSpaces spaces spaces') where
     lives_now : (j : ℕ) → IsLiving (slot_at instances' j) (with_at before.living i (Some (newborn kind g p table)) j)
     lives_now j = elim (eqb_tells j i) [
@@ -119,12 +119,12 @@ module _ {M : Type 0} (laws : Laws M) (instances : List (Option (Member M))) (sh
           ∙ sym (ap (λ (b : Bool). history_of (cond b (Some (newborn kind g p table)) (before.living j))) apart.0)
     ]
 
-    pub created_kept : HostKeeps laws instances' sharing' groups' spaces' (created before i (newborn kind g p table) table (map_of spaces'))
+    pub created_kept : ListsAndSpacesRefine laws instances' sharing' groups' spaces' (created before i (newborn kind g p table) table (map_of spaces'))
     created_kept = record {
       tables = record {
         living = lives_now;
         activity = active_now;
-        histories = λ j. subst (λ (h : History). SlotKeeps laws before.poison (slot_at instances' j) (shared_at sharing' j) groups' h) (history_now j) (keeps j);
+        histories = λ j. subst (λ (h : History). SlotRefines laws before.poison (slot_at instances' j) (shared_at sharing' j) groups' h) (history_now j) (keeps j);
       };
       map = refl;
       sizes = same_sizes spaces spaces' (λ space. (stays space).region) ∙ kept.sizes;

@@ -10,7 +10,7 @@ use Rattle.host_shared.specs.declared.locations.Locations.{Locations}
 use Rattle.host_map.specs.Activity.{Activity, without_active, with_at}
 use Rattle.host_table.specs.Table.{slot_at, group_of, is_member_of, activity_at}
 use Rattle.host_shared.specs.Locations.{shared_at}
-use Rattle.host_table.specs.Keeps.{Keeps, SlotKeeps}
+use Rattle.host_table.specs.Refinement.{SlotsRefine, SlotRefines}
 use Rattle.host_spaces.specs.declared.spaces.Spaces.{Spaces}
 use Rattle.host_map.specs.MemoryMap.{MemoryMap}
 use Rattle.host_spaces.specs.MemoryMap.{map_of}
@@ -18,9 +18,9 @@ use Rattle.host_map.specs.Creation.{deleted_map}
 use Rattle.host_spec.specs.State.{Living, State, has_member, sharers_of}
 use Rattle.host_spec.specs.Steps.{Outcome, delete, without_instance}
 use Rattle.host_spec.proofs.OutcomeLemmas.{delete_granted}
-use Rattle.host_moves.specs.Kept.{IsLiving, history_of}
+use Rattle.host_moves.specs.Refinement.{IsLiving, history_of}
 use Rattle.host_moves.proofs.KeptLemmas.{Found, found}
-use Rattle.host_moves.specs.Hosts.{HostKeeps}
+use Rattle.host_moves.specs.Hosts.{ListsAndSpacesRefine}
 use Rattle.host_moves.proofs.MovesKept.{still_living}
 use Rattle.host_map.specs.Sharers.{Asked}
 use Rattle.host_table.specs.Sharers.{asked_by}
@@ -65,7 +65,7 @@ same_members instances living g count is =
 
 module _ {M : Type 0} (laws : Laws M) (i : ℕ)
     (instances instances' : List (Option (Member M))) (sharing sharing' : List Locations) (groups groups' : List Group) (spaces spaces' : Spaces) (before : State M)
-    (kept : HostKeeps laws instances sharing groups spaces before)
+    (kept : ListsAndSpacesRefine laws instances sharing groups spaces before)
     (ended : HasEnded laws before.poison i instances sharing groups spaces instances' sharing' groups' spaces')
     (its : Found (slot_at instances i) (before.living i)) where
   abbrev others : ℕ → Option (Living M)
@@ -100,14 +100,14 @@ module _ {M : Type 0} (laws : Laws M) (i : ℕ)
       ∙ ap (λ (a : Activity). with_at (activity_at groups) g (without_active i a) k) (kept.tables.activity g)
       ∙ ap (λ (a : Activity). cond (nat_eq k g) (without_active i (before.activity g)) a) (kept.tables.activity k)
 
-  histories_after : Keeps laws before.poison instances' sharing' groups' (λ j. history_of (others j))
+  histories_after : SlotsRefine laws before.poison instances' sharing' groups' (λ j. history_of (others j))
   histories_after j =
       elim (eqb_tells j i) [
         | inl e ↦
-            subst (λ slot. SlotKeeps laws before.poison slot (shared_at sharing' j) groups' (history_of (others j)))
+            subst (λ slot. SlotRefines laws before.poison slot (shared_at sharing' j) groups' (history_of (others j)))
             (sym (ap (slot_at instances') e.1 ∙ ended.gone)) tt
         | inr e ↦
-            subst (λ living. SlotKeeps laws before.poison (slot_at instances' j) (shared_at sharing' j) groups' (history_of living)) (sym (lives_at j e.0))
+            subst (λ living. SlotRefines laws before.poison (slot_at instances' j) (shared_at sharing' j) groups' (history_of living)) (sym (lives_at j e.0))
             (ended.keeps (λ k. history_of (before.living k)) kept.tables.histories j)
       ]
 
@@ -130,7 +130,7 @@ module _ {M : Type 0} (laws : Laws M) (i : ℕ)
       ∙ ap (λ (p : MemoryMap). deleted_map (has_member others g) p i g sharers) kept.map
       ∙ ap (deleted_map (has_member others g) before.map i g) sharers_after
 
-  kept_after : HostKeeps laws instances' sharing' groups' spaces' after
+  kept_after : ListsAndSpacesRefine laws instances' sharing' groups' spaces' after
   kept_after = record {
     tables = record { living = living_after; activity = activity_after; histories = histories_after };
     map = map_after;
@@ -142,8 +142,8 @@ module _ {M : Type 0} (laws : Laws M) (i : ℕ)
 pub deleted_kept : {M : Type 0} (laws : Laws M) (i : ℕ) (w : Option ℤ)
     (instances instances' : List (Option (Member M))) (sharing sharing' : List Locations) (groups groups' : List Group) (spaces spaces' : Spaces) (before : State M)
     → i < INSTANCES → IsSome (slot_at instances i) → HasEnded laws w i instances sharing groups spaces instances' sharing' groups' spaces'
-    → before.poison ≡ w → HostKeeps laws instances sharing groups spaces before
-    → (after : State M) × ◌≡◌ {A = Outcome (State M) (Unit {0})} (Ok tt, after) (delete laws.meaning before i) × HostKeeps laws instances' sharing' groups' spaces' after
+    → before.poison ≡ w → ListsAndSpacesRefine laws instances sharing groups spaces before
+    → (after : State M) × ◌≡◌ {A = Outcome (State M) (Unit {0})} (Ok tt, after) (delete laws.meaning before i) × ListsAndSpacesRefine laws instances' sharing' groups' spaces' after
 deleted_kept laws i w instances instances' sharing sharing' groups groups' spaces spaces' before below some ended e kept =
     let its = found (slot_at instances i) (before.living i) some (kept.tables.living i) in
     let here = subst (λ v. HasEnded laws v i instances sharing groups spaces instances' sharing' groups' spaces') (sym e) ended in (

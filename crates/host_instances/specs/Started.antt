@@ -22,7 +22,7 @@ use Rattle.host_spaces.specs.Pieces.{ArePlacedPieces, HasRecords}
 use Rattle.host_table.specs.declared.member.Member.{Member}
 use Rattle.host_table.specs.declared.life.NewInstance.{NewInstance}
 use Rattle.host_table.specs.Table.{slot_at, group_at, activity_at, instance_of, slot_active_in}
-use Rattle.host_table.specs.Keeps.{with_history}
+use Rattle.host_table.specs.Refinement.{with_history}
 use Rattle.host_table.specs.Sharers.{sharer_in}
 use Rattle.host_table.specs.Starts.{asked_for}
 use Rattle.host_table.specs.Steps.{AreKept}

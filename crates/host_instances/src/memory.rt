@@ -4,7 +4,7 @@ ghost use Rattle.host_map.specs.MemoryMap.{AreSizes};
 ghost use Rattle.host_table.specs.Table.{ArePoisoned, NoneLives};
 ghost use Rattle.host_table.specs.Steps.{AreConsistent};
 ghost use Rattle.host_moves.specs.Standing.{MapAgrees};
-ghost use Rattle.host_moves.specs.Hosts.{Refines};
+ghost use Rattle.host_moves.specs.Hosts.{TablesAndSpacesRefine};
 ghost use Rattle.host_spec.specs.State.{new_state};
 
 use host_map::Sizes;
@@ -58,7 +58,7 @@ impl<M: Ialg> HostMemory<M> {
         ensures standing { MapAgrees result.0 result.1 }
         ensures poisoned { (w : Option ℤ) → ArePoisoned w result.0.groups }
         ensures empty { NoneLives result.0.instances }
-        ensures machine { (w : Option ℤ) → Refines M.law result.0 result.1 (new_state self.spaces.sizes w) }
+        ensures machine { (w : Option ℤ) → TablesAndSpacesRefine M.law result.0 result.1 (new_state self.spaces.sizes w) }
     {
         let HostMemory { spaces, tables } = self;
         let tables = tables.into_tables();

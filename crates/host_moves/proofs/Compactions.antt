@@ -20,7 +20,7 @@ use Rattle.host_spec.specs.State.{State}
 use Rattle.host_spec.specs.Steps.{moving, step, compact}
 use Rattle.host_spec.specs.Laws.{IsSteps}
 use Rattle.host_spec.proofs.CompactLemmas.{steps_compact}
-use Rattle.host_moves.specs.Hosts.{HostKeeps}
+use Rattle.host_moves.specs.Hosts.{ListsAndSpacesRefine}
 use Rattle.ialg.specs.Laws.{Laws}
 
 -- ---- how many blocks are not at their packed places
@@ -84,12 +84,12 @@ moved_one spaces spaces' space some map =
 pub record IsAmid {M : Type 0} (laws : Laws M) (space : Space) (instances : List (Option (Member M))) (sharing : List Locations) (groups : List Group) (spaces : Spaces)
     (moved : ℕ) (before : State M) : Type 0 where
   pub now : State M
-  pub kept : HostKeeps laws instances sharing groups spaces now
+  pub kept : ListsAndSpacesRefine laws instances sharing groups spaces now
   pub same : compact before space ≡ ((compact now space).0 + moved, (compact now space).1)
 
 module _ {M : Type 0} (laws : Laws M) (space : Space) where
   counted : (instances : List (Option (Member M))) (sharing : List Locations) (groups : List Group) (spaces : Spaces) (state : State M)
-      → HostKeeps laws instances sharing groups spaces state → state.copied < 2 ^ 64
+      → ListsAndSpacesRefine laws instances sharing groups spaces state → state.copied < 2 ^ 64
   counted instances sharing groups spaces state kept = let e = kept.copied in omega (arith, e)
 
   answer_is : (answer : Bool) (machine : State M) → (answer, (step machine space).1) ≡ step machine space → (step machine space).0 ≡ answer
@@ -101,7 +101,7 @@ module _ {M : Type 0} (laws : Laws M) (space : Space) where
     steps = steps_compact amid.now space (counted instances sharing groups spaces amid.now amid.kept)
 
     pub amid_next : {instances' : List (Option (Member M))} {sharing' : List Locations} {groups' : List Group} {spaces' : Spaces}
-        → ((true, (step amid.now space).1) ≡ step amid.now space) → HostKeeps laws instances' sharing' groups' spaces' (step amid.now space).1
+        → ((true, (step amid.now space).1) ≡ step amid.now space) → ListsAndSpacesRefine laws instances' sharing' groups' spaces' (step amid.now space).1
         → IsAmid laws space instances' sharing' groups' spaces' (moved + 1) before
     amid_next is kept =
         let more = steps.more (answer_is true amid.now is) in
@@ -119,8 +119,8 @@ module _ {M : Type 0} (laws : Laws M) (space : Space) where
     stopped (Some b) machine e = absurd (true≢false e)
 
     pub amid_end : {instances' : List (Option (Member M))} {sharing' : List Locations} {groups' : List Group} {spaces' : Spaces}
-        → ((false, (step amid.now space).1) ≡ step amid.now space) → HostKeeps laws instances' sharing' groups' spaces' (step amid.now space).1
-        → ((moved, (compact before space).1) ≡ compact before space) × HostKeeps laws instances' sharing' groups' spaces' (compact before space).1
+        → ((false, (step amid.now space).1) ≡ step amid.now space) → ListsAndSpacesRefine laws instances' sharing' groups' spaces' (step amid.now space).1
+        → ((moved, (compact before space).1) ≡ compact before space) × ListsAndSpacesRefine laws instances' sharing' groups' spaces' (compact before space).1
     amid_end {instances'} {sharing'} {groups'} {spaces'} is kept =
         let still = answer_is false amid.now is in
         let last = steps.last still in
@@ -128,5 +128,5 @@ module _ {M : Type 0} (laws : Laws M) (space : Space) where
         let all : compact before space ≡ (moved, amid.now) = amid.same ∙ ap (λ (o : ℕ × State M). let p : ℕ × State M = (o.0 + moved, o.1) in p) last
         ∙ ap (λ (n : ℕ). let p : ℕ × State M = (n, amid.now) in p) (let e : 0 + moved ≡ moved = omega arith in e) in (
           ap (λ (o : ℕ × State M). let p : ℕ × State M = (moved, o.1) in p) all ∙ sym all,
-          subst (λ (s : State M). HostKeeps laws instances' sharing' groups' spaces' s) (sym (ap (λ (o : ℕ × State M). o.1) all)) (subst (λ (s : State M). HostKeeps laws instances' sharing' groups' spaces' s) there kept),
+          subst (λ (s : State M). ListsAndSpacesRefine laws instances' sharing' groups' spaces' s) (sym (ap (λ (o : ℕ × State M). o.1) all)) (subst (λ (s : State M). ListsAndSpacesRefine laws instances' sharing' groups' spaces' s) there kept),
         )

@@ -16,7 +16,7 @@ use Rattle.scratch_group.specs.Blocks.{block_in}
 use Rattle.scratch_group.specs.Words.{place_by, placed, scratch_offset, with_bases}
 use Rattle.lifecycle.specs.declared.instance.Instance.{Instance}
 use Rattle.lifecycle.specs.Moves.{restored, with_back, HasRoom}
-use Rattle.lifecycle.specs.States.{Fits, IdleKeeps, SameOnce}
+use Rattle.lifecycle.specs.States.{Fits, IdleRefines, SameOnce}
 use Rattle.lifecycle.proofs.Frames.{unplaced-placed}
 use Rattle.host_table.proofs.Held.{same_shape}
 use Rattle.host_table.proofs.Lendings.{any_pieces, idle_any}
@@ -73,7 +73,7 @@ module _ (rs : List MemRec) (third : (k : ℕ) → (record_at rs k).attr ≡ Wri
   third_after : (ts : List MemRec) (own a : Pieces) (g : Group) → ts ≡ placed rs own a g → (k : ℕ) → (record_at ts k).attr ≡ WriteOnce → k ≡ 2
   third_after ts own a g is k attr = third k (ap (λ (r : MemRec). r.attr) (same_shape ts rs k (unplaced-placed rs ts own a g is)) ∙ attr)
 
-  idle_like : {M : Type 0} (laws : Laws M) (s : Instance M) (w : Option ℤ) (a b : Pieces) (h : History) → s.table ≡ rs → SameOnce rs a b → IdleKeeps laws s w a h → IdleKeeps laws s w b h
+  idle_like : {M : Type 0} (laws : Laws M) (s : Instance M) (w : Option ℤ) (a b : Pieces) (h : History) → s.table ≡ rs → SameOnce rs a b → IdleRefines laws s w a h → IdleRefines laws s w b h
   idle_like laws s w a b h table same keeps lawful = rw (idle_written s.table s.own a b (rw table same)) (keeps lawful)
 
 in_space_third : (a : Pieces) → ((k : ℕ) → IsInSpace (piece_at a k)) → (k : ℕ) → IsInSpace (piece_at (only_third a.p2) k)

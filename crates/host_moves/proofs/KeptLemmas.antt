@@ -16,14 +16,14 @@ use Rattle.host_shared.specs.declared.locations.Locations.{Locations}
 use Rattle.host_map.specs.Activity.{Activity, activated, deactivated, with_at}
 use Rattle.host_table.specs.Table.{slot_at, group_at, group_of, instance_of, activity_at, activated_by}
 use Rattle.host_shared.specs.Locations.{shared_at}
-use Rattle.host_table.specs.Keeps.{Keeps, SlotKeeps, with_history}
+use Rattle.host_table.specs.Refinement.{SlotsRefine, SlotRefines, with_history}
 use Rattle.host_table.specs.Frames.{SameSlot, SameTables, IsSameMember, SameMembers}
 use Rattle.host_spec.specs.State.{Living, State}
 use Rattle.host_spec.specs.Choices.{MayGive, MayAnswer}
 use Rattle.host_spec.specs.Steps.{Outcome, activating, processed, release}
 use Rattle.host_spec.specs.Calls.{Processes, Controls}
 use Rattle.host_spec.proofs.OutcomeLemmas.{process_some, release_granted, control_granted, control_command}
-use Rattle.host_moves.specs.Kept.{IsInstance, IsLiving, history_of, TablesKeep}
+use Rattle.host_moves.specs.Refinement.{IsInstance, IsLiving, history_of, ListsRefine}
 
 some_same : {A : Type 0} (a b : A) → Some a ≡ Some b → a ≡ b
 some_same a b e = cc
@@ -82,21 +82,21 @@ module _ {M : Type 0} where
 
 module _ {M : Type 0} (laws : Laws M) where
   keeps_these : (w : Option ℤ) (instances : List (Option (Member M))) (sharing : List Locations) (groups : List Group) (old new : ℕ → History)
-      → ((i : ℕ) → old i ≡ new i) → Keeps laws w instances sharing groups old → Keeps laws w instances sharing groups new
+      → ((i : ℕ) → old i ≡ new i) → SlotsRefine laws w instances sharing groups old → SlotsRefine laws w instances sharing groups new
   keeps_these w instances sharing groups old new same keeps =
-      λ i. subst (λ h. SlotKeeps laws w (slot_at instances i) (shared_at sharing i) groups h) (same i) (keeps i)
+      λ i. subst (λ h. SlotRefines laws w (slot_at instances i) (shared_at sharing i) groups h) (same i) (keeps i)
 
   module _ (instances : List (Option (Member M))) (sharing : List Locations) (groups : List Group)
       (instances' : List (Option (Member M))) (sharing' : List Locations) (groups' : List Group) (before : State M) (i : ℕ) where
     abbrev Kept : State M → Type 0
-    Kept state = TablesKeep laws instances' sharing' groups' state
+    Kept state = ListsRefine laws instances' sharing' groups' state
 
     -- an instance was touched, and its history is h now
-    module _ (kept : TablesKeep laws instances sharing groups before)
+    module _ (kept : ListsRefine laws instances sharing groups before)
         (its : Found (slot_at instances i) (before.living i)) (h : History)
         (same : SameTables instances sharing groups instances' sharing' groups')
         (activity : (k : ℕ) → activity_at groups' k ≡ activated_by instances groups i k)
-        (keeps : Keeps laws before.poison instances' sharing' groups' (with_history (λ j. history_of (before.living j)) i h)) where
+        (keeps : SlotsRefine laws before.poison instances' sharing' groups' (with_history (λ j. history_of (before.living j)) i h)) where
       abbrev aged_x : Living M
       aged_x = record its.instance { history = h }
 
@@ -129,17 +129,17 @@ module _ {M : Type 0} (laws : Laws M) where
 
     -- what a call keeps, in a host of this poison word
     abbrev pub KeepsBy : (History → History) → Option ℤ → Type 0
-    KeepsBy longer w = (histories : ℕ → History) → Keeps laws w instances sharing groups histories
-        → Keeps laws w instances' sharing' groups' (with_history histories i (longer (histories i)))
+    KeepsBy longer w = (histories : ℕ → History) → SlotsRefine laws w instances sharing groups histories
+        → SlotsRefine laws w instances' sharing' groups' (with_history histories i (longer (histories i)))
 
     -- what a block gives
     abbrev pub GivesBy : List ℤ → List ℤ → Option ℤ → Type 0
-    GivesBy block out w = (histories : ℕ → History) → Keeps laws w instances sharing groups histories
+    GivesBy block out w = (histories : ℕ → History) → SlotsRefine laws w instances sharing groups histories
         → (m : Member M) → slot_at instances i ≡ Some m → IsLawful laws.meaning (instance_of m.inst) w
         → all_outputs laws.meaning (instance_of m.inst) (with_samples (histories i) block) ≡ all_outputs laws.meaning (instance_of m.inst) (histories i) ++ out
 
     -- a block of samples
-    module _ (kept : TablesKeep laws instances sharing groups before) (block out : List ℤ)
+    module _ (kept : ListsRefine laws instances sharing groups before) (block out : List ℤ)
         (same : SameTables instances sharing groups instances' sharing' groups')
         (activity : (k : ℕ) → activity_at groups' k ≡ activated_by instances groups i k)
         (keeps : KeepsBy (λ h. with_samples h block) before.poison)
@@ -175,7 +175,7 @@ module _ {M : Type 0} (laws : Laws M) where
               record { instance = its.instance; there = its.lives; gives = gives; outcome = refl },
               subst Kept (sym (process_some before i block its.instance its.lives some))
                   (kept_touching kept its h same activity
-                  (subst (λ k. Keeps laws before.poison instances' sharing' groups' (with_history histories i (with_samples k block))) its_history now)),
+                  (subst (λ k. SlotsRefine laws before.poison instances' sharing' groups' (with_history histories i (with_samples k block))) its_history now)),
             )
 
       given_kept : IsSome (slot_at instances i) → Processes laws.meaning before i block out (processed before i block) × Kept (processed before i block)
@@ -183,7 +183,7 @@ module _ {M : Type 0} (laws : Laws M) where
 
     -- the same, in a host of poison word w
     pub block_given : (w : Option ℤ) (block out : List ℤ) → before.poison ≡ w
-        → TablesKeep laws instances sharing groups before → IsSome (slot_at instances i)
+        → ListsRefine laws instances sharing groups before → IsSome (slot_at instances i)
         → SameTables instances sharing groups instances' sharing' groups' → ((k : ℕ) → activity_at groups' k ≡ activated_by instances groups i k)
         → KeepsBy (λ h. with_samples h block) w → GivesBy block out w → length out ≤ length block → 1 ≤ length block
         → Processes laws.meaning before i block out (processed before i block) × Kept (processed before i block)
@@ -191,11 +191,11 @@ module _ {M : Type 0} (laws : Laws M) where
         given_kept kept block out same activity (subst (KeepsBy (λ h. with_samples h block)) (sym e) keeps) (subst (GivesBy block out) (sym e) output) bounded some living
 
     -- the member was put to rest in group g
-    pub rested_kept : (w : Option ℤ) (g : ℕ) → before.poison ≡ w → TablesKeep laws instances sharing groups before
+    pub rested_kept : (w : Option ℤ) (g : ℕ) → before.poison ≡ w → ListsRefine laws instances sharing groups before
         → SameTables instances sharing groups instances' sharing' groups'
         → ((k : ℕ) → activity_at groups' k ≡ with_at (activity_at groups) g (deactivated (activity_at groups g)) k)
-        → ((histories : ℕ → History) → Keeps laws w instances sharing groups histories
-        → Keeps laws w instances' sharing' groups' histories)
+        → ((histories : ℕ → History) → SlotsRefine laws w instances sharing groups histories
+        → SlotsRefine laws w instances' sharing' groups' histories)
         → Kept (record before { activity = with_at before.activity g (deactivated (before.activity g)) })
     rested_kept w g e kept same activity keeps = record {
       living = λ j. same_living (slot_at instances j) (slot_at instances' j) (before.living j) (same.slot j) (kept.living j);
@@ -205,11 +205,11 @@ module _ {M : Type 0} (laws : Laws M) where
           ∙ ap (λ a. cond (nat_eq k g) (deactivated (before.activity g)) a) (kept.activity k);
       histories =
           let histories : ℕ → History = λ j. history_of (before.living j) in
-          subst (λ v. Keeps laws v instances' sharing' groups' histories) (sym e)
-          (keeps histories (subst (λ v. Keeps laws v instances sharing groups histories) e kept.histories));
+          subst (λ v. SlotsRefine laws v instances' sharing' groups' histories) (sym e)
+          (keeps histories (subst (λ v. SlotsRefine laws v instances sharing groups histories) e kept.histories));
     }
 
-    pub rest_answered : (g : ℕ) (result : Bool) → g < GROUPS → TablesKeep laws instances sharing groups before
+    pub rest_answered : (g : ℕ) (result : Bool) → g < GROUPS → ListsRefine laws instances sharing groups before
         → result ≡ is_some (group_at groups g).active
         → ◌≡◌ {A = Outcome (State M) Bool} (Ok result, record before { activity = with_at before.activity g (deactivated (before.activity g)) }) (release before g)
     rest_answered g result lt kept active =
@@ -226,9 +226,9 @@ module _ {M : Type 0} (laws : Laws M) where
 
     abbrev pub AnswersBy : Ctl → Status → Option ℤ → Type 0
     AnswersBy c status w = (histories : ℕ → History) (m : Member M) → slot_at instances i ≡ Some m → IsLawful laws.meaning (instance_of m.inst) w
-        → Keeps laws w instances sharing groups histories → status ≡ status_after laws.meaning (instance_of m.inst) (histories i) c
+        → SlotsRefine laws w instances sharing groups histories → status ≡ status_after laws.meaning (instance_of m.inst) (histories i) c
 
-    module _ (kept : TablesKeep laws instances sharing groups before) (its : Found (slot_at instances i) (before.living i)) (c : Ctl) where
+    module _ (kept : ListsRefine laws instances sharing groups before) (its : Found (slot_at instances i) (before.living i)) (c : Ctl) where
       lawful_there : IsTrue (laws.meaning.lawful its.instance.kind its.instance.params before.poison) → IsLawful laws.meaning (instance_of its.member.inst) before.poison
       lawful_there lawful =
           subst (λ k. IsTrue (laws.meaning.lawful k (instance_of its.member.inst).params.items before.poison)) (sym its.is.kind)
@@ -266,7 +266,7 @@ module _ {M : Type 0} (laws : Laws M) where
               outcome = sym (control_granted before i c status its.instance lt its.lives);
             },
             kept_touching kept its h same activity
-                (subst (λ k. Keeps laws before.poison instances' sharing' groups' (with_history (λ j. history_of (before.living j)) i (Control c ∷ k))) (ap history_of its.lives)
+                (subst (λ k. SlotsRefine laws before.poison instances' sharing' groups' (with_history (λ j. history_of (before.living j)) i (Control c ∷ k))) (ap history_of its.lives)
                 (keeps (λ j. history_of (before.living j)) kept.histories)),
           )
 
@@ -282,7 +282,7 @@ module _ {M : Type 0} (laws : Laws M) where
 
     -- the same, in a host of poison word w
     pub control_given : (w : Option ℤ) (c : Ctl) (status : Status) → before.poison ≡ w
-        → TablesKeep laws instances sharing groups before → IsSome (slot_at instances i) → i < INSTANCES
+        → ListsRefine laws instances sharing groups before → IsSome (slot_at instances i) → i < INSTANCES
         → TakesBy c true w → AnswersBy c status w
         → SameTables instances sharing groups instances' sharing' groups' → ((k : ℕ) → activity_at groups' k ≡ activated_by instances groups i k)
         → KeepsBy (λ h. Control c ∷ h) w
@@ -292,23 +292,23 @@ module _ {M : Type 0} (laws : Laws M) where
         (subst (TakesBy c true) (sym e) takes) (subst (AnswersBy c status) (sym e) answers) same activity (subst (KeepsBy (λ h. Control c ∷ h)) (sym e) keeps)
 
     pub control_refused : (w : Option ℤ) (c : Ctl) → before.poison ≡ w
-        → TablesKeep laws instances sharing groups before → IsSome (slot_at instances i) → i < INSTANCES
+        → ListsRefine laws instances sharing groups before → IsSome (slot_at instances i) → i < INSTANCES
         → TakesBy c false w → Controls laws.meaning before i c (Err Command) before
     control_refused w c e kept living lt takes =
         control_not_taken kept (found (slot_at instances i) (before.living i) living (kept.living i)) c lt (subst (TakesBy c false) (sym e) takes)
 
     -- nothing has happened
-    pub same_kept : instances' ≡ instances → sharing' ≡ sharing → groups' ≡ groups → TablesKeep laws instances sharing groups before → Kept before
+    pub same_kept : instances' ≡ instances → sharing' ≡ sharing → groups' ≡ groups → ListsRefine laws instances sharing groups before → Kept before
     same_kept e f h kept =
-        subst (λ s. TablesKeep laws s sharing' groups' before) (sym e)
-        (subst (λ o. TablesKeep laws instances o groups' before) (sym f)
-        (subst (λ y. TablesKeep laws instances sharing y before) (sym h) kept))
+        subst (λ s. ListsRefine laws s sharing' groups' before) (sym e)
+        (subst (λ o. ListsRefine laws instances o groups' before) (sym f)
+        (subst (λ y. ListsRefine laws instances sharing y before) (sym h) kept))
 
     -- the members were told of a move
     pub told_kept : SameMembers instances sharing groups instances' sharing' groups' → ((k : ℕ) → activity_at groups' k ≡ activity_at groups k)
-        → ((w : Option ℤ) (histories : ℕ → History) → Keeps laws w instances sharing groups histories
-        → Keeps laws w instances' sharing' groups' histories)
-        → TablesKeep laws instances sharing groups before → Kept before
+        → ((w : Option ℤ) (histories : ℕ → History) → SlotsRefine laws w instances sharing groups histories
+        → SlotsRefine laws w instances' sharing' groups' histories)
+        → ListsRefine laws instances sharing groups before → Kept before
     told_kept same activity keeps kept = record {
       living = λ j. same_member (slot_at instances j) (slot_at instances' j) (before.living j) (same.slot j) (kept.living j);
       activity = λ k. activity k ∙ kept.activity k;

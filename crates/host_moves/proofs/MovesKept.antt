@@ -17,8 +17,8 @@ use Rattle.host_moves.specs.Standing.{SlotIsSame}
 use Rattle.host_moves.specs.Moves.{HasMoved}
 use Rattle.host_spec.specs.State.{Living, State}
 use Rattle.host_spec.specs.Steps.{more_copied, moving, step}
-use Rattle.host_moves.specs.Kept.{IsLiving}
-use Rattle.host_moves.specs.Hosts.{HostKeeps}
+use Rattle.host_moves.specs.Refinement.{IsLiving}
+use Rattle.host_moves.specs.Hosts.{ListsAndSpacesRefine}
 
 pub still_living : {M : Type 0} (slot slot' : Option (Member M)) (living : Option (Living M)) → SlotIsSame slot slot' → IsLiving slot living → IsLiving slot' living
 still_living None slot' living same is = subst (λ s. IsLiving s living) (sym same) is
@@ -45,7 +45,7 @@ poison_stays laws space {groups} {moved = true} moves packed w before =
 
 module _ {M : Type 0} (laws : Laws M) (space : Space)
     {instances : List (Option (Member M))} {sharing : List Locations} {groups : List Group} {spaces : Spaces} (before : State M)
-    (kept : HostKeeps laws instances sharing groups spaces before) where
+    (kept : ListsAndSpacesRefine laws instances sharing groups spaces before) where
   -- the state with a block of so many words elsewhere
   abbrev stepped : Placed → State M
   stepped b = record before { map = moved_in before.map space; copied = more_copied before.copied b.size }
@@ -56,7 +56,7 @@ module _ {M : Type 0} (laws : Laws M) (space : Space)
   keeps_moved : {instances' : List (Option (Member M))} {sharing' : List Locations} {groups' : List Group} {spaces' : Spaces} (b : Placed)
       → next_block (blocks_in (map_of spaces) space) ≡ Some b
       → HasMoved laws space instances sharing groups spaces instances' sharing' groups' spaces'
-      → HostKeeps laws instances' sharing' groups' spaces' (stepped b)
+      → ListsAndSpacesRefine laws instances' sharing' groups' spaces' (stepped b)
   keeps_moved {instances'} b next moved = record {
     tables = record {
       living = λ i. still_living (slot_at instances i) (slot_at instances' i) (before.living i) (moved.same i) (kept.tables.living i);
@@ -70,12 +70,12 @@ module _ {M : Type 0} (laws : Laws M) (space : Space)
 
   -- what the step answers and leaves
   abbrev IsStep : List (Option (Member M)) → List Locations → List Group → Spaces → Bool → Bool × State M → Type 0
-  IsStep instances' sharing' groups' spaces' answer outcome = ((answer, outcome.1) ≡ outcome) × HostKeeps laws instances' sharing' groups' spaces' outcome.1
+  IsStep instances' sharing' groups' spaces' answer outcome = ((answer, outcome.1) ≡ outcome) × ListsAndSpacesRefine laws instances' sharing' groups' spaces' outcome.1
 
   by_next : {instances' : List (Option (Member M))} {sharing' : List Locations} {groups' : List Group} {spaces' : Spaces} (next : Option Placed) (answer : Bool)
       → next_block (blocks_in (map_of spaces) space) ≡ next → answer ≡ is_some next
       → (answer ≡ true → HasMoved laws space instances sharing groups spaces instances' sharing' groups' spaces')
-      → (answer ≡ false → HostKeeps laws instances' sharing' groups' spaces' before)
+      → (answer ≡ false → ListsAndSpacesRefine laws instances' sharing' groups' spaces' before)
       → IsStep instances' sharing' groups' spaces' answer (moving before space next)
   by_next None answer next is moved still = (ap (λ (a : Bool). let o : Bool × State M = (a, before) in o) is, still is)
   by_next (Some b) answer next is moved still = (ap (λ (a : Bool). let o : Bool × State M = (a, stepped b) in o) is, keeps_moved b next (moved is))
@@ -83,7 +83,7 @@ module _ {M : Type 0} (laws : Laws M) (space : Space)
   pub step_kept : {instances' : List (Option (Member M))} {sharing' : List Locations} {groups' : List Group} {spaces' : Spaces} {answer : Bool}
       → answer ≡ is_some (next_block (blocks_in (map_of spaces) space))
       → (answer ≡ true → HasMoved laws space instances sharing groups spaces instances' sharing' groups' spaces')
-      → (answer ≡ false → HostKeeps laws instances' sharing' groups' spaces' before)
+      → (answer ≡ false → ListsAndSpacesRefine laws instances' sharing' groups' spaces' before)
       → IsStep instances' sharing' groups' spaces' answer (step before space)
   step_kept {instances'} {sharing'} {groups'} {spaces'} {answer} is moved still =
       subst (λ n. IsStep instances' sharing' groups' spaces' answer (moving before space n)) (sym next_in_state)

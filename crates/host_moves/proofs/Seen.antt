@@ -21,7 +21,7 @@ use Rattle.host_table.specs.declared.member.Member.{Member}
 use Rattle.host_shared.specs.declared.locations.Locations.{Locations}
 use Rattle.host_table.specs.Table.{slot_at, group_at, instance_of, active_in, slot_active_in, IsHoused, TablesOk}
 use Rattle.host_shared.specs.Locations.{shared_at}
-use Rattle.host_table.specs.Keeps.{InstKeeps, SlotKeeps, Keeps}
+use Rattle.host_table.specs.Refinement.{InstRefines, SlotRefines, SlotsRefine}
 use Rattle.host_table.specs.Frames.{InactiveGroupsStay}
 use Rattle.host_moves.specs.Waiting.{SameWords, SlotStays, BlockStays, WordsStay}
 use Rattle.host_moves.specs.Moves.{InactiveWordsStay}
@@ -76,7 +76,7 @@ module _ {M : Type 0} (laws : Laws M) (w : Option ℤ) (h : History) where
       → (instance_of b).kind ≡ (instance_of a).kind → (instance_of b).params ≡ (instance_of a).params → (instance_of b).table ≡ (instance_of a).table
       → SameWords (instance_of a).own (instance_of b).own → SameWords o o'
       → (active_in k a ≡ Some k → (space : Space) → BlockStays (block_in y space) (block_in y' space)) → IsHoused (instance_of a) o y
-      → InstKeeps laws w a o y h → InstKeeps laws w b o' y' h
+      → InstRefines laws w a o y h → InstRefines laws w b o' y' h
   inst_seen k (Idling s) (Idling n) o o' y y' state kind params table own shared blocks housed keeps =
       λ lawful. rw (kind, params, table, idle_words_seen s.instance.table s.instance.own n.instance.own o o' own shared) (keeps (rw (kind, params) at lawful))
   inst_seen k (Idling s) (Running n) o o' y y' state kind params table own shared blocks housed keeps = absurd (none-some _ (sym state))
@@ -88,7 +88,7 @@ module _ {M : Type 0} (laws : Laws M) (w : Option ℤ) (h : History) where
   slot_seen : (slot slot' : Option (Member M)) (o o' : Pieces) (groups groups' : List Group) → SlotStays slot slot' → SameWords o o'
       → ((g : ℕ) (space : Space) → slot_active_in slot ≡ Some g → BlockStays (block_in (group_at groups g) space) (block_in (group_at groups' g) space))
       → ((m : Member M) → slot ≡ Some m → IsHoused (instance_of m.inst) o (group_at groups m.group))
-      → SlotKeeps laws w slot o groups h → SlotKeeps laws w slot' o' groups' h
+      → SlotRefines laws w slot o groups h → SlotRefines laws w slot' o' groups' h
   slot_seen None slot' o o' groups groups' stays shared blocks housed keeps = rw stays tt
   slot_seen (Some m) None o o' groups groups' stays shared blocks housed keeps = absurd stays
   slot_seen (Some m) (Some n) o o' groups groups' stays shared blocks housed keeps =
@@ -99,7 +99,7 @@ module _ {M : Type 0} (laws : Laws M) (w : Option ℤ) (h : History) where
 pub words_seen : {M : Type 0} {instances instances' : List (Option (Member M))} {sharing sharing' : List Locations} {groups groups' : List Group}
     (laws : Laws M) (w : Option ℤ) (histories : ℕ → History) → TablesOk instances sharing groups
     → WordsStay instances sharing groups instances' sharing' groups'
-    → Keeps laws w instances sharing groups histories → Keeps laws w instances' sharing' groups' histories
+    → SlotsRefine laws w instances sharing groups histories → SlotsRefine laws w instances' sharing' groups' histories
 words_seen {M} {instances} {instances'} {sharing} {sharing'} {groups} {groups'} laws w histories ok stays keeps i =
     slot_seen laws w (histories i) (slot_at instances i) (slot_at instances' i) (shared_at sharing i) (shared_at sharing' i) groups groups' (stays.slot i) (stays.pieces i)
     (λ g space active. stays.blocks g i space active) (λ m at. ok.housed i m at) (keeps i)

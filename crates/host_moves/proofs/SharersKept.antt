@@ -12,7 +12,7 @@ use Rattle.host_table.specs.Table.{slot_at, instance_of}
 use Rattle.host_map.specs.Sharers.{Asked, is_sharer, sharer_of}
 use Rattle.host_table.specs.Sharers.{asked_by}
 use Rattle.host_spec.specs.State.{Living, share, sharers_of}
-use Rattle.host_moves.specs.Kept.{IsLiving}
+use Rattle.host_moves.specs.Refinement.{IsLiving}
 
 -- an instance as it was asked for
 abbrev pub asked_of : {M : Type 0} → Living M → Asked M

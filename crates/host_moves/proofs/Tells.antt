@@ -21,7 +21,7 @@ use Rattle.host_shared.specs.declared.locations.Locations.{Locations}
 use Rattle.host_shared.specs.Owners.{with_pieces_of}
 use Rattle.host_table.specs.Table.{slot_at, group_at, own_of, instance_of, active_in, slot_active_in, IsHoused, EachIsHoused, Tables, TablesOk}
 use Rattle.host_shared.specs.Locations.{shared_at}
-use Rattle.host_table.specs.Keeps.{InstKeeps, SlotKeeps, Keeps}
+use Rattle.host_table.specs.Refinement.{InstRefines, SlotRefines, SlotsRefine}
 use Rattle.host_table.specs.Frames.{SameMember, SameMembers}
 use Rattle.host_table.proofs.Housing.{same_blocks}
 use Rattle.host_table.proofs.Held.{owners_of_held}
@@ -115,13 +115,13 @@ module _ {M : Type 0} (instances : List (Option (Member M))) (sharing : List Loc
         (members_after_quiet with_piece_back sharing groups i (member_back back m) n o i_in i_in_once (owners_of_held instances sharing there.held) at_back same pieces)
 
     pub keeps_of_idle : (laws : Laws M) (w : Option ℤ) (histories : ℕ → History)
-        → (InstKeeps laws w (member_back back m).inst (shared_at sharing i) (group_at groups m.group) (histories i)
-        → SlotKeeps laws w (Some n) o groups (histories i))
-        → Keeps laws w with_piece_back sharing groups histories
-        → Keeps laws w (set instances i (Some n)) (with_pieces_of sharing i o) groups histories
+        → (InstRefines laws w (member_back back m).inst (shared_at sharing i) (group_at groups m.group) (histories i)
+        → SlotRefines laws w (Some n) o groups (histories i))
+        → SlotsRefine laws w with_piece_back sharing groups histories
+        → SlotsRefine laws w (set instances i (Some n)) (with_pieces_of sharing i o) groups histories
     keeps_of_idle laws w histories step keeps =
-        let here : SlotKeeps laws w (Some (member_back back m)) (shared_at sharing i) groups (histories i) = rw at_back at (keeps i) in
-        subst (λ (l : List (Option (Member M))). Keeps laws w l (with_pieces_of sharing i o) groups histories) (again (Some n))
+        let here : SlotRefines laws w (Some (member_back back m)) (shared_at sharing i) groups (histories i) = rw at_back at (keeps i) in
+        subst (λ (l : List (Option (Member M))). SlotsRefine laws w l (with_pieces_of sharing i o) groups histories) (again (Some n))
         (keeps_after_end (Beside IsThere i) with_piece_back sharing groups i (Some n) o there_back below idle_before is (member_back back m) at_back pieces written laws w histories (step here) keeps)
 
   -- an active one
@@ -160,9 +160,9 @@ module _ {M : Type 0} (instances : List (Option (Member M))) (sharing : List Loc
         (members_after with_piece_back sharing groups i m.group (member_back back m) (record { group = m.group; inst = inst }) o y i_in i_in_once (owners_of_held instances sharing there.held) g_in at_back same pieces blocks)
 
     pub keeps_of_active : (laws : Laws M) (w : Option ℤ) (histories : ℕ → History)
-        → (InstKeeps laws w (member_back back m).inst (shared_at sharing i) (group_at groups m.group) (histories i) → InstKeeps laws w inst o y (histories i))
-        → Keeps laws w with_piece_back sharing groups histories
-        → Keeps laws w told (with_pieces_of sharing i o) (set groups m.group y) histories
+        → (InstRefines laws w (member_back back m).inst (shared_at sharing i) (group_at groups m.group) (histories i) → InstRefines laws w inst o y (histories i))
+        → SlotsRefine laws w with_piece_back sharing groups histories
+        → SlotsRefine laws w told (with_pieces_of sharing i o) (set groups m.group y) histories
     keeps_of_active laws w histories step keeps =
-        subst (λ (l : List (Option (Member M))). Keeps laws w l (with_pieces_of sharing i o) (set groups m.group y) histories) (again (Some (record { group = m.group; inst = inst })))
+        subst (λ (l : List (Option (Member M))). SlotsRefine laws w l (with_pieces_of sharing i o) (set groups m.group y) histories) (again (Some (record { group = m.group; inst = inst })))
         (keeps_after_change (Beside IsThere i) with_piece_back sharing groups i m.group (member_back back m) inst o y there_back at_back refl alone now pieces written laws w histories step keeps)

@@ -10,7 +10,7 @@ use Rattle.scratch_group.specs.Blocks.{SameGroup}
 use Rattle.lifecycle.specs.declared.idle.Idle.{Idle}
 use Rattle.lifecycle.specs.declared.instance.Instance.{Instance}
 use Rattle.lifecycle.specs.Moves.{settled, with_back, HasRoom}
-use Rattle.lifecycle.specs.States.{ActiveKeeps, Fits, SameInstance, SameOnce, IdleKeeps}
+use Rattle.lifecycle.specs.States.{ActiveRefines, Fits, SameInstance, SameOnce, IdleRefines}
 use Rattle.host_shared.specs.declared.locations.Locations.{Locations}
 use Rattle.host_shared.specs.Locations.{shared_at}
 
@@ -24,7 +24,7 @@ pub record Follows {M : Type 0} (laws : Laws M) (back : Option (ℕ × Span)) (o
   pub pieces : SamePieces shared shared'
   pub written : SameOnce new.table shared shared'
   pub fits : Fits new.table new.own shared' g
-  pub keeps : (w : Option ℤ) (h : History) → IdleKeeps laws (with_back old back) w shared h → IdleKeeps laws new w shared' h
+  pub keeps : (w : Option ℤ) (h : History) → IdleRefines laws (with_back old back) w shared h → IdleRefines laws new w shared' h
 
 -- an active instance was told, with the piece that comes back: it works in the same scratch memory
 pub record ActiveFollows {M : Type 0} (laws : Laws M) (back : Option (ℕ × Span)) (old new : Instance M) (shared shared' : Pieces) (g g' : Group) : Type 0 where
@@ -33,7 +33,7 @@ pub record ActiveFollows {M : Type 0} (laws : Laws M) (back : Option (ℕ × Spa
   pub written : SameOnce new.table shared shared'
   pub group : SameGroup g g'
   pub fits : Fits new.table new.own shared' g'
-  pub keeps : (w : Option ℤ) (h : History) → ActiveKeeps laws (with_back old back) w shared g h → ActiveKeeps laws new w shared' g' h
+  pub keeps : (w : Option ℤ) (h : History) → ActiveRefines laws (with_back old back) w shared g h → ActiveRefines laws new w shared' g' h
 
 -- idle instance i was told, with the piece that comes back
 abbrev pub IdleFollows : {M : Type 0} → Laws M → Option (ℕ × Span) → ℕ → Idle M → List Locations → Idle M → List Locations → Group → Type 0

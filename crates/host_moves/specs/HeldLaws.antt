@@ -18,7 +18,7 @@ use Rattle.host_shared.specs.declared.locations.Location.TheVariants.{Here}
 use Rattle.host_shared.specs.Locations.{location_at, locations_at, pieces_here, shared_at}
 use Rattle.host_shared.specs.Owners.{AllHaveOwners}
 use Rattle.host_table.specs.Table.{slot_at, group_at, instance_of, activity_at, TablesOk, TablesTold, ArePoisoned}
-use Rattle.host_table.specs.Keeps.{Keeps}
+use Rattle.host_table.specs.Refinement.{SlotsRefine}
 use Rattle.host_moves.specs.Waiting.{own_set, slid_to, holds_with, TablesBut, TablesWaiting, WordsStay}
 
 -- where words stay, wherever they lie, each instance keeps its history
@@ -26,8 +26,8 @@ abbrev pub WordsKeepHistories : {M : Type 0} → Laws M → Type 0
 WordsKeepHistories {M = M} laws =
     (w : Option ℤ) (histories : ℕ → History) (instances instances' : List (Option (Member M))) (sharing sharing' : List Locations) (groups groups' : List Group)
     → TablesOk instances sharing groups → WordsStay instances sharing groups instances' sharing' groups'
-    → Keeps laws w instances sharing groups histories
-    → Keeps laws w instances' sharing' groups' histories
+    → SlotsRefine laws w instances sharing groups histories
+    → SlotsRefine laws w instances' sharing' groups' histories
 
 -- where the tables are consistent, all instances but any one are housed
 abbrev pub AllButOneAreHoused : Type 0 → Type 0

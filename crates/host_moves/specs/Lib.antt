@@ -3,7 +3,7 @@ pub mod Following
 pub mod Standing
 pub mod Moves
 pub mod Lent
-pub mod Kept
+pub mod Refinement
 pub mod Hosts
 pub mod LoanLaws
 pub mod HeldLaws

@@ -9,7 +9,7 @@ use Rattle.scratch_group.specs.Blocks.{block_in}
 use Rattle.host_table.specs.declared.member.Member.{Member}
 use Rattle.host_shared.specs.declared.locations.Locations.{Locations}
 use Rattle.host_table.specs.Table.{TablesOk, group_at, activity_at}
-use Rattle.host_table.specs.Keeps.{Keeps}
+use Rattle.host_table.specs.Refinement.{SlotsRefine}
 use Rattle.host_table.specs.View.{View}
 use Rattle.host_map.specs.declared.placed.Owner.{Owner}
 use Rattle.host_map.specs.declared.placed.Placed.{Placed}
@@ -59,8 +59,8 @@ pub record HasMoved {M : Type 0} (laws : Laws M) (space : Space)
   pub map : map_of spaces' ≡ moved_in (map_of spaces) space
   pub sizes : sizes_of spaces' ≡ sizes_of spaces
   pub copied : (b : Placed) → next_block (blocks_in (map_of spaces) space) ≡ Some b → copied_in spaces' ≡ min (copied_in spaces + b.size) (2 ^ 64 - 1)
-  pub keeps : (w : Option ℤ) (histories : ℕ → History) → Keeps laws w instances sharing groups histories
-      → Keeps laws w instances' sharing' groups' histories
+  pub keeps : (w : Option ℤ) (histories : ℕ → History) → SlotsRefine laws w instances sharing groups histories
+      → SlotsRefine laws w instances' sharing' groups' histories
 
 -- the same, of all that the tables hold
 abbrev pub Moved : {M : Type 0} → Laws M → Space → View M → Spaces → View M → Spaces → Type 0

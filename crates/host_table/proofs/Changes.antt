@@ -29,7 +29,7 @@ use Rattle.host_shared.specs.Locations.{location_at, locations_at, shared_at}
 use Rattle.host_shared.specs.Owners.{with_pieces_of, HasOwners, AllHaveOwners, IsSameLocation, SameLocations}
 use Rattle.host_table.specs.Table.{slot_at, group_at, AreHeld, AreBare, no_group, instance_of, own_of, group_of, active_in, slot_active_in, IsHoused, EachIsHoused, Tables, TablesOk, ArePoisoned, activity_at}
 use Rattle.host_map.specs.Activity.{with_at}
-use Rattle.host_table.specs.Keeps.{InstKeeps, SlotKeeps, Keeps, with_history}
+use Rattle.host_table.specs.Refinement.{InstRefines, SlotRefines, SlotsRefine, with_history}
 use Rattle.host_table.specs.Frames.{SameSlot, SameTables, SameMember}
 use Rattle.host_table.proofs.Housing.{same_blocks, housed_stays}
 use Rattle.host_shared.proofs.Lent.{stands_lent, pieces_lent, owners_of_all}
@@ -58,14 +58,14 @@ slot_in (s ∷ instances) (suc i) m at = let less : i < length instances = slot_
 
 -- an instance that isn't active in group g doesn't see which words its blocks have
 inst_keeps_other : {M : Type 0} (laws : Laws M) (w : Option ℤ) (groups : List Group) (g k : ℕ) (y : Group) (inst : Inst M) (shared : Pieces) (h : History)
-    → (active_in k inst ≡ Some g → ⊥) → InstKeeps laws w inst shared (group_at groups k) h → InstKeeps laws w inst shared (group_at (set groups g y) k) h
+    → (active_in k inst ≡ Some g → ⊥) → InstRefines laws w inst shared (group_at groups k) h → InstRefines laws w inst shared (group_at (set groups g y) k) h
 inst_keeps_other laws w groups g k y (Idling s) shared h apart keeps = keeps
 inst_keeps_other laws w groups g k y (Running s) shared h apart keeps =
     let other : k ≢ g = λ e. apart (ap Some e) in
-    subst (λ (q : Group). InstKeeps laws w (Running s) shared q h) (sym (get_or-set_other groups g k y no_group other)) keeps
+    subst (λ (q : Group). InstRefines laws w (Running s) shared q h) (sym (get_or-set_other groups g k y no_group other)) keeps
 
 slot_keeps_other : {M : Type 0} (laws : Laws M) (w : Option ℤ) (groups : List Group) (g : ℕ) (y : Group) (slot : Option (Member M)) (shared : Pieces) (h : History)
-    → (slot_active_in slot ≡ Some g → ⊥) → SlotKeeps laws w slot shared groups h → SlotKeeps laws w slot shared (set groups g y) h
+    → (slot_active_in slot ≡ Some g → ⊥) → SlotRefines laws w slot shared groups h → SlotRefines laws w slot shared (set groups g y) h
 slot_keeps_other laws w groups g y None shared h apart keeps = tt
 slot_keeps_other laws w groups g y (Some m) shared h apart keeps = inst_keeps_other laws w groups g m.group y m.inst shared h apart keeps
 
@@ -214,10 +214,10 @@ module _ {M : Type 0} (H : ℕ → Member M → Pieces → Group → Type 0) (in
       ]
 
   -- what the instance in the slot kept
-  kept_here : (laws : Laws M) (w : Option ℤ) (histories : ℕ → History) → Keeps laws w instances sharing groups histories → InstKeeps laws w m.inst (shared_at sharing i) (group_at groups g) (histories i)
+  kept_here : (laws : Laws M) (w : Option ℤ) (histories : ℕ → History) → SlotsRefine laws w instances sharing groups histories → InstRefines laws w m.inst (shared_at sharing i) (group_at groups g) (histories i)
   kept_here laws w histories keeps =
-      let here : SlotKeeps laws w (Some m) (shared_at sharing i) groups (histories i) = rw in_slot at (keeps i) in
-      subst (λ (k : ℕ). InstKeeps laws w m.inst (shared_at sharing i) (group_at groups k) (histories i)) of_group here
+      let here : SlotRefines laws w (Some m) (shared_at sharing i) groups (histories i) = rw in_slot at (keeps i) in
+      subst (λ (k : ℕ). InstRefines laws w m.inst (shared_at sharing i) (group_at groups k) (histories i)) of_group here
 
   -- with what each instance sees of write-once records afterwards
   module _ (sharing' : List Locations) (sees : Sees instances sharing i o sharing') where
@@ -253,23 +253,23 @@ module _ {M : Type 0} (H : ℕ → Member M → Pieces → Group → Type 0) (in
     }
 
     -- what the instance keeps in its slot afterwards
-    keeps_here : (laws : Laws M) (w : Option ℤ) (h : History) → InstKeeps laws w inst o y h
-        → SlotKeeps laws w (slot_at (set instances i (Some (record { group = g; inst = inst }))) i) (shared_at sharing' i) (set groups g y) h
+    keeps_here : (laws : Laws M) (w : Option ℤ) (h : History) → InstRefines laws w inst o y h
+        → SlotRefines laws w (slot_at (set instances i (Some (record { group = g; inst = inst }))) i) (shared_at sharing' i) (set groups g y) h
     keeps_here laws w h here =
-        rw (slot_same, sees.here) (subst (λ (q : Group). InstKeeps laws w inst o q h) (sym group_same) here)
+        rw (slot_same, sees.here) (subst (λ (q : Group). InstRefines laws w inst o q h) (sym group_same) here)
 
     -- what each other instance keeps in its slot afterwards
-    keeps_there : (laws : Laws M) (w : Option ℤ) (j : ℕ) → j ≢ i → (h : History) → SlotKeeps laws w (slot_at instances j) (shared_at sharing j) groups h
-        → SlotKeeps laws w (slot_at (set instances i (Some (record { group = g; inst = inst }))) j) (shared_at sharing' j) (set groups g y) h
+    keeps_there : (laws : Laws M) (w : Option ℤ) (j : ℕ) → j ≢ i → (h : History) → SlotRefines laws w (slot_at instances j) (shared_at sharing j) groups h
+        → SlotRefines laws w (slot_at (set instances i (Some (record { group = g; inst = inst }))) j) (shared_at sharing' j) (set groups g y) h
     keeps_there laws w j apart h keeps =
         let beside = slot_keeps_other laws w groups g y (slot_at instances j) (shared_at sharing j) h (λ a. apart (alone j (ok.active_known g j a))) keeps in
         rw (slot_other j apart) (slot_sees laws w (shared_at sharing j) (shared_at sharing' j) h (slot_at instances j) (set groups g y) (λ n at lawful. sees.written j n apart at) beside)
 
     -- the instance went on by one step from its history to h
     pub keeps_by_step : (laws : Laws M) (w : Option ℤ) (histories : ℕ → History) (h : History)
-        → (InstKeeps laws w m.inst (shared_at sharing i) (group_at groups g) (histories i) → InstKeeps laws w inst o y h)
-        → Keeps laws w instances sharing groups histories
-        → Keeps laws w (set instances i (Some (record { group = g; inst = inst }))) sharing' (set groups g y) (with_history histories i h)
+        → (InstRefines laws w m.inst (shared_at sharing i) (group_at groups g) (histories i) → InstRefines laws w inst o y h)
+        → SlotsRefine laws w instances sharing groups histories
+        → SlotsRefine laws w (set instances i (Some (record { group = g; inst = inst }))) sharing' (set groups g y) (with_history histories i h)
     keeps_by_step laws w histories h step keeps j =
         elim (eqb_tells j i) [
           | inl e ↦ rw (e.0, e.1) (keeps_here laws w h (step (kept_here laws w histories keeps)))
@@ -278,9 +278,9 @@ module _ {M : Type 0} (H : ℕ → Member M → Pieces → Group → Type 0) (in
 
     -- the instance changed its state alone
     pub keeps_by_change : (laws : Laws M) (w : Option ℤ) (histories : ℕ → History)
-        → (InstKeeps laws w m.inst (shared_at sharing i) (group_at groups g) (histories i) → InstKeeps laws w inst o y (histories i))
-        → Keeps laws w instances sharing groups histories
-        → Keeps laws w (set instances i (Some (record { group = g; inst = inst }))) sharing' (set groups g y) histories
+        → (InstRefines laws w m.inst (shared_at sharing i) (group_at groups g) (histories i) → InstRefines laws w inst o y (histories i))
+        → SlotsRefine laws w instances sharing groups histories
+        → SlotsRefine laws w (set instances i (Some (record { group = g; inst = inst }))) sharing' (set groups g y) histories
     keeps_by_change laws w histories step keeps j =
         elim (eqb_tells j i) [
           | inl e ↦ rw e.1 (keeps_here laws w (histories i) (step (kept_here laws w histories keeps)))
@@ -307,15 +307,15 @@ module _ {M : Type 0} (H : ℕ → Member M → Pieces → Group → Type 0) (in
         here there
 
     pub keeps_after_step : (laws : Laws M) (w : Option ℤ) (histories : ℕ → History) (h : History)
-        → (InstKeeps laws w m.inst (shared_at sharing i) (group_at groups g) (histories i) → InstKeeps laws w inst o y h)
-        → Keeps laws w instances sharing groups histories
-        → Keeps laws w (set instances i (Some (record { group = g; inst = inst }))) (with_pieces_of sharing i o) (set groups g y) (with_history histories i h)
+        → (InstRefines laws w m.inst (shared_at sharing i) (group_at groups g) (histories i) → InstRefines laws w inst o y h)
+        → SlotsRefine laws w instances sharing groups histories
+        → SlotsRefine laws w (set instances i (Some (record { group = g; inst = inst }))) (with_pieces_of sharing i o) (set groups g y) (with_history histories i h)
     keeps_after_step laws w histories h step keeps = keeps_by_step (with_pieces_of sharing i o) own_sight laws w histories h step keeps
 
     pub keeps_after_change : (laws : Laws M) (w : Option ℤ) (histories : ℕ → History)
-        → (InstKeeps laws w m.inst (shared_at sharing i) (group_at groups g) (histories i) → InstKeeps laws w inst o y (histories i))
-        → Keeps laws w instances sharing groups histories
-        → Keeps laws w (set instances i (Some (record { group = g; inst = inst }))) (with_pieces_of sharing i o) (set groups g y) histories
+        → (InstRefines laws w m.inst (shared_at sharing i) (group_at groups g) (histories i) → InstRefines laws w inst o y (histories i))
+        → SlotsRefine laws w instances sharing groups histories
+        → SlotsRefine laws w (set instances i (Some (record { group = g; inst = inst }))) (with_pieces_of sharing i o) (set groups g y) histories
     keeps_after_change laws w histories step keeps = keeps_by_change (with_pieces_of sharing i o) own_sight laws w histories step keeps
 
 -- for an instance that stays where it is, with what each instance sees of write-once records afterwards
@@ -468,9 +468,9 @@ pub kept_in_slot : {M : Type 0} (instances : List (Option (Member M))) (sharing 
     (i : ℕ) {m : Member M} {inst : Inst M} {o : Pieces} {y : Group}
     → slot_at instances i ≡ Some m → m.inst ≡ inst → shared_at sharing i ≡ o → group_at groups m.group ≡ y
     → (laws : Laws M) (w : Option ℤ) (histories : ℕ → History)
-    → Keeps laws w instances sharing groups histories → InstKeeps laws w inst o y (histories i)
+    → SlotsRefine laws w instances sharing groups histories → InstRefines laws w inst o y (histories i)
 kept_in_slot instances sharing groups i {m} at is once_is group_is laws w histories keeps =
-    let here : SlotKeeps laws w (Some m) (shared_at sharing i) groups (histories i) = rw at at (keeps i) in
+    let here : SlotRefines laws w (Some m) (shared_at sharing i) groups (histories i) = rw at at (keeps i) in
     rw (is, once_is, group_is) at here
 
 pub member_of : {M : Type 0} (slot : Option (Member M)) → IsSome slot → (m : Member M) × (slot ≡ Some m)

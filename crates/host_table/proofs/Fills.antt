@@ -16,7 +16,7 @@ use Rattle.lifecycle.specs.declared.instance.Inst.{Inst}
 use Rattle.lifecycle.specs.declared.instance.Inst.TheVariants.{Idling, Running}
 use Rattle.lifecycle.specs.States.{IsLawful}
 use Rattle.host_table.specs.Table.{instance_of}
-use Rattle.host_table.specs.Keeps.{InstKeeps}
+use Rattle.host_table.specs.Refinement.{InstRefines}
 use Rattle.host_table.proofs.Shared.{words_at}
 
 pub idle_words_at : (rs : List MemRec) (own shared : Pieces) (k : ℕ) → k < 4 → words_of (idle_words rs own shared) k ≡ idle_record_words rs own shared k
@@ -45,8 +45,8 @@ active_once rs own shared g k below attr =
 abbrev pub Fills : {M : Type 0} → (M → List ℤ → ℕ → List ℤ) → Relation M → Type 0
 Fills {M = M} fill keeps = (kind : M) (p : List ℤ) (rs : List MemRec) (wss : List (List ℤ)) (h : History) → keeps kind p rs wss h → HoldFill (fill kind p) rs wss
 
-module _ {M : Type 0} (laws : Laws M) (idle_fill : Fills laws.fill laws.idle_keeps) (active_fill : Fills laws.fill laws.active_keeps) (w : Option ℤ) where
-  pub fill_seen : (inst : Inst M) (shared : Pieces) (g : Group) (h : History) → InstKeeps laws w inst shared g h → IsLawful laws.meaning (instance_of inst) w
+module _ {M : Type 0} (laws : Laws M) (idle_fill : Fills laws.fill laws.idle_refines) (active_fill : Fills laws.fill laws.active_refines) (w : Option ℤ) where
+  pub fill_seen : (inst : Inst M) (shared : Pieces) (g : Group) (h : History) → InstRefines laws w inst shared g h → IsLawful laws.meaning (instance_of inst) w
       → (k : ℕ) → k < 4 → (record_at (instance_of inst).table k).attr ≡ WriteOnce
       → take (record_at (instance_of inst).table k).size (piece_words (piece_at shared k)) ≡ laws.fill (instance_of inst).kind (instance_of inst).params.items k
   fill_seen (Idling s) shared g h keeps lawful k below attr =

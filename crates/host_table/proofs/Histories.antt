@@ -2,7 +2,7 @@
 use Rattle.std.proofs.Common.{◌≡◌, ◌≢◌, ℕ, inl, inr, refl}
 use Rattle.std.proofs.lemmas.Bool.Decides.{eqb_tells}
 use Rattle.ialg.specs.History.{History}
-use Rattle.host_table.specs.Keeps.{with_history}
+use Rattle.host_table.specs.Refinement.{with_history}
 
 pub history_here : (histories : ℕ → History) (i : ℕ) (h : History) → with_history histories i h i ≡ h
 history_here histories i h =

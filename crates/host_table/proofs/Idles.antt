@@ -15,7 +15,7 @@ use Rattle.host_shared.specs.declared.locations.Locations.{Locations}
 use Rattle.host_shared.specs.Owners.{with_pieces_of, SameLocations}
 use Rattle.host_table.specs.Table.{slot_at, AreHeld, AreBare, group_at, instance_of, slot_active_in, IsHoused, EachIsHoused, Tables, TablesOk}
 use Rattle.host_shared.specs.Locations.{shared_at}
-use Rattle.host_table.specs.Keeps.{SlotKeeps, Keeps, with_history}
+use Rattle.host_table.specs.Refinement.{SlotRefines, SlotsRefine, with_history}
 use Rattle.host_table.proofs.Housing.{housed_beside}
 use Rattle.host_table.specs.Frames.{SameMember, IsSameMember}
 use Rattle.host_shared.proofs.Lent.{stands_lent, owners_of_all}
@@ -76,9 +76,9 @@ module _ {M : Type 0} (H : ℕ → Member M → Pieces → Group → Type 0) (in
     -- the others keep their histories, where the words of write-once records stay
     pub keeps_by_still : (laws : Laws M) (w : Option ℤ) (histories : ℕ → History) (h : History)
         → ((j : ℕ) (n : Member M) → j ≢ i → slot_at instances j ≡ Some n → IsLawful laws.meaning (instance_of n.inst) w → SameOnce (instance_of n.inst).table (shared_at sharing j) (shared_at sharing' j))
-        → SlotKeeps laws w x o groups h
-        → Keeps laws w instances sharing groups histories
-        → Keeps laws w (set instances i x) sharing' groups (with_history histories i h)
+        → SlotRefines laws w x o groups h
+        → SlotsRefine laws w instances sharing groups histories
+        → SlotsRefine laws w (set instances i x) sharing' groups (with_history histories i h)
     keeps_by_still laws w histories h written new keeps j =
         elim (eqb_tells j i) [
           | inl e ↦ rw (e.0, e.1, slot_same, sees.here) new
@@ -87,9 +87,9 @@ module _ {M : Type 0} (H : ℕ → Member M → Pieces → Group → Type 0) (in
 
     pub keeps_by_end : (laws : Laws M) (w : Option ℤ) (histories : ℕ → History)
         → ((j : ℕ) (n : Member M) → j ≢ i → slot_at instances j ≡ Some n → SameOnce (instance_of n.inst).table (shared_at sharing j) (shared_at sharing' j))
-        → SlotKeeps laws w x o groups (histories i)
-        → Keeps laws w instances sharing groups histories
-        → Keeps laws w (set instances i x) sharing' groups histories
+        → SlotRefines laws w x o groups (histories i)
+        → SlotsRefine laws w instances sharing groups histories
+        → SlotsRefine laws w (set instances i x) sharing' groups histories
     keeps_by_end laws w histories written new keeps j =
         elim (eqb_tells j i) [
           | inl e ↦ rw (e.1, slot_same, sees.here) new
@@ -119,9 +119,9 @@ module _ {M : Type 0} (H : ℕ → Member M → Pieces → Group → Type 0) (in
         (λ q is. is_new K groups i o n range here q (sym new ∙ is)) there
 
     pub keeps_after_end : (laws : Laws M) (w : Option ℤ) (histories : ℕ → History)
-        → SlotKeeps laws w x o groups (histories i)
-        → Keeps laws w instances sharing groups histories
-        → Keeps laws w (set instances i x) (with_pieces_of sharing i o) groups histories
+        → SlotRefines laws w x o groups (histories i)
+        → SlotsRefine laws w instances sharing groups histories
+        → SlotsRefine laws w (set instances i x) (with_pieces_of sharing i o) groups histories
     keeps_after_end laws w histories new keeps =
         keeps_by_end (with_pieces_of sharing i o) (views_of instances sharing i o (with_pieces_of sharing i o) own_sight) laws w histories own_sight.written new keeps
 

@@ -12,7 +12,7 @@ use Rattle.scratch_group.specs.Words.{InSpaces}
 use Rattle.ialg.specs.History.{History, with_samples}
 use Rattle.ialg.specs.Laws.{Laws}
 use Rattle.lifecycle.specs.declared.instance.Instance.{Instance}
-use Rattle.lifecycle.specs.States.{Fits, SameOnce, IdleKeeps, ActiveKeeps}
+use Rattle.lifecycle.specs.States.{Fits, SameOnce, IdleRefines, ActiveRefines}
 use Rattle.host_shared.specs.declared.locations.Locations.{Locations}
 use Rattle.host_shared.specs.declared.locations.Location.TheVariants.{Here, At}
 use Rattle.host_shared.specs.Locations.{location_at, locations_at, owner_of, piece_here, piece_seen, shared_at}
@@ -53,11 +53,11 @@ module _ (rs : List MemRec) (none : (k : ℕ) → (record_at rs k).attr ≡ Writ
     spaces = record { own_space = fits.spaces.own_space; shared_space = none_in_space; block_space = fits.spaces.block_space };
   }
 
-  pub idle_any : {M : Type 0} (laws : Laws M) (s : Instance M) (w : Option ℤ) (a b : Pieces) (h : History) → s.table ≡ rs → IdleKeeps laws s w a h → IdleKeeps laws s w b h
+  pub idle_any : {M : Type 0} (laws : Laws M) (s : Instance M) (w : Option ℤ) (a b : Pieces) (h : History) → s.table ≡ rs → IdleRefines laws s w a h → IdleRefines laws s w b h
   idle_any laws s w a b h table keeps lawful = rw (idle_written s.table s.own a b (rw table (any_pieces a b))) (keeps lawful)
 
   pub active_any : {M : Type 0} (laws : Laws M) (s : Instance M) (w : Option ℤ) (a b : Pieces) (g : Group) (h : History) → s.table ≡ rs
-      → ActiveKeeps laws s w a g h → ActiveKeeps laws s w b g h
+      → ActiveRefines laws s w a g h → ActiveRefines laws s w b g h
   active_any laws s w a b g h table keeps lawful = rw (active_written s.table s.own a b g (rw table (any_pieces a b))) (keeps lawful)
 
   -- a call that was lent no locations
@@ -122,7 +122,7 @@ module _ (rs : List MemRec) (second : (k : ℕ) → (record_at rs k).attr ≡ Wr
   }
 
   active_like : {M : Type 0} (laws : Laws M) (s : Instance M) (w : Option ℤ) (a b : Pieces) (g : Group) (h : History) → s.table ≡ rs → SameOnce rs a b
-      → ActiveKeeps laws s w a g h → ActiveKeeps laws s w b g h
+      → ActiveRefines laws s w a g h → ActiveRefines laws s w b g h
   active_like laws s w a b g h table same keeps lawful = rw (active_written s.table s.own a b g (rw table same)) (keeps lawful)
 
   written_second : (a b : Pieces) → SameOnce rs (only_second a.p1) (only_second b.p1) → SameOnce rs a b

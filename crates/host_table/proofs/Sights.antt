@@ -20,7 +20,7 @@ use Rattle.host_shared.specs.declared.locations.Locations.{Locations}
 use Rattle.host_shared.specs.Owners.{with_pieces_of}
 use Rattle.host_table.specs.Table.{slot_at, group_at, instance_of, AreHeld}
 use Rattle.host_shared.specs.Locations.{shared_at}
-use Rattle.host_table.specs.Keeps.{InstKeeps, SlotKeeps}
+use Rattle.host_table.specs.Refinement.{InstRefines, SlotRefines}
 use Rattle.host_shared.proofs.Owners.{count_seen, lent_here}
 use Rattle.host_shared.proofs.Lent.{owners_of_all, pieces_lent}
 use Rattle.host_table.proofs.SeenWords.{words_lent}
@@ -95,11 +95,11 @@ active_written rs own shared shared' g same = four_same (record_words rs own sha
 
 module _ {M : Type 0} (laws : Laws M) (w : Option ℤ) (shared shared' : Pieces) (h : History) where
   inst_sees : (inst : Inst M) (g : Group) → (IsLawful laws.meaning (instance_of inst) w → SameOnce (instance_of inst).table shared shared')
-      → InstKeeps laws w inst shared g h → InstKeeps laws w inst shared' g h
+      → InstRefines laws w inst shared g h → InstRefines laws w inst shared' g h
   inst_sees (Idling s) g same keeps = λ lawful. rw (idle_written s.instance.table s.instance.own shared shared' (same lawful)) (keeps lawful)
   inst_sees (Running s) g same keeps = λ lawful. rw (active_written s.instance.table s.instance.own shared shared' g (same lawful)) (keeps lawful)
 
   pub slot_sees : (slot : Option (Member M)) (groups : List Group) → ((n : Member M) → slot ≡ Some n → IsLawful laws.meaning (instance_of n.inst) w → SameOnce (instance_of n.inst).table shared shared')
-      → SlotKeeps laws w slot shared groups h → SlotKeeps laws w slot shared' groups h
+      → SlotRefines laws w slot shared groups h → SlotRefines laws w slot shared' groups h
   slot_sees None groups same keeps = tt
   slot_sees (Some m) groups same keeps = inst_sees m.inst (group_at groups m.group) (same m refl) keeps

@@ -14,7 +14,7 @@ use Rattle.record_loans.specs.Pieces.{piece_at, piece_words, SamePieces}
 use Rattle.scratch_group.specs.declared.group.Group.{Group}
 use Rattle.scratch_group.specs.Words.{idle_words, lasting_words_by}
 use Rattle.lifecycle.specs.declared.instance.Instance.{Instance}
-use Rattle.lifecycle.specs.States.{SameOnce, IsLawful, IdleKeeps}
+use Rattle.lifecycle.specs.States.{SameOnce, IsLawful, IdleRefines}
 use Rattle.mem_rec.specs.declared.TheConstants.{INSTANCES}
 use Rattle.host_table.specs.declared.member.Member.{Member}
 use Rattle.host_shared.specs.declared.locations.Locations.{Locations}
@@ -23,7 +23,7 @@ use Rattle.host_shared.specs.declared.joining.Sharers.{Sharers}
 use Rattle.host_shared.specs.Locations.{location_at, no_locations, locations_at, owner_of, piece_seen, shared_at}
 use Rattle.host_shared.specs.Owners.{with_pieces_of, HasOwners, AllHaveOwners, IsSameLocation, SameLocations}
 use Rattle.host_table.specs.Table.{slot_at, group_at, instance_of, AreAlike, AreHeld, AreBare, TablesOk}
-use Rattle.host_table.specs.Keeps.{InstKeeps, SlotKeeps, Keeps}
+use Rattle.host_table.specs.Refinement.{InstRefines, SlotRefines, SlotsRefine}
 use Rattle.host_shared.specs.Joining.{sharer_at, location_joined, piece_joined, pieces_joined, CanJoin}
 use Rattle.host_shared.specs.Sharing.{AreLeast}
 use Rattle.host_table.specs.Sharers.{AreTogether}
@@ -42,7 +42,7 @@ use Rattle.host_table.proofs.Fills.{Fills, idle_words_at, idle_once, fill_seen}
 
 -- what an instance keeps, by its slot
 pub keeps_slot : {M : Type 0} (groups : List Group) (laws : Laws M) (w : Option ℤ) (slot : Option (Member M)) (m : Member M) (o : Pieces) (h : History)
-    → slot ≡ Some m → SlotKeeps laws w slot o groups h → InstKeeps laws w m.inst o (group_at groups m.group) h
+    → slot ≡ Some m → SlotRefines laws w slot o groups h → InstRefines laws w m.inst o (group_at groups m.group) h
 keeps_slot groups laws w slot m o h is kept = rw is at kept
 
 -- what is said of a start of the instance in the slot, of the instance that was put there
@@ -58,8 +58,8 @@ put_there {M = M} instances instances' i m n r inside put read is =
     same_Some _ _ (sym (read_there instances' i n at r read ∙ is) ∙ at)
 
 pub idle_inst : {M : Type 0} (laws : Laws M) (w : Option ℤ) (inst : Inst M) (o : Pieces) (y : Group) (h : History) → inst ≡ Idling (record { instance = instance_of inst })
-    → IdleKeeps laws (instance_of inst) w o h → InstKeeps laws w inst o y h
-idle_inst {M = M} laws w inst o y h idle kept = subst (λ (x : Inst M). InstKeeps laws w x o y h) (sym idle) kept
+    → IdleRefines laws (instance_of inst) w o h → InstRefines laws w inst o y h
+idle_inst {M = M} laws w inst o y h idle kept = subst (λ (x : Inst M). InstRefines laws w x o y h) (sym idle) kept
 
 -- a new instance n has joined its sharers, with the pieces that were placed for it
 pub record Begins {M : Type 0} (instances : List (Option (Member M))) (sharing : List Locations) (groups : List Group) (i : ℕ) (n : Member M) (sharers : Sharers) (placed : Pieces) (sharing1 : List Locations) : Type 0 where
@@ -141,13 +141,13 @@ module _ {M : Type 0} {instances : List (Option (Member M))} {sharing : List Loc
     }
 
     -- where the new instance is lawful, those that share a record with it have the same words in it as before
-    module _ (laws : Laws M) (idle_fill : Fills laws.fill laws.idle_keeps) (active_fill : Fills laws.fill laws.active_keeps) (w : Option ℤ)
-        (g : Group) (h : History) (new : InstKeeps laws w n.inst o g h) where
+    module _ (laws : Laws M) (idle_fill : Fills laws.fill laws.idle_refines) (active_fill : Fills laws.fill laws.active_refines) (w : Option ℤ)
+        (g : Group) (h : History) (new : InstRefines laws w n.inst o g h) where
       lawful_too : (k : ℕ) (m : Member M) → AreAlike k (instance_of n.inst) (instance_of m.inst) → IsLawful laws.meaning (instance_of m.inst) w → IsLawful laws.meaning (instance_of n.inst) w
       lawful_too k m alike lawful = rw (alike.kind, alike.params) at lawful
 
       same_words : (j k : ℕ) (m : Member M) (g' : Group) (h' : History) → k < 4 → j ≢ i → slot_at instances j ≡ Some m → IsLawful laws.meaning (instance_of m.inst) w
-          → InstKeeps laws w m.inst (shared_at sharing j) g' h' → (record_at (instance_of m.inst).table k).attr ≡ WriteOnce
+          → InstRefines laws w m.inst (shared_at sharing j) g' h' → (record_at (instance_of m.inst).table k).attr ≡ WriteOnce
           → owner_of sharing1 j k ≡ owner_of sharing1 i k
           → take (record_at (instance_of m.inst).table k).size (piece_words (piece_seen sharing' j k)) ≡ take (record_at (instance_of m.inst).table k).size (piece_words (piece_at (shared_at sharing j) k))
       same_words j k m g' h' below apart at lawful keeps attr owner =
@@ -162,7 +162,7 @@ module _ {M : Type 0} {instances : List (Option (Member M))} {sharing : List Loc
           ∙ sym (fill_seen laws idle_fill active_fill w m.inst (shared_at sharing j) g' h' keeps lawful k below attr)
 
       words_by_owner : (j k : ℕ) (m : Member M) (g' : Group) (h' : History) → k < 4 → j ≢ i → slot_at instances j ≡ Some m → IsLawful laws.meaning (instance_of m.inst) w
-          → InstKeeps laws w m.inst (shared_at sharing j) g' h' → (record_at (instance_of m.inst).table k).attr ≡ WriteOnce
+          → InstRefines laws w m.inst (shared_at sharing j) g' h' → (record_at (instance_of m.inst).table k).attr ≡ WriteOnce
           → take (record_at (instance_of m.inst).table k).size (piece_words (piece_seen sharing' j k)) ≡ take (record_at (instance_of m.inst).table k).size (piece_words (piece_at (shared_at sharing j) k))
       words_by_owner j k m g' h' below apart at lawful keeps attr =
           elim (eqb_tells (owner_of sharing1 j k) (owner_of sharing1 i k)) [
@@ -174,7 +174,7 @@ module _ {M : Type 0} {instances : List (Option (Member M))} {sharing : List Loc
           ]
 
       pub written_start : (j : ℕ) (m : Member M) (g' : Group) (h' : History) → j ≢ i → slot_at instances j ≡ Some m → IsLawful laws.meaning (instance_of m.inst) w
-          → InstKeeps laws w m.inst (shared_at sharing j) g' h' → SameOnce (instance_of m.inst).table (shared_at sharing j) (shared_at sharing' j)
+          → InstRefines laws w m.inst (shared_at sharing j) g' h' → SameOnce (instance_of m.inst).table (shared_at sharing j) (shared_at sharing' j)
       written_start j m g' h' apart at lawful keeps zero attr = words_by_owner j 0 m g' h' (omega arith) apart at lawful keeps attr
       written_start j m g' h' apart at lawful keeps (suc zero) attr = words_by_owner j 1 m g' h' (omega arith) apart at lawful keeps attr
       written_start j m g' h' apart at lawful keeps (suc (suc zero)) attr = words_by_owner j 2 m g' h' (omega arith) apart at lawful keeps attr
@@ -182,8 +182,8 @@ module _ {M : Type 0} {instances : List (Option (Member M))} {sharing : List Loc
       written_start j m g' h' apart at lawful keeps (suc (suc (suc (suc k)))) attr = refl
 
   -- the words that the new instance finds: those of what was placed, and those that its sharers keep
-  module _ (laws : Laws M) (idle_fill : Fills laws.fill laws.idle_keeps) (active_fill : Fills laws.fill laws.active_keeps) (w : Option ℤ)
-      (histories : ℕ → History) (keeps : Keeps laws w instances sharing groups histories) (a : Instance M)
+  module _ (laws : Laws M) (idle_fill : Fills laws.fill laws.idle_refines) (active_fill : Fills laws.fill laws.active_refines) (w : Option ℤ)
+      (histories : ℕ → History) (keeps : SlotsRefine laws w instances sharing groups histories) (a : Instance M)
       (kind : (instance_of n.inst).kind ≡ a.kind) (params : (instance_of n.inst).params ≡ a.params) (table : unplaced (instance_of n.inst).table ≡ unplaced a.table)
       (lawful : IsLawful laws.meaning a w) where
     joined_at : (k : ℕ) → k < 4 → piece_at (pieces_joined sharing sharers placed) k ≡ piece_joined sharing k (sharer_at sharers k) (piece_at placed k)

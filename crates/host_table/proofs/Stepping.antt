@@ -23,7 +23,7 @@ use Rattle.std.specs.Prelude.{nat_eq}
 use Rattle.std.specs.Option.{option_eq}
 use Rattle.host_map.specs.Activity.{Activity, activated, with_at}
 use Rattle.host_table.specs.Frames.{SameSlot}
-use Rattle.host_table.specs.Keeps.{InstKeeps, with_history}
+use Rattle.host_table.specs.Refinement.{InstRefines, with_history}
 use Rattle.host_table.specs.View.{View}
 use Rattle.host_table.specs.Steps.{Stays, Steps, AreKept, unchanged}
 use Rattle.host_table.proofs.Activities.{activity_stays}
@@ -97,7 +97,7 @@ module _ {M : Type 0} {instances : List (Option (Member M))} {sharing : List Loc
   }
 
   -- its state alone
-  pub steps_after_change : ((histories : ℕ → History) → InstKeeps laws w m.inst (shared_at sharing i) (group_at groups g) (histories i) → InstKeeps laws w inst o y (histories i))
+  pub steps_after_change : ((histories : ℕ → History) → InstRefines laws w m.inst (shared_at sharing i) (group_at groups g) (histories i) → InstRefines laws w inst o y (histories i))
       → Steps laws w (tables instances sharing groups) (tables (set instances i (Some (record { group = g; inst = inst }))) (with_pieces_of sharing i o) (set groups g y)) activities unchanged
   steps_after_change step =
       stepped unchanged
@@ -105,7 +105,7 @@ module _ {M : Type 0} {instances : List (Option (Member M))} {sharing : List Loc
 
   -- it went on by one step
   pub steps_after_step : (h : (ℕ → History) → History)
-      → ((histories : ℕ → History) → InstKeeps laws w m.inst (shared_at sharing i) (group_at groups g) (histories i) → InstKeeps laws w inst o y (h histories))
+      → ((histories : ℕ → History) → InstRefines laws w m.inst (shared_at sharing i) (group_at groups g) (histories i) → InstRefines laws w inst o y (h histories))
       → Steps laws w (tables instances sharing groups) (tables (set instances i (Some (record { group = g; inst = inst }))) (with_pieces_of sharing i o) (set groups g y)) activities (λ histories. with_history histories i (h histories))
   steps_after_step h step =
       stepped (λ histories. with_history histories i (h histories))

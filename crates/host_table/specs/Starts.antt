@@ -15,7 +15,7 @@ use Rattle.host_shared.specs.Locations.{location_at, locations_at, shared_at}
 use Rattle.host_shared.specs.Owners.{IsSameLocation}
 use Rattle.host_table.specs.Table.{slot_at, group_at}
 use Rattle.host_table.specs.Frames.{IsStarted, OthersStay}
-use Rattle.host_table.specs.Keeps.{with_history}
+use Rattle.host_table.specs.Refinement.{with_history}
 use Rattle.host_table.specs.Steps.{AreKept}
 use Rattle.host_table.specs.View.{View}
 use Rattle.host_table.specs.declared.life.NewInstance.{NewInstance}

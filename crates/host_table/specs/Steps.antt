@@ -7,7 +7,7 @@ use Rattle.lifecycle.specs.States.{IsLawful, all_outputs, status_after}
 use Rattle.host_table.specs.declared.member.Member.{Member}
 use Rattle.host_table.specs.Table.{slot_at, instance_of, activity_at, activated_by, deactivated_by, deactivated_in, TablesOk, TablesTold, ArePoisoned, ActivitiesAre}
 use Rattle.host_map.specs.Activity.{Activity}
-use Rattle.host_table.specs.Keeps.{Keeps, with_history}
+use Rattle.host_table.specs.Refinement.{SlotsRefine, with_history}
 use Rattle.host_table.specs.Frames.{SameMembers, SameTables}
 use Rattle.host_table.specs.View.{View}
 
@@ -22,7 +22,7 @@ pub record Ready {M : Type 0} (w : Option ℤ) (t : View M) : Type 0 where
 
 -- each instance keeps its history
 abbrev pub AreKept : {M : Type 0} → Laws M → Option ℤ → View M → (ℕ → History) → Type 0
-AreKept laws w t histories = Keeps laws w t.instances t.sharing t.groups histories
+AreKept laws w t histories = SlotsRefine laws w t.instances t.sharing t.groups histories
 
 -- each instance keeps the history that it kept, in a host of this poison word or of none
 abbrev pub HistoriesStay : {M : Type 0} → Laws M → Option ℤ → View M → View M → Type 0

@@ -5,8 +5,8 @@ use Rattle.mem_rec.specs.declared.Space.{Space}
 use Rattle.mem_rec.specs.declared.Attr.TheVariants.{WriteOnce}
 use Rattle.ialg.specs.Records.{record_at}
 use Rattle.record_loans.specs.declared.pieces.Pieces.{Pieces}
-use Rattle.record_loans.specs.declared.plan.ReaderSizes.{ReaderSizes}
-use Rattle.scratch_group.specs.Readers.{IsReader}
+use Rattle.scratch_group.specs.declared.plan.ShortLoan.{ShortLoan}
+use Rattle.scratch_group.specs.ShortLoans.{IsShortLoan}
 use Rattle.scratch_group.specs.declared.group.Group.{Group}
 use Rattle.host_map.specs.Activity.{Activity, never_activated, newly_active, without_active, activated, deactivated, with_at}
 use Rattle.scratch_group.specs.Blocks.{BlocksArePoison, block_in}
@@ -67,15 +67,15 @@ slot_active_in (Some m) = active_in m.group m.inst
 abbrev pub IsActiveAt : {M : Type 0} → List (Option (Member M)) → ℕ → Type 0
 IsActiveAt instances i = slot_active_in (slot_at instances i) ≡ Some (group_of (slot_at instances i))
 
--- the instance is active, and a reader whose records have these sizes
-abbrev pub IsReading : {M : Type 0} → Inst M → ReaderSizes → Type 0
-IsReading (Idling s) n = ⊥
-IsReading (Running s) n = IsReader s.instance.table n
+-- the instance is active, and its records are lent without a plan, as this says
+abbrev pub RunsByShortLoan : {M : Type 0} → Inst M → ShortLoan → Type 0
+RunsByShortLoan (Idling s) loan = ⊥
+RunsByShortLoan (Running s) loan = IsShortLoan s.instance.table loan
 
 -- the same of the instance in a slot
-abbrev pub IsActiveReader : {M : Type 0} → Option (Member M) → ReaderSizes → Type 0
-IsActiveReader None n = ⊥
-IsActiveReader (Some m) n = IsReading m.inst n
+abbrev pub HasShortLoan : {M : Type 0} → Option (Member M) → ShortLoan → Type 0
+HasShortLoan None loan = ⊥
+HasShortLoan (Some m) loan = RunsByShortLoan m.inst loan
 
 -- the instance has the words of its records, and goes by their places
 pub record IsHoused {M : Type 0} (s : Instance M) (shared : Pieces) (g : Group) : Type 0 where

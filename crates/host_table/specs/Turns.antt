@@ -18,7 +18,7 @@ use Rattle.lifecycle.specs.declared.instance.Inst.TheVariants.{Idling, Running}
 use Rattle.lifecycle.specs.declared.active.Active.{Active}
 use Rattle.lifecycle.specs.declared.idle.Idle.{Idle}
 use Rattle.lifecycle.specs.Moves.{HasRoom, settled}
-use Rattle.lifecycle.specs.States.{Fits, SameInstance, SameOnce, Accepts, IsLawful, IdleKeeps, ActiveKeeps, all_outputs, status_after}
+use Rattle.lifecycle.specs.States.{Fits, SameInstance, SameOnce, Accepts, IsLawful, IdleRefines, ActiveRefines, all_outputs, status_after}
 use Rattle.host_shared.specs.declared.locations.Locations.{Locations}
 use Rattle.host_shared.specs.Locations.{shared_at}
 use Rattle.host_shared.specs.Owners.{HasOwners, with_pieces_of}
@@ -51,7 +51,7 @@ pub record HasBegun {M : Type 0} (laws : Laws M) (old new : Instance M) (shared 
   pub fits : Fits new.table new.own shared' g
   pub keeps : (w : Option ℤ) → laws.meaning.table old.kind old.params.items ≡ Some (unplaced old.table)
       → AreNew w (laws.fill old.kind old.params.items) old.table (idle_words old.table old.own shared)
-      → IdleKeeps laws new w shared' []
+      → IdleRefines laws new w shared' []
 
 -- the idle instance of this number was started, and its pieces are back at their owners
 pub record WasStarted {M : Type 0} (laws : Laws M) (i : ℕ) (old new : Idle M) (sharing sharing' : List Locations) (g : Group) : Type 0 where
@@ -75,7 +75,7 @@ pub record Deactivated {M : Type 0} (laws : Laws M) (poison : Option ℤ) (old n
   pub active : g'.active ≡ None
   pub activations : g'.activations ≡ g.activations
   pub poisoned : BlocksArePoison poison g'
-  pub keeps : (w : Option ℤ) (h : History) → ActiveKeeps laws old w shared g h → IdleKeeps laws new w shared' h
+  pub keeps : (w : Option ℤ) (h : History) → ActiveRefines laws old w shared g h → IdleRefines laws new w shared' h
 
 -- an idle one was activated
 pub record Activated {M : Type 0} (laws : Laws M) (i : ℕ) (old new : Instance M) (shared shared' : Pieces) (g g' : Group) : Type 0 where
@@ -85,7 +85,7 @@ pub record Activated {M : Type 0} (laws : Laws M) (i : ℕ) (old new : Instance 
   pub blocks : (space : Space) → IsSameBlock (block_in g space) (block_in g' space)
   pub active : g'.active ≡ Some i
   pub activations : g'.activations ≡ count_after g.activations (Some i)
-  pub keeps : (w : Option ℤ) (h : History) → BlocksArePoison w g → IdleKeeps laws old w shared h → ActiveKeeps laws new w shared' g' h
+  pub keeps : (w : Option ℤ) (h : History) → BlocksArePoison w g → IdleRefines laws old w shared h → ActiveRefines laws new w shared' g' h
 
 -- an idle one was activated, and was given samples
 pub record ActivatedAndRan {M : Type 0} (laws : Laws M) (i : ℕ) (input out : List ℤ) (old new : Instance M) (shared shared' : Pieces) (g g' : Group) : Type 0 where
@@ -96,9 +96,9 @@ pub record ActivatedAndRan {M : Type 0} (laws : Laws M) (i : ℕ) (input out : L
   pub active : g'.active ≡ Some i
   pub activations : g'.activations ≡ count_after g.activations (Some i)
   pub bounded : length out ≤ length input
-  pub keeps : (w : Option ℤ) (h : History) → BlocksArePoison w g → IdleKeeps laws old w shared h
-      → ActiveKeeps laws new w shared' g' (with_samples h input)
-  pub output : (w : Option ℤ) (h : History) → IsLawful laws.meaning old w → BlocksArePoison w g → IdleKeeps laws old w shared h
+  pub keeps : (w : Option ℤ) (h : History) → BlocksArePoison w g → IdleRefines laws old w shared h
+      → ActiveRefines laws new w shared' g' (with_samples h input)
+  pub output : (w : Option ℤ) (h : History) → IsLawful laws.meaning old w → BlocksArePoison w g → IdleRefines laws old w shared h
       → all_outputs laws.meaning old (with_samples h input) ≡ all_outputs laws.meaning old h ++ out
 
 -- an active one was given samples
@@ -108,8 +108,8 @@ pub record Ran {M : Type 0} (laws : Laws M) (input out : List ℤ) (old new : In
   pub written : SameOnce old.table shared shared'
   pub group : SameGroup g g'
   pub bounded : length out ≤ length input
-  pub keeps : (w : Option ℤ) (h : History) → ActiveKeeps laws old w shared g h → ActiveKeeps laws new w shared' g' (with_samples h input)
-  pub output : (w : Option ℤ) (h : History) → IsLawful laws.meaning old w → ActiveKeeps laws old w shared g h
+  pub keeps : (w : Option ℤ) (h : History) → ActiveRefines laws old w shared g h → ActiveRefines laws new w shared' g' (with_samples h input)
+  pub output : (w : Option ℤ) (h : History) → IsLawful laws.meaning old w → ActiveRefines laws old w shared g h
       → all_outputs laws.meaning old (with_samples h input) ≡ all_outputs laws.meaning old h ++ out
 
 -- instance i sees the same pieces, whose words may differ

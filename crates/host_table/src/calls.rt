@@ -2,9 +2,10 @@
 ghost use Rattle.std.specs.Prelude.{◌≡◌, ◌≤◌, ℤ, [], length, Option, None, IsSome, IfSome, IfNone, OnSome, is_some};
 ghost use Rattle.ialg.specs.Views.{control_of, answer_of};
 ghost use Rattle.scratch_group.specs.Readers.{IsReader};
+ghost use Rattle.scratch_group.specs.ShortLoans.{IsShortLoan};
 ghost use Rattle.lifecycle.specs.States.{FitsIn};
 ghost use Rattle.host_shared.specs.Owners.{OnlyItsPiecesChange};
-ghost use Rattle.host_table.specs.Table.{slot_at, group_of, activity_at, newly_active_in, IsActiveAt, IsActiveReader, IsIdleAt};
+ghost use Rattle.host_table.specs.Table.{slot_at, group_of, activity_at, newly_active_in, HasShortLoan, IsActiveAt, IsIdleAt};
 ghost use Rattle.host_table.specs.Steps.{Ready, Stays, given, GivesOut, AnswersTo, AreConsistent, ActivatesAndControls, ActivatesAndFeeds, SaysWhetherTaken};
 ghost use Rattle.host_table.specs.Turns.{CanBeLent, ActivatedAndRan, ActivatedAndRanSharing, AnswersInAnyHost, GivesOutInAnyHost, ObeysInAnyHost, RanSharing, StepsInAnyHost};
 
@@ -14,7 +15,7 @@ use host_shared::{Location, Locations, borrow_pieces, give_back_pieces, owner};
 use ialg::{BLOCK_SAMPLES, Block, Ctl, Ialg, Status};
 use lifecycle::{Active, Idle, Inst};
 use record_loans::{ONCE, Pieces, ReaderSizes, end_absent};
-use scratch_group::{Group, is_filter, reader_sizes};
+use scratch_group::{Group, ShortLoan, is_filter, short_loan};
 
 /// Gives the active member of a group a block of samples, with its write-once records borrowed from their owners.
 #[inline(never)]
@@ -66,8 +67,35 @@ fn run_reading<M: Ialg>(
     }
 }
 
-/// Gives the active member of a group a block of samples, as [`run_sharing`] does. A filter has no write-once record,
-/// so nothing is borrowed for it, and for a reader no plan is made.
+/// Gives an active instance whose records are lent without a plan a block of samples, as [`run_sharing`] does. A filter has no write-once
+/// record, so nothing is borrowed for it.
+///
+/// Inlined, as [`run_reading`] is.
+#[inline(always)]
+fn run_short<M: Ialg>(
+    active: &mut Active<M>,
+    loan: ShortLoan,
+    sharing: &mut Vec<Locations>,
+    i: u8,
+    group: &mut Group,
+    input: &[i16],
+    out: &mut Block,
+)
+    requires lent { CanBeLent active.old.instance sharing.old.items i group.old }
+    requires short { IsShortLoan active.old.instance.table loan }
+    requires empty { out.old.items ≡ [] }
+    requires some { 1 ≤ length input.now }
+    requires within { length input.now ≤ BLOCK_SAMPLES }
+    ensures seen { OnlyItsPiecesChange i sharing.old.items sharing.new.items }
+    ensures did { RanSharing M.law i input.now out.new.items active.old active.new sharing.old.items sharing.new.items group.old group.new }
+{
+    match loan {
+        ShortLoan::Reader(sizes) => run_reading(active, sizes, sharing, i, group, input, out),
+        ShortLoan::Filter(sizes) => active.run_filtering(sizes, group, input, out),
+    }
+}
+
+/// Gives the active member of a group a block of samples, as [`run_sharing`] does, without a plan where it needs none.
 fn run_member<M: Ialg>(
     active: &mut Active<M>,
     sharing: &mut Vec<Locations>,
@@ -83,14 +111,9 @@ fn run_member<M: Ialg>(
     ensures seen { OnlyItsPiecesChange i sharing.old.items sharing.new.items }
     ensures did { RanSharing M.law i input.now out.new.items active.old active.new sharing.old.items sharing.new.items group.old group.new }
 {
-    if is_filter(&active.instance.table) {
-        let mut none = Pieces::none();
-        active.run(&mut none, group, input, out);
-        end_absent(none);
-    } else if let Some(sizes) = reader_sizes(&active.instance.table) {
-        run_reading(active, sizes, sharing, i, group, input, out);
-    } else {
-        run_sharing(active, sharing, i, group, input, out);
+    match short_loan(&active.instance.table) {
+        Some(loan) => run_short(active, loan, sharing, i, group, input, out),
+        None => run_sharing(active, sharing, i, group, input, out),
     }
 }
 
@@ -283,29 +306,30 @@ impl<M: Ialg> Tables<M> {
         self.activate_and_run(i, g, input, out);
     }
 
-    /// The sizes of the records of an instance that is active and a reader: for such a one [`process_reader`](Tables::process_reader) does
-    /// what [`process`](Tables::process) does. None for every other instance, and where there is none.
+    /// How the records of an instance that is active are lent to it without a plan: with such a loan
+    /// [`process_short`](Tables::process_short) does what [`process`](Tables::process) does. None for every other instance, and where
+    /// there is none.
     #[inline(always)]
-    pub fn active_reader(&self, i: u8) -> Option<ReaderSizes>
-        ensures found { IfSome result (IsActiveReader (slot_at self.now.instances i)) }
-        ensures none { IfNone result ((n : ReaderSizes) → IsActiveReader (slot_at self.now.instances i) n → ⊥) }
+    pub fn short_loan(&self, i: u8) -> Option<ShortLoan>
+        ensures found { IfSome result (HasShortLoan (slot_at self.now.instances i)) }
+        ensures none { IfNone result ((loan : ShortLoan) → HasShortLoan (slot_at self.now.instances i) loan → ⊥) }
     {
         match self.instances.get(i as usize) {
             Some(Some(member)) => match &member.inst {
-                Inst::Running(active) => reader_sizes(&active.instance.table),
+                Inst::Running(active) => short_loan(&active.instance.table),
                 Inst::Idling(_) => None,
             },
             _ => None,
         }
     }
 
-    /// Gives an active reader, whose records have these sizes, a block of samples. Nobody is activated or deactivated for it, so that it
-    /// does the same in a host of any poison word, or of none.
+    /// Gives an active instance that has this short loan a block of samples. Nobody is activated or deactivated for it, so that it does
+    /// the same in a host of any poison word, or of none.
     ///
-    /// Inlined, since a reader's work at one sample is less than a call.
+    /// Inlined, since at one sample a call weighs as much as the work.
     #[inline(always)]
-    pub fn process_reader(&mut self, i: u8, sizes: ReaderSizes, input: &[i16], out: &mut Block)
-        requires reader { IsActiveReader (slot_at self.old.instances i) sizes }
+    pub fn process_short(&mut self, i: u8, loan: ShortLoan, input: &[i16], out: &mut Block)
+        requires short { HasShortLoan (slot_at self.old.instances i) loan }
         requires ok { AreConsistent self.old }
         requires empty { out.old.items ≡ [] }
         requires some { 1 ≤ length input.now }
@@ -319,7 +343,7 @@ impl<M: Ialg> Tables<M> {
                 let group = &mut self.groups[member.group as usize];
                 match &mut member.inst {
                     Inst::Running(active) => {
-                        run_reading(active, sizes, &mut self.sharing, i, group, input, out);
+                        run_short(active, loan, &mut self.sharing, i, group, input, out);
                     }
                     Inst::Idling(_) => unreachable!(),
                 }

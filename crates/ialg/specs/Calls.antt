@@ -52,7 +52,7 @@ module _ {M : Type 0} (laws : Laws M) (kind : M) where
       → LastingLent tab (lent_words old)
       → old.writable ≡ true
       → AreNew w (laws.fill kind p) tab (lent_words old)
-      → laws.idle_keeps kind p tab (lasting tab (lent_words new)) []
+      → laws.idle_refines kind p tab (lasting tab (lent_words new)) []
 
   -- algActivate: what an idle instance keeps in the records that last, an active one keeps in all of them afterwards. The scratch words that it
   -- finds are the poison word, or any words where the host has none
@@ -61,16 +61,16 @@ module _ {M : Type 0} (laws : Laws M) (kind : M) where
       → old.writable ≡ false
       → AllLent old.table.now (lent_words old)
       → ScratchIsPoison w old.table.now (lent_words old)
-      → laws.idle_keeps kind p old.table.now (lasting old.table.now (lent_words old)) h
-      → laws.active_keeps kind p old.table.now (lent_words new) h
+      → laws.idle_refines kind p old.table.now (lasting old.table.now (lent_words old)) h
+      → laws.active_refines kind p old.table.now (lent_words new) h
 
   -- process: an active instance keeps the samples behind what it kept, and gives out what they give by its meaning
   abbrev pub ProcessesBlock : (input out : List ℤ) → (old new : Lent) → Type 0
   ProcessesBlock input out old new = (p : List ℤ) (w : Option ℤ) (h : History) → IsTrue (laws.meaning.lawful kind p w)
       → old.writable ≡ false
       → AllLent old.table.now (lent_words old)
-      → laws.active_keeps kind p old.table.now (lent_words old) h
-      → laws.active_keeps kind p old.table.now (lent_words new) (with_samples h input)
+      → laws.active_refines kind p old.table.now (lent_words old) h
+      → laws.active_refines kind p old.table.now (lent_words new) (with_samples h input)
       × (outputs_of laws.meaning kind p (with_samples h input) ≡ outputs_of laws.meaning kind p h ++ out)
 
   -- algDeactivate: what an active instance keeps in all its records, an idle one keeps in those that last afterwards
@@ -78,8 +78,8 @@ module _ {M : Type 0} (laws : Laws M) (kind : M) where
   SavesScratch old new = (p : List ℤ) (w : Option ℤ) (h : History) → IsTrue (laws.meaning.lawful kind p w)
       → old.writable ≡ false
       → AllLent old.table.now (lent_words old)
-      → laws.active_keeps kind p old.table.now (lent_words old) h
-      → laws.idle_keeps kind p old.table.now (lasting old.table.now (lent_words new)) h
+      → laws.active_refines kind p old.table.now (lent_words old) h
+      → laws.idle_refines kind p old.table.now (lasting old.table.now (lent_words new)) h
 
   -- algMoved: what an idle instance kept by a table with other bases, it keeps by the table with the new ones afterwards
   abbrev pub FollowsMoveIdle : List MemRec → (old new : Lent) → Type 0
@@ -89,8 +89,8 @@ module _ {M : Type 0} (laws : Laws M) (kind : M) where
       → old.table.now ≡ tab
       → old.writable ≡ false
       → LastingLent tab (lent_words old)
-      → laws.idle_keeps kind p before (lasting tab (lent_words old)) h
-      → laws.idle_keeps kind p tab (lasting tab (lent_words new)) h
+      → laws.idle_refines kind p before (lasting tab (lent_words old)) h
+      → laws.idle_refines kind p tab (lasting tab (lent_words new)) h
 
   -- algMoved: so does an active one
   abbrev pub FollowsMoveActive : List MemRec → (old new : Lent) → Type 0
@@ -100,8 +100,8 @@ module _ {M : Type 0} (laws : Laws M) (kind : M) where
       → old.table.now ≡ tab
       → old.writable ≡ false
       → AllLent tab (lent_words old)
-      → laws.active_keeps kind p before (lent_words old) h
-      → laws.active_keeps kind p tab (lent_words new) h
+      → laws.active_refines kind p before (lent_words old) h
+      → laws.active_refines kind p tab (lent_words new) h
 
   -- algControl: an active instance keeps a control that it accepts behind what it kept, and answers what its meaning answers
   abbrev pub DoesControl : Ctl → Status → (old new : Lent) → Type 0
@@ -109,8 +109,8 @@ module _ {M : Type 0} (laws : Laws M) (kind : M) where
       → IsTrue (laws.meaning.accepts kind p (control_of c))
       → old.writable ≡ false
       → AllLent old.table.now (lent_words old)
-      → laws.active_keeps kind p old.table.now (lent_words old) h
-      → laws.active_keeps kind p old.table.now (lent_words new) (Control (control_of c) ∷ h)
+      → laws.active_refines kind p old.table.now (lent_words old) h
+      → laws.active_refines kind p old.table.now (lent_words new) (Control (control_of c) ∷ h)
       × (answer_of answer ≡ status_of laws.meaning kind p h (control_of c))
 
   -- algFree: an idle instance tells the table by which its records are lent
@@ -118,7 +118,7 @@ module _ {M : Type 0} (laws : Laws M) (kind : M) where
   TellsItsRecords m told = (p : List ℤ) (w : Option ℤ) (h : History) → IsTrue (laws.meaning.lawful kind p w)
       → m.writable ≡ false
       → LastingLent m.table.now (lent_words m)
-      → laws.idle_keeps kind p m.table.now (lasting m.table.now (lent_words m)) h
+      → laws.idle_refines kind p m.table.now (lasting m.table.now (lent_words m)) h
       → told ≡ m.table.now
 
   -- a sample or a control at a time: an active instance keeps what it takes behind what it kept, gives out what it gives, and answers
@@ -128,7 +128,7 @@ module _ {M : Type 0} (laws : Laws M) (kind : M) where
       → IsTrue (takes laws.meaning kind p (entry_of entry))
       → old.writable ≡ false
       → AllLent old.table.now (lent_words old)
-      → laws.active_keeps kind p old.table.now (lent_words old) h
-      → laws.active_keeps kind p old.table.now (lent_words new) (entry_of entry ∷ h)
+      → laws.active_refines kind p old.table.now (lent_words old) h
+      → laws.active_refines kind p old.table.now (lent_words new) (entry_of entry ∷ h)
       × (outputs_of laws.meaning kind p (entry_of entry ∷ h) ≡ outputs_of laws.meaning kind p h ++ out)
       × (answer_of answer ≡ reply_of laws.meaning kind p h (entry_of entry))

@@ -75,6 +75,6 @@ filter_laws kind filter rests runs = record {
   meaning = meaning_of filter;
   bound = λ _. FILTER_RECORDS;
   fill = λ _ p k. [];
-  idle_keeps = λ _ p rs wss h. IsIdle kind (filter.memory p) (rests p h) rs wss;
-  active_keeps = λ _ p rs wss h. IsActive kind (filter.memory p) (runs p h) rs wss;
+  idle_refines = λ _ p rs wss h. IsIdle kind (filter.memory p) (rests p h) rs wss;
+  active_refines = λ _ p rs wss h. IsActive kind (filter.memory p) (runs p h) rs wss;
 }

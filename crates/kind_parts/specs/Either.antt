@@ -30,11 +30,11 @@ either_means a b = record {
   lawful = told a.lawful b.lawful;
 }
 
--- its words keep a history as its own set says
-abbrev pub either_keeps : {A B : Type 0} → (A → List ℤ → List MemRec → List (List ℤ) → History → Type 0)
+-- its words refine a history as its own set says
+abbrev pub either_refines : {A B : Type 0} → (A → List ℤ → List MemRec → List (List ℤ) → History → Type 0)
     → (B → List ℤ → List MemRec → List (List ℤ) → History → Type 0) → Or A B → List ℤ → List MemRec → List (List ℤ) → History → Type 0
-either_keeps f g (First a) = f a
-either_keeps f g (Second b) = g b
+either_refines f g (First a) = f a
+either_refines f g (Second b) = g b
 
 -- a kind that has been found in the first set, and else what is found in the second
 abbrev pub found : {A B : Type 0} → Option A → Option B → Option (Or A B)

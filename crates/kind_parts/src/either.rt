@@ -4,7 +4,7 @@ ghost use Rattle.std.proofs.Common.{ap, refl};
 ghost use Rattle.std.proofs.lemmas.Bool.{false≢true};
 ghost use Rattle.kind_parts.specs.declared.either.Or.{Or};
 ghost use Rattle.kind_parts.specs.declared.either.Or.TheVariants.{First, Second};
-ghost use Rattle.kind_parts.specs.Either.{told, either_means, either_keeps, either_named};
+ghost use Rattle.kind_parts.specs.Either.{told, either_means, either_refines, either_named};
 
 use ialg::{Block, Ctl, Ialg, Lent, Named, Params, Status, process_apart};
 use mem_rec::MemTab;
@@ -39,8 +39,8 @@ impl<A: Ialg, B: Ialg> Ialg for Or<A, B> {
       meaning = either_means A.law.meaning B.law.meaning;
       bound = told A.law.bound B.law.bound;
       fill = told A.law.fill B.law.fill;
-      idle_keeps = either_keeps A.law.idle_keeps B.law.idle_keeps;
-      active_keeps = either_keeps A.law.active_keeps B.law.active_keeps;
+      idle_refines = either_refines A.law.idle_refines B.law.idle_refines;
+      active_refines = either_refines A.law.active_refines B.law.active_refines;
     } };
 
     fn alg_num_alloc(&self) -> usize {

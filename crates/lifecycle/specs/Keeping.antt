@@ -10,70 +10,70 @@ use Rattle.scratch_group.specs.Blocks.{BlocksArePoison}
 use Rattle.scratch_group.specs.Words.{idle_words}
 use Rattle.record_loans.specs.declared.pieces.Pieces.{Pieces}
 use Rattle.lifecycle.specs.declared.instance.Instance.{Instance}
-use Rattle.lifecycle.specs.States.{IsLawful, Accepts, IdleKeeps, ActiveKeeps, all_outputs, status_after}
+use Rattle.lifecycle.specs.States.{IsLawful, Accepts, IdleRefines, ActiveRefines, all_outputs, status_after}
 
 -- an instance with new records of its kind's table is started: it keeps the empty history
 abbrev pub Begins : {M : Type 0} → Laws M → Instance M → Pieces → Instance M → Pieces → Type 0
 Begins laws s shared s' shared' = (w : Option ℤ) → laws.meaning.table s.kind s.params.items ≡ Some (unplaced s.table)
     → AreNew w (laws.fill s.kind s.params.items) s.table (idle_words s.table s.own shared)
-    → IdleKeeps laws s' w shared' []
+    → IdleRefines laws s' w shared' []
 
 -- an idle instance keeps what it kept
 abbrev pub StaysIdle : {M : Type 0} → Laws M → Instance M → Pieces → Instance M → Pieces → Type 0
-StaysIdle laws s shared s' shared' = (w : Option ℤ) (h : History) → IdleKeeps laws s w shared h → IdleKeeps laws s' w shared' h
+StaysIdle laws s shared s' shared' = (w : Option ℤ) (h : History) → IdleRefines laws s w shared h → IdleRefines laws s' w shared' h
 
 -- an active instance keeps what it kept
 abbrev pub StaysActive : {M : Type 0} → Laws M → Instance M → Pieces → Group → Instance M → Pieces → Group → Type 0
-StaysActive laws s shared g s' shared' g' = (w : Option ℤ) (h : History) → ActiveKeeps laws s w shared g h → ActiveKeeps laws s' w shared' g' h
+StaysActive laws s shared g s' shared' g' = (w : Option ℤ) (h : History) → ActiveRefines laws s w shared g h → ActiveRefines laws s' w shared' g' h
 
 -- an idle instance, where the blocks hold the poison word, becomes an active one that keeps the same
 abbrev pub BecomesActive : {M : Type 0} → Laws M → Instance M → Pieces → Group → Instance M → Pieces → Group → Type 0
 BecomesActive laws s shared g s' shared' g' = (w : Option ℤ) (h : History) → BlocksArePoison w g
-    → IdleKeeps laws s w shared h → ActiveKeeps laws s' w shared' g' h
+    → IdleRefines laws s w shared h → ActiveRefines laws s' w shared' g' h
 
 -- an active instance becomes an idle one that keeps the same
 abbrev pub BecomesIdle : {M : Type 0} → Laws M → Instance M → Pieces → Group → Instance M → Pieces → Type 0
-BecomesIdle laws s shared g s' shared' = (w : Option ℤ) (h : History) → ActiveKeeps laws s w shared g h → IdleKeeps laws s' w shared' h
+BecomesIdle laws s shared g s' shared' = (w : Option ℤ) (h : History) → ActiveRefines laws s w shared g h → IdleRefines laws s' w shared' h
 
 -- an active instance keeps these samples behind what it kept
 abbrev pub Takes : {M : Type 0} → Laws M → Instance M → Pieces → Group → List ℤ → Instance M → Pieces → Group → Type 0
-Takes laws s shared g samples s' shared' g' = (w : Option ℤ) (h : History) → ActiveKeeps laws s w shared g h
-    → ActiveKeeps laws s' w shared' g' (with_samples h samples)
+Takes laws s shared g samples s' shared' g' = (w : Option ℤ) (h : History) → ActiveRefines laws s w shared g h
+    → ActiveRefines laws s' w shared' g' (with_samples h samples)
 
 -- a lawful active instance gives this out for these samples
 abbrev pub GivesOut : {M : Type 0} → Laws M → Instance M → Pieces → Group → List ℤ → List ℤ → Type 0
 GivesOut laws s shared g samples out = (w : Option ℤ) (h : History) → IsLawful laws.meaning s w
-    → ActiveKeeps laws s w shared g h
+    → ActiveRefines laws s w shared g h
     → all_outputs laws.meaning s (with_samples h samples)
     ≡ all_outputs laws.meaning s h ++ out
 
 -- an idle instance becomes an active one that keeps these samples behind what it kept
 abbrev pub BecomesActiveAndTakes : {M : Type 0} → Laws M → Instance M → Pieces → Group → List ℤ → Instance M → Pieces → Group → Type 0
 BecomesActiveAndTakes laws s shared g samples s' shared' g' = (w : Option ℤ) (h : History) → BlocksArePoison w g
-    → IdleKeeps laws s w shared h
-    → ActiveKeeps laws s' w shared' g' (with_samples h samples)
+    → IdleRefines laws s w shared h
+    → ActiveRefines laws s' w shared' g' (with_samples h samples)
 
 -- a lawful idle instance, once it is active, gives this out for these samples
 abbrev pub BecomesActiveAndGives : {M : Type 0} → Laws M → Instance M → Pieces → Group → List ℤ → List ℤ → Type 0
 BecomesActiveAndGives laws s shared g samples out = (w : Option ℤ) (h : History) → IsLawful laws.meaning s w → BlocksArePoison w g
-    → IdleKeeps laws s w shared h
+    → IdleRefines laws s w shared h
     → all_outputs laws.meaning s (with_samples h samples)
     ≡ all_outputs laws.meaning s h ++ out
 
 -- an active instance keeps a control that it takes behind what it kept
 abbrev pub Obeys : {M : Type 0} → Laws M → Instance M → Pieces → Group → Ctl → Instance M → Pieces → Group → Type 0
 Obeys laws s shared g c s' shared' g' = (w : Option ℤ) (h : History) → Accepts laws.meaning s c
-    → ActiveKeeps laws s w shared g h
-    → ActiveKeeps laws s' w shared' g' (Control c ∷ h)
+    → ActiveRefines laws s w shared g h
+    → ActiveRefines laws s' w shared' g' (Control c ∷ h)
 
 -- a lawful active instance answers this to a control that it takes
 abbrev pub Answers : {M : Type 0} → Laws M → Instance M → Pieces → Group → Ctl → Status → Type 0
 Answers laws s shared g c answer = (w : Option ℤ) (h : History) → IsLawful laws.meaning s w
     → Accepts laws.meaning s c
-    → ActiveKeeps laws s w shared g h
+    → ActiveRefines laws s w shared g h
     → answer ≡ status_after laws.meaning s h c
 
 -- a lawful idle instance answers this table at its end
 abbrev pub Ends : {M : Type 0} → Laws M → Instance M → Pieces → List MemRec → Type 0
 Ends laws s shared answer = (w : Option ℤ) (h : History) → IsLawful laws.meaning s w
-    → IdleKeeps laws s w shared h → answer ≡ s.table
+    → IdleRefines laws s w shared h → answer ≡ s.table

@@ -2,8 +2,9 @@
 ghost use Rattle.std.specs.Prelude.{◌≡◌, ◌≤◌, [], length, Some, IsSome};
 ghost use Rattle.ialg.specs.Views.{control_of, answer_of};
 ghost use Rattle.scratch_group.specs.Blocks.{SameGroup};
+ghost use Rattle.scratch_group.specs.Filters.{IsFilter};
 ghost use Rattle.scratch_group.specs.Readers.{IsReader};
-ghost use Rattle.record_loans.specs.Pieces.{only_second, piece_at, IsSamePiece, SamePieces};
+ghost use Rattle.record_loans.specs.Pieces.{no_pieces, only_second, piece_at, IsSamePiece, SamePieces};
 ghost use Rattle.lifecycle.specs.Moves.{CanRestore, with_back, HasRoom, without_piece, ComesBack};
 ghost use Rattle.lifecycle.specs.States.{FitsIn, SameInstance, SameOnce, SaysWhetherAccepted};
 ghost use Rattle.lifecycle.specs.Keeping.{StaysActive, BecomesIdle, Takes, GivesOut, Obeys, Answers};
@@ -12,7 +13,7 @@ use crate::Idle;
 use crate::instance::{Instance, restore};
 use crate::steps::{Command, Deactivate, Move, Process};
 use ialg::{BLOCK_SAMPLES, Block, Ctl, Ialg, Status};
-use record_loans::{Pieces, ReaderSizes};
+use record_loans::{FilterSizes, Pieces, ReaderSizes};
 use scratch_group::{Group, rebase};
 use space_raw::Piece;
 
@@ -46,6 +47,38 @@ impl<M: Ialg> Active<M> {
             &self.instance.table,
             &mut self.instance.own,
             shared,
+            out,
+        );
+    }
+
+    /// Gives a filter a block of samples, as [`run`](Active::run) does: it has no write-once record, and one block of its group is looked at.
+    #[inline(always)]
+    pub fn run_filtering(
+        &mut self,
+        sizes: FilterSizes,
+        group: &mut Group,
+        input: &[i16],
+        out: &mut Block,
+    )
+        requires filter { IsFilter self.old.instance.table sizes }
+        requires fits { FitsIn self.old.instance no_pieces group.old }
+        requires empty { out.old.items ≡ [] }
+        requires some { 1 ≤ length input.now }
+        requires within { length input.now ≤ BLOCK_SAMPLES }
+        ensures same { SameInstance self.old.instance self.new.instance }
+        ensures group { SameGroup group.old group.new }
+        ensures fits { FitsIn self.new.instance no_pieces group.new }
+        ensures bounded { length out.new.items ≤ length input.now }
+        ensures keeps { Takes M.law self.old.instance no_pieces group.old input.now self.new.instance no_pieces group.new }
+        ensures output { GivesOut M.law self.old.instance no_pieces group.old input.now out.new.items }
+    {
+        let kind = self.instance.kind;
+        let step = Process { kind, input };
+        group.lend_filtering(
+            &step,
+            &self.instance.table,
+            sizes,
+            &mut self.instance.own,
             out,
         );
     }

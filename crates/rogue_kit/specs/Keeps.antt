@@ -30,8 +30,8 @@ mixed_laws = record {
   meaning = mixed_meaning;
   bound = on_voice 0 voices.voice_bound;
   fill = λ kind p k. on_voice [] (λ voice. voices.voice_fill voice p k) kind;
-  idle_keeps = IsIdle;
-  active_keeps = IsActive;
+  idle_refines = IsIdle;
+  active_refines = IsActive;
 }
 
 pub idle_words : (kind : Mixed) (p : List ℤ) (rs : List MemRec) (wss : List (List ℤ)) (h : History) → IsIdle kind p rs wss h → IsWordHistory h

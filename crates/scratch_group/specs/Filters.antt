@@ -1,15 +1,16 @@
 -- Tables of filters.
-use Rattle.std.specs.Prelude.{ℤ, ◌≡◌, ◌≤◌, List, [], ◌∷◌, length, take}
+use Rattle.std.specs.Prelude.{ℤ, ◌≡◌, ◌≤◌, List, [], ◌∷◌, length, take, IsTrue}
 use Rattle.mem_rec.specs.declared.MemRec.{MemRec}
 use Rattle.mem_rec.specs.declared.Space.TheVariants.{Daram}
 use Rattle.mem_rec.specs.declared.Attr.TheVariants.{Scratch, Persist}
+use Rattle.mem_rec.specs.Records.{is_table}
 use Rattle.ialg.specs.declared.TheConstants.{FILTER_RECORDS}
 use Rattle.ialg.specs.Records.{record_at}
 use Rattle.record_loans.specs.declared.plan.FilterSizes.{FilterSizes}
 use Rattle.record_loans.specs.declared.pieces.Pieces.{Pieces}
 use Rattle.record_loans.specs.Pieces.{piece_words}
 
--- the table of a filter, with these sizes: behind the object one persistent record, and one scratch record in `daram`
+-- records of a filter, with these sizes: behind the object one persistent record, and one scratch record in `daram`
 pub record IsOfFilter (rs : List MemRec) (n : FilterSizes) : Type 0 where
   pub three : length rs ≡ FILTER_RECORDS
   pub some : 1 ≤ n.object × 1 ≤ n.kept × 1 ≤ n.running
@@ -19,6 +20,11 @@ pub record IsOfFilter (rs : List MemRec) (n : FilterSizes) : Type 0 where
   pub scratch : (record_at rs 2).attr ≡ Scratch
   pub space : (record_at rs 2).space ≡ Daram
   pub running : (record_at rs 2).size ≡ n.running
+
+-- the table of a filter, whose records have these sizes
+pub record IsFilter (rs : List MemRec) (n : FilterSizes) : Type 0 where
+  pub table : IsTrue (is_table rs)
+  pub sizes : IsOfFilter rs n
 
 -- the table of no filter
 abbrev pub IsOfNoFilter : List MemRec → Type 0

@@ -3,8 +3,9 @@ ghost use Rattle.std.specs.Prelude.{◌≡◌, ◌<◌, ◌+◌, length, Option,
 ghost use Rattle.record_loans.specs.Blocks.{block_piece, block_words};
 ghost use Rattle.scratch_group.specs.Blocks.{block_in, block_spot, block_to_place, filled, BlocksArePoison, SameBut, SameGroup};
 ghost use Rattle.host_map.specs.Activity.{count_after};
-ghost use Rattle.record_loans.specs.Pieces.{only_second, piece_place, IsInSpace, IsSamePiece, SamePieces};
+ghost use Rattle.record_loans.specs.Pieces.{no_pieces, only_second, piece_place, IsInSpace, IsSamePiece, SamePieces};
 ghost use Rattle.scratch_group.specs.Words.{DoneActive, HasWords};
+ghost use Rattle.scratch_group.specs.Filters.{IsFilter};
 ghost use Rattle.scratch_group.specs.Readers.{IsReader};
 
 use crate::plan::{active_plan, filter_sizes, reader_sizes, sharing_sizes};
@@ -12,8 +13,8 @@ use host_map::Stat;
 use ialg::{Lending, Step};
 use mem_rec::{Layout, MemTab, Space, scratch_layout};
 use record_loans::{
-    Pieces, PlannedLoan, ReaderSizes, ScratchBlock, lend_filter, lend_reader, lend_sharing_filter,
-    lend_with_blocks,
+    FilterSizes, Pieces, PlannedLoan, ReaderSizes, ScratchBlock, lend_filter, lend_reader,
+    lend_sharing_filter, lend_with_blocks,
 };
 use space_raw::{Piece, end_none};
 
@@ -222,6 +223,32 @@ impl Group {
                 },
             },
         }
+    }
+
+    /// Performs the step with the records of a filter, as [`lend`](Group::lend) does, out of its own pieces and the block in `daram`. No other
+    /// block is looked at, and no plan made.
+    #[inline(always)]
+    pub fn lend_filtering<O, S: Step<O>>(
+        &mut self,
+        step: &S,
+        table: &MemTab,
+        sizes: FilterSizes,
+        own: &mut Pieces,
+        out: &mut O,
+    )
+        requires can { S.can step.now out.old }
+        requires filter { IsFilter table.now sizes }
+        requires sizes { HasWords table.now own.old no_pieces self.old }
+        ensures done { DoneActive (S.done step.now) table.now false own.old no_pieces self.old own.new no_pieces self.new out.old out.new }
+        ensures own { SamePieces own.old own.new }
+        ensures group { SameGroup self.old self.new }
+    {
+        let loan = Lending {
+            step,
+            table,
+            writable: false,
+        };
+        lend_filter(&loan, sizes, own, &mut self.daram, out);
     }
 
     /// Performs the step with the records of a reader, as [`lend`](Group::lend) does, out of the one piece that may be lent to it. No block is

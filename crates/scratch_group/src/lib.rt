@@ -14,4 +14,4 @@ mod plan;
 pub use bases::{lends_at_the_layout, rebase, rebase_filter, rebase_sharing};
 pub use group::{Group, Need};
 pub use lasting::{lend_lasting, lend_lasting_filter, lend_lasting_sharing};
-pub use plan::{filter_sizes, is_filter, reader_sizes, sharing_sizes};
+pub use plan::{ShortLoan, filter_sizes, is_filter, reader_sizes, sharing_sizes, short_loan};

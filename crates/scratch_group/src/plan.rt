@@ -6,6 +6,7 @@ ghost use Rattle.scratch_group.specs.Words.{is_filter, scratch_end, scratch_offs
 ghost use Rattle.scratch_group.specs.Plans.{cut_of, idle_cut_of, active_plan_of, idle_plan_of, IsWithinLimits};
 ghost use Rattle.scratch_group.specs.Filters.{IsOfFilter, IsOfNoFilter};
 ghost use Rattle.scratch_group.specs.Readers.{IsOfNoReader, IsOfReader};
+ghost use Rattle.scratch_group.specs.ShortLoans.{HasNoShortLoan, IsShortLoan};
 ghost use Rattle.scratch_group.specs.Sharing.{IsOfNoSharingFilter, IsOfSharingFilter};
 
 use ialg::FILTER_RECORDS;
@@ -233,6 +234,30 @@ pub fn reader_sizes(table: &MemTab) -> Option<ReaderSizes>
         object,
         once: once.size as usize,
     })
+}
+
+/// How the records of a table are lent without a plan: as those of a filter or of a reader.
+#[derive(Clone, Copy, PartialEq, Eq, Debug)]
+pub enum ShortLoan {
+    /// The records of a filter.
+    Filter(FilterSizes),
+    /// The records of a reader.
+    Reader(ReaderSizes),
+}
+
+/// How the records of the table are lent without a plan, where it is one of a filter or of a reader. None for every other table.
+#[inline(always)]
+pub fn short_loan(table: &MemTab) -> Option<ShortLoan>
+    ensures { MatchOption result (HasNoShortLoan table.now) (IsShortLoan table.now) }
+{
+    // readers first: they do the least at a sample
+    match reader_sizes(table) {
+        Some(sizes) => Some(ShortLoan::Reader(sizes)),
+        None => match filter_sizes(table) {
+            Some(sizes) => Some(ShortLoan::Filter(sizes)),
+            None => None,
+        },
+    }
 }
 
 /// The sizes of the records of a filter that shares its constants, where the table is one of such: behind the object one persistent record,

@@ -109,9 +109,9 @@ fn serve_feed<T: LineMachine, I: PortIn, O: PortOut, P: PortOut>(
     ensures read { IsErrOf result PortsFault.Read → AnyFailedIn I.source inputs.new }
     ensures write { IsErrOf result PortsFault.Write → OneFailed O.sink P.sink outputs.new replies.new }
     ensures waits { NothingPassed O.sink P.sink outputs.old outputs.new replies.old replies.new }
-    ensures served { OverLine I.source O.sink P.sink (FeedIsServed T.machine (T.widths machine.old) (T.keeps machine.old) (T.keeps machine.new) channel samples.number result)
+    ensures served { OverLine I.source O.sink P.sink (FeedIsServed T.machine (T.widths machine.old) (T.refines machine.old) (T.refines machine.new) channel samples.number result)
         inputs.old inputs.new outputs.old outputs.new replies.old replies.new }
-    ensures cut { OverLine I.source O.sink P.sink (FeedIsCut T.machine (T.widths machine.old) (T.keeps machine.old) channel samples.number result)
+    ensures cut { OverLine I.source O.sink P.sink (FeedIsCut T.machine (T.widths machine.old) (T.refines machine.old) channel samples.number result)
         inputs.old inputs.new outputs.old outputs.new replies.old replies.new }
     ensures unread { IsErrOf result PortsFault.Read → InputSteps I.source (FailsWithin (octet_count ((T.widths machine.old).input channel) samples.number)) channel inputs.old inputs.new }
     ensures unfed { IsErrOf result PortsFault.Read → OverLine I.source O.sink P.sink NothingWritten inputs.old inputs.new outputs.old outputs.new replies.old replies.new }
@@ -163,11 +163,11 @@ pub(crate) fn serve_line<T: LineMachine, I: PortIn, O: PortOut, P: PortOut>(
     ensures read { IsErrOf result PortsFault.Read → AnyFailedIn I.source inputs.new }
     ensures write { IsErrOf result PortsFault.Write → OneFailed O.sink P.sink outputs.new replies.new }
     ensures waits { NothingPassed O.sink P.sink outputs.old outputs.new replies.old replies.new }
-    ensures served { OverLine I.source O.sink P.sink (LineIsServed T.machine (T.widths machine.old) (T.keeps machine.old) (T.keeps machine.new) line.now long result)
+    ensures served { OverLine I.source O.sink P.sink (LineIsServed T.machine (T.widths machine.old) (T.refines machine.old) (T.refines machine.new) line.now long result)
         inputs.old inputs.new outputs.old outputs.new replies.old replies.new }
-    ensures cut { OverLine I.source O.sink P.sink (LineIsCut T.machine (T.widths machine.old) (T.keeps machine.old) line.now long result)
+    ensures cut { OverLine I.source O.sink P.sink (LineIsCut T.machine (T.widths machine.old) (T.refines machine.old) line.now long result)
         inputs.old inputs.new outputs.old outputs.new replies.old replies.new }
-    ensures unfed { OverLine I.source O.sink P.sink (LineIsUnfed T.machine (T.widths machine.old) (T.keeps machine.old) line.now long result)
+    ensures unfed { OverLine I.source O.sink P.sink (LineIsUnfed T.machine (T.widths machine.old) (T.refines machine.old) line.now long result)
         inputs.old inputs.new outputs.old outputs.new replies.old replies.new }
 {
     if long {

@@ -30,7 +30,7 @@ fn serve_script<T: LineMachine, S: PortIn, I: PortIn, O: PortOut, P: PortOut>(
     replies: &mut P,
 ) -> Result<u64, PortsFault>
     ghost state: { T.State }
-    requires kept { T.keeps machine.old state }
+    requires kept { T.refines machine.old state }
     requires script { (S.source script.old).failed ≡ false }
     requires one { length inputs.old.items ≡ T.channels machine.old }
     requires pairs { length outputs.old.items ≡ T.channels machine.old }
@@ -97,7 +97,7 @@ pub fn serve<T: LineMachine, S: PortIn, I: PortIn, O: PortOut, P: PortOut>(
     replies: &mut P,
 ) -> Result<u64, PortsFault>
     ghost state: { T.State }
-    requires kept { T.keeps machine.old state }
+    requires kept { T.refines machine.old state }
     requires script { (S.source script.old).failed ≡ false }
     requires one { length inputs.old.items ≡ T.channels machine.old }
     requires pairs { length outputs.old.items ≡ T.channels machine.old }

@@ -29,8 +29,8 @@ impl Ialg for Primed {
       meaning = primed_meaning;
       bound = λ _. PRIMED_RECORDS;
       fill = λ _. primed_fill;
-      idle_keeps = λ _ p rs wss h. KeepsWords p rs wss h;
-      active_keeps = λ _ p rs wss h. KeepsActive p rs wss h;
+      idle_refines = λ _ p rs wss h. KeepsWords p rs wss h;
+      active_refines = λ _ p rs wss h. KeepsActive p rs wss h;
     } };
 
     fn alg_num_alloc(&self) -> usize {

@@ -29,8 +29,8 @@ impl Ialg for Trial {
       meaning = trial_meaning;
       bound = trial_bound;
       fill = trial_fill;
-      idle_keeps = IsIdle;
-      active_keeps = IsActive;
+      idle_refines = IsIdle;
+      active_refines = IsActive;
     } };
 
     fn alg_num_alloc(&self) -> usize {

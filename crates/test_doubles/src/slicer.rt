@@ -40,8 +40,8 @@ impl Ialg for Slicer {
       meaning = slicer_meaning;
       bound = λ _. SLICER_RECORDS;
       fill = λ _. slicer_fill;
-      idle_keeps = λ _ p rs wss h. HoldsLevels p rs wss h;
-      active_keeps = λ _ p rs wss h. SpreadsLevels p rs wss h;
+      idle_refines = λ _ p rs wss h. HoldsLevels p rs wss h;
+      active_refines = λ _ p rs wss h. SpreadsLevels p rs wss h;
     } };
 
     fn alg_num_alloc(&self) -> usize {

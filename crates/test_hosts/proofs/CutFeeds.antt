@@ -3,7 +3,7 @@ use Rattle.std.proofs.Common.{◌≡◌, ℕ, ℤ, false, List, ◌++◌, sym}
 use Rattle.channel_spec.specs.Channels.{Channels, members_at, has_repeat}
 use Rattle.channel_spec.specs.Calls.Call.{Feed}
 use Rattle.channel_spec.specs.Cuts.{AreAlike, Feeds, MembersAreLawful}
-use Rattle.voice_channel.specs.Channels.{ChannelsState, Keeps, Serves}
+use Rattle.voice_channel.specs.Channels.{ChannelsState, ChannelsRefine, ChannelsCallRefines}
 use Rattle.ialg.specs.Laws.{Laws}
 
 module _ {M : Type 0} (laws : Laws M) where
@@ -16,8 +16,8 @@ module _ {M : Type 0} (laws : Laws M) where
       → (out ≡ first ++ second) × AreAlike after whole
 
   pub as_one : CutsDontShow → (c : ℕ) (xs ys early late : List ℤ) (old between new : ChannelsState M)
-      → Serves laws (Feed c xs early) old between → Serves laws (Feed c ys late) between new
-      → (before after : Channels M) (out : List ℤ) → Keeps laws old before
+      → ChannelsCallRefines laws (Feed c xs early) old between → ChannelsCallRefines laws (Feed c ys late) between new
+      → (before after : Channels M) (out : List ℤ) → ChannelsRefine laws old before
       → MembersAreLawful laws.meaning before c → Feeds laws.meaning before c (xs ++ ys) out after → early ++ late ≡ out
   as_one law c xs ys early late old between new first second before after out keeps lawful whole =
       let one = first before keeps in

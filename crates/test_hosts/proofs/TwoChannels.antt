@@ -4,7 +4,7 @@ use Rattle.channel_spec.specs.Channels.{Channels, members_at, has_repeat}
 use Rattle.channel_spec.specs.Calls.Call.{Feed}
 use Rattle.channel_spec.specs.Cuts.{joined, MembersAreLawful, FeedsAll}
 use Rattle.channel_spec.specs.Agreement.{MembersAgree}
-use Rattle.voice_channel.specs.Channels.{ChannelsState, Keeps, Serves}
+use Rattle.voice_channel.specs.Channels.{ChannelsState, ChannelsRefine, ChannelsCallRefines}
 use Rattle.ialg.specs.Laws.{Laws}
 
 module _ {M : Type 0} (laws : Laws M) where
@@ -19,9 +19,9 @@ module _ {M : Type 0} (laws : Laws M) where
       → (out ≡ other_out) × MembersAgree one_after c other_after d
 
   pub as_given : ChannelsAgree → (c d : ℕ) (xs ys whole early late given : List ℤ) (old between new beside later : ChannelsState M) → xs ++ ys ≡ whole
-      → Serves laws (Feed c xs early) old between → Serves laws (Feed c ys late) between new
-      → Serves laws (Feed d whole given) beside later
-      → (before other_before : Channels M) → Keeps laws old before → Keeps laws beside other_before
+      → ChannelsCallRefines laws (Feed c xs early) old between → ChannelsCallRefines laws (Feed c ys late) between new
+      → ChannelsCallRefines laws (Feed d whole given) beside later
+      → (before other_before : Channels M) → ChannelsRefine laws old before → ChannelsRefine laws beside other_before
       → MembersAreLawful laws.meaning before c → MembersAreLawful laws.meaning other_before d → MembersAgree before c other_before d
       → early ++ late ≡ given
   as_given law c d xs ys whole early late given old between new beside later joint first second third before other_before keeps others lawful nor_lawful agree =

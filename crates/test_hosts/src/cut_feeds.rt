@@ -3,7 +3,7 @@ ghost use Rattle.std.specs.Prelude.{◌≡◌, ◌≤◌, ◌++◌, ℤ, true, [
 ghost use Rattle.channel_spec.specs.Channels.{Channels as State, members_at, is_chained};
 ghost use Rattle.channel_spec.specs.Cuts.{Feeds, MembersAreLawful};
 ghost use Rattle.channel_spec.specs.Calls.Call.{Feed};
-ghost use Rattle.voice_channel.specs.Channels.{Keeps, Serves};
+ghost use Rattle.voice_channel.specs.Channels.{ChannelsRefine, ChannelsCallRefines};
 ghost use Rattle.test_hosts.specs.TwoFeeds.{ServesBoth};
 
 use channel_spec::cuts_do_not_show;
@@ -16,7 +16,7 @@ pub(crate) fn fed<M: Ialg>(channels: &mut Channels<M>, c: u8, input: &[i16]) -> 
     requires some { 1 ≤ length input.now }
     requires within { length input.now ≤ BLOCK_SAMPLES }
     ensures chained { channels.new.chained ≡ channels.old.chained }
-    ensures machine { Serves M.law (Feed c input.now result.items) channels.old channels.new }
+    ensures machine { ChannelsCallRefines M.law (Feed c input.now result.items) channels.old channels.new }
 {
     let mut out = Block::new();
     channels.feed(c, input, &mut out);
@@ -40,7 +40,7 @@ pub fn feed_in_two<M: Ialg>(
     requires early_empty { early.old.items ≡ [] }
     requires late_empty { late.old.items ≡ [] }
     ensures both { ServesBoth M.law c first.now early.new.items second.now late.new.items channels.old channels.new }
-    ensures joined { (before after : State M) (out : List ℤ) → Keeps M.law channels.old before
+    ensures joined { (before after : State M) (out : List ℤ) → ChannelsRefine M.law channels.old before
         → MembersAreLawful M.law.meaning before c → Feeds M.law.meaning before c (first.now ++ second.now) out after
         → early.new.items ++ late.new.items ≡ out }
 {

@@ -40,8 +40,8 @@ impl Ialg for Diary {
       meaning = diary_meaning;
       bound = λ _. 0;
       fill = λ _ p k. [];
-      idle_keeps = λ _ p rs wss h. ⊥;
-      active_keeps = λ _ p rs wss h. ⊥;
+      idle_refines = λ _ p rs wss h. ⊥;
+      active_refines = λ _ p rs wss h. ⊥;
     } };
 
     fn alg_num_alloc(&self) -> usize {

@@ -4,7 +4,7 @@ ghost use Rattle.channel_spec.specs.Channels.{Channels as State, members_at, is_
 ghost use Rattle.channel_spec.specs.Cuts.{MembersAreLawful};
 ghost use Rattle.channel_spec.specs.Agreement.{MembersAgree};
 ghost use Rattle.channel_spec.specs.Calls.Call.{Feed};
-ghost use Rattle.voice_channel.specs.Channels.{Keeps, Serves};
+ghost use Rattle.voice_channel.specs.Channels.{ChannelsRefine, ChannelsCallRefines};
 ghost use Rattle.test_hosts.specs.TwoFeeds.{ServesBoth};
 
 use crate::cut_feeds::fed;
@@ -39,9 +39,9 @@ pub fn feed_both<M: Ialg>(
     requires joined { first.now ++ second.now ≡ whole.now }
     requires within { length whole.now ≤ BLOCK_SAMPLES }
     ensures both { ServesBoth M.law c first.now result.early.items second.now result.late.items one.old one.new }
-    ensures other { Serves M.law (Feed d whole.now result.whole.items) other.old other.new }
-    ensures agree { (before other_before : State M) → Keeps M.law one.old before
-        → Keeps M.law other.old other_before
+    ensures other { ChannelsCallRefines M.law (Feed d whole.now result.whole.items) other.old other.new }
+    ensures agree { (before other_before : State M) → ChannelsRefine M.law one.old before
+        → ChannelsRefine M.law other.old other_before
         → MembersAreLawful M.law.meaning before c → MembersAreLawful M.law.meaning other_before d → MembersAgree before c other_before d
         → result.early.items ++ result.late.items ≡ result.whole.items }
 {

@@ -6,7 +6,7 @@ use Rattle.record_loans.specs.declared.pieces.Pieces.{Pieces}
 use Rattle.scratch_group.specs.declared.group.Group.{Group}
 use Rattle.scratch_group.specs.Blocks.{BlocksArePoison}
 use Rattle.lifecycle.specs.declared.instance.Instance.{Instance}
-use Rattle.lifecycle.specs.States.{IsLawful, IdleKeeps, all_outputs}
+use Rattle.lifecycle.specs.States.{IsLawful, IdleRefines, all_outputs}
 use Rattle.host_table.specs.declared.member.Member.{Member}
 use Rattle.host_table.specs.declared.tables.Tables.{Tables}
 use Rattle.host_table.specs.Table.{slot_at, instance_of}
@@ -15,20 +15,20 @@ use Rattle.host_table.specs.Steps.{AreKept}
 -- an idle instance, whose group's blocks hold the poison word, is idle again and keeps these samples behind what it kept
 abbrev pub TakesBlock : {M : Type 0} → Laws M → Instance M → Pieces → Group → List ℤ → Instance M → Pieces → Type 0
 TakesBlock laws s shared g samples s' shared' = (w : Option ℤ) (h : History) → BlocksArePoison w g
-    → IdleKeeps laws s w shared h
-    → IdleKeeps laws s' w shared' (with_samples h samples)
+    → IdleRefines laws s w shared h
+    → IdleRefines laws s' w shared' (with_samples h samples)
 
 -- a lawful idle instance, in a host of no poison word, gives this out for these samples
 abbrev pub GivesBlock : {M : Type 0} → Laws M → Instance M → Pieces → List ℤ → List ℤ → Type 0
 GivesBlock laws s shared samples out = (h : History) → IsLawful laws.meaning s None
-    → IdleKeeps laws s None shared h
+    → IdleRefines laws s None shared h
     → all_outputs laws.meaning s (with_samples h samples)
     ≡ all_outputs laws.meaning s h ++ out
 
 -- and these two blocks for two blocks of samples
 abbrev pub GivesBoth : {M : Type 0} → Laws M → Instance M → Pieces → (before after : List ℤ) → (out more : List ℤ) → Type 0
 GivesBoth laws s shared before after out more = (h : History) → IsLawful laws.meaning s None
-    → IdleKeeps laws s None shared h
+    → IdleRefines laws s None shared h
     → all_outputs laws.meaning s (with_samples (with_samples h before) after)
     ≡ (all_outputs laws.meaning s h ++ out) ++ more
 

@@ -15,7 +15,7 @@ use Rattle.host_spec.specs.State.{Living, State, is_instance_number}
 use Rattle.host_spec.specs.Steps as steps
 use Rattle.host_spec.specs.Steps.{Outcome, unless}
 use Rattle.host_spec.specs.Calls.Call.{Delete}
-use Rattle.host_moves.specs.Kept.{IsLiving}
+use Rattle.host_moves.specs.Refinement.{IsLiving}
 use Rattle.alg_host.specs.Hosts.{HostState}
 use Rattle.alg_host.specs.Hosts as hosts
 use Rattle.channel_spec.specs.Channels.{Channels, is_in_channel}
@@ -23,7 +23,7 @@ use Rattle.channel_spec.specs.Steps.{delete}
 use Rattle.channel_spec.specs.Parts.{all_live, lives, on_host, with_members}
 use Rattle.channel_spec.specs.Calls.{Call, Does}
 use Rattle.channel_spec.specs.Calls.Call.{Remove}
-use Rattle.voice_channel.specs.Channels.{ChannelsState, Serves}
+use Rattle.voice_channel.specs.Channels.{ChannelsState, ChannelsCallRefines}
 use Rattle.voice_channel.proofs.Served.{HoldsOn}
 
 -- ---- lists
@@ -55,10 +55,10 @@ some_alike (Some m) None is = absurd is
 some_alike (Some m) (Some x) is = refl
 
 module _ {M : Type 0} (laws : Laws M) where
-  pub lives_alike : (host : HostState M) (state : State M) → hosts.Keeps laws host state → (i : ℕ) → lives state i ≡ hosts.lives host i
+  pub lives_alike : (host : HostState M) (state : State M) → hosts.HostRefines laws host state → (i : ℕ) → lives state i ≡ hosts.lives host i
   lives_alike host state keeps i = some_alike _ (state.living i) (keeps.kept.tables.living i)
 
-  pub all_live_alike : (host : HostState M) (state : State M) → hosts.Keeps laws host state
+  pub all_live_alike : (host : HostState M) (state : State M) → hosts.HostRefines laws host state
       → (is : List ℕ) → all_live state is ≡ list_all (hosts.lives host) is
   all_live_alike host state keeps is = all_alike (lives state) (hosts.lives host) (lives_alike host state keeps) is
 
@@ -67,15 +67,15 @@ module _ {M : Type 0} (laws : Laws M) where
 module _ {M : Type 0} (laws : Laws M) (law : HoldsOn laws.meaning) where
   -- a channel was given members, and the host is as it was
   pub given : (call : Call M) (c : ℕ) (is : List ℕ) (old new : ChannelsState M) → new.host ≡ old.host → new.chained ≡ set old.chained c is
-      → ((before : Channels M) → before.chained ≡ old.chained → hosts.Keeps laws old.host before.host
+      → ((before : Channels M) → before.chained ≡ old.chained → hosts.HostRefines laws old.host before.host
       → Does laws.meaning before call (with_members before c is))
-      → Serves laws call old new
+      → ChannelsCallRefines laws call old new
   given call c is old new host chained does = λ before keeps.
       let did = does before keeps.chained keeps.host in (
         with_members before c is,
         did,
         record {
-          host = subst (λ h. hosts.Keeps laws h before.host) (sym host) keeps.host;
+          host = subst (λ h. hosts.HostRefines laws h before.host) (sym host) keeps.host;
           chained = ap (λ x. set x c is) keeps.chained ∙ sym chained;
           held = law before (with_members before c is) call did keeps.held;
         },
@@ -120,10 +120,10 @@ module _ {M : Type 0} (before : Channels M) where
 module _ {M : Type 0} (laws : Laws M) (law : HoldsOn laws.meaning) where
   pub removed : (i : ℕ) (answer : Result (Unit {0}) Refusal) (old new : HostState M) (chained : List (List ℕ)) (seen : ChannelsState M)
       → record { host = old; chained = chained } ≡ seen → is_in_channel seen.chained i ≡ false
-      → hosts.Serves laws (Delete i answer) old new
-      → Serves laws (Remove i answer) seen (record { host = new; chained = chained })
+      → hosts.HostCallRefines laws (Delete i answer) old new
+      → ChannelsCallRefines laws (Remove i answer) seen (record { host = new; chained = chained })
   removed i answer old new chained seen e free serves =
-      subst (λ s. Serves laws (Remove i answer) s (record { host = new; chained = chained })) e
+      subst (λ s. ChannelsCallRefines laws (Remove i answer) s (record { host = new; chained = chained })) e
       (λ before keeps.
       let did = serves before.host keeps.host in
       let after : Channels M = record before { host = did.0 } in

@@ -20,7 +20,7 @@ use Rattle.channel_spec.proofs.PassingLemmas.{asked_of}
 use Rattle.channel_spec.specs.Cuts.{Feeds}
 use Rattle.channel_spec.specs.Calls.Call.{Feed}
 use Rattle.channel_spec.proofs.LivingLemmas.{passes_live}
-use Rattle.voice_channel.specs.Channels.{ChannelsState, PassesThrough, Serves}
+use Rattle.voice_channel.specs.Channels.{ChannelsState, PassesThrough, ChannelsCallRefines}
 use Rattle.voice_channel.proofs.Served.{HoldsOn}
 
 -- ---- lists
@@ -71,7 +71,7 @@ module _ {M : Type 0} (laws : Laws M) where
 
   -- one member took the block
   pub ran : (i : ℕ) (block given : List ℤ) (old new : HostState M) → 1 ≤ length block
-      → hosts.Serves laws (Process i block given) old new
+      → hosts.HostCallRefines laws (Process i block given) old new
       → PassesThrough laws (i ∷ []) block given old new
   ran i [] given old new some serves = absurd (not-suc-le-zero some)
   ran i (s ∷ block) given old new some serves = λ before keeps live.
@@ -123,7 +123,7 @@ module _ {M : Type 0} (laws : Laws M) where
   module _ (law : HoldsOn laws.meaning) where
     pub fed : (c : ℕ) (block out : List ℤ) (old new : ChannelsState M) → is_chained (members_at old.chained c) ≡ true → new.chained ≡ old.chained
         → PassesThrough laws (members_at old.chained c) block out old.host new.host
-        → Serves laws (Feed c block out) old new
+        → ChannelsCallRefines laws (Feed c block out) old new
     fed c block out old new some same through = λ before keeps.
         let its : members_at before.chained c ≡ members_at old.chained c = ap (λ x. members_at x c) keeps.chained in
         let live = subst (λ is. all_live before.host is ≡ true) its

@@ -9,7 +9,7 @@ use Rattle.channel_spec.specs.Channels.{Channels, members_at}
 use Rattle.channel_spec.specs.Calls.{Call, Does, IsPassedOn}
 use Rattle.channel_spec.specs.Calls.Call.{OfHost}
 use Rattle.channel_spec.specs.Laws.{AreHeld}
-use Rattle.voice_channel.specs.Channels.{ChannelsState, Serves}
+use Rattle.voice_channel.specs.Channels.{ChannelsState, ChannelsCallRefines}
 
 -- each call leaves channels whose members live
 abbrev pub HoldsOn : {M : Type 0} → Meaning M → Type 0
@@ -17,8 +17,8 @@ HoldsOn {M} meaning = (before after : Channels M) (call : Call M) → Does meani
 
 module _ {M : Type 0} (laws : Laws M) (law : HoldsOn laws.meaning) where
   pub passed_on : (call : host_calls.Call M) → IsPassedOn call → (old new : HostState M) (chained : List (List ℕ))
-      → hosts.Serves laws call old new
-      → Serves laws (OfHost call) (record { host = old; chained = chained }) (record { host = new; chained = chained })
+      → hosts.HostCallRefines laws call old new
+      → ChannelsCallRefines laws (OfHost call) (record { host = old; chained = chained }) (record { host = new; chained = chained })
   passed_on call on old new chained serves = λ before keeps.
       let did = serves before.host keeps.host in
       let after : Channels M = record before { host = did.0 } in
@@ -27,16 +27,16 @@ module _ {M : Type 0} (laws : Laws M) (law : HoldsOn laws.meaning) where
 
   -- the same of channels that are seen so
   pub served : (call : host_calls.Call M) → IsPassedOn call → (old new : HostState M) (chained : List (List ℕ)) (seen : ChannelsState M)
-      → record { host = old; chained = chained } ≡ seen → hosts.Serves laws call old new
-      → Serves laws (OfHost call) seen (record { host = new; chained = chained })
+      → record { host = old; chained = chained } ≡ seen → hosts.HostCallRefines laws call old new
+      → ChannelsCallRefines laws (OfHost call) seen (record { host = new; chained = chained })
   served call on old new chained seen e serves =
-      subst (λ s. Serves laws (OfHost call) s (record { host = new; chained = chained })) e
+      subst (λ s. ChannelsCallRefines laws (OfHost call) s (record { host = new; chained = chained })) e
       (passed_on call on old new chained serves)
 
   pub read : (call : host_calls.Call M) → IsPassedOn call → (host : HostState M) (chained : List (List ℕ)) (seen : ChannelsState M)
-      → record { host = host; chained = chained } ≡ seen → hosts.Serves laws call host host
-      → Serves laws (OfHost call) seen seen
-  read call on host chained seen e serves = subst (λ s. Serves laws (OfHost call) s s) e (passed_on call on host host chained serves)
+      → record { host = host; chained = chained } ≡ seen → hosts.HostCallRefines laws call host host
+      → ChannelsCallRefines laws (OfHost call) seen seen
+  read call on host chained seen e serves = subst (λ s. ChannelsCallRefines laws (OfHost call) s s) e (passed_on call on host host chained serves)
 
 -- channels of which none is chained have no members
 pub unchained_at : (count c : ℕ) → members_at (replicate count []) c ≡ []

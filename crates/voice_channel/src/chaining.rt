@@ -5,7 +5,7 @@ ghost use Rattle.alg_host.specs.Hosts.{lives};
 ghost use Rattle.channel_spec.specs.Channels.{Channels as State, is_in_channel};
 ghost use Rattle.channel_spec.specs.Parts.{all_live, chain_refusal};
 ghost use Rattle.channel_spec.specs.Calls.Call.{Chain, Unchain, Remove};
-ghost use Rattle.voice_channel.specs.Channels.{Serves};
+ghost use Rattle.voice_channel.specs.Channels.{ChannelsCallRefines};
 
 use crate::lists::{are_numbers, is_in_one, kept, names_twice};
 use crate::{Channels, MEMBERS, Members};
@@ -79,7 +79,7 @@ impl<M: Ialg> Channels<M> {
         requires most { length members.now ≤ MEMBERS }
         ensures refused { OnErr result (self.new ≡ self.old) }
         ensures count { length self.new.chained ≡ length self.old.chained }
-        ensures machine { Serves M.law (Chain c members.now result) self.old self.new }
+        ensures machine { ChannelsCallRefines M.law (Chain c members.now result) self.old self.new }
     {
         members_live_in_one_channel::<M>();
         if let Some(refusal) = self.chaining_refusal(c, members) {
@@ -98,7 +98,7 @@ impl<M: Ialg> Channels<M> {
     pub fn unchain(&mut self, c: u8) -> Result<(), Refusal>
         ensures refused { OnErr result (self.new ≡ self.old) }
         ensures count { length self.new.chained ≡ length self.old.chained }
-        ensures machine { Serves M.law (Unchain c result) self.old self.new }
+        ensures machine { ChannelsCallRefines M.law (Unchain c result) self.old self.new }
     {
         members_live_in_one_channel::<M>();
         if let Some(refusal) = self.refusal(c) {
@@ -116,7 +116,7 @@ impl<M: Ialg> Channels<M> {
     pub fn delete(&mut self, i: u8) -> Result<(), Refusal>
         ensures refused { OnErr result (self.new ≡ self.old) }
         ensures chained { self.new.chained ≡ self.old.chained }
-        ensures machine { Serves M.law (Remove i result) self.old self.new }
+        ensures machine { ChannelsCallRefines M.law (Remove i result) self.old self.new }
     {
         members_live_in_one_channel::<M>();
         if i as usize >= INSTANCES {

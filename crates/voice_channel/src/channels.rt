@@ -3,7 +3,7 @@ ghost use Rattle.std.specs.Prelude.{◌≡◌, ◌≤◌, ℕ, false, [], map, r
 ghost use Rattle.host_spec.specs.State.{State};
 ghost use Rattle.alg_host.specs.Hosts.{lives};
 ghost use Rattle.alg_host.specs.Hosts as hosts;
-ghost use Rattle.voice_channel.specs.Channels.{Keeps};
+ghost use Rattle.voice_channel.specs.Channels.{ChannelsRefine};
 ghost use Rattle.channel_spec.specs.Channels.{unchained};
 
 use crate::feeding::Between;
@@ -50,7 +50,7 @@ impl<M: Ialg> Channels<M> {
         requires empty { (i : ℕ) → lives host i ≡ false }
         ensures host { result.host ≡ host }
         ensures unchained { result.chained ≡ replicate count [] }
-        ensures keeps { (state : State M) → hosts.Keeps M.law host state → Keeps M.law result (unchained state count) }
+        ensures refines { (state : State M) → hosts.HostRefines M.law host state → ChannelsRefine M.law result (unchained state count) }
     {
         members_live_in_one_channel::<M>();
         Channels {

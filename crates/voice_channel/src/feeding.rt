@@ -2,7 +2,7 @@
 ghost use Rattle.std.specs.Prelude.{◌≡◌, ◌≤◌, ◌<◌, true, ◌∷◌, [], length, map};
 ghost use Rattle.channel_spec.specs.Channels.{members_at, is_chained};
 ghost use Rattle.channel_spec.specs.Calls.Call.{Feed};
-ghost use Rattle.voice_channel.specs.Channels.{PassesThrough, Serves};
+ghost use Rattle.voice_channel.specs.Channels.{PassesThrough, ChannelsCallRefines};
 
 use crate::{Channels, Members};
 use alg_host::Host;
@@ -50,7 +50,7 @@ fn run<M: Ialg>(host: &mut Host<M>, member: u8, block: &[i16], given: &mut Block
     ensures passes { PassesThrough M.law (member ∷ []) block.now given.new.items host.old host.new }
 {
     given.clear();
-    // Members live in every state that the channels keep, so the second is always so.
+    // Members live in every state that the channels refine, so the second is always so.
     if !block.is_empty() && host.living(member) {
         host.process(member, block, given);
     }
@@ -58,17 +58,17 @@ fn run<M: Ialg>(host: &mut Host<M>, member: u8, block: &[i16], given: &mut Block
 
 /// Gives the one member of a channel the block, as [`run`] does.
 ///
-/// An active reader is given it here, without a call, since its work at one sample is less than one.
+/// An active member with a short loan is given it here, without a call, since at one sample a call weighs as much as the work.
 #[inline(always)]
 fn run_alone<M: Ialg>(host: &mut Host<M>, member: u8, block: &[i16], given: &mut Block)
     requires within { length block.now ≤ BLOCK_SAMPLES }
     ensures bounded { length given.new.items ≤ length block.now }
     ensures passes { PassesThrough M.law (member ∷ []) block.now given.new.items host.old host.new }
 {
-    // Before the question: what is read for its answer is then at hand for the reader, with no write between.
+    // Before the question: what is read for its answer is then at hand for the member, with no write between.
     given.clear();
-    match host.active_reader(member) {
-        Some(sizes) if !block.is_empty() => host.process_reader(member, sizes, block, given),
+    match host.short_loan(member) {
+        Some(loan) if !block.is_empty() => host.process_short(member, loan, block, given),
         _ => run(host, member, block, given),
     }
 }
@@ -96,6 +96,9 @@ fn pass_on<M: Ialg>(
 }
 
 /// Passes a block through members in order: each takes what the one before it gave. What the last gives takes the place of what `out` held.
+///
+/// Inlined, with the way of a channel of one member.
+#[inline(always)]
 fn pass<M: Ialg>(
     host: &mut Host<M>,
     members: &[u8],
@@ -130,13 +133,14 @@ fn pass<M: Ialg>(
 impl<M: Ialg> Channels<M> {
     /// Gives a block of samples to a channel: it passes through the members in order, each taking what the one before it gave, and what
     /// the last gave takes the place of what `out` held. Where a member gives nothing, those behind it are neither activated nor run.
+    #[inline(always)]
     pub fn feed(&mut self, c: u8, input: &[i16], out: &mut Block)
         requires ready { is_chained (members_at self.old.chained c) ≡ true }
         requires some { 1 ≤ length input.now }
         requires within { length input.now ≤ BLOCK_SAMPLES }
         ensures chained { self.new.chained ≡ self.old.chained }
         ensures bounded { length out.new.items ≤ length input.now }
-        ensures machine { Serves M.law (Feed c input.now out.new.items) self.old self.new }
+        ensures machine { ChannelsCallRefines M.law (Feed c input.now out.new.items) self.old self.new }
     {
         members_live_in_one_channel::<M>();
         pass(

@@ -3,10 +3,10 @@ ghost use Rattle.std.specs.Prelude.{◌≡◌, ◌≤◌, length, OnErr};
 ghost use Rattle.ialg.specs.Views.{control_of};
 ghost use Rattle.host_spec.specs.Calls.Call.{Create, Control, Release, Step, Compact, Stat as StatCall, Map as MapCall, Copied};
 ghost use Rattle.host_map.specs.declared.TheConstants.{MAP_BLOCKS};
-ghost use Rattle.host_moves.specs.Kept.{told};
+ghost use Rattle.host_moves.specs.Refinement.{told};
 ghost use Rattle.alg_host.specs.Hosts.{stat_told};
 ghost use Rattle.channel_spec.specs.Calls.Call.{OfHost};
-ghost use Rattle.voice_channel.specs.Channels.{Serves};
+ghost use Rattle.voice_channel.specs.Channels.{ChannelsCallRefines};
 
 use crate::Channels;
 use alg_host::Stat;
@@ -24,7 +24,7 @@ impl<M: Ialg> Channels<M> {
     pub fn create(&mut self, i: u8, kind: M, group: u8, p: &Params) -> Result<(), Refusal>
         ensures refused { OnErr result (self.new ≡ self.old) }
         ensures chained { self.new.chained ≡ self.old.chained }
-        ensures machine { Serves M.law (OfHost (Create i kind group p.now.items result)) self.old self.new }
+        ensures machine { ChannelsCallRefines M.law (OfHost (Create i kind group p.now.items result)) self.old self.new }
     {
         members_live_in_one_channel::<M>();
         self.host.create(i, kind, group, p)
@@ -38,7 +38,7 @@ impl<M: Ialg> Channels<M> {
     pub fn control(&mut self, i: u8, c: &Ctl) -> Result<Status, Refusal>
         ensures refused { OnErr result (self.new ≡ self.old) }
         ensures chained { self.new.chained ≡ self.old.chained }
-        ensures machine { Serves M.law (OfHost (Control i (control_of c.now) (told result))) self.old self.new }
+        ensures machine { ChannelsCallRefines M.law (OfHost (Control i (control_of c.now) (told result))) self.old self.new }
     {
         members_live_in_one_channel::<M>();
         self.host.control(i, c)
@@ -52,7 +52,7 @@ impl<M: Ialg> Channels<M> {
     pub fn release(&mut self, group: u8) -> Result<bool, Refusal>
         ensures refused { OnErr result (self.new ≡ self.old) }
         ensures chained { self.new.chained ≡ self.old.chained }
-        ensures machine { Serves M.law (OfHost (Release group result)) self.old self.new }
+        ensures machine { ChannelsCallRefines M.law (OfHost (Release group result)) self.old self.new }
     {
         members_live_in_one_channel::<M>();
         self.host.release(group)
@@ -61,7 +61,7 @@ impl<M: Ialg> Channels<M> {
     /// Moves the first block of the space that can be moved down, and says whether one moved.
     pub fn step(&mut self, space: Space) -> bool
         ensures chained { self.new.chained ≡ self.old.chained }
-        ensures machine { Serves M.law (OfHost (Step space result)) self.old self.new }
+        ensures machine { ChannelsCallRefines M.law (OfHost (Step space result)) self.old self.new }
     {
         members_live_in_one_channel::<M>();
         self.host.step(space)
@@ -70,7 +70,7 @@ impl<M: Ialg> Channels<M> {
     /// Steps until no block of the space moves, and says how many blocks moved.
     pub fn compact(&mut self, space: Space) -> u32
         ensures chained { self.new.chained ≡ self.old.chained }
-        ensures machine { Serves M.law (OfHost (Compact space result)) self.old self.new }
+        ensures machine { ChannelsCallRefines M.law (OfHost (Compact space result)) self.old self.new }
     {
         members_live_in_one_channel::<M>();
         self.host.compact(space)
@@ -82,7 +82,7 @@ impl<M: Ialg> Channels<M> {
     ///
     /// `Range` where the number is past the last group's.
     pub fn stat(&self, group: u8) -> Result<Stat, Refusal>
-        ensures machine { Serves M.law (OfHost (StatCall group (stat_told result))) self.now self.now }
+        ensures machine { ChannelsCallRefines M.law (OfHost (StatCall group (stat_told result))) self.now self.now }
     {
         members_live_in_one_channel::<M>();
         self.host.stat(group)
@@ -90,7 +90,7 @@ impl<M: Ialg> Channels<M> {
 
     /// The blocks of the space in place order.
     pub fn map(&self, space: Space) -> Map
-        ensures machine { Serves M.law (OfHost (MapCall space result.items)) self.now self.now }
+        ensures machine { ChannelsCallRefines M.law (OfHost (MapCall space result.items)) self.now self.now }
     {
         members_live_in_one_channel::<M>();
         self.host.map(space)
@@ -98,7 +98,7 @@ impl<M: Ialg> Channels<M> {
 
     /// The same blocks, lent as they stand.
     pub fn blocks_in(&self, space: Space) -> &[Placed]
-        ensures machine { Serves M.law (OfHost (MapCall space result.now)) self.now self.now }
+        ensures machine { ChannelsCallRefines M.law (OfHost (MapCall space result.now)) self.now self.now }
         ensures few { length result.now ≤ MAP_BLOCKS }
     {
         members_live_in_one_channel::<M>();
@@ -107,7 +107,7 @@ impl<M: Ialg> Channels<M> {
 
     /// The words that moves have copied. It stays at the greatest `u64`.
     pub fn copied(&self) -> u64
-        ensures machine { Serves M.law (OfHost (Copied result)) self.now self.now }
+        ensures machine { ChannelsCallRefines M.law (OfHost (Copied result)) self.now self.now }
     {
         members_live_in_one_channel::<M>();
         self.host.copied()

@@ -1,8 +1,8 @@
 // SPDX-License-Identifier: Apache-2.0
 //! Channels over a host: lists of instances, through which blocks of samples pass in order.
 //!
-//! For each call there is one sentence: whatever state of the machine the channels kept, the call is answered as the machine answers it
-//! there, and the channels keep a state that comes after it. No condition is put on the kinds that the host has.
+//! For each call there is one sentence: whatever state of the machine the channels refined, the call is answered as the machine answers it
+//! there, and the channels refine a state that comes after it. No condition is put on the kinds that the host has.
 #![tactic(auto)]
 
 mod chaining;

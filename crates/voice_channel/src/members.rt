@@ -4,7 +4,7 @@ ghost use Rattle.channel_spec.specs.Channels.{Channels as State, members_at, is_
 ghost use Rattle.host_spec.specs.Steps.{unless};
 ghost use Rattle.channel_spec.specs.Steps.{channel_refusal};
 ghost use Rattle.channel_spec.specs.Calls.Call.{Ready};
-ghost use Rattle.voice_channel.specs.Channels.{Serves};
+ghost use Rattle.voice_channel.specs.Channels.{ChannelsCallRefines};
 
 use crate::Channels;
 use ialg::{Ialg, Refusal};
@@ -45,7 +45,7 @@ impl<M: Ialg> Channels<M> {
     pub fn ready(&self, c: u8) -> Result<(), Refusal>
         ensures there { IsOk result → c < length self.now.chained }
         ensures able { IsOk result → is_chained (members_at self.now.chained c) ≡ true }
-        ensures machine { Serves M.law (Ready c result) self.now self.now }
+        ensures machine { ChannelsCallRefines M.law (Ready c result) self.now self.now }
     {
         answered::<M>(self.refusal(c))
     }

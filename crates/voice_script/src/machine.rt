@@ -31,8 +31,8 @@ pub trait LineMachine {
     /// What it may do with lines, by the widths of its channels' ports.
     ghost machine: { Widths → Machine State };
 
-    /// Its memory keeps this state.
-    ghost keeps: { Self → State → Type 0 };
+    /// Its memory refines this state: it is what the memory represents.
+    ghost refines: { Self → State → Type 0 };
 
     /// Channels have the numbers below this.
     ghost channels: { Self → ℕ };
@@ -64,7 +64,7 @@ pub trait LineMachine {
         ensures channels { channels self.new ≡ channels self.old }
         ensures widths { widths self.new ≡ widths self.old }
         ensures ready { AskIsReady takes_feeds channels self.new result }
-        ensures asks { AsksForLine (machine (widths self.old)) line.now (asked_of (widths self.old) result) (keeps self.old) (keeps self.new) };
+        ensures asks { AsksForLine (machine (widths self.old)) line.now (asked_of (widths self.old) result) (refines self.old) (refines self.new) };
 
     /// Gives the samples of a feed to the channel, whose octets stand at the beginning of `block`. The octets of what the channel
     /// gives stand there afterwards; it answers how many samples that are. Of the rest of `block` nothing is said.
@@ -73,5 +73,5 @@ pub trait LineMachine {
         ensures channels { channels self.new ≡ channels self.old }
         ensures widths { widths self.new ≡ widths self.old }
         ensures bounded { result ≤ BLOCK_SAMPLES }
-        ensures gives { GivesForFeed machine (widths self.old) channel samples.number block.old result block.new (keeps self.old) (keeps self.new) };
+        ensures gives { GivesForFeed machine (widths self.old) channel samples.number block.old result block.new (refines self.old) (refines self.new) };
 }

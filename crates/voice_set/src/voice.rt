@@ -53,8 +53,8 @@ impl Ialg for Voice {
       meaning = voice_meaning;
       bound = voice_bound;
       fill = voice_fill;
-      idle_keeps = IsIdle;
-      active_keeps = IsActive;
+      idle_refines = IsIdle;
+      active_refines = IsActive;
     } };
 
     fn alg_num_alloc(&self) -> usize {

@@ -9,7 +9,7 @@ pub serve_console-served-requires-clause-kept : goal.serve_console-served-requir
 serve_console-served-requires-clause-kept g c =
     kept g.M.Ialg.law c.new-console.result c.in-Ok.host c.args.config.sizes c.args.config.poison (map g.I.PortIn.source c.args.inputs.now.items) c.new-console.ensures.host c.in-Ok.ensures.host c.len.result
     (as_many c.args.inputs.now.items g.I.PortIn.source c.len.result (c.len.ensures ∙ c.args.inputs.now.ok.0))
-    c.new-console.ensures.keeps
+    c.new-console.ensures.refines
 
 pub returns-clause-ok : goal.returns-clause-ok
 returns-clause-ok g c =

@@ -1,7 +1,7 @@
 use Rattle.std.proofs.Common.{◌≡◌, ◌∙◌, sym, subst, w32, List, ℤ}
 use Rattle.std.proofs.Math.Facts.{to_z-of_z}
 use Rattle.dsp_library.specs.declared.machine.Machine.{Machine}
-use Rattle.dsp_library.specs.Calls.{Serves}
+use Rattle.dsp_library.specs.Calls.{LibraryCallRefines}
 use Rattle.dsp_library.proofs.There.{same_there}
 use Rattle.gateway_kinds.specs.Kinds.{Kind}
 use Rattle.channel_spec.specs.Calls.Call.{OfHost}
@@ -18,8 +18,8 @@ returns-clause-machine c m k opened is numbered fits =
       coded = to_z-of_z {w = w32} (record { sfits = c.code.type_inv }) ∙ c.code.ensures;
       told = c.tell_space.ensures;
       kept = c.put.ensures.machine;
-      serves = subst (λ (n : Machine). Serves (OfHost (Create c.args.i k c.args.group c.args.parameters.now c.create-answer.result)) n after)
+      refines = subst (λ (n : Machine). LibraryCallRefines (OfHost (Create c.args.i k c.args.group c.args.parameters.now c.create-answer.result)) n after)
           (c.deref_mut.ensures.value ∙ same_there c.take-machine.ensures.machine is)
-          (subst (λ (x : Kind × List ℤ). Serves (OfHost (Create c.args.i x.0 c.args.group x.1 c.create-answer.result)) c.deref_mut.result.now after)
+          (subst (λ (x : Kind × List ℤ). LibraryCallRefines (OfHost (Create c.args.i x.0 c.args.group x.1 c.create-answer.result)) c.deref_mut.result.now after)
           (λ j. (kind j, c.copied-parameters.ensures j)) c.create-answer.ensures.machine);
     }

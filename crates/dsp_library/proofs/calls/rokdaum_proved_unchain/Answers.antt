@@ -1,7 +1,7 @@
 use Rattle.std.proofs.Common.{◌∙◌, subst, w32}
 use Rattle.std.proofs.Math.Facts.{to_z-of_z}
 use Rattle.dsp_library.specs.declared.machine.Machine.{Machine}
-use Rattle.dsp_library.specs.Calls.{Serves}
+use Rattle.dsp_library.specs.Calls.{LibraryCallRefines}
 use Rattle.dsp_library.proofs.There.{same_there}
 use Rattle.channel_spec.specs.Calls.Call.{Unchain}
 use Rattle.dsp_library.proofs.calls.rokdaum_proved_unchain.Goals as goal
@@ -14,7 +14,7 @@ returns-clause-machine c m opened is =
       after = after;
       coded = to_z-of_z {w = w32} (record { sfits = c.code.type_inv }) ∙ c.code.ensures;
       kept = c.put.ensures.machine;
-      serves = subst (λ (n : Machine). Serves (Unchain c.args.channel c.unchain-answer.result) n after)
+      refines = subst (λ (n : Machine). LibraryCallRefines (Unchain c.args.channel c.unchain-answer.result) n after)
           (c.deref_mut.ensures.value ∙ same_there c.take-machine.ensures.machine is)
           c.unchain-answer.ensures.machine;
     }

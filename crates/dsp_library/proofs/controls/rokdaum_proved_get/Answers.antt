@@ -2,10 +2,10 @@ use Rattle.std.proofs.Common.{◌≡◌, ◌∙◌, subst, w32}
 use Rattle.std.proofs.Math.Facts.{to_z-of_z}
 use Rattle.std.specs.Prelude.{length, take}
 use Rattle.dsp_library.specs.declared.machine.Machine.{Machine}
-use Rattle.dsp_library.specs.Calls.{Serves}
+use Rattle.dsp_library.specs.Calls.{LibraryCallRefines}
 use Rattle.dsp_library.proofs.There.{same_there}
 use Rattle.ialg.specs.History.Ctl.{Get}
-use Rattle.host_moves.specs.Kept.{told}
+use Rattle.host_moves.specs.Refinement.{told}
 use Rattle.channel_spec.specs.Calls.Call.{OfHost}
 use Rattle.host_spec.specs.Calls.Call.{Control}
 use Rattle.dsp_library.specs.Calls.{words_told}
@@ -20,6 +20,6 @@ returns-clause-machine c m opened is fits =
       after = after;
       coded = to_z-of_z {w = w32} (record { sfits = c.tell_words.type_inv }) ∙ c.tell_words.ensures.code ∙ code_told c.control-answer.result;
       kept = c.put.ensures.machine;
-      serves = subst (λ (n : Machine). Serves (OfHost (Control c.args.i Get (told c.control-answer.result))) n after) (c.deref_mut.ensures.value ∙ same_there c.take-machine.ensures.machine is) c.control-answer.ensures.machine;
+      refines = subst (λ (n : Machine). LibraryCallRefines (OfHost (Control c.args.i Get (told c.control-answer.result))) n after) (c.deref_mut.ensures.value ∙ same_there c.take-machine.ensures.machine is) c.control-answer.ensures.machine;
       told = ok_told (λ status. (c.tell_words.new.count ≡ length (words_told status)) × (take (length (words_told status)) c.tell_words.new.words ≡ words_told status)) c.control-answer.result c.tell_words.ensures.told;
     }

@@ -2,7 +2,7 @@ use Rattle.std.proofs.Common.{◌∙◌, w32}
 use Rattle.std.proofs.Math.Facts.{to_z-of_z}
 use Rattle.dsp_library.proofs.There.{same_there}
 use Rattle.ialg.specs.History.Ctl.{Reset}
-use Rattle.host_moves.specs.Kept.{told}
+use Rattle.host_moves.specs.Refinement.{told}
 use Rattle.channel_spec.specs.Calls.Call.{OfHost}
 use Rattle.host_spec.specs.Calls.Call.{Control}
 use Rattle.dsp_library.proofs.Served.{answered, code_told}

@@ -3,7 +3,7 @@ use Rattle.std.proofs.Math.Facts.{to_z-of_z}
 use Rattle.std.specs.Prelude.{Some}
 use Rattle.channel_spec.specs.Calls.Call.{Ready}
 use Rattle.dsp_library.specs.declared.machine.Machine.{Machine}
-use Rattle.dsp_library.specs.Calls.{Serves}
+use Rattle.dsp_library.specs.Calls.{LibraryCallRefines}
 use Rattle.dsp_library.proofs.There.{same_there}
 use Rattle.dsp_library.proofs.feeding.rokdaum_proved_ready.Goals as goal
 
@@ -15,5 +15,5 @@ returns-clause-machine c m opened is =
       after = m;
       coded = to_z-of_z {w = w32} (record { sfits = c.code.type_inv }) ∙ c.code.ensures;
       kept = c.put.ensures.machine ∙ ap Some its;
-      serves = subst (λ (n : Machine). Serves (Ready c.args.channel c.ready-answer.result) n n) (c.deref.ensures ∙ its) c.ready-answer.ensures.machine;
+      refines = subst (λ (n : Machine). LibraryCallRefines (Ready c.args.channel c.ready-answer.result) n n) (c.deref.ensures ∙ its) c.ready-answer.ensures.machine;
     }

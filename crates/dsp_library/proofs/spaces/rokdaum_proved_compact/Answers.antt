@@ -1,7 +1,7 @@
 use Rattle.std.proofs.Common.{◌≡◌, ◌∙◌, refl, sym, subst}
 use Rattle.mem_rec.specs.declared.Space.{Space}
 use Rattle.dsp_library.specs.declared.machine.Machine.{Machine}
-use Rattle.dsp_library.specs.Calls.{Serves}
+use Rattle.dsp_library.specs.Calls.{LibraryCallRefines}
 use Rattle.dsp_library.proofs.There.{same_there}
 use Rattle.channel_spec.specs.Calls.Call.{OfHost}
 use Rattle.host_spec.specs.Calls.Call.{Compact}
@@ -15,8 +15,8 @@ returns-clause-machine c m s opened is numbered =
       record {
         after = after;
         kept = c.put.ensures.machine;
-        serves = subst (λ (n : Machine). Serves (OfHost (Compact s c.compact-answer.result)) n after)
+        refines = subst (λ (n : Machine). LibraryCallRefines (OfHost (Compact s c.compact-answer.result)) n after)
             (c.deref_mut.ensures.value ∙ same_there c.take-machine.ensures.machine is)
-            (subst (λ (x : Space). Serves (OfHost (Compact x c.compact-answer.result)) c.deref_mut.result.now after) space c.compact-answer.ensures.machine);
+            (subst (λ (x : Space). LibraryCallRefines (OfHost (Compact x c.compact-answer.result)) c.deref_mut.result.now after) space c.compact-answer.ensures.machine);
       },
     )

@@ -6,7 +6,7 @@ use Rattle.host_spaces.specs.Spaces.{HasFront}
 use Rattle.host_table.specs.Table.{TablesOk, ArePoisoned}
 use Rattle.host_moves.specs.Standing.{AgreeWithMap}
 use Rattle.host_spec.specs.State.{State}
-use Rattle.host_moves.specs.Hosts.{HostKeeps}
+use Rattle.host_moves.specs.Hosts.{ListsAndSpacesRefine}
 use Rattle.host_moves.proofs.Compactions.{IsAmid}
 use Rattle.host_moves.proofs.compaction.compact.Given as goal
 
@@ -17,7 +17,7 @@ invariant-loop-space g l = record {
   front : HasFront l.packed (blocks_in (map_of l.spaces) l.space);
   poisoned : (w : Option ℤ) → ArePoisoned w l.fn.tables.groups → ArePoisoned w l.tables.groups;
   counted : l.moved + length (unpacked_behind 0 (blocks_in (map_of l.spaces) l.space)) ≡ length (unpacked_behind 0 (blocks_in (map_of l.fn.spaces) l.space));
-  amid : (before : State _) → HostKeeps g.M.Ialg.law l.fn.tables.instances l.fn.tables.sharing l.fn.tables.groups l.fn.spaces before
+  amid : (before : State _) → ListsAndSpacesRefine g.M.Ialg.law l.fn.tables.instances l.fn.tables.sharing l.fn.tables.groups l.fn.spaces before
       → IsAmid g.M.Ialg.law l.space l.tables.instances l.tables.sharing l.tables.groups l.spaces l.moved before;
 }
 

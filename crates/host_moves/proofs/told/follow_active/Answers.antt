@@ -1,7 +1,7 @@
 use Rattle.std.proofs.Common.{subst, sym}
 use Rattle.record_loans.specs.declared.pieces.Pieces.{Pieces}
 use Rattle.lifecycle.specs.Moves.{with_back}
-use Rattle.lifecycle.specs.States.{ActiveKeeps}
+use Rattle.lifecycle.specs.States.{ActiveRefines}
 use Rattle.host_table.proofs.Lendings.{seen_back, locations_back}
 use Rattle.host_moves.proofs.told.follow_active.Goals as goal
 
@@ -24,6 +24,6 @@ returns-clause-follows g c =
       group = c.moved.ensures.group;
       fits = rw back c.moved.ensures.fits;
       keeps = λ w h before.
-          subst (λ (x : Pieces). ActiveKeeps g.M.Ialg.law c.moved.new.self.instance w x c.moved.new.group h) (sym back)
-          (c.moved.ensures.keeps w h (subst (λ (x : Pieces). ActiveKeeps g.M.Ialg.law (with_back c.args.active.now.instance c.args.back) w x c.args.group.now h) (sym lent) before));
+          subst (λ (x : Pieces). ActiveRefines g.M.Ialg.law c.moved.new.self.instance w x c.moved.new.group h) (sym back)
+          (c.moved.ensures.keeps w h (subst (λ (x : Pieces). ActiveRefines g.M.Ialg.law (with_back c.args.active.now.instance c.args.back) w x c.args.group.now h) (sym lent) before));
     }

@@ -1,7 +1,7 @@
 use Rattle.std.proofs.Common.{◌≡◌, ℕ, IsTrue, [], Some, None, rules, set, set-set, get_or-set_other, sym, ap, subst, ◌∙◌, arith}
 use Rattle.std.proofs.lemmas.Grind.{common_steps}
 use Rattle.lifecycle.specs.declared.instance.Inst.TheVariants.{Idling}
-use Rattle.lifecycle.specs.States.{IdleKeeps}
+use Rattle.lifecycle.specs.States.{IdleRefines}
 use Rattle.ialg.specs.Records.{unplaced}
 use Rattle.record_loans.specs.declared.pieces.Pieces.{Pieces}
 use Rattle.scratch_group.proofs.Tables.{unplaced-with_bases}
@@ -147,7 +147,7 @@ pub returns-clause-keeps : goal.returns-clause-keeps
 returns-clause-keeps g c =
     let d = (goal.at.returns-clause-keeps g c).After-start_member in
     rw (← c.tables.view_is, filled g d) (λ w histories table new keeps.
-    let kept : IdleKeeps g.M.Ialg.law (instance_of c.start_member.new.inst) w (shared_at c.start_member.new.sharing.items c.args.instance.number) [] =
+    let kept : IdleRefines g.M.Ialg.law (instance_of c.start_member.new.inst) w (shared_at c.start_member.new.sharing.items c.args.instance.number) [] =
     (λ lawful.
     let before : IsTrue (g.M.Ialg.law.meaning.lawful c.args.instance.kind c.args.instance.params.now.items w) = rw ((begun g d).same.kind, (begun g d).same.params) at lawful in
     (begun g d).keeps w (table before)

@@ -18,7 +18,7 @@ returns-in-Ok-tell-clause-served g c = λ s honest k h.
     let long : length c.read_from.new.octets ≡ c.octets_of-octets.result = grind (arith, common_steps, c.read_from.auto.octets) in
     let count = long ∙ asked in
     let same = c.read_from.auto.octets in
-    served_short (g.T.LineMachine.machine (g.T.LineMachine.widths c.args.machine.now)) honest s (g.T.LineMachine.keeps c.args.machine.now) _ k there h
+    served_short (g.T.LineMachine.machine (g.T.LineMachine.widths c.args.machine.now)) honest s (g.T.LineMachine.refines c.args.machine.now) _ k there h
     (rw (number, sym same ∙ count) at (c.read_from.ensures.short answer)) (c.in-Ok-tell.ensures.ok refl)
 
 pub returns-in-Err-tell-clause-cut : goal.returns-in-Err-tell-clause-cut
@@ -57,7 +57,7 @@ returns-in-Ok-told-clause-served g c = λ s honest k h.
     let count = long ∙ asked in
     let taken : c.octets_of.result ≡ octet_count ((g.T.LineMachine.widths c.args.machine.now).output c.args.channel) c.feed-count.result = rw c.output_width-output_width.ensures at c.octets_of.ensures.count in
     let given = c.feed-count.ensures.gives s k in
-    served_whole (g.T.LineMachine.machine (g.T.LineMachine.widths c.args.machine.now)) honest s (g.T.LineMachine.keeps c.feed-count.new.self) given.2 there pairs h count
+    served_whole (g.T.LineMachine.machine (g.T.LineMachine.widths c.args.machine.now)) honest s (g.T.LineMachine.refines c.feed-count.new.self) given.2 there pairs h count
     (rw number at (c.read_from.ensures.filled answer)) (given_first (g.T.LineMachine.machine (g.T.LineMachine.widths c.args.machine.now)) s _ count given.1)
     (rw (number, taken) at (c.write_to.ensures.ok c.if-is_err.ensures.negation)) (c.in-Ok-told.ensures.ok refl)
 

@@ -6,7 +6,7 @@ use Rattle.script_server.proofs.line.serve_line.Goals as goal
 
 pub returns-in-Ok-clause-served : goal.returns-in-Ok-clause-served
 returns-in-Ok-clause-served g c = λ octets s honest line k h.
-    served_long (g.T.LineMachine.machine (g.T.LineMachine.widths c.args.machine.now)) honest (g.T.LineMachine.keeps c.args.machine.now) s _ _ (rw c.if-long.true at line) k h (c.in-Ok.ensures.ok refl)
+    served_long (g.T.LineMachine.machine (g.T.LineMachine.widths c.args.machine.now)) honest (g.T.LineMachine.refines c.args.machine.now) s _ _ (rw c.if-long.true at line) k h (c.in-Ok.ensures.ok refl)
 
 pub returns-in-Err-clause-cut : goal.returns-in-Err-clause-cut
 returns-in-Err-clause-cut g c = λ is octets s honest line k h.
@@ -15,14 +15,14 @@ returns-in-Err-clause-cut g c = λ is octets s honest line k h.
 pub returns-in-Nothing-clause-served : goal.returns-in-Nothing-clause-served
 returns-in-Nothing-clause-served g c = λ octets s honest line k h.
     let asks = c.in-Nothing.ensures.asks s k in
-    served_asked (g.T.LineMachine.machine (g.T.LineMachine.widths c.args.machine.now)) honest (g.T.LineMachine.keeps c.ask.new.self) s _ (rw c.if-long.false at line) asks.1
-    (served_nothing (g.T.LineMachine.machine (g.T.LineMachine.widths c.args.machine.now)) honest (g.T.LineMachine.keeps c.ask.new.self) _ _ _ _ asks.2 h)
+    served_asked (g.T.LineMachine.machine (g.T.LineMachine.widths c.args.machine.now)) honest (g.T.LineMachine.refines c.ask.new.self) s _ (rw c.if-long.false at line) asks.1
+    (served_nothing (g.T.LineMachine.machine (g.T.LineMachine.widths c.args.machine.now)) honest (g.T.LineMachine.refines c.ask.new.self) _ _ _ _ asks.2 h)
 
 pub returns-in-Ok-tell-clause-served : goal.returns-in-Ok-tell-clause-served
 returns-in-Ok-tell-clause-served g c = λ octets s honest line k h.
     let asks = c.in-Tell.ensures.asks s k in
-    served_asked (g.T.LineMachine.machine (g.T.LineMachine.widths c.args.machine.now)) honest (g.T.LineMachine.keeps c.ask.new.self) s _ (rw c.if-long.false at line) asks.1
-    (rw c.is_refusal-refused.ensures (served_reply (g.T.LineMachine.machine (g.T.LineMachine.widths c.args.machine.now)) honest (g.T.LineMachine.keeps c.ask.new.self) _ _ _ _ asks.2 h (c.in-Ok-tell.ensures.ok refl)))
+    served_asked (g.T.LineMachine.machine (g.T.LineMachine.widths c.args.machine.now)) honest (g.T.LineMachine.refines c.ask.new.self) s _ (rw c.if-long.false at line) asks.1
+    (rw c.is_refusal-refused.ensures (served_reply (g.T.LineMachine.machine (g.T.LineMachine.widths c.args.machine.now)) honest (g.T.LineMachine.refines c.ask.new.self) _ _ _ _ asks.2 h (c.in-Ok-tell.ensures.ok refl)))
 
 pub returns-in-Err-tell-clause-cut : goal.returns-in-Err-tell-clause-cut
 returns-in-Err-tell-clause-cut g c = λ is octets s honest line k h.
@@ -33,7 +33,7 @@ returns-in-Err-tell-clause-cut g c = λ is octets s honest line k h.
 pub returns-in-Feed-clause-served : goal.returns-in-Feed-clause-served
 returns-in-Feed-clause-served g c = IfOk-weaker c.serve_feed.result _ _ (λ refused fed octets s honest line k h.
     let asks = c.in-Feed.ensures.asks s k in
-    served_asked (g.T.LineMachine.machine (g.T.LineMachine.widths c.args.machine.now)) honest (g.T.LineMachine.keeps c.serve_feed.new.machine) s _ (rw c.if-long.false at line) asks.1
+    served_asked (g.T.LineMachine.machine (g.T.LineMachine.widths c.args.machine.now)) honest (g.T.LineMachine.refines c.serve_feed.new.machine) s _ (rw c.if-long.false at line) asks.1
     (rw c.in-Feed.ensures.widths at (fed asks.0 honest asks.2 h))) c.serve_feed.ensures.served
 
 pub returns-in-Feed-clause-cut : goal.returns-in-Feed-clause-cut

@@ -24,7 +24,7 @@ lines-init g c = record {
   came = rw (c.new-reader.ensures.none, c.new-reader.ensures.left) (record { octets = []; gives = gives_none (g.S.PortIn.source c.args.script.now); used = refl });
   waits = wait_none _ _;
   served = rw (c.new-reader.ensures.none, c.new-reader.ensures.left)
-      (served_none (g.T.LineMachine.machine (g.T.LineMachine.widths c.args.machine.now)) (g.T.LineMachine.keeps c.args.machine.now) (honest_at (map g.I.PortIn.source c.args.inputs.now.items)) g.state _ _ _ _
+      (served_none (g.T.LineMachine.machine (g.T.LineMachine.widths c.args.machine.now)) (g.T.LineMachine.refines c.args.machine.now) (honest_at (map g.I.PortIn.source c.args.inputs.now.items)) g.state _ _ _ _
       (search rules) (honest_first (map g.I.PortIn.source c.args.inputs.now.items)));
 }
 

@@ -15,7 +15,7 @@ invariant-lines g l = record {
   few : l.refused + l.reader.left ≤ SCRIPT_OCTETS;
   came : Consumes l.reader.left (g.S.PortIn.source l.initial.script) (behind l.reader.octets (g.S.PortIn.source l.script));
   waits : AllWait (map g.O.PortOut.sink l.initial.outputs.items) (map g.O.PortOut.sink l.outputs.items) (g.P.PortOut.sink l.initial.replies) (g.P.PortOut.sink l.replies);
-  served : ServedSoFar (g.T.LineMachine.machine (g.T.LineMachine.widths l.initial.machine)) (g.T.LineMachine.keeps l.machine)
+  served : ServedSoFar (g.T.LineMachine.machine (g.T.LineMachine.widths l.initial.machine)) (g.T.LineMachine.refines l.machine)
       (honest_at (map g.I.PortIn.source l.initial.inputs.items)) (run_of g.state (map g.I.PortIn.source l.initial.inputs.items)) l.refused l.reader.left
       (g.S.PortIn.source l.initial.script) (behind l.reader.octets (g.S.PortIn.source l.script)) (map g.I.PortIn.source l.inputs.items)
       (map g.O.PortOut.sink l.initial.outputs.items) (map g.O.PortOut.sink l.outputs.items) (g.P.PortOut.sink l.initial.replies) (g.P.PortOut.sink l.replies);

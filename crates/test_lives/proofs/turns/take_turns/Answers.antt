@@ -1,6 +1,6 @@
 use Rattle.std.proofs.Common.{◌≡◌, ◌++◌, ◌∙◌, ℤ, List, ap}
 use Rattle.ialg.specs.History.{with_samples}
-use Rattle.host_table.specs.Keeps.{with_history}
+use Rattle.host_table.specs.Refinement.{with_history}
 use Rattle.host_table.proofs.Changes.{tables_then, later_member}
 use Rattle.host_table.proofs.Housing.{lawful_after}
 use Rattle.host_table.proofs.Histories.{history_here, history_there}

@@ -8,7 +8,7 @@ returns c = λ calls old new before served keeps.
     let hosted = c.calls_run_on_the_host.ensures.run kind_meaning before went.0 calls went.1 in
     record {
       after = went.0;
-      keeps = went.2;
+      refines = went.2;
       asked = hosted.0;
       runs = hosted.1;
       each = λ i g kind p later born.

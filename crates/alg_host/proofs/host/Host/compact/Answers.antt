@@ -1,6 +1,6 @@
 use Rattle.std.proofs.Common.{sym, subst}
 use Rattle.host_spec.specs.Steps.{compact}
-use Rattle.alg_host.specs.Hosts.{Keeps}
+use Rattle.alg_host.specs.Hosts.{HostRefines}
 use Rattle.alg_host.proofs.host.Host.compact.Goals as goal
 
 pub invariant_of-self : goal.invariant_of-self
@@ -13,7 +13,7 @@ invariant_of-self g c = record {
 pub returns : goal.returns
 returns g c = record {
   machine = λ before keeps.
-      let kept = subst (λ h. Keeps g.M.Ialg.law h before) (sym c.self.view_is) keeps in
+      let kept = subst (λ h. HostRefines g.M.Ialg.law h before) (sym c.self.view_is) keeps in
       let did = c.compact.ensures.machine before kept.kept in
       ((compact before c.args.space).1, did.0, record { kept = did.1; poison = kept.poison });
 }

@@ -1,5 +1,5 @@
 use Rattle.std.proofs.Common.{◌∙◌, sym, subst}
-use Rattle.alg_host.specs.Hosts.{Keeps}
+use Rattle.alg_host.specs.Hosts.{HostRefines}
 use Rattle.alg_host.proofs.Served.{creates_poison, on_refusal}
 use Rattle.alg_host.proofs.host.Host.create.Goals as goal
 
@@ -8,7 +8,7 @@ returns-clause-refused g c = on_refusal c.create.result _ _ (λ e. rw (e.0, e.1)
 
 pub returns-clause-machine : goal.returns-clause-machine
 returns-clause-machine g c = λ before keeps.
-    let kept = subst (λ h. Keeps g.M.Ialg.law h before) (sym c.self.view_is) keeps in
+    let kept = subst (λ h. HostRefines g.M.Ialg.law h before) (sym c.self.view_is) keeps in
     let did = c.create.ensures.machine before kept.poison kept.kept in (
       did.0,
       did.1,

@@ -1,5 +1,5 @@
 use Rattle.std.proofs.Common.{◌∙◌, ap, sym, subst}
-use Rattle.alg_host.specs.Hosts.{Keeps}
+use Rattle.alg_host.specs.Hosts.{HostRefines}
 use Rattle.alg_host.proofs.Served.{delete_poison, on_refusal}
 use Rattle.alg_host.proofs.host.Host.delete.Goals as goal
 
@@ -8,6 +8,6 @@ returns-clause-refused g c = on_refusal c.delete.result _ _ (λ e. rw (e.0, e.1)
 
 pub returns-clause-machine : goal.returns-clause-machine
 returns-clause-machine g c = λ before keeps.
-    let kept = subst (λ h. Keeps g.M.Ialg.law h before) (sym c.self.view_is) keeps in
+    let kept = subst (λ h. HostRefines g.M.Ialg.law h before) (sym c.self.view_is) keeps in
     let did = c.delete.ensures.machine before kept.poison kept.kept in
     (did.0, did.1, record { kept = did.2; poison = ap (λ o. o.1.poison) did.1 ∙ delete_poison g.M.Ialg.law.meaning before c.args.i ∙ kept.poison })

@@ -1,7 +1,7 @@
 use Rattle.std.proofs.Common.{◌∙◌, sym, subst}
 use Rattle.host_spec.specs.Steps.{processed}
 use Rattle.host_moves.proofs.Places.{places_stay}
-use Rattle.alg_host.specs.Hosts.{Keeps}
+use Rattle.alg_host.specs.Hosts.{HostRefines}
 use Rattle.alg_host.proofs.Served.{processed_stays, still_kept}
 use Rattle.alg_host.proofs.host.Host.process.Goals as goal
 
@@ -14,7 +14,7 @@ invariant_of-self g c = record {
 
 pub returns-clause-machine : goal.returns-clause-machine
 returns-clause-machine g c = λ before keeps.
-    let kept = subst (λ h. Keeps g.M.Ialg.law h before) (sym c.self.view_is) keeps in
+    let kept = subst (λ h. HostRefines g.M.Ialg.law h before) (sym c.self.view_is) keeps in
     let did = c.give_block.ensures.machine before kept.poison kept.kept.tables in
     let same = processed_stays before c.args.i c.args.input.now in (
       processed before c.args.i c.args.input.now,

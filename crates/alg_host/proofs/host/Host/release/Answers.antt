@@ -1,6 +1,6 @@
 use Rattle.std.proofs.Common.{◌∙◌, ap, sym, subst}
 use Rattle.host_moves.proofs.Places.{places_stay}
-use Rattle.alg_host.specs.Hosts.{Keeps}
+use Rattle.alg_host.specs.Hosts.{HostRefines}
 use Rattle.alg_host.proofs.Served.{SamePlaces, release_stays, still_kept}
 use Rattle.alg_host.proofs.host.Host.release.Goals as goal
 
@@ -13,7 +13,7 @@ invariant_of-self g c = record {
 
 pub returns-clause-machine : goal.returns-clause-machine
 returns-clause-machine g c = λ before keeps.
-    let kept = subst (λ h. Keeps g.M.Ialg.law h before) (sym c.self.view_is) keeps in
+    let kept = subst (λ h. HostRefines g.M.Ialg.law h before) (sym c.self.view_is) keeps in
     let did = c.deactivate_group.ensures.machine before kept.poison kept.kept.tables in
     let same = subst (λ s. SamePlaces before s) (sym (ap (λ o. o.1) did.1)) (release_stays before c.args.group) in (
       did.0,

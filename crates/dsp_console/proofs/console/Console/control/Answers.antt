@@ -1,6 +1,6 @@
 use Rattle.std.proofs.Common.{ap}
 use Rattle.ialg.specs.Views.{control_of}
-use Rattle.host_moves.specs.Kept.{told}
+use Rattle.host_moves.specs.Refinement.{told}
 use Rattle.channel_spec.specs.Calls.Call.{OfHost}
 use Rattle.host_spec.specs.Calls.Call.{Control}
 use Rattle.console_spec.specs.Console.{status_reply}

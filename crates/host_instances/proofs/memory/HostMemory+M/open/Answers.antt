@@ -1,6 +1,6 @@
 use Rattle.std.proofs.Common.{[], None, subst, sym}
 use Rattle.host_moves.proofs.Maps.{standing_start}
-use Rattle.host_moves.specs.Kept.{IsLiving}
+use Rattle.host_moves.specs.Refinement.{IsLiving}
 use Rattle.host_instances.proofs.memory.HostMemory+M.open.Goals as goal
 
 pub returns-clause-standing : goal.returns-clause-standing

@@ -25,7 +25,7 @@ returns-clause-keeps g c w h keeps lawful =
     let same = unplaced-placed c.args.self.now.instance.table c.rebase.new.table c.restore.new.own c.args.shared.now c.args.group.now c.rebase.ensures in
     active_moved g.M.Ialg.law c.args.self.now.instance.kind c.rebase.new.table c.args.self.now.instance.table c.restore.new.own c.lend.new.own c.args.shared.now c.lend.new.shared c.args.group.now c.lend.new.self
     same fits c.lend.ensures.done.1 c.args.self.now.instance.params.items w h lawful
-    (subst (λ (o : Pieces). g.M.Ialg.law.active_keeps c.args.self.now.instance.kind c.args.self.now.instance.params.items c.args.self.now.instance.table (active_words c.args.self.now.instance.table o c.args.shared.now c.args.group.now) h) (sym c.restore.ensures) (keeps lawful))
+    (subst (λ (o : Pieces). g.M.Ialg.law.active_refines c.args.self.now.instance.kind c.args.self.now.instance.params.items c.args.self.now.instance.table (active_words c.args.self.now.instance.table o c.args.shared.now c.args.group.now) h) (sym c.restore.ensures) (keeps lawful))
 
 pub returns-clause-once : goal.returns-clause-once
 returns-clause-once g c = once_active c.rebase.new.table c.restore.new.own c.lend.new.own c.args.shared.now c.lend.new.shared c.args.group.now c.lend.new.self c.lend.ensures.done.0

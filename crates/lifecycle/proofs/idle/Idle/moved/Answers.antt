@@ -26,7 +26,7 @@ returns-clause-keeps g c w h keeps lawful =
     let same = unplaced-placed c.args.self.now.instance.table c.rebase.new.table c.restore.new.own c.args.shared.now c.args.group.now c.rebase.ensures in
     idle_moved g.M.Ialg.law c.args.self.now.instance.kind c.rebase.new.table c.args.self.now.instance.table c.restore.new.own c.lend_lasting.new.own c.args.shared.now c.lend_lasting.new.shared c.args.group.now
     same fits c.lend_lasting.ensures.done.1 c.args.self.now.instance.params.items w h lawful
-    (subst (λ (o : Pieces). g.M.Ialg.law.idle_keeps c.args.self.now.instance.kind c.args.self.now.instance.params.items c.args.self.now.instance.table (idle_words c.args.self.now.instance.table o c.args.shared.now) h) (sym c.restore.ensures) (keeps lawful))
+    (subst (λ (o : Pieces). g.M.Ialg.law.idle_refines c.args.self.now.instance.kind c.args.self.now.instance.params.items c.args.self.now.instance.table (idle_words c.args.self.now.instance.table o c.args.shared.now) h) (sym c.restore.ensures) (keeps lawful))
 
 pub returns-clause-once : goal.returns-clause-once
 returns-clause-once g c = once_idle c.rebase.new.table c.restore.new.own c.lend_lasting.new.own c.args.shared.now c.lend_lasting.new.shared c.lend_lasting.ensures.done.0

@@ -51,4 +51,4 @@ returns-clause-keeps g c w h keeps lawful =
     let same = unplaced-placed self.table c.rebase_filter.new.table c.restore.new.own no_pieces c.args.group.now c.rebase_filter.ensures in
     idle_moved law self.kind c.rebase_filter.new.table self.table c.restore.new.own lent.new.own no_pieces no_pieces c.args.group.now
     same fits lent.ensures.done.1 self.params.items w h lawful
-    (subst (λ (o : Pieces). law.idle_keeps self.kind self.params.items self.table (idle_words self.table o no_pieces) h) (sym c.restore.ensures) (keeps lawful))
+    (subst (λ (o : Pieces). law.idle_refines self.kind self.params.items self.table (idle_words self.table o no_pieces) h) (sym c.restore.ensures) (keeps lawful))

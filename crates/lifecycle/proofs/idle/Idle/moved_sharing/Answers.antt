@@ -55,7 +55,7 @@ returns-clause-keeps g c w h keeps lawful =
     let same = unplaced-placed self.table c.rebase_sharing.new.table c.restore.new.own once c.args.group.now c.rebase_sharing.ensures in
     idle_moved law self.kind c.rebase_sharing.new.table self.table c.restore.new.own lent.new.own once (only_third lent.new.once) c.args.group.now
     same fits lent.ensures.done.1 self.params.items w h lawful
-    (subst (λ (o : Pieces). law.idle_keeps self.kind self.params.items self.table (idle_words self.table o once) h) (sym c.restore.ensures) (keeps lawful))
+    (subst (λ (o : Pieces). law.idle_refines self.kind self.params.items self.table (idle_words self.table o once) h) (sym c.restore.ensures) (keeps lawful))
 
 pub returns-clause-once : goal.returns-clause-once
 returns-clause-once g c =

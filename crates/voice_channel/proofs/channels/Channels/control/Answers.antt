@@ -1,6 +1,6 @@
 use Rattle.std.specs.Prelude.{map}
 use Rattle.ialg.specs.Views.{control_of}
-use Rattle.host_moves.specs.Kept.{told}
+use Rattle.host_moves.specs.Refinement.{told}
 use Rattle.host_spec.specs.Calls.Call.{Control}
 use Rattle.voice_channel.proofs.Served.{served}
 use Rattle.voice_channel.proofs.channels.Channels.control.Goals as goal

@@ -1,31 +1,31 @@
 use Rattle.std.proofs.Common.{refl}
 use Rattle.host_table.specs.Table.{slot_at, activity_at}
-use Rattle.host_table.proofs.Reading.{reader_active, reader_of}
+use Rattle.host_table.proofs.ShortLoans.{short_active, short_of}
 use Rattle.host_table.proofs.Running.{opened, can_be_lent, ran_steps, ran_gives}
 use Rattle.host_table.proofs.Stepping.{steps_told, steps_to, touched_stays}
-use Rattle.host_table.proofs.tables.Tables.process_reader.Goals as goal
+use Rattle.host_table.proofs.tables.Tables.process_short.Goals as goal
 
-pub run_reading-requires-clause-lent : goal.run_reading-requires-clause-lent
-run_reading-requires-clause-lent g c =
-    let active = reader_active (slot_at c.args.self.now.instances c.args.i) c.args.sizes c.requires.reader in
+pub run_short-requires-clause-lent : goal.run_short-requires-clause-lent
+run_short-requires-clause-lent g c =
+    let active = short_active (slot_at c.args.self.now.instances c.args.i) c.args.loan c.requires.short in
     can_be_lent (opened c.self.view_is c.requires.ok active c.index_mut.ensures.value c.in-Some.is c.in-Running.is c.index_mut-group.ensures.value)
 
-pub run_reading-requires-clause-reader : goal.run_reading-requires-clause-reader
-run_reading-requires-clause-reader g c =
-    let active = reader_active (slot_at c.args.self.now.instances c.args.i) c.args.sizes c.requires.reader in
+pub run_short-requires-clause-short : goal.run_short-requires-clause-short
+run_short-requires-clause-short g c =
+    let active = short_active (slot_at c.args.self.now.instances c.args.i) c.args.loan c.requires.short in
     let there = opened c.self.view_is c.requires.ok active c.index_mut.ensures.value c.in-Some.is c.in-Running.is c.index_mut-group.ensures.value in
-    reader_of c.args.sizes there.in_slot c.in-Running.is (rw (← c.self.view_is) at c.requires.reader)
+    short_of c.args.loan there.in_slot c.in-Running.is (rw (← c.self.view_is) at c.requires.short)
 
 pub returns-clause-step : goal.returns-clause-step
 returns-clause-step g c w ready =
-    let active = reader_active (slot_at c.args.self.now.instances c.args.i) c.args.sizes c.requires.reader in
+    let active = short_active (slot_at c.args.self.now.instances c.args.i) c.args.loan c.requires.short in
     let there = opened c.self.view_is c.requires.ok active c.index_mut.ensures.value c.in-Some.is c.in-Running.is c.index_mut-group.ensures.value in
     steps_told (touched_stays (activity_at c.args.self.now.groups) _ c.args.i (c.requires.ok.active_known _ _ active))
     (rw (← c.self.view_is)
-    (steps_to refl c.run_reading.ensures.seen (ran_steps there _ _ _ c.run_reading.ensures.did w (rw (← c.self.view_is) at ready.poisoned))))
+    (steps_to refl c.run_short.ensures.seen (ran_steps there _ _ _ c.run_short.ensures.did w (rw (← c.self.view_is) at ready.poisoned))))
 
 pub returns-clause-output : goal.returns-clause-output
 returns-clause-output g c w =
-    let active = reader_active (slot_at c.args.self.now.instances c.args.i) c.args.sizes c.requires.reader in
+    let active = short_active (slot_at c.args.self.now.instances c.args.i) c.args.loan c.requires.short in
     let there = opened c.self.view_is c.requires.ok active c.index_mut.ensures.value c.in-Some.is c.in-Running.is c.index_mut-group.ensures.value in
-    rw (← c.self.view_is) (ran_gives there _ _ _ c.run_reading.ensures.did w)
+    rw (← c.self.view_is) (ran_gives there _ _ _ c.run_short.ensures.did w)

@@ -1,4 +1,4 @@
--- When the tables of instances and groups keep a state of the machine.
+-- When the tables of instances and groups refine a state of the machine.
 use Rattle.std.specs.Prelude.{◌≡◌, ℕ, List, [], Option, Some, None, Result, Ok, Err}
 use Rattle.ialg.specs.History.{History}
 use Rattle.ialg.specs.Meaning as meaning
@@ -11,7 +11,7 @@ use Rattle.scratch_group.specs.declared.group.Group.{Group}
 use Rattle.host_table.specs.declared.member.Member.{Member}
 use Rattle.host_shared.specs.declared.locations.Locations.{Locations}
 use Rattle.host_table.specs.Table.{slot_at, instance_of, activity_at}
-use Rattle.host_table.specs.Keeps.{Keeps}
+use Rattle.host_table.specs.Refinement.{SlotsRefine}
 use Rattle.host_table.specs.View.{View}
 use Rattle.host_map.specs.Activity.{Activity}
 use Rattle.host_map.specs.declared.parts.Stat.{Stat}
@@ -36,16 +36,16 @@ abbrev pub history_of : {M : Type 0} → Option (Living M) → History
 history_of None = []
 history_of (Some x) = x.history
 
--- the same instances, active members and counts, and each lawful instance keeps its history
-pub record TablesKeep {M : Type 0} (laws : Laws M)
+-- the same instances, active members and counts, and each slot refines its history
+pub record ListsRefine {M : Type 0} (laws : Laws M)
     (instances : List (Option (Member M))) (sharing : List Locations) (groups : List Group) (state : State M) : Type 0 where
   pub living : (i : ℕ) → IsLiving (slot_at instances i) (state.living i)
   pub activity : (g : ℕ) → activity_at groups g ≡ state.activity g
-  pub histories : Keeps laws state.poison instances sharing groups (λ i. history_of (state.living i))
+  pub histories : SlotsRefine laws state.poison instances sharing groups (λ i. history_of (state.living i))
 
 -- the same, of all that the tables hold
-abbrev pub KeepsState : {M : Type 0} → Laws M → View M → State M → Type 0
-KeepsState laws t state = TablesKeep laws t.instances t.sharing t.groups state
+abbrev pub TablesRefine : {M : Type 0} → Laws M → View M → State M → Type 0
+TablesRefine laws t state = ListsRefine laws t.instances t.sharing t.groups state
 
 -- what a control is answered, as plain values
 abbrev pub told : Result Status Refusal → Result meaning.Status Refusal

@@ -1,12 +1,12 @@
 use Rattle.std.proofs.Common.{◌≡◌, rules, None, Some, sym, ◌∙◌}
 use Rattle.host_table.specs.Table.{slot_at}
-use Rattle.host_table.proofs.Reading.{no_reader}
-use Rattle.host_table.proofs.tables.Tables.active_reader.Goals as goal
+use Rattle.host_table.proofs.ShortLoans.{no_short}
+use Rattle.host_table.proofs.tables.Tables.short_loan.Goals as goal
 
 pub returns-in-Running-clause-none : goal.returns-in-Running-clause-none
 returns-in-Running-clause-none g c =
     let in_slot : slot_at c.deref.result.now c.args.i ≡ Some c.in-Some-Some.member = sym (c.in-Some-Some.ensures.lookup.3.1 None) ∙ search rules in
-    rw (← c.self.view_is) (no_reader c.reader_sizes.result (rw c.deref.ensures.value at in_slot) c.in-Running.is c.reader_sizes.ensures.sizes)
+    rw (← c.self.view_is) (no_short c.short_loan.result (rw c.deref.ensures.value at in_slot) c.in-Running.is c.short_loan.ensures)
 
 -- an idle one isn't told of
 pub returns-in-Idling-clause-found : goal.returns-in-Idling-clause-found
