@@ -20,6 +20,17 @@ pub shifted_small : (z : ℤ) → unsigned_abs z ≤ 2 ^ 30 → unsigned_abs (sh
 shifted_small (pos n) h = grind (arith, ints)
 shifted_small (negsuc n) h = grind (arith, ints)
 
+-- a factor times a quiet value, and what is left of it behind the shift
+pub quiet_product : (a b : ℤ) → SFits w16 a → unsigned_abs b ≤ 8191 → unsigned_abs (a *ℤ b) ≤ 32768 * 8191
+quiet_product a b p few =
+    let h : unsigned_abs a * unsigned_abs b ≤ 32768 * 8191 = mul-le (unsigned_abs a) (unsigned_abs b) 32768 8191 (nat_abs-le a p.sfits) few in
+    let s : unsigned_abs (a *ℤ b) ≡ unsigned_abs a * unsigned_abs b = unsigned_abs-mul a b in
+    omega arith
+
+pub shifted_quiet : (z : ℤ) → unsigned_abs z ≤ 32768 * 8191 → unsigned_abs (shr_z z 16384) ≤ 16382
+shifted_quiet (pos n) h = grind (arith, ints)
+shifted_quiet (negsuc n) h = grind (arith, ints)
+
 -- the upper half of a product that is doubled and shifted, each time limited, is the product shifted to the right and limited once
 pub one_limit : (z : ℤ) → unsigned_abs z ≤ 2 ^ 30 → saturate16 (shr_z z 16384) ≡ extract_h_of (l_shl_of (saturate32 (pos 2 *ℤ z)) (pos 1))
 one_limit (pos n) h = grind (arith, ints)

@@ -1,9 +1,10 @@
 -- Active instances whose records are lent without a plan.
 use Rattle.std.proofs.Common.{◌≡◌, ℕ, Option, None, Some, refl}
-use Rattle.std.specs.Prelude.{IsSome, IfNone, MatchOption}
+use Rattle.std.specs.Prelude.{IsSome, IfNone, IfSome, MatchOption}
 use Rattle.scratch_group.specs.declared.plan.ShortLoan.{ShortLoan}
 use Rattle.scratch_group.specs.ShortLoans.{HasNoShortLoan, IsShortLoan}
 use Rattle.lifecycle.specs.declared.active.Active.{Active}
+use Rattle.lifecycle.specs.declared.idle.Idle.{Idle}
 use Rattle.lifecycle.specs.declared.instance.Inst.{Inst}
 use Rattle.lifecycle.specs.declared.instance.Inst.TheVariants.{Idling, Running}
 use Rattle.host_table.specs.declared.member.Member.{Member}
@@ -32,3 +33,14 @@ pub no_short : {M : Type 0} {slot : Option (Member M)} {m : Member M} {s : Activ
     → IfNone told ((loan : ShortLoan) → HasShortLoan slot loan → ⊥)
 no_short None at is none = λ loan short. none loan (rw (at, is) at short)
 no_short (Some loan) at is found = tt
+
+pub short_told : {M : Type 0} {slot : Option (Member M)} {m : Member M} {s : Active M} (told : Option ShortLoan)
+    → slot ≡ Some m → m.inst ≡ Running s → MatchOption told (HasNoShortLoan s.instance.table) (IsShortLoan s.instance.table)
+    → IfSome told (HasShortLoan slot)
+short_told None at is none = tt
+short_told (Some loan) at is found = rw (at, is) found
+
+-- an idle instance has none
+pub idle_has_none : {M : Type 0} {slot : Option (Member M)} {m : Member M} {s : Idle M}
+    → slot ≡ Some m → m.inst ≡ Idling s → (loan : ShortLoan) → HasShortLoan slot loan → ⊥
+idle_has_none at is loan short = rw (at, is) at short

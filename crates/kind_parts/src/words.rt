@@ -1,7 +1,7 @@
 //! Words of parameters and of states.
-ghost use Rattle.std.specs.Prelude.{◌≡◌, ℤ, length};
+ghost use Rattle.std.specs.Prelude.{◌≡◌, ◌≤ℤ◌, ◌<ℤ◌, ℤ, pos, length};
 ghost use Rattle.ialg.specs.Meaning.{is_between};
-ghost use Rattle.kind_parts.specs.Words.{joined, sum_words};
+ghost use Rattle.kind_parts.specs.Words.{joined, lower_of, sum_words};
 
 use basic_op::{extract_h, extract_l, l_deposit_h};
 
@@ -18,16 +18,23 @@ pub fn is_within(word: i16, least: i16, most: i16) -> bool
     least <= word && word <= most
 }
 
+/// What the lower of two words counts: its 16 bits, without a sign.
+fn lower(low: i16) -> i32
+    ensures value { result ≡ lower_of low }
+    ensures range { pos 0 ≤ℤ result × result <ℤ UPPER }
+{
+    if low < 0 {
+        i32::from(low) + UPPER
+    } else {
+        i32::from(low)
+    }
+}
+
 /// The Word32 whose upper and lower words these are, as `extract_h` and `extract_l` gave them.
 pub fn join(high: i16, low: i16) -> i32
     ensures { result ≡ joined high low }
 {
-    let lower = if low < 0 {
-        i32::from(low) + UPPER
-    } else {
-        i32::from(low)
-    };
-    l_deposit_h(high) + lower
+    l_deposit_h(high) + lower(low)
 }
 
 /// The sum of 32 bits that these words keep.

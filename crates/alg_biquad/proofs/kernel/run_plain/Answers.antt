@@ -1,4 +1,4 @@
-use Rattle.std.proofs.Common.{◌≡◌, ◌+◌, List, ℕ, ℤ, take, add-one, rules, ap, ◌∙◌, subst, sym}
+use Rattle.std.proofs.Common.{◌≡◌, ◌+◌, List, ℕ, ℤ, take, add-one, rules, refl, ap, ◌∙◌, subst, sym, arith}
 use Rattle.std.proofs.lemmas.Int.{to_z-of_z}
 use mir.Val.{SFits, to_z, of_z}
 use mir.Syntax.{w16}
@@ -6,7 +6,8 @@ use Rattle.ialg.specs.History.{word_at}
 use Rattle.ialg.proofs.Histories.{fits_more}
 use Rattle.alg_biquad.specs.Equation.{biquad_value}
 use Rattle.alg_biquad.specs.Keeps.{Gives}
-use Rattle.alg_biquad.proofs.Steps.{gives_more}
+use Rattle.alg_biquad.specs.declared.kernel.State.{State}
+use Rattle.alg_biquad.proofs.Steps.{gives_none, gives_more}
 use Rattle.alg_biquad.proofs.kernel.run_plain.Goals as goal
 
 pub loop-x-preserved : goal.loop-x-preserved
@@ -35,3 +36,28 @@ loop-x-preserved c =
           let P : List ℤ → Type 0 = λ ys. Gives p h (take (i + 1) xs) c.shift.new.self ys in
           subst P (sym pushed) (rw add-one more);
     }
+
+-- the four words, each of which fits
+whole : (s : State) → SFits w16 s.x1 → SFits w16 s.x2 → SFits w16 s.y1 → SFits w16 s.y2
+    → (record { x1 = to_z w16 (of_z w16 s.x1); x2 = to_z w16 (of_z w16 s.x2); y1 = to_z w16 (of_z w16 s.y1); y2 = to_z w16 (of_z w16 s.y2) }) ≡ s
+whole s f1 f2 g1 g2 = rw (to_z-of_z w16 s.x1 f1, to_z-of_z w16 s.x2 f2, to_z-of_z w16 s.y1 g1, to_z-of_z w16 s.y2 g2) refl
+
+pub loop-x-init : goal.loop-x-init
+loop-x-init c =
+    let s = c.args.state in
+    let same = whole s (search rules) (search rules) (search rules) (search rules) in
+    rw (same, c.requires.empty) (record {
+      count = refl;
+      fit = λ k few. absurd (omega (arith, few));
+      ran = λ p h in_force newest. gives_none p h c.args.input.now s newest;
+    })
+
+pub returns : goal.returns
+returns c =
+    let s = c.loop-x.newest in
+    let same = whole s (search rules) (search rules) (search rules) (search rules) in
+    rw (same, c.loop-x.invariant.count) (record {
+      count = c.loop-x.auto.x-index-end;
+      fit = c.loop-x.invariant.fit;
+      law = c.loop-x.invariant.ran;
+    })

@@ -6,6 +6,35 @@ use Rattle.alg_tone.specs.Equation.{feedback_of}
 use Rattle.alg_tone.proofs.Limits.{no_limits}
 use Rattle.alg_tone.proofs.kernel.Tuning.plain_value.Goals as goal
 
+pub overflow_add-sum : goal.overflow_add-sum
+overflow_add-sum c =
+    let y = c.in_ok-shifted.shifted in
+    let f = c.whole_feedback-feedback.result in
+    let fy : SFits w16 y = search rules in
+    let sample : to_z w32 (of_z w32 c.from-sample.result) ≡ y =
+    to_z-of_z w32 c.from-sample.result (record { sfits = c.from-sample.type_inv }) ∙ c.from-sample.ensures ∙ to_z-of_z w16 y fy in
+    let feedback : to_z w32 (of_z w32 f) ≡ f = to_z-of_z w32 f (record { sfits = c.whole_feedback-feedback.type_inv }) in
+    let few_y = nat_abs-le y fy.sfits in
+    rw (sample, feedback) (fits_signed_from_abs w32 (y +ℤ f) (omega (arith, ints, few_y, c.whole_feedback-feedback.ensures.within)))
+
+pub overflow_sub-value : goal.overflow_sub-value
+overflow_sub-value c =
+    let y = c.in_ok-shifted.shifted in
+    let v2 = c.args.frame.v2 in
+    let f = c.whole_feedback-feedback.result in
+    let fy : SFits w16 y = search rules in
+    let f2 : SFits w16 v2 = search rules in
+    let sample : to_z w32 (of_z w32 c.from-sample.result) ≡ y =
+    to_z-of_z w32 c.from-sample.result (record { sfits = c.from-sample.type_inv }) ∙ c.from-sample.ensures ∙ to_z-of_z w16 y fy in
+    let older : to_z w32 (of_z w32 c.from-older.result) ≡ v2 =
+    to_z-of_z w32 c.from-older.result (record { sfits = c.from-older.type_inv }) ∙ c.from-older.ensures ∙ to_z-of_z w16 v2 f2 in
+    let feedback : to_z w32 (of_z w32 f) ≡ f = to_z-of_z w32 f (record { sfits = c.whole_feedback-feedback.type_inv }) in
+    let few_y = nat_abs-le y fy.sfits in
+    let few_v = nat_abs-le v2 f2.sfits in
+    let few_f = c.whole_feedback-feedback.ensures.within in
+    let sum : SFits w32 (y +ℤ f) = fits_signed_from_abs w32 (y +ℤ f) (omega (arith, ints, few_y, few_f)) in
+    rw (sample, older, feedback, to_z-of_z w32 (y +ℤ f) sum) (fits_signed_from_abs w32 ((y +ℤ f) -ℤ v2) (omega (arith, ints, few_y, few_f, few_v)))
+
 pub returns-then-are_words : goal.returns-then-are_words
 returns-then-are_words c =
     let k = c.args.self.factor in
