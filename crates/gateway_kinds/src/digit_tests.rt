@@ -1,12 +1,10 @@
-//! What a detector gives over plain words. The running words are overwritten before each call: an instance relies on what it kept alone.
+//! What a detector gives over plain words.
 //!
 //! The frames are sums of two sines at 8000 samples a second, rounded, and what they give is an independent model's.
-use alg_dtmf::{Dtmf, NO_DIGIT, PARAMETERS, STATE_WORDS, dtmf_rows};
-use ialg::{BLOCK_SAMPLES, Block, Ctl, Filter, Ialg, copied};
-
-const KEPT_WORDS: usize = PARAMETERS + STATE_WORDS;
-
-const POISON: i16 = 21845;
+use crate::filter_rows::Row::{Feed, Get, Grant, Refuse, RefuseSet, Reset, Start};
+use crate::filter_rows::{Row, assert_rows};
+use alg_dtmf::{Dtmf, NO_DIGIT, PARAMETERS, dtmf_rows};
+use std::process::Abort;
 
 /// Frames of 102 samples, -40 dBm0, twist from -10.5 to 6.5 dB, dominance of 7.5 dB, and 0.7 of the energy.
 const LIMITS: [i16; PARAMETERS] = [102, 7, 91, 2920, 7336, 5827, 22938];
@@ -55,55 +53,49 @@ const TOO_MUCH_TWIST: [i16; 102] = [
     -3219, -1674, 560, 2485, 3313, 2887, 1655, 270, -848, -1645, -2224, -2529,
 ];
 
-fn started(p: &[i16]) -> [i16; KEPT_WORDS] {
-    let mut kept = [POISON; KEPT_WORDS];
-    Dtmf::start(p, &mut kept);
-    kept
-}
-
-fn feed(kept: &mut [i16], input: &[i16]) -> Block {
-    let mut running = [POISON; STATE_WORDS];
-    let mut out = Block::new();
-    if input.len() <= BLOCK_SAMPLES {
-        Dtmf::restore(kept, &mut running);
-        Dtmf::run(kept, &mut running, input, &mut out);
-        Dtmf::save(kept, &running);
-    }
-    out
+fn assert_digits(rt: &impl Abort, rows: &[Row<'_>]) {
+    assert_rows(rt, Dtmf, rows);
 }
 
 #[test]
 fn frames_give_their_digits(rt: HostRuntime) {
     dtmf_rows();
-    let mut kept = started(&LIMITS);
-    for (frame, code) in [
-        (&DIGIT_1, 0),
-        (&DIGIT_D, 15),
-        (&LOW_ALONE, NO_DIGIT),
-        (&TOO_MUCH_TWIST, NO_DIGIT),
-    ] {
-        let out = feed(&mut kept, frame.as_slice());
-        assert!(rt; out.as_slice() == [code].as_slice());
-    }
+    assert_digits(
+        &rt,
+        &[
+            Start(&LIMITS),
+            Feed(&DIGIT_1, &[0]),
+            Feed(&DIGIT_D, &[15]),
+            Feed(&LOW_ALONE, &[NO_DIGIT]),
+            Feed(&TOO_MUCH_TWIST, &[NO_DIGIT]),
+        ],
+    );
 }
 
 #[test]
 fn a_frame_goes_on_over_blocks(rt: HostRuntime) {
-    let mut kept = started(&LIMITS);
-    let out = feed(&mut kept, &DIGIT_1[..50]);
-    assert!(rt; out.is_empty());
-    let out = feed(&mut kept, &DIGIT_1[50..]);
-    assert!(rt; out.as_slice() == [0].as_slice());
+    assert_digits(
+        &rt,
+        &[
+            Start(&LIMITS),
+            Feed(&DIGIT_1[..50], &[]),
+            Feed(&DIGIT_1[50..], &[0]),
+        ],
+    );
 }
 
 #[test]
 fn parameters_and_controls(rt: HostRuntime) {
-    assert!(rt; Dtmf.alg_alloc(&copied(&LIMITS)).is_some());
-    assert!(rt;
-        Dtmf.alg_alloc(&copied(&[128, 7, 91, 2920, 7336, 5827, 22938]))
-            .is_none()
+    assert_digits(
+        &rt,
+        &[
+            Grant(&LIMITS, 26, 19),
+            Refuse(&[128, 7, 91, 2920, 7336, 5827, 22938]),
+            Refuse(&[102, 7]),
+            Start(&LIMITS),
+            RefuseSet(&LIMITS),
+            Reset,
+            Get(&[0]),
+        ],
     );
-    assert!(rt; Dtmf.alg_alloc(&copied(&[102, 7])).is_none());
-    assert!(rt; !Dtmf::takes(&LIMITS, &Ctl::Set(copied(&LIMITS))));
-    assert!(rt; Dtmf::takes(&LIMITS, &Ctl::Reset) && Dtmf::takes(&LIMITS, &Ctl::Get));
 }

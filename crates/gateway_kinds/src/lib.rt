@@ -5,6 +5,8 @@
 #[cfg(test)]
 mod digit_tests;
 #[cfg(test)]
+mod filter_rows;
+#[cfg(test)]
 mod gain_tests;
 #[cfg(test)]
 mod level_tests;

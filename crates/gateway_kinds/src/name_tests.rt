@@ -24,23 +24,30 @@ fn eight_names_name_a_kind_each(rt: HostRuntime) {
     gateway_kinds_are_lawful();
     gateway_kinds_give_their_equations();
     both_are_lawful::<Voice, Gain>();
-    assert!(rt; GatewayKind::of_name(b"fir") == Some(Or::First(Voice::Fir)));
-    assert!(rt; GatewayKind::of_name(b"g711") == Some(Or::First(Voice::G711)));
-    assert!(rt; GatewayKind::of_name(b"gain") == Some(gain()));
-    assert!(rt; GatewayKind::of_name(b"level") == Some(level()));
-    assert!(rt; GatewayKind::of_name(b"dtmf") == Some(dtmf()));
-    assert!(rt; GatewayKind::of_name(b"Gain") == None);
-    assert!(rt; GatewayKind::of_name(b"") == None);
+    for (name, kind) in [
+        (b"fir".as_slice(), Some(Or::First(Voice::Fir))),
+        (b"g711", Some(Or::First(Voice::G711))),
+        (b"gain", Some(gain())),
+        (b"level", Some(level())),
+        (b"dtmf", Some(dtmf())),
+        (b"Gain", None),
+        (b"", None),
+    ] {
+        assert!(rt; GatewayKind::of_name(name) == kind);
+    }
     assert!(rt; gain() != level());
 }
 
 #[test]
 fn a_set_asks_and_answers_as_its_kinds_do(rt: HostRuntime) {
     let fir: GatewayKind = Or::First(Voice::Fir);
-    assert!(rt; fir.alg_alloc(&copied(&[16384])).is_some());
-    assert!(rt; gain().alg_alloc(&copied(&[4096])).is_some());
-    assert!(rt; gain().alg_alloc(&copied(&[])).is_none());
-    assert!(rt; level().alg_num_alloc() == FILTER_RECORDS);
-    assert!(rt; gain().accepts(&copied(&[4096]), &Ctl::Set(copied(&[1]))));
-    assert!(rt; !level().accepts(&copied(&[4, 0]), &Ctl::Set(copied(&[4, 0]))));
+    let asked = [
+        fir.alg_alloc(&copied(&[16384])),
+        gain().alg_alloc(&copied(&[4096])),
+        gain().alg_alloc(&copied(&[])),
+    ];
+    assert!(rt; asked.each_ref().map(|table| table.is_some()) == [true, true, false]);
+    let gain_accepts = gain().accepts(&copied(&[4096]), &Ctl::Set(copied(&[1])));
+    let level_accepts = level().accepts(&copied(&[4, 0]), &Ctl::Set(copied(&[4, 0])));
+    assert!(rt; gain_accepts && !level_accepts && level().alg_num_alloc() == FILTER_RECORDS);
 }

@@ -2,7 +2,7 @@
 
 use crate::Mixed;
 use arrayvec::ArrayVec;
-use dsp_console::{Config, Sizes, Summary, TapeIn, TapeOut, run};
+use dsp_console::{Config, Fault, Sizes, Summary, TapeIn, TapeOut, run};
 use std::process::Abort;
 use std::test::Fail;
 
@@ -40,6 +40,22 @@ struct Row<'a> {
     refused: u64,
 }
 
+impl Row<'_> {
+    /// Whether a run of it did so.
+    fn is(&self, answer: Result<Summary, Fault>, outputs: &[TapeOut], replies: &[u8]) -> bool {
+        let [first, second] = outputs else {
+            return false;
+        };
+        answer
+            == Ok(Summary {
+                refused: self.refused,
+            })
+            && replies == self.replies
+            && first.held() == self.first
+            && self.second.is_none_or(|wanted| second.held() == wanted)
+    }
+}
+
 /// Serves a row and compares.
 fn compare<R: Abort + AllocGlobal>(rt: &R, config: Config, row: &Row<'_>) -> Result<(), Fail> {
     let mut script = TapeIn::new(row.script, WIDE, NEVER);
@@ -57,18 +73,7 @@ fn compare<R: Abort + AllocGlobal>(rt: &R, config: Config, row: &Row<'_>) -> Res
         &mut outputs,
         &mut replies,
     );
-    assert!(rt;
-        answer
-            == Ok(Summary {
-                refused: row.refused
-            })
-    );
-    assert!(rt; replies.held() == row.replies);
-    assert!(rt; outputs.len() == 2);
-    assert!(rt; outputs[0].held() == row.first);
-    if let Some(second) = row.second {
-        assert!(rt; outputs[1].held() == second);
-    }
+    assert!(rt; row.is(answer, outputs.as_slice(), replies.held()));
     Ok(())
 }
 

@@ -11,7 +11,11 @@ mod decimator;
 #[cfg(test)]
 mod fir;
 #[cfg(test)]
+mod instance;
+#[cfg(test)]
 mod operators;
+#[cfg(test)]
+mod pairs;
 #[cfg(test)]
 mod tone;
 #[cfg(test)]

@@ -25,79 +25,82 @@ impl Named for Pitch {
     }
 }
 
-fn refused(line: &[u8]) -> Option<Refusal> {
-    match parse::<Pitch>(line, &mut Params::new()) {
-        Ok(_) => None,
-        Err(refusal) => Some(refusal),
-    }
-}
-
-fn is_blank(line: &[u8]) -> bool {
-    matches!(parse::<Pitch>(line, &mut Params::new()), Ok(None))
+/// Whether a line is a command: a blank one isn't.
+fn is_command(line: &[u8]) -> Result<bool, Refusal> {
+    Ok(parse::<Pitch>(line, &mut Params::new())?.is_some())
 }
 
 #[test]
-fn parses_a_creation(rt: HostRuntime) -> Result<(), Fail> {
+fn parses_a_creation(rt: HostRuntime) {
     let mut room = Params::new();
-    let Ok(Some(command)) = parse(b"\tcreate  3 high 4 00005 -32768 \r", &mut room) else {
-        return Err("it is a command".into());
+    let is_creation = match parse(b"\tcreate  3 high 4 00005 -32768 \r", &mut room) {
+        Ok(
+            Some(
+                Command::Create {
+                    instance: 3,
+                    kind: Pitch(2),
+                    group: 4,
+                    parameters,
+                },
+            ),
+        ) => parameters.as_slice() == [5, -32_768].as_slice(),
+        _ => false,
     };
-    let Command::Create {
-        instance,
-        kind: Pitch(kind),
-        group,
-        parameters,
-    } = command
-    else {
-        return Err("it is a creation".into());
-    };
-    assert!(rt; (instance, kind, group) == (3, 2, 4));
-    assert!(rt; parameters.as_slice() == [5, -32_768].as_slice());
-    Ok(())
+    assert!(rt; is_creation);
 }
 
 #[test]
-fn parses_a_chain(rt: HostRuntime) -> Result<(), Fail> {
+fn parses_a_chain(rt: HostRuntime) {
     let mut room = Params::new();
-    let Ok(Some(Command::Chain { channel, members })) = parse::<Pitch>(b"chain 7 255 0", &mut room)
-    else {
-        return Err("it is a chain".into());
+    let is_chain = match parse::<Pitch>(b"chain 7 255 0", &mut room) {
+        Ok(
+            Some(
+                Command::Chain {
+                    channel: 7,
+                    members,
+                },
+            ),
+        ) => members.as_slice() == [255, 0].as_slice(),
+        _ => false,
     };
-    assert!(rt; channel == 7);
-    assert!(rt; members.as_slice() == [255, 0].as_slice());
-    Ok(())
+    assert!(rt; is_chain);
 }
 
 #[test]
-fn parses_a_feed(rt: HostRuntime) -> Result<(), Fail> {
+fn parses_a_feed(rt: HostRuntime) {
     let mut room = Params::new();
-    let Ok(Some(Command::Feed { channel, samples })) = parse::<Pitch>(b"feed -0 1024", &mut room)
-    else {
-        return Err("it is a feed".into());
+    let is_feed = match parse::<Pitch>(b"feed -0 1024", &mut room) {
+        Ok(
+            Some(
+                Command::Feed {
+                    channel: 0,
+                    samples,
+                },
+            ),
+        ) => samples.number() == FEED_SAMPLES,
+        _ => false,
     };
-    assert!(rt; (channel, samples.number()) == (0, FEED_SAMPLES));
-    Ok(())
+    assert!(rt; is_feed);
 }
 
 #[test]
 fn takes_every_octet_as_a_line(rt: HostRuntime) {
     for octet in 0..=255 {
-        let line = [octet];
-        if matches!(octet, b'\t' | b' ' | b'\r') {
-            assert!(rt; is_blank(&line));
-        } else {
-            assert!(rt; refused(&line) == Some(Refusal::Syntax));
-        }
+        let wanted = match octet {
+            b'\t' | b' ' | b'\r' => Ok(false),
+            _ => Err(Refusal::Syntax),
+        };
+        assert!(rt; is_command(&[octet]) == wanted);
     }
 }
 
-/// The longest line of a creation, one-letter words behind each other, with this octet at its end.
-fn refused_at_the_longest<R: Abort + AllocGlobal>(
+/// Judges the longest line of a creation, one-letter words behind each other, with this octet at its end.
+fn judge_the_longest<R: Abort + AllocGlobal>(
     rt: &R,
     start: &[u8],
     word: &[u8],
     last: u8,
-) -> Result<Option<Refusal>, Fail> {
+) -> Result<Result<bool, Refusal>, Fail> {
     let mut line = start.to_vec(rt.alloc())?;
     for _ in start.len() / 2..LINE_OCTETS / 2 - 1 {
         line.extend_from_slice(word)?;
@@ -105,29 +108,35 @@ fn refused_at_the_longest<R: Abort + AllocGlobal>(
     line.push(b' ')?;
     line.push(last)?;
     assert!(rt; line.len() == LINE_OCTETS);
-    Ok(refused(line.as_slice()))
+    Ok(is_command(line.as_slice()))
 }
 
 #[test]
 fn judges_the_longest_lines(rt: HostRuntime) -> Result<(), Fail> {
-    let syntax = Some(Refusal::Syntax);
-    let range = Some(Refusal::Range);
-    assert!(rt; refused_at_the_longest(&rt, b"a ", b"b ", b'c')? == syntax);
-    assert!(rt; refused_at_the_longest(&rt, b"create 0 low 0", b" 1", b'1')? == range);
-    assert!(rt; refused_at_the_longest(&rt, b"create 0 low 0", b" 1", b'x')? == syntax);
-    assert!(rt; refused_at_the_longest(&rt, b"create 0 low 0", b" x", b'1')? == syntax);
-    assert!(rt; refused_at_the_longest(&rt, b"feed 0 1", b"11", b'1')? == syntax);
+    for (start, word, last, refusal) in [
+        (b"a ".as_slice(), b"b ", b'c', Refusal::Syntax),
+        (b"create 0 low 0", b" 1", b'1', Refusal::Range),
+        (b"create 0 low 0", b" 1", b'x', Refusal::Syntax),
+        (b"create 0 low 0", b" x", b'1', Refusal::Syntax),
+        (b"feed 0 1", b"11", b'1', Refusal::Syntax),
+    ] {
+        assert!(rt; judge_the_longest(&rt, start, word, last)? == Err(refusal));
+    }
     Ok(())
 }
 
 #[test]
 fn tells_each_reply(rt: HostRuntime) {
-    assert!(rt; reply_text(&Reply::Done).as_slice() == b"ok\n".as_slice());
-    assert!(rt; reply_text(&Reply::Count(0)).as_slice() == b"ok 0\n".as_slice());
-    assert!(rt; reply_text(&Reply::Count(u32::MAX)).as_slice() == b"ok 4294967295\n".as_slice());
-    assert!(rt; reply_text(&Reply::No(Refusal::Short)).as_slice() == b"no 10 short\n".as_slice());
-    assert!(rt; reply_text(&Reply::Flag(true)).as_slice() == b"ok 1\n".as_slice());
-    assert!(rt; reply_text(&Reply::Flag(false)).as_slice() == b"ok 0\n".as_slice());
-    assert!(rt; Reply::No(Refusal::Long).is_refusal());
-    assert!(rt; !Reply::Count(1).is_refusal());
+    for (reply, text, is_refusal) in &[
+        (Reply::Done, b"ok\n".as_slice(), false),
+        (Reply::Count(0), b"ok 0\n", false),
+        (Reply::Count(1), b"ok 1\n", false),
+        (Reply::Count(u32::MAX), b"ok 4294967295\n", false),
+        (Reply::No(Refusal::Long), b"no 1 long\n", true),
+        (Reply::No(Refusal::Short), b"no 10 short\n", true),
+        (Reply::Flag(true), b"ok 1\n", false),
+        (Reply::Flag(false), b"ok 0\n", false),
+    ] {
+        assert!(rt; reply_text(reply).as_slice() == *text && reply.is_refusal() == *is_refusal);
+    }
 }

@@ -5,69 +5,77 @@ use std::process::Abort;
 
 const NEVER: u64 = u64::MAX;
 
-/// A line of a script, as it is to come.
-#[derive(Drop)]
-struct Wanted {
-    text: &'static [u8],
-    answer: Result<ReadLine, LineFault>,
+/// A script: how many of its octets a call gives at most, the call that fails, and how many octets of it may come.
+#[derive(Clone, Copy)]
+struct Script<'a> {
+    octets: &'a [u8],
+    step: u32,
+    fuse: u64,
+    most: u32,
 }
 
-/// A line that a line feed ends, one that has too many octets, and one that the script's end ends.
-const WHOLE: Result<ReadLine, LineFault> = Ok(ReadLine {
-    long: false,
-    last: false,
-});
+/// How a line of at most four octets comes.
+#[derive(Clone, Copy)]
+enum Line {
+    /// A line feed ends it.
+    Whole(&'static [u8]),
+    /// It has too many octets.
+    Long,
+    /// The script's end ends it.
+    Last(&'static [u8]),
+    Fails(LineFault),
+}
 
-const LONG: Result<ReadLine, LineFault> = Ok(ReadLine {
-    long: true,
-    last: false,
-});
+impl Line {
+    /// Whether a line was read so. The text of a long one isn't kept.
+    fn is(self, answer: Result<ReadLine, LineFault>, text: &[u8]) -> bool {
+        let of_line = |long, last| answer == Ok(ReadLine { long, last });
+        match self {
+            Line::Whole(octets) => of_line(false, false) && text == octets,
+            Line::Long => of_line(true, false),
+            Line::Last(octets) => of_line(false, true) && text == octets,
+            Line::Fails(fault) => answer == Err(fault),
+        }
+    }
+}
 
-const LAST: Result<ReadLine, LineFault> = Ok(ReadLine {
-    long: false,
-    last: true,
-});
-
-/// Reads lines of at most four octets from a script of which so many may come.
-fn compare_lines(rt: &impl Abort, tape: &mut TapeIn<'_>, most: u32, lines: &[Wanted]) {
-    let mut reader = LineReader::new(most);
+/// Whether the script's lines come so, one after the other.
+fn come(script: Script<'_>, lines: &[Line]) -> bool {
+    if script.step == 0 {
+        return false;
+    }
+    let mut tape = TapeIn::new(script.octets, script.step, script.fuse);
+    let mut reader = LineReader::new(script.most);
     let mut text: Buffer<4> = Buffer::new();
     for line in lines {
         if tape.failed() {
-            return;
+            return false;
         }
         text.clear();
-        let answer = reader.read_line(tape, &mut text);
-        assert!(rt; answer == line.answer);
-        if answer == WHOLE || answer == LAST {
-            assert!(rt; text.as_slice() == line.text);
+        let answer = reader.read_line(&mut tape, &mut text);
+        if !line.is(answer, text.as_slice()) {
+            return false;
         }
     }
+    true
 }
 
 #[test]
 fn lines_come_in_whatever_pieces(rt: HostRuntime) {
     let lines = [
-        Wanted {
-            text: b"full",
-            answer: WHOLE,
-        },
-        Wanted {
-            text: b"",
-            answer: LONG,
-        },
-        Wanted {
-            text: b"",
-            answer: WHOLE,
-        },
-        Wanted {
-            text: b"rest",
-            answer: LAST,
-        },
+        Line::Whole(b"full"),
+        Line::Long,
+        Line::Whole(b""),
+        Line::Last(b"rest"),
     ];
     for step in 1..=17 {
-        let mut tape = TapeIn::new(b"full\nlonger\n\nrest", step, NEVER);
-        compare_lines(&rt, &mut tape, 17, &lines);
+        let script = Script {
+            octets: b"full\nlonger\n\nrest",
+            step,
+            fuse: NEVER,
+            most: 17,
+        };
+        assert!(rt; come(script, &lines));
     }
 }
 
@@ -75,23 +83,19 @@ fn lines_come_in_whatever_pieces(rt: HostRuntime) {
 #[test]
 fn lines_within_the_limit_come_first(rt: HostRuntime) {
     let lines = [
-        Wanted {
-            text: b"full",
-            answer: WHOLE,
-        },
-        Wanted {
-            text: b"",
-            answer: LONG,
-        },
-        Wanted {
-            text: b"",
-            answer: Err(LineFault::Limit),
-        },
+        Line::Whole(b"full"),
+        Line::Long,
+        Line::Fails(LineFault::Limit),
     ];
     for step in [1, 5, 4096] {
         for most in 12..=16 {
-            let mut tape = TapeIn::new(b"full\nlonger\nrested", step, NEVER);
-            compare_lines(&rt, &mut tape, most, &lines);
+            let script = Script {
+                octets: b"full\nlonger\nrested",
+                step,
+                fuse: NEVER,
+                most,
+            };
+            assert!(rt; come(script, &lines));
         }
     }
 }
@@ -99,22 +103,18 @@ fn lines_within_the_limit_come_first(rt: HostRuntime) {
 // The second call of the tape fails: it is made only once the lines of the first have come.
 #[test]
 fn lines_that_are_ahead_come_before_the_script_is_asked(rt: HostRuntime) {
+    let script = Script {
+        octets: b"full\nrest\nx",
+        step: 4096,
+        fuse: 1,
+        most: 100,
+    };
     let lines = [
-        Wanted {
-            text: b"full",
-            answer: WHOLE,
-        },
-        Wanted {
-            text: b"rest",
-            answer: WHOLE,
-        },
-        Wanted {
-            text: b"",
-            answer: Err(LineFault::Port),
-        },
+        Line::Whole(b"full"),
+        Line::Whole(b"rest"),
+        Line::Fails(LineFault::Port),
     ];
-    let mut tape = TapeIn::new(b"full\nrest\nx", 4096, 1);
-    compare_lines(&rt, &mut tape, 100, &lines);
+    assert!(rt; come(script, &lines));
 }
 
 /// As many line feeds as leave two octets of the buffer to the line behind them.
@@ -122,42 +122,28 @@ const FEEDS: usize = BUFFER_OCTETS - 2;
 
 #[test]
 fn a_line_spans_two_buffers(rt: HostRuntime) {
-    let mut script = [LINE_FEED; FEEDS + 6];
-    script[FEEDS..FEEDS + 4].copy_from_slice(b"wxyz");
-    let mut tape = TapeIn::new(&script, 4096, NEVER);
-    let mut reader = LineReader::new(5000);
-    let mut text: Buffer<4> = Buffer::new();
-    for _ in 0..FEEDS {
-        if tape.failed() {
-            return;
-        }
-        text.clear();
-        let line = reader.read_line(&mut tape, &mut text);
-        assert!(rt; line == WHOLE && text.is_empty());
-    }
-    if tape.failed() {
-        return;
-    }
-    text.clear();
-    let line = reader.read_line(&mut tape, &mut text);
-    assert!(rt; line == WHOLE);
-    assert!(rt; text.as_slice() == b"wxyz".as_slice());
+    let mut octets = [LINE_FEED; FEEDS + 6];
+    octets[FEEDS..FEEDS + 4].copy_from_slice(b"wxyz");
+    let script = Script {
+        octets: &octets,
+        step: 4096,
+        fuse: NEVER,
+        most: 5000,
+    };
+    let mut lines = [Line::Whole(b""); FEEDS + 1];
+    lines[FEEDS] = Line::Whole(b"wxyz");
+    assert!(rt; come(script, &lines));
 }
 
 #[test]
 fn a_line_is_longer_than_the_buffer(rt: HostRuntime) {
-    let mut script = [b'x'; BUFFER_OCTETS + 3];
-    script[BUFFER_OCTETS] = LINE_FEED;
-    let mut tape = TapeIn::new(&script, 4096, NEVER);
-    let lines = [
-        Wanted {
-            text: b"",
-            answer: LONG,
-        },
-        Wanted {
-            text: b"xx",
-            answer: LAST,
-        },
-    ];
-    compare_lines(&rt, &mut tape, 5000, &lines);
+    let mut octets = [b'x'; BUFFER_OCTETS + 3];
+    octets[BUFFER_OCTETS] = LINE_FEED;
+    let script = Script {
+        octets: &octets,
+        step: 4096,
+        fuse: NEVER,
+        most: 5000,
+    };
+    assert!(rt; come(script, &[Line::Long, Line::Last(b"xx")]));
 }

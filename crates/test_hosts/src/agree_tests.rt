@@ -68,23 +68,25 @@ fn answered(request: &Request<Trial>) -> Option<&Result<Status, Refusal>> {
     }
 }
 
-#[test]
-fn lives_that_are_given_the_same_agree(rt: HostRuntime) {
-    let mut one = Host::new(rt.alloc(), sizes(4_096, 1_024, 1_024), None).expect(&rt, "memory");
-    let mut other = Host::new(rt.alloc(), sizes(4_096, 2_048, 64), Some(-1)).expect(&rt, "memory");
-    let mut requests = [
-        create(&rt, 0, FIR, 0, &[16_384, 16_384]),
-        process(&rt, 0, &[2, 4, 6]),
+// The life of a filter that is alone in its host.
+fn alone(rt: &impl Abort) -> [Request<Trial>; 5] {
+    [
+        create(rt, 0, FIR, 0, &[16_384, 16_384]),
+        process(rt, 0, &[2, 4, 6]),
         control(0, Ctl::Get),
         control(0, Ctl::Reset),
-        process(&rt, 0, &[8, 10]),
-    ];
-    let mut others = [
-        create(&rt, 7, Trial::Scribbler, 3, &[0, 1_028, 16]),
-        create(&rt, 5, FIR, 3, &[16_384, 16_384]),
-        process(&rt, 5, &[2]),
-        process(&rt, 7, &[30, -30]),
-        process(&rt, 5, &[4, 6]),
+        process(rt, 0, &[8, 10]),
+    ]
+}
+
+// The life of such a filter beside a kind that keeps no law.
+fn beside_a_scribbler(rt: &impl Abort) -> [Request<Trial>; 12] {
+    [
+        create(rt, 7, Trial::Scribbler, 3, &[0, 1_028, 16]),
+        create(rt, 5, FIR, 3, &[16_384, 16_384]),
+        process(rt, 5, &[2]),
+        process(rt, 7, &[30, -30]),
+        process(rt, 5, &[4, 6]),
         Request::Delete {
             instance: 7,
             answer: Err(Refusal::Range),
@@ -95,21 +97,49 @@ fn lives_that_are_given_the_same_agree(rt: HostRuntime) {
         },
         control(5, Ctl::Get),
         control(5, Ctl::Reset),
-        process(&rt, 5, &[8]),
+        process(rt, 5, &[8]),
         Request::Release {
             group: 3,
             answer: Err(Refusal::Range),
         },
-        process(&rt, 5, &[10]),
+        process(rt, 5, &[10]),
+    ]
+}
+
+// Looks at what the filters of the two lives gave.
+fn look_at_outputs(rt: &impl Abort, one: &[Request<Trial>; 5], other: &[Request<Trial>; 12]) {
+    let outputs = [
+        (&one[1], [1, 3, 5].as_slice()),
+        (&other[2], &[1]),
+        (&other[4], &[3, 5]),
+        (&one[4], &[4, 9]),
+        (&other[9], &[4]),
+        (&other[11], &[9]),
     ];
-    make_both(&mut one, &mut requests, &mut other, &mut others);
+    for (request, samples) in outputs {
+        assert!(rt; gave(request, samples));
+    }
+}
+
+// Looks at what they answered to the controls.
+fn look_at_answers(rt: &impl Abort, one: &[Request<Trial>; 5], other: &[Request<Trial>; 12]) {
+    let done = Some(&Ok(Status::Done));
     assert!(rt;
-        gave(&requests[1], &[1, 3, 5]) && gave(&others[2], &[1]) && gave(&others[4], &[3, 5])
+        answered(&one[2]) == answered(&other[7])
+            && answered(&one[3]) == done
+            && answered(&other[8]) == done
     );
-    assert!(rt; gave(&requests[4], &[4, 9]) && gave(&others[9], &[4]) && gave(&others[11], &[9]));
-    assert!(rt; answered(&requests[2]) == answered(&others[7]));
-    assert!(rt; answered(&requests[3]) == Some(&Ok(Status::Done)));
-    assert!(rt; answered(&others[8]) == Some(&Ok(Status::Done)));
+}
+
+#[test]
+fn lives_that_are_given_the_same_agree(rt: HostRuntime) {
+    let mut one = Host::new(rt.alloc(), sizes(4_096, 1_024, 1_024), None).expect(&rt, "memory");
+    let mut other = Host::new(rt.alloc(), sizes(4_096, 2_048, 64), Some(-1)).expect(&rt, "memory");
+    let mut requests = alone(&rt);
+    let mut others = beside_a_scribbler(&rt);
+    make_both(&mut one, &mut requests, &mut other, &mut others);
+    look_at_outputs(&rt, &requests, &others);
+    look_at_answers(&rt, &requests, &others);
     one.close();
     other.close();
 }

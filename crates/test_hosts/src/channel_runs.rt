@@ -1,9 +1,10 @@
 //! Two runs in which a decimator and a filter are given the same: over hosts of other sizes and poison words, under other numbers, in
 //! another channel, beside a kind that keeps no law in their group, and with their samples cut otherwise.
 
+use crate::channel_calls::Call::{Chain, Create, Feed};
+use crate::channel_calls::make;
 use crate::feed_both;
 use host_map::Sizes;
-use ialg::{BLOCK_SAMPLES, Block, PARAMETER_WORDS, copied};
 use std::process::Abort;
 use test_doubles::Trial;
 use voice_channel::{Channels, Host};
@@ -18,17 +19,6 @@ const BY_TWO: [i16; 3] = [2, 16_384, 16_384];
 
 const MEAN: [i16; 2] = [16_384, 16_384];
 
-fn create(rt: &impl Abort, channels: &mut Channels<Trial>, i: u8, kind: Trial, p: &[i16]) {
-    assert!(rt; p.len() <= PARAMETER_WORDS);
-    assert!(rt; channels.create(i, kind, 0, &copied(p)).is_ok());
-}
-
-fn feed(rt: &impl Abort, channels: &mut Channels<Trial>, c: u8, input: &[i16]) {
-    assert!(rt; channels.ready(c).is_ok());
-    assert!(rt; !input.is_empty() && input.len() <= BLOCK_SAMPLES);
-    channels.feed(c, input, &mut Block::new());
-}
-
 fn sizes(daram: u32, saram: u32) -> Sizes {
     Sizes {
         daram,
@@ -37,20 +27,39 @@ fn sizes(daram: u32, saram: u32) -> Sizes {
     }
 }
 
+// The decimator and the filter, numbered in their order, in a channel of their own.
+fn channel_alone<R: Abort + AllocGlobal>(rt: &R) -> Channels<Trial> {
+    let host = Host::new(rt.alloc(), sizes(4_096, 1_024), None).expect(rt, "memory");
+    let mut channels = Channels::new(host, 1);
+    let calls = [
+        Create(0, DECIM, 0, &BY_TWO, Ok(())),
+        Create(1, FIR, 0, &MEAN, Ok(())),
+        Chain(0, &[0, 1], Ok(())),
+    ];
+    make(rt, &mut channels, &calls);
+    channels
+}
+
+// The same as 5 and 7 in channel 3 of a host with a poison word, beside a kind in their group that keeps no law.
+fn channel_beside_a_scribbler<R: Abort + AllocGlobal>(rt: &R) -> Channels<Trial> {
+    let host = Host::new(rt.alloc(), sizes(2_048, 512), Some(-1)).expect(rt, "memory");
+    let mut channels = Channels::new(host, 4);
+    let calls = [
+        Create(9, Trial::Scribbler, 0, &[0, 1_028, 16], Ok(())),
+        Create(7, FIR, 0, &MEAN, Ok(())),
+        Create(5, DECIM, 0, &BY_TWO, Ok(())),
+        Chain(3, &[5, 7], Ok(())),
+        Chain(0, &[9], Ok(())),
+        Feed(0, &[30, -30], &[30, -30]),
+    ];
+    make(rt, &mut channels, &calls);
+    channels
+}
+
 #[test]
 fn channels_that_are_given_the_same_agree(rt: HostRuntime) {
-    let host = Host::new(rt.alloc(), sizes(4_096, 1_024), None).expect(&rt, "memory");
-    let mut one = Channels::new(host, 1);
-    create(&rt, &mut one, 0, DECIM, &BY_TWO);
-    create(&rt, &mut one, 1, FIR, &MEAN);
-    assert!(rt; one.chain(0, &[0, 1]).is_ok());
-    let host = Host::new(rt.alloc(), sizes(2_048, 512), Some(-1)).expect(&rt, "memory");
-    let mut other = Channels::new(host, 4);
-    create(&rt, &mut other, 9, Trial::Scribbler, &[0, 1_028, 16]);
-    create(&rt, &mut other, 7, FIR, &MEAN);
-    create(&rt, &mut other, 5, DECIM, &BY_TWO);
-    assert!(rt; other.chain(3, &[5, 7]).is_ok() && other.chain(0, &[9]).is_ok());
-    feed(&rt, &mut other, 0, &[30, -30]);
+    let mut one = channel_alone(&rt);
+    let mut other = channel_beside_a_scribbler(&rt);
     assert!(rt; one.ready(0).is_ok() && other.ready(3).is_ok());
     let outputs = feed_both(
         &mut one,
@@ -61,9 +70,8 @@ fn channels_that_are_given_the_same_agree(rt: HostRuntime) {
         3,
         &[2, 4, 6, 8, 10],
     );
-    assert!(rt; outputs.early.as_slice().is_empty());
-    assert!(rt; outputs.late.as_slice() == [2, 5].as_slice());
-    assert!(rt; outputs.whole.as_slice() == [2, 5].as_slice());
+    let given = [&outputs.early, &outputs.late, &outputs.whole].map(|block| block.as_slice());
+    assert!(rt; given == [[].as_slice(), &[2, 5], &[2, 5]]);
     one.close();
     other.close();
 }

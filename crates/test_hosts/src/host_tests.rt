@@ -1,203 +1,168 @@
 //! Hosts of trial kinds, by numbers.
 
-use alg_host::{Host, Stat};
+use crate::host_calls::Call::{
+    Compact, Copied, Create, Delete, Living, Map, Process, Release, Stat, Step,
+};
+use crate::host_calls::make;
 use host_map::{Owner, Placed, Sizes};
-use ialg::{BLOCK_SAMPLES, Block, PARAMETER_WORDS, Params, Refusal, copied};
+use ialg::Refusal;
 use mem_rec::Space;
-use std::process::Abort;
 use test_doubles::Trial;
 use voice_set::Voice;
 
 const FIR: Trial = Trial::Lawful(Voice::Fir);
 
-fn sizes(daram: u32, saram: u32, external: u32) -> Sizes {
-    Sizes {
-        daram,
-        saram,
-        external,
-    }
-}
+// The mean of a sample and the one before it.
+const MEAN: [i16; 2] = [16_384, 16_384];
 
-fn words(rt: &impl Abort, values: &[i16]) -> Params {
-    assert!(rt; values.len() <= PARAMETER_WORDS);
-    copied(values)
-}
-
-// Creates an instance, which is granted.
-fn create(rt: &impl Abort, host: &mut Host<Trial>, i: u8, kind: Trial, group: u8, p: &[i16]) {
-    let p = words(rt, p);
-    assert!(rt; host.create(i, kind, group, &p).is_ok());
-}
-
-// Whether a creation is refused so.
-fn is_refused(
-    rt: &impl Abort,
-    host: &mut Host<Trial>,
-    i: u8,
-    kind: Trial,
-    p: &[i16],
-    why: Refusal,
-) -> bool {
-    let p = words(rt, p);
-    host.create(i, kind, 0, &p) == Err(why)
-}
-
-// Gives a living instance a block, for which it gives another.
-fn give(rt: &impl Abort, host: &mut Host<Trial>, i: u8, input: &[i16], output: &[i16]) {
-    assert!(rt; host.living(i));
-    assert!(rt; !input.is_empty() && input.len() <= BLOCK_SAMPLES);
-    let mut given = Block::new();
-    host.process(i, input, &mut given);
-    assert!(rt; given.as_slice() == output);
-}
-
-fn is_map(host: &Host<Trial>, space: Space, blocks: &[Placed]) -> bool {
-    host.map(space).as_slice() == blocks
-}
-
-fn scratch(g: u8, place: u32, size: u32, align: u32) -> Placed {
-    Placed {
-        owner: Owner::Scratch(g),
-        place,
-        size,
-        align,
-    }
-}
-
-fn is_stat(host: &Host<Trial>, group: u8, active: Option<u8>, activations: u32) -> bool {
-    host.stat(group)
-        == Ok(Stat {
-            active,
-            activations,
-        })
-}
+const AMPLE: Sizes = Sizes {
+    daram: 4_096,
+    saram: 1_024,
+    external: 1_024,
+};
 
 #[test]
 fn a_block_is_replaced_for_its_alignment_alone(rt: HostRuntime) {
-    let mut host = Host::new(rt.alloc(), sizes(4_096, 1_024, 1_024), None).expect(&rt, "memory");
-    create(&rt, &mut host, 0, Trial::Scribbler, 0, &[0, 100, 4]);
-    give(&rt, &mut host, 0, &[7, 8], &[7, 8]);
-    assert!(rt; is_map(&host, Space::Daram, &[scratch(0, 0, 100, 4)]));
-    create(&rt, &mut host, 1, Trial::Scribbler, 0, &[0, 100, 64]);
-    assert!(rt; is_map(&host, Space::Daram, &[scratch(0, 128, 100, 64)]));
-    assert!(rt; is_stat(&host, 0, None, 1));
-    assert!(rt; host.compact(Space::Daram) == 1);
-    assert!(rt; is_map(&host, Space::Daram, &[scratch(0, 0, 100, 64)]));
-    assert!(rt; host.copied() == 100);
-    host.close();
+    let calls = [
+        Create(0, Trial::Scribbler, 0, &[0, 100, 4], Ok(())),
+        Process(0, &[7, 8], &[7, 8]),
+        Map(
+            Space::Daram,
+            &[Placed {
+                owner: Owner::Scratch(0),
+                place: 0,
+                size: 100,
+                align: 4,
+            }],
+        ),
+        Create(1, Trial::Scribbler, 0, &[0, 100, 64], Ok(())),
+        Map(
+            Space::Daram,
+            &[Placed {
+                owner: Owner::Scratch(0),
+                place: 128,
+                size: 100,
+                align: 64,
+            }],
+        ),
+        Stat(0, Ok((None, 1))),
+        Compact(Space::Daram, 1),
+        Map(
+            Space::Daram,
+            &[Placed {
+                owner: Owner::Scratch(0),
+                place: 0,
+                size: 100,
+                align: 64,
+            }],
+        ),
+        Copied(100),
+    ];
+    make(&rt, rt.alloc(), AMPLE, None, &calls);
 }
 
 #[test]
 fn a_first_block_deactivates_nobody(rt: HostRuntime) {
-    let mut host = Host::new(rt.alloc(), sizes(4_096, 1_024, 1_024), None).expect(&rt, "memory");
-    create(&rt, &mut host, 0, FIR, 3, &[16_384, 16_384]);
-    give(&rt, &mut host, 0, &[2], &[1]);
-    create(&rt, &mut host, 1, Trial::Scribbler, 3, &[1, 60, 16]);
-    assert!(rt; is_stat(&host, 3, Some(0), 1));
-    give(&rt, &mut host, 0, &[4], &[3]);
-    // a first block in one space beside a replaced one in another
-    create(
-        &rt,
-        &mut host,
-        2,
-        Trial::Scribbler,
-        3,
-        &[0, 1_032, 4, 2, 12, 4],
-    );
-    assert!(rt; is_stat(&host, 3, None, 1));
-    assert!(rt; is_map(&host, Space::Daram, &[scratch(3, 1_040, 1_032, 16)]));
-    give(&rt, &mut host, 2, &[-1], &[-1]);
-    give(&rt, &mut host, 0, &[6], &[5]);
-    assert!(rt; is_stat(&host, 3, Some(0), 3));
-    host.close();
+    let calls = [
+        Create(0, FIR, 3, &MEAN, Ok(())),
+        Process(0, &[2], &[1]),
+        Create(1, Trial::Scribbler, 3, &[1, 60, 16], Ok(())),
+        Stat(3, Ok((Some(0), 1))),
+        Process(0, &[4], &[3]),
+        // a first block in one space beside a replaced one in another
+        Create(2, Trial::Scribbler, 3, &[0, 1_032, 4, 2, 12, 4], Ok(())),
+        Stat(3, Ok((None, 1))),
+        Map(
+            Space::Daram,
+            &[Placed {
+                owner: Owner::Scratch(3),
+                place: 1_040,
+                size: 1_032,
+                align: 16,
+            }],
+        ),
+        Process(2, &[-1], &[-1]),
+        Process(0, &[6], &[5]),
+        Stat(3, Ok((Some(0), 3))),
+    ];
+    make(&rt, rt.alloc(), AMPLE, None, &calls);
 }
 
-// A filter's outputs beside a kind that writes over all that it may, in a host of this poison word or of none.
-fn filter_beside_a_scribbler(rt: &impl Abort, host: &mut Host<Trial>) {
-    create(rt, host, 0, FIR, 0, &[16_384, 16_384]);
-    create(rt, host, 1, Trial::Scribbler, 0, &[0, 1_028, 16]);
-    give(rt, host, 0, &[2], &[1]);
-    give(rt, host, 1, &[10], &[10]);
-    give(rt, host, 0, &[4], &[3]);
-    give(rt, host, 1, &[20, -20], &[20, -20]);
-    assert!(rt; is_stat(host, 0, Some(1), 4));
-    assert!(rt; host.delete(1).is_ok());
-    assert!(rt; is_stat(host, 0, None, 4));
-    create(rt, host, 1, Trial::Scribbler, 0, &[0, 1_300, 16]);
-    give(rt, host, 1, &[30], &[30]);
-    assert!(rt; host.compact(Space::Daram) == 1);
-    assert!(rt; host.release(0) == Ok(true));
-    give(rt, host, 0, &[6], &[5]);
-}
-
+// A filter beside a kind that writes over all that it may, in hosts of three poison words and of none.
 #[test]
 fn a_scribbler_spoils_no_neighbour(rt: HostRuntime) {
+    let calls = [
+        Create(0, FIR, 0, &MEAN, Ok(())),
+        Create(1, Trial::Scribbler, 0, &[0, 1_028, 16], Ok(())),
+        Process(0, &[2], &[1]),
+        Process(1, &[10], &[10]),
+        Process(0, &[4], &[3]),
+        Process(1, &[20, -20], &[20, -20]),
+        Stat(0, Ok((Some(1), 4))),
+        Delete(1, Ok(())),
+        Stat(0, Ok((None, 4))),
+        Create(1, Trial::Scribbler, 0, &[0, 1_300, 16], Ok(())),
+        Process(1, &[30], &[30]),
+        Compact(Space::Daram, 1),
+        Release(0, Ok(true)),
+        Process(0, &[6], &[5]),
+    ];
     for poison in [None, Some(0), Some(21_845), Some(-1)] {
-        let mut host = Host::new(rt.alloc(), sizes(4_096, 1_024, 1_024), poison).expect(
-            &rt, "memory",
-        );
-        filter_beside_a_scribbler(&rt, &mut host);
-        host.close();
+        make(&rt, rt.alloc(), AMPLE, poison, &calls);
     }
 }
 
-// A filter is refused for want of room in this space, and nothing is there then.
-fn is_full(rt: &impl Abort, host: &mut Host<Trial>, space: Space) {
-    assert!(rt; is_refused(rt, host, 0, FIR, &[1], Refusal::Room(space)));
-    assert!(rt; is_map(host, Space::Daram, &[]));
-    assert!(rt; is_map(host, Space::Saram, &[]));
-    assert!(rt; is_map(host, Space::External, &[]));
-    assert!(rt; !host.living(0));
-    assert!(rt; !host.step(space));
-}
-
+// A filter is refused for want of room, and nothing is there then.
 #[test]
 fn spaces_of_no_words_have_room_for_nothing(rt: HostRuntime) {
-    for (daram, saram, external, space) in [
+    for (daram, saram, external, full) in [
         (0, 64, 64, Space::Daram),
         (1_024, 0, 64, Space::Saram),
         (1_024, 64, 0, Space::External),
         (0, 0, 0, Space::External),
     ] {
-        let mut host = Host::new(rt.alloc(), sizes(daram, saram, external), None).expect(
-            &rt, "memory",
-        );
-        is_full(&rt, &mut host, space);
-        host.close();
+        let sizes = Sizes {
+            daram,
+            saram,
+            external,
+        };
+        let calls = [
+            Create(0, FIR, 0, &[1], Err(Refusal::Room(full))),
+            Map(Space::Daram, &[]),
+            Map(Space::Saram, &[]),
+            Map(Space::External, &[]),
+            Living(0, false),
+            Step(full, false),
+        ];
+        make(&rt, rt.alloc(), sizes, None, &calls);
     }
 }
 
 #[test]
 fn refusals_come_in_their_order(rt: HostRuntime) {
-    let mut host = Host::new(rt.alloc(), sizes(1_028, 64, 64), Some(5)).expect(&rt, "memory");
-    create(&rt, &mut host, 63, FIR, 0, &[16_384, 16_384]);
-    assert!(rt; is_refused(&rt, &mut host, 64, FIR, &[], Refusal::Range));
-    assert!(rt; is_refused(&rt, &mut host, 63, FIR, &[], Refusal::Taken));
-    assert!(rt; is_refused(&rt, &mut host, 0, FIR, &[], Refusal::Params));
-    assert!(rt;
-        is_refused(
-            &rt,
-            &mut host,
+    let sizes = Sizes {
+        daram: 1_028,
+        saram: 64,
+        external: 64,
+    };
+    let calls = [
+        Create(63, FIR, 0, &MEAN, Ok(())),
+        Create(64, FIR, 0, &[], Err(Refusal::Range)),
+        Create(63, FIR, 0, &[], Err(Refusal::Taken)),
+        Create(0, FIR, 0, &[], Err(Refusal::Params)),
+        Create(
             0,
             Trial::Scribbler,
+            0,
             &[0, 1_032, 4],
-            Refusal::Room(Space::Daram)
-        )
-    );
-    assert!(rt;
-        is_refused(
-            &rt,
-            &mut host,
-            0,
-            Trial::Scribbler,
-            &[0, 1_032, 3],
-            Refusal::Params
-        )
-    );
-    assert!(rt; host.delete(64) == Err(Refusal::Range));
-    assert!(rt; host.delete(0) == Err(Refusal::Missing));
-    assert!(rt; host.release(8) == Err(Refusal::Range));
-    assert!(rt; host.stat(8) == Err(Refusal::Range));
-    assert!(rt; is_stat(&host, 0, None, 0));
-    host.close();
+            Err(Refusal::Room(Space::Daram)),
+        ),
+        Create(0, Trial::Scribbler, 0, &[0, 1_032, 3], Err(Refusal::Params)),
+        Delete(64, Err(Refusal::Range)),
+        Delete(0, Err(Refusal::Missing)),
+        Release(8, Err(Refusal::Range)),
+        Stat(8, Err(Refusal::Range)),
+        Stat(0, Ok((None, 0))),
+    ];
+    make(&rt, rt.alloc(), sizes, Some(5), &calls);
 }

@@ -6,6 +6,8 @@
 #[cfg(test)]
 mod agree_tests;
 #[cfg(test)]
+mod channel_calls;
+#[cfg(test)]
 mod channel_runs;
 #[cfg(test)]
 mod channel_tests;
@@ -13,6 +15,8 @@ mod cut_feeds;
 mod diary;
 #[cfg(test)]
 mod diary_tests;
+#[cfg(test)]
+mod host_calls;
 #[cfg(test)]
 mod host_tests;
 mod two_channels;

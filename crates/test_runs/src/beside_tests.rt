@@ -44,19 +44,25 @@ fn gives_the_same<R: Abort + AllocGlobal>(
         &mut outputs,
         &mut told,
     );
-    assert!(rt; ended.is_ok());
-    assert!(rt; outputs.len() == 2);
-    assert!(rt; outputs[0].held() == b"\x01\x00\x03\x00\x05\x00".as_slice());
-    assert!(rt; told.held() == replies);
+    let [first, _] = outputs.as_slice() else {
+        return Err("a run has lost an output".into());
+    };
+    let is_the_same = first.held() == b"\x01\x00\x03\x00\x05\x00".as_slice();
+    assert!(rt; ended.is_ok() && is_the_same && told.held() == replies);
     Ok(())
 }
 
 #[test]
 fn the_other_input_does_not_show(rt: HostRuntime) -> Result<(), Fail> {
-    let fed = b"ok\nok\nok\nok\nok 2\nok 1\nok 1\n";
-    let short = b"ok\nok\nok\nok\nok 2\nno 10 short\nok 1\n";
-    gives_the_same(&rt, b"\x0a\x00", fed)?;
-    gives_the_same(&rt, b"\xff\x7f\x00\x80", fed)?;
-    gives_the_same(&rt, b"\x0a", short)?;
-    gives_the_same(&rt, b"", short)
+    let fed = b"ok\nok\nok\nok\nok 2\nok 1\nok 1\n".as_slice();
+    let short = b"ok\nok\nok\nok\nok 2\nno 10 short\nok 1\n".as_slice();
+    for (second, replies) in [
+        (b"\x0a\x00".as_slice(), fed),
+        (b"\xff\x7f\x00\x80", fed),
+        (b"\x0a", short),
+        (b"", short),
+    ] {
+        gives_the_same(&rt, second, replies)?;
+    }
+    Ok(())
 }

@@ -1,8 +1,6 @@
 //! Each call of each device fails in turn: the ports together hold the first octets of what the script writes. The script comes in pieces:
 //! they hold all of it.
-ghost use Rattle.std.specs.Prelude.{◌<◌};
-
-use crate::scripts::{A_SLIDE, BY_TURNS, Port, READ, Row, WRITTEN};
+use crate::scripts::{A_SLIDE, BY_TURNS, PORTS, Port, Row};
 use dsp_console::{Config, Fault, Summary, run};
 use octet_ports::{TapeIn, TapeOut};
 use std::process::Abort;
@@ -31,6 +29,12 @@ impl Broken {
         if self.port == port { self.call } else { NEVER }
     }
 }
+
+/// No port breaks.
+const UNBROKEN: Broken = Broken {
+    port: Port::Script,
+    call: NEVER,
+};
 
 /// What the ports that are written hold and hasn't been found in the order yet.
 #[derive(Clone, Copy)]
@@ -89,16 +93,36 @@ fn are_first(written: &[(Port, &[u8])], held: Held<'_>) -> bool {
     held.is_empty()
 }
 
-/// Runs the script over tapes of which one breaks, and answers how it ended.
-fn run_broken<R: Abort + AllocGlobal>(
+/// How a run ended, and what it has written.
+#[derive(Drop)]
+struct Ran {
+    ended: Result<Summary, Fault>,
+    first: TapeOut,
+    second: TapeOut,
+    replies: TapeOut,
+}
+
+impl Ran {
+    fn held(&self) -> Held<'_> {
+        Held {
+            first: self.first.held(),
+            second: self.second.held(),
+            replies: self.replies.held(),
+        }
+    }
+}
+
+/// Runs the script over tapes of which one breaks. So many octets are given a call of the script, and at most so many are given or taken a
+/// call of the other ports.
+fn run_over<R: Abort + AllocGlobal>(
     rt: &R,
     row: &Row,
+    script_step: u32,
     step: u32,
     broken: Broken,
-) -> Result<Result<Summary, Fault>, Fail>
-    requires { 0 < step }
-{
-    let mut script = TapeIn::new(row.script, step, broken.fuse(Port::Script));
+) -> Result<Ran, Fail> {
+    assert!(rt; 0 < step && 0 < script_step);
+    let mut script = TapeIn::new(row.script, script_step, broken.fuse(Port::Script));
     let [first, second] = row.inputs;
     let mut inputs = vec![in rt.alloc();
         TapeIn::new(first, step, broken.fuse(Port::FirstInput)),
@@ -123,16 +147,15 @@ fn run_broken<R: Abort + AllocGlobal>(
         &mut outputs,
         &mut replies,
     );
-    assert!(rt; outputs.len() == 2);
-    let held = Held {
-        first: outputs[0].held(),
-        second: outputs[1].held(),
-        replies: replies.held(),
+    let (Some(second), Some(first)) = (outputs.pop(), outputs.pop()) else {
+        return Err("a run has lost an output".into());
     };
-    assert!(rt; are_first(row.written, held));
-    // After a fault no reply is passed on.
-    assert!(rt; ended.is_ok() || replies.passed() == 0);
-    Ok(ended)
+    Ok(Ran {
+        ended,
+        first,
+        second,
+        replies,
+    })
 }
 
 /// Breaks each call of the port in turn: the run ends with the fault, until it has no such call.
@@ -141,100 +164,38 @@ fn each_call_breaks<R: Abort + AllocGlobal>(
     row: &Row,
     step: u32,
     port: Port,
-    fault: Fault,
-) -> Result<(), Fail>
-    requires { 0 < step }
-{
+) -> Result<(), Fail> {
     for call in 0..MOST_CALLS {
-        match run_broken(rt, row, step, Broken { port, call })? {
-            Ok(summary) => {
-                assert!(rt; call > 0 && summary.refused == 0);
-                return Ok(());
-            }
-            Err(ended) => assert!(rt; ended == fault),
+        let ran = run_over(rt, row, step, step, Broken { port, call })?;
+        let ended_well = call > 0 && ran.ended == Ok(Summary { refused: 0 });
+        // After a fault no reply is passed on.
+        let faulted = ran.ended == Err(port.fault()) && ran.replies.passed() == 0;
+        assert!(rt; (ended_well || faulted) && are_first(row.written, ran.held()));
+        if ended_well {
+            return Ok(());
         }
     }
     Err("a port is used without end".into())
 }
 
-/// Breaks each call of each port, by wide calls and by calls of one octet.
-fn every_call_breaks<R: Abort + AllocGlobal>(rt: &R, row: &Row, step: u32) -> Result<(), Fail>
-    requires { 0 < step }
-{
-    for port in READ {
-        each_call_breaks(rt, row, step, port, Fault::Read)?;
-    }
-    for port in WRITTEN {
-        each_call_breaks(rt, row, step, port, Fault::Write)?;
+/// Breaks each call of each port, by calls of one octet and by wide calls.
+fn every_call_breaks<R: Abort + AllocGlobal>(rt: &R, row: &Row) -> Result<(), Fail> {
+    for step in [1, WIDE] {
+        for port in PORTS {
+            each_call_breaks(rt, row, step, port)?;
+        }
     }
     Ok(())
 }
 
 #[test]
 fn members_by_turns_over_ports_that_break(rt: HostRuntime) -> Result<(), Fail> {
-    every_call_breaks(&rt, &BY_TURNS, 1)?;
-    every_call_breaks(&rt, &BY_TURNS, WIDE)
+    every_call_breaks(&rt, &BY_TURNS)
 }
 
 #[test]
 fn a_slide_over_ports_that_break(rt: HostRuntime) -> Result<(), Fail> {
-    every_call_breaks(&rt, &A_SLIDE, 1)?;
-    every_call_breaks(&rt, &A_SLIDE, WIDE)
-}
-
-/// What a run has written.
-#[derive(Drop)]
-struct Wrote {
-    first: TapeOut,
-    second: TapeOut,
-    replies: TapeOut,
-}
-
-impl Wrote {
-    fn held(&self) -> Held<'_> {
-        Held {
-            first: self.first.held(),
-            second: self.second.held(),
-            replies: self.replies.held(),
-        }
-    }
-}
-
-/// Runs the script, of which so many octets are given a call. All other ports give and take whatever they are asked for, and none breaks.
-fn run_in_pieces<R: Abort + AllocGlobal>(rt: &R, row: &Row, step: u32) -> Result<Wrote, Fail>
-    requires { 0 < step }
-{
-    let mut script = TapeIn::new(row.script, step, NEVER);
-    let [first, second] = row.inputs;
-    let mut inputs = vec![in rt.alloc();
-        TapeIn::new(first, WIDE, NEVER),
-        TapeIn::new(second, WIDE, NEVER),
-    ]?;
-    let mut outputs = vec![in rt.alloc(); TapeOut::new(WIDE, NEVER), TapeOut::new(WIDE, NEVER)]?;
-    let mut replies = TapeOut::new(WIDE, NEVER);
-    let config = Config {
-        sizes: row.sizes,
-        poison: Some(-1),
-        in8: 0,
-        out8: 0,
-    };
-    let ended = run::<Voice, _, _, _, _>(
-        rt.alloc(),
-        config,
-        &mut script,
-        &mut inputs,
-        &mut outputs,
-        &mut replies,
-    );
-    assert!(rt; ended == Ok(Summary { refused: 0 }));
-    let (Some(second), Some(first)) = (outputs.pop(), outputs.pop()) else {
-        return Err("a run has lost an output".into());
-    };
-    Ok(Wrote {
-        first,
-        second,
-        replies,
-    })
+    every_call_breaks(&rt, &A_SLIDE)
 }
 
 /// Whether the ports together hold all of these octets, and nothing else.
@@ -250,17 +211,21 @@ fn are_all(written: &[(Port, &[u8])], held: Held<'_>) -> bool {
     held.is_empty()
 }
 
-/// Compares runs whose script comes in pieces with one whose script comes at once.
-fn pieces_change_nothing<R: Abort + AllocGlobal>(rt: &R, row: &Row) -> Result<(), Fail> {
-    let wide = run_in_pieces(rt, row, WIDE)?;
-    assert!(rt; are_all(row.written, wide.held()));
-    for step in 1..=40 {
-        let cut = run_in_pieces(rt, row, step)?;
-        assert!(rt; cut.first.held() == wide.first.held());
-        assert!(rt; cut.second.held() == wide.second.held());
-        assert!(rt; cut.replies.held() == wide.replies.held());
-    }
+/// Runs the script, of which so many octets are given a call: all is written. The other ports give and take whatever they are asked for,
+/// and none breaks.
+fn writes_all<R: Abort + AllocGlobal>(rt: &R, row: &Row, script_step: u32) -> Result<(), Fail> {
+    let ran = run_over(rt, row, script_step, WIDE, UNBROKEN)?;
+    let ended_well = ran.ended == Ok(Summary { refused: 0 });
+    assert!(rt; ended_well && are_all(row.written, ran.held()));
     Ok(())
+}
+
+/// Runs the script at once and in pieces: each run writes the same.
+fn pieces_change_nothing<R: Abort + AllocGlobal>(rt: &R, row: &Row) -> Result<(), Fail> {
+    for step in 1..=40 {
+        writes_all(rt, row, step)?;
+    }
+    writes_all(rt, row, WIDE)
 }
 
 #[test]

@@ -1,8 +1,8 @@
 //! Scripts over two pairs of ports, with all that they write in its order.
-use dsp_console::Sizes;
+use dsp_console::{Fault, Sizes};
 
 /// What a run uses.
-#[derive(Clone, Copy, PartialEq, Eq, Debug)]
+#[derive(Clone, Copy, PartialEq)]
 pub(crate) enum Port {
     Script,
     FirstInput,
@@ -12,11 +12,24 @@ pub(crate) enum Port {
     Replies,
 }
 
-/// The ports that a run reads.
-pub(crate) const READ: [Port; 3] = [Port::Script, Port::FirstInput, Port::SecondInput];
+impl Port {
+    /// How a run ends where it fails.
+    pub(crate) fn fault(self) -> Fault {
+        match self {
+            Port::Script | Port::FirstInput | Port::SecondInput => Fault::Read,
+            Port::FirstOutput | Port::SecondOutput | Port::Replies => Fault::Write,
+        }
+    }
+}
 
-/// The ports that a run writes.
-pub(crate) const WRITTEN: [Port; 3] = [Port::FirstOutput, Port::SecondOutput, Port::Replies];
+pub(crate) const PORTS: [Port; 6] = [
+    Port::Script,
+    Port::FirstInput,
+    Port::SecondInput,
+    Port::FirstOutput,
+    Port::SecondOutput,
+    Port::Replies,
+];
 
 /// A script, the octets of its inputs, and what it writes: all octets of all ports, in their one order.
 #[derive(Drop)]

@@ -1,0 +1,99 @@
+//! A test of channels as a list: each call, and what it is to answer.
+
+use crate::host_calls::{Outcome, parameters, told};
+use host_map::Placed;
+use ialg::{BLOCK_SAMPLES, Block, Ctl, Refusal, Status};
+use mem_rec::Space;
+use std::process::Abort;
+use test_doubles::Trial;
+use voice_channel::{Channels, MEMBERS};
+
+/// A call of channels, and last what it is to answer.
+#[derive(Clone, Copy)]
+pub(crate) enum Call<'a> {
+    /// A new instance of this number and kind, in this group and with these parameters.
+    Create(u8, Trial, u8, &'a [i16], Outcome),
+    Delete(u8, Outcome),
+    /// These instances become the members of a channel.
+    Chain(u8, &'a [u8], Outcome),
+    Unchain(u8, Outcome),
+    Ready(u8, Outcome),
+    /// A block of samples for a channel, and what it gives for them.
+    Feed(u8, &'a [i16], &'a [i16]),
+    /// An instance is asked for its words.
+    Get(u8, &'a [i16]),
+    /// An instance is given words, which are refused.
+    SetRefused(u8, &'a [i16], Refusal),
+    Release(u8, Result<bool, Refusal>),
+    /// The active member of a group, and how many activations there were.
+    Stat(u8, Result<(Option<u8>, u32), Refusal>),
+    Step(Space, bool),
+    Compact(Space, u32),
+    Copied(u64),
+    Map(Space, &'a [Placed]),
+}
+
+impl Call<'_> {
+    /// Makes the call, and says whether it is answered so.
+    fn holds(&self, channels: &mut Channels<Trial>) -> bool {
+        match self {
+            Call::Chain(c, members, answer) => {
+                (1..=MEMBERS).contains(&members.len()) && channels.chain(*c, members) == *answer
+            }
+            Call::Unchain(c, answer) => channels.unchain(*c) == *answer,
+            Call::Ready(c, answer) => channels.ready(*c) == *answer,
+            Call::Feed(c, input, output) => gives(channels, *c, input, output),
+            _ => self.holds_of_instances(channels),
+        }
+    }
+
+    // The same of a call that is about instances.
+    fn holds_of_instances(&self, channels: &mut Channels<Trial>) -> bool {
+        match self {
+            Call::Create(i, kind, group, p, answer) => match parameters(p) {
+                Some(p) => channels.create(*i, *kind, *group, &p) == *answer,
+                None => false,
+            },
+            Call::Delete(i, answer) => channels.delete(*i) == *answer,
+            Call::Get(i, words) => match channels.control(*i, &Ctl::Get) {
+                Ok(Status::Words(answer)) => answer.as_slice() == *words,
+                _ => false,
+            },
+            Call::SetRefused(i, words, why) => match parameters(words) {
+                Some(words) => channels.control(*i, &Ctl::Set(words)) == Err(*why),
+                None => false,
+            },
+            _ => self.holds_of_memory(channels),
+        }
+    }
+
+    // The same of a call that is about groups or spaces.
+    fn holds_of_memory(&self, channels: &mut Channels<Trial>) -> bool {
+        match self {
+            Call::Release(group, answer) => channels.release(*group) == *answer,
+            Call::Stat(group, answer) => channels.stat(*group) == told(*answer),
+            Call::Step(space, answer) => channels.step(*space) == *answer,
+            Call::Compact(space, moves) => channels.compact(*space) == *moves,
+            Call::Copied(words) => channels.copied() == *words,
+            Call::Map(space, blocks) => channels.map(*space).as_slice() == *blocks,
+            _ => false,
+        }
+    }
+}
+
+// Whether a channel can be fed, and gives this for a block of samples.
+fn gives(channels: &mut Channels<Trial>, c: u8, input: &[i16], output: &[i16]) -> bool {
+    if channels.ready(c).is_err() || input.is_empty() || input.len() > BLOCK_SAMPLES {
+        return false;
+    }
+    let mut given = Block::new();
+    channels.feed(c, input, &mut given);
+    given.as_slice() == output
+}
+
+/// Makes the calls one after the other: each is to be answered as it says.
+pub(crate) fn make(rt: &impl Abort, channels: &mut Channels<Trial>, calls: &[Call<'_>]) {
+    for (number, call) in calls.iter().enumerate() {
+        assert!(rt; call.holds(channels), "call {number}");
+    }
+}
