@@ -229,7 +229,7 @@ fn lent<'a>(table: &MemTab, k: usize, room: &'a mut [i16; MOST_WORDS]) -> &'a mu
     }
 }
 
-/// A call of an instance, which is woken for it where it has to be active.
+/// A call of an instance, which is activated for it where it has to be.
 #[derive(Clone, Copy)]
 enum Call<'a> {
     Start(&'a Params),
@@ -263,15 +263,15 @@ impl<K: Ialg> Step<Given> for Visit<'_, K> {
         let table = mem.table();
         match self.call {
             Call::Start(p) => self.kind.alg_init(table, p, mem),
-            Call::Feed(input) => run_awake(&self.kind, mem, input, &mut given.out),
-            Call::Give(c) => given.status = control_awake(&self.kind, mem, c),
+            Call::Feed(input) => activate_and_run(&self.kind, mem, input, &mut given.out),
+            Call::Give(c) => given.status = activate_and_control(&self.kind, mem, c),
             Call::Follow => self.kind.alg_moved(table, mem),
             Call::Free => given.freed = Some(self.kind.alg_free(mem)),
         }
     }
 }
 
-fn run_awake(kind: &impl Ialg, mem: &mut Lent<'_>, input: &[i16], out: &mut Block)
+fn activate_and_run(kind: &impl Ialg, mem: &mut Lent<'_>, input: &[i16], out: &mut Block)
     requires { out.old.items ≡ [] }
     ensures { SameLoans mem.old mem.new }
 {
@@ -282,7 +282,7 @@ fn run_awake(kind: &impl Ialg, mem: &mut Lent<'_>, input: &[i16], out: &mut Bloc
     kind.alg_deactivate(mem);
 }
 
-fn control_awake(kind: &impl Ialg, mem: &mut Lent<'_>, c: &Ctl) -> Status
+fn activate_and_control(kind: &impl Ialg, mem: &mut Lent<'_>, c: &Ctl) -> Status
     ensures { SameLoans mem.old mem.new }
 {
     kind.alg_activate(mem);

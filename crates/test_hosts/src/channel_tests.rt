@@ -181,7 +181,7 @@ fn what_cannot_be_fed_is_told(rt: HostRuntime) {
 }
 
 #[test]
-fn a_refused_control_wakes_nobody(rt: HostRuntime) {
+fn a_refused_control_activates_nobody(rt: HostRuntime) {
     let calls = [
         SetRefused(5, &[7], Refusal::Missing),
         Create(0, FIR, 0, &[1, 2], Ok(())),
