@@ -75,25 +75,26 @@ int alone_feeds(long feeds, int by_turns, int members, const word16 *in, int n, 
 
 static int by_turns, members;
 
-/* The channel that is fed now: the only one, or the next of two. */
-static uint8_t turn(void)
+/* The channel of feed k: the only one, or the next of two. */
+static inline uint8_t turn(long k)
 {
-    static uint8_t last;
-    last = by_turns ? (uint8_t)(1 - last) : 0;
-    return last;
+    return by_turns ? (uint8_t)(k & 1) : 0;
 }
 
-static int feed_library(int n)
+/* A feed to a channel is inlined into each loop, as that of alone.c is. */
+#define INLINED static inline __attribute__((always_inline))
+
+INLINED int feed_library(uint8_t channel, int n)
 {
     uint32_t given;
-    must((int)rokdaum_feed(&library, turn(), in, (size_t)n, out, MOST, &given), "the library");
+    must((int)rokdaum_feed(&library, channel, in, (size_t)n, out, MOST, &given), "the library");
     return (int)given;
 }
 
-static int feed_c(int n)
+INLINED int feed_c(uint8_t channel, int n)
 {
     int given;
-    const word16 *samples = pass(turn(), in, n, &given);
+    const word16 *samples = pass(channel, in, n, &given);
     memcpy(out, samples, (size_t)given * sizeof *out);
     return given;
 }
@@ -151,9 +152,9 @@ static void close_channel(const struct channel *channel)
 static void compare(int n)
 {
     static int16_t first[MOST];
-    int given = feed_library(n);
+    int given = feed_library(0, n);
     memcpy(first, out, sizeof first);
-    int same = feed_c(n) == given && !memcmp(first, out, (size_t)given * sizeof *out);
+    int same = feed_c(0, n) == given && !memcmp(first, out, (size_t)given * sizeof *out);
     if (!same || alone_feeds(1, 0, members, in, n, out) != given || memcmp(first, out, (size_t)given * sizeof *out)) {
         fprintf(stderr, "feeds: the samples of the library and of the C differ\n");
         exit(1);
@@ -172,12 +173,12 @@ static double once_alone(int n)
     return (nanoseconds() - begun) / feeds_of(n);
 }
 
-static double once(int (*feed)(int), int n)
+INLINED double once(int (*feed)(uint8_t, int), int n)
 {
     int calls = feeds_of(n);
     double begun = nanoseconds();
     for (int k = 0; k < calls; k++)
-        feed(n);
+        feed(turn(k), n);
     return (nanoseconds() - begun) / calls;
 }
 
@@ -212,15 +213,15 @@ int main(int count, char **words)
         if (alone && strcmp(words[1], channels[c].name))
             continue;
         open_channel(&channels[c]);
-        /* A loop each, so that each feed is inlined into its own. */
+        /* A loop each. */
         if (n > 0 && by_process)
             alone_feeds((1000000 + n - 1) / n, by_turns, members, in, n, out);
         else if (n > 0 && in_c)
-            for (int fed = 0; fed < 1000000; fed += n)
-                feed_c(n);
+            for (long k = 0; k * n < 1000000; k++)
+                feed_c(turn(k), n);
         else if (n > 0)
-            for (int fed = 0; fed < 1000000; fed += n)
-                feed_library(n);
+            for (long k = 0; k * n < 1000000; k++)
+                feed_library(turn(k), n);
         for (size_t k = 0; !alone && k < sizeof lengths / sizeof *lengths; k++) {
             if (is_in_c(&channels[c]))
                 compare(lengths[k]);

@@ -43,8 +43,8 @@ module _ (p : List ℤ) (rs : List MemRec) where
 
   -- what an idle decimator keeps, it keeps whatever the scratch words are
   module _ (wss : List (List ℤ)) (h : History) where
-    pub awake : IsIdleDecim p rs (lasting rs wss) h → IsIdleDecim p rs wss h
-    awake idle =
+    pub with_scratch : IsIdleDecim p rs (lasting rs wss) h → IsIdleDecim p rs wss h
+    with_scratch idle =
         let at = lasting_at rs (decim_records (taps_of p)) idle.constants.object.on_table wss in
         record {
           constants = constants_same (lasting rs wss) wss idle.constants (sym (at 0)) (sym (at 2));
@@ -52,8 +52,8 @@ module _ (p : List ℤ) (rs : List MemRec) where
           past = subst (KeepsPast (taps_of p) 1 h) (at 1) idle.past;
         }
 
-    pub asleep : IsIdleDecim p rs wss h → IsIdleDecim p rs (lasting rs wss) h
-    asleep idle =
+    pub without_scratch : IsIdleDecim p rs wss h → IsIdleDecim p rs (lasting rs wss) h
+    without_scratch idle =
         let at = lasting_at rs (decim_records (taps_of p)) idle.constants.object.on_table wss in
         record {
           constants = constants_same wss (lasting rs wss) idle.constants (at 0) (at 2);

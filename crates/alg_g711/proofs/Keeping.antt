@@ -33,8 +33,8 @@ object_lasts rs direction wss records =
     lasting_at rs (records_of direction) records wss 0 ∙ ap (λ r. lasting_words r.attr (words_of wss 0)) (first_record direction)
 
 -- the words that last keep what all words keep
-pub asleep : (p : List ℤ) (rs : List MemRec) (wss : List (List ℤ)) (h : History) → Keeps p rs wss h → Keeps p rs (lasting rs wss) h
-asleep p rs wss h keeps =
+pub without_scratch : (p : List ℤ) (rs : List MemRec) (wss : List (List ℤ)) (h : History) → Keeps p rs wss h → Keeps p rs (lasting rs wss) h
+without_scratch p rs wss h keeps =
     let object = object_lasts rs keeps.coder.direction wss keeps.object.on_table in
     record {
       coder = keeps.coder;
@@ -45,9 +45,9 @@ asleep p rs wss h keeps =
     }
 
 -- so do those that last by a table with other bases
-pub awake : (p : List ℤ) (before after : List MemRec) (wss : List (List ℤ)) (h : History) → unplaced before ≡ unplaced after
+pub with_scratch : (p : List ℤ) (before after : List MemRec) (wss : List (List ℤ)) (h : History) → unplaced before ≡ unplaced after
     → Keeps p before (lasting after wss) h → Keeps p before wss h
-awake p before after wss h moved keeps =
+with_scratch p before after wss h moved keeps =
     let records : unplaced after ≡ records_of keeps.coder.direction = sym moved ∙ keeps.object.on_table in
     let object = object_lasts after keeps.coder.direction wss records in
     record {
@@ -77,16 +77,37 @@ pub record Decodes (m : Lent) (law : Law) : Type 0 where
   pub named : NamedAt m External 1 (kind_word law Decode) (records_of Decode)
   pub samples : m.r1.now ≡ samples_of_codes law
 
+-- the write-once record of a decoder has them
+once_words : (p : List ℤ) (rs : List MemRec) (wss : List (List ℤ)) (coder : Coder) → coder_named p ≡ Some coder → coder.direction ≡ Decode
+    → Names (kind_word coder.law coder.direction) (records_of coder.direction) rs (words_of wss 0)
+    → HoldFill (fill_of (coder_named p)) rs wss → words_of wss 1 ≡ samples_of_codes coder.law
+once_words p rs wss coder granted way object samples =
+    let names : Names (kind_word coder.law Decode) (records_of Decode) rs (words_of wss 0) = rw way at object in
+    samples 1 (attr_of rs (records_of Decode) names.on_table 1) ∙ ap (λ o. fill_of o 1) granted ∙ rw way refl
+
+-- who has such a record is a decoder
+once_decodes : (rs : List MemRec) (wss : List (List ℤ)) (direction : Direction) → unplaced rs ≡ records_of direction → AllLent rs wss
+    → length (words_of wss 1) ≡ CODES → direction ≡ Decode
+once_decodes rs wss Encode records lent size = let none = lent_size rs (records_of Encode) records wss lent 1 in absurd (omega (arith, none, size))
+once_decodes rs wss Decode records lent size = refl
+
+pub decodes_by_words : (p : List ℤ) (rs : List MemRec) (wss : List (List ℤ)) (h : History) (keeps : Keeps p rs wss h) → AllLent rs wss
+    → length (words_of wss 1) ≡ CODES → keeps.coder.direction ≡ Decode
+decodes_by_words p rs wss h keeps lent size = once_decodes rs wss keeps.coder.direction keeps.object.on_table lent size
+
+pub decoder_words : (p : List ℤ) (rs : List MemRec) (wss : List (List ℤ)) (h : History) (keeps : Keeps p rs wss h)
+    → keeps.coder.direction ≡ Decode → words_of wss 1 ≡ samples_of_codes keeps.coder.law
+decoder_words p rs wss h keeps way = once_words p rs wss keeps.coder keeps.granted way keeps.object keeps.samples
+
 decoder_of : (p : List ℤ) (m : Lent) (coder : Coder) (law : Law) → coder_named p ≡ Some coder → coder.law ≡ law → coder.direction ≡ Decode
     → Names (kind_word coder.law coder.direction) (records_of coder.direction) m.table.now m.r0.now
     → HoldFill (fill_of (coder_named p)) m.table.now (lent_words m) → AllLent m.table.now (lent_words m) → Decodes m law
 decoder_of p m coder law granted is way object samples lent =
     let names : Names (kind_word law Decode) (records_of Decode) m.table.now m.r0.now = rw (is, way) at object in
-    let once = attr_of m.table.now (records_of Decode) names.on_table 1 in
     let all = lent_size m.table.now (records_of Decode) names.on_table (lent_words m) lent in
     record {
       named = samples_named m law names (all 1);
-      samples = samples 1 once ∙ ap (λ o. fill_of o 1) granted ∙ rw (is, way) refl;
+      samples = once_words p m.table.now (lent_words m) coder granted way object samples ∙ ap samples_of_codes is;
     }
 
 pub decodes : (p : List ℤ) (m : Lent) (h : History) (law : Law) (keeps : Keeps p m.table.now (lent_words m) h)

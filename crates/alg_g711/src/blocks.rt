@@ -10,7 +10,7 @@ use crate::companding::{Law, encode};
 use crate::tables::{A_SAMPLES, MU_SAMPLES};
 
 /// How many codes are looked up in a run.
-const RUN: usize = 16;
+const RUN: usize = 32;
 
 /// Writes the codes of the samples, each in the lower octet of its word.
 pub(crate) fn encode_words(law: Law, samples: &[i16], codes: &mut [i16])
@@ -40,7 +40,10 @@ pub(crate) fn decode_words(table: &[i16], codes: &[i16], samples: &mut [i16])
     }
     let (run, more) = codes.split_at(RUN);
     let (first, rest) = samples.split_at_mut(RUN);
-    look_up(table, run, first);
+    // Of a copy the compiler reads several codes at a time, since none is written between.
+    let mut read = [0; RUN];
+    read.copy_from_slice(run);
+    look_up(table, &read, first);
     decode_words(table, more, rest);
 }
 

@@ -71,6 +71,16 @@ impl Ialg for G711 {
         run(mem, input, out);
     }
 
+    /// A decoder keeps nothing of its codes, so its record of samples tells what a code gives. An encoder has no such record, and is run.
+    #[inline(always)]
+    fn process_sample(&self, _object: &[i16], once: &[i16], x: i16) -> Option<i16> {
+        if once.len() == CODES {
+            Some(sample_of(once, x))
+        } else {
+            None
+        }
+    }
+
     fn alg_deactivate(&self, _mem: &mut Lent<'_>) {}
 
     fn alg_moved(&self, tab: &MemTab, mem: &mut Lent<'_>) {
@@ -123,11 +133,11 @@ fn coder_of(object: &[i16]) -> Option<Coder>
 }
 
 /// Whether the object's kind word is a decoder's.
-fn is_decoder(mem: &Lent<'_>) -> bool
+fn is_decoder(object: &[i16]) -> bool
     ensures { (coder : Coder) (records table : List MemRec)
-        → Names (kind_word coder.law coder.direction) records table mem.now.r0.now → IsTrue result ↔ (coder.direction ≡ Decode) }
+        → Names (kind_word coder.law coder.direction) records table object.now → IsTrue result ↔ (coder.direction ≡ Decode) }
 {
-    match mem.object() {
+    match object {
         [kind, ..] => *kind == A_DECODER_KIND || *kind == MU_DECODER_KIND,
         [] => false,
     }
@@ -171,10 +181,11 @@ fn run(mem: &Lent<'_>, input: &[i16], out: &mut Block)
     ensures read { (p : List ℤ) (h : History) → Keeps p mem.now.table.now (lent_words mem.now) h
         → AllLent mem.now.table.now (lent_words mem.now) → All (FitsSigned w16) input.now }
 {
-    if is_decoder(mem) {
+    let object = mem.object();
+    if is_decoder(object) {
         decode_block(mem, input, out);
     } else {
-        encode_by(mem.object(), input, out);
+        encode_by(object, input, out);
     }
 }
 

@@ -1,5 +1,6 @@
 -- What a call leaves of the state, and that the host keeps what comes after it.
-use Rattle.std.proofs.Common.{◌≡◌, ℕ, ℤ, List, [], ◌∷◌, Option, Some, None, Result, Ok, Err, OnErr, refl, ap, sym, ◌∙◌, subst}
+use Rattle.std.proofs.Common.{◌≡◌, ℕ, ℤ, List, [], ◌∷◌, Option, Some, None, Result, Ok, Err, OnErr, refl, ap, sym, ◌∙◌, subst, lit≤}
+use Rattle.std.specs.Prelude.{IfSome}
 use Rattle.mem_rec.specs.declared.MemRec.{MemRec}
 use Rattle.mem_rec.specs.declared.Space.{Space}
 use Rattle.ialg.specs.declared.refusal.Refusal.{Refusal}
@@ -14,9 +15,13 @@ use Rattle.host_map.specs.Creation.{created_map}
 use Rattle.host_spec.specs.State.{Living, State, sharers_of}
 use Rattle.host_spec.specs.Steps.{Outcome, unless, control_refusal, controlled, given, processed, release, group_refusal, step, moving, delete, instance_refusal, without_instance, create_refusal, newborn, with_memory, with_room}
 use Rattle.host_spec.specs.Calls.{Controls, Creates}
+use Rattle.host_spec.specs.Calls.Call.{Process}
+use Rattle.host_table.specs.Steps.{Ready, TellsOutput}
+use Rattle.host_moves.proofs.KeptLemmas.{block_given}
 use Rattle.host_moves.specs.Refinement.{TablesRefine}
 use Rattle.host_moves.specs.Hosts.{TablesAndSpacesRefine}
 use Rattle.host_table.specs.View.{View}
+use Rattle.alg_host.specs.Hosts.{HostState, HostCallRefines}
 
 -- the same memory map in the same spaces
 pub record SamePlaces {M : Type 0} (before after : State M) : Type 0 where
@@ -68,6 +73,24 @@ still_kept laws old new spaces before after kept same tables = record {
   sizes = kept.sizes ∙ sym same.sizes;
   copied = kept.copied ∙ sym same.copied;
 }
+
+-- ---- samples told by reading alone
+
+-- what the tables tell for a sample is answered as the machine answers it, and the host is as it was
+pub told_serves : {M : Type 0} (laws : Laws M) (host : HostState M) → Ready host.poison host.tables → (i : ℕ) (x : ℤ) (told : Option ℤ)
+    → IfSome told (TellsOutput laws host.tables i x) → IfSome told (λ y. HostCallRefines laws (Process i (x ∷ []) (y ∷ [])) host host)
+told_serves laws host ready i x None tells = tt
+told_serves laws host ready i x (Some y) tells = λ before refines.
+    let t = host.tables in
+    let after = processed before i (x ∷ []) in
+    let step = tells.step host.poison ready in
+    let did = block_given laws t.instances t.sharing t.groups t.instances t.sharing t.groups before i host.poison (x ∷ []) (y ∷ [])
+    refines.poison refines.kept.tables tells.living step.same step.activity step.keeps (tells.output host.poison) (lit≤ tt) (lit≤ tt) in
+    let same = processed_stays before i (x ∷ []) in (
+      after,
+      did.0,
+      record { kept = still_kept laws t t host.spaces before after refines.kept same did.1; poison = same.poison ∙ refines.poison },
+    )
 
 -- ---- deletions
 

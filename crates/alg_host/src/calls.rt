@@ -1,5 +1,5 @@
 //! What an instance is given: controls and blocks of samples.
-ghost use Rattle.std.specs.Prelude.{◌≡◌, ◌≤◌, true, [], length, IfSome, IfNone, OnErr};
+ghost use Rattle.std.specs.Prelude.{◌≡◌, ◌≤◌, true, [], ◌∷◌, length, IfSome, IfNone, OnErr};
 ghost use Rattle.ialg.specs.Views.{control_of};
 ghost use Rattle.host_table.specs.Table.{slot_at, HasShortLoan};
 ghost use Rattle.host_spec.specs.Calls.Call.{Control, Process, Lives};
@@ -55,6 +55,16 @@ impl<M: Ialg> Host<M> {
         ensures none { IfNone result ((loan : ShortLoan) → HasShortLoan (slot_at self.now.tables.instances i) loan → ⊥) }
     {
         self.tables.short_loan(i)
+    }
+
+    /// What instance `i`, which is active and has this short loan, gives for the one sample `x`, where that is told by reading its records
+    /// alone: it has taken the sample then, as [`process_short`](Host::process_short) would have given it. None: it has to be given the sample.
+    #[inline(always)]
+    pub fn process_sample(&self, i: u8, loan: ShortLoan, x: i16) -> Option<i16>
+        requires short { HasShortLoan (slot_at self.now.tables.instances i) loan }
+        ensures machine { IfSome result (λ y. HostCallRefines M.law (Process i (x ∷ []) (y ∷ [])) self.now self.now) }
+    {
+        self.tables.process_sample(i, loan, x)
     }
 
     /// Gives instance `i`, which is active and has this short loan, a block of samples, and pushes what it gives out, as

@@ -97,15 +97,42 @@ pub extern "C" fn rokdaum_proved_feed_sample(
         return CLOSED;
     }
     let mut machine = handle.take(alloc);
-    let answer = feed(
-        &mut machine,
-        channel,
-        &[sample],
-        slice::from_mut(out),
-        count,
-    );
+    let answer = feed_sample(&mut machine, channel, sample, out, count);
     handle.put(machine);
     answer
+}
+
+/// Gives one sample to a channel. One that tells what it gives has no block to fill.
+#[inline(always)]
+fn feed_sample(
+    machine: &mut Machine,
+    channel: u8,
+    sample: i16,
+    out: &mut i16,
+    count: &mut u32,
+) -> i32
+    ensures refused { result ≢ DONE → (out.new ≡ out.old) × (count.new ≡ count.old) }
+    ensures ends { FeedEnds channel (sample ∷ []) machine.old machine.new result (out.old ∷ []) (out.new ∷ []) count.new }
+{
+    if let Err(why) = machine.channels.ready(channel) {
+        return code(Err(why));
+    }
+    match machine
+        .channels
+        .feed_sample(channel, sample, &mut machine.given)
+    {
+        Some(told) => {
+            *out = told;
+            *count = 1;
+            DONE
+        }
+        None => {
+            let given = machine.given.as_slice();
+            write_first(given, slice::from_mut(out));
+            *count = given.len() as u32;
+            DONE
+        }
+    }
 }
 
 #[inline(always)]

@@ -191,13 +191,13 @@ module _ {M : Type 0} (laws : Laws M) where
         given_kept kept block out same activity (subst (KeepsBy (λ h. with_samples h block)) (sym e) keeps) (subst (GivesBy block out) (sym e) output) bounded some living
 
     -- the member was put to rest in group g
-    pub rested_kept : (w : Option ℤ) (g : ℕ) → before.poison ≡ w → ListsRefine laws instances sharing groups before
+    pub deactivated_kept : (w : Option ℤ) (g : ℕ) → before.poison ≡ w → ListsRefine laws instances sharing groups before
         → SameTables instances sharing groups instances' sharing' groups'
         → ((k : ℕ) → activity_at groups' k ≡ with_at (activity_at groups) g (deactivated (activity_at groups g)) k)
         → ((histories : ℕ → History) → SlotsRefine laws w instances sharing groups histories
         → SlotsRefine laws w instances' sharing' groups' histories)
         → Kept (record before { activity = with_at before.activity g (deactivated (before.activity g)) })
-    rested_kept w g e kept same activity keeps = record {
+    deactivated_kept w g e kept same activity keeps = record {
       living = λ j. same_living (slot_at instances j) (slot_at instances' j) (before.living j) (same.slot j) (kept.living j);
       activity = λ k.
           activity k

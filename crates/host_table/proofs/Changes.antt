@@ -18,7 +18,7 @@ use Rattle.scratch_group.specs.Blocks.{block_in, BlocksArePoison}
 use Rattle.lifecycle.specs.declared.instance.Inst.{Inst}
 use Rattle.lifecycle.specs.declared.instance.Inst.TheVariants.{Idling, Running}
 use Rattle.lifecycle.specs.States.{Fits, SameInstance, SameOnce}
-use Rattle.record_loans.proofs.PieceLemmas.{same_pieces}
+use Rattle.record_loans.proofs.PieceLemmas.{reflexive, same_pieces}
 use Rattle.lifecycle.proofs.Frames.{same_group}
 use Rattle.mem_rec.specs.declared.TheConstants.{INSTANCES, GROUPS}
 use Rattle.host_table.specs.declared.member.Member.{Member}
@@ -438,6 +438,20 @@ later_member {M = M} a (Some n) m at s = (n, (refl, (subst (λ (x : Option (Memb
 -- write-once words that stay
 once_then : (rs : List MemRec) (a b c : Pieces) → SameOnce rs a b → SameOnce rs b c → SameOnce rs a c
 once_then rs a b c e f k attr = f k attr ∙ e k attr
+
+same_location : (a : Location) → IsSameLocation a a
+same_location (Here p) = reflexive p
+same_location (At owner) = refl
+
+-- tables that did not change
+pub same_tables : {M : Type 0} (instances : List (Option (Member M))) (sharing : List Locations) (groups : List Group) → SameTables instances sharing groups instances sharing groups
+same_tables instances sharing groups = record {
+  slot = λ i. same_slot (slot_at instances i);
+  pieces = λ i. same_pieces (shared_at sharing i);
+  stands = λ i k. same_location (location_at (locations_at sharing i) k);
+  written = λ i m at k attr. refl;
+  blocks = λ g space. same_blocks (group_at groups g) (group_at groups g) (same_group (group_at groups g)) space;
+}
 
 -- two steps in turn
 pub tables_then : {M : Type 0} {instances instances' instances'' : List (Option (Member M))} {sharing sharing' sharing'' : List Locations} {groups groups' groups'' : List Group}

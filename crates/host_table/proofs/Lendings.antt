@@ -1,5 +1,6 @@
 -- An instance is lent the pieces on its locations, or none where it has no write-once record.
-use Rattle.std.proofs.Common.{◌≡◌, ℕ, ℤ, zero, suc, List, Option, slice_index_or, slice_set, refl, sym, ap, ◌∙◌}
+use Rattle.std.proofs.Common.{◌≡◌, ℕ, ℤ, zero, suc, List, [], ◌∷◌, Option, None, Some, slice_index_or, slice_set, refl, sym, ap, ◌∙◌}
+use Rattle.std.specs.Prelude.{IfSome}
 use Rattle.space_raw.specs.Span.{Span}
 use Rattle.mem_rec.specs.declared.MemRec.{MemRec}
 use Rattle.mem_rec.specs.declared.Attr.TheVariants.{WriteOnce}
@@ -13,6 +14,7 @@ use Rattle.ialg.specs.History.{History, with_samples}
 use Rattle.ialg.specs.Laws.{Laws}
 use Rattle.lifecycle.specs.declared.instance.Instance.{Instance}
 use Rattle.lifecycle.specs.States.{Fits, SameOnce, IdleRefines, ActiveRefines}
+use Rattle.lifecycle.specs.Keeping.{TellsOutput}
 use Rattle.host_shared.specs.declared.locations.Locations.{Locations}
 use Rattle.host_shared.specs.declared.locations.Location.TheVariants.{Here, At}
 use Rattle.host_shared.specs.Locations.{location_at, locations_at, owner_of, piece_here, piece_seen, shared_at}
@@ -141,6 +143,21 @@ module _ (rs : List MemRec) (second : (k : ℕ) → (record_at rs k).attr ≡ Wr
         (did.keeps w h (active_like laws s w a (only_second a.p1) g h table (second_alone a) before));
     output = λ w h lawful before. did.output w h lawful (active_like laws s w a (only_second a.p1) g h table (second_alone a) before);
   }
+
+  -- what was told by the piece of the second record alone
+  pub told_second : {M : Type 0} (laws : Laws M) (s : Instance M) (a : Pieces) (x : ℤ) (told : Option ℤ) → s.table ≡ rs
+      → IfSome told (TellsOutput laws s (only_second a.p1) x) → IfSome told (TellsOutput laws s a x)
+  told_second laws s a x None table did = tt
+  told_second laws s a x (Some y) table did =
+      let alone : (w : Option ℤ) (g : Group) (h : History) → ActiveRefines laws s w a g h → ActiveRefines laws s w (only_second a.p1) g h =
+      λ w g h before. active_like laws s w a (only_second a.p1) g h table (second_alone a) before in
+      let fits_alone : (g : Group) → Fits s.table s.own a g → Fits s.table s.own (only_second a.p1) g =
+      λ g fits. rw table (fits_second s.own a g (rw (sym table) fits)) in
+      record {
+        keeps = λ g fits w h before.
+            active_like laws s w (only_second a.p1) a g (with_samples h (x ∷ [])) table (second_among a) (did.keeps g (fits_alone g fits) w h (alone w g h before));
+        output = λ g fits w h lawful before. did.output g (fits_alone g fits) w h lawful (alone w g h before);
+      }
 
 here_there : (p : Option Span) (owner : ℕ) → Here p ≡ At owner → ⊥
 here_there p owner e = cc

@@ -1,23 +1,29 @@
 -- The active member of a group is given samples where it stands.
-use Rattle.std.proofs.Common.{◌≡◌, ℕ, ℤ, List, set, Option, Some, sym, ◌∙◌, refl, ap, subst}
-use Rattle.std.specs.Prelude.{slice_index_or}
+use Rattle.std.proofs.Common.{◌≡◌, ℕ, ℤ, inl, inr, List, [], ◌∷◌, ◌++◌, set, Option, Some, None, sym, ◌∙◌, refl, ap, subst}
+use Rattle.std.specs.Prelude.{slice_index_or, IfSome}
+use Rattle.std.proofs.lemmas.Bool.Decides.{eqb_tells}
+use Rattle.ialg.specs.History.{History, with_samples}
 use Rattle.std.proofs.lemmas.Option.{same_Some, none-some}
 use Rattle.ialg.specs.Laws.{Laws}
 use Rattle.scratch_group.specs.declared.group.Group.{Group}
 use Rattle.lifecycle.specs.declared.active.Active.{Active}
+use Rattle.lifecycle.specs.Keeping.{TellsOutput as TellsItsOutput}
+use Rattle.lifecycle.specs.States.{ActiveRefines, all_outputs}
+use Rattle.lifecycle.specs.declared.instance.Inst.{Inst}
 use Rattle.lifecycle.specs.declared.instance.Inst.TheVariants.{Running}
 use Rattle.host_shared.specs.declared.locations.Locations.{Locations}
 use Rattle.host_shared.specs.Locations.{shared_at}
 use Rattle.host_shared.specs.Owners.{with_pieces_of}
 use Rattle.host_table.specs.declared.member.Member.{Member}
-use Rattle.host_table.specs.Table.{slot_at, group_at, activity_at, ArePoisoned, IsActiveAt, TablesOk}
-use Rattle.host_table.specs.Steps.{given, AreConsistent, GivesOut, Steps}
+use Rattle.host_table.specs.Table.{slot_at, group_at, instance_of, activity_at, ArePoisoned, IsActiveAt, TablesOk}
+use Rattle.host_table.specs.Refinement.{SlotRefines}
+use Rattle.host_table.specs.Steps.{given, AreConsistent, AreKept, GivesOut, Steps, TellsOutput}
 use Rattle.host_table.specs.View.{View}
 use Rattle.host_table.specs.Turns.{CanBeLent, RanSharing}
 use Rattle.host_table.proofs.Housing.{same_blocks}
-use Rattle.host_table.proofs.Changes.{read_slot, read_ok_group, once_inside, owners_of_slot, known_active, kept_in_slot, fits_in_slot}
+use Rattle.host_table.proofs.Changes.{same_tables, read_slot, read_ok_group, once_inside, owners_of_slot, known_active, kept_in_slot, fits_in_slot}
 use Rattle.host_table.proofs.Activities.{activity_stays}
-use Rattle.host_table.proofs.Stepping.{Change, tables, ok_in, steps_after_step}
+use Rattle.host_table.proofs.Stepping.{Change, tables, ok_in, steps_after_step, steps_told, touched_stays}
 
 -- where the tables were opened: the instance in the slot, which is active, and its group
 pub record IsThere {M : Type 0} (instances : List (Option (Member M))) (sharing : List Locations) (groups : List Group) (i : ℕ) (m : Member M) (s : Active M) (y : Group) : Type 0 where
@@ -42,6 +48,14 @@ opened {instances} {sharing} {groups} {i} {r} {m} {y} view consistent active rea
       running = running;
       group = read_ok_group instances sharing groups ok m.group (ok.group_range i m in_slot) y group;
     }
+
+-- the same of tables whose slot alone was read
+pub read : {M : Type 0} {instances : List (Option (Member M))} {sharing : List Locations} {groups : List Group} {t : View M} {i : ℕ} {r : Option (Member M)} {m : Member M} {s : Active M}
+    → tables instances sharing groups ≡ t → AreConsistent t → IsActiveAt t.instances i
+    → r ≡ slice_index_or instances i r → r ≡ Some m → m.inst ≡ Running s → IsThere instances sharing groups i m s (group_at groups m.group)
+read {instances} {i} {r} view consistent active found is running =
+    let here : IsActiveAt instances i = subst (λ x. IsActiveAt x.instances i) (sym view) active in
+    record { ok = ok_in view consistent; active = here; in_slot = read_slot instances i _ here r found ∙ is; running = running; group = refl }
 
 module _ {M : Type 0} {instances : List (Option (Member M))} {sharing : List Locations} {groups : List Group} {i : ℕ} {m : Member M} {s : Active M} {y : Group}
     (there : IsThere instances sharing groups i m s y) where
@@ -83,6 +97,38 @@ module _ {M : Type 0} {instances : List (Option (Member M))} {sharing : List Loc
       steps_after_step (ran_change s' sharing' y' did) poisoned (λ e. absurd (none-some _ (sym e ∙ now_active y' did.group.active)))
       (activity_stays (activity_at groups) m.group _ (now_active y' did.group.active ∙ sym known) (rw there.group did.group.activations))
       _ (λ histories before. did.keeps w (histories i) (rw (there.group, there.running) at before))
+
+  -- its sample was told by reading alone
+  pub told_there : (laws : Laws M) (x : ℤ) (told : Option ℤ) → IfSome told (TellsItsOutput laws s.instance (shared_at sharing i) x)
+      → IfSome told (TellsOutput laws (tables instances sharing groups) i x)
+  told_there laws x None did = tt
+  told_there laws x (Some told) did =
+      let fits = can_be_lent.fits in
+      let active : (w : Option ℤ) (histories : ℕ → History) → AreKept laws w (tables instances sharing groups) histories → ActiveRefines laws s.instance w (shared_at sharing i) y (histories i) =
+      λ w histories kept. kept_in_slot _ _ _ _ there.in_slot there.running refl there.group laws w histories kept in
+      let here : (w : Option ℤ) (h : History) → ActiveRefines laws s.instance w (shared_at sharing i) y h → SlotRefines laws w (slot_at instances i) (shared_at sharing i) groups h =
+      λ w h refines. rw there.in_slot (rw (there.running, there.group) refines) in
+      record {
+        living = rw there.in_slot refl;
+        step = λ w ready.
+            steps_told (touched_stays (activity_at groups) _ i (there.ok.active_known _ _ there.active)) (record {
+              ok = there.ok;
+              poisoned = ready.poisoned;
+              same = same_tables instances sharing groups;
+              activity = λ k. refl;
+              keeps = λ histories kept j.
+                  elim (eqb_tells j i) [
+                    | inl e ↦ rw (e.0, e.1) (here w (with_samples (histories i) (x ∷ [])) (did.keeps y fits w (histories i) (active w histories kept)))
+                    | inr e ↦ rw e.0 (kept j)
+                  ];
+            });
+        output = λ w histories kept k at lawful.
+            let same : m ≡ k = same_Some _ _ (sym there.in_slot ∙ at) in
+            let inst : k.inst ≡ Running s = ap (λ q. q.inst) (sym same) ∙ there.running in
+            subst
+            (λ (n : Inst M). all_outputs laws.meaning (instance_of n) (with_samples (histories i) (x ∷ [])) ≡ all_outputs laws.meaning (instance_of n) (histories i) ++ (told ∷ []))
+            (sym inst) (did.output y fits w (histories i) (rw inst at lawful) (active w histories kept));
+      }
 
   pub ran_gives : {laws : Laws M} {input out : List ℤ} (s' : Active M) (sharing' : List Locations) (y' : Group) → RanSharing laws i input out s s' sharing sharing' y y'
       → (w : Option ℤ) → GivesOut laws w (tables instances sharing groups) i input out

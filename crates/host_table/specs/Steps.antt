@@ -1,5 +1,5 @@
 -- What a call of the tables does.
-use Rattle.std.specs.Prelude.{ℕ, ℤ, ◌≡◌, ◌++◌, ◌∷◌, Bool, List, Option, Some}
+use Rattle.std.specs.Prelude.{ℕ, ℤ, ◌≡◌, ◌++◌, ◌∷◌, Bool, List, [], Option, Some, IsSome}
 use Rattle.ialg.specs.Meaning.{Status}
 use Rattle.ialg.specs.History.{History, Ctl, Control, with_samples}
 use Rattle.ialg.specs.Laws.{Laws}
@@ -98,6 +98,12 @@ DeactivatesIn laws w g old new = Steps laws w old new (deactivated_in old.groups
 -- instance i was activated, as Activates says, and given samples
 abbrev pub ActivatesAndFeeds : {M : Type 0} → Laws M → Option ℤ → ℕ → List ℤ → View M → View M → Type 0
 ActivatesAndFeeds laws w i samples old new = Steps laws w old new (activated_by old.instances old.groups i) (given i samples)
+
+-- what instance i gives for a sample was told by reading alone: it lives, and the tables are as they are once it was given the sample
+pub record TellsOutput {M : Type 0} (laws : Laws M) (t : View M) (i : ℕ) (x told : ℤ) : Type 0 where
+  pub living : IsSome (slot_at t.instances i)
+  pub step : (w : Option ℤ) → Ready w t → ActivatesAndFeeds laws w i (x ∷ []) t t
+  pub output : (w : Option ℤ) → GivesOut laws w t i (x ∷ []) (told ∷ [])
 
 -- instance i was activated, as Activates says, and given a control
 abbrev pub ActivatesAndControls : {M : Type 0} → Laws M → Option ℤ → ℕ → Ctl → View M → View M → Type 0

@@ -34,6 +34,10 @@ pub record CanBeLent {M : Type 0} (s : Instance M) (sharing : List Locations) (i
   pub owners : HasOwners sharing i
   pub fits : Fits s.table s.own (shared_at sharing i) g
 
+-- the same, of the group that it is in
+abbrev pub CanBeRead : {M : Type 0} → Instance M → List Locations → ℕ → Type 0
+CanBeRead s sharing i = (g : Group) × CanBeLent s sharing i g
+
 -- the new instance of this number has locations and owners for its records, which have their places
 pub record CanBegin {M : Type 0} (s : Instance M) (sharing : List Locations) (i : ℕ) (g : Group) : Type 0 where
   pub number : i < length sharing

@@ -4,10 +4,12 @@ ghost use Rattle.ialg.specs.Views.{control_of, answer_of};
 ghost use Rattle.scratch_group.specs.Readers.{IsReader};
 ghost use Rattle.scratch_group.specs.ShortLoans.{IsShortLoan};
 ghost use Rattle.lifecycle.specs.States.{FitsIn};
+ghost use Rattle.lifecycle.specs.Keeping.{TellsOutput as TellsItsOutput};
+ghost use Rattle.host_shared.specs.Locations.{shared_at};
 ghost use Rattle.host_shared.specs.Owners.{OnlyItsPiecesChange};
 ghost use Rattle.host_table.specs.Table.{slot_at, group_of, activity_at, newly_active_in, HasShortLoan, IsActiveAt, IsIdleAt};
-ghost use Rattle.host_table.specs.Steps.{Ready, Stays, given, GivesOut, AnswersTo, AreConsistent, ActivatesAndControls, ActivatesAndFeeds, SaysWhetherTaken};
-ghost use Rattle.host_table.specs.Turns.{CanBeLent, ActivatedAndRan, ActivatedAndRanSharing, AnswersInAnyHost, GivesOutInAnyHost, ObeysInAnyHost, RanSharing, StepsInAnyHost};
+ghost use Rattle.host_table.specs.Steps.{Ready, Stays, given, GivesOut, AnswersTo, AreConsistent, ActivatesAndControls, ActivatesAndFeeds, SaysWhetherTaken, TellsOutput};
+ghost use Rattle.host_table.specs.Turns.{CanBeLent, CanBeRead, ActivatedAndRan, ActivatedAndRanSharing, AnswersInAnyHost, GivesOutInAnyHost, ObeysInAnyHost, RanSharing, StepsInAnyHost};
 
 use crate::member::make_active;
 use crate::tables::Tables;
@@ -63,6 +65,32 @@ fn run_reading<M: Ialg>(
     let at = owner(sharing, i as usize, ONCE);
     match &mut sharing[at].s1 {
         Location::Here(once) => active.run_reading(sizes, once, group, input, out),
+        Location::At(_owner) => unreachable!(),
+    }
+}
+
+/// What a reader, which is active, gives for the one sample `x`, where its kind tells it by reading alone. None: the instance has to be run.
+///
+/// Inlined, as [`run_reading`] is.
+#[inline(always)]
+fn tell_reading<M: Ialg>(
+    active: &Active<M>,
+    sizes: ReaderSizes,
+    sharing: &Vec<Locations>,
+    i: u8,
+    x: i16,
+) -> Option<i16>
+    requires lent { CanBeRead active.now.instance sharing.now.items i }
+    requires reader { IsReader active.now.instance.table sizes }
+    ensures told { IfSome result (TellsItsOutput M.law active.now.instance (shared_at sharing.now.items i) x) }
+{
+    // a reader of the object alone has no record to tell a sample by
+    if active.instance.table.len() != ONCE + 1 {
+        return None;
+    }
+    let at_owner = owner(sharing, i as usize, ONCE);
+    match &sharing[at_owner].s1 {
+        Location::Here(once) => active.process_sample(sizes, once, x),
         Location::At(_owner) => unreachable!(),
     }
 }
@@ -320,6 +348,29 @@ impl<M: Ialg> Tables<M> {
                 Inst::Idling(_) => None,
             },
             _ => None,
+        }
+    }
+
+    /// What an active instance that has this short loan gives for the one sample `x`, where that is told by reading its records alone, as
+    /// [`Ialg::process_sample`] does: it has taken the sample then, as [`process_short`](Tables::process_short) would have given it. None:
+    /// it has to be given the sample.
+    ///
+    /// Inlined, since it is less work than a call.
+    #[inline(always)]
+    pub fn process_sample(&self, i: u8, loan: ShortLoan, x: i16) -> Option<i16>
+        requires short { HasShortLoan (slot_at self.now.instances i) loan }
+        requires ok { AreConsistent self.now }
+        ensures told { IfSome result (TellsOutput M.law self.now i x) }
+    {
+        let ShortLoan::Reader(sizes) = loan else {
+            return None;
+        };
+        match &self.instances[i as usize] {
+            Some(member) => match &member.inst {
+                Inst::Running(active) => tell_reading(active, sizes, &self.sharing, i, x),
+                Inst::Idling(_idle) => unreachable!(),
+            },
+            None => unreachable!(),
         }
     }
 

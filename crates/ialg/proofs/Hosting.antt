@@ -97,13 +97,13 @@ module _ (kind : ℤ) (asked : Option FilterMemory) where
     placed_same wss wss' placed e = record { memory = placed.memory; granted = placed.granted; valid = placed.valid; object = rw e placed.object; none_once = placed.none_once }
 
     -- what an idle instance keeps, it keeps whatever the scratch words are
-    pub awake : (rests : List ℤ → Type 0) (wss : List (List ℤ)) → IsIdle kind asked rests rs (lasting rs wss) → IsIdle kind asked rests rs wss
-    awake rests wss idle =
+    pub with_scratch : (rests : List ℤ → Type 0) (wss : List (List ℤ)) → IsIdle kind asked rests rs (lasting rs wss) → IsIdle kind asked rests rs wss
+    with_scratch rests wss idle =
         let at = lasting_at rs (filter_records idle.placed.memory) idle.placed.object.on_table wss in
         record { placed = placed_same (lasting rs wss) wss idle.placed (sym (at 0)); keeps = subst rests (at 1) idle.keeps }
 
-    pub asleep : (rests : List ℤ → Type 0) (wss : List (List ℤ)) → IsIdle kind asked rests rs wss → IsIdle kind asked rests rs (lasting rs wss)
-    asleep rests wss idle =
+    pub without_scratch : (rests : List ℤ → Type 0) (wss : List (List ℤ)) → IsIdle kind asked rests rs wss → IsIdle kind asked rests rs (lasting rs wss)
+    without_scratch rests wss idle =
         let at = lasting_at rs (filter_records idle.placed.memory) idle.placed.object.on_table wss in
         record { placed = placed_same wss (lasting rs wss) idle.placed (at 0); keeps = subst rests (sym (at 1)) idle.keeps }
 

@@ -73,6 +73,15 @@ module _ {M : Type 0} (laws : Laws M) (kind : M) where
       → laws.active_refines kind p old.table.now (lent_words new) (with_samples h input)
       × (outputs_of laws.meaning kind p (with_samples h input) ≡ outputs_of laws.meaning kind p h ++ out)
 
+  -- process, told by reading alone: an active instance whose records have these words keeps the sample behind what it kept, in the same words,
+  -- and gives out what was told by its meaning
+  abbrev pub TellsOutput : List (List ℤ) → (x told : ℤ) → Type 0
+  TellsOutput words x told = (p : List ℤ) (w : Option ℤ) (h : History) (rs : List MemRec) → IsTrue (laws.meaning.lawful kind p w)
+      → AllLent rs words
+      → laws.active_refines kind p rs words h
+      → laws.active_refines kind p rs words (with_samples h (x ∷ []))
+      × (outputs_of laws.meaning kind p (with_samples h (x ∷ [])) ≡ outputs_of laws.meaning kind p h ++ (told ∷ []))
+
   -- algDeactivate: what an active instance keeps in all its records, an idle one keeps in those that last afterwards
   abbrev pub SavesScratch : (old new : Lent) → Type 0
   SavesScratch old new = (p : List ℤ) (w : Option ℤ) (h : History) → IsTrue (laws.meaning.lawful kind p w)

@@ -79,6 +79,14 @@ impl<A: Ialg, B: Ialg> Ialg for Or<A, B> {
         }
     }
 
+    #[inline(always)]
+    fn process_sample(&self, object: &[i16], once: &[i16], x: i16) -> Option<i16> {
+        match self {
+            Or::First(kind) => kind.process_sample(object, once, x),
+            Or::Second(kind) => kind.process_sample(object, once, x),
+        }
+    }
+
     fn alg_deactivate(&self, mem: &mut Lent<'_>) {
         match self {
             Or::First(kind) => kind.alg_deactivate(mem),

@@ -22,28 +22,28 @@ module _ {M : Type 0} (laws : Laws M) (kind : M) (rs : List MemRec) where
       subst (λ (wss : List (List ℤ)). laws.idle_refines kind p rs wss []) (lasting_idle rs own' shared')
       (done w lawful is (lasting_lent rs own shared g f.lent) refl new)
 
-  pub woken : (own own' shared shared' : Pieces) (g g' : Group) → Fits rs own shared g
+  pub activated_keeps : (own own' shared shared' : Pieces) (g g' : Group) → Fits rs own shared g
       → Activated laws kind rs false (active_words rs own shared g) (active_words rs own' shared' g')
       → (p : List ℤ) (w : Option ℤ) (h : History) → IsTrue (laws.meaning.lawful kind p w) → BlocksArePoison w g
       → laws.idle_refines kind p rs (idle_words rs own shared) h → laws.active_refines kind p rs (active_words rs own' shared' g') h
-  woken own own' shared shared' g g' f done p w h lawful poison keeps =
+  activated_keeps own own' shared shared' g g' f done p w h lawful poison keeps =
       done p w h lawful refl f.lent (scratch_is_poison w rs own shared g poison)
       (subst (λ (wss : List (List ℤ)). laws.idle_refines kind p rs wss h) (sym (lasting_active rs own shared g)) keeps)
 
-  pub woken_and_run : (own own' shared shared' : Pieces) (g g' : Group) (input out : List ℤ) → Fits rs own shared g
+  pub activated_and_ran_keeps : (own own' shared shared' : Pieces) (g g' : Group) (input out : List ℤ) → Fits rs own shared g
       → ActivatedAndRan laws kind input rs false (active_words rs own shared g) (active_words rs own' shared' g') out
       → (p : List ℤ) (w : Option ℤ) (h : History) → IsTrue (laws.meaning.lawful kind p w) → BlocksArePoison w g
       → laws.idle_refines kind p rs (idle_words rs own shared) h
       → laws.active_refines kind p rs (active_words rs own' shared' g') (with_samples h input) × (outputs_of laws.meaning kind p (with_samples h input) ≡ outputs_of laws.meaning kind p h ++ out)
-  woken_and_run own own' shared shared' g g' input out f done p w h lawful poison keeps =
+  activated_and_ran_keeps own own' shared shared' g g' input out f done p w h lawful poison keeps =
       done p w h lawful refl f.lent (scratch_is_poison w rs own shared g poison)
       (subst (λ (wss : List (List ℤ)). laws.idle_refines kind p rs wss h) (sym (lasting_active rs own shared g)) keeps)
 
-  pub rested : (own own' shared shared' : Pieces) (g g' : Group) → Fits rs own shared g
+  pub deactivated_keeps : (own own' shared shared' : Pieces) (g g' : Group) → Fits rs own shared g
       → Deactivated laws kind rs false (active_words rs own shared g) (active_words rs own' shared' g')
       → (p : List ℤ) (w : Option ℤ) (h : History) → IsTrue (laws.meaning.lawful kind p w)
       → laws.active_refines kind p rs (active_words rs own shared g) h → laws.idle_refines kind p rs (idle_words rs own' shared') h
-  rested own own' shared shared' g g' f done p w h lawful keeps =
+  deactivated_keeps own own' shared shared' g g' f done p w h lawful keeps =
       subst (λ (wss : List (List ℤ)). laws.idle_refines kind p rs wss h) (lasting_active rs own' shared' g') (done p w h lawful refl f.lent keeps)
 
   pub idle_moved : (before : List MemRec) (own own' shared shared' : Pieces) (g : Group) → unplaced before ≡ unplaced rs → Fits rs own shared g

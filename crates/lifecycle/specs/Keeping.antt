@@ -10,7 +10,7 @@ use Rattle.scratch_group.specs.Blocks.{BlocksArePoison}
 use Rattle.scratch_group.specs.Words.{idle_words}
 use Rattle.record_loans.specs.declared.pieces.Pieces.{Pieces}
 use Rattle.lifecycle.specs.declared.instance.Instance.{Instance}
-use Rattle.lifecycle.specs.States.{IsLawful, Accepts, IdleRefines, ActiveRefines, all_outputs, status_after}
+use Rattle.lifecycle.specs.States.{FitsIn, IsLawful, Accepts, IdleRefines, ActiveRefines, all_outputs, status_after}
 
 -- an instance with new records of its kind's table is started: it keeps the empty history
 abbrev pub Begins : {M : Type 0} → Laws M → Instance M → Pieces → Instance M → Pieces → Type 0
@@ -46,6 +46,12 @@ GivesOut laws s shared g samples out = (w : Option ℤ) (h : History) → IsLawf
     → ActiveRefines laws s w shared g h
     → all_outputs laws.meaning s (with_samples h samples)
     ≡ all_outputs laws.meaning s h ++ out
+
+-- what an active instance gives for a sample was told by reading alone: whatever the blocks of its group hold, it keeps the sample too, and gives
+-- out what was told
+pub record TellsOutput {M : Type 0} (laws : Laws M) (s : Instance M) (shared : Pieces) (x told : ℤ) : Type 0 where
+  pub keeps : (g : Group) → FitsIn s shared g → Takes laws s shared g (x ∷ []) s shared g
+  pub output : (g : Group) → FitsIn s shared g → GivesOut laws s shared g (x ∷ []) (told ∷ [])
 
 -- an idle instance becomes an active one that keeps these samples behind what it kept
 abbrev pub BecomesActiveAndTakes : {M : Type 0} → Laws M → Instance M → Pieces → Group → List ℤ → Instance M → Pieces → Group → Type 0

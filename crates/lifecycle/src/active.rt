@@ -1,19 +1,20 @@
 //! Active instances.
-ghost use Rattle.std.specs.Prelude.{◌≡◌, ◌≤◌, [], length, Some, IsSome};
+ghost use Rattle.std.specs.Prelude.{◌≡◌, ◌≤◌, [], length, Some, IfSome, IsSome};
 ghost use Rattle.ialg.specs.Views.{control_of, answer_of};
 ghost use Rattle.scratch_group.specs.Blocks.{SameGroup};
 ghost use Rattle.scratch_group.specs.Filters.{IsFilter};
 ghost use Rattle.scratch_group.specs.Readers.{IsReader};
+ghost use Rattle.record_loans.specs.Loans.{ReaderFits};
 ghost use Rattle.record_loans.specs.Pieces.{no_pieces, only_second, piece_at, IsSamePiece, SamePieces};
 ghost use Rattle.lifecycle.specs.Moves.{CanRestore, with_back, HasRoom, without_piece, ComesBack};
 ghost use Rattle.lifecycle.specs.States.{FitsIn, SameInstance, SameOnce, SaysWhetherAccepted};
-ghost use Rattle.lifecycle.specs.Keeping.{StaysActive, BecomesIdle, Takes, GivesOut, Obeys, Answers};
+ghost use Rattle.lifecycle.specs.Keeping.{StaysActive, BecomesIdle, Takes, GivesOut, TellsOutput, Obeys, Answers};
 
 use crate::Idle;
 use crate::instance::{Instance, restore};
 use crate::steps::{Command, Deactivate, Move, Process};
 use ialg::{BLOCK_SAMPLES, Block, Ctl, Ialg, Status};
-use record_loans::{FilterSizes, Pieces, ReaderSizes};
+use record_loans::{FilterSizes, Pieces, ReaderSizes, first_words};
 use scratch_group::{Group, rebase};
 use space_raw::Piece;
 
@@ -117,6 +118,23 @@ impl<M: Ialg> Active<M> {
             once,
             out,
         );
+    }
+
+    /// What a reader gives for the one sample `x`, where its kind tells it by the words of its records alone, as
+    /// [`process_sample`](Ialg::process_sample) does: it has taken the sample then. None: it has to be [run](Active::run).
+    #[inline(always)]
+    pub fn process_sample(&self, sizes: ReaderSizes, once: &Option<Piece>, x: i16) -> Option<i16>
+        requires reader { IsReader self.now.instance.table sizes }
+        requires fit { ReaderFits sizes self.now.instance.own once.now }
+        ensures told { IfSome result (TellsOutput M.law self.now.instance (only_second once.now) x) }
+    {
+        // without a piece to read there is nothing to tell a sample by
+        if once.is_none() {
+            return None;
+        }
+        let object = first_words(&self.instance.own.p0, sizes.object);
+        let words = first_words(once, sizes.once);
+        self.instance.kind.process_sample(object, words, x)
     }
 
     /// Whether the instance takes the control.

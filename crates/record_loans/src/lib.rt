@@ -17,5 +17,5 @@ pub use loans::{
     PlannedLoan, lend_filter, lend_reader, lend_sharing_filter, lend_with_blocks,
     lend_without_blocks,
 };
-pub use pieces::{Pieces, end_absent, place_of};
+pub use pieces::{Pieces, end_absent, first_words, place_of};
 pub use plan::{CONSTANTS, Cut, FilterSizes, ONCE, Plan, ReaderSizes, SharingSizes, Source};

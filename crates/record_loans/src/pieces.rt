@@ -1,5 +1,5 @@
 //! The pieces of an instance's records.
-ghost use Rattle.std.specs.Prelude.{◌≡◌, ◌≤◌, ◌<◌, Option, Some, None, IsSome, length};
+ghost use Rattle.std.specs.Prelude.{◌≡◌, ◌≤◌, ◌<◌, Option, Some, None, IsSome, length, take};
 ghost use Rattle.mem_rec.specs.declared.TheConstants.{TABLE_RECORDS};
 ghost use Rattle.record_loans.specs.Pieces.{no_pieces, piece_at, with_piece, piece_words, piece_place, IsInSpace};
 
@@ -109,6 +109,18 @@ pub fn place_of(piece: &Option<Piece>) -> u16
             p.place() as u16
         }
         None => unreachable!(),
+    }
+}
+
+/// The first `n` words of a piece, and none where there is no piece.
+#[inline(always)]
+pub fn first_words(piece: &Option<Piece>, n: usize) -> &[i16]
+    requires { n ≤ length (piece_words piece.now) }
+    ensures { result.now ≡ take n (piece_words piece.now) }
+{
+    match piece {
+        Some(piece) => &piece.words()[..n],
+        None => &[],
     }
 }
 

@@ -67,7 +67,7 @@ gap_fits : (b at n : ℕ) (block : List ℤ) → b ≤ at → (n ≡ 0 → at �
 gap_fits b at zero block h none long = let e = none refl in omega (arith, length-drop b block)
 gap_fits b at (suc n) block h none long = omega (arith, length-drop b block, length-drop at block, length-take (suc n) (drop at block))
 
-take_fits : (n : ℕ) (xs : List ℤ) → length (take n xs) ≡ n → n ≤ length xs
+pub take_fits : (n : ℕ) (xs : List ℤ) → length (take n xs) ≡ n → n ≤ length xs
 take_fits n xs h = omega (arith, length-take n xs)
 
 fits_is : (a : Attr) (sp : Space) (n at : ℕ) (e : Space → ℕ) (D : Space → List ℤ) (own shared : Option Span) → e sp ≤ at → (n ≡ 0 → at ≡ e sp)

@@ -6,16 +6,17 @@ use Rattle.mem_rec.specs.Records.{is_table}
 use Rattle.ialg.specs.Records.{record_at}
 use Rattle.record_loans.specs.declared.plan.ReaderSizes.{ReaderSizes}
 use Rattle.record_loans.specs.Cuts.{reader_words}
+use Rattle.record_loans.specs.Loans.{ReaderFits}
 use Rattle.record_loans.specs.declared.pieces.Pieces.{Pieces}
 use Rattle.record_loans.specs.Pieces.{piece_words}
 use Rattle.record_loans.specs.Blocks.{block_words}
 use Rattle.scratch_group.specs.declared.group.Group.{Group}
 use Rattle.scratch_group.specs.Blocks.{block_in}
-use Rattle.scratch_group.specs.Words.{scratch_offset, words_by, record_words, active_words, lasting_words_by, idle_record_words, idle_words}
+use Rattle.scratch_group.specs.Words.{scratch_offset, words_by, record_words, active_words, lasting_words_by, idle_record_words, idle_words, HasWords}
 use Rattle.scratch_group.specs.Readers.{IsOfReader}
 use Rattle.scratch_group.proofs.Ends.{blank_at, persistent_once, blank_once}
 use Rattle.ialg.proofs.Tables.{object_attr}
-use Rattle.scratch_group.proofs.Cutting.{either, object_words}
+use Rattle.scratch_group.proofs.Cutting.{either, object_words, take_fits}
 
 module _ (rs : List MemRec) (n : ReaderSizes) (t : IsTrue (is_table rs)) (f : IsOfReader rs n) (own shared : Pieces) (g : Group) where
   object_is : record_words rs own shared g 0 ≡ take n.object (piece_words own.p0)
@@ -39,6 +40,13 @@ module _ (rs : List MemRec) (n : ReaderSizes) (t : IsTrue (is_table rs)) (f : Is
 
   pub reader_lent : active_words rs own shared g ≡ reader_words n (piece_words own.p0) (piece_words shared.p1)
   reader_lent = rw (object_is, once_is, third_is, last_is) refl
+
+  -- where each record has its words, they stand in the pieces
+  pub reader_fits : HasWords rs own shared g → ReaderFits n own shared.p1
+  reader_fits has = record {
+    object = take_fits n.object (piece_words own.p0) (ap length (sym object_is) ∙ has 0 ∙ f.object);
+    once = take_fits n.once (piece_words shared.p1) (ap length (sym once_is) ∙ has 1 ∙ f.once);
+  }
 
 module _ (rs : List MemRec) (n : ReaderSizes) (t : IsTrue (is_table rs)) (f : IsOfReader rs n) (own shared : Pieces) where
   object_at_rest : idle_record_words rs own shared 0 ≡ take n.object (piece_words own.p0)

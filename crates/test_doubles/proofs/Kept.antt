@@ -22,8 +22,8 @@ pub once_lasts : (rs : List MemRec) (wss : List (List ℤ)) (k : ℕ) → (recor
 once_lasts rs wss k once = words_of-lasting rs wss k ∙ ap (λ a. lasting_words a (words_of wss k)) once
 
 -- what is kept of the words that last
-pub asleep : (p : List ℤ) (rs : List MemRec) (wss : List (List ℤ)) (h : History) → KeepsWords p rs wss h → KeepsWords p rs (lasting rs wss) h
-asleep p rs wss h keeps =
+pub without_scratch : (p : List ℤ) (rs : List MemRec) (wss : List (List ℤ)) (h : History) → KeepsWords p rs wss h → KeepsWords p rs (lasting rs wss) h
+without_scratch p rs wss h keeps =
     let at = lasting_at rs primed_records keeps.object.on_table wss in
     record {
       two = keeps.two;

@@ -13,8 +13,8 @@ use Rattle.test_doubles.proofs.Kept.{once_lasts}
 use Rattle.test_doubles.specs.Slicer.{slicer_records, slicer_fill, slicer_gives, sliced, HoldsLevels, SpreadsLevels, IsSpread}
 
 -- the levels last
-pub asleep : (p : List ℤ) (rs : List MemRec) (wss : List (List ℤ)) (h : History) → HoldsLevels p rs wss h → HoldsLevels p rs (lasting rs wss) h
-asleep p rs wss h keeps = record {
+pub without_scratch : (p : List ℤ) (rs : List MemRec) (wss : List (List ℤ)) (h : History) → HoldsLevels p rs wss h → HoldsLevels p rs (lasting rs wss) h
+without_scratch p rs wss h keeps = record {
   two = keeps.two;
   history = keeps.history;
   object = rw (lasting_at rs slicer_records keeps.object.on_table wss 0) keeps.object;

@@ -1,4 +1,4 @@
--- Where the records of a primed instance begin, what they hold, and that it has started or is awake.
+-- Where the records of a primed instance begin, what they hold, and that it has started or is active.
 use Rattle.std.specs.Prelude.{ℤ, List, [], ◌∷◌}
 use Rattle.mem_rec.specs.declared.MemRec.{MemRec}
 use Rattle.mem_rec.specs.Records.{with_base}

@@ -71,6 +71,13 @@ impl Ialg for Trial {
         }
     }
 
+    fn process_sample(&self, object: &[i16], once: &[i16], x: i16) -> Option<i16> {
+        match self {
+            Trial::Lawful(voice) => voice.process_sample(object, once, x),
+            Trial::Scribbler => Some(x),
+        }
+    }
+
     fn alg_deactivate(&self, mem: &mut Lent<'_>) {
         match self {
             Trial::Lawful(voice) => voice.alg_deactivate(mem),

@@ -127,11 +127,11 @@ pub fn activate_in_poison(poison: i16, once: i16) -> Option<Active>
     ensures { MatchOption result ⊥ (λ active. IsActive poison once active) }
 {
     let held = start_in_poison(poison, once)?;
-    awoken(poison, once, held)
+    activated(poison, once, held)
 }
 
 /// Activates a started instance.
-fn awoken(poison: i16, once: i16, held: Held) -> Option<Active>
+fn activated(poison: i16, once: i16, held: Held) -> Option<Active>
     requires { HasStarted poison once held }
     ensures { MatchOption result ⊥ (λ active. IsActive poison once active) }
 {

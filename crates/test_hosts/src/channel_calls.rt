@@ -20,6 +20,8 @@ pub(crate) enum Call<'a> {
     Ready(u8, Outcome),
     /// A block of samples for a channel, and what it gives for them.
     Feed(u8, &'a [i16], &'a [i16]),
+    /// A sample for a channel, and what it tells for it; where it tells nothing, what it gives.
+    FeedSample(u8, i16, Option<i16>, &'a [i16]),
     /// An instance is asked for its words.
     Get(u8, &'a [i16]),
     /// An instance is given words, which are refused.
@@ -43,6 +45,7 @@ impl Call<'_> {
             Call::Unchain(c, answer) => channels.unchain(*c) == *answer,
             Call::Ready(c, answer) => channels.ready(*c) == *answer,
             Call::Feed(c, input, output) => gives(channels, *c, input, output),
+            Call::FeedSample(c, x, told, output) => gives_sample(channels, *c, *x, *told, output),
             _ => self.holds_of_instances(channels),
         }
     }
@@ -89,6 +92,22 @@ fn gives(channels: &mut Channels<Trial>, c: u8, input: &[i16], output: &[i16]) -
     let mut given = Block::new();
     channels.feed(c, input, &mut given);
     given.as_slice() == output
+}
+
+// Whether a channel can be fed, and tells this for a sample, or gives this.
+fn gives_sample(
+    channels: &mut Channels<Trial>,
+    c: u8,
+    x: i16,
+    told: Option<i16>,
+    output: &[i16],
+) -> bool {
+    if channels.ready(c).is_err() {
+        return false;
+    }
+    let mut given = Block::new();
+    let answer = channels.feed_sample(c, x, &mut given);
+    answer == told && (answer.is_some() || given.as_slice() == output)
 }
 
 /// Makes the calls one after the other: each is to be answered as it says.

@@ -1,8 +1,8 @@
 //! Channels of trial kinds, by numbers.
 
 use crate::channel_calls::Call::{
-    self, Chain, Compact, Copied, Create, Delete, Feed, Get, Map, Ready, Release, SetRefused, Stat,
-    Step, Unchain,
+    self, Chain, Compact, Copied, Create, Delete, Feed, FeedSample, Get, Map, Ready, Release,
+    SetRefused, Stat, Step, Unchain,
 };
 use crate::channel_calls::make;
 use crate::feed_in_two;
@@ -20,6 +20,8 @@ const FIR: Trial = Trial::Lawful(Voice::Fir);
 const DECIM: Trial = Trial::Lawful(Voice::Decim);
 
 const BIQUAD: Trial = Trial::Lawful(Voice::Biquad);
+
+const G711: Trial = Trial::Lawful(Voice::G711);
 
 // The mean of a sample and the one before it.
 const MEAN: [i16; 2] = [16_384, 16_384];
@@ -78,6 +80,39 @@ fn two_channels_work_in_one_block_by_turns(rt: HostRuntime) {
         Stat(0, Ok((None, 4))),
     ];
     run(&rt, rt.alloc(), 1_028, 2, &calls);
+}
+
+// An active decoder tells what a code gives, and nobody else does: not an idle one, nor an encoder, a filter, or one of two members.
+#[test]
+fn an_active_decoder_tells_what_a_code_gives(rt: HostRuntime) {
+    let calls = [
+        Create(0, G711, 0, &[1, 1], Ok(())),
+        Create(1, G711, 1, &[1, 0], Ok(())),
+        Create(2, FIR, 2, &MEAN, Ok(())),
+        Create(3, G711, 0, &[1, 1], Ok(())),
+        Create(4, G711, 3, &[0, 1], Ok(())),
+        Chain(0, &[0], Ok(())),
+        Chain(1, &[1], Ok(())),
+        Chain(2, &[2], Ok(())),
+        Chain(3, &[3, 4], Ok(())),
+        FeedSample(0, 0, None, &[-32_124]),
+        FeedSample(0, 0, Some(-32_124), &[]),
+        FeedSample(0, 0x0180, Some(32_124), &[]),
+        FeedSample(0, -1, Some(0), &[]),
+        Stat(0, Ok((Some(0), 1))),
+        FeedSample(1, 0, None, &[255]),
+        FeedSample(1, 0, None, &[255]),
+        FeedSample(2, 2, None, &[1]),
+        FeedSample(2, 2, None, &[2]),
+        FeedSample(3, 255, None, &[-5_504]),
+        FeedSample(3, 255, None, &[-5_504]),
+        FeedSample(0, 0, None, &[-32_124]),
+        FeedSample(0, 0, Some(-32_124), &[]),
+        Stat(0, Ok((Some(0), 3))),
+        Release(0, Ok(true)),
+        FeedSample(0, 0, None, &[-32_124]),
+    ];
+    run(&rt, rt.alloc(), 1_028, 5, &calls);
 }
 
 // A channel's filter is fed while another one joins its group, which then needs a block of 1,032 words.

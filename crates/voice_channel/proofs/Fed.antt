@@ -1,6 +1,6 @@
 -- Blocks of samples that pass through members.
-use Rattle.std.proofs.Common.{◌≡◌, ◌<◌, ◌≤◌, ℕ, ℤ, zero, suc, Bool, true, false, List, [], ◌∷◌, length, ◌==◌, ◌-◌, get_or, take, drop, None, refl, ap, sym, ◌∙◌, subst, nat_eq, arith}
-use Rattle.std.specs.Prelude.{not}
+use Rattle.std.proofs.Common.{◌≡◌, ◌<◌, ◌≤◌, ℕ, ℤ, zero, suc, Bool, true, false, List, [], ◌∷◌, length, ◌==◌, ◌-◌, get_or, take, drop, Option, Some, None, refl, ap, sym, ◌∙◌, subst, nat_eq, arith}
+use Rattle.std.specs.Prelude.{not, IfNone, IfSome}
 use Rattle.std.specs.List.{list_all}
 use Rattle.std.proofs.Math.Nat.{not-suc-le-zero}
 use Rattle.std.proofs.lemmas.List.{take_all}
@@ -29,6 +29,12 @@ use Rattle.voice_channel.proofs.Served.{HoldsOn}
 pub first_before : (is : List ℕ) → 1 ≤ length is → is ≡ get_or is 0 0 ∷ take (length is - 1) (drop 1 is)
 first_before [] b = absurd (omega arith)
 first_before (i ∷ is) b = sym (ap (λ js. i ∷ js) (take_all (length (i ∷ is) - 1) is (omega arith)))
+
+-- a list of one number
+pub one_alone : (is : List ℕ) → 1 ≤ length is → length is < 2 → is ≡ get_or is 0 0 ∷ []
+one_alone [] some few = absurd (omega arith)
+one_alone (i ∷ []) some few = refl
+one_alone (i ∷ j ∷ is) some few = absurd (omega arith)
 
 -- a list with two is these before the others
 pub first_two_before : (is : List ℕ) → 2 ≤ length is → is ≡ get_or is 0 0 ∷ get_or is 1 0 ∷ take (length is - 2) (drop 2 is)
@@ -134,3 +140,16 @@ module _ {M : Type 0} (laws : Laws M) where
         (subst (λ is. Passes laws.meaning before.host is block out end.0) (sym its) end.1) in
         let does : Feeds laws.meaning before c block out after = (ready_of before c (ap is_chained its ∙ some), asked.0, asked.1, asked.2, refl) in
         (after, does, record { host = end.2; chained = keeps.chained ∙ sym same; held = law before after (Feed c block out) does keeps.held })
+
+    -- of a sample: where it was told, and where it was not
+    pub fed_told : (c : ℕ) (x : ℤ) (told : Option ℤ) (old new : ChannelsState M) → is_chained (members_at old.chained c) ≡ true → new.chained ≡ old.chained
+        → IfSome told (λ y. PassesThrough laws (members_at old.chained c) (x ∷ []) (y ∷ []) old.host new.host)
+        → IfSome told (λ y. ChannelsCallRefines laws (Feed c (x ∷ []) (y ∷ [])) old new)
+    fed_told c x None old new some same through = tt
+    fed_told c x (Some y) old new some same through = fed c (x ∷ []) (y ∷ []) old new some same through
+
+    pub fed_untold : (c : ℕ) (x : ℤ) (out : List ℤ) (told : Option ℤ) (old new : ChannelsState M) → is_chained (members_at old.chained c) ≡ true → new.chained ≡ old.chained
+        → IfNone told (PassesThrough laws (members_at old.chained c) (x ∷ []) out old.host new.host)
+        → IfNone told (ChannelsCallRefines laws (Feed c (x ∷ []) out) old new)
+    fed_untold c x out None old new some same through = fed c (x ∷ []) out old new some same through
+    fed_untold c x out (Some y) old new some same through = tt

@@ -1,5 +1,5 @@
 //! How blocks of samples pass through channels.
-ghost use Rattle.std.specs.Prelude.{◌≡◌, ◌≤◌, ◌<◌, true, ◌∷◌, [], length, map};
+ghost use Rattle.std.specs.Prelude.{◌≡◌, ◌≤◌, ◌<◌, true, ◌∷◌, [], length, map, IfNone, IfSome};
 ghost use Rattle.channel_spec.specs.Channels.{members_at, is_chained};
 ghost use Rattle.channel_spec.specs.Calls.Call.{Feed};
 ghost use Rattle.voice_channel.specs.Channels.{PassesThrough, ChannelsCallRefines};
@@ -73,6 +73,28 @@ fn run_alone<M: Ialg>(host: &mut Host<M>, member: u8, block: &[i16], given: &mut
     }
 }
 
+/// Gives the one member of a channel a sample: some sample is what it told, without being given it. None: what it gave takes the place of
+/// what `given` held.
+#[inline(always)]
+fn run_sample<M: Ialg>(host: &mut Host<M>, member: u8, x: i16, given: &mut Block) -> Option<i16>
+    ensures bounded { length given.new.items ≤ 1 }
+    ensures told { IfSome result (λ y. PassesThrough M.law (member ∷ []) (x ∷ []) (y ∷ []) host.old host.new) }
+    ensures passes { IfNone result (PassesThrough M.law (member ∷ []) (x ∷ []) given.new.items host.old host.new) }
+{
+    given.clear();
+    let Some(loan) = host.short_loan(member) else {
+        run(host, member, &[x], given);
+        return None;
+    };
+    match host.process_sample(member, loan, x) {
+        Some(told) => Some(told),
+        None => {
+            host.process_short(member, loan, &[x], given);
+            None
+        }
+    }
+}
+
 /// Passes the block that stands in `from` through a member and those behind it. They fill the two blocks by turns, but for the last, which
 /// gives to `out`.
 fn pass_on<M: Ialg>(
@@ -131,6 +153,28 @@ fn pass<M: Ialg>(
 }
 
 impl<M: Ialg> Channels<M> {
+    /// Gives the one sample `x` to a channel, as [`feed`](Channels::feed) does. Some sample is what the channel gave, and `out` tells nothing
+    /// then. None: what it gave, one sample or none, takes the place of what `out` held.
+    ///
+    /// A channel whose one member tells its output by reading its records alone, as an active decoder does, has no block to fill.
+    #[inline(always)]
+    pub fn feed_sample(&mut self, c: u8, x: i16, out: &mut Block) -> Option<i16>
+        requires ready { is_chained (members_at self.old.chained c) ≡ true }
+        ensures chained { self.new.chained ≡ self.old.chained }
+        ensures bounded { length out.new.items ≤ 1 }
+        ensures told { IfSome result (λ y. ChannelsCallRefines M.law (Feed c (x ∷ []) (y ∷ [])) self.old self.new) }
+        ensures machine { IfNone result (ChannelsCallRefines M.law (Feed c (x ∷ []) out.new.items) self.old self.new) }
+    {
+        members_live_in_one_channel::<M>();
+        match members_of(&self.channels, c) {
+            [member] => run_sample(&mut self.host, *member, x, out),
+            members => {
+                pass(&mut self.host, members, &[x], &mut self.between, out);
+                None
+            }
+        }
+    }
+
     /// Gives a block of samples to a channel: it passes through the members in order, each taking what the one before it gave, and what
     /// the last gave takes the place of what `out` held. Where a member gives nothing, those behind it are neither activated nor run.
     #[inline(always)]

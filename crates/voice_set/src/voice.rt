@@ -109,6 +109,14 @@ impl Ialg for Voice {
         }
     }
 
+    #[inline(always)]
+    fn process_sample(&self, object: &[i16], once: &[i16], x: i16) -> Option<i16> {
+        match self {
+            Voice::G711 => G711.process_sample(object, once, x),
+            Voice::Fir | Voice::Decim | Voice::Biquad | Voice::Tone => None,
+        }
+    }
+
     fn alg_deactivate(&self, mem: &mut Lent<'_>) {
         match self {
             Voice::Fir => Fir.alg_deactivate(mem),

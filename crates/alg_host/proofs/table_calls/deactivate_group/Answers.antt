@@ -1,5 +1,5 @@
 use Rattle.std.proofs.Common.{◌<◌, arith}
-use Rattle.host_moves.proofs.KeptLemmas.{rested_kept, rest_answered}
+use Rattle.host_moves.proofs.KeptLemmas.{deactivated_kept, rest_answered}
 use Rattle.alg_host.proofs.table_calls.deactivate_group.Goals as goal
 
 pub returns-clause-machine : goal.returns-clause-machine
@@ -10,6 +10,6 @@ returns-clause-machine g c =
       _,
       rest_answered g.M.Ialg.law c.args.tables.now.instances c.args.tables.now.sharing c.args.tables.now.groups
           c.deactivate_in.new.self.instances c.deactivate_in.new.self.sharing c.deactivate_in.new.self.groups before 0 c.args.g c.deactivate_in.result lt kept did.active,
-      rested_kept g.M.Ialg.law c.args.tables.now.instances c.args.tables.now.sharing c.args.tables.now.groups
+      deactivated_kept g.M.Ialg.law c.args.tables.now.instances c.args.tables.now.sharing c.args.tables.now.groups
           c.deactivate_in.new.self.instances c.deactivate_in.new.self.sharing c.deactivate_in.new.self.groups before 0 c.args.poison c.args.g e kept did.step.same did.step.activity did.step.keeps,
     )

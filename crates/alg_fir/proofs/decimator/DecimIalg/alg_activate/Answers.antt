@@ -1,7 +1,7 @@
 use Rattle.std.proofs.Common.{sym, ap, subst, arith}
 use Rattle.ialg.specs.Loans.{lent_words}
 use Rattle.alg_fir.specs.DecimKeeps.{taps_of, KeepsPhase}
-use Rattle.alg_fir.proofs.DecimRecords.{constants_same, awake, kept_size, ring_size, finds}
+use Rattle.alg_fir.proofs.DecimRecords.{constants_same, with_scratch, kept_size, ring_size, finds}
 use Rattle.alg_fir.proofs.DecimSteps.{is_taken}
 use Rattle.alg_fir.proofs.decimator.DecimIalg.alg_activate.Goals as goal
 
@@ -9,7 +9,7 @@ pub returns-clause-law : goal.returns-clause-law
 returns-clause-law c p w h lawful closed lent poison idle =
     let m = c.args.mem.now in
     let new = c.restore_ring.new.mem in
-    let rests = awake p m.table.now (lent_words m) h idle in
+    let rests = with_scratch p m.table.now (lent_words m) h idle in
     let t = is_taken p rests.constants.taken in
     let r = c.restore_ring.ensures.restored (taps_of p) h (finds p m rests.constants lent) t.some t.few (kept_size p m rests.constants lent)
     (ring_size p m rests.constants lent) rests.past in

@@ -1,7 +1,7 @@
 use Rattle.std.proofs.Common.{ap, ◌∙◌, arith}
 use Rattle.ialg.specs.Loans.{lent_words}
 use Rattle.alg_fir.specs.DecimKeeps.{taps_of}
-use Rattle.alg_fir.proofs.DecimRecords.{constants_same, asleep, finds}
+use Rattle.alg_fir.proofs.DecimRecords.{constants_same, without_scratch, finds}
 use Rattle.alg_fir.proofs.DecimSteps.{is_taken}
 use Rattle.alg_fir.proofs.decimator.DecimIalg.alg_deactivate.Goals as goal
 
@@ -13,7 +13,7 @@ returns-clause-law c p w h lawful closed lent active =
     let r = c.save_past.ensures.saved (taps_of p) h (finds p m active.constants lent) t.some active.keeps.size active.ring in
     let constants = constants_same p m.table.now (lent_words m) (lent_words new) active.constants
     (ap (λ b. b.now) (r.0.others0 (λ e. omega arith))) (ap (λ b. b.now) (r.0.others2 (λ e. omega arith))) in
-    asleep p m.table.now (lent_words new) h (record {
+    without_scratch p m.table.now (lent_words new) h (record {
       constants = constants;
       keeps = record {
         history = active.keeps.history;

@@ -5,7 +5,7 @@ use Rattle.ialg.specs.Records.{unplaced}
 use Rattle.alg_fir.specs.Decimation.{factor}
 use Rattle.alg_fir.specs.DecimMeaning.{decim_takes, decim_records}
 use Rattle.alg_fir.specs.DecimKeeps.{taps_of, decim_kind}
-use Rattle.alg_fir.proofs.DecimRecords.{has_constants, asleep, kept_at, constants_at}
+use Rattle.alg_fir.proofs.DecimRecords.{has_constants, without_scratch, kept_at, constants_at}
 use Rattle.alg_fir.proofs.DecimSteps.{is_taken}
 use Rattle.ialg.proofs.Finding.{NamedAt-SameBut}
 use Rattle.std.proofs.Math.Nat.{zero-mod}
@@ -36,7 +36,7 @@ returns-clause-law c w lawful granted table lent writable fresh =
     (NamedAt-SameBut 2 1 m1 m2 Saram decim_kind (decim_records (taps_of p)) written.0 (λ e. omega arith) (λ e. omega arith) kept_named) in
     let object = ap (λ b. b.now) (cleared.0.others0 (λ e. omega arith)) ∙ ap (λ b. b.now) (written.0.others0 (λ e. omega arith)) in
     let constants = ap (λ b. b.now) (cleared.0.others2 (λ e. omega arith)) ∙ written.1 ∙ given in
-    asleep p tab (lent_words m3) [] (record {
+    without_scratch p tab (lent_words m3) [] (record {
       constants = has_constants p tab (lent_words m3) chose.0 (rw object names) constants;
       keeps = record {
         history = tt;

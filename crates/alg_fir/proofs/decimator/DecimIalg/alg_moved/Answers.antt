@@ -4,7 +4,7 @@ use Rattle.ialg.specs.Records.{lasting, unplaced}
 use Rattle.alg_fir.specs.Keeps.{KeepsPast, KeepsRing}
 use Rattle.alg_fir.specs.DecimMeaning.{decim_records}
 use Rattle.alg_fir.specs.DecimKeeps.{taps_of, KeepsPhase}
-use Rattle.alg_fir.proofs.DecimRecords.{has_constants, constants_are, asleep}
+use Rattle.alg_fir.proofs.DecimRecords.{has_constants, constants_are, without_scratch}
 use Rattle.ialg.proofs.Tables.{lasting_at}
 use Rattle.alg_fir.proofs.decimator.DecimIalg.alg_moved.Goals as goal
 
@@ -19,7 +19,7 @@ returns-clause-idle c p w h before lawful moved table closed lent idle =
     let names = rw records at (c.name_records.ensures.names (ap length (sym (at 0)) ∙ idle.constants.object.long)) in
     let kept = at 1 ∙ sym (ap (λ b. b.now) (c.name_records.ensures.others.others1 (λ e. omega arith))) in
     let constants = ap (λ b. b.now) (c.name_records.ensures.others.others2 (λ e. omega arith)) ∙ sym (at 2) ∙ constants_are p before wss idle.constants in
-    asleep p tab (lent_words m) h (record {
+    without_scratch p tab (lent_words m) h (record {
       constants = has_constants p tab (lent_words m) idle.constants.taken names constants;
       keeps = subst (KeepsPhase p h) kept idle.keeps;
       past = subst (KeepsPast (taps_of p) 1 h) kept idle.past;

@@ -5,7 +5,7 @@ use Rattle.ialg.specs.Objects.{Names}
 use Rattle.ialg.proofs.Tables.{idle_lent_size}
 use Rattle.alg_g711.specs.declared.coder.Direction.TheVariants.{Encode, Decode}
 use Rattle.alg_g711.specs.Meaning.{coder_named, kind_word, records_of}
-use Rattle.alg_g711.proofs.Keeping.{asleep, begun, first_record, granted_records, samples_named}
+use Rattle.alg_g711.proofs.Keeping.{without_scratch, begun, first_record, granted_records, samples_named}
 use Rattle.alg_g711.proofs.kind.G711Ialg.alg_init.Goals as goal
 
 encodes_not : Encode ≡ Decode → ⊥
@@ -22,7 +22,7 @@ returns-in-Encode-clause-law c w lawful taken table lent writable poison =
     let size = sizes 0 ∙ ap (λ r. idle_size r.attr r.size) (first_record coder.direction) in
     let names = c.write_object_of.ensures.names size in
     let new = lent_words c.write_object_of.new.mem in
-    asleep p tab new [] (begun p tab new coder granted records names (λ e. absurd (encodes_not (sym c.in-Encode.is ∙ e))))
+    without_scratch p tab new [] (begun p tab new coder granted records names (λ e. absurd (encodes_not (sym c.in-Encode.is ∙ e))))
 
 pub returns-in-Decode-clause-law : goal.returns-in-Decode-clause-law
 returns-in-Decode-clause-law c w lawful taken table lent writable poison =
@@ -44,4 +44,4 @@ returns-in-Decode-clause-law c w lawful taken table lent writable poison =
     let may : m.writable ≡ true = others.writable ∙ writable in
     let object = c.fill.ensures.object named may in
     let new = lent_words c.fill.new.mem in
-    asleep p tab new [] (begun p tab new coder granted records (rw object names) (λ e. c.fill.ensures.samples named may size))
+    without_scratch p tab new [] (begun p tab new coder granted records (rw object names) (λ e. c.fill.ensures.samples named may size))

@@ -8,7 +8,7 @@ use Rattle.ialg.proofs.Finding.{words_but}
 use Rattle.alg_g711.specs.Meaning.{kind_word}
 use Rattle.alg_g711.specs.Keeps.{Keeps}
 use Rattle.alg_g711.proofs.Coders.{same_coder}
-use Rattle.alg_g711.proofs.Keeping.{asleep, awake, follows}
+use Rattle.alg_g711.proofs.Keeping.{without_scratch, with_scratch, follows}
 use Rattle.alg_g711.proofs.kind.G711Ialg.alg_moved.Goals as goal
 
 -- what all words keep after the move
@@ -29,8 +29,8 @@ returns-clause-active c p w h before lawful moved table closed lent keeps = move
 pub returns-clause-idle : goal.returns-clause-idle
 returns-clause-idle c p w h before lawful moved table closed lent keeps =
     let tab = c.args.tab.now in
-    let all = awake p before tab (lent_words c.args.mem.now) h moved keeps in
-    asleep p tab (lent_words c.write_object_of.new.mem) h (moved_words c p before h moved all)
+    let all = with_scratch p before tab (lent_words c.args.mem.now) h moved keeps in
+    without_scratch p tab (lent_words c.write_object_of.new.mem) h (moved_words c p before h moved all)
 
 pub returns-in_default-clause-active : goal.returns-in_default-clause-active
 returns-in_default-clause-active c p w h before lawful moved table closed lent keeps =
@@ -38,5 +38,5 @@ returns-in_default-clause-active c p w h before lawful moved table closed lent k
 
 pub returns-in_default-clause-idle : goal.returns-in_default-clause-idle
 returns-in_default-clause-idle c p w h before lawful moved table closed lent keeps =
-    let all = awake p before c.args.tab.now (lent_words c.args.mem.now) h moved keeps in
+    let all = with_scratch p before c.args.tab.now (lent_words c.args.mem.now) h moved keeps in
     absurd (c.in_default.not-Some all.coder ((rw c.object.ensures at c.coder_of.ensures) all.coder _ _ all.object))

@@ -3,7 +3,7 @@ use Rattle.mem_rec.specs.declared.Space.TheVariants.{Saram}
 use Rattle.ialg.specs.Loans.{lent_words}
 use Rattle.ialg.specs.Filters.{filter_records}
 use Rattle.ialg.proofs.Taking.{visit, scratch_not_once}
-use Rattle.ialg.proofs.Hosting.{kept_named, running_named, running_size, awake, running_now}
+use Rattle.ialg.proofs.Hosting.{kept_named, running_named, running_size, with_scratch, running_now}
 use Rattle.ialg.proofs.hosted.AnyIalg.alg_activate.Goals as goal
 
 pub returns-clause-law : goal.returns-clause-law
@@ -11,7 +11,7 @@ returns-clause-law g c p w h lawful closed lent poison idle =
     let F = g.K.Filter in
     let m = c.args.mem.now in
     let asked = F.filter.memory p in
-    let keeps = awake F.KIND asked m.table.now (F.rests p h) (lent_words m) idle in
+    let keeps = with_scratch F.KIND asked m.table.now (F.rests p h) (lent_words m) idle in
     let placed = keeps.placed in
     let records = filter_records placed.memory in
     let found = c.in-Some.ensures.named F.KIND records (running_named F.KIND asked m placed lent) scratch_not_once in
@@ -27,5 +27,5 @@ returns-in_default-clause-law g c p w h lawful closed lent poison idle =
     let F = g.K.Filter in
     let m = c.args.mem.now in
     let asked = F.filter.memory p in
-    let placed = (awake F.KIND asked m.table.now (F.rests p h) (lent_words m) idle).placed in
+    let placed = (with_scratch F.KIND asked m.table.now (F.rests p h) (lent_words m) idle).placed in
     absurd (c.in_default.ensures.named F.KIND (filter_records placed.memory) (running_named F.KIND asked m placed lent) scratch_not_once)

@@ -3,7 +3,7 @@ use Rattle.mem_rec.specs.declared.Space.TheVariants.{Daram}
 use Rattle.ialg.specs.Loans.{lent_words}
 use Rattle.ialg.specs.Filters.{filter_records}
 use Rattle.ialg.proofs.Taking.{visit, persist_not_once}
-use Rattle.ialg.proofs.Hosting.{kept_named, running_named, asleep, rests_now}
+use Rattle.ialg.proofs.Hosting.{kept_named, running_named, without_scratch, rests_now}
 use Rattle.ialg.proofs.hosted.AnyIalg.alg_deactivate.Goals as goal
 
 pub returns-clause-law : goal.returns-clause-law
@@ -18,7 +18,7 @@ returns-clause-law g c p w h lawful closed lent active =
     let named = v.named 2 Daram F.KIND records (λ e. omega arith) (running_named F.KIND asked m placed lent) in
     let same = v.others 2 (λ e. omega arith) in
     let saved = c.save_from.ensures p h placed.memory named (rw (v.taken, same) active.keeps) in
-    asleep F.KIND asked m.table.now (F.rests p h) (lent_words c.put.new.self)
+    without_scratch F.KIND asked m.table.now (F.rests p h) (lent_words c.put.new.self)
     (rests_now F.KIND asked m.table.now _ (lent_words m) (lent_words c.put.new.self) placed (F.rests p h) v.written saved)
 
 pub returns-in_default-clause-law : goal.returns-in_default-clause-law

@@ -5,7 +5,7 @@ use Rattle.ialg.specs.Filters.{filter_records, IsPlaced}
 use Rattle.ialg.proofs.Tables.{idle_lent_size}
 use Rattle.ialg.proofs.Loans.{SameLoans-then, taken_and_put}
 use Rattle.ialg.proofs.Taking.{visit, persist_not_once}
-use Rattle.ialg.proofs.Hosting.{table_some, is_table-unplaced, none_once, kept_at, asleep, rests_now}
+use Rattle.ialg.proofs.Hosting.{table_some, is_table-unplaced, none_once, kept_at, without_scratch, rests_now}
 use Rattle.ialg.proofs.hosted.AnyIalg.alg_init.Goals as goal
 
 pub returns-clause-law : goal.returns-clause-law
@@ -27,7 +27,7 @@ returns-clause-law g c w lawful taken table lent writable poison =
     let v = visit 1 m _ _ c.in-Some.taken _ found (lit< tt) (λ e. omega arith) c.in-Some.ensures.left c.put.ensures.others c.put.ensures.back in
     let fresh = (rw c.as_slice.ensures.value at c.start.ensures) s.memory s.granted (ap (λ r. length r.now) v.taken ∙ size) in
     let placed : IsPlaced F.KIND asked tab (lent_words m) = record { memory = s.memory; granted = s.granted; valid = valid; object = names; none_once = none_once s.memory tab s.records } in
-    asleep F.KIND asked tab (F.rests p []) (lent_words c.put.new.self)
+    without_scratch F.KIND asked tab (F.rests p []) (lent_words c.put.new.self)
     (rests_now F.KIND asked tab _ (lent_words m) (lent_words c.put.new.self) placed (F.rests p []) v.written fresh)
 
 pub returns-in_default-clause-law : goal.returns-in_default-clause-law

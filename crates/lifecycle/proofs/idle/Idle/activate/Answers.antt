@@ -1,5 +1,5 @@
 use Rattle.lifecycle.proofs.Frames.{fits_stay}
-use Rattle.lifecycle.proofs.Keeps.{woken}
+use Rattle.lifecycle.proofs.Keeps.{activated_keeps}
 use Rattle.lifecycle.proofs.Once.{once_active}
 use Rattle.lifecycle.proofs.idle.Idle.activate.Goals as goal
 
@@ -11,7 +11,7 @@ returns-clause-fits g c = fits_stay c.lend.ensures.own c.lend.ensures.shared c.l
 
 pub returns-clause-keeps : goal.returns-clause-keeps
 returns-clause-keeps g c w h poison keeps lawful =
-    woken g.M.Ialg.law c.args.self.now.instance.kind c.args.self.now.instance.table c.args.self.now.instance.own c.lend.new.own c.args.shared.now c.lend.new.shared c.args.group.now c.lend.new.self
+    activated_keeps g.M.Ialg.law c.args.self.now.instance.kind c.args.self.now.instance.table c.args.self.now.instance.own c.lend.new.own c.args.shared.now c.lend.new.shared c.args.group.now c.lend.new.self
     c.requires.fits c.lend.ensures.done.1 c.args.self.now.instance.params.items w h lawful poison (keeps lawful)
 
 pub returns-clause-once : goal.returns-clause-once

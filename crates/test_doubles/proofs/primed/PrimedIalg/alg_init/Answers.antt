@@ -7,7 +7,7 @@ use Rattle.ialg.proofs.Tables.{chosen, attr_of, idle_lent_size}
 use Rattle.ialg.proofs.Taking.{visit}
 use Rattle.ialg.proofs.Loans.{SameLoans-then, taken_and_put}
 use Rattle.test_doubles.specs.Primed.{primed_records, KeepsWords}
-use Rattle.test_doubles.proofs.Kept.{asleep, fill_at, once_named, primed_word, overwritten}
+use Rattle.test_doubles.proofs.Kept.{without_scratch, fill_at, once_named, primed_word, overwritten}
 use Rattle.test_doubles.proofs.primed.PrimedIalg.alg_init.Goals as goal
 
 pub returns-clause-law : goal.returns-clause-law
@@ -45,7 +45,7 @@ returns-clause-law c w lawful taken table lent writable new =
       once = fill_at p tab after asked.1 first;
       primed = second ∙ kept;
     } in
-    asleep p tab after [] keeps
+    without_scratch p tab after [] keeps
 
 pub returns-in_default-clause-law : goal.returns-in_default-clause-law
 returns-in_default-clause-law c w lawful taken table lent writable new =

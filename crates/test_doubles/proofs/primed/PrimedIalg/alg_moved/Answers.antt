@@ -1,6 +1,6 @@
 use Rattle.std.proofs.Common.{ap, ◌∙◌, arith}
 use Rattle.ialg.specs.Loans.{lent_words}
-use Rattle.test_doubles.proofs.Kept.{asleep, active_by, moved}
+use Rattle.test_doubles.proofs.Kept.{without_scratch, active_by, moved}
 use Rattle.test_doubles.proofs.primed.PrimedIalg.alg_moved.Goals as goal
 
 pub returns-clause-active : goal.returns-clause-active
@@ -22,4 +22,4 @@ returns-clause-idle c p w h before lawful same table closed lent keeps =
     let first = ap (λ r. r.now) (others.others1 (λ e. omega arith)) in
     let second = ap (λ r. r.now) (others.others2 (λ e. omega arith)) in
     let was = active_by p before tab old h same keeps in
-    asleep p tab new h (moved p before tab old new h same was (c.name_records.ensures.names was.object.long) first second)
+    without_scratch p tab new h (moved p before tab old new h same was (c.name_records.ensures.names was.object.long) first second)

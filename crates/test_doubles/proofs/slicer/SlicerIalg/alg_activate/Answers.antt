@@ -11,11 +11,11 @@ use Rattle.test_doubles.proofs.Levels.{active_by, high_named, low_named, spread_
 use Rattle.test_doubles.proofs.slicer.SlicerIalg.alg_activate.Goals as goal
 
 pub returns-clause-law : goal.returns-clause-law
-returns-clause-law c p w h lawful closed lent poison asleep =
+returns-clause-law c p w h lawful closed lent poison idle =
     let m = c.args.mem.now in
     let between = c.spread_low.new.mem in
     let rs = m.table.now in
-    let keeps = active_by p rs rs (lent_words m) h refl asleep in
+    let keeps = active_by p rs rs (lent_words m) h refl idle in
     let sizes = lent_size rs slicer_records keeps.object.on_table (lent_words m) lent in
     let levels = c.as_slice-levels.ensures.value ∙ c.kept_levels-levels.ensures p h lent keeps in
     let items = c.as_slice-levels.result.now in
@@ -34,8 +34,8 @@ returns-clause-law c p w h lawful closed lent poison asleep =
     spread_over p rs (lent_words m) (lent_words between) (lent_words c.spread_high.new.mem) h keeps low high
 
 pub returns-then-levels-ne-LEVELS-clause-law : goal.returns-then-levels-ne-LEVELS-clause-law
-returns-then-levels-ne-LEVELS-clause-law c p w h lawful closed lent poison asleep =
+returns-then-levels-ne-LEVELS-clause-law c p w h lawful closed lent poison idle =
     let m = c.args.mem.now in
-    let keeps = active_by p m.table.now m.table.now (lent_words m) h refl asleep in
+    let keeps = active_by p m.table.now m.table.now (lent_words m) h refl idle in
     let levels = ap length (c.as_slice-levels.ensures.value ∙ c.kept_levels-levels.ensures p h lent keeps) ∙ keeps.two in
     absurd (omega (arith, levels))

@@ -7,7 +7,7 @@ use Rattle.ialg.proofs.Taking.{visit}
 use Rattle.ialg.proofs.Loans.{SameLoans-then, taken_and_put}
 use Rattle.test_doubles.specs.Slicer.{slicer_records, HoldsLevels}
 use Rattle.test_doubles.proofs.Kept.{overwritten}
-use Rattle.test_doubles.proofs.Levels.{asleep, fill_at, levels_named}
+use Rattle.test_doubles.proofs.Levels.{without_scratch, fill_at, levels_named}
 use Rattle.test_doubles.proofs.slicer.SlicerIalg.alg_init.Goals as goal
 
 pub returns-clause-law : goal.returns-clause-law
@@ -37,7 +37,7 @@ returns-clause-law c w lawful taken table lent writable new =
       object = rw object names;
       once = fill_at p tab after asked.1 (v.written.written ∙ written);
     } in
-    asleep p tab after [] keeps
+    without_scratch p tab after [] keeps
 
 pub returns-in_default-clause-law : goal.returns-in_default-clause-law
 returns-in_default-clause-law c w lawful taken table lent writable new =

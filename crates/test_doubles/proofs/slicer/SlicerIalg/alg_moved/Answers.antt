@@ -1,6 +1,6 @@
 use Rattle.std.proofs.Common.{ap, arith}
 use Rattle.ialg.specs.Loans.{lent_words}
-use Rattle.test_doubles.proofs.Levels.{asleep, active_by, moved}
+use Rattle.test_doubles.proofs.Levels.{without_scratch, active_by, moved}
 use Rattle.test_doubles.proofs.slicer.SlicerIalg.alg_moved.Goals as goal
 
 pub returns-clause-active : goal.returns-clause-active
@@ -20,4 +20,4 @@ returns-clause-idle c p w h before lawful same table closed lent keeps =
     let old = lent_words c.args.mem.now in
     let new = lent_words c.name_records.new.self in
     let was = active_by p before tab old h same keeps in
-    asleep p tab new h (moved p before tab old new h same was (c.name_records.ensures.names was.object.long) (ap (λ r. r.now) (c.name_records.ensures.others.others1 (λ e. omega arith))))
+    without_scratch p tab new h (moved p before tab old new h same was (c.name_records.ensures.names was.object.long) (ap (λ r. r.now) (c.name_records.ensures.others.others1 (λ e. omega arith))))

@@ -4,7 +4,7 @@ use mir.Val.{SFits}
 use mir.Syntax.{w16}
 use Rattle.test_doubles.specs.Starts.{placed_records}
 use Rattle.test_doubles.proofs.Starting.{primed, all_lent, scratch_poisoned}
-use Rattle.test_doubles.proofs.starts.awoken.Goals as goal
+use Rattle.test_doubles.proofs.starts.activated.Goals as goal
 
 pub returns : goal.returns
 returns c =
