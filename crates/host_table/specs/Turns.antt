@@ -34,7 +34,7 @@ pub record CanBeLent {M : Type 0} (s : Instance M) (sharing : List Locations) (i
   pub owners : HasOwners sharing i
   pub fits : Fits s.table s.own (shared_at sharing i) g
 
--- the same, of the group that it is in
+-- the same, of some group: reading its words takes no scratch
 abbrev pub CanBeRead : {M : Type 0} → Instance M → List Locations → ℕ → Type 0
 CanBeRead s sharing i = (g : Group) × CanBeLent s sharing i g
 

@@ -73,6 +73,17 @@ module _ {M : Type 0} (laws : Laws M) (kind : M) where
       → laws.active_refines kind p old.table.now (lent_words new) (with_samples h input)
       × (outputs_of laws.meaning kind p (with_samples h input) ≡ outputs_of laws.meaning kind p h ++ out)
 
+  -- algActivate and process: what an idle instance keeps, an active one keeps with the samples behind it, and gives out what they give by its
+  -- meaning. The scratch words that it finds are the poison word, or any words where the host has none
+  abbrev pub ActivatesAndProcesses : (input out : List ℤ) → (old new : Lent) → Type 0
+  ActivatesAndProcesses input out old new = (p : List ℤ) (w : Option ℤ) (h : History) → IsTrue (laws.meaning.lawful kind p w)
+      → old.writable ≡ false
+      → AllLent old.table.now (lent_words old)
+      → ScratchIsPoison w old.table.now (lent_words old)
+      → laws.idle_refines kind p old.table.now (lasting old.table.now (lent_words old)) h
+      → laws.active_refines kind p old.table.now (lent_words new) (with_samples h input)
+      × (outputs_of laws.meaning kind p (with_samples h input) ≡ outputs_of laws.meaning kind p h ++ out)
+
   -- process, told by reading alone: an active instance whose records have these words keeps the sample behind what it kept, in the same words,
   -- and gives out what was told by its meaning
   abbrev pub TellsOutput : List (List ℤ) → (x told : ℤ) → Type 0

@@ -55,6 +55,18 @@ impl<K: Filter> Ialg for K {
         mem.put(k, words);
     }
 
+    // the running words are taken once for both
+    fn activate_and_process(&self, mem: &mut Lent<'_>, input: &[i16], out: &mut Block) {
+        let Some(taken) = mem.take_named(Space::Daram, RUNNING) else {
+            return;
+        };
+        let Record { k, words } = taken;
+        restore_from::<K>(mem, words);
+        run_with::<K>(mem, words, input, out);
+        mem.put(k, words);
+    }
+
+    #[inline(always)]
     fn process(&self, mem: &mut Lent<'_>, input: &[i16], out: &mut Block)
         requires empty { out.old.items ≡ [] }
         requires some { 1 ≤ length input.now }
@@ -176,6 +188,7 @@ fn save_from<K: Filter>(mem: &Lent<'_>, kept: &mut [i16])
 }
 
 /// Runs the filter with the kept words that `mem` has.
+#[inline(always)]
 fn run_with<K: Filter>(mem: &Lent<'_>, running: &mut [i16], input: &[i16], out: &mut Block)
     requires empty { out.old.items ≡ [] }
     requires within { length input.now ≤ BLOCK_SAMPLES }

@@ -71,6 +71,13 @@ impl<A: Ialg, B: Ialg> Ialg for Or<A, B> {
         }
     }
 
+    fn activate_and_process(&self, mem: &mut Lent<'_>, input: &[i16], out: &mut Block) {
+        match self {
+            Or::First(kind) => kind.activate_and_process(mem, input, out),
+            Or::Second(kind) => kind.activate_and_process(mem, input, out),
+        }
+    }
+
     #[inline(always)]
     fn process(&self, mem: &mut Lent<'_>, input: &[i16], out: &mut Block) {
         match self {

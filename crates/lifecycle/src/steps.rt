@@ -73,9 +73,7 @@ impl<M: Ialg> Step<Block> for ActivateAndProcess<'_, M> {
 
     #[inline(always)]
     fn perform(&self, mem: &mut Lent<'_>, out: &mut Block) {
-        let kind = &self.kind;
-        kind.alg_activate(mem);
-        kind.process(mem, self.input, out);
+        self.kind.activate_and_process(mem, self.input, out);
     }
 }
 

@@ -73,8 +73,8 @@ fn run_alone<M: Ialg>(host: &mut Host<M>, member: u8, block: &[i16], given: &mut
     }
 }
 
-/// Gives the one member of a channel a sample: some sample is what it told, without being given it. None: what it gave takes the place of
-/// what `given` held.
+/// Gives the one member of a channel a sample: some sample is what it told, without being run. None: what it gave takes the place of what
+/// `given` held.
 #[inline(always)]
 fn run_sample<M: Ialg>(host: &mut Host<M>, member: u8, x: i16, given: &mut Block) -> Option<i16>
     ensures bounded { length given.new.items ≤ 1 }

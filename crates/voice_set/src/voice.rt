@@ -97,6 +97,16 @@ impl Ialg for Voice {
         }
     }
 
+    fn activate_and_process(&self, mem: &mut Lent<'_>, input: &[i16], out: &mut Block) {
+        match self {
+            Voice::Fir => Fir.activate_and_process(mem, input, out),
+            Voice::Decim => Decim.activate_and_process(mem, input, out),
+            Voice::Biquad => Biquad.activate_and_process(mem, input, out),
+            Voice::Tone => Tone.activate_and_process(mem, input, out),
+            Voice::G711 => G711.activate_and_process(mem, input, out),
+        }
+    }
+
     #[inline(always)]
     fn process(&self, mem: &mut Lent<'_>, input: &[i16], out: &mut Block) {
         match self {
