@@ -1,7 +1,8 @@
 -- Halves of sums that don't saturate.
-use Rattle.std.proofs.Common.{◌≡◌, ℕ, ◌*◌, ◌-◌, ◌^◌, ◌<◌, ◌≤◌, ℤ, pos, negsuc, ◌+ℤ◌, ◌-ℤ◌, ◌*ℤ◌, unsigned_abs, sym, ap, ◌∙◌, arith}
+use Rattle.std.proofs.Common.{◌≡◌, ℕ, ◌*◌, ◌-◌, ◌^◌, ◌<◌, ◌≤◌, ℤ, pos, negsuc, ◌+ℤ◌, ◌-ℤ◌, ◌*ℤ◌, unsigned_abs, sym, w16, w32, SFits, to_z, of_z, refl, ap, ◌∙◌, arith}
 use Rattle.std.specs.Int.{int_max, int_min, saturate_to_bits}
-use Rattle.std.proofs.lemmas.Int.{ints, unsigned_abs-mul}
+use Rattle.std.specs.Int.Signed.{nat_abs-le}
+use Rattle.std.proofs.lemmas.Int.{ints, to_z-of_z, unsigned_abs-mul, fits_signed_from_abs}
 use Rattle.std.proofs.lemmas.Nat.{mul-le}
 use lib.Signed.{shr_z}
 use Rattle.basic_op.specs.Operators.{l_mult_of, l_mac_of, l_msu_of, l_shl_of, round_of, saturate32}
@@ -73,3 +74,31 @@ limits z = grind (arith, ints)
 pub one_limit : (z : ℤ) → unsigned_abs z < 2 ^ 31 - 2 ^ 15
     → saturate_to_bits 15 (shr_z (z +ℤ pos 8192) 16384) ≡ round_of (l_shl_of (saturate32 (pos 2 *ℤ z)) (pos 1))
 one_limit z h = grind (arith, ints)
+
+-- a word that isn't the least, as it is handed on
+pub word_above : (v : ℤ) → unsigned_abs v ≤ 32767 → unsigned_abs (to_z w16 (of_z w16 v)) ≤ 32767
+word_above v small = rw (to_z-of_z w16 v (fits_signed_from_abs w16 v (omega arith))) small
+
+-- a word is within its limits
+pub word_alone : (v : ℤ) → SFits w16 v → v ≡ saturate_to_bits 15 v
+word_alone v fits = let small = fits.sfits in grind (arith, ints)
+
+-- a sum that is doubled, limited, rounded and limited again, with the last limit alone
+pub doubled_once : (z : ℤ) → unsigned_abs z ≤ 2 ^ 31
+    → saturate_to_bits 15 (shr_z (shr_z z 16384 +ℤ pos 1) 2) ≡ round_of (saturate32 (z *ℤ pos 2))
+doubled_once z h = grind (arith, ints)
+
+-- what is made of the sum on the way fits a Word32
+pub cut_word : (z : ℤ) → SFits w32 z
+    → to_z w32 (of_z w32 (shr_z (to_z w32 (of_z w32 (to_z w32 (of_z w32 (shr_z (to_z w32 (of_z w32 z)) 16384)) +ℤ pos 1))) 2))
+    ≡ shr_z (shr_z z 16384 +ℤ pos 1) 2
+cut_word z fits =
+    let h : unsigned_abs z ≤ 2 ^ 31 = nat_abs-le z fits.sfits in
+    let a : unsigned_abs (shr_z z 16384) ≤ 2 ^ 17 = grind (arith, ints) in
+    let b : unsigned_abs (shr_z (shr_z z 16384 +ℤ pos 1) 2) ≤ 2 ^ 17 = grind (arith, ints) in
+    rw (
+      to_z-of_z w32 z fits,
+      to_z-of_z w32 (shr_z z 16384) (fits_signed_from_abs w32 (shr_z z 16384) (omega arith)),
+      to_z-of_z w32 (shr_z z 16384 +ℤ pos 1) (fits_signed_from_abs w32 (shr_z z 16384 +ℤ pos 1) (omega (arith, ints))),
+      to_z-of_z w32 (shr_z (shr_z z 16384 +ℤ pos 1) 2) (fits_signed_from_abs w32 (shr_z (shr_z z 16384 +ℤ pos 1) 2) (omega (arith, ints))),
+    ) refl

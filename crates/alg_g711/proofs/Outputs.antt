@@ -1,5 +1,9 @@
 -- Blocks of codes and samples.
-use Rattle.std.proofs.Common.{◌≡◌, ℕ, suc, ℤ, pos, ◌%◌, ◌<◌, Some, List, [], ◌∷◌, ◌++◌, length, map, refl, sym, ap, ◌∙◌, append_assoc, append-nil, arith}
+use Rattle.std.proofs.Common.{◌≡◌, ◌≢◌, ℕ, suc, ℤ, pos, ◌+◌, ◌%◌, ◌<◌, Some, List, [], ◌∷◌, ◌++◌, length}
+use Rattle.std.proofs.Common.{map, get_or, inl, inr, refl, sym, ap, subst, ◌∙◌, append_assoc, append-nil, FitsSigned, get_or-set_other, get_or-set_same, arith}
+use Rattle.std.proofs.Math.ListN.{set}
+use Rattle.std.proofs.lemmas.Bool.{cases_lt}
+use Rattle.std.proofs.lemmas.List.{get_or_default}
 use Rattle.std.specs.Int.{w16, cast_unsigned}
 use Rattle.std.proofs.lemmas.List.FromFn.{length-map-range_with_len, get_or-map-range_with_len}
 use Rattle.ialg.specs.History.{History, Sample, with_samples, word_at, outputs_by}
@@ -49,3 +53,25 @@ pub outputs_of_block : (p : List ℤ) (coder : Coder) (h : History) (xs ys : Lis
     → ys ≡ map (coded coder.law coder.direction) xs
     → outputs_by (given_by (coder_named p)) (with_samples h xs) ≡ outputs_by (given_by (coder_named p)) h ++ ys
 outputs_of_block p coder h xs ys granted given = rw (granted, given) (outputs-with_samples coder h xs)
+
+-- word k is written: what was so of each word before it is so of each up to it
+pub more_written : (P : ℕ → ℤ → Type 0) (xs : List ℤ) (k : ℕ) (v : ℤ) → k < length xs → ((i : ℕ) → i < k → P i (word_at xs i)) → P k v
+    → (i : ℕ) → i < k + 1 → P i (word_at (set xs k v) i)
+more_written P xs k v inside before now i b = elim (cases_lt i k) [
+  | inl lower ↦
+      let other : i ≢ k = λ e. absurd (omega arith) in
+      subst (P i) (sym (get_or-set_other xs k i v (pos 0) other)) (before i lower)
+  | inr upper ↦
+      let here : k ≡ i = omega arith in
+      subst (λ j. P j (word_at (set xs k v) j)) here (subst (P k) (sym (get_or-set_same xs k v (pos 0) inside)) now)
+]
+
+-- word k is read
+pub more_read : (xs : List ℤ) (k : ℕ) → k < length xs → FitsSigned w16 (word_at xs k) → ((i : ℕ) (d : ℤ) → i < k → FitsSigned w16 (get_or xs i d))
+    → (i : ℕ) (d : ℤ) → i < k + 1 → FitsSigned w16 (get_or xs i d)
+more_read xs k inside fits before i d b = elim (cases_lt i k) [
+  | inl lower ↦ before i d lower
+  | inr upper ↦
+      let here : k ≡ i = omega arith in
+      subst (λ j. FitsSigned w16 (get_or xs j d)) here (subst (FitsSigned w16) (get_or_default xs k (pos 0) d inside) fits)
+]

@@ -9,7 +9,9 @@ use crate::wide::{nearest_word32, product};
 pub fn l_add(v: i32, w: i32) -> i32
     ensures { result ≡ l_add_of v w }
 {
-    nearest_word32(i64::from(v) + i64::from(w))
+    let first = i64::from(v);
+    let second = i64::from(w);
+    nearest_word32(first + second)
 }
 
 /// The difference `v - w`, saturated (G.191 `L_sub`).
@@ -17,7 +19,9 @@ pub fn l_add(v: i32, w: i32) -> i32
 pub fn l_sub(v: i32, w: i32) -> i32
     ensures { result ≡ l_sub_of v w }
 {
-    nearest_word32(i64::from(v) - i64::from(w))
+    let first = i64::from(v);
+    let second = i64::from(w);
+    nearest_word32(first - second)
 }
 
 /// `-v`, saturated (G.191 `L_negate`).

@@ -9,7 +9,9 @@ use crate::wide::{nearest_word16, product};
 pub fn add(a: i16, b: i16) -> i16
     ensures { result ≡ add_of a b }
 {
-    nearest_word16(i32::from(a) + i32::from(b))
+    let first = i32::from(a);
+    let second = i32::from(b);
+    nearest_word16(first + second)
 }
 
 /// The difference `a - b`, saturated (G.191 `sub`).
@@ -17,7 +19,9 @@ pub fn add(a: i16, b: i16) -> i16
 pub fn sub(a: i16, b: i16) -> i16
     ensures { result ≡ sub_of a b }
 {
-    nearest_word16(i32::from(a) - i32::from(b))
+    let first = i32::from(a);
+    let second = i32::from(b);
+    nearest_word16(first - second)
 }
 
 /// `-a`, saturated: 32767 for -32768 (G.191 `negate`).

@@ -6,5 +6,6 @@ pub mod Lanes
 pub mod Parts
 pub mod RingLemmas
 pub mod Rounding
+pub mod SmallWords
 pub mod Sums
 pub mod Written

@@ -1,6 +1,7 @@
 -- Steps of the layout of scratch records.
 use Rattle.std.proofs.Common.{◌≡◌, ℕ, zero, suc, ◌-◌, ◌%◌, IsTrue, ◌+◌, ◌<◌, ◌≤◌, Bool, true, false, ◌&&◌, List, [], ◌∷◌, ◌++◌, length, get_or, drop, refl, ap, sym, ◌∙◌, add-one, arith, drop-cons, append_assoc, max}
 use Rattle.std.specs.Int.{next_multiple_of}
+use Rattle.std.proofs.lemmas.List.{drop_all}
 use Rattle.std.proofs.lemmas.Nat.{mod_below}
 use Rattle.mem_rec.specs.declared.MemRec.{MemRec}
 use Rattle.mem_rec.specs.declared.Space.{Space}
@@ -20,6 +21,10 @@ pub scratch_out : (rs : List MemRec) (k : ℕ) (d r : MemRec) (space : Space) �
     → (is_scratch r.attr && same_space r.space space) ≡ false
     → scratch_records (drop k rs) space ≡ scratch_records (drop (k + 1) rs) space
 scratch_out rs k d r space h e t = rw (drop_at rs k d r h e, t) refl
+
+-- behind the last record there is none
+pub none_left : (table items : List MemRec) (k : ℕ) (space : Space) → items ≡ table → length items ≤ k → scratch_records (drop k table) space ≡ []
+none_left table items k space same h = rw (drop_all k table (rw (← same) h)) refl
 
 -- one more record is laid out
 pub offsets_in : (xs : List ℕ) {ys whole : List ℕ} (end : ℕ) {o end' : ℕ} {r : MemRec} {left all : List MemRec}

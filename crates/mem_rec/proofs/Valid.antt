@@ -1,7 +1,8 @@
 -- What the records of a table are known to be.
-use Rattle.std.proofs.Common.{◌≡◌, ℕ, ◌<◌, ◌≤◌, Bool, true, false, ◌&&◌, nat_le, IsTrue, List, [], ◌∷◌, length, get_or, refl, ap, sym, ◌∙◌, arith, ◌⊎◌, inl, inr}
+use Rattle.std.proofs.Common.{◌≡◌, ℕ, ◌<◌, ◌≤◌, Bool, true, false, ◌&&◌, nat_le, IsTrue, List, [], ◌∷◌, length, get_or, Result, Ok, Err, MatchResult, is_ok, refl, ap, sym, ◌∙◌, arith, ◌⊎◌, inl, inr}
 use Rattle.std.specs.List.{list_all}
 use Rattle.std.proofs.lemmas.List.Folds.{list_all_at}
+use Rattle.std.proofs.lemmas.Bool.{false≢true}
 use Rattle.std.proofs.lemmas.Bool.Decides.{nat_tests}
 use Rattle.mem_rec.specs.declared.MemRec.{MemRec}
 use Rattle.mem_rec.specs.declared.Attr.{Attr}
@@ -62,3 +63,16 @@ within_limits (r ∷ rs) t =
       valid = parts.2;
       object = λ d. not_scratch r.attr parts.0;
     }
+
+-- no records are no table
+pub no_table : (rs : List MemRec) → length rs < 1 → false ≡ is_table rs
+no_table [] none = refl
+no_table (r ∷ rs) none = absurd (omega (arith, none))
+
+-- nor are more than four
+pub too_many : (rs : List MemRec) → 4 < length rs → false ≡ is_table rs
+too_many rs many = grind (arith, nat_tests)
+
+pub told_of_error : {T E Q : Type 0} (P : T → Type 0) (r : Result T E) → is_ok r ≡ false → MatchResult r P (λ _. Q) → Q
+told_of_error P (Ok x) bad told = absurd (false≢true (sym bad))
+told_of_error P (Err e) bad told = told

@@ -1,16 +1,16 @@
 -- A line feed that is ahead, and the line in front of it.
-use Rattle.std.proofs.Common.{◌≡◌, ◌≢◌, ◌⊎◌, inl, inr, ℕ, suc, ◌+◌, ◌-◌, ◌<◌, ◌≤◌, List, [], ◌∷◌, ◌++◌, length, take, drop, get_or, false, refl, sym, ◌∙◌, ap, length-append, arith}
+use Rattle.std.proofs.Common.{◌≡◌, ◌≢◌, ◌⊎◌, inl, inr, ℕ, zero, suc, ◌+◌, ◌-◌, ◌<◌, ◌≤◌, Option, Some, IfSome, Result, Ok, Err, List, [], ◌∷◌, ◌++◌, length, take, drop, get_or, false, refl, subst, sym, ◌∙◌, ap, length-append, arith}
 use Rattle.std.specs.List.{All}
 use Rattle.std.proofs.lemmas.List.Elements.{All-nil, All-cons}
 use Rattle.std.proofs.lemmas.Bool.{false≢true}
 use Rattle.std.proofs.lemmas.Bool.Decides.{nat_tests}
 use Rattle.std.proofs.lemmas.Grind.{common_steps, get_or_default_zero}
-use Rattle.std.proofs.lemmas.List.{append_assoc, drop-drop, drop-take, get_or-take, length-take, take-append-drop}
+use Rattle.std.proofs.lemmas.List.{append_assoc, drop-drop, drop-take, get_or-take, length-take, take-append-drop, take-append-le}
 use Rattle.std.proofs.Math.Seq.{drop-cons, drop-append-add}
-use Rattle.octet_ports.specs.Ports.{Source}
+use Rattle.octet_ports.specs.Ports.{Source, Gives}
 use Rattle.octet_ports.specs.Lines.{Ahead, IsNoFeed, IsWindow, LineCame, ahead_of, behind}
 use Rattle.octet_ports.specs.declared.reader.TheConstants.{BUFFER_OCTETS}
-use Rattle.octet_ports.specs.Readers.{BeginsWith, LineTaken}
+use Rattle.octet_ports.specs.Readers.{BeginsWith, LineTaken, OctetCame}
 
 pub some_where_feed : (xs : List ℕ) → (All IsNoFeed xs → ⊥) → 0 < length xs
 some_where_feed [] feed = absurd (feed (All-nil IsNoFeed))
@@ -19,6 +19,9 @@ some_where_feed (x ∷ xs) feed = omega arith
 pub feed_behind : {x : ℕ} {old new : List ℕ} → (old ≡ []) ⊎ (old ≡ x ∷ new) → x ≢ 10 → (All IsNoFeed old → ⊥) → All IsNoFeed new → ⊥
 feed_behind {x} {old} {new} (inl none) other feed no_feed = feed (rw none (All-nil IsNoFeed))
 feed_behind {x} {old} {new} (inr front) other feed no_feed = feed (rw front (All-cons IsNoFeed x new other no_feed))
+
+pub none_ahead : {xs : List ℕ} → xs ≡ [] → 0 < length xs → ⊥
+none_ahead none some = let short = ap length none in omega (arith, some, short)
 
 below_take : (xs : List ℕ) (n k : ℕ) → k < length (take n xs) → k < n
 below_take xs n k less = let most = length-take n xs in omega (arith, less, most)
@@ -87,3 +90,49 @@ taken_came {most} line old new source taken = record {
   used = let used = taken.used in let count = length-append line (10 ∷ []) in omega (arith, used, count);
   at_end = λ bad. absurd (false≢true bad);
 }
+
+-- the next octet came from behind what was ahead, of which nothing was left
+pub came_refilled : {octet : ℕ} {old mid new : Ahead} {source new_source : Source} → old.octets ≡ [] → Gives mid.octets source new_source
+    → mid.left ≡ old.left → mid.octets ≡ octet ∷ new.octets → mid.left ≡ new.left + 1 → OctetCame octet old new source new_source
+came_refilled {new = new} {new_source = new_source} none gives same front left = record {
+  gives = record { stays = gives.stays; given = λ honest. rw none (gives.given honest ∙ ap (λ (t : List ℕ). t ++ new_source.coming) front) };
+  used = sym same ∙ left;
+  front = inl none;
+}
+
+-- or from the front of it
+pub came_ahead : {octet : ℕ} {old new : Ahead} {source : Source} → old.octets ≡ octet ∷ new.octets → old.left ≡ new.left + 1
+    → OctetCame octet old new source source
+came_ahead {source = source} front left = record {
+  gives = record { stays = λ honest. honest; given = λ honest. ap (λ (t : List ℕ). t ++ source.coming) front };
+  used = left;
+  front = inr front;
+}
+
+-- one octet was asked for, and came
+pub one_octet : (count : ℕ) (xs : List ℕ) → count ≤ 1 → (count ≡ 0 → ⊥) → count ≤ length xs → take count xs ≡ get_or xs 0 0 ∷ []
+one_octet zero xs few some inside = absurd (some refl)
+one_octet (suc zero) [] few some inside = absurd (omega (arith, inside))
+one_octet (suc zero) (x ∷ xs) few some inside = refl
+one_octet (suc (suc n)) xs few some inside = absurd (omega (arith, few))
+
+-- some octets came to the front of a buffer
+pub some_octets : {a b : Source} (count : ℕ) (xs rest : List ℕ) → (count ≡ 0 → ⊥) → count ≤ length xs → Gives (take count xs) a b
+    → (0 < length (take count (xs ++ rest))) × Gives (take count (xs ++ rest)) a b
+some_octets zero xs rest some inside gives = absurd (some refl)
+some_octets (suc n) xs rest some inside gives =
+    let long = length-take (suc n) xs in
+    rw (take-append-le (suc n) xs rest inside) (omega (arith, inside, long), gives)
+
+pub ok_same : {X E : Type 0} {x y : X} → ◌≡◌ {A = Result X E} (Ok x) (Ok y) → x ≡ y
+ok_same {X} {E} {x} {y} same = ap (unwrap_or_ok x) same
+  where
+    unwrap_or_ok : X → Result X E → X
+    unwrap_or_ok d (Ok x) = x
+    unwrap_or_ok d (Err e) = d
+
+-- what came is the octet of the answer
+pub came_at : {answer : Option ℕ} {octet : ℕ} {old new : Ahead} {source new_source : Source} → answer ≡ Some octet
+    → IfSome answer (λ o. OctetCame o old new source new_source) → OctetCame octet old new source new_source
+came_at {old = old} {new = new} {source = source} {new_source = new_source} is came =
+    subst (λ (answer : Option ℕ). IfSome answer (λ o. OctetCame o old new source new_source)) is came

@@ -2,7 +2,7 @@
 use Rattle.std.proofs.Common.{◌≡◌, ◌≢◌, ℕ, ◌+◌, ◌≤◌, Bool, true, false, List, [], ◌∷◌, ◌++◌, length, refl, ap, length-append, arith}
 use Rattle.std.specs.List.{All}
 use Rattle.std.proofs.lemmas.List.{append-nil}
-use Rattle.std.proofs.lemmas.List.Elements.{All-push}
+use Rattle.std.proofs.lemmas.List.Elements.{All-nil, All-push}
 use Rattle.std.proofs.lemmas.Grind.{common_steps}
 use Rattle.std.proofs.lemmas.Bool.{false≢true}
 use Rattle.std.proofs.lemmas.Bool.Decides.{nat_tests}
@@ -11,7 +11,7 @@ use Rattle.octet_ports.specs.Lines.{IsLine, IsNoFeed, LineCame, LineFails}
 use Rattle.octet_ports.specs.Readers.{RefusesFor}
 use Rattle.octet_ports.specs.declared.reader.LineFault.{LineFault}
 use Rattle.octet_ports.specs.declared.reader.LineFault.TheVariants.{Port, Limit}
-use Rattle.octet_ports.proofs.Ports.{gives_more}
+use Rattle.octet_ports.proofs.Ports.{gives_more, gives_none}
 
 -- as much of a line as has come, of so many octets that may
 pub record LineSoFar (most : ℕ) (text : List ℕ) (long : Bool) (limit left : ℕ) (old new : Source) : Type 0 where
@@ -19,6 +19,15 @@ pub record LineSoFar (most : ℕ) (text : List ℕ) (long : Bool) (limit left : 
   pub line : IsLine most text long octets
   pub gives : Gives octets old new
   pub used : limit ≡ length octets + left
+
+-- nothing has come yet
+pub none_so_far : (most limit : ℕ) (a : Source) → LineSoFar most [] false limit limit a a
+none_so_far most limit a = record {
+  octets = [];
+  line = record { no_feed = All-nil IsNoFeed; is_long = grind (arith, nat_tests); is_text = λ _. refl };
+  gives = gives_none a;
+  used = omega arith;
+}
 
 pub no_feed_more : (xs : List ℕ) (x : ℕ) → All IsNoFeed xs → x ≢ 10 → All IsNoFeed (xs ++ x ∷ [])
 no_feed_more xs x a n = All-push IsNoFeed xs x a n

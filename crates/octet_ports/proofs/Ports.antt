@@ -1,7 +1,7 @@
 -- What ports give and take in several calls.
-use Rattle.std.proofs.Common.{◌≡◌, ℕ, ◌+◌, ◌-◌, ◌≤◌, List, [], ◌++◌, length, take, refl, sym, ap, ◌∙◌, length-append, append_assoc, arith}
+use Rattle.std.proofs.Common.{◌≡◌, ℕ, ◌+◌, ◌-◌, ◌≤◌, List, [], ◌++◌, length, take, drop, refl, sym, ap, ◌∙◌, length-append, append_assoc, arith}
 use Rattle.std.proofs.Math.Seq.{take-append-add}
-use Rattle.std.proofs.lemmas.List.{append-nil, take-append-le}
+use Rattle.std.proofs.lemmas.List.{append-nil, take-append-drop, take-append-le, take_all}
 use borrow.Rule.Slice.PartMut.{put_mid, post_of}
 use Rattle.std.proofs.lemmas.Grind.{common_steps}
 use Rattle.std.specs.Prelude.{Bool, true, Option, None, Some}
@@ -11,6 +11,14 @@ use Rattle.octet_ports.specs.Ports.{Source, Sink, Gives, Holds, Waits, Takes, Ta
 
 pub gives_none : (s : Source) → Gives [] s s
 gives_none s = record { stays = λ h. h; given = λ h. refl }
+
+-- a tape gave its first octets to the front of a buffer
+pub tape_gave : (count : ℕ) (rest front back new buffer : List ℕ) → front ≡ take count rest → back ≡ drop count rest → length front ≡ count → new ≡ front
+    → rest ≡ take count (new ++ buffer) ++ back
+tape_gave count rest front back new buffer first others long copied =
+    let size = ap length copied in
+    let gave = take-append-le count new buffer (omega (arith, size, long)) ∙ take_all count new (omega (arith, size, long)) ∙ copied ∙ first in
+    sym (take-append-drop count rest) ∙ ap (λ (t : List ℕ). t ++ drop count rest) (sym gave) ∙ ap (λ (t : List ℕ). take count (new ++ buffer) ++ t) (sym others)
 
 pub holds_none : (s : Sink) → Holds [] s s
 holds_none s = record { stays = λ h. h; taken = λ h. grind (arith, common_steps) }

@@ -1,14 +1,15 @@
 -- The first blocks are at their packed places: the moves that are left are those of the others.
-use Rattle.std.proofs.Common.{◌≡◌, ℕ, zero, suc, ◌+◌, ◌-◌, ◌<◌, ◌≤◌, List, [], ◌∷◌, map, length, take, drop, get_or, Some, refl, sym, ◌∙◌, ap, subst, arith}
-use Rattle.std.proofs.lemmas.List.{get_or-map, length-map}
+use Rattle.std.proofs.Common.{◌≡◌, ℕ, zero, suc, ◌+◌, ◌-◌, ◌<◌, ◌≤◌, List, [], ◌∷◌, map, length, take, drop, get_or, None, Some, refl, sym, ◌∙◌, ap, subst, arith}
+use Rattle.std.proofs.lemmas.List.{drop_all, drop_more, get_or-map, length-map}
+use Rattle.std.proofs.lemmas.Bool.{ne_eqb}
 use Rattle.std.specs.Int.{next_multiple_of}
 use Rattle.relocate.specs.declared.packing.Spot.{Spot}
 use Rattle.relocate.specs.declared.packing.Move.{Move}
 use Rattle.relocate.specs.Places.{end_of}
-use Rattle.relocate.specs.Spots.{AreSpots, AreSpotsFrom, range_of}
+use Rattle.relocate.specs.Spots.{AreSpots, AreSpotsFrom, IsSpot, range_of}
 use Rattle.relocate.specs.Ends.{end_from}
 use Rattle.relocate.specs.Packing.{IsPacked, first_of, moves_from, next_move_of, packed_from, packing_moves, places_of}
-use Rattle.relocate.proofs.PackingLemmas.{moves-at}
+use Rattle.relocate.proofs.PackingLemmas.{moves-at, moves-off}
 use Rattle.relocate.proofs.CompactionLemmas.{RisesFrom, indices_rise}
 
 -- the blocks behind the first ones, so many
@@ -46,6 +47,42 @@ are_left k ss end others are packed at same =
           ∙ ap (λ n. moves_from k (drop k ss) (packed_from n (drop k ss))) (sym at)
           ∙ ap (λ xs. moves_from k xs (packed_from end xs)) same,
     )
+
+-- ---- one of the others, which is block k
+
+pub others_are : {B : Type 0} (stands : B → Spot) (bs : List B) (k : ℕ) (b : B) (s : Spot) → k < length bs → b ≡ get_or bs k b → s ≡ stands b
+    → map stands (drop k bs) ≡ s ∷ map stands (drop (k + 1) bs)
+others_are stands bs k b s lt at is =
+    ap (map stands) (drop_more bs k b lt ∙ ap (λ x. x ∷ drop (k + 1) bs) (sym at)) ∙ ap (λ (t : Spot). t ∷ map stands (drop (k + 1) bs)) (sym is)
+
+pub no_others : {B : Type 0} (stands : B → Spot) (bs : List B) (k : ℕ) (places : List ℕ) (moves : List Move) → length bs ≤ k
+    → moves ≡ moves_from k (map stands (drop k bs)) places → None ≡ first_of moves
+no_others stands bs k places moves past left = sym (ap first_of (left ∙ ap (λ xs. moves_from k (map stands xs) places) (drop_all k bs past)))
+
+-- where it stands, and what is left behind it
+module _ (k end : ℕ) (s : Spot) (others rest : List Spot) (moves : List Move) (are : others ≡ s ∷ rest) where
+  pub stands_behind : AreSpotsFrom end others → IsSpot s × (end ≤ s.place)
+  stands_behind order = let its = subst (AreSpotsFrom end) are order in (its.0, its.1)
+
+  pub stays : (to : ℕ) → AreSpotsFrom end others → moves ≡ moves_from k others (packed_from end others) → to ≡ next_multiple_of end s.align → s.place ≡ to
+      → AreSpotsFrom (to + s.size) rest × (moves ≡ moves_from (k + 1) rest (packed_from (to + s.size) rest))
+  stays to order left is at = (
+    subst (λ n. AreSpotsFrom (n + s.size) rest) at (subst (AreSpotsFrom end) are order).2,
+    left
+        ∙ ap (λ xs. moves_from k xs (packed_from end xs)) are
+        ∙ moves-at k s rest (next_multiple_of end s.align) (packed_from (next_multiple_of end s.align + s.size) rest) (at ∙ is)
+        ∙ ap (λ n. moves_from (suc k) rest (packed_from (n + s.size) rest)) (sym is)
+        ∙ ap (λ n. moves_from n rest (packed_from (to + s.size) rest)) (let e : suc k ≡ k + 1 = omega arith in e),
+  )
+
+  pub goes : (to : ℕ) → moves ≡ moves_from k others (packed_from end others) → to ≡ next_multiple_of end s.align → (s.place ≡ to → ⊥)
+      → Some (record { index = k; to = to }) ≡ first_of moves
+  goes to left is off =
+      let next = next_multiple_of end s.align in
+      let elsewhere = ne_eqb s.place next (λ at. off (at ∙ sym is)) in
+      sym
+      (ap first_of (left ∙ ap (λ xs. moves_from k xs (packed_from end xs)) are ∙ moves-off k s rest next (packed_from (next + s.size) rest) elsewhere)
+      ∙ ap (λ n. Some (record { index = k; to = n })) (sym is))
 
 -- ---- the last of the first blocks
 

@@ -16,13 +16,14 @@ use Rattle.record_loans.specs.Cuts.{filter_words}
 use Rattle.record_loans.specs.declared.pieces.Pieces.{Pieces}
 use Rattle.record_loans.specs.Pieces.{piece_words, piece_place}
 use Rattle.record_loans.specs.Blocks.{block_piece, block_words}
+use Rattle.record_loans.specs.Loans.{FilterFits}
 use Rattle.scratch_group.specs.declared.group.Group.{Group}
-use Rattle.scratch_group.specs.Words.{is_filter, scratch_end, scratch_offset, record_words, active_words, idle_record_words, idle_words}
+use Rattle.scratch_group.specs.Words.{HasPieces, is_filter, scratch_end, scratch_offset, record_words, active_words, idle_record_words, idle_words}
 use Rattle.scratch_group.specs.Words.{record_place, with_bases, HasWords}
 use Rattle.scratch_group.specs.Filters.{filter_sizes_in, IsOfFilter}
 use Rattle.scratch_group.proofs.Ends.{next_end, scratch_end-suc, blank_at, persistent_once, scratch_once, blank_once}
 use Rattle.scratch_group.proofs.Tables.{length-with_bases, record_at-with_bases}
-use Rattle.scratch_group.proofs.Cutting.{first_end, object_words}
+use Rattle.scratch_group.proofs.Cutting.{take_fits, first_end, object_words}
 use Rattle.ialg.proofs.Tables.{object_attr}
 
 pub some_there : (n size : ℕ) (ws lent : List ℤ) → lent ≡ take n ws → length lent ≡ size → size ≡ n → 1 ≤ n → 1 ≤ length ws
@@ -56,6 +57,14 @@ module _ (rs : List MemRec) (n : FilterSizes) (t : IsTrue (is_table rs)) (f : Is
 
   pub filter_lent : active_words rs own shared g ≡ filter_words n (piece_words own.p0) (piece_words own.p1) (block_words g.daram)
   filter_lent = rw (object_is, kept_is, running_is, none_is) refl
+
+  -- where each record has its words, they stand in the pieces and in the block
+  pub filter_fits : HasWords rs own shared g → FilterFits n own g.daram
+  filter_fits has = record {
+    object = take_fits n.object (piece_words own.p0) (ap length (sym object_is) ∙ has 0 ∙ f.object);
+    kept = take_fits n.kept (piece_words own.p1) (ap length (sym kept_is) ∙ has 1 ∙ f.kept);
+    running = take_fits n.running (block_words g.daram) (ap length (sym running_is) ∙ has 2 ∙ f.running);
+  }
 
   -- where each record begins
 
@@ -96,6 +105,13 @@ module _ (rs : List MemRec) (n : FilterSizes) (t : IsTrue (is_table rs)) (f : Is
   -- the scratch record isn't lent to an idle one
   pub filter_at_rest : idle_words rs own shared ≡ take n.object (piece_words own.p0) ∷ take n.kept (piece_words own.p1) ∷ [] ∷ [] ∷ []
   filter_at_rest = rw (object_at_rest, kept_at_rest, running_at_rest, none_at_rest) refl
+
+  -- where each record that lasts has its words, they stand in the pieces
+  pub filter_fits_at_rest : HasPieces rs own shared → (n.object ≤ length (piece_words own.p0)) × (n.kept ≤ length (piece_words own.p1))
+  filter_fits_at_rest has = (
+    take_fits n.object (piece_words own.p0) (ap length (sym object_at_rest) ∙ has 0 ∙ rw (object_attr rs t) f.object),
+    take_fits n.kept (piece_words own.p1) (ap length (sym kept_at_rest) ∙ has 1 ∙ rw f.persistent f.kept),
+  )
 
 -- its sizes are those of its records
 pub filter_sizes_of : (rs : List MemRec) (n : FilterSizes) → IsOfFilter rs n → IsOfFilter rs (filter_sizes_in rs)

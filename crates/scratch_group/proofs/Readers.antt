@@ -3,7 +3,7 @@ use Rattle.std.proofs.Common.{◌≡◌, ℕ, zero, suc, inl, inr, IsTrue, List,
 use Rattle.mem_rec.specs.declared.MemRec.{MemRec}
 use Rattle.mem_rec.specs.declared.Attr.TheVariants.{WriteOnce}
 use Rattle.mem_rec.specs.Records.{is_table}
-use Rattle.ialg.specs.Records.{record_at}
+use Rattle.ialg.specs.Records.{idle_size, record_at}
 use Rattle.record_loans.specs.declared.plan.ReaderSizes.{ReaderSizes}
 use Rattle.record_loans.specs.Cuts.{reader_words}
 use Rattle.record_loans.specs.Loans.{ReaderFits}
@@ -12,7 +12,7 @@ use Rattle.record_loans.specs.Pieces.{piece_words}
 use Rattle.record_loans.specs.Blocks.{block_words}
 use Rattle.scratch_group.specs.declared.group.Group.{Group}
 use Rattle.scratch_group.specs.Blocks.{block_in}
-use Rattle.scratch_group.specs.Words.{scratch_offset, words_by, record_words, active_words, lasting_words_by, idle_record_words, idle_words, HasWords}
+use Rattle.scratch_group.specs.Words.{HasPieces, scratch_offset, words_by, record_words, active_words, lasting_words_by, idle_record_words, idle_words, HasWords}
 use Rattle.scratch_group.specs.Readers.{IsOfReader}
 use Rattle.scratch_group.proofs.Ends.{blank_at, persistent_once, blank_once}
 use Rattle.ialg.proofs.Tables.{object_attr}
@@ -71,6 +71,21 @@ module _ (rs : List MemRec) (n : ReaderSizes) (t : IsTrue (is_table rs)) (f : Is
   -- an idle reader is lent what an active one is
   pub reader_at_rest : idle_words rs own shared ≡ reader_words n (piece_words own.p0) (piece_words shared.p1)
   reader_at_rest = rw (object_at_rest, once_at_rest, third_at_rest, last_at_rest) refl
+
+  once_size : idle_size (record_at rs 1).attr (record_at rs 1).size ≡ n.once
+  once_size = elim (either 1 (length rs)) [
+    | inl there ↦ rw (f.second there) f.once
+    | inr past ↦
+        let none : n.once ≡ 0 = sym f.once ∙ ap (λ (r : MemRec). r.size) (blank_at rs 1 past) in
+        rw (blank_at rs 1 past, none) refl
+  ]
+
+  -- where each record that lasts has its words, they stand in the pieces
+  pub reader_fits_at_rest : HasPieces rs own shared → ReaderFits n own shared.p1
+  reader_fits_at_rest has = record {
+    object = take_fits n.object (piece_words own.p0) (ap length (sym object_at_rest) ∙ has 0 ∙ rw (object_attr rs t) f.object);
+    once = take_fits n.once (piece_words shared.p1) (ap length (sym once_at_rest) ∙ has 1 ∙ once_size);
+  }
 
 -- no other record than the second is write-once
 pub once_second : (rs : List MemRec) (n : ReaderSizes) → IsTrue (is_table rs) → IsOfReader rs n → (k : ℕ) → (record_at rs k).attr ≡ WriteOnce → k ≡ 1

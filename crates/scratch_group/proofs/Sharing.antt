@@ -11,12 +11,13 @@ use Rattle.record_loans.specs.Cuts.{sharing_words}
 use Rattle.record_loans.specs.declared.pieces.Pieces.{Pieces}
 use Rattle.record_loans.specs.Pieces.{piece_words, piece_place}
 use Rattle.record_loans.specs.Blocks.{block_piece, block_words}
+use Rattle.record_loans.specs.Loans.{SharingFits}
 use Rattle.scratch_group.specs.declared.group.Group.{Group}
-use Rattle.scratch_group.specs.Words.{scratch_end, scratch_offset, record_words, active_words, idle_record_words, idle_words}
+use Rattle.scratch_group.specs.Words.{HasPieces, scratch_end, scratch_offset, record_words, active_words, idle_record_words, idle_words}
 use Rattle.scratch_group.specs.Words.{record_place, with_bases, HasWords}
 use Rattle.scratch_group.specs.Sharing.{sharing_sizes_in, IsOfSharingFilter}
 use Rattle.scratch_group.proofs.Ends.{next_end, scratch_end-suc}
-use Rattle.scratch_group.proofs.Cutting.{first_end, object_words}
+use Rattle.scratch_group.proofs.Cutting.{take_fits, first_end, object_words}
 use Rattle.scratch_group.proofs.Filters.{none_at_0, some_there}
 use Rattle.scratch_group.proofs.Tables.{length-with_bases, record_at-with_bases}
 
@@ -51,6 +52,15 @@ module _ (rs : List MemRec) (n : SharingSizes) (t : IsTrue (is_table rs)) (f : I
 
   pub sharing_lent : active_words rs own shared g ≡ sharing_words n (piece_words own.p0) (piece_words own.p1) (piece_words shared.p2) (block_words g.daram)
   sharing_lent = rw (object_is, kept_is, constants_is, running_is) refl
+
+  -- where each record has its words, they stand in the pieces and in the block
+  pub sharing_fits : HasWords rs own shared g → SharingFits n own shared.p2 g.daram
+  sharing_fits has = record {
+    object = take_fits n.object (piece_words own.p0) (ap length (sym object_is) ∙ has 0 ∙ f.object);
+    kept = take_fits n.kept (piece_words own.p1) (ap length (sym kept_is) ∙ has 1 ∙ f.kept);
+    constants = take_fits n.constants (piece_words shared.p2) (ap length (sym constants_is) ∙ has 2 ∙ f.constants);
+    running = take_fits n.running (block_words g.daram) (ap length (sym running_is) ∙ has 3 ∙ f.running);
+  }
 
   -- where each record begins
 
@@ -100,6 +110,15 @@ module _ (rs : List MemRec) (n : SharingSizes) (t : IsTrue (is_table rs)) (f : I
   pub sharing_at_rest : idle_words rs own shared
       ≡ take n.object (piece_words own.p0) ∷ take n.kept (piece_words own.p1) ∷ take n.constants (piece_words shared.p2) ∷ [] ∷ []
   sharing_at_rest = rw (object_at_rest, kept_at_rest, constants_at_rest, running_at_rest) refl
+
+  -- where each record that lasts has its words, they stand in the pieces
+  pub sharing_fits_at_rest : HasPieces rs own shared
+      → (n.object ≤ length (piece_words own.p0)) × (n.kept ≤ length (piece_words own.p1)) × (n.constants ≤ length (piece_words shared.p2))
+  sharing_fits_at_rest has = (
+    take_fits n.object (piece_words own.p0) (ap length (sym object_at_rest) ∙ has 0 ∙ rw (object_attr rs t) f.object),
+    take_fits n.kept (piece_words own.p1) (ap length (sym kept_at_rest) ∙ has 1 ∙ rw f.persistent f.kept),
+    take_fits n.constants (piece_words shared.p2) (ap length (sym constants_at_rest) ∙ has 2 ∙ rw f.shared f.constants),
+  )
 
 -- its sizes are those of its records
 pub sizes_of : (rs : List MemRec) (n : SharingSizes) → IsOfSharingFilter rs n → IsOfSharingFilter rs (sharing_sizes_in rs)

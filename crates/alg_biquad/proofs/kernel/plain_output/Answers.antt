@@ -1,7 +1,7 @@
 use Rattle.std.proofs.Common.{◌-ℤ◌, w16, w32, SFits, rules, ◌∙◌}
 use Rattle.std.proofs.lemmas.Int.{to_z-of_z}
 use Rattle.ialg.specs.History.{word_at}
-use Rattle.alg_biquad.proofs.HalfLemmas.{by_halves, half_less}
+use Rattle.alg_biquad.proofs.HalfLemmas.{by_halves, half_less, word_above}
 use Rattle.alg_biquad.proofs.kernel.plain_output.Goals as goal
 
 pub returns : goal.returns
@@ -39,7 +39,11 @@ returns c =
     to_z-of_z w16 c.rounded_less.result (record { sfits = c.rounded_less.type_inv })
     ∙ by_halves (word_at cs) c.args.x s.x1 s.x2 s.y1 s.y2 first second third fourth older c.rounded_less.result a b d (half_less third newer (word_at cs 3) s.y1 fourth e found.0 found.1) f rounded
 
+pub plus_product-requires-clause-above : goal.plus_product-requires-clause-above
+plus_product-requires-clause-above c = word_above (word_at c.args.c.now 1) (c.requires.above 1)
+
+pub half_product-newer-requires : goal.half_product-newer-requires
+half_product-newer-requires c = word_above (word_at c.args.c.now 3) (c.requires.above 3)
+
 pub half_product-older-requires : goal.half_product-older-requires
-half_product-older-requires c =
-    let fits : SFits w16 (word_at c.args.c.now 4) = search rules in
-    rw (to_z-of_z w16 (word_at c.args.c.now 4) fits) (c.requires.above 4)
+half_product-older-requires c = word_above (word_at c.args.c.now 4) (c.requires.above 4)

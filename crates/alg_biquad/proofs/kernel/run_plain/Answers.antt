@@ -1,10 +1,11 @@
-use Rattle.std.proofs.Common.{◌≡◌, ◌+◌, List, ℕ, ℤ, take, add-one, rules, refl, ap, ◌∙◌, subst, sym, arith}
-use Rattle.std.proofs.lemmas.Int.{to_z-of_z}
+use Rattle.std.proofs.Common.{◌≡◌, ◌+◌, ◌∷◌, [], zero, suc, List, ℕ, ℤ, take, add-one, rules, refl, ap, ◌∙◌, subst, sym, arith}
+use Rattle.std.proofs.lemmas.Int.{to_z-of_z, fits_signed_from_abs}
 use mir.Val.{SFits, to_z, of_z}
 use mir.Syntax.{w16}
 use Rattle.ialg.specs.History.{word_at}
 use Rattle.ialg.proofs.Histories.{fits_more}
 use Rattle.alg_biquad.specs.Equation.{biquad_value}
+use Rattle.alg_biquad.specs.Halves.{AreAboveLeast}
 use Rattle.alg_biquad.specs.Keeps.{Gives}
 use Rattle.alg_biquad.specs.declared.kernel.State.{State}
 use Rattle.alg_biquad.proofs.Steps.{gives_none, gives_more}
@@ -61,3 +62,25 @@ returns c =
       fit = c.loop-x.invariant.fit;
       law = c.loop-x.invariant.ran;
     })
+
+-- none of five words is the least, nor of their copies
+five_above : (cs : List ℤ) → AreAboveLeast cs → AreAboveLeast (word_at cs 0 ∷ word_at cs 1 ∷ word_at cs 2 ∷ word_at cs 3 ∷ word_at cs 4 ∷ [])
+five_above cs above zero = above 0
+five_above cs above (suc zero) = above 1
+five_above cs above (suc (suc zero)) = above 2
+five_above cs above (suc (suc (suc zero))) = above 3
+five_above cs above (suc (suc (suc (suc zero)))) = above 4
+five_above cs above (suc (suc (suc (suc (suc k))))) = omega arith
+
+same_five : (f : ℕ → ℤ) → ((k : ℕ) → to_z w16 (of_z w16 (f k)) ≡ f k)
+    → (to_z w16 (of_z w16 (f 0)) ∷ to_z w16 (of_z w16 (f 1)) ∷ to_z w16 (of_z w16 (f 2)) ∷ to_z w16 (of_z w16 (f 3)) ∷ to_z w16 (of_z w16 (f 4)) ∷ [])
+    ≡ f 0 ∷ f 1 ∷ f 2 ∷ f 3 ∷ f 4 ∷ []
+same_five f same = rw (same 0, same 1, same 2, same 3, same 4) refl
+
+pub plain_output-requires-clause-above : goal.plain_output-requires-clause-above
+plain_output-requires-clause-above c =
+    let cs = c.args.coefficients.now in
+    let above : AreAboveLeast cs = search rules in
+    let same : (k : ℕ) → to_z w16 (of_z w16 (word_at cs k)) ≡ word_at cs k =
+    λ k. to_z-of_z w16 (word_at cs k) (fits_signed_from_abs w16 (word_at cs k) (let small = above k in omega arith)) in
+    subst AreAboveLeast (sym (same_five (word_at cs) same)) (five_above cs above)

@@ -52,3 +52,243 @@ returns c =
     let seven = four_written cs line old _ c.write-eighth.new.sums _ first at 24 taps c.write-seventh.result (first + 24) all at24 (omega arith) six c.write-eighth.ensures.written i.g in
     let at28 : c.write-eighth.result ≡ at + 28 = omega (arith, c.write-eighth.ensures.next, at24) in
     four_written cs line old _ c.write-end.new.sums _ first at 28 taps c.write-eighth.result (first + 28) all at28 (omega arith) seven c.write-end.ensures.written i.h
+
+pub begin-a-requires-clause-samples : goal.begin-a-requires-clause-samples
+begin-a-requires-clause-samples c = c.requires.samples
+
+pub begin-a-requires-clause-products : goal.begin-a-requires-clause-products
+begin-a-requires-clause-products c = c.requires.products
+
+pub begin-a-requires-clause-reach : goal.begin-a-requires-clause-reach
+begin-a-requires-clause-reach c = omega (arith, c.requires.reach)
+
+pub add_pair-a-requires-clause-samples : goal.add_pair-a-requires-clause-samples
+add_pair-a-requires-clause-samples c = c.requires.samples
+
+pub add_pair-a-requires-clause-products : goal.add_pair-a-requires-clause-products
+add_pair-a-requires-clause-products c = c.requires.products
+
+pub add_pair-a-requires-clause-reach : goal.add_pair-a-requires-clause-reach
+add_pair-a-requires-clause-reach c = omega (arith, c.requires.reach)
+
+pub add_pair-a-requires-clause-pair : goal.add_pair-a-requires-clause-pair
+add_pair-a-requires-clause-pair c = omega (arith, c.loop-pair-test.true)
+
+pub add_pair-a-requires-clause-before : goal.add_pair-a-requires-clause-before
+add_pair-a-requires-clause-before c = c.loop-pair.invariant.a
+
+pub begin-b-requires-clause-samples : goal.begin-b-requires-clause-samples
+begin-b-requires-clause-samples c = c.requires.samples
+
+pub begin-b-requires-clause-products : goal.begin-b-requires-clause-products
+begin-b-requires-clause-products c = c.requires.products
+
+pub begin-b-requires-clause-reach : goal.begin-b-requires-clause-reach
+begin-b-requires-clause-reach c = omega (arith, c.requires.reach)
+
+pub add_pair-b-requires-clause-samples : goal.add_pair-b-requires-clause-samples
+add_pair-b-requires-clause-samples c = c.requires.samples
+
+pub add_pair-b-requires-clause-products : goal.add_pair-b-requires-clause-products
+add_pair-b-requires-clause-products c = c.requires.products
+
+pub add_pair-b-requires-clause-reach : goal.add_pair-b-requires-clause-reach
+add_pair-b-requires-clause-reach c = omega (arith, c.requires.reach)
+
+pub add_pair-b-requires-clause-pair : goal.add_pair-b-requires-clause-pair
+add_pair-b-requires-clause-pair c = omega (arith, c.loop-pair-test.true)
+
+pub add_pair-b-requires-clause-before : goal.add_pair-b-requires-clause-before
+add_pair-b-requires-clause-before c = c.loop-pair.invariant.b
+
+pub begin-c-requires-clause-samples : goal.begin-c-requires-clause-samples
+begin-c-requires-clause-samples c = c.requires.samples
+
+pub begin-c-requires-clause-products : goal.begin-c-requires-clause-products
+begin-c-requires-clause-products c = c.requires.products
+
+pub begin-c-requires-clause-reach : goal.begin-c-requires-clause-reach
+begin-c-requires-clause-reach c = omega (arith, c.requires.reach)
+
+pub add_pair-c-requires-clause-samples : goal.add_pair-c-requires-clause-samples
+add_pair-c-requires-clause-samples c = c.requires.samples
+
+pub add_pair-c-requires-clause-products : goal.add_pair-c-requires-clause-products
+add_pair-c-requires-clause-products c = c.requires.products
+
+pub add_pair-c-requires-clause-reach : goal.add_pair-c-requires-clause-reach
+add_pair-c-requires-clause-reach c = omega (arith, c.requires.reach)
+
+pub add_pair-c-requires-clause-pair : goal.add_pair-c-requires-clause-pair
+add_pair-c-requires-clause-pair c = omega (arith, c.loop-pair-test.true)
+
+pub add_pair-c-requires-clause-before : goal.add_pair-c-requires-clause-before
+add_pair-c-requires-clause-before c = c.loop-pair.invariant.c
+
+pub begin-d-requires-clause-samples : goal.begin-d-requires-clause-samples
+begin-d-requires-clause-samples c = c.requires.samples
+
+pub begin-d-requires-clause-products : goal.begin-d-requires-clause-products
+begin-d-requires-clause-products c = c.requires.products
+
+pub begin-d-requires-clause-reach : goal.begin-d-requires-clause-reach
+begin-d-requires-clause-reach c = omega (arith, c.requires.reach)
+
+pub add_pair-d-requires-clause-samples : goal.add_pair-d-requires-clause-samples
+add_pair-d-requires-clause-samples c = c.requires.samples
+
+pub add_pair-d-requires-clause-products : goal.add_pair-d-requires-clause-products
+add_pair-d-requires-clause-products c = c.requires.products
+
+pub add_pair-d-requires-clause-reach : goal.add_pair-d-requires-clause-reach
+add_pair-d-requires-clause-reach c = omega (arith, c.requires.reach)
+
+pub add_pair-d-requires-clause-pair : goal.add_pair-d-requires-clause-pair
+add_pair-d-requires-clause-pair c = omega (arith, c.loop-pair-test.true)
+
+pub add_pair-d-requires-clause-before : goal.add_pair-d-requires-clause-before
+add_pair-d-requires-clause-before c = c.loop-pair.invariant.d
+
+pub begin-e-requires-clause-samples : goal.begin-e-requires-clause-samples
+begin-e-requires-clause-samples c = c.requires.samples
+
+pub begin-e-requires-clause-products : goal.begin-e-requires-clause-products
+begin-e-requires-clause-products c = c.requires.products
+
+pub begin-e-requires-clause-reach : goal.begin-e-requires-clause-reach
+begin-e-requires-clause-reach c = omega (arith, c.requires.reach)
+
+pub add_pair-e-requires-clause-samples : goal.add_pair-e-requires-clause-samples
+add_pair-e-requires-clause-samples c = c.requires.samples
+
+pub add_pair-e-requires-clause-products : goal.add_pair-e-requires-clause-products
+add_pair-e-requires-clause-products c = c.requires.products
+
+pub add_pair-e-requires-clause-reach : goal.add_pair-e-requires-clause-reach
+add_pair-e-requires-clause-reach c = omega (arith, c.requires.reach)
+
+pub add_pair-e-requires-clause-pair : goal.add_pair-e-requires-clause-pair
+add_pair-e-requires-clause-pair c = omega (arith, c.loop-pair-test.true)
+
+pub add_pair-e-requires-clause-before : goal.add_pair-e-requires-clause-before
+add_pair-e-requires-clause-before c = c.loop-pair.invariant.e
+
+pub begin-f-requires-clause-samples : goal.begin-f-requires-clause-samples
+begin-f-requires-clause-samples c = c.requires.samples
+
+pub begin-f-requires-clause-products : goal.begin-f-requires-clause-products
+begin-f-requires-clause-products c = c.requires.products
+
+pub begin-f-requires-clause-reach : goal.begin-f-requires-clause-reach
+begin-f-requires-clause-reach c = omega (arith, c.requires.reach)
+
+pub add_pair-f-requires-clause-samples : goal.add_pair-f-requires-clause-samples
+add_pair-f-requires-clause-samples c = c.requires.samples
+
+pub add_pair-f-requires-clause-products : goal.add_pair-f-requires-clause-products
+add_pair-f-requires-clause-products c = c.requires.products
+
+pub add_pair-f-requires-clause-reach : goal.add_pair-f-requires-clause-reach
+add_pair-f-requires-clause-reach c = omega (arith, c.requires.reach)
+
+pub add_pair-f-requires-clause-pair : goal.add_pair-f-requires-clause-pair
+add_pair-f-requires-clause-pair c = omega (arith, c.loop-pair-test.true)
+
+pub add_pair-f-requires-clause-before : goal.add_pair-f-requires-clause-before
+add_pair-f-requires-clause-before c = c.loop-pair.invariant.f
+
+pub begin-g-requires-clause-samples : goal.begin-g-requires-clause-samples
+begin-g-requires-clause-samples c = c.requires.samples
+
+pub begin-g-requires-clause-products : goal.begin-g-requires-clause-products
+begin-g-requires-clause-products c = c.requires.products
+
+pub begin-g-requires-clause-reach : goal.begin-g-requires-clause-reach
+begin-g-requires-clause-reach c = omega (arith, c.requires.reach)
+
+pub add_pair-g-requires-clause-samples : goal.add_pair-g-requires-clause-samples
+add_pair-g-requires-clause-samples c = c.requires.samples
+
+pub add_pair-g-requires-clause-products : goal.add_pair-g-requires-clause-products
+add_pair-g-requires-clause-products c = c.requires.products
+
+pub add_pair-g-requires-clause-reach : goal.add_pair-g-requires-clause-reach
+add_pair-g-requires-clause-reach c = omega (arith, c.requires.reach)
+
+pub add_pair-g-requires-clause-pair : goal.add_pair-g-requires-clause-pair
+add_pair-g-requires-clause-pair c = omega (arith, c.loop-pair-test.true)
+
+pub add_pair-g-requires-clause-before : goal.add_pair-g-requires-clause-before
+add_pair-g-requires-clause-before c = c.loop-pair.invariant.g
+
+pub begin-h-requires-clause-samples : goal.begin-h-requires-clause-samples
+begin-h-requires-clause-samples c = c.requires.samples
+
+pub begin-h-requires-clause-products : goal.begin-h-requires-clause-products
+begin-h-requires-clause-products c = c.requires.products
+
+pub begin-h-requires-clause-reach : goal.begin-h-requires-clause-reach
+begin-h-requires-clause-reach c = omega (arith, c.requires.reach)
+
+pub add_pair-h-requires-clause-samples : goal.add_pair-h-requires-clause-samples
+add_pair-h-requires-clause-samples c = c.requires.samples
+
+pub add_pair-h-requires-clause-products : goal.add_pair-h-requires-clause-products
+add_pair-h-requires-clause-products c = c.requires.products
+
+pub add_pair-h-requires-clause-reach : goal.add_pair-h-requires-clause-reach
+add_pair-h-requires-clause-reach c = omega (arith, c.requires.reach)
+
+pub add_pair-h-requires-clause-pair : goal.add_pair-h-requires-clause-pair
+add_pair-h-requires-clause-pair c = omega (arith, c.loop-pair-test.true)
+
+pub add_pair-h-requires-clause-before : goal.add_pair-h-requires-clause-before
+add_pair-h-requires-clause-before c = c.loop-pair.invariant.h
+
+pub write-second-requires-clause-four : goal.write-second-requires-clause-four
+write-second-requires-clause-four c = c.loop-pair.invariant.a.four
+
+pub write-second-requires-clause-within : goal.write-second-requires-clause-within
+write-second-requires-clause-within c = c.loop-pair.invariant.a.within
+
+pub write-third-requires-clause-four : goal.write-third-requires-clause-four
+write-third-requires-clause-four c = c.loop-pair.invariant.b.four
+
+pub write-third-requires-clause-within : goal.write-third-requires-clause-within
+write-third-requires-clause-within c = c.loop-pair.invariant.b.within
+
+pub write-fourth-requires-clause-four : goal.write-fourth-requires-clause-four
+write-fourth-requires-clause-four c = c.loop-pair.invariant.c.four
+
+pub write-fourth-requires-clause-within : goal.write-fourth-requires-clause-within
+write-fourth-requires-clause-within c = c.loop-pair.invariant.c.within
+
+pub write-fifth-requires-clause-four : goal.write-fifth-requires-clause-four
+write-fifth-requires-clause-four c = c.loop-pair.invariant.d.four
+
+pub write-fifth-requires-clause-within : goal.write-fifth-requires-clause-within
+write-fifth-requires-clause-within c = c.loop-pair.invariant.d.within
+
+pub write-sixth-requires-clause-four : goal.write-sixth-requires-clause-four
+write-sixth-requires-clause-four c = c.loop-pair.invariant.e.four
+
+pub write-sixth-requires-clause-within : goal.write-sixth-requires-clause-within
+write-sixth-requires-clause-within c = c.loop-pair.invariant.e.within
+
+pub write-seventh-requires-clause-four : goal.write-seventh-requires-clause-four
+write-seventh-requires-clause-four c = c.loop-pair.invariant.f.four
+
+pub write-seventh-requires-clause-within : goal.write-seventh-requires-clause-within
+write-seventh-requires-clause-within c = c.loop-pair.invariant.f.within
+
+pub write-eighth-requires-clause-four : goal.write-eighth-requires-clause-four
+write-eighth-requires-clause-four c = c.loop-pair.invariant.g.four
+
+pub write-eighth-requires-clause-within : goal.write-eighth-requires-clause-within
+write-eighth-requires-clause-within c = c.loop-pair.invariant.g.within
+
+pub write-end-requires-clause-four : goal.write-end-requires-clause-four
+write-end-requires-clause-four c = c.loop-pair.invariant.h.four
+
+pub write-end-requires-clause-within : goal.write-end-requires-clause-within
+write-end-requires-clause-within c = c.loop-pair.invariant.h.within

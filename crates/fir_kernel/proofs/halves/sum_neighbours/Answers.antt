@@ -3,6 +3,8 @@ use Rattle.std.proofs.lemmas.Int.{to_z-of_z}
 use Rattle.ialg.specs.History.{word_at}
 use Rattle.fir_kernel.specs.Sums.{l_mac_sum}
 use Rattle.fir_kernel.proofs.HalfSums.{tap_at, one_more, two_more}
+use Rattle.fir_kernel.proofs.Parts.{part_length}
+use Rattle.fir_kernel.proofs.SmallWords.{part_halves}
 use Rattle.fir_kernel.proofs.halves.sum_neighbours.Goals as goal
 
 pub loop-pair-preserved : goal.loop-pair-preserved
@@ -41,3 +43,33 @@ returns-then-count-eq1-clause-sums c i b =
     let added = rw (to_z-of_z w16 (word_at cs (n - 1)) f, last) at c.add_product.ensures.sums in
     added i (l_mac_sum (word_at cs) x tap) (omega arith) (c.loop-pair.invariant.sums i (omega arith))
     ∙ one_more (word_at cs) x tap n _ (omega arith) (tap_at line first (first + length c.loop-pair.sums) i _ (omega arith) (omega arith))
+
+pub add_products-requires-clause-newer_products : goal.add_products-requires-clause-newer_products
+add_products-requires-clause-newer_products c =
+    let f : FitsSigned w16 (word_at c.args.coefficients.now (2 * c.loop-pair.pair)) = search rules in
+    part_halves c.args.coefficients.now c.args.line.now _ f c.requires.halves _ _
+
+pub add_products-requires-clause-older_products : goal.add_products-requires-clause-older_products
+add_products-requires-clause-older_products c =
+    let f : FitsSigned w16 (word_at c.args.coefficients.now (2 * c.loop-pair.pair + 1)) = search rules in
+    part_halves c.args.coefficients.now c.args.line.now _ f c.requires.halves _ _
+
+pub add_product-requires-clause-products : goal.add_product-requires-clause-products
+add_product-requires-clause-products c =
+    let f : FitsSigned w16 (word_at c.args.coefficients.now (length c.args.coefficients.now - 1)) = search rules in
+    part_halves c.args.coefficients.now c.args.line.now _ f c.requires.halves _ _
+
+pub add_products-requires-clause-as_many_newer : goal.add_products-requires-clause-as_many_newer
+add_products-requires-clause-as_many_newer c =
+    let older = c.args.first + (length c.args.coefficients.now - 2 - 2 * c.loop-pair.pair) in
+    part_length c.args.line.now (older + 1) (older + 1 + length c.loop-pair.sums) (omega arith) (omega arith) ∙ omega arith
+
+pub add_products-requires-clause-as_many_older : goal.add_products-requires-clause-as_many_older
+add_products-requires-clause-as_many_older c =
+    let older = c.args.first + (length c.args.coefficients.now - 2 - 2 * c.loop-pair.pair) in
+    part_length c.args.line.now older (older + length c.loop-pair.sums) (omega arith) (omega arith) ∙ omega arith
+
+pub returns-else-count-eq1-clause-sums : goal.returns-else-count-eq1-clause-sums
+returns-else-count-eq1-clause-sums c i b =
+    let all : 2 * c.loop-pair.pair ≡ length c.args.coefficients.now = omega arith in
+    rw all at (c.loop-pair.invariant.sums i (omega arith))

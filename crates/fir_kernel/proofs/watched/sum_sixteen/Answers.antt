@@ -1,9 +1,11 @@
-use Rattle.std.proofs.Common.{◌≡◌, ◌+◌, ◌-◌, ◌*◌, ◌%◌, ◌<◌, ◌≤◌, length, FitsSigned, w16, rules, refl, arith}
+use Rattle.std.proofs.Common.{◌≡◌, ◌∙◌, ◌+◌, ◌-◌, ◌*◌, ◌%◌, ◌<◌, ◌≤◌, length, FitsSigned, w16, rules, refl, arith}
 use Rattle.std.proofs.lemmas.Int.{to_z-of_z}
 use Rattle.ialg.specs.History.{word_at}
 use Rattle.fir_kernel.specs.HalfLanes.{taps_sum}
 use Rattle.fir_kernel.proofs.HalfLanes.{halved_kept, none_written, four_written, no_sums}
 use Rattle.fir_kernel.proofs.Lanes.{part_fits}
+use Rattle.fir_kernel.proofs.Parts.{part_length}
+use Rattle.fir_kernel.proofs.SmallWords.{coefficient_halves}
 use Rattle.fir_kernel.proofs.Groups.{added_together, ahead, between, newer_tap, room_small, stay_within}
 use Rattle.fir_kernel.proofs.watched.sum_sixteen.Goals as goal
 use Rattle.fir_kernel.proofs.watched.sum_sixteen.Goals.{then-are_below, else-are_below}
@@ -150,3 +152,199 @@ returns c =
     let three = four_written cs line old _ c.write-fourth.new.sums _ first at 8 taps c.write-third.result (first + 8) all at8 (omega arith) two c.write-fourth.ensures.written e in
     let at12 : c.write-fourth.result ≡ at + 12 = omega (arith, c.write-fourth.ensures.next, at8) in
     four_written cs line old _ c.write-end.new.sums _ first at 12 taps c.write-fourth.result (first + 12) all at12 (omega arith) three c.write-end.ensures.written d
+
+pub add_newer-a-requires-clause-samples : goal.add_newer-a-requires-clause-samples
+add_newer-a-requires-clause-samples c = c.requires.samples
+
+pub add_newer-a-requires-clause-four : goal.add_newer-a-requires-clause-four
+add_newer-a-requires-clause-four c = c.loop-tap.invariant.a.four
+
+pub add_newer-a-requires-clause-within : goal.add_newer-a-requires-clause-within
+add_newer-a-requires-clause-within c = c.loop-tap.invariant.a.within
+
+pub add_together-a-requires-clause-samples : goal.add_together-a-requires-clause-samples
+add_together-a-requires-clause-samples c = c.requires.samples
+
+pub add_in_order-a-requires-clause-samples : goal.add_in_order-a-requires-clause-samples
+add_in_order-a-requires-clause-samples c = c.requires.samples
+
+pub add_in_order-a-requires-clause-products : goal.add_in_order-a-requires-clause-products
+add_in_order-a-requires-clause-products c = c.requires.products
+
+pub add_in_order-a-requires-clause-before : goal.add_in_order-a-requires-clause-before
+add_in_order-a-requires-clause-before c = c.loop-group.invariant.a
+
+pub are_below-requires-clause-a : goal.are_below-requires-clause-a
+are_below-requires-clause-a c = c.loop-group.invariant.a.four
+
+pub are_below-requires-clause-a_halves : goal.are_below-requires-clause-a_halves
+are_below-requires-clause-a_halves c = c.loop-group.invariant.a.within
+
+pub add_newer-a-requires-clause-products : goal.add_newer-a-requires-clause-products
+add_newer-a-requires-clause-products c =
+    let f : FitsSigned w16 (word_at c.args.coefficients.now c.loop-tap.tap) = search rules in
+    coefficient_halves c.args.coefficients.now c.args.line.now _ f c.requires.products
+
+pub add_newer-b-requires-clause-samples : goal.add_newer-b-requires-clause-samples
+add_newer-b-requires-clause-samples c = c.requires.samples
+
+pub add_newer-b-requires-clause-four : goal.add_newer-b-requires-clause-four
+add_newer-b-requires-clause-four c = c.loop-tap.invariant.b.four
+
+pub add_newer-b-requires-clause-within : goal.add_newer-b-requires-clause-within
+add_newer-b-requires-clause-within c = c.loop-tap.invariant.b.within
+
+pub add_together-b-requires-clause-samples : goal.add_together-b-requires-clause-samples
+add_together-b-requires-clause-samples c = c.requires.samples
+
+pub add_in_order-b-requires-clause-samples : goal.add_in_order-b-requires-clause-samples
+add_in_order-b-requires-clause-samples c = c.requires.samples
+
+pub add_in_order-b-requires-clause-products : goal.add_in_order-b-requires-clause-products
+add_in_order-b-requires-clause-products c = c.requires.products
+
+pub add_in_order-b-requires-clause-before : goal.add_in_order-b-requires-clause-before
+add_in_order-b-requires-clause-before c = c.loop-group.invariant.b
+
+pub are_below-requires-clause-b : goal.are_below-requires-clause-b
+are_below-requires-clause-b c = c.loop-group.invariant.b.four
+
+pub are_below-requires-clause-b_halves : goal.are_below-requires-clause-b_halves
+are_below-requires-clause-b_halves c = c.loop-group.invariant.b.within
+
+pub add_newer-b-requires-clause-products : goal.add_newer-b-requires-clause-products
+add_newer-b-requires-clause-products c =
+    let f : FitsSigned w16 (word_at c.args.coefficients.now c.loop-tap.tap) = search rules in
+    coefficient_halves c.args.coefficients.now c.args.line.now _ f c.requires.products
+
+pub add_newer-c-requires-clause-samples : goal.add_newer-c-requires-clause-samples
+add_newer-c-requires-clause-samples c = c.requires.samples
+
+pub add_newer-c-requires-clause-four : goal.add_newer-c-requires-clause-four
+add_newer-c-requires-clause-four c = c.loop-tap.invariant.c.four
+
+pub add_newer-c-requires-clause-within : goal.add_newer-c-requires-clause-within
+add_newer-c-requires-clause-within c = c.loop-tap.invariant.c.within
+
+pub add_together-c-requires-clause-samples : goal.add_together-c-requires-clause-samples
+add_together-c-requires-clause-samples c = c.requires.samples
+
+pub add_in_order-c-requires-clause-samples : goal.add_in_order-c-requires-clause-samples
+add_in_order-c-requires-clause-samples c = c.requires.samples
+
+pub add_in_order-c-requires-clause-products : goal.add_in_order-c-requires-clause-products
+add_in_order-c-requires-clause-products c = c.requires.products
+
+pub add_in_order-c-requires-clause-before : goal.add_in_order-c-requires-clause-before
+add_in_order-c-requires-clause-before c = c.loop-group.invariant.c
+
+pub are_below-requires-clause-c : goal.are_below-requires-clause-c
+are_below-requires-clause-c c = c.loop-group.invariant.c.four
+
+pub are_below-requires-clause-c_halves : goal.are_below-requires-clause-c_halves
+are_below-requires-clause-c_halves c = c.loop-group.invariant.c.within
+
+pub add_newer-c-requires-clause-products : goal.add_newer-c-requires-clause-products
+add_newer-c-requires-clause-products c =
+    let f : FitsSigned w16 (word_at c.args.coefficients.now c.loop-tap.tap) = search rules in
+    coefficient_halves c.args.coefficients.now c.args.line.now _ f c.requires.products
+
+pub add_newer-d-requires-clause-samples : goal.add_newer-d-requires-clause-samples
+add_newer-d-requires-clause-samples c = c.requires.samples
+
+pub add_newer-d-requires-clause-four : goal.add_newer-d-requires-clause-four
+add_newer-d-requires-clause-four c = c.loop-tap.invariant.d.four
+
+pub add_newer-d-requires-clause-within : goal.add_newer-d-requires-clause-within
+add_newer-d-requires-clause-within c = c.loop-tap.invariant.d.within
+
+pub add_together-d-requires-clause-samples : goal.add_together-d-requires-clause-samples
+add_together-d-requires-clause-samples c = c.requires.samples
+
+pub add_in_order-d-requires-clause-samples : goal.add_in_order-d-requires-clause-samples
+add_in_order-d-requires-clause-samples c = c.requires.samples
+
+pub add_in_order-d-requires-clause-products : goal.add_in_order-d-requires-clause-products
+add_in_order-d-requires-clause-products c = c.requires.products
+
+pub add_in_order-d-requires-clause-before : goal.add_in_order-d-requires-clause-before
+add_in_order-d-requires-clause-before c = c.loop-group.invariant.d
+
+pub are_below-requires-clause-d : goal.are_below-requires-clause-d
+are_below-requires-clause-d c = c.loop-group.invariant.d.four
+
+pub are_below-requires-clause-d_halves : goal.are_below-requires-clause-d_halves
+are_below-requires-clause-d_halves c = c.loop-group.invariant.d.within
+
+pub add_newer-d-requires-clause-products : goal.add_newer-d-requires-clause-products
+add_newer-d-requires-clause-products c =
+    let f : FitsSigned w16 (word_at c.args.coefficients.now c.loop-tap.tap) = search rules in
+    coefficient_halves c.args.coefficients.now c.args.line.now _ f c.requires.products
+
+pub add_newer-a-requires-clause-reach : goal.add_newer-a-requires-clause-reach
+add_newer-a-requires-clause-reach c = omega (arith, c.requires.reach, c.requires.some, c.loop-tap-test.true)
+
+pub add_together-a-requires-clause-reach : goal.add_together-a-requires-clause-reach
+add_together-a-requires-clause-reach c = omega (arith, c.requires.reach, c.loop-group-test.true)
+
+pub add_in_order-a-requires-clause-reach : goal.add_in_order-a-requires-clause-reach
+add_in_order-a-requires-clause-reach c = omega (arith, c.requires.reach)
+
+pub add_in_order-a-requires-clause-tap : goal.add_in_order-a-requires-clause-tap
+add_in_order-a-requires-clause-tap c = omega (arith, c.loop-group-test.true)
+
+pub add_together-a-requires-clause-taps : goal.add_together-a-requires-clause-taps
+add_together-a-requires-clause-taps c =
+    let tap = length c.args.coefficients.now % 8 + 8 * c.loop-group.group in
+    part_length c.args.coefficients.now tap (tap + 8) (omega (arith, c.loop-group-test.true)) (omega arith) ∙ omega arith
+
+pub add_newer-b-requires-clause-reach : goal.add_newer-b-requires-clause-reach
+add_newer-b-requires-clause-reach c = omega (arith, c.requires.reach, c.requires.some, c.loop-tap-test.true)
+
+pub add_together-b-requires-clause-reach : goal.add_together-b-requires-clause-reach
+add_together-b-requires-clause-reach c = omega (arith, c.requires.reach, c.loop-group-test.true)
+
+pub add_in_order-b-requires-clause-reach : goal.add_in_order-b-requires-clause-reach
+add_in_order-b-requires-clause-reach c = omega (arith, c.requires.reach)
+
+pub add_in_order-b-requires-clause-tap : goal.add_in_order-b-requires-clause-tap
+add_in_order-b-requires-clause-tap c = omega (arith, c.loop-group-test.true)
+
+pub add_together-b-requires-clause-taps : goal.add_together-b-requires-clause-taps
+add_together-b-requires-clause-taps c =
+    let tap = length c.args.coefficients.now % 8 + 8 * c.loop-group.group in
+    part_length c.args.coefficients.now tap (tap + 8) (omega (arith, c.loop-group-test.true)) (omega arith) ∙ omega arith
+
+pub add_newer-c-requires-clause-reach : goal.add_newer-c-requires-clause-reach
+add_newer-c-requires-clause-reach c = omega (arith, c.requires.reach, c.requires.some, c.loop-tap-test.true)
+
+pub add_together-c-requires-clause-reach : goal.add_together-c-requires-clause-reach
+add_together-c-requires-clause-reach c = omega (arith, c.requires.reach, c.loop-group-test.true)
+
+pub add_in_order-c-requires-clause-reach : goal.add_in_order-c-requires-clause-reach
+add_in_order-c-requires-clause-reach c = omega (arith, c.requires.reach)
+
+pub add_in_order-c-requires-clause-tap : goal.add_in_order-c-requires-clause-tap
+add_in_order-c-requires-clause-tap c = omega (arith, c.loop-group-test.true)
+
+pub add_together-c-requires-clause-taps : goal.add_together-c-requires-clause-taps
+add_together-c-requires-clause-taps c =
+    let tap = length c.args.coefficients.now % 8 + 8 * c.loop-group.group in
+    part_length c.args.coefficients.now tap (tap + 8) (omega (arith, c.loop-group-test.true)) (omega arith) ∙ omega arith
+
+pub add_newer-d-requires-clause-reach : goal.add_newer-d-requires-clause-reach
+add_newer-d-requires-clause-reach c = omega (arith, c.requires.reach, c.requires.some, c.loop-tap-test.true)
+
+pub add_together-d-requires-clause-reach : goal.add_together-d-requires-clause-reach
+add_together-d-requires-clause-reach c = omega (arith, c.requires.reach, c.loop-group-test.true)
+
+pub add_in_order-d-requires-clause-reach : goal.add_in_order-d-requires-clause-reach
+add_in_order-d-requires-clause-reach c = omega (arith, c.requires.reach)
+
+pub add_in_order-d-requires-clause-tap : goal.add_in_order-d-requires-clause-tap
+add_in_order-d-requires-clause-tap c = omega (arith, c.loop-group-test.true)
+
+pub add_together-d-requires-clause-taps : goal.add_together-d-requires-clause-taps
+add_together-d-requires-clause-taps c =
+    let tap = length c.args.coefficients.now % 8 + 8 * c.loop-group.group in
+    part_length c.args.coefficients.now tap (tap + 8) (omega (arith, c.loop-group-test.true)) (omega arith) ∙ omega arith

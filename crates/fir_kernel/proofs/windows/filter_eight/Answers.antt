@@ -70,3 +70,99 @@ returns g c =
       rounded = eight_rounded out c.round_eight.result _ _ c.args.at (λ k. int_wrap w32 (w k)) c.requires.room c.round_eight.ensures.eight low high
           c.round_eight.ensures.low c.round_eight.ensures.high;
     }
+
+pub sum_window-a-requires-clause-words : goal.sum_window-a-requires-clause-words
+sum_window-a-requires-clause-words g c = c.requires.words
+
+pub sum_window-a-requires-clause-samples : goal.sum_window-a-requires-clause-samples
+sum_window-a-requires-clause-samples g c = c.requires.samples
+
+pub sum_window-a-requires-clause-size : goal.sum_window-a-requires-clause-size
+sum_window-a-requires-clause-size g c = c.requires.size
+
+pub sum_window-a-requires-clause-reach : goal.sum_window-a-requires-clause-reach
+sum_window-a-requires-clause-reach g c = omega (arith, c.requires.reach)
+
+pub sum_window-b-requires-clause-words : goal.sum_window-b-requires-clause-words
+sum_window-b-requires-clause-words g c = c.requires.words
+
+pub sum_window-b-requires-clause-samples : goal.sum_window-b-requires-clause-samples
+sum_window-b-requires-clause-samples g c = c.requires.samples
+
+pub sum_window-b-requires-clause-size : goal.sum_window-b-requires-clause-size
+sum_window-b-requires-clause-size g c = c.requires.size
+
+pub sum_window-b-requires-clause-reach : goal.sum_window-b-requires-clause-reach
+sum_window-b-requires-clause-reach g c = omega (arith, c.requires.reach)
+
+pub sum_window-c-requires-clause-words : goal.sum_window-c-requires-clause-words
+sum_window-c-requires-clause-words g c = c.requires.words
+
+pub sum_window-c-requires-clause-samples : goal.sum_window-c-requires-clause-samples
+sum_window-c-requires-clause-samples g c = c.requires.samples
+
+pub sum_window-c-requires-clause-size : goal.sum_window-c-requires-clause-size
+sum_window-c-requires-clause-size g c = c.requires.size
+
+pub sum_window-c-requires-clause-reach : goal.sum_window-c-requires-clause-reach
+sum_window-c-requires-clause-reach g c = omega (arith, c.requires.reach)
+
+pub sum_window-d-requires-clause-words : goal.sum_window-d-requires-clause-words
+sum_window-d-requires-clause-words g c = c.requires.words
+
+pub sum_window-d-requires-clause-samples : goal.sum_window-d-requires-clause-samples
+sum_window-d-requires-clause-samples g c = c.requires.samples
+
+pub sum_window-d-requires-clause-size : goal.sum_window-d-requires-clause-size
+sum_window-d-requires-clause-size g c = c.requires.size
+
+pub sum_window-d-requires-clause-reach : goal.sum_window-d-requires-clause-reach
+sum_window-d-requires-clause-reach g c = omega (arith, c.requires.reach)
+
+pub sum_window-e-requires-clause-words : goal.sum_window-e-requires-clause-words
+sum_window-e-requires-clause-words g c = c.requires.words
+
+pub sum_window-e-requires-clause-samples : goal.sum_window-e-requires-clause-samples
+sum_window-e-requires-clause-samples g c = c.requires.samples
+
+pub sum_window-e-requires-clause-size : goal.sum_window-e-requires-clause-size
+sum_window-e-requires-clause-size g c = c.requires.size
+
+pub sum_window-e-requires-clause-reach : goal.sum_window-e-requires-clause-reach
+sum_window-e-requires-clause-reach g c = omega (arith, c.requires.reach)
+
+pub sum_window-f-requires-clause-words : goal.sum_window-f-requires-clause-words
+sum_window-f-requires-clause-words g c = c.requires.words
+
+pub sum_window-f-requires-clause-samples : goal.sum_window-f-requires-clause-samples
+sum_window-f-requires-clause-samples g c = c.requires.samples
+
+pub sum_window-f-requires-clause-size : goal.sum_window-f-requires-clause-size
+sum_window-f-requires-clause-size g c = c.requires.size
+
+pub sum_window-f-requires-clause-reach : goal.sum_window-f-requires-clause-reach
+sum_window-f-requires-clause-reach g c = omega (arith, c.requires.reach)
+
+pub sum_window-g-requires-clause-words : goal.sum_window-g-requires-clause-words
+sum_window-g-requires-clause-words g c = c.requires.words
+
+pub sum_window-g-requires-clause-samples : goal.sum_window-g-requires-clause-samples
+sum_window-g-requires-clause-samples g c = c.requires.samples
+
+pub sum_window-g-requires-clause-size : goal.sum_window-g-requires-clause-size
+sum_window-g-requires-clause-size g c = c.requires.size
+
+pub sum_window-g-requires-clause-reach : goal.sum_window-g-requires-clause-reach
+sum_window-g-requires-clause-reach g c = omega (arith, c.requires.reach)
+
+pub sum_window-h-requires-clause-words : goal.sum_window-h-requires-clause-words
+sum_window-h-requires-clause-words g c = c.requires.words
+
+pub sum_window-h-requires-clause-samples : goal.sum_window-h-requires-clause-samples
+sum_window-h-requires-clause-samples g c = c.requires.samples
+
+pub sum_window-h-requires-clause-size : goal.sum_window-h-requires-clause-size
+sum_window-h-requires-clause-size g c = c.requires.size
+
+pub sum_window-h-requires-clause-reach : goal.sum_window-h-requires-clause-reach
+sum_window-h-requires-clause-reach g c = omega (arith, c.requires.reach)

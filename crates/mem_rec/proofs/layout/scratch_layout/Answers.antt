@@ -1,9 +1,10 @@
-use Rattle.std.proofs.Common.{ap, arith, ◌∙◌, sym, get_or}
-use Rattle.std.proofs.lemmas.Grind.{common_steps}
+use Rattle.std.proofs.Common.{ℕ, length, ap, append-nil, arith, ◌∙◌, refl, sym, get_or}
+use Rattle.std.specs.Int.{next_multiple_of}
 use Rattle.mem_rec.specs.declared.MemRec.{MemRec}
 use Rattle.mem_rec.specs.declared.Space.TheVariants.{Daram}
 use Rattle.mem_rec.specs.declared.Attr.TheVariants.{Scratch}
-use Rattle.mem_rec.proofs.Layouts.{scratch_in, scratch_out, offsets_in, end_in, align_in, laid_out, behind_object, next_multiple_of_bound}
+use Rattle.mem_rec.proofs.Layouts.{scratch_in, scratch_out, offsets_in, end_in, align_in, laid_out, behind_object, none_left, next_multiple_of_bound}
+use Rattle.mem_rec.proofs.Valid.{within_limits}
 use Rattle.mem_rec.proofs.layout.scratch_layout.Goals as goal
 use Rattle.mem_rec.proofs.layout.scratch_layout.Goals.{then-is_scratch_of, else-is_scratch_of}
 
@@ -63,10 +64,48 @@ loop-r-preserved c =
     ]
 
 pub returns-clause-offsets : goal.returns-clause-offsets
-returns-clause-offsets c = grind (arith, common_steps)
+returns-clause-offsets c =
+    let left = none_left c.args.table.now _ c.loop-r.r-index c.args.space c.records-r-items.ensures.value c.loop-r-test.false in
+    sym (append-nil c.loop-r.offsets.items) ∙ (rw left at c.loop-r.invariant.offsets)
 
 pub returns-clause-need : goal.returns-clause-need
-returns-clause-need c = grind (arith, common_steps)
+returns-clause-need c =
+    let left = none_left c.args.table.now _ c.loop-r.r-index c.args.space c.records-r-items.ensures.value c.loop-r-test.false in
+    c.next_multiple_of.ensures.value ∙ ap (λ (end : ℕ). next_multiple_of end 4) (rw left at c.loop-r.invariant.end)
 
 pub returns-clause-align : goal.returns-clause-align
-returns-clause-align c = grind (arith, common_steps)
+returns-clause-align c =
+    let left = none_left c.args.table.now _ c.loop-r.r-index c.args.space c.records-r-items.ensures.value c.loop-r-test.false in
+    rw left at c.loop-r.invariant.align
+
+pub loop-r-init : goal.loop-r-init
+loop-r-init c = record {
+  offsets = rw c.new-offsets.ensures refl;
+  end = refl;
+  align = refl;
+  few = rw c.new-offsets.ensures (omega arith);
+  low = omega arith;
+}
+
+pub next_multiple_of-requires : goal.next_multiple_of-requires
+next_multiple_of-requires c =
+    let bound = next_multiple_of_bound c.loop-r.end 4 (omega arith) in
+    let low = c.loop-r.invariant.low in
+    let most = c.loop-r.auto.r-index-end in
+    let few = (within_limits c.args.table.now c.records-r-items.ensures.table).few in
+    let same = ap length c.records-r-items.ensures.value in
+    record { nonzero = omega arith; fits = omega (arith, bound, low, most, few, same) }
+
+pub next_multiple_of-offset-requires-clause-nonzero : goal.next_multiple_of-offset-requires-clause-nonzero
+next_multiple_of-offset-requires-clause-nonzero c =
+    let at = laid_out c.args.table.now c.records-r-items.result.now c.loop-r.r-index blank c.records-r-items.ensures.value c.records-r-items.ensures.table c.loop-r-test.true in
+    let aligned = at.bounded.aligned in
+    omega (arith, aligned)
+
+pub push-requires : goal.push-requires
+push-requires c =
+    let at = laid_out c.args.table.now c.records-r-items.result.now c.loop-r.r-index blank c.records-r-items.ensures.value c.records-r-items.ensures.table c.loop-r-test.true in
+    let few = c.loop-r.invariant.few in
+    let inside = at.inside in
+    let most = at.few in
+    (omega arith, omega (arith, few, inside, most))

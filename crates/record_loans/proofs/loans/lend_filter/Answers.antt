@@ -1,5 +1,8 @@
-use Rattle.std.proofs.Common.{◌∙◌}
-use Rattle.record_loans.proofs.Parts.{front_back, no_words}
+use Rattle.std.proofs.Common.{◌≤◌, length, refl, subst, ◌∙◌}
+use Rattle.record_loans.specs.Blocks.{block_words}
+use Rattle.record_loans.specs.Pieces.{piece_words}
+use Rattle.record_loans.proofs.Parts.{front_back, no_words, same_refilled}
+use Rattle.record_loans.proofs.PieceLemmas.{reflexive}
 use Rattle.record_loans.proofs.loans.lend_filter.Goals as goal
 
 pub returns-clause-done : goal.returns-clause-done
@@ -18,3 +21,24 @@ returns-clause-done g c =
     let none = no_words lent.new.r3 lent.auto.r3 in
     rw (c.in-Some.is, c.in-Some-p1.is, c.in-Some-daram.is, object_back, kept_back, running_back)
     (rw (object.front, kept.front, running.front, o, k, r, none) at lent.ensures.done)
+
+pub returns-clause-own : goal.returns-clause-own
+returns-clause-own g c =
+    let own = c.args.own.now in record {
+      p0 = rw c.in-Some.is (same_refilled c.in-Some.object _);
+      p1 = rw c.in-Some-p1.is (same_refilled c.in-Some-p1.kept _);
+      p2 = reflexive own.p2;
+      p3 = reflexive own.p3;
+    }
+
+pub returns-clause-daram : goal.returns-clause-daram
+returns-clause-daram g c = rw c.in-Some-daram.is (same_refilled c.in-Some-daram.block.piece _, refl)
+
+pub split_at_mut-object-requires : goal.split_at_mut-object-requires
+split_at_mut-object-requires g c = rw c.words_mut.ensures.value (subst (λ p. c.args.sizes.object ≤ length (piece_words p)) c.in-Some.is c.requires.fit.object)
+
+pub split_at_mut-kept-requires : goal.split_at_mut-kept-requires
+split_at_mut-kept-requires g c = rw c.words_mut-in-Some-daram.ensures.value (subst (λ p. c.args.sizes.kept ≤ length (piece_words p)) c.in-Some-p1.is c.requires.fit.kept)
+
+pub split_at_mut-running-requires : goal.split_at_mut-running-requires
+split_at_mut-running-requires g c = rw c.words_mut-scratch.ensures.value (subst (λ p. c.args.sizes.running ≤ length (block_words p)) c.in-Some-daram.is c.requires.fit.running)

@@ -1,5 +1,8 @@
-use Rattle.std.proofs.Common.{◌∙◌}
-use Rattle.record_loans.proofs.Parts.{front_back}
+use Rattle.std.proofs.Common.{◌≤◌, length, refl, subst, ◌∙◌}
+use Rattle.record_loans.specs.Blocks.{block_words}
+use Rattle.record_loans.specs.Pieces.{piece_words}
+use Rattle.record_loans.proofs.Parts.{front_back, same_refilled}
+use Rattle.record_loans.proofs.PieceLemmas.{reflexive}
 use Rattle.record_loans.proofs.loans.lend_sharing_filter.Goals as goal
 
 pub returns-clause-done : goal.returns-clause-done
@@ -20,3 +23,30 @@ returns-clause-done g c =
     let running_back = front_back sizes.running c.in-Some-daram.block.piece.words lent.new.r3 _ (lent.auto.r3 ∙ running.front_len) (rw r at running.back_len) in
     rw (c.in-Some.is, c.in-Some-p1.is, c.in-Some-once.is, c.in-Some-daram.is, object_back, kept_back, constants_back, running_back)
     (rw (object.front, kept.front, constants.front, running.front, o, k, w, r) at lent.ensures.done)
+
+pub returns-clause-own : goal.returns-clause-own
+returns-clause-own g c =
+    let own = c.args.own.now in record {
+      p0 = rw c.in-Some.is (same_refilled c.in-Some.object _);
+      p1 = rw c.in-Some-p1.is (same_refilled c.in-Some-p1.kept _);
+      p2 = reflexive own.p2;
+      p3 = reflexive own.p3;
+    }
+
+pub returns-clause-once : goal.returns-clause-once
+returns-clause-once g c = rw c.in-Some-once.is (same_refilled c.in-Some-once.once _)
+
+pub returns-clause-daram : goal.returns-clause-daram
+returns-clause-daram g c = rw c.in-Some-daram.is (same_refilled c.in-Some-daram.block.piece _, refl)
+
+pub split_at_mut-object-requires : goal.split_at_mut-object-requires
+split_at_mut-object-requires g c = rw c.words_mut.ensures.value (subst (λ p. c.args.sizes.object ≤ length (piece_words p)) c.in-Some.is c.requires.fit.object)
+
+pub split_at_mut-kept-requires : goal.split_at_mut-kept-requires
+split_at_mut-kept-requires g c = rw c.words_mut-in-Some-daram.ensures.value (subst (λ p. c.args.sizes.kept ≤ length (piece_words p)) c.in-Some-p1.is c.requires.fit.kept)
+
+pub split_at_mut-constants-requires : goal.split_at_mut-constants-requires
+split_at_mut-constants-requires g c = rw c.words_mut-shared.ensures.value (subst (λ p. c.args.sizes.constants ≤ length (piece_words p)) c.in-Some-once.is c.requires.fit.constants)
+
+pub split_at_mut-running-requires : goal.split_at_mut-running-requires
+split_at_mut-running-requires g c = rw c.words_mut-scratch.ensures.value (subst (λ p. c.args.sizes.running ≤ length (block_words p)) c.in-Some-daram.is c.requires.fit.running)

@@ -1,5 +1,7 @@
-use Rattle.std.proofs.Common.{◌∙◌}
-use Rattle.record_loans.proofs.Parts.{front_back, no_words}
+use Rattle.std.proofs.Common.{◌≤◌, length, subst, ◌∙◌}
+use Rattle.record_loans.specs.Pieces.{piece_words}
+use Rattle.record_loans.proofs.Parts.{front_back, no_words, same_refilled}
+use Rattle.record_loans.proofs.PieceLemmas.{reflexive}
 use Rattle.scratch_group.proofs.lasting.lend_sharing_filter_at_rest.Goals as goal
 
 pub returns-clause-done : goal.returns-clause-done
@@ -18,3 +20,24 @@ returns-clause-done g c =
     let none = no_words lent.new.r3 lent.auto.r3 in
     rw (c.in-Some.is, c.in-Some-p1.is, c.in-Some-once.is, object_back, kept_back, constants_back)
     (rw (object.front, kept.front, constants.front, o, k, w, none) at lent.ensures.done)
+
+pub returns-clause-own : goal.returns-clause-own
+returns-clause-own g c =
+    let own = c.args.own.now in record {
+      p0 = rw c.in-Some.is (same_refilled c.in-Some.object _);
+      p1 = rw c.in-Some-p1.is (same_refilled c.in-Some-p1.kept _);
+      p2 = reflexive own.p2;
+      p3 = reflexive own.p3;
+    }
+
+pub returns-clause-once : goal.returns-clause-once
+returns-clause-once g c = rw c.in-Some-once.is (same_refilled c.in-Some-once.once _)
+
+pub split_at_mut-object-requires : goal.split_at_mut-object-requires
+split_at_mut-object-requires g c = rw c.words_mut.ensures.value (subst (λ p. c.args.sizes.object ≤ length (piece_words p)) c.in-Some.is c.requires.object)
+
+pub split_at_mut-kept-requires : goal.split_at_mut-kept-requires
+split_at_mut-kept-requires g c = rw c.words_mut-in-Some-once.ensures.value (subst (λ p. c.args.sizes.kept ≤ length (piece_words p)) c.in-Some-p1.is c.requires.kept)
+
+pub split_at_mut-constants-requires : goal.split_at_mut-constants-requires
+split_at_mut-constants-requires g c = rw c.words_mut-shared.ensures.value (subst (λ p. c.args.sizes.constants ≤ length (piece_words p)) c.in-Some-once.is c.requires.constants)

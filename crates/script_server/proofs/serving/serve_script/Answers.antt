@@ -1,5 +1,4 @@
-use Rattle.std.proofs.Common.{rules, ◌≡◌, arith, ◌+◌, ◌∙◌, refl, ap, Err, ◌≤◌, length, ◌++◌, ◌∷◌, [], map, if◌then◌else◌, inl, inr}
-use Rattle.std.proofs.lemmas.Grind.{common_steps}
+use Rattle.std.proofs.Common.{rules, ◌≡◌, arith, ◌+◌, ◌∙◌, refl, ap, Err, ◌≤◌, length, length-append, ◌++◌, ◌∷◌, [], map, if◌then◌else◌, inl, inr}
 use Rattle.octet_ports.proofs.Ports.{gives_none}
 use Rattle.script_server.proofs.Scripts.{served_none, consumes_more}
 use Rattle.script_server.proofs.Honest.{honest_first}
@@ -20,7 +19,7 @@ lines-init g c = record {
   one = search rules;
   pairs = search rules;
   ready = search rules;
-  few = search rules;
+  few = omega (arith, c.new-reader.ensures.left);
   came = rw (c.new-reader.ensures.none, c.new-reader.ensures.left) (record { octets = []; gives = gives_none (g.S.PortIn.source c.args.script.now); used = refl });
   waits = wait_none _ _;
   served = rw (c.new-reader.ensures.none, c.new-reader.ensures.left)
@@ -65,8 +64,8 @@ returns-then-line-clause-ok g c =
     let count : c.if-is_refused.refused ≡ c.lines.refused + (if c.in-Ok-serve_line.is_refused then 1 else 0) =
     elim c.if-is_refused.branch [ then-is_refused w ↦ rw w.if-is_refused.true w.refused-is | else-is_refused w ↦ rw w.if-is_refused.false (omega (arith, w.refused-is)) ] in
     record {
-      script = search rules;
-      ready = search rules;
+      script = c.in-Ok.ensures.ready refl;
+      ready = c.in-Ok-serve_line.ensures.ready refl;
       served = λ honest. let served = c.lines.invariant.served in
           served_all (g.T.LineMachine.machine (g.T.LineMachine.widths c.args.machine.now)) _ _ _ honest served came
           (rw c.lines.invariant.widths at (c.in-Ok-serve_line.ensures.served came.octets _ _ (rw (c.as_slice.ensures.value) came.line) served.kept served.still)) count;
@@ -81,12 +80,12 @@ lines-preserved g c =
     elim c.if-is_refused.branch [ then-is_refused w ↦ omega arith | else-is_refused w ↦ omega arith ] in
     let used : c.lines.reader.left ≡ length (came.octets ++ 10 ∷ []) + c.read_line.new.self.left = came.used in
     record {
-      script = search rules;
+      script = c.in-Ok.ensures.ready refl;
       widths = c.in-Ok-serve_line.ensures.widths ∙ c.lines.invariant.widths;
-      one = search rules;
-      pairs = search rules;
-      ready = search rules;
-      few = let f = c.lines.invariant.few in grind (arith, common_steps);
+      one = c.in-Ok-serve_line.ensures.inputs refl;
+      pairs = c.in-Ok-serve_line.ensures.outputs refl;
+      ready = c.in-Ok-serve_line.ensures.ready refl;
+      few = let long = length-append came.octets (10 ∷ []) in omega (arith, c.lines.invariant.few, one, used, long);
       came = consumes_more c.lines.invariant.came came;
       waits = wait_more c.lines.invariant.waits c.in-Ok-serve_line.ensures.waits;
       served = let served = c.lines.invariant.served in
@@ -102,3 +101,18 @@ returns-in-Err-serve_line-clause-few g c = consumes_within c.read_line.new.self.
 
 pub returns-then-line-clause-few : goal.returns-then-line-clause-few
 returns-then-line-clause-few g c = consumes_within c.read_line.new.self.octets (g.S.PortIn.source c.read_line.new.script) (consumes_more c.lines.invariant.came c.in-Ok.ensures.ok) c.in-Ok.ensures.within
+
+pub lines-smaller : goal.lines-smaller
+lines-smaller g c =
+    let came = rw c.if-line.false at c.in-Ok.ensures.ok in
+    let long = length-append came.octets (10 ∷ []) in
+    omega (arith, came.used, long)
+
+pub returns-in-Err-clause-waits : goal.returns-in-Err-clause-waits
+returns-in-Err-clause-waits g c = c.lines.invariant.waits
+
+pub returns-in-Err-serve_line-clause-waits : goal.returns-in-Err-serve_line-clause-waits
+returns-in-Err-serve_line-clause-waits g c = wait_more c.lines.invariant.waits c.in-Err-serve_line.ensures.waits
+
+pub returns-then-line-clause-waits : goal.returns-then-line-clause-waits
+returns-then-line-clause-waits g c = wait_more c.lines.invariant.waits c.in-Ok-serve_line.ensures.waits

@@ -5,7 +5,7 @@ use Rattle.std.specs.Int.{next_multiple_of}
 use Rattle.space_raw.specs.Span.{Scattered, Span}
 use Rattle.space_heap.specs.declared.find.Found.{Found}
 use Rattle.space_heap.specs.declared.find.Fit.{Fit}
-use Rattle.space_heap.specs.Holes.{IsFit, IsFound, IsFreeFrom, IsFromOn, hole_end, in_rest}
+use Rattle.space_heap.specs.Holes.{HasHoles, IsFit, IsFound, IsFreeFrom, IsFromOn, hole_end, in_rest}
 use Rattle.space_heap.proofs.Ends.{found_chains, free_before, taken_before, taken_before_all}
 use Rattle.relocate.proofs.Multiples.{not_lower}
 use Rattle.space_heap.proofs.Finds.{unit_multiple}
@@ -71,3 +71,24 @@ returns-else-end-start-clause-place c =
           let away = away_within slots place (length c.args.piece.now.words) c.apart.ensures.apart place (omega arith) (omega arith) in
           (place, taken_before slots c.args.first f found place (omega arith) (omega arith) away (λ e. test (omega arith)) late, not_lower place c.args.align)
     ]
+
+pub returns-in_err-found-clause-same : goal.returns-in_err-found-clause-same
+returns-in_err-found-clause-same c = c.apart.ensures.same
+
+pub returns-in_err-found-clause-taken : goal.returns-in_err-found-clause-taken
+returns-in_err-found-clause-taken c = away_within c.args.rest.now.slots c.args.piece.now.place (length c.args.piece.now.words) c.apart.ensures.apart
+
+pub returns-then-place-start-clause-same : goal.returns-then-place-start-clause-same
+returns-then-place-start-clause-same c = c.apart.ensures.same
+
+pub returns-then-place-start-clause-taken : goal.returns-then-place-start-clause-taken
+returns-then-place-start-clause-taken c = away_within c.args.rest.now.slots c.args.piece.now.place (length c.args.piece.now.words) c.apart.ensures.apart
+
+pub returns-else-end-start-clause-same : goal.returns-else-end-start-clause-same
+returns-else-end-start-clause-same c = c.apart.ensures.same
+
+pub returns-else-end-start-clause-taken : goal.returns-else-end-start-clause-taken
+returns-else-end-start-clause-taken c = away_within c.args.rest.now.slots c.args.piece.now.place (length c.args.piece.now.words) c.apart.ensures.apart
+
+pub last_before-requires : goal.last_before-requires
+last_before-requires c = record { holes = subst (λ (r : Scattered). HasHoles r.slots c.args.first) (sym c.apart.ensures.same.0) c.requires.holes }

@@ -62,3 +62,6 @@ returns-then-are_words c =
     rw (sample, older, feedback, to_z-of_z w32 (y +ℤ f) sum, to_z-of_z w32 ((y +ℤ f) -ℤ v2) value)
     (to_z-of_z w16 ((y +ℤ f) -ℤ v2) words.2 ∙ no_limits y f v2 (feedback_of k v1) limited words.0 words.1 words.2
     ∙ ap (λ x. sub_of (add_of x (feedback_of k v1)) v2) shifted)
+
+pub overflow_cast-result : goal.overflow_cast-result
+overflow_cast-result c = (c.are_words.ensures c.if-are_words.true).2

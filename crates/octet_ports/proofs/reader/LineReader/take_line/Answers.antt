@@ -1,4 +1,5 @@
-use Rattle.std.proofs.Common.{rules}
+use Rattle.std.proofs.Common.{rules, refl, sym, arith}
+use Rattle.std.proofs.lemmas.Bool.{false≢true}
 use Rattle.octet_ports.proofs.Ahead.{line_taken, window, window_after}
 use Rattle.octet_ports.proofs.reader.LineReader.take_line.Goals as goal
 
@@ -28,3 +29,42 @@ returns-clause-within g c = (window c.self.inside.buffer _ _ _ (invariant_of-sel
 
 pub returns-clause-few : goal.returns-clause-few
 returns-clause-few g c = (window c.self.inside.buffer _ _ _ (invariant_of-self g c)).1
+
+pub returns-in_default-clause-taken : goal.returns-in_default-clause-taken
+returns-in_default-clause-taken g c = λ bad. absurd (false≢true bad)
+
+pub returns-then-line-clause-taken : goal.returns-then-line-clause-taken
+returns-then-line-clause-taken g c = λ bad. absurd (false≢true bad)
+
+pub returns-clause-nothing : goal.returns-clause-nothing
+returns-clause-nothing g c = λ bad. absurd (false≢true (sym bad))
+
+pub overflow_add-count : goal.overflow_add-count
+overflow_add-count g c =
+    let r = c.self.inside in
+    let order = (window_after r.buffer r.at r.end r.left c.in-Some.line.now c.self.invariant c.in-Some.ensures).order in
+    let within = c.self.invariant.within in
+    omega (arith, order, within)
+
+pub overflow_add-self : goal.overflow_add-self
+overflow_add-self g c =
+    let r = c.self.inside in
+    let order = (window_after r.buffer r.at r.end r.left c.in-Some.line.now c.self.invariant c.in-Some.ensures).order in
+    let within = c.self.invariant.within in
+    omega (arith, order, within)
+
+pub overflow_sub-self : goal.overflow_sub-self
+overflow_sub-self g c =
+    let r = c.self.inside in
+    let order = (window_after r.buffer r.at r.end r.left c.in-Some.line.now c.self.invariant c.in-Some.ensures).order in
+    let few = c.self.invariant.few in
+    omega (arith, order, few)
+
+pub returns-then-line-clause-nothing : goal.returns-then-line-clause-nothing
+returns-then-line-clause-nothing g c = λ _. (refl, refl)
+
+pub returns-in_default-clause-nothing : goal.returns-in_default-clause-nothing
+returns-in_default-clause-nothing g c = λ _. (refl, refl)
+
+pub slice_bounds-first_line-count : goal.slice_bounds-first_line-count
+slice_bounds-first_line-count g c = c.self.invariant.order
