@@ -24,10 +24,10 @@ PICTURE = Path("docs/architecture.svg")
 
 # The layers from the top down, where crates.txt has no headings: a crate belongs to the first whose pattern it matches as a whole.
 LAYERS: tuple[tuple[str, str], ...] = (
-    ("tests", r"test_\w+|\w+_trace|rogue_kit|mixed_console"),
+    ("tests", r"test_\w+|\w+_trace|mixed_console"),
     ("C library", r"\w+_library"),
     ("program", r"dsp_console_main|gateway_console|dsp_arguments|dsp_program|port_files"),
-    ("engine", r"dsp_console|script_server|octet_ports"),
+    ("engine", r"dsp_console|script_\w+|octet_ports"),
     ("channels", r"voice_channel"),
     ("host", r"alg_host|host_instances"),
     ("instances of a host", r"host_(?:table|shared|moves|spaces)"),

@@ -1,2 +1,3 @@
 pub mod Served
 pub mod ListLemmas
+pub mod Refused

@@ -16,17 +16,18 @@ use voice_set::Voice;
 pub(crate) fn kind_by(number: u32) -> Option<GatewayKind>
     ensures { result ≡ kind_numbered number }
 {
-    match number {
-        0 => Some(Or::First(Voice::Fir)),
-        1 => Some(Or::First(Voice::Decim)),
-        2 => Some(Or::First(Voice::Biquad)),
-        3 => Some(Or::First(Voice::Tone)),
-        4 => Some(Or::First(Voice::G711)),
-        5 => Some(Or::Second(Or::First(Gain::new()))),
-        6 => Some(Or::Second(Or::Second(Or::First(Level::new())))),
-        7 => Some(Or::Second(Or::Second(Or::Second(Dtmf)))),
-        _ => None,
-    }
+    let kind = match number {
+        0 => Or::First(Voice::Fir),
+        1 => Or::First(Voice::Decim),
+        2 => Or::First(Voice::Biquad),
+        3 => Or::First(Voice::Tone),
+        4 => Or::First(Voice::G711),
+        5 => Or::Second(Or::First(Gain::new())),
+        6 => Or::Second(Or::Second(Or::First(Level::new()))),
+        7 => Or::Second(Or::Second(Or::Second(Dtmf))),
+        _ => return None,
+    };
+    Some(GatewayKind { kind })
 }
 
 /// The space of a number.

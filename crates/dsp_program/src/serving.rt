@@ -8,7 +8,7 @@ use dsp_console::{CHANNELS, Config, Fault, PortIn, PortOut, Reading, Summary, ru
 use ialg::{Ialg, Named};
 use octet_ports::{Journal, JournalOutput, JournalReplies, Marks, Passing, pass_on_all};
 use port_files::{InFile, OpenFault, OutFile, ReplyFile, Role, RunFiles, Troubles};
-use script_server::{Explainer, Listener, ReplyPort, ScriptPort};
+use script_reasons::{Explainer, Listener, ReplyPort, ScriptPort};
 use std::alloc::Global;
 use std::cell::RefCell;
 use std::fs::Files;

@@ -41,17 +41,17 @@ abbrev pub dtmf_active : Relation Dtmf
 dtmf_active _ p rs wss h = filters.IsActive DTMF_KIND (dtmf_memory p) (dtmf.Runs p h) rs wss
 
 abbrev pub IsIdle : Relation Kind
-IsIdle = either_refines voice.IsIdle (either_refines gain_idle (either_refines level_idle dtmf_idle))
+IsIdle k = either_refines voice.IsIdle (either_refines gain_idle (either_refines level_idle dtmf_idle)) k.kind
 
 abbrev pub IsActive : Relation Kind
-IsActive = either_refines voice.IsActive (either_refines gain_active (either_refines level_active dtmf_active))
+IsActive k = either_refines voice.IsActive (either_refines gain_active (either_refines level_active dtmf_active)) k.kind
 
 -- what the kinds mean, and what keeps a history of an instance of one
 abbrev pub kind_laws : Laws Kind
 kind_laws = record {
   meaning = kind_meaning;
-  bound = told voice.voice_bound (told (λ _. FILTER_RECORDS) (told (λ _. FILTER_RECORDS) (λ _. FILTER_RECORDS)));
-  fill = told voice.voice_fill (told (λ _ p k. []) (told (λ _ p k. []) (λ _ p k. [])));
+  bound = λ k. told voice.voice_bound (told (λ _. FILTER_RECORDS) (told (λ _. FILTER_RECORDS) (λ _. FILTER_RECORDS))) k.kind;
+  fill = λ k. told voice.voice_fill (told (λ _ p k. []) (told (λ _ p k. []) (λ _ p k. []))) k.kind;
   idle_refines = IsIdle;
   active_refines = IsActive;
 }

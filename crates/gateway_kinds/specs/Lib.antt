@@ -1,2 +1,3 @@
 pub mod Keeps
 pub mod Kinds
+pub mod Kept

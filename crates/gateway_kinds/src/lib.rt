@@ -8,6 +8,7 @@ mod digit_tests;
 mod filter_rows;
 #[cfg(test)]
 mod gain_tests;
+mod kind;
 #[cfg(test)]
 mod level_tests;
 #[cfg(test)]
@@ -20,15 +21,8 @@ ghost use Rattle.alg_dtmf.specs.Equation.{dtmf_gives};
 ghost use Rattle.voice_set.specs.Voices.{voice_meaning};
 ghost use Rattle.gateway_kinds.specs.Kinds.{of_voice, of_gain, of_level, of_dtmf, EachGivesAs, EachGivesBy};
 
-use alg_dtmf::Dtmf;
-use alg_gain::Gain;
-use alg_level::Level;
 use ialg::Ialg;
-use kind_parts::Or;
-use voice_set::Voice;
-
-/// A kind that a gateway hosts: `fir`, `decim`, `biquad`, `tone`, `g711`, `gain`, `level` or `dtmf`.
-pub type GatewayKind = Or<Voice, Or<Gain, Or<Level, Dtmf>>>;
+pub use kind::{GatewayKind, Sets};
 
 /// The law that all kinds of a gateway keep IALG's laws for all parameters, refused ones too, in a host of any poison word and in one of
 /// none. The call does nothing: its contract is the law.

@@ -7,16 +7,28 @@ use ialg::{Ctl, FILTER_RECORDS, Ialg, Named, copied};
 use kind_parts::{Or, both_are_lawful};
 use voice_set::Voice;
 
+fn hosted(voice: Voice) -> GatewayKind {
+    GatewayKind {
+        kind: Or::First(voice),
+    }
+}
+
 fn gain() -> GatewayKind {
-    Or::Second(Or::First(Gain::new()))
+    GatewayKind {
+        kind: Or::Second(Or::First(Gain::new())),
+    }
 }
 
 fn level() -> GatewayKind {
-    Or::Second(Or::Second(Or::First(Level::new())))
+    GatewayKind {
+        kind: Or::Second(Or::Second(Or::First(Level::new()))),
+    }
 }
 
 fn dtmf() -> GatewayKind {
-    Or::Second(Or::Second(Or::Second(Dtmf)))
+    GatewayKind {
+        kind: Or::Second(Or::Second(Or::Second(Dtmf))),
+    }
 }
 
 #[test]
@@ -25,8 +37,8 @@ fn eight_names_name_a_kind_each(rt: HostRuntime) {
     gateway_kinds_give_their_equations();
     both_are_lawful::<Voice, Gain>();
     for (name, kind) in [
-        (b"fir".as_slice(), Some(Or::First(Voice::Fir))),
-        (b"g711", Some(Or::First(Voice::G711))),
+        (b"fir".as_slice(), Some(hosted(Voice::Fir))),
+        (b"g711", Some(hosted(Voice::G711))),
         (b"gain", Some(gain())),
         (b"level", Some(level())),
         (b"dtmf", Some(dtmf())),
@@ -40,7 +52,7 @@ fn eight_names_name_a_kind_each(rt: HostRuntime) {
 
 #[test]
 fn a_set_asks_and_answers_as_its_kinds_do(rt: HostRuntime) {
-    let fir: GatewayKind = Or::First(Voice::Fir);
+    let fir = hosted(Voice::Fir);
     let asked = [
         fir.alg_alloc(&copied(&[16384])),
         gain().alg_alloc(&copied(&[4096])),

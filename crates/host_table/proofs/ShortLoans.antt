@@ -40,7 +40,10 @@ pub short_told : {M : Type 0} {slot : Option (Member M)} {m : Member M} {s : Act
 short_told None at is none = tt
 short_told (Some loan) at is found = rw (at, is) found
 
--- an idle instance has none
+-- an empty slot has none, nor has an idle instance
+pub empty_has_none : {M : Type 0} {slot : Option (Member M)} → slot ≡ None → (loan : ShortLoan) → HasShortLoan slot loan → ⊥
+empty_has_none at loan short = rw at at short
+
 pub idle_has_none : {M : Type 0} {slot : Option (Member M)} {m : Member M} {s : Idle M}
     → slot ≡ Some m → m.inst ≡ Idling s → (loan : ShortLoan) → HasShortLoan slot loan → ⊥
 idle_has_none at is loan short = rw (at, is) at short

@@ -39,6 +39,7 @@ use Rattle.host_shared.proofs.Joined.{bare_at, others_all, owners_all, least_all
 use Rattle.host_table.proofs.Sharing.{IsLeastSharer, TellsSharer, Shares, column_shares}
 use Rattle.host_table.proofs.Leasts.{least_stays, together_stays}
 use Rattle.host_table.proofs.Fills.{Fills, idle_words_at, idle_once, fill_seen}
+use Rattle.lifecycle.specs.Moves.{HasRoom}
 
 -- what an instance keeps, by its slot
 pub keeps_slot : {M : Type 0} (groups : List Group) (laws : Laws M) (w : Option ℤ) (slot : Option (Member M)) (m : Member M) (o : Pieces) (h : History)
@@ -56,6 +57,10 @@ pub put_there : {M : Type 0} (instances instances' : List (Option (Member M))) (
 put_there {M = M} instances instances' i m n r inside put read is =
     let at : slot_at instances' i ≡ Some n = ap (λ (l : List (Option (Member M))). slot_at l i) put ∙ get_or-set_same instances i (Some n) None inside in
     same_Some _ _ (sym (read_there instances' i n at r read ∙ is) ∙ at)
+
+pub room_at : {M : Type 0} (s a : Instance M) (o o' : Pieces) (y y' : Group) → s ≡ a → o ≡ o' → y ≡ y' → HasRoom s o y → HasRoom a o' y'
+room_at {M = M} s a o o' y y' is pieces group room =
+    subst (λ (x : Instance M). HasRoom x o' y') is (subst (λ (x : Pieces). HasRoom s x y') pieces (subst (λ (x : Group). HasRoom s o x) group room))
 
 pub idle_inst : {M : Type 0} (laws : Laws M) (w : Option ℤ) (inst : Inst M) (o : Pieces) (y : Group) (h : History) → inst ≡ Idling (record { instance = instance_of inst })
     → IdleRefines laws (instance_of inst) w o h → InstRefines laws w inst o y h

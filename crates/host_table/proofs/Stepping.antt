@@ -115,7 +115,7 @@ module _ {M : Type 0} {instances : List (Option (Member M))} {sharing : List Loc
 pub running_there : {M : Type 0} (x : Option (Member M)) (g : ℕ) (s : Active M) → x ≡ Some (record { group = g; inst = Running s }) → slot_active_in x ≡ Some (group_of x)
 running_there x g s is = rw is refl
 
-is_active_there : (a : Option ℕ) (i : ℕ) → a ≡ Some i → option_eq nat_eq a (Some i) ≡ true
+pub is_active_there : (a : Option ℕ) (i : ℕ) → a ≡ Some i → option_eq nat_eq a (Some i) ≡ true
 is_active_there a i is =
     elim (eqb_tells i i) [
       | inl e ↦ rw (is, e.0) refl

@@ -3,3 +3,4 @@ pub mod Framings
 pub mod Mappings
 pub mod Words
 pub mod Either
+pub mod Wrapped

@@ -1,5 +1,6 @@
 pub mod ComputedEnds
 pub mod Ends
+pub mod Faults
 pub mod Feeds
 pub mod LineAnswers
 pub mod Scripts

@@ -1,3 +1,2 @@
 pub mod LineRuns
-pub mod Ranges
 pub mod Runs

@@ -1,5 +1,5 @@
 -- Blocks of samples that pass through members.
-use Rattle.std.proofs.Common.{◌≡◌, ◌<◌, ◌≤◌, ℕ, ℤ, zero, suc, Bool, true, false, List, [], ◌∷◌, length, ◌==◌, ◌-◌, get_or, take, drop, Option, Some, None, refl, ap, sym, ◌∙◌, subst, nat_eq, arith}
+use Rattle.std.proofs.Common.{◌≡◌, ◌<◌, ◌≤◌, ℕ, ℤ, zero, suc, Bool, true, false, List, [], ◌∷◌, length, ◌==◌, ◌-◌, get_or, take, drop, Option, Some, None, refl, ap, sym, ◌∙◌, subst, nat_eq, arith, inl, inr}
 use Rattle.std.specs.Prelude.{not, IfNone, IfSome}
 use Rattle.std.specs.List.{list_all}
 use Rattle.std.proofs.Math.Nat.{not-suc-le-zero}
@@ -10,7 +10,7 @@ use Rattle.ialg.specs.declared.refusal.Refusal.TheVariants.{Range, Missing}
 use Rattle.ialg.specs.Refusals.{first_refusal}
 use Rattle.ialg.specs.Laws.{Laws}
 use Rattle.host_spec.specs.State.{State}
-use Rattle.host_spec.specs.Calls.Call.{Process}
+use Rattle.host_spec.specs.Calls.Call.{Lives, Process}
 use Rattle.alg_host.specs.Hosts.{HostState}
 use Rattle.alg_host.specs.Hosts as hosts
 use Rattle.channel_spec.specs.Channels.{Channels, members_at, is_chained, has_number}
@@ -22,6 +22,7 @@ use Rattle.channel_spec.specs.Calls.Call.{Feed}
 use Rattle.channel_spec.proofs.LivingLemmas.{passes_live}
 use Rattle.voice_channel.specs.Channels.{ChannelsState, PassesThrough, ChannelsCallRefines}
 use Rattle.voice_channel.proofs.Served.{HoldsOn}
+use Rattle.std.proofs.lemmas.Bool.Decides.{eqb_tells}
 
 -- ---- lists
 
@@ -84,6 +85,21 @@ module _ {M : Type 0} (laws : Laws M) where
       let did = serves before keeps in
       (did.0, (given, did.0, did.1, (refl, refl)), did.2)
 
+  -- an empty block is given to nobody
+  pub not_given : (i : ℕ) (block given : List ℤ) (old : HostState M) → true ≡ (length block == 0) → given ≡ [] → PassesThrough laws (i ∷ []) block given old old
+  not_given i [] given old empty none = λ before keeps live. (before, (none, refl), keeps)
+  not_given i (s ∷ block) given old empty none =
+      elim (eqb_tells (length (s ∷ block)) 0) [
+        | inl e ↦ absurd (omega (arith, e.1))
+        | inr e ↦ absurd (false≢true (sym (empty ∙ e.0)))
+      ]
+
+  -- a member that isn't there was not asked of
+  pub not_there : (i : ℕ) (block given : List ℤ) (old : HostState M) → hosts.HostCallRefines laws (Lives i false) old old → PassesThrough laws (i ∷ []) block given old old
+  not_there i block given old answers = λ before keeps live.
+      let did = answers before keeps in
+      absurd (false≢true (did.1.0 ∙ (both_true (lives before i) true live).0))
+
   -- an empty block passes through nobody
   nothing : (is : List ℕ) (before after : State M) (out : List ℤ) → Passes laws.meaning before is [] out after → (out ≡ []) × (after ≡ before)
   nothing [] before after out passes = passes
@@ -123,6 +139,13 @@ module _ {M : Type 0} (laws : Laws M) where
       subst (λ js. PassesThrough laws js block out old new) (sym those)
       (passes_on i is block given out old between new
       (subst (λ b. PassesThrough laws (i ∷ []) b given old between) same one) further)
+
+  -- the same, where nobody is behind it
+  pub last_of_them : (i : ℕ) (behind : List ℕ) (block read given : List ℤ) (old new : HostState M) → length behind < 1 → read ≡ block
+      → PassesThrough laws (i ∷ []) read given old new
+      → PassesThrough laws (i ∷ behind) block given old new
+  last_of_them i [] block read given old new none same one = subst (λ b. PassesThrough laws (i ∷ []) b given old new) same one
+  last_of_them i (j ∷ is) block read given old new none same one = absurd (omega arith)
 
   -- ---- a channel
 

@@ -1,5 +1,9 @@
 -- Words of a line.
 use Rattle.std.proofs.Common.{◌≡◌, ◌≢◌, ◌≤◌, ◌<◌, ◌+◌, ◌-◌, ℕ, zero, suc, true, false, List, [], ◌∷◌, ◌++◌, length, take, drop, get_or, eqb, cond, All, inl, inr, refl, sym, ap, ◌∙◌, subst, arith}
+use Rattle.std.proofs.lemmas.Int.{ints}
+use lib.IntN.{pos, neg_ℤ, ◌-ℤ◌}
+use mir.Syntax.{w32}
+use mir.Val.{to_z, of_z}
 use Rattle.std.proofs.lemmas.Grind.{common_steps}
 use Rattle.std.proofs.Math.Nat.{eq-or-lt_of_le}
 use Rattle.std.proofs.lemmas.Bool.{and_parts}
@@ -8,8 +12,9 @@ use Rattle.std.specs.List.{list_all}
 use Rattle.std.specs.Char.{is_ascii_digit}
 use Rattle.std.proofs.lemmas.Bool.Decides.{nat_tests}
 use Rattle.std.proofs.lemmas.List.Splits.{slice_split_at, slice_split_none}
-use Rattle.voice_script.specs.Script.{is_empty, without_return, is_blank, words_of}
-use Rattle.voice_script.specs.Readings.{IsNoBlank, PartsAtBlank, BeginsWithDigits}
+use Rattle.voice_script.specs.Script.{is_empty, without_return, is_blank, words_of, is_number, value_of}
+use Rattle.voice_script.specs.Readings.{IsNoBlank, PartsAtBlank, BeginsWithDigits, Limits}
+use Rattle.voice_script.specs.declared.limits.TheConstants.{GREATEST_MAGNITUDE}
 
 pub is_empty-length : (xs : List ℕ) → eqb (length xs) 0 ≡ is_empty xs
 is_empty-length [] = refl
@@ -96,3 +101,25 @@ words_of-minus (b ∷ line) n value some minus digits =
     let w = d.within in
     words_of-front (b ∷ line) (n + 1) (omega arith) (omega (arith, w))
     (subst (λ w. All IsNoBlank w) (sym (more_taken b n line)) (rw minus (All-cons IsNoBlank 45 (take n line) refl (no_blanks (take n line) d.digits)))) (λ inside. rw (more_read b n line) (d.end (omega (arith, inside))))
+
+-- and they are a number
+minus_taken : (line : List ℕ) (n : ℕ) → 1 ≤ length line → get_or line 0 0 ≡ 45 → take (n + 1) line ≡ 45 ∷ take n (take (length line - 1) (drop 1 line))
+minus_taken [] n some minus = absurd (omega (arith, some))
+minus_taken (b ∷ line) n some minus = more_taken b n line ∙ rw (behind_first b line, minus) refl
+
+pub is_number-minus : (line : List ℕ) (n value : ℕ) → 1 ≤ length line → get_or line 0 0 ≡ 45 → BeginsWithDigits (take (length line - 1) (drop 1 line)) n value
+    → is_number (take (n + 1) line) ≡ true
+is_number-minus line n value some minus digits =
+    rw (minus_taken line n some minus) (rw (some_first n (take (length line - 1) (drop 1 line)) digits.some digits.within, digits.digits) refl)
+
+negated : (value : ℕ) → value ≤ GREATEST_MAGNITUDE → Limits (neg_ℤ (pos value)) (to_z w32 (of_z w32 (pos 0 -ℤ to_z w32 value)))
+negated value most = record {
+  within = λ from to. omega (arith, ints);
+  below = λ less. omega (arith, ints);
+  above = λ more. omega (arith, ints);
+}
+
+pub limits-minus : (line : List ℕ) (n value : ℕ) → 1 ≤ length line → get_or line 0 0 ≡ 45 → BeginsWithDigits (take (length line - 1) (drop 1 line)) n value
+    → Limits (value_of (take (n + 1) line)) (to_z w32 (of_z w32 (pos 0 -ℤ to_z w32 value)))
+limits-minus line n value some minus digits =
+    rw (minus_taken line n some minus) (rw (sym digits.valued) (negated value digits.most))

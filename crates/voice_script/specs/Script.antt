@@ -131,6 +131,15 @@ module _ {M : Type 0} where
   feed_row (c ∷ n ∷ []) = row (is_number c && is_number n) (fits_byte c && fits (pos 1) (pos FEED_SAMPLES) n) (Feed (natural c) (natural n))
   feed_row _ = Err Syntax
 
+  -- commands of memory and of groups, by the line's first word
+  abbrev pub memory_command_of : List ℕ → List (List ℕ) → Result (Command M) Refusal
+  memory_command_of w ws =
+      if bytes_eq w (codes "compact") then to Compact (only_space ws)
+      else (if bytes_eq w (codes "step") then to Step (only_space ws)
+      else (if bytes_eq w (codes "release") then to Release (only_number ws)
+      else (if bytes_eq w (codes "map") then to Map (only_space ws)
+      else (if bytes_eq w (codes "stat") then to Stat (only_number ws) else Err Syntax))))
+
   -- by the line's first word
   abbrev pub command_of : (List ℕ → Option M) → List ℕ → List (List ℕ) → Result (Command M) Refusal
   command_of named w ws =
@@ -140,12 +149,7 @@ module _ {M : Type 0} where
       else (if bytes_eq w (codes "chain") then chain_row ws
       else (if bytes_eq w (codes "unchain") then to Unchain (only_number ws)
       else (if bytes_eq w (codes "feed") then feed_row ws
-      else (if bytes_eq w (codes "compact") then to Compact (only_space ws)
-      else (if bytes_eq w (codes "step") then to Step (only_space ws)
-      else (if bytes_eq w (codes "release") then to Release (only_number ws)
-      else (if bytes_eq w (codes "map") then to Map (only_space ws)
-      else (if bytes_eq w (codes "stat") then to Stat (only_number ws)
-      else Err Syntax))))))))))
+      else memory_command_of w ws)))))
 
   -- none for a blank line
   abbrev pub asked_by : (List ℕ → Option M) → List (List ℕ) → Result (Option (Command M)) Refusal

@@ -1,6 +1,7 @@
 //! Commands, and the lines that ask them.
 ghost use Rattle.std.specs.Prelude.{◌≡◌};
-ghost use Rattle.voice_script.specs.Script.{create_row, control_row, chain_row, feed_row, command_of, parsed};
+ghost use Rattle.voice_script.specs.Script.{create_row, control_row, chain_row, feed_row, only_number, only_space, to, memory_command_of, command_of, parsed};
+ghost use Rattle.voice_script.specs.Script.Command.{Compact, Delete, Map, Release, Stat, Step, Unchain};
 ghost use Rattle.voice_script.specs.Readings.{get_row, reset_row, set_row, to_come};
 ghost use Rattle.voice_script.specs.Commands.{line_of};
 ghost use Rattle.voice_script.specs.RowViews.{row_of};
@@ -184,8 +185,89 @@ fn feed_row<'a, M: Copy>(mut words: Words<'_>) -> Result<Command<'a, M>, Refusal
     })
 }
 
+/// `delete` I
+fn delete_row<'a, M: Copy>(words: Words<'_>) -> Result<Command<'a, M>, Refusal>
+    ensures { row_of result ≡ to Delete (only_number (to_come words.entry)) }
+{
+    Ok(Command::Delete {
+        instance: words.only_number()?,
+    })
+}
+
+/// `unchain` C
+fn unchain_row<'a, M: Copy>(words: Words<'_>) -> Result<Command<'a, M>, Refusal>
+    ensures { row_of result ≡ to Unchain (only_number (to_come words.entry)) }
+{
+    Ok(Command::Unchain {
+        channel: words.only_number()?,
+    })
+}
+
+/// `compact` S
+fn compact_row<'a, M: Copy>(words: Words<'_>) -> Result<Command<'a, M>, Refusal>
+    ensures { row_of result ≡ to Compact (only_space (to_come words.entry)) }
+{
+    Ok(Command::Compact {
+        space: words.only_space()?,
+    })
+}
+
+/// `step` S
+fn step_row<'a, M: Copy>(words: Words<'_>) -> Result<Command<'a, M>, Refusal>
+    ensures { row_of result ≡ to Step (only_space (to_come words.entry)) }
+{
+    Ok(Command::Step {
+        space: words.only_space()?,
+    })
+}
+
+/// `release` G
+fn release_row<'a, M: Copy>(words: Words<'_>) -> Result<Command<'a, M>, Refusal>
+    ensures { row_of result ≡ to Release (only_number (to_come words.entry)) }
+{
+    Ok(Command::Release {
+        group: words.only_number()?,
+    })
+}
+
+/// `map` S
+fn map_row<'a, M: Copy>(words: Words<'_>) -> Result<Command<'a, M>, Refusal>
+    ensures { row_of result ≡ to Map (only_space (to_come words.entry)) }
+{
+    Ok(Command::Map {
+        space: words.only_space()?,
+    })
+}
+
+/// `stat` G
+fn stat_row<'a, M: Copy>(words: Words<'_>) -> Result<Command<'a, M>, Refusal>
+    ensures { row_of result ≡ to Stat (only_number (to_come words.entry)) }
+{
+    Ok(Command::Stat {
+        group: words.only_number()?,
+    })
+}
+
+/// The command of a line that begins with this word, which is of memory or a group.
+fn memory_command_of<'a, M: Copy>(name: &[u8], words: Words<'_>) -> Result<Command<'a, M>, Refusal>
+    ensures { row_of result ≡ memory_command_of name.now (to_come words.entry) }
+{
+    if name == b"compact".as_slice() {
+        compact_row(words)
+    } else if name == b"step".as_slice() {
+        step_row(words)
+    } else if name == b"release".as_slice() {
+        release_row(words)
+    } else if name == b"map".as_slice() {
+        map_row(words)
+    } else if name == b"stat".as_slice() {
+        stat_row(words)
+    } else {
+        Err(Refusal::Syntax)
+    }
+}
+
 /// The command of a line that begins with this word.
-#[tactic(auto, using(crate::proofs::ReadingLemmas::unfit))]
 fn command_of<'a, M: Named + Copy>(
     name: &[u8],
     words: Words<'_>,
@@ -200,37 +282,13 @@ fn command_of<'a, M: Named + Copy>(
     } else if name == b"control".as_slice() {
         control_row(words, room)
     } else if name == b"delete".as_slice() {
-        Ok(Command::Delete {
-            instance: words.only_number()?,
-        })
+        delete_row(words)
     } else if name == b"chain".as_slice() {
         chain_row(words)
     } else if name == b"unchain".as_slice() {
-        Ok(Command::Unchain {
-            channel: words.only_number()?,
-        })
-    } else if name == b"compact".as_slice() {
-        Ok(Command::Compact {
-            space: words.only_space()?,
-        })
-    } else if name == b"step".as_slice() {
-        Ok(Command::Step {
-            space: words.only_space()?,
-        })
-    } else if name == b"release".as_slice() {
-        Ok(Command::Release {
-            group: words.only_number()?,
-        })
-    } else if name == b"map".as_slice() {
-        Ok(Command::Map {
-            space: words.only_space()?,
-        })
-    } else if name == b"stat".as_slice() {
-        Ok(Command::Stat {
-            group: words.only_number()?,
-        })
+        unchain_row(words)
     } else {
-        Err(Refusal::Syntax)
+        memory_command_of(name, words)
     }
 }
 
@@ -251,9 +309,7 @@ pub fn parse<'a, M: Named + Copy>(
         return Ok(Some(create_row(words, room)?));
     }
     if words.skip_delete() {
-        return Ok(Some(Command::Delete {
-            instance: words.only_number()?,
-        }));
+        return Ok(Some(delete_row(words)?));
     }
     let Some(name) = words.next() else {
         return Ok(None);

@@ -13,7 +13,7 @@ use host_map::Map;
 use ialg::{Params, Words};
 
 /// What a line asks of the ports.
-#[derive(PartialEq, Eq, Debug, Drop)]
+#[derive(Drop)]
 pub enum Ask<'a> {
     /// Nothing.
     Nothing,

@@ -18,7 +18,7 @@ use octet_buffer::Buffer;
 pub type ReplyText = Buffer<REPLY_OCTETS>;
 
 /// What is replied to a command. A map is thousands of octets and words are more than a hundred, so their replies name them where they stand.
-#[derive(PartialEq, Eq, Debug, Drop)]
+#[derive(Drop)]
 pub enum Reply<'a> {
     /// It is done.
     Done,

@@ -5,7 +5,7 @@ ghost use Rattle.voice_script.specs.declared.limits.TheConstants.{FEED_SAMPLES};
 use crate::limits::FEED_SAMPLES;
 
 /// How many samples a feed takes, 1 to [`FEED_SAMPLES`].
-#[derive(Clone, Copy, PartialEq, Eq, Debug)]
+#[derive(Clone, Copy, PartialEq, Eq)]
 pub struct FeedSamples {
     number: u16,
     ghost some: { 1 ≤ number },

@@ -7,7 +7,7 @@ ghost use Rattle.voice_script.specs.Widths.{octet_count, width_at, widths_in, wi
 use crate::octets::WORD_OCTETS;
 
 /// What a port carries a sample as.
-#[derive(Clone, Copy, PartialEq, Eq, Debug)]
+#[derive(Clone, Copy, PartialEq, Eq)]
 pub enum Width {
     /// Two octets, the low one first.
     Word,
@@ -30,7 +30,7 @@ impl Width {
 }
 
 /// The widths of the ports of each channel.
-#[derive(Clone, Copy, PartialEq, Eq, Debug)]
+#[derive(Clone, Copy, PartialEq, Eq)]
 pub struct PortWidths {
     in8: u16,
     out8: u16,

@@ -1,8 +1,9 @@
-use Rattle.std.proofs.Common.{rules, ◌<◌, ap, arith}
+use Rattle.std.proofs.Common.{rules, ◌<◌, ap, arith, sym}
 use Rattle.std.specs.Prelude.{IsSome}
 use Rattle.ialg.specs.Views.{control_of, answer_of}
 use Rattle.host_table.specs.Table.{slot_at}
 use Rattle.host_moves.proofs.KeptLemmas.{control_given, control_refused, same_kept}
+use Rattle.alg_host.proofs.Refused.{missing, out_of_range}
 use Rattle.alg_host.proofs.table_calls.give_control.Goals as goal
 
 pub returns-in-Some-clause-machine : goal.returns-in-Some-clause-machine
@@ -29,3 +30,11 @@ returns-in-None-clause-machine g c =
           c.control.new.self.instances c.control.new.self.sharing c.control.new.self.groups before c.args.i
           (ap (λ v. v.instances) did.refused) (ap (λ v. v.sharing) did.refused) (ap (λ v. v.groups) did.refused) kept,
     )
+
+pub returns-then-from-ge-INSTANCES-clause-machine : goal.returns-then-from-ge-INSTANCES-clause-machine
+returns-then-from-ge-INSTANCES-clause-machine g c before e kept =
+    out_of_range c.args.i (control_of c.args.c.now) (rw c.from.ensures at c.if-from-ge-INSTANCES.true) c.requires.ready.ok before kept
+
+pub returns-then-not-lives-clause-machine : goal.returns-then-not-lives-clause-machine
+returns-then-not-lives-clause-machine g c before e kept =
+    missing c.args.i (control_of c.args.c.now) (rw c.from.ensures at c.if-from-ge-INSTANCES.false) (sym c.if-not-lives.ensures) before kept

@@ -1,6 +1,5 @@
-use Rattle.std.proofs.Common.{◌≡◌, ◌∙◌, ℕ, ℤ, List, [], ◌∷◌, Err, length, take, drop, slice_index_or, to_z, of_z, refl, ap, sym, subst, rules, arith, SFits, w16, w32}
+use Rattle.std.proofs.Common.{◌≡◌, ◌∙◌, ℤ, List, [], ◌∷◌, length, take, drop, slice_index_or, to_z, of_z, refl, ap, subst, rules, arith, SFits, w16, w32}
 use Rattle.std.proofs.Math.Facts.{to_z-of_z}
-use Rattle.dsp_library.specs.Calls.{FeedEnds}
 use Rattle.dsp_library.specs.Calls.FeedEnds.{Given, Refused}
 use Rattle.dsp_library.proofs.feeding.feed_sample.Goals as goal
 

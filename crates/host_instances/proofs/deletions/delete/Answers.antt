@@ -12,3 +12,6 @@ returns-clause-machine g c =
     deleted_kept g.M.Ialg.law c.args.i c.args.poison c.args.tables.now.instances c.end_instance.new.tables.instances
     c.args.tables.now.sharing c.end_instance.new.tables.sharing c.args.tables.now.groups c.end_instance.new.tables.groups c.args.spaces.now c.end_instance.new.spaces
     before below living c.end_instance.ensures e kept
+
+pub returns-then-not-lives-clause-machine : goal.returns-then-not-lives-clause-machine
+returns-then-not-lives-clause-machine g c = search rules

@@ -1,5 +1,4 @@
-use Rattle.std.proofs.Common.{◌≡◌, ℕ, IsTrue, [], Some, None, rules, set, set-set, get_or-set_other, sym, ap, subst, ◌∙◌, arith}
-use Rattle.std.proofs.lemmas.Grind.{common_steps}
+use Rattle.std.proofs.Common.{◌≡◌, ℕ, IsTrue, [], Some, None, rules, set, set-set, get_or-set_other, sym, ap, subst, ◌∙◌, arith, ◌<◌, length, refl}
 use Rattle.lifecycle.specs.declared.instance.Inst.TheVariants.{Idling}
 use Rattle.lifecycle.specs.States.{IdleRefines}
 use Rattle.ialg.specs.Records.{unplaced}
@@ -14,12 +13,13 @@ use Rattle.host_shared.specs.Joining.{sharer_at, pieces_joined, CanJoin}
 use Rattle.host_table.proofs.Housing.{settled_stays}
 use Rattle.host_shared.proofs.Lent.{owners_of_all}
 use Rattle.host_table.proofs.Held.{owners_of_held}
-use Rattle.host_table.proofs.Changes.{read_ok_group}
+use Rattle.host_table.proofs.Changes.{read_ok_group, read_there, slot_in, group_inside}
 use Rattle.host_table.proofs.Stepping.{ok_in}
 use Rattle.host_table.proofs.Idles.{is_new, ok_after_still, keeps_by_still}
 use Rattle.host_table.proofs.Shared.{tells_sharer_as, can_join}
 use Rattle.host_table.proofs.Sharing.{TellsSharer}
-use Rattle.host_table.proofs.Starts.{Begins, begun_at, put_there, idle_inst, stands_joined, held_start, bare_start, least_start, together_start, views_start, written_start, new_start, keeps_slot}
+use Rattle.host_table.proofs.Starts.{Begins, begun_at, room_at, put_there, idle_inst, stands_joined, held_start, bare_start, least_start, together_start, views_start, written_start, new_start, keeps_slot}
+use Rattle.std.proofs.lemmas.Option.{same_Some, none-some}
 use Rattle.host_table.proofs.life.start.Goals as goal
 use Rattle.host_table.proofs.life.start.Goals.{After-start_member}
 use Rattle.host_table.proofs.life.start.Given.{Over}
@@ -40,12 +40,37 @@ fill_slot-requires-clause-room g c = omega (arith, c.requires.number, (ok_in c.t
 pub fill_slot-requires-clause-empty : goal.fill_slot-requires-clause-empty
 fill_slot-requires-clause-empty g c = rw (← c.tables.view_is) at c.requires.empty
 
+pub index-requires : goal.index-requires
+index-requires g c =
+    let inside : c.args.instance.group < length c.tables.inside.groups.items = group_inside _ _ _ (ok_in c.tables.view_is c.requires.ok) _ c.requires.group in
+    search (inside, rules)
+
+pub index_mut-requires : goal.index_mut-requires
+index_mut-requires g c =
+    let inside : c.args.instance.number < length c.fill_slot.new.instances.items = slot_in _ _ _ c.fill_slot.ensures.there in
+    search (inside, rules)
+
+pub unreachable-requires : goal.unreachable-requires
+unreachable-requires g c =
+    let at = read_there _ c.args.instance.number _ c.fill_slot.ensures.there _ c.index_mut.ensures.value in
+    none-some _ (sym c.in-None.is ∙ sym at ∙ c.fill_slot.ensures.there)
+
+pub start_member-requires-clause-idle : goal.start_member-requires-clause-idle
+start_member-requires-clause-idle g c k =
+    let at = read_there _ c.args.instance.number _ c.fill_slot.ensures.there _ c.index_mut.ensures.value in
+    ap (λ m. active_in k m.inst) (same_Some _ _ (sym (at ∙ c.in-Some.is) ∙ c.fill_slot.ensures.there))
+
 pub start_member-requires-clause-can : goal.start_member-requires-clause-can
-start_member-requires-clause-can g c = record {
-  number = search rules;
-  owners = owners_of_all c.join.new.sharing.items c.args.instance.number c.join.ensures.owners (omega (arith, c.requires.number, c.join.ensures.count));
-  room = grind (arith, common_steps);
-}
+start_member-requires-clause-can g c =
+    let at = read_there _ c.args.instance.number _ c.fill_slot.ensures.there _ c.index_mut.ensures.value in
+    let member = same_Some _ _ (sym (at ∙ c.in-Some.is) ∙ c.fill_slot.ensures.there) in
+    let group_is = read_ok_group _ _ _ (ok_in c.tables.view_is c.requires.ok) c.args.instance.group c.requires.group _ c.index.ensures in
+    let inside : c.args.instance.number < length c.join.new.sharing.items = omega (arith, c.requires.number, c.join.ensures.count) in
+    record {
+      number = inside;
+      owners = owners_of_all c.join.new.sharing.items c.args.instance.number c.join.ensures.owners inside;
+      room = room_at _ _ _ _ _ _ (sym (ap (λ m. instance_of m.inst) member ∙ c.new.ensures)) (sym c.join.ensures.pieces) group_is (rw (← c.tables.view_is) at c.requires.fits);
+    }
 
 -- the instance has joined its sharers, and was started in its slot
 module _ (g : Over) (c : After-start_member g) where
@@ -162,3 +187,11 @@ returns-clause-keeps g c =
     written_start (begins g d) (shared_at c.start_member.new.sharing.items c.args.instance.number) (pieces g d) c.start_member.new.sharing.items (put g d) g.M.Ialg.law
     g.met.M.Ialg.idle_fill g.met.M.Ialg.active_fill w (group_at c.tables.inside.groups.items c.in-Some.member.group) [] known j m (group_at c.tables.inside.groups.items m.group) (histories j) apart slot lawful (keeps_slot c.tables.inside.groups.items g.M.Ialg.law w _ m (shared_at c.tables.inside.sharing.items j) (histories j) slot (keeps j)))
     known keeps)
+
+pub returns-clause-pieces : goal.returns-clause-pieces
+returns-clause-pieces g c =
+    let d = (goal.at.returns-clause-pieces g c).After-start_member in
+    rw (← c.tables.view_is) (begun g d).pieces
+
+pub returns-clause-groups : goal.returns-clause-groups
+returns-clause-groups g c = rw (← c.tables.view_is) refl

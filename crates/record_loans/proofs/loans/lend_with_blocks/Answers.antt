@@ -1,8 +1,20 @@
 use Rattle.record_loans.proofs.TakenLemmas.{has_record, taken_are_lent, second_fits, third_fits, third_can_put, second_can_put, first_can_put, all_back}
 use Rattle.record_loans.proofs.loans.lend_with_blocks.Goals as goal
 
+pub take-first-requires : goal.take-first-requires
+take-first-requires g c = record { fit = c.requires.fit.1.0 }
+
+pub take-second-requires : goal.take-second-requires
+take-second-requires g c = record { fit = second_fits c.args.loan.now.plan.now c.args.own.now c.args.shared.now c.requires.fit c.take-first.ensures.cut }
+
 pub take-third-requires : goal.take-third-requires
 take-third-requires g c = record { fit = third_fits c.args.loan.now.plan.now c.args.own.now c.args.shared.now c.requires.fit c.take-first.ensures.cut c.take-second.ensures.cut }
+
+pub lend_object-requires-clause-object : goal.lend_object-requires-clause-object
+lend_object-requires-clause-object g c = c.requires.fit.0
+
+pub lend_object-requires-clause-first : goal.lend_object-requires-clause-first
+lend_object-requires-clause-first g c = has_record c.requires.fit.1.0 c.take-first.ensures.cut
 
 pub lend_object-requires-clause-second : goal.lend_object-requires-clause-second
 lend_object-requires-clause-second g c =

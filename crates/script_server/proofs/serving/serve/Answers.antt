@@ -4,6 +4,7 @@ use Rattle.script_server.specs.Runs.{Devices, EndsByRead, EndsByWrite, run_of}
 use Rattle.script_server.specs.LineRuns.{EndsBy}
 use Rattle.script_server.specs.declared.serving.PortsFault.{PortsFault}
 use Rattle.script_server.specs.declared.serving.PortsFault.TheVariants.{Read, Write}
+use Rattle.script_server.proofs.Faults.{is_no_fault, is_no_read}
 use Rattle.script_server.proofs.Writes.{writes_more, writes_reply, order_after}
 use Rattle.script_server.proofs.Ends.{all_passed_on, all_is_first}
 use Rattle.script_server.proofs.serving.serve.Goals as goal
@@ -71,3 +72,33 @@ returns-clause-ok g c =
       outputs_passed = c.flush_outputs.ensures.passed outputs_passed_on;
       replies_passed = c.flush.ensures.all replies_passed_on;
     }
+
+pub returns-in-Err-clause-few : goal.returns-in-Err-clause-few
+returns-in-Err-clause-few g c = c.serve_script.ensures.few
+
+pub returns-then-is_err-clause-few : goal.returns-then-is_err-clause-few
+returns-then-is_err-clause-few g c = c.serve_script.ensures.few
+
+pub returns-then-is_err-clause-read : goal.returns-then-is_err-clause-read
+returns-then-is_err-clause-read g c = is_no_read
+
+pub returns-then-replies_fail-clause-few : goal.returns-then-replies_fail-clause-few
+returns-then-replies_fail-clause-few g c = c.serve_script.ensures.few
+
+pub returns-then-replies_fail-clause-read : goal.returns-then-replies_fail-clause-read
+returns-then-replies_fail-clause-read g c = is_no_read
+
+pub returns-clause-few : goal.returns-clause-few
+returns-clause-few g c = c.serve_script.ensures.few
+
+pub returns-clause-read : goal.returns-clause-read
+returns-clause-read g c = is_no_fault
+
+pub returns-clause-write : goal.returns-clause-write
+returns-clause-write g c = is_no_fault
+
+pub flush_outputs-requires : goal.flush_outputs-requires
+flush_outputs-requires g c = record { ready = c.in-Ok.ensures.ok.ready.outs }
+
+pub flush-requires : goal.flush-requires
+flush-requires g c = c.in-Ok.ensures.ok.ready.reply

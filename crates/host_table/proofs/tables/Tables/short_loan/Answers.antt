@@ -1,6 +1,6 @@
-use Rattle.std.proofs.Common.{◌≡◌, rules, None, Some, sym, ◌∙◌}
+use Rattle.std.proofs.Common.{◌≡◌, rules, arith, None, Some, sym, ◌∙◌}
 use Rattle.host_table.specs.Table.{slot_at}
-use Rattle.host_table.proofs.ShortLoans.{no_short, short_told, idle_has_none}
+use Rattle.host_table.proofs.ShortLoans.{no_short, short_told, idle_has_none, empty_has_none}
 use Rattle.host_table.proofs.tables.Tables.short_loan.Goals as goal
 
 pub returns-in-Running-clause-found : goal.returns-in-Running-clause-found
@@ -24,3 +24,13 @@ returns-in-Idling-clause-none g c =
 
 pub returns-in_default-clause-found : goal.returns-in_default-clause-found
 returns-in_default-clause-found g c = tt
+
+pub returns-in_default-clause-none : goal.returns-in_default-clause-none
+returns-in_default-clause-none g c =
+    let empty : slot_at c.deref.result.now c.args.i ≡ None = sym (c.get.ensures.lookup.4 (omega arith) None) ∙ search rules in
+    rw (← c.self.view_is) (empty_has_none (rw c.deref.ensures.value at empty))
+
+pub returns-in_default-2-clause-none : goal.returns-in_default-2-clause-none
+returns-in_default-2-clause-none g c =
+    let empty : slot_at c.deref.result.now c.args.i ≡ None = sym (c.get.ensures.lookup.4 (omega arith) None) ∙ search rules in
+    rw (← c.self.view_is) (empty_has_none (rw c.deref.ensures.value at empty))

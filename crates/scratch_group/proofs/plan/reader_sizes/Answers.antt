@@ -1,0 +1,5 @@
+use Rattle.std.proofs.Common.{rules}
+use Rattle.scratch_group.proofs.plan.reader_sizes.Goals as goal
+
+pub returns-clause-sizes : goal.returns-clause-sizes
+returns-clause-sizes c = search rules
