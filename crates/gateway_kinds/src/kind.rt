@@ -19,9 +19,9 @@ pub type Sets = Or<Voice, Or<Gain, Or<Level, Dtmf>>>;
 
 /// A kind that a gateway hosts: `fir`, `decim`, `biquad`, `tone`, `g711`, `gain`, `level` or `dtmf`. Each call is that of the kind.
 ///
-/// It is a type of its own and no other name for its sets, so that whatever is made over a gateway's kinds is checked over one type, and not
-/// over each of their parts again.
-#[derive(Clone, Copy, PartialEq, Eq)]
+/// It is a struct and not an alias of its sets, so that what is built over a gateway's kinds, as the library for C is, is checked over one type, and
+/// not over each set again.
+#[derive(Clone, Copy, PartialEq, Eq, Debug)]
 pub struct GatewayKind {
     pub kind: Sets,
 }

@@ -2,17 +2,7 @@
 //! The kinds of a voice gateway as one set: the hosted kinds, gains, meters of energy and detectors of dialled digits.
 #![tactic(auto)]
 
-#[cfg(test)]
-mod digit_tests;
-#[cfg(test)]
-mod filter_rows;
-#[cfg(test)]
-mod gain_tests;
 mod kind;
-#[cfg(test)]
-mod level_tests;
-#[cfg(test)]
-mod name_tests;
 
 ghost use Rattle.ialg.specs.Meaning.{AreAlwaysLawful};
 ghost use Rattle.alg_gain.specs.Equation.{gain_gives};

@@ -55,7 +55,7 @@ impl<K: Filter> Ialg for K {
         mem.put(k, words);
     }
 
-    // the running words are taken once for both
+    // The running words are taken once for both calls.
     fn activate_and_process(&self, mem: &mut Lent<'_>, input: &[i16], out: &mut Block) {
         let Some(taken) = mem.take_named(Space::Daram, RUNNING) else {
             return;

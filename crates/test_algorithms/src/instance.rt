@@ -5,10 +5,10 @@ ghost use Rattle.std.specs.Prelude.{◌≡◌, ⊤, []};
 ghost use Rattle.ialg.specs.Loans.{SameLoans};
 
 use ialg::{
-    BLOCK_SAMPLES, Block, Ctl, Ialg, Lending, Lent, OBJECT_WORDS, PARAMETER_WORDS, Params, Status,
-    Step, Words, copied, lend,
+    BLOCK_SAMPLES, Block, Ctl, FILTER_RECORDS, Ialg, Lending, Lent, OBJECT_WORDS, PARAMETER_WORDS,
+    Params, Status, Step, Words, copied, lend,
 };
-use mem_rec::{Attr, MemRec, MemTab, Space, TABLE_RECORDS};
+use mem_rec::{Attr, LEAST_ALIGNMENT, MemRec, MemTab, Space, TABLE_RECORDS};
 use std::process::Abort;
 
 /// What words are that nobody has written.
@@ -55,6 +55,16 @@ pub fn record(size: u32, align: u32, space: Space, attr: Attr) -> MemRec {
         attr,
         base: 0,
     }
+}
+
+/// The records of a filter that asks for so many kept and so many running words.
+pub fn filter_records(kept: u32, running: u32) -> [MemRec; FILTER_RECORDS] {
+    let least = LEAST_ALIGNMENT;
+    [
+        record(OBJECT_WORDS as u32, least, Space::External, Attr::Persist),
+        record(kept, least, Space::Saram, Attr::Persist),
+        record(running, least, Space::Daram, Attr::Scratch),
+    ]
 }
 
 /// Asserts that each row holds of the kind, whose instances have their records at these bases.

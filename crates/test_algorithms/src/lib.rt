@@ -1,5 +1,5 @@
 // SPDX-License-Identifier: Apache-2.0
-//! For tests: the operators, the five kinds and their set by numbers.
+//! For tests: the operators, the eight kinds and their sets by numbers.
 #![tactic(auto)]
 
 #[cfg(test)]
@@ -9,9 +9,17 @@ mod companding;
 #[cfg(test)]
 mod decimator;
 #[cfg(test)]
+mod digits;
+#[cfg(test)]
 mod fir;
 #[cfg(test)]
+mod gains;
+#[cfg(test)]
+mod gateway;
+#[cfg(test)]
 mod instance;
+#[cfg(test)]
+mod levels;
 #[cfg(test)]
 mod operators;
 #[cfg(test)]

@@ -5,3 +5,4 @@ pub mod Parameters
 pub mod Kept
 pub mod Starting
 pub mod Levels
+mod Writing

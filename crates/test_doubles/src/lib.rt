@@ -6,19 +6,27 @@
 //! [`activate_in_poison`] activates it, by the laws of IALG, so that what these laws ask of new records and of scratch words is
 //! met by words that there are. [`give_sample`] gives it a sample by the law of one entry.
 //! [`Slicer`] has scratch records of two alignments in two spaces. [`Trial`] is one of the hosted kinds, or one that keeps no law and writes over all
-//! that it may.
+//! that it may. [`Mixed`] is one of the hosted kinds or a rogue, of which there are four: one writes over all that it may, one reads what others left in
+//! its scratch words, one goes by forged bases, and one gives as many samples as it likes.
 #![tactic(auto)]
 
+mod babbling;
+mod clinging;
 mod device;
+mod forging;
 mod metered;
+mod mixed;
 mod primed;
+pub mod rogues;
 mod scribbler;
+mod scribbling;
 mod slicer;
 mod starts;
 
 pub use device::{HELD_OCTETS, Shaky};
 use ialg::OBJECT_WORDS;
 pub use metered::Metered;
+pub use mixed::{Mixed, voices_alone_are_lawful};
 pub use primed::Primed;
 pub use scribbler::Trial;
 pub use slicer::Slicer;

@@ -1,18 +1,14 @@
 //! A kind for tests of hosts.
-ghost use Rattle.std.specs.Prelude.{◌≡◌, ◌≤◌, length, [], List, IsTrue};
 ghost use Rattle.std.proofs.Common.{rules};
 ghost use Rattle.std.specs.Cmp.Rules.{comparing};
-ghost use Rattle.ialg.specs.declared.TheConstants.{BLOCK_SAMPLES};
-ghost use Rattle.ialg.specs.Loans.{SameLoans};
 ghost use Rattle.test_doubles.specs.Trials.{trial_meaning, trial_bound, trial_fill, IsIdle, IsActive, idle_words, active_words, idle_fill, active_fill};
 
+use crate::rogues::echo;
+use crate::scribbling::scribble;
 use arrayvec::ArrayVec;
-use ialg::{Block, Ctl, Ialg, Lent, Params, Record, Status, object_record};
+use ialg::{Block, Ctl, Ialg, Lent, Params, Status, object_record};
 use mem_rec::{Attr, MemRec, MemTab, Space, TABLE_RECORDS};
 use voice_set::Voice;
-
-/// What a scribbler writes into each word that it may write.
-const SCRIBBLE: i16 = 0x5b5b;
 
 /// A hosted kind, or one that keeps no law.
 #[derive(Clone, Copy, PartialEq, Eq, Debug)]
@@ -156,35 +152,4 @@ fn scribbled_table(p: &[i16]) -> Option<MemTab> {
         records.try_push(scratch_record(asked)?).ok()?;
     }
     MemTab::make(records.as_slice())
-}
-
-// Writes over a record.
-fn scribble_record(mem: &mut Lent<'_>, space: Space, base: u16)
-    ensures { SameLoans mem.old mem.new }
-{
-    let Some(Record { k, words }) = mem.take(space, base) else {
-        return;
-    };
-    words.fill(SCRIBBLE);
-    mem.put(k, words);
-}
-
-// Writes over every word that may be written.
-fn scribble(mem: &mut Lent<'_>)
-    ensures { SameLoans mem.old mem.new }
-{
-    let table = mem.table();
-    for k in 0..table.len() {
-        let record = table.get(k);
-        scribble_record(mem, record.space, record.base);
-    }
-}
-
-// Gives the samples that it takes.
-fn echo(input: &[i16], out: &mut Block)
-    requires empty { out.old.items ≡ [] }
-    requires within { length input.now ≤ BLOCK_SAMPLES }
-    ensures { length out.new.items ≤ length input.now }
-{
-    out.extend_from_slice(input);
 }

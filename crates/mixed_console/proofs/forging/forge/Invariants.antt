@@ -1,5 +1,0 @@
-use Rattle.ialg.specs.Loans.{SameLoans}
-use Rattle.mixed_console.proofs.forging.forge.Given as goal
-
-abbrev pub invariant-loop-base : goal.invariant-loop-base
-invariant-loop-base l = SameLoans l.fn.mem l.mem

@@ -1,5 +1,0 @@
-use Rattle.ialg.specs.Loans.{SameLoans}
-use Rattle.mixed_console.proofs.forging.try_base.Given as goal
-
-abbrev pub invariant-loop-space : goal.invariant-loop-space
-invariant-loop-space l = SameLoans l.fn.mem l.mem

@@ -1,3 +1,0 @@
-pub mod Keeps
-pub mod Rogues
-pub mod Writing
