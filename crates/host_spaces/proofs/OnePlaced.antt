@@ -96,6 +96,13 @@ place_seen old w limits =
     ∙ ap (λ n. least_place n (ranges (space_in old w.space).blocks) w.size w.align) (sym (seen_words old w.space))
     ∙ ap (λ bs. least_place (words_in (sizes_of old) w.space) (ranges bs) w.size w.align) (sym (seen_blocks old w.space))
 
+-- it has no place, so its space is told
+pub not_placed : (old : Spaces) (w : Wanted) (ws : List Wanted) → IsWithinLimits w → None ≡ least_place (space_in old w.space).region.size (ranges (space_in old w.space).blocks) (placed_size w.size) w.align
+    → all_placed (sizes_of old) (map_of old) (w ∷ ws) ≡ Err w.space
+not_placed old w ws limits none =
+    ap (λ o. option_map_or (λ (place : ℕ).
+    let b : Placed = record { owner = w.owner; place = place; size = w.size; align = w.align } in all_placed (sizes_of old) (put_block (map_of old) w.space b) ws) o (Err w.space)) (sym (none ∙ place_seen old w limits))
+
 module _ (old mid : Spaces) (w : Wanted) (p : Span) (m : IsOne old mid w p) (limits : IsWithinLimits w) where
   long : length p.words ≡ w.size
   long = m.piece.1 ∙ full_size w limits

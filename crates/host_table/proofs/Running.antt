@@ -1,5 +1,5 @@
 -- The active member of a group is given samples where it stands.
-use Rattle.std.proofs.Common.{◌≡◌, ℕ, ℤ, inl, inr, List, [], ◌∷◌, ◌++◌, set, Option, Some, None, sym, ◌∙◌, refl, ap, subst}
+use Rattle.std.proofs.Common.{◌≡◌, ◌<◌, ℕ, ℤ, length, inl, inr, List, [], ◌∷◌, ◌++◌, set, Option, Some, None, sym, ◌∙◌, refl, ap, subst}
 use Rattle.std.specs.Prelude.{slice_index_or, IfSome}
 use Rattle.std.proofs.lemmas.Bool.Decides.{eqb_tells}
 use Rattle.ialg.specs.History.{History, with_samples}
@@ -10,7 +10,8 @@ use Rattle.lifecycle.specs.declared.active.Active.{Active}
 use Rattle.lifecycle.specs.Keeping.{TellsOutput as TellsItsOutput}
 use Rattle.lifecycle.specs.States.{ActiveRefines, all_outputs}
 use Rattle.lifecycle.specs.declared.instance.Inst.{Inst}
-use Rattle.lifecycle.specs.declared.instance.Inst.TheVariants.{Running}
+use Rattle.lifecycle.specs.declared.idle.Idle.{Idle}
+use Rattle.lifecycle.specs.declared.instance.Inst.TheVariants.{Idling, Running}
 use Rattle.host_shared.specs.declared.locations.Locations.{Locations}
 use Rattle.host_shared.specs.Locations.{shared_at}
 use Rattle.host_shared.specs.Owners.{with_pieces_of}
@@ -21,7 +22,7 @@ use Rattle.host_table.specs.Steps.{given, AreConsistent, AreKept, GivesOut, Step
 use Rattle.host_table.specs.View.{View}
 use Rattle.host_table.specs.Turns.{CanBeLent, RanSharing}
 use Rattle.host_table.proofs.Housing.{same_blocks}
-use Rattle.host_table.proofs.Changes.{same_tables, read_slot, read_ok_group, once_inside, owners_of_slot, known_active, kept_in_slot, fits_in_slot}
+use Rattle.host_table.proofs.Changes.{same_tables, active_inside, group_inside, read_slot, read_ok_group, once_inside, owners_of_slot, known_active, kept_in_slot, fits_in_slot}
 use Rattle.host_table.proofs.Activities.{activity_stays}
 use Rattle.host_table.proofs.Stepping.{Change, tables, ok_in, steps_after_step, steps_told, touched_stays}
 
@@ -48,6 +49,27 @@ opened {instances} {sharing} {groups} {i} {r} {m} {y} view consistent active rea
       running = running;
       group = read_ok_group instances sharing groups ok m.group (ok.group_range i m in_slot) y group;
     }
+
+-- an active instance is in the table, its slot isn't empty, and it isn't idle; its group is in the table too
+module _ {M : Type 0} {instances : List (Option (Member M))} {sharing : List Locations} {groups : List Group} {t : View M} (i : ℕ)
+    (view : tables instances sharing groups ≡ t) (active : IsActiveAt t.instances i) where
+  here : IsActiveAt instances i
+  here = subst (λ x. IsActiveAt x.instances i) (sym view) active
+
+  pub active_within : i < length instances
+  active_within = active_inside instances i _ here
+
+  module _ {r : Option (Member M)} (read : r ≡ slice_index_or instances i r) where
+    pub not_empty : r ≡ None → ⊥
+    not_empty is = none-some _ (rw (read_slot instances i _ here r read ∙ is) at here)
+
+    pub not_idle : {m : Member M} {s : Idle M} → r ≡ Some m → m.inst ≡ Idling s → ⊥
+    not_idle is idle = none-some _ (rw (read_slot instances i _ here r read ∙ is, idle) at here)
+
+    pub group_within : {m : Member M} → AreConsistent t → r ≡ Some m → m.group < length groups
+    group_within {m} consistent is =
+        let ok = ok_in view consistent in
+        group_inside instances sharing groups ok m.group (ok.group_range i m (read_slot instances i _ here r read ∙ is))
 
 -- the same of tables whose slot alone was read
 pub read : {M : Type 0} {instances : List (Option (Member M))} {sharing : List Locations} {groups : List Group} {t : View M} {i : ℕ} {r : Option (Member M)} {m : Member M} {s : Active M}

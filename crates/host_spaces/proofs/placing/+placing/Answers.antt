@@ -6,8 +6,10 @@ use Rattle.host_spaces.specs.declared.granted.Granted.{Granted}
 use Rattle.host_spaces.specs.MemoryMap.{map_of, sizes_of, space_in}
 use Rattle.host_map.specs.Creation.{all_placed}
 use Rattle.host_spaces.specs.Wants.{IsGranted, count_in, somes}
-use Rattle.host_spaces.proofs.OnePlaced.{IsOne, after_some, at_none, exact_one, count_passed, granted_next, granted_passed, its_owner, on_ok, room_next, somes_passed, taken_back}
+use Rattle.host_spaces.proofs.OnePlaced.{IsOne, after_some, at_none, exact_one, count_passed, granted_next, granted_passed, its_owner, not_placed, on_ok, room_next, somes_passed, taken_back}
+use Rattle.std.specs.Option.{option_map}
 use Rattle.std.proofs.lemmas.List.{drop_all}
+use Rattle.space_raw.specs.Span.{Span}
 use Rattle.host_spaces.proofs.placing.+placing.Goals as goal
 
 pub place_from-returns-then-first-wants-clause-exact : goal.place_from-returns-then-first-wants-clause-exact
@@ -76,6 +78,15 @@ place_at-take_out-requires-clause-owner g c =
       stays = told.stays;
     } in
     its_owner old mid c.place_from.new.spaces w p one c.in-Err.ensures.refused.0
+
+pub place_at-returns-in-None-place_filled-clause-exact : goal.place_at-returns-in-None-place_filled-clause-exact
+place_at-returns-in-None-place_filled-clause-exact g c =
+    let old = c.args.spaces.now in let wants = c.args.wants.now in let k = c.args.k in let w = c.in-Some.want in
+    let lt : k < length wants = (let s = c.requires.seven in let n = c.requires.number in omega arith) in
+    let is = at_none wants k _ (Some w) lt c.in-Some.is in
+    ap (all_placed (sizes_of old) (map_of old)) (after_some wants k w lt is)
+    ∙ not_placed old w (somes (drop (suc k) wants)) (c.requires.limits k w is)
+    (ap (option_map (λ (p : Span). p.place)) (sym c.in-None-place_filled.is) ∙ c.place_filled.ensures.place)
 
 pub place_at-returns-in-Ok-clause-exact : goal.place_at-returns-in-Ok-clause-exact
 place_at-returns-in-Ok-clause-exact g c =

@@ -44,3 +44,44 @@ pub returns-in_default-clause-step : goal.returns-in_default-clause-step
 returns-in_default-clause-step g c =
     steps_told (touched_stays (activity_at c.args.self.now.groups) _ c.args.i (c.requires.ready.ok.active_known _ _ c.in_default.ensures.active))
     (c.run.ensures.step c.args.poison c.requires.ready.poisoned)
+
+pub deactivate_in-deactivated-requires-clause-range : goal.deactivate_in-deactivated-requires-clause-range
+deactivate_in-deactivated-requires-clause-range g c =
+    let m = member_of (slot_at c.args.self.now.instances c.args.i) c.requires.living in
+    let group : m.0.group ≡ c.in-Some.g = ap group_of (sym m.1) ∙ sym c.in-Some.ensures.group in
+    subst (λ (k : ℕ). k < GROUPS) group (c.requires.ready.ok.group_range c.args.i m.0 m.1)
+
+pub deactivate_in-deactivated-requires-clause-ready : goal.deactivate_in-deactivated-requires-clause-ready
+deactivate_in-deactivated-requires-clause-ready g c = c.requires.ready
+
+pub activate_and_run-requires-clause-living : goal.activate_and_run-requires-clause-living
+activate_and_run-requires-clause-living g c =
+    let m = member_of (slot_at c.args.self.now.instances c.args.i) c.requires.living in
+    let later = later_member _ _ m.0 m.1 (c.deactivate_in-deactivated.ensures.step.same.slot c.args.i) in
+    rw later.1.0 refl
+
+pub activate_and_run-requires-clause-group : goal.activate_and_run-requires-clause-group
+activate_and_run-requires-clause-group g c =
+    c.in-Some.ensures.group ∙ sym (same_group_of _ _ (c.deactivate_in-deactivated.ensures.step.same.slot c.args.i))
+
+pub activate_and_run-requires-clause-resting : goal.activate_and_run-requires-clause-resting
+activate_and_run-requires-clause-resting g c =
+    none_active_after (activity_at c.args.self.now.groups) (activity_at c.deactivate_in-deactivated.new.self.groups) c.in-Some.g c.deactivate_in-deactivated.ensures.step.activity
+
+pub activate_and_run-requires-clause-ok : goal.activate_and_run-requires-clause-ok
+activate_and_run-requires-clause-ok g c = c.deactivate_in-deactivated.ensures.step.ok
+
+pub returns-clause-bounded : goal.returns-clause-bounded
+returns-clause-bounded g c = c.activate_and_run.ensures.bounded
+
+pub run-requires-clause-active : goal.run-requires-clause-active
+run-requires-clause-active g c = c.in_default.ensures.active
+
+pub run-requires-clause-ok : goal.run-requires-clause-ok
+run-requires-clause-ok g c = c.requires.ready.ok
+
+pub returns-in_default-clause-bounded : goal.returns-in_default-clause-bounded
+returns-in_default-clause-bounded g c = c.run.ensures.bounded
+
+pub returns-in_default-clause-output : goal.returns-in_default-clause-output
+returns-in_default-clause-output g c = c.run.ensures.output c.args.poison

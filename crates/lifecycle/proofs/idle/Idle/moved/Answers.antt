@@ -1,4 +1,4 @@
-use Rattle.std.proofs.Common.{subst, sym}
+use Rattle.std.proofs.Common.{refl, subst, sym}
 use Rattle.record_loans.specs.declared.pieces.Pieces.{Pieces}
 use Rattle.scratch_group.specs.Words.{idle_words}
 use Rattle.lifecycle.proofs.Words.{lasting_lent}
@@ -30,3 +30,11 @@ returns-clause-keeps g c w h keeps lawful =
 
 pub returns-clause-once : goal.returns-clause-once
 returns-clause-once g c = once_idle c.rebase.new.table c.restore.new.own c.lend_lasting.new.own c.args.shared.now c.lend_lasting.new.shared c.lend_lasting.ensures.done.0
+
+pub returns-clause-same : goal.returns-clause-same
+returns-clause-same g c = record {
+  kind = refl;
+  params = refl;
+  table = rw (← c.restore.ensures) c.rebase.ensures;
+  own = rw (← c.restore.ensures) c.lend_lasting.ensures.own;
+}
