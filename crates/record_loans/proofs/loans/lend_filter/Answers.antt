@@ -1,32 +1,27 @@
-use Rattle.std.proofs.Common.{◌≤◌, length, refl, subst, ◌∙◌}
-use Rattle.record_loans.specs.Blocks.{block_words}
-use Rattle.record_loans.specs.Pieces.{piece_words}
-use Rattle.record_loans.proofs.Parts.{front_back, no_words, same_refilled}
+use Rattle.std.proofs.Common.{refl, ap}
+use Rattle.record_loans.specs.Blocks.{block_piece}
+use Rattle.record_loans.specs.Performed.{Performed}
+use Rattle.record_loans.proofs.Parts.{front_lent, of_same, no_words, same_refilled, same_lent, room_in, not_missing}
 use Rattle.record_loans.proofs.PieceLemmas.{reflexive}
 use Rattle.record_loans.proofs.loans.lend_filter.Goals as goal
 
 pub returns-clause-done : goal.returns-clause-done
 returns-clause-done g c =
-    let sizes = c.args.sizes in
+    let n = c.args.sizes in
     let lent = c.lend in
-    let object = c.split_at_mut-object.ensures in
-    let kept = c.split_at_mut-kept.ensures in
-    let running = c.split_at_mut-running.ensures in
-    let o = c.words_mut.ensures.value in
-    let k = c.words_mut-in-Some-daram.ensures.value in
-    let r = c.words_mut-scratch.ensures.value in
-    let object_back = front_back sizes.object c.in-Some.object.words lent.new.r0 _ (lent.auto.r0 ∙ object.front_len) (rw o at object.back_len) in
-    let kept_back = front_back sizes.kept c.in-Some-p1.kept.words lent.new.r1 _ (lent.auto.r1 ∙ kept.front_len) (rw k at kept.back_len) in
-    let running_back = front_back sizes.running c.in-Some-daram.block.piece.words lent.new.r2 _ (lent.auto.r2 ∙ running.front_len) (rw r at running.back_len) in
-    let none = no_words lent.new.r3 lent.auto.r3 in
-    rw (c.in-Some.is, c.in-Some-p1.is, c.in-Some-daram.is, object_back, kept_back, running_back)
-    (rw (object.front, kept.front, running.front, o, k, r, none) at lent.ensures.done)
+    let object = c.split_at_mut-object in
+    let kept = c.split_at_mut-kept in
+    let running = c.split_at_mut-running in
+    let o = front_lent n.object lent.new.r0 object.result.1.now c.in-Some.is c.words_mut.ensures.value object.ensures.front object.ensures.front_len object.ensures.back_len lent.auto.r0 in
+    let k = front_lent n.kept lent.new.r1 kept.result.1.now c.in-Some-p1.is c.words_mut-in-Some-daram.ensures.value kept.ensures.front kept.ensures.front_len kept.ensures.back_len lent.auto.r1 in
+    let r = front_lent n.running lent.new.r2 running.result.1.now (ap block_piece c.in-Some-daram.is) c.words_mut-scratch.ensures.value running.ensures.front running.ensures.front_len running.ensures.back_len lent.auto.r2 in
+    of_same (λ old new. Performed g.S.Step.done c.args.loan.now old new c.args.out.now lent.new.out) o.0 k.0 r.0 refl o.1 k.1 r.1 (no_words lent.new.r3 lent.auto.r3) lent.ensures.done
 
 pub returns-clause-own : goal.returns-clause-own
 returns-clause-own g c =
     let own = c.args.own.now in record {
-      p0 = rw c.in-Some.is (same_refilled c.in-Some.object _);
-      p1 = rw c.in-Some-p1.is (same_refilled c.in-Some-p1.kept _);
+      p0 = same_lent c.in-Some.object _ c.in-Some.is;
+      p1 = same_lent c.in-Some-p1.kept _ c.in-Some-p1.is;
       p2 = reflexive own.p2;
       p3 = reflexive own.p3;
     }
@@ -35,10 +30,20 @@ pub returns-clause-daram : goal.returns-clause-daram
 returns-clause-daram g c = rw c.in-Some-daram.is (same_refilled c.in-Some-daram.block.piece _, refl)
 
 pub split_at_mut-object-requires : goal.split_at_mut-object-requires
-split_at_mut-object-requires g c = rw c.words_mut.ensures.value (subst (λ p. c.args.sizes.object ≤ length (piece_words p)) c.in-Some.is c.requires.fit.object)
+split_at_mut-object-requires g c = room_in c.in-Some.is c.words_mut.ensures.value c.requires.fit.object
 
 pub split_at_mut-kept-requires : goal.split_at_mut-kept-requires
-split_at_mut-kept-requires g c = rw c.words_mut-in-Some-daram.ensures.value (subst (λ p. c.args.sizes.kept ≤ length (piece_words p)) c.in-Some-p1.is c.requires.fit.kept)
+split_at_mut-kept-requires g c = room_in c.in-Some-p1.is c.words_mut-in-Some-daram.ensures.value c.requires.fit.kept
 
 pub split_at_mut-running-requires : goal.split_at_mut-running-requires
-split_at_mut-running-requires g c = rw c.words_mut-scratch.ensures.value (subst (λ p. c.args.sizes.running ≤ length (block_words p)) c.in-Some-daram.is c.requires.fit.running)
+split_at_mut-running-requires g c = room_in (ap block_piece c.in-Some-daram.is) c.words_mut-scratch.ensures.value c.requires.fit.running
+
+-- no piece and no block is missing: each of the records has a word at least
+pub unreachable-unreachable : goal.unreachable-unreachable
+unreachable-unreachable g c = not_missing (ap block_piece c.in-None-daram.is) c.requires.some.2 c.requires.fit.running
+
+pub unreachable-unreachable-in-None-p1 : goal.unreachable-unreachable-in-None-p1
+unreachable-unreachable-in-None-p1 g c = not_missing c.in-None-p1.is c.requires.some.1 c.requires.fit.kept
+
+pub unreachable-unreachable-in-None : goal.unreachable-unreachable-in-None
+unreachable-unreachable-in-None g c = not_missing c.in-None.is c.requires.some.0 c.requires.fit.object

@@ -1,61 +1,51 @@
-use Rattle.std.proofs.Common.{◌≤◌, length, subst, ◌∙◌}
-use Rattle.record_loans.specs.Pieces.{piece_words}
-use Rattle.record_loans.proofs.Parts.{front_back, no_words, none_taken, same_refilled}
+use Rattle.std.proofs.Common.{refl, ◌∙◌}
+use Rattle.record_loans.specs.Performed.{Performed}
+use Rattle.record_loans.proofs.Parts.{front_lent, of_same, no_words, none_lent, same_lent, room_in}
 use Rattle.record_loans.proofs.PieceLemmas.{reflexive}
 use Rattle.record_loans.proofs.loans.lend_reader.Goals as goal
 
 pub returns-in-Some-once-clause-done : goal.returns-in-Some-once-clause-done
 returns-in-Some-once-clause-done g c =
-    let sizes = c.args.sizes in
+    let n = c.args.sizes in
     let lent = c.lend in
-    let object = c.split_at_mut-object.ensures in
-    let once = c.split_at_mut-once.ensures in
-    let o = c.words_mut.ensures.value in
-    let w = c.words_mut-in-Some-once.ensures.value in
-    let object_back = front_back sizes.object c.in-Some.object.words lent.new.r0 _ (lent.auto.r0 ∙ object.front_len) (rw o at object.back_len) in
-    let once_back = front_back sizes.once c.in-Some-once.once.words lent.new.r1 _ (lent.auto.r1 ∙ once.front_len) (rw w at once.back_len) in
-    let third = no_words lent.new.r2 lent.auto.r2 in
-    let last = no_words lent.new.r3 lent.auto.r3 in
-    rw (c.in-Some.is, c.in-Some-once.is, object_back, once_back)
-    (rw (object.front, once.front, o, w, third, last) at lent.ensures.done)
+    let object = c.split_at_mut-object in
+    let once = c.split_at_mut-once in
+    let o = front_lent n.object lent.new.r0 object.result.1.now c.in-Some.is c.words_mut.ensures.value object.ensures.front object.ensures.front_len object.ensures.back_len lent.auto.r0 in
+    let w = front_lent n.once lent.new.r1 once.result.1.now c.in-Some-once.is c.words_mut-in-Some-once.ensures.value once.ensures.front once.ensures.front_len once.ensures.back_len lent.auto.r1 in
+    of_same (λ old new. Performed g.S.Step.done c.args.loan.now old new c.args.out.now lent.new.out) o.0 w.0 refl refl o.1 w.1
+    (no_words lent.new.r2 lent.auto.r2) (no_words lent.new.r3 lent.auto.r3) lent.ensures.done
 
 pub returns-in-None-once-clause-done : goal.returns-in-None-once-clause-done
 returns-in-None-once-clause-done g c =
-    let sizes = c.args.sizes in
+    let n = c.args.sizes in
     let lent = c.lend-in-None-once in
-    let object = c.split_at_mut-object-in-None-once.ensures in
-    let o = c.words_mut-in-None-once.ensures.value in
-    let object_back = front_back sizes.object c.in-Some.object.words lent.new.r0 _ (lent.auto.r0 ∙ object.front_len) (rw o at object.back_len) in
-    let second = no_words lent.new.r1 lent.auto.r1 in
-    let third = no_words lent.new.r2 lent.auto.r2 in
-    let last = no_words lent.new.r3 lent.auto.r3 in
-    rw (c.in-Some.is, c.in-None-once.is, object_back, none_taken sizes.once)
-    (rw (object.front, o, second, third, last) at lent.ensures.done)
+    let object = c.split_at_mut-object-in-None-once in
+    let o = front_lent n.object lent.new.r0 object.result.1.now c.in-Some.is c.words_mut-in-None-once.ensures.value object.ensures.front object.ensures.front_len object.ensures.back_len lent.auto.r0 in
+    let none = none_lent n.once c.in-None-once.is in
+    of_same (λ old new. Performed g.S.Step.done c.args.loan.now old new c.args.out.now lent.new.out) o.0 none refl refl o.1 (no_words lent.new.r1 lent.auto.r1 ∙ none)
+    (no_words lent.new.r2 lent.auto.r2) (no_words lent.new.r3 lent.auto.r3) lent.ensures.done
 
 pub returns-in-Some-once-clause-own : goal.returns-in-Some-once-clause-own
 returns-in-Some-once-clause-own g c =
     let own = c.args.own.now in
-    record { p0 = rw c.in-Some.is (same_refilled c.in-Some.object _); p1 = reflexive own.p1; p2 = reflexive own.p2; p3 = reflexive own.p3 }
+    record { p0 = same_lent c.in-Some.object _ c.in-Some.is; p1 = reflexive own.p1; p2 = reflexive own.p2; p3 = reflexive own.p3 }
 
 pub returns-in-None-once-clause-own : goal.returns-in-None-once-clause-own
 returns-in-None-once-clause-own g c =
     let own = c.args.own.now in
-    record { p0 = rw c.in-Some.is (same_refilled c.in-Some.object _); p1 = reflexive own.p1; p2 = reflexive own.p2; p3 = reflexive own.p3 }
+    record { p0 = same_lent c.in-Some.object _ c.in-Some.is; p1 = reflexive own.p1; p2 = reflexive own.p2; p3 = reflexive own.p3 }
 
 pub returns-in-Some-once-clause-once : goal.returns-in-Some-once-clause-once
-returns-in-Some-once-clause-once g c = rw c.in-Some-once.is (same_refilled c.in-Some-once.once _)
+returns-in-Some-once-clause-once g c = same_lent c.in-Some-once.once _ c.in-Some-once.is
 
 pub returns-in-None-once-clause-once : goal.returns-in-None-once-clause-once
 returns-in-None-once-clause-once g c = reflexive c.args.once.now
 
 pub split_at_mut-object-requires : goal.split_at_mut-object-requires
-split_at_mut-object-requires g c =
-    rw c.words_mut.ensures.value (subst (λ p. c.args.sizes.object ≤ length (piece_words p)) c.in-Some.is c.requires.fit.object)
+split_at_mut-object-requires g c = room_in c.in-Some.is c.words_mut.ensures.value c.requires.fit.object
 
 pub split_at_mut-object-requires-in-None-once : goal.split_at_mut-object-requires-in-None-once
-split_at_mut-object-requires-in-None-once g c =
-    rw c.words_mut-in-None-once.ensures.value (subst (λ p. c.args.sizes.object ≤ length (piece_words p)) c.in-Some.is c.requires.fit.object)
+split_at_mut-object-requires-in-None-once g c = room_in c.in-Some.is c.words_mut-in-None-once.ensures.value c.requires.fit.object
 
 pub split_at_mut-once-requires : goal.split_at_mut-once-requires
-split_at_mut-once-requires g c =
-    rw c.words_mut-in-Some-once.ensures.value (subst (λ p. c.args.sizes.once ≤ length (piece_words p)) c.in-Some-once.is c.requires.fit.once)
+split_at_mut-once-requires g c = room_in c.in-Some-once.is c.words_mut-in-Some-once.ensures.value c.requires.fit.once

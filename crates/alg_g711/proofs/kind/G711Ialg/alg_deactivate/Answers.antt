@@ -1,0 +1,6 @@
+use Rattle.ialg.specs.Loans.{lent_words}
+use Rattle.alg_g711.proofs.Keeping.{without_scratch}
+use Rattle.alg_g711.proofs.kind.G711Ialg.alg_deactivate.Goals as goal
+
+pub returns-clause-law : goal.returns-clause-law
+returns-clause-law c p w h begun closed lent keeps = without_scratch p c.args._mem.now.table.now (lent_words c.args._mem.now) h keeps
