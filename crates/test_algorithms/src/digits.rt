@@ -90,10 +90,11 @@ fn a_frame_goes_on_over_blocks(rt: HostRuntime) {
 
 #[test]
 fn parameters_and_controls(rt: HostRuntime) {
+    let records = filter_records(26, 19);
     assert_digits(
         &rt,
         &[
-            Ask(&LIMITS, &filter_records(26, 19)),
+            Ask(&LIMITS, &records),
             Refuse(&[128, 7, 91, 2920, 7336, 5827, 22938]),
             Refuse(&[102, 7]),
             Start(&LIMITS),

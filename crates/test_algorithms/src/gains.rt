@@ -50,12 +50,9 @@ fn a_set_is_in_force_from_the_next_sample(rt: HostRuntime) {
 
 #[test]
 fn the_parameter_is_one_word(rt: HostRuntime) {
+    let records = filter_records(1, 1);
     assert_gains(
         &rt,
-        &[
-            Refuse(&[]),
-            Ask(&[4096], &filter_records(1, 1)),
-            Refuse(&[4096, 0]),
-        ],
+        &[Refuse(&[]), Ask(&[4096], &records), Refuse(&[4096, 0])],
     );
 }

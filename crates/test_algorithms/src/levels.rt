@@ -70,6 +70,7 @@ fn a_reset_begins_a_frame(rt: HostRuntime) {
 
 #[test]
 fn parameters_and_controls(rt: HostRuntime) {
+    let records = filter_records(5, 3);
     assert_levels(
         &rt,
         &[
@@ -78,8 +79,8 @@ fn parameters_and_controls(rt: HostRuntime) {
             Refuse(&[-1, 0]),
             Refuse(&[1, -1]),
             Refuse(&[1, 16]),
-            Ask(&[1, 0], &filter_records(5, 3)),
-            Ask(&[1024, 15], &filter_records(5, 3)),
+            Ask(&[1, 0], &records),
+            Ask(&[1024, 15], &records),
             Refuse(&[1]),
             Refuse(&[1, 0, 0]),
             Start(&[4, 0]),
