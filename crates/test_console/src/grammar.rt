@@ -94,13 +94,13 @@ fn takes_every_octet_as_a_line(rt: HostRuntime) {
     }
 }
 
-/// Judges the longest line of a creation, one-letter words behind each other, with this octet at its end.
-fn judge_the_longest<R: Abort + AllocGlobal>(
+/// The longest line of a creation: one-letter words behind each other, with this octet at its end.
+fn longest_line<R: Abort + AllocGlobal>(
     rt: &R,
     start: &[u8],
     word: &[u8],
     last: u8,
-) -> Result<Result<bool, Refusal>, Fail> {
+) -> Result<Vec<u8>, Fail> {
     let mut line = start.to_vec(rt.alloc())?;
     for _ in start.len() / 2..LINE_OCTETS / 2 - 1 {
         line.extend_from_slice(word)?;
@@ -108,7 +108,7 @@ fn judge_the_longest<R: Abort + AllocGlobal>(
     line.push(b' ')?;
     line.push(last)?;
     assert!(rt; line.len() == LINE_OCTETS);
-    Ok(is_command(line.as_slice()))
+    Ok(line)
 }
 
 #[test]
@@ -120,7 +120,8 @@ fn judges_the_longest_lines(rt: HostRuntime) -> Result<(), Fail> {
         (b"create 0 low 0", b" x", b'1', Refusal::Syntax),
         (b"feed 0 1", b"11", b'1', Refusal::Syntax),
     ] {
-        assert!(rt; judge_the_longest(&rt, start, word, last)? == Err(refusal));
+        let line = longest_line(&rt, start, word, last)?;
+        assert!(rt; is_command(line.as_slice()) == Err(refusal));
     }
     Ok(())
 }

@@ -7,6 +7,8 @@ mod arguments;
 #[cfg(test)]
 mod engine;
 #[cfg(test)]
+mod faults;
+#[cfg(test)]
 mod grammar;
 #[cfg(test)]
 mod journal;

@@ -1,7 +1,6 @@
 pub mod Primed
 pub mod Starts
 pub mod Slicer
-pub mod Trials
+pub mod Lawless
 pub mod Rogues
 pub mod Writing
-pub mod Keeps

@@ -2,7 +2,7 @@
 ghost use Rattle.ialg.specs.Loans.{SameLoans};
 
 use crate::rogues::{OBJECT, fill_record, record_of};
-use ialg::{Lent, Record};
+use ialg::Lent;
 use mem_rec::{LEAST_ALIGNMENT, MemTab, Space};
 use relocate::SPACE_WORDS;
 
@@ -30,17 +30,6 @@ fn read_forged(mem: &Lent<'_>, space: Space, base: u16) -> i16 {
     }
 }
 
-/// Writes `word` over the record of `space` that begins at the forged base, where one does.
-fn write_forged(mem: &mut Lent<'_>, space: Space, base: u16, word: i16)
-    ensures { SameLoans mem.old mem.new }
-{
-    let Some(Record { k, words }) = mem.take(space, base) else {
-        return;
-    };
-    words.fill(word);
-    mem.put(k, words);
-}
-
 /// Puts a base into the object, and goes by it in each space.
 fn try_base(mem: &mut Lent<'_>, base: u16)
     ensures { SameLoans mem.old mem.new }
@@ -51,7 +40,7 @@ fn try_base(mem: &mut Lent<'_>, base: u16)
     fill_record(mem, object.space, object.base, base.cast_signed());
     for space in SPACES {
         let seen = read_forged(mem, space, base);
-        write_forged(mem, space, base, seen.wrapping_add(1));
+        fill_record(mem, space, base, seen.wrapping_add(1));
     }
 }
 

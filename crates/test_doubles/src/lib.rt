@@ -5,9 +5,11 @@
 //! [`Primed`] is lawful in a host of one poison word alone. [`start_in_poison`] and [`start_with_fill`] start it, and
 //! [`activate_in_poison`] activates it, by the laws of IALG, so that what these laws ask of new records and of scratch words is
 //! met by words that there are. [`give_sample`] gives it a sample by the law of one entry.
-//! [`Slicer`] has scratch records of two alignments in two spaces. [`Trial`] is one of the hosted kinds, or one that keeps no law and writes over all
-//! that it may. [`Mixed`] is one of the hosted kinds or a rogue, of which there are four: one writes over all that it may, one reads what others left in
-//! its scratch words, one goes by forged bases, and one gives as many samples as it likes.
+//! [`Slicer`] has scratch records of two alignments in two spaces.
+//!
+//! The other kinds keep no law. [`Scribbler`] asks for the memory that its parameters say, and writes over all that it may. A [`Rogue`] is one of four: one
+//! writes over all that it may, one reads what others left in its scratch words, one goes by forged bases, and one gives as many samples as it
+//! likes. [`Trial`] and [`Mixed`] are the sets of the hosted kinds and these.
 #![tactic(auto)]
 
 mod babbling;
@@ -15,8 +17,8 @@ mod clinging;
 mod device;
 mod forging;
 mod metered;
-mod mixed;
 mod primed;
+mod rogue;
 pub mod rogues;
 mod scribbler;
 mod scribbling;
@@ -25,10 +27,11 @@ mod starts;
 
 pub use device::{HELD_OCTETS, Shaky};
 use ialg::OBJECT_WORDS;
+pub use kind_parts::Or;
 pub use metered::Metered;
-pub use mixed::{Mixed, voices_alone_are_lawful};
 pub use primed::Primed;
-pub use scribbler::Trial;
+pub use rogue::{Mixed, Rogue, voices_alone_are_lawful};
+pub use scribbler::{SCRIBBLER, Scribbler, Trial};
 pub use slicer::Slicer;
 pub use starts::{Active, Held, activate_in_poison, give_sample, start_in_poison, start_with_fill};
 

@@ -1,128 +1,91 @@
 //! A kind for tests of hosts.
+ghost use Rattle.test_doubles.specs.Lawless.{lawless, is_word_history, holds_fill};
+ghost use Rattle.test_doubles.specs.Rogues.{scribbler_meaning};
 ghost use Rattle.std.proofs.Common.{rules};
 ghost use Rattle.std.specs.Cmp.Rules.{comparing};
-ghost use Rattle.test_doubles.specs.Trials.{trial_meaning, trial_bound, trial_fill, IsIdle, IsActive, idle_words, active_words, idle_fill, active_fill};
 
 use crate::rogues::echo;
 use crate::scribbling::scribble;
 use arrayvec::ArrayVec;
 use ialg::{Block, Ctl, Ialg, Lent, Params, Status, object_record};
+use kind_parts::Or;
 use mem_rec::{Attr, MemRec, MemTab, Space, TABLE_RECORDS};
 use voice_set::Voice;
 
-/// A hosted kind, or one that keeps no law.
+/// A kind that keeps no law, and whose memory is what its parameters say.
+///
+/// It asks for an object and for up to three scratch records, three parameters for each: the space (0 to 2), the words and the
+/// alignment. In each call it writes over every word that it may write, its object's too. It gives the samples that it takes, and
+/// takes every control.
 #[derive(Clone, Copy, PartialEq, Eq, Debug)]
-pub enum Trial {
-    Lawful(Voice),
-    /// It asks for an object and for up to three scratch records, three parameters for each: the space (0 to 2), the words and the
-    /// alignment. In each call it writes over every word that it may write, its object's too. It gives the samples that it takes, and
-    /// takes every control.
-    Scribbler,
-}
+pub struct Scribbler;
 
-impl Ialg for Trial {
-    ghost law = { record {
-      meaning = trial_meaning;
-      bound = trial_bound;
-      fill = trial_fill;
-      idle_refines = IsIdle;
-      active_refines = IsActive;
-    } };
+/// A hosted kind or a scribbler.
+pub type Trial = Or<Voice, Scribbler>;
+
+/// The scribbler among them.
+pub const SCRIBBLER: Trial = Or::Second(Scribbler);
+
+impl Ialg for Scribbler {
+    ghost law = { lawless scribbler_meaning };
 
     fn alg_num_alloc(&self) -> usize {
-        match self {
-            Trial::Lawful(voice) => voice.alg_num_alloc(),
-            Trial::Scribbler => TABLE_RECORDS,
-        }
+        TABLE_RECORDS
     }
 
     fn alg_alloc(&self, p: &Params) -> Option<MemTab> {
-        match self {
-            Trial::Lawful(voice) => voice.alg_alloc(p),
-            Trial::Scribbler => scribbled_table(p.as_slice()),
-        }
+        scribbled_table(p.as_slice())
     }
 
-    fn alg_init(&self, tab: &MemTab, p: &Params, mem: &mut Lent<'_>) {
-        match self {
-            Trial::Lawful(voice) => voice.alg_init(tab, p, mem),
-            Trial::Scribbler => scribble(mem),
-        }
+    fn alg_init(&self, _tab: &MemTab, _p: &Params, mem: &mut Lent<'_>) {
+        scribble(mem);
     }
 
     fn alg_activate(&self, mem: &mut Lent<'_>) {
-        match self {
-            Trial::Lawful(voice) => voice.alg_activate(mem),
-            Trial::Scribbler => scribble(mem),
-        }
+        scribble(mem);
     }
 
     fn process(&self, mem: &mut Lent<'_>, input: &[i16], out: &mut Block) {
-        match self {
-            Trial::Lawful(voice) => voice.process(mem, input, out),
-            Trial::Scribbler => {
-                scribble(mem);
-                echo(input, out);
-            }
-        }
+        scribble(mem);
+        echo(input, out);
     }
 
-    fn process_sample(&self, object: &[i16], once: &[i16], x: i16) -> Option<i16> {
-        match self {
-            Trial::Lawful(voice) => voice.process_sample(object, once, x),
-            Trial::Scribbler => Some(x),
-        }
+    fn process_sample(&self, _object: &[i16], _once: &[i16], x: i16) -> Option<i16> {
+        Some(x)
     }
 
     fn alg_deactivate(&self, mem: &mut Lent<'_>) {
-        match self {
-            Trial::Lawful(voice) => voice.alg_deactivate(mem),
-            Trial::Scribbler => scribble(mem),
-        }
+        scribble(mem);
     }
 
-    fn alg_moved(&self, tab: &MemTab, mem: &mut Lent<'_>) {
-        match self {
-            Trial::Lawful(voice) => voice.alg_moved(tab, mem),
-            Trial::Scribbler => scribble(mem),
-        }
+    fn alg_moved(&self, _tab: &MemTab, mem: &mut Lent<'_>) {
+        scribble(mem);
     }
 
-    fn accepts(&self, p: &Params, c: &Ctl) -> bool {
-        match self {
-            Trial::Lawful(voice) => voice.accepts(p, c),
-            Trial::Scribbler => true,
-        }
+    fn accepts(&self, _p: &Params, _c: &Ctl) -> bool {
+        true
     }
 
-    fn alg_control(&self, mem: &mut Lent<'_>, c: &Ctl) -> Status {
-        match self {
-            Trial::Lawful(voice) => voice.alg_control(mem, c),
-            Trial::Scribbler => {
-                scribble(mem);
-                Status::Done
-            }
-        }
+    fn alg_control(&self, mem: &mut Lent<'_>, _c: &Ctl) -> Status {
+        scribble(mem);
+        Status::Done
     }
 
     fn alg_free(&self, mem: &Lent<'_>) -> MemTab {
-        match self {
-            Trial::Lawful(voice) => voice.alg_free(mem),
-            Trial::Scribbler => mem.table().copied(),
-        }
+        mem.table().copied()
     }
 
     ghost same = { Prim.search (comparing, rules) };
 
     ghost compared = { Prim.search (comparing, rules) };
 
-    ghost idle_words = { idle_words };
+    ghost idle_words = { is_word_history };
 
-    ghost active_words = { active_words };
+    ghost active_words = { is_word_history };
 
-    ghost idle_fill = { idle_fill };
+    ghost idle_fill = { holds_fill };
 
-    ghost active_fill = { active_fill };
+    ghost active_fill = { holds_fill };
 }
 
 // A scratch record of so many words in a space, at a multiple of the alignment.

@@ -6,10 +6,10 @@ use host_map::Sizes;
 use ialg::{BLOCK_SAMPLES, Block, Ctl, PARAMETER_WORDS, Refusal, Status, copied};
 use mem_rec::Space;
 use std::process::Abort;
-use test_doubles::Trial;
+use test_doubles::{Or, SCRIBBLER, Trial};
 use voice_set::Voice;
 
-const FIR: Trial = Trial::Lawful(Voice::Fir);
+const FIR: Trial = Or::First(Voice::Fir);
 
 fn sizes(daram: u32, saram: u32, external: u32) -> Sizes {
     Sizes {
@@ -82,7 +82,7 @@ fn alone(rt: &impl Abort) -> [Request<Trial>; 5] {
 // The life of such a filter beside a kind that keeps no law.
 fn beside_a_scribbler(rt: &impl Abort) -> [Request<Trial>; 12] {
     [
-        create(rt, 7, Trial::Scribbler, 3, &[0, 1_028, 16]),
+        create(rt, 7, SCRIBBLER, 3, &[0, 1_028, 16]),
         create(rt, 5, FIR, 3, &[16_384, 16_384]),
         process(rt, 5, &[2]),
         process(rt, 7, &[30, -30]),

@@ -6,13 +6,13 @@ use crate::channel_calls::make;
 use crate::feed_both;
 use host_map::Sizes;
 use std::process::Abort;
-use test_doubles::Trial;
+use test_doubles::{Or, SCRIBBLER, Trial};
 use voice_channel::{Channels, Host};
 use voice_set::Voice;
 
-const FIR: Trial = Trial::Lawful(Voice::Fir);
+const FIR: Trial = Or::First(Voice::Fir);
 
-const DECIM: Trial = Trial::Lawful(Voice::Decim);
+const DECIM: Trial = Or::First(Voice::Decim);
 
 // A decimator by 2, and the mean of a sample and the one before it.
 const BY_TWO: [i16; 3] = [2, 16_384, 16_384];
@@ -45,7 +45,7 @@ fn channel_beside_a_scribbler<R: Abort + AllocGlobal>(rt: &R) -> Channels<Trial>
     let host = Host::new(rt.alloc(), sizes(2_048, 512), Some(-1)).expect(rt, "memory");
     let mut channels = Channels::new(host, 4);
     let calls = [
-        Create(9, Trial::Scribbler, 0, &[0, 1_028, 16], Ok(())),
+        Create(9, SCRIBBLER, 0, &[0, 1_028, 16], Ok(())),
         Create(7, FIR, 0, &MEAN, Ok(())),
         Create(5, DECIM, 0, &BY_TWO, Ok(())),
         Chain(3, &[5, 7], Ok(())),

@@ -11,17 +11,17 @@ use ialg::{Block, Refusal};
 use mem_rec::Space;
 use std::alloc::Global;
 use std::process::Abort;
-use test_doubles::Trial;
+use test_doubles::{Or, SCRIBBLER, Trial};
 use voice_channel::{CHANNELS, Channels, Host};
 use voice_set::Voice;
 
-const FIR: Trial = Trial::Lawful(Voice::Fir);
+const FIR: Trial = Or::First(Voice::Fir);
 
-const DECIM: Trial = Trial::Lawful(Voice::Decim);
+const DECIM: Trial = Or::First(Voice::Decim);
 
-const BIQUAD: Trial = Trial::Lawful(Voice::Biquad);
+const BIQUAD: Trial = Or::First(Voice::Biquad);
 
-const G711: Trial = Trial::Lawful(Voice::G711);
+const G711: Trial = Or::First(Voice::G711);
 
 // The mean of a sample and the one before it.
 const MEAN: [i16; 2] = [16_384, 16_384];
@@ -355,7 +355,7 @@ fn members_keep_their_histories_from_channel_to_channel(rt: HostRuntime) {
 fn a_scribbler_between_two_filters_spoils_neither(rt: HostRuntime) {
     let calls = [
         Create(0, FIR, 0, &MEAN, Ok(())),
-        Create(1, Trial::Scribbler, 0, &[0, 1_028, 16], Ok(())),
+        Create(1, SCRIBBLER, 0, &[0, 1_028, 16], Ok(())),
         Create(2, FIR, 0, &MEAN, Ok(())),
         Chain(0, &[0, 1, 2], Ok(())),
         Feed(0, &[4], &[1]),

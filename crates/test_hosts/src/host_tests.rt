@@ -7,10 +7,10 @@ use crate::host_calls::make;
 use host_map::{Owner, Placed, Sizes};
 use ialg::Refusal;
 use mem_rec::Space;
-use test_doubles::Trial;
+use test_doubles::{Or, SCRIBBLER, Trial};
 use voice_set::Voice;
 
-const FIR: Trial = Trial::Lawful(Voice::Fir);
+const FIR: Trial = Or::First(Voice::Fir);
 
 // The mean of a sample and the one before it.
 const MEAN: [i16; 2] = [16_384, 16_384];
@@ -24,7 +24,7 @@ const AMPLE: Sizes = Sizes {
 #[test]
 fn a_block_is_replaced_for_its_alignment_alone(rt: HostRuntime) {
     let calls = [
-        Create(0, Trial::Scribbler, 0, &[0, 100, 4], Ok(())),
+        Create(0, SCRIBBLER, 0, &[0, 100, 4], Ok(())),
         Process(0, &[7, 8], &[7, 8]),
         Map(
             Space::Daram,
@@ -35,7 +35,7 @@ fn a_block_is_replaced_for_its_alignment_alone(rt: HostRuntime) {
                 align: 4,
             }],
         ),
-        Create(1, Trial::Scribbler, 0, &[0, 100, 64], Ok(())),
+        Create(1, SCRIBBLER, 0, &[0, 100, 64], Ok(())),
         Map(
             Space::Daram,
             &[Placed {
@@ -66,11 +66,11 @@ fn a_first_block_deactivates_nobody(rt: HostRuntime) {
     let calls = [
         Create(0, FIR, 3, &MEAN, Ok(())),
         Process(0, &[2], &[1]),
-        Create(1, Trial::Scribbler, 3, &[1, 60, 16], Ok(())),
+        Create(1, SCRIBBLER, 3, &[1, 60, 16], Ok(())),
         Stat(3, Ok((Some(0), 1))),
         Process(0, &[4], &[3]),
         // a first block in one space beside a replaced one in another
-        Create(2, Trial::Scribbler, 3, &[0, 1_032, 4, 2, 12, 4], Ok(())),
+        Create(2, SCRIBBLER, 3, &[0, 1_032, 4, 2, 12, 4], Ok(())),
         Stat(3, Ok((None, 1))),
         Map(
             Space::Daram,
@@ -93,7 +93,7 @@ fn a_first_block_deactivates_nobody(rt: HostRuntime) {
 fn a_scribbler_spoils_no_neighbour(rt: HostRuntime) {
     let calls = [
         Create(0, FIR, 0, &MEAN, Ok(())),
-        Create(1, Trial::Scribbler, 0, &[0, 1_028, 16], Ok(())),
+        Create(1, SCRIBBLER, 0, &[0, 1_028, 16], Ok(())),
         Process(0, &[2], &[1]),
         Process(1, &[10], &[10]),
         Process(0, &[4], &[3]),
@@ -101,7 +101,7 @@ fn a_scribbler_spoils_no_neighbour(rt: HostRuntime) {
         Stat(0, Ok((Some(1), 4))),
         Delete(1, Ok(())),
         Stat(0, Ok((None, 4))),
-        Create(1, Trial::Scribbler, 0, &[0, 1_300, 16], Ok(())),
+        Create(1, SCRIBBLER, 0, &[0, 1_300, 16], Ok(())),
         Process(1, &[30], &[30]),
         Compact(Space::Daram, 1),
         Release(0, Ok(true)),
@@ -152,12 +152,12 @@ fn refusals_come_in_their_order(rt: HostRuntime) {
         Create(0, FIR, 0, &[], Err(Refusal::Params)),
         Create(
             0,
-            Trial::Scribbler,
+            SCRIBBLER,
             0,
             &[0, 1_032, 4],
             Err(Refusal::Room(Space::Daram)),
         ),
-        Create(0, Trial::Scribbler, 0, &[0, 1_032, 3], Err(Refusal::Params)),
+        Create(0, SCRIBBLER, 0, &[0, 1_032, 3], Err(Refusal::Params)),
         Delete(64, Err(Refusal::Range)),
         Delete(0, Err(Refusal::Missing)),
         Release(8, Err(Refusal::Range)),

@@ -4,10 +4,10 @@ ghost use Rattle.std.specs.Prelude.{◌≡◌, [], ⊤};
 use ialg::{Block, Ctl, Ialg, Lending, Lent, Named, Params, Step, lend};
 use mem_rec::{Attr, LEAST_ALIGNMENT, MemRec, MemTab, Space};
 use std::process::Abort;
-use test_doubles::Mixed;
 use test_doubles::rogues::{
     KEPT, KEPT_WORDS, OBJECT, SCRATCH, SCRATCH_ALIGNMENT, SCRATCH_WORDS, record_of,
 };
+use test_doubles::{Mixed, Or, Rogue};
 use voice_set::Voice;
 
 // The records, by their numbers.
@@ -41,7 +41,7 @@ const CALLS: [Call; 6] = [
 /// A call of a kind.
 #[derive(Clone, Copy)]
 struct Called {
-    kind: Mixed,
+    kind: Rogue,
     call: Call,
 }
 
@@ -68,7 +68,7 @@ impl Step<Block> for Called {
 /// Asks an instance for its records, and whether they are untrue.
 #[derive(Clone, Copy)]
 struct Freed {
-    kind: Mixed,
+    kind: Rogue,
 }
 
 impl Step<bool> for Freed {
@@ -97,7 +97,7 @@ const BEFORE: Memory = Memory {
 };
 
 /// A rogue's records, with bases that nobody forges.
-fn placed_table(kind: Mixed) -> Option<MemTab> {
+fn placed_table(kind: Rogue) -> Option<MemTab> {
     let table = kind.alg_alloc(&Params::new())?;
     if table.len() != 3 || kind.alg_num_alloc() != 3 {
         return None;
@@ -106,7 +106,7 @@ fn placed_table(kind: Mixed) -> Option<MemTab> {
 }
 
 /// The words after a call, and what it gave out.
-fn after(kind: Mixed, call: Call) -> Option<(Memory, Block)> {
+fn after(kind: Rogue, call: Call) -> Option<(Memory, Block)> {
     let table = placed_table(kind)?;
     let mut memory = BEFORE;
     let mut out = Block::new();
@@ -126,7 +126,7 @@ fn after(kind: Mixed, call: Call) -> Option<(Memory, Block)> {
 }
 
 /// Whether the words after a call are these. `process` gives these samples, and no other call gives any.
-fn leaves(kind: Mixed, call: Call, wanted: &Memory, given: &[i16]) -> bool {
+fn leaves(kind: Rogue, call: Call, wanted: &Memory, given: &[i16]) -> bool {
     let given = if call == Call::Process { given } else { &[] };
     match after(kind, call) {
         Some((memory, out)) => memory == *wanted && out.as_slice() == given,
@@ -142,7 +142,7 @@ fn a_scribbler_writes_over_all_in_every_call(rt: HostRuntime) {
         scratch: [0x5b5b; 260],
     };
     for call in CALLS {
-        assert!(rt; leaves(Mixed::Scribble, call, &scribbled, &[7, 8, 9]));
+        assert!(rt; leaves(Rogue::Scribble, call, &scribbled, &[7, 8, 9]));
     }
 }
 
@@ -153,7 +153,7 @@ fn a_clinger_touches_one_word_in_one_call(rt: HostRuntime) {
         if call == Call::Process {
             wanted.scratch[0] = 9;
         }
-        assert!(rt; leaves(Mixed::Clinger, call, &wanted, &[5, 7, 8]));
+        assert!(rt; leaves(Rogue::Clinger, call, &wanted, &[5, 7, 8]));
     }
 }
 
@@ -173,7 +173,7 @@ const OTHERS: [(Space, u16); 10] = [
 ];
 
 /// A rogue's records at their places in that host, and behind them a record of another one.
-fn table_beside(kind: Mixed, space: Space, base: u16) -> Option<MemTab> {
+fn table_beside(kind: Rogue, space: Space, base: u16) -> Option<MemTab> {
     let asked = kind.alg_alloc(&Params::new())?;
     MemTab::make(&[
         MemRec {
@@ -199,7 +199,7 @@ fn table_beside(kind: Mixed, space: Space, base: u16) -> Option<MemTab> {
 }
 
 /// Whether a record of another one, lent beside the kind's own for once, is read and written in the call.
-fn goes_by(kind: Mixed, call: Call, space: Space, base: u16) -> Option<bool> {
+fn goes_by(kind: Rogue, call: Call, space: Space, base: u16) -> Option<bool> {
     let table = table_beside(kind, space, base)?;
     let mut memory = BEFORE;
     let mut words = [5; 4];
@@ -224,8 +224,8 @@ fn goes_by(kind: Mixed, call: Call, space: Space, base: u16) -> Option<bool> {
 fn a_forger_tries_the_bases_of_others_in_every_call(rt: HostRuntime) {
     for call in CALLS {
         for (space, base) in OTHERS {
-            let forger = goes_by(Mixed::Forger, call, space, base);
-            let clinger = goes_by(Mixed::Clinger, call, space, base);
+            let forger = goes_by(Rogue::Forger, call, space, base);
+            let clinger = goes_by(Rogue::Clinger, call, space, base);
             assert!(rt; (forger, clinger) == (Some(true), Some(false)));
         }
     }
@@ -240,7 +240,7 @@ fn a_forger_goes_by_forged_bases_in_every_call(rt: HostRuntime) {
         scratch: [6; 260],
     };
     for call in CALLS {
-        assert!(rt; leaves(Mixed::Forger, call, &forged, &[7, 8, 9]));
+        assert!(rt; leaves(Rogue::Forger, call, &forged, &[7, 8, 9]));
     }
 }
 
@@ -253,12 +253,12 @@ fn a_babbler_counts_in_its_kept_words(rt: HostRuntime) {
             Call::Process => wanted.kept[0] = 6,
             _ => {}
         }
-        assert!(rt; leaves(Mixed::Babbler, call, &wanted, &[7]));
+        assert!(rt; leaves(Rogue::Babbler, call, &wanted, &[7]));
     }
 }
 
 /// Whether a rogue that is asked for its records says untrue ones. None where it has written a word.
-fn says_untrue(kind: Mixed) -> Option<bool> {
+fn says_untrue(kind: Rogue) -> Option<bool> {
     let table = placed_table(kind)?;
     let mut memory = BEFORE;
     let mut untrue = false;
@@ -280,10 +280,10 @@ fn says_untrue(kind: Mixed) -> Option<bool> {
 #[test]
 fn a_forger_alone_says_untrue_records(rt: HostRuntime) {
     for (kind, untrue) in [
-        (Mixed::Scribble, false),
-        (Mixed::Clinger, false),
-        (Mixed::Forger, true),
-        (Mixed::Babbler, false),
+        (Rogue::Scribble, false),
+        (Rogue::Clinger, false),
+        (Rogue::Forger, true),
+        (Rogue::Babbler, false),
     ] {
         assert!(rt; says_untrue(kind) == Some(untrue));
     }
@@ -292,15 +292,15 @@ fn a_forger_alone_says_untrue_records(rt: HostRuntime) {
 #[test]
 fn nine_names_name_a_kind_each(rt: HostRuntime) {
     for (name, kind) in [
-        (b"scribble".as_slice(), Some(Mixed::Scribble)),
-        (b"clinger", Some(Mixed::Clinger)),
-        (b"forger", Some(Mixed::Forger)),
-        (b"babbler", Some(Mixed::Babbler)),
-        (b"fir", Some(Mixed::Lawful(Voice::Fir))),
-        (b"decim", Some(Mixed::Lawful(Voice::Decim))),
-        (b"biquad", Some(Mixed::Lawful(Voice::Biquad))),
-        (b"tone", Some(Mixed::Lawful(Voice::Tone))),
-        (b"g711", Some(Mixed::Lawful(Voice::G711))),
+        (b"scribble".as_slice(), Some(Or::Second(Rogue::Scribble))),
+        (b"clinger", Some(Or::Second(Rogue::Clinger))),
+        (b"forger", Some(Or::Second(Rogue::Forger))),
+        (b"babbler", Some(Or::Second(Rogue::Babbler))),
+        (b"fir", Some(Or::First(Voice::Fir))),
+        (b"decim", Some(Or::First(Voice::Decim))),
+        (b"biquad", Some(Or::First(Voice::Biquad))),
+        (b"tone", Some(Or::First(Voice::Tone))),
+        (b"g711", Some(Or::First(Voice::G711))),
         (b"scribbler", None),
         (b"", None),
     ] {

@@ -1,8 +1,9 @@
-use Rattle.std.proofs.Common.{◌≡◌, sym, ◌∙◌, arith, rules, to_z, of_z}
+use Rattle.std.proofs.Common.{◌≡◌, length, ap, sym, ◌∙◌, arith, rules, to_z, of_z}
 use Rattle.std.proofs.lemmas.Int.{to_z-of_z}
 use mir.Val.{SFits}
 use mir.Syntax.{w16}
 use Rattle.std.specs.List.{All}
+use Rattle.ialg.proofs.Loans.{taken_and_put}
 use Rattle.ialg.proofs.Taking.{visit, scratch_not_once}
 use Rattle.test_doubles.proofs.slicer.spread.Goals as goal
 
@@ -18,3 +19,10 @@ returns-clause-spread c kind records named scratch =
       all_words = rw v.written.written flooded;
       others = v.written.others;
     }
+
+pub returns-clause-loans : goal.returns-clause-loans
+returns-clause-loans c =
+    let left = c.in-Some.ensures.left in
+    taken_and_put _ _ _ _ left.0 left.2 c.put.ensures.others c.in-Some.ensures.found.may
+    (ap (λ b. b.ghost_name) c.put.ensures.back ∙ ap (λ b. b.ghost_name) left.1)
+    (ap (λ b. length b.now) c.put.ensures.back ∙ c.flood.auto.words ∙ ap (λ b. length b.now) left.1)

@@ -1,4 +1,0 @@
-use Rattle.test_doubles.proofs.mixed.MixedIalg.alg_init.Goals as goal
-
-pub returns-in-Lawful-clause-law : goal.returns-in-Lawful-clause-law
-returns-in-Lawful-clause-law c = rw c.in-Lawful.is c.alg_init.ensures.law
