@@ -24,6 +24,7 @@ mod scribbler;
 mod scribbling;
 mod slicer;
 mod starts;
+mod trial;
 
 pub use device::{HELD_OCTETS, Shaky};
 use ialg::OBJECT_WORDS;
@@ -31,9 +32,10 @@ pub use kind_parts::Or;
 pub use metered::Metered;
 pub use primed::Primed;
 pub use rogue::{Mixed, Rogue, voices_alone_are_lawful};
-pub use scribbler::{SCRIBBLER, Scribbler, Trial};
+pub use scribbler::Scribbler;
 pub use slicer::Slicer;
 pub use starts::{Active, Held, activate_in_poison, give_sample, start_in_poison, start_with_fill};
+pub use trial::{SCRIBBLER, Trial};
 
 /// The kind word of a primed instance's object.
 pub const PRIMED_KIND: i16 = 9;

@@ -8,9 +8,7 @@ use crate::rogues::echo;
 use crate::scribbling::scribble;
 use arrayvec::ArrayVec;
 use ialg::{Block, Ctl, Ialg, Lent, Params, Status, object_record};
-use kind_parts::Or;
 use mem_rec::{Attr, MemRec, MemTab, Space, TABLE_RECORDS};
-use voice_set::Voice;
 
 /// A kind that keeps no law, and whose memory is what its parameters say.
 ///
@@ -19,12 +17,6 @@ use voice_set::Voice;
 /// takes every control.
 #[derive(Clone, Copy, PartialEq, Eq, Debug)]
 pub struct Scribbler;
-
-/// A hosted kind or a scribbler.
-pub type Trial = Or<Voice, Scribbler>;
-
-/// The scribbler among them.
-pub const SCRIBBLER: Trial = Or::Second(Scribbler);
 
 impl Ialg for Scribbler {
     ghost law = { lawless scribbler_meaning };

@@ -9,7 +9,9 @@ use std::process::Abort;
 use test_doubles::{Or, SCRIBBLER, Trial};
 use voice_set::Voice;
 
-const FIR: Trial = Or::First(Voice::Fir);
+const FIR: Trial = Trial {
+    kind: Or::First(Voice::Fir),
+};
 
 fn sizes(daram: u32, saram: u32, external: u32) -> Sizes {
     Sizes {

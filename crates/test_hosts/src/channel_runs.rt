@@ -10,9 +10,13 @@ use test_doubles::{Or, SCRIBBLER, Trial};
 use voice_channel::{Channels, Host};
 use voice_set::Voice;
 
-const FIR: Trial = Or::First(Voice::Fir);
+const FIR: Trial = Trial {
+    kind: Or::First(Voice::Fir),
+};
 
-const DECIM: Trial = Or::First(Voice::Decim);
+const DECIM: Trial = Trial {
+    kind: Or::First(Voice::Decim),
+};
 
 // A decimator by 2, and the mean of a sample and the one before it.
 const BY_TWO: [i16; 3] = [2, 16_384, 16_384];

@@ -15,13 +15,21 @@ use test_doubles::{Or, SCRIBBLER, Trial};
 use voice_channel::{CHANNELS, Channels, Host};
 use voice_set::Voice;
 
-const FIR: Trial = Or::First(Voice::Fir);
+const FIR: Trial = Trial {
+    kind: Or::First(Voice::Fir),
+};
 
-const DECIM: Trial = Or::First(Voice::Decim);
+const DECIM: Trial = Trial {
+    kind: Or::First(Voice::Decim),
+};
 
-const BIQUAD: Trial = Or::First(Voice::Biquad);
+const BIQUAD: Trial = Trial {
+    kind: Or::First(Voice::Biquad),
+};
 
-const G711: Trial = Or::First(Voice::G711);
+const G711: Trial = Trial {
+    kind: Or::First(Voice::G711),
+};
 
 // The mean of a sample and the one before it.
 const MEAN: [i16; 2] = [16_384, 16_384];

@@ -10,7 +10,9 @@ use mem_rec::Space;
 use test_doubles::{Or, SCRIBBLER, Trial};
 use voice_set::Voice;
 
-const FIR: Trial = Or::First(Voice::Fir);
+const FIR: Trial = Trial {
+    kind: Or::First(Voice::Fir),
+};
 
 // The mean of a sample and the one before it.
 const MEAN: [i16; 2] = [16_384, 16_384];
