@@ -170,6 +170,22 @@ class Scripts(ConsoleCase):
                 with self.subTest(line=line[:20], end=end):
                     self.assertEqual(self.run_script(line + end, "in", "out").replies, reply)
 
+    def test_each_byte_as_a_line(self) -> None:
+        """A blank, a tab, a line feed and a carriage return ask for nothing."""
+        bytes_ = [bytes([b]) for b in range(256)]
+        refused = [line for line in bytes_ if line not in (b" ", b"\t", b"\n", b"\r")]
+        ended = self.run_script(b"".join(line + b"\n" for line in bytes_), "in", "out")
+        self.assertEqual(ended, (1, b"no 2 syntax\n" * len(refused), b""))
+        for line in (b"\0", b" ", b"\r", b"\xff"):
+            self.assertEqual(self.run_script(line, "in", "out").replies, b"no 2 syntax\n" if line in refused else b"")
+
+    def test_numbers_that_begin_with_zeros_and_signs(self) -> None:
+        for line, reply in ((b"feed -0 1", b"no 5 missing\n"), (b"create 00 fir 0 032767", b"ok\n"), (b"feed +0 1", b"no 2 syntax\n"),
+                            (b"feed 0-0 1", b"no 2 syntax\n"), (b"stat\0 0", b"no 2 syntax\n"), (b"create 0 f\0ir 0 1", b"no 2 syntax\n"),
+                            (b"feed 0 1\xff", b"no 2 syntax\n")):
+            with self.subTest(line=line):
+                self.assertEqual(self.run_script(line, "in", "out").replies, reply)
+
     def zeros(self, count: int, head: bytes = b"", tail: bytes = b"") -> tuple[int, bytes, bytes]:
         """A script by a pipe of `count` bytes: a head, NULs, a tail."""
         process = subprocess.Popen([PROGRAM, "/dev/stdin", "in", "out"], cwd=self.folder, stdin=subprocess.PIPE,

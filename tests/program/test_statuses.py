@@ -47,6 +47,11 @@ class Statuses(ConsoleCase):
                 self.assertIn(option[0].split("=")[0].encode(), ended.stderr)
                 self.assertFalse(self.exists("out"))
 
+    def test_wrong_options_come_before_wrong_ports(self) -> None:
+        ended = self.run_program("script", *("in", "out") * 6, "--flute")
+        self.assertEqual((ended.status, ended.replies), (2, b""))
+        self.assertIn(b"--flute", ended.stderr)
+
     def test_a_command_line_without_words(self) -> None:
         ended = self.run_program()
         self.assertEqual((ended.status, ended.replies), (2, b""))
@@ -70,7 +75,7 @@ class Statuses(ConsoleCase):
 
     def test_ports_that_are_no_pairs(self) -> None:
         many = [f"{way}{c}" for c in range(17) for way in ("in", "out")]
-        for ports in ([], ["in"], ["in", "out", "in"], many, many[:33], ["x"] * 20000):
+        for ports in ([], ["in"], ["in", "out", "in"], many, many[:31], many[:33], ["x"] * 20000):
             with self.subTest(count=len(ports)):
                 self.assertEqual(self.run_program("script", *ports).end, WRONG_PORTS)
         self.assertFalse(self.exists("out"))

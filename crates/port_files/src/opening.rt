@@ -9,7 +9,7 @@ use std::io;
 use std::os::unix::fs::MetadataExt;
 
 /// Why a file isn't opened. Which file it is, and what of it, stands in the troubles.
-#[derive(Clone, Copy, PartialEq, Eq, Debug)]
+#[derive(Clone, Copy)]
 pub enum OpenFault {
     /// A file can't be read.
     Read,

@@ -9,7 +9,7 @@ use std::alloc::Global;
 use std::fmt::{self, Display, Formatter};
 
 /// What a file is to a run. Pairs of files are counted from 0, as channels are.
-#[derive(Clone, Copy, PartialEq, Eq, Debug)]
+#[derive(Clone, Copy)]
 pub enum Role {
     /// The script.
     Script,
@@ -45,7 +45,7 @@ impl Display for Role {
 }
 
 /// A regular file that is open. Files of the same device and inode are one file, whatever their names.
-#[derive(Clone, Copy, PartialEq, Eq, Debug)]
+#[derive(Clone, Copy)]
 pub struct RegularFile {
     pub device: u64,
     pub inode: u64,
@@ -64,7 +64,7 @@ impl RegularFile {
 }
 
 /// Why a file isn't added to a roll.
-#[derive(Clone, Copy, PartialEq, Eq, Debug)]
+#[derive(Clone, Copy)]
 pub enum RollFault {
     /// The file is open already, as this one, and one of the two is written.
     Clash(Role),

@@ -7,7 +7,7 @@ use std::fmt::{self, Display, Formatter};
 use std::io::{self, ErrorKind};
 
 /// Why a file can't be opened, read or written.
-#[derive(Debug, Drop)]
+#[derive(Drop)]
 pub enum Why {
     /// The system says so.
     Error(io::Error),
@@ -25,14 +25,14 @@ impl Display for Why {
 }
 
 /// A file that can't be opened, read or written, and why.
-#[derive(Debug, Drop)]
+#[derive(Drop)]
 pub struct Trouble {
     pub role: Role,
     pub why: Why,
 }
 
 /// The first file that couldn't be read, and the first that couldn't be written.
-#[derive(Debug, Drop, Default)]
+#[derive(Drop, Default)]
 pub struct Troubles {
     pub read: Option<Trouble>,
     pub written: Option<Trouble>,

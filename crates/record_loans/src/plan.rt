@@ -3,7 +3,7 @@ ghost use Rattle.std.specs.Prelude.{◌≡◌};
 ghost use Rattle.record_loans.specs.Cuts.{start_of};
 
 /// Where the words of a record lie.
-#[derive(Clone, Copy, PartialEq, Eq, Debug)]
+#[derive(Clone, Copy)]
 pub enum Source {
     /// The record isn't lent.
     Absent,
@@ -20,7 +20,7 @@ pub enum Source {
 }
 
 /// How a record is cut out of its source.
-#[derive(Clone, Copy, PartialEq, Eq, Debug)]
+#[derive(Clone, Copy)]
 pub struct Cut {
     pub source: Source,
     /// In a block, the words that are left out behind what was cut there before. A piece is cut from its start on.
@@ -42,7 +42,7 @@ impl Cut {
 }
 
 /// How the records of an instance are cut, in table order.
-#[derive(Clone, Copy, PartialEq, Eq, Debug)]
+#[derive(Clone, Copy)]
 pub struct Plan {
     /// The words of record 0, which are cut out of its own piece.
     pub object: usize,
@@ -52,7 +52,7 @@ pub struct Plan {
 }
 
 /// How many words each record of a filter has: the object, the kept words, and the running words in the block in `daram`.
-#[derive(Clone, Copy, PartialEq, Eq, Debug)]
+#[derive(Clone, Copy)]
 pub struct FilterSizes {
     pub object: usize,
     pub kept: usize,
@@ -67,7 +67,7 @@ pub const CONSTANTS: usize = 2;
 
 /// How many words each record of a filter that shares its constants has: those of a filter, and the write-once constants between the kept
 /// words and the running ones.
-#[derive(Clone, Copy, PartialEq, Eq, Debug)]
+#[derive(Clone, Copy)]
 pub struct SharingSizes {
     pub object: usize,
     pub kept: usize,
@@ -76,7 +76,7 @@ pub struct SharingSizes {
 }
 
 /// How many words each record of a reader has: the object, and the write-once words behind it, none where it has no second record.
-#[derive(Clone, Copy, PartialEq, Eq, Debug)]
+#[derive(Clone, Copy)]
 pub struct ReaderSizes {
     pub object: usize,
     pub once: usize,

@@ -7,7 +7,7 @@ ghost use Rattle.relocate.specs.Ends.{end_from};
 ghost use Rattle.relocate.specs.Packing.{IsNextMove, IsPacked, next_move_of};
 
 /// Where a block stands in its space, how many words of 16 bits it has, and the alignment that its place is a multiple of.
-#[derive(Clone, Copy, PartialEq, Eq, Debug, Default)]
+#[derive(Clone, Copy, Default)]
 pub struct Spot {
     pub place: u32,
     pub size: u32,
@@ -34,7 +34,7 @@ impl Standing for Spot {
 }
 
 /// The block of that index, in place order from 0, goes to the place `to`.
-#[derive(Clone, Copy, PartialEq, Eq, Debug)]
+#[derive(Clone, Copy, PartialEq, Eq)]
 pub struct Move {
     pub index: usize,
     pub to: u32,

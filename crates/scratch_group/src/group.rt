@@ -19,7 +19,7 @@ use record_loans::{
 use space_raw::{Piece, end_none};
 
 /// The size and the alignment of a block that is to be placed, in words.
-#[derive(Clone, Copy, PartialEq, Eq, Debug)]
+#[derive(Clone, Copy, PartialEq, Eq)]
 pub struct Need {
     pub size: u32,
     pub align: u32,

@@ -237,7 +237,7 @@ pub fn reader_sizes(table: &MemTab) -> Option<ReaderSizes>
 }
 
 /// How the records of a table are lent without a plan: as those of a filter or of a reader.
-#[derive(Clone, Copy, PartialEq, Eq, Debug)]
+#[derive(Clone, Copy)]
 pub enum ShortLoan {
     /// The records of a filter.
     Filter(FilterSizes),

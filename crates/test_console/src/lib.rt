@@ -1,9 +1,7 @@
 // SPDX-License-Identifier: Apache-2.0
-//! For tests: the grammar, the command line, ports and their devices, lines, the journal, whole runs of the engine, and how the program ends.
+//! For tests: the grammar, ports and their devices, lines, the journal, and whole runs of the engine.
 #![tactic(auto)]
 
-#[cfg(test)]
-mod arguments;
 #[cfg(test)]
 mod engine;
 #[cfg(test)]
@@ -16,5 +14,3 @@ mod journal;
 mod lines;
 #[cfg(test)]
 mod ports;
-#[cfg(test)]
-mod program;

@@ -1,3 +1,4 @@
+use Rattle.std.proofs.lemmas.Grind.{common_steps}
 use Rattle.std.proofs.Common.{◌≡◌, ◌+◌, ◌-◌, ◌*◌, ◌∙◌, ℕ, ℤ, suc, length, FitsSigned, rules, w16, arith, ap}
 use Rattle.std.proofs.lemmas.Int.{to_z-of_z}
 use Rattle.ialg.specs.History.{word_at}
@@ -80,3 +81,6 @@ pub returns-else-count-eq1-clause-sums : goal.returns-else-count-eq1-clause-sums
 returns-else-count-eq1-clause-sums g c i b =
     let all : 2 * c.loop-pair.pair ≡ length c.args.coefficients.now = omega arith in
     rw all at (c.loop-pair.invariant.sums i (omega arith))
+
+pub loop-pair-init : goal.loop-pair-init
+loop-pair-init g c = grind (arith, common_steps)

@@ -1,3 +1,4 @@
+use Rattle.std.proofs.lemmas.Grind.{elements}
 use Rattle.std.proofs.Common.{◌≤◌, ◌-◌, ◌*◌, ◌∙◌, length, arith}
 use Rattle.std.proofs.lemmas.Nat.{mul-le}
 use Rattle.fir_kernel.proofs.Parts.{filtered_within, part_quiet}
@@ -15,3 +16,6 @@ returns-else-is_bounded g c i b =
     let before : i ≤ last = omega arith in
     c.filter_limited.ensures i b
     ∙ filtered_within c.args.coefficients.now c.args.line.now c.args.first c.args.step (c.args.step * last) i c.requires.some (mul-le c.args.step i c.args.step last (omega arith) before)
+
+pub output_bounded-requires-clause-bounded : goal.output_bounded-requires-clause-bounded
+output_bounded-requires-clause-bounded g c = grind (arith, elements)

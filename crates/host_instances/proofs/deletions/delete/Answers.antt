@@ -1,3 +1,4 @@
+use Rattle.std.proofs.lemmas.Grind.{common_steps}
 use Rattle.std.proofs.Common.{rules, ◌<◌, arith}
 use Rattle.std.specs.Prelude.{IsSome}
 use Rattle.host_table.specs.Table.{slot_at}
@@ -15,3 +16,6 @@ returns-clause-machine g c =
 
 pub returns-then-not-lives-clause-machine : goal.returns-then-not-lives-clause-machine
 returns-then-not-lives-clause-machine g c = search rules
+
+pub returns-then-from-ge-INSTANCES-clause-gone : goal.returns-then-from-ge-INSTANCES-clause-gone
+returns-then-from-ge-INSTANCES-clause-gone g c = grind (arith, common_steps)

@@ -1,3 +1,4 @@
+use Rattle.std.proofs.lemmas.Grind.{common_steps}
 use Rattle.std.proofs.Common.{◌≡◌, ℕ, IsTrue, [], Some, None, rules, set, set-set, get_or-set_other, sym, ap, subst, ◌∙◌, arith, ◌<◌, length, refl}
 use Rattle.lifecycle.specs.declared.instance.Inst.TheVariants.{Idling}
 use Rattle.lifecycle.specs.States.{IdleRefines}
@@ -195,3 +196,9 @@ returns-clause-pieces g c =
 
 pub returns-clause-groups : goal.returns-clause-groups
 returns-clause-groups g c = rw (← c.tables.view_is) refl
+
+pub join-requires-clause-bare : goal.join-requires-clause-bare
+join-requires-clause-bare g c = grind (arith, common_steps)
+
+pub returns-clause-started : goal.returns-clause-started
+returns-clause-started g c = grind (arith, common_steps)

@@ -22,13 +22,13 @@ returns-clause-step g c w ready =
     let there = opened c.self.view_is c.requires.ok active c.index_mut.ensures.value c.in-Some.is c.in-Running.is c.index_mut-group.ensures.value in
     steps_told (touched_stays (activity_at c.args.self.now.groups) _ c.args.i (c.requires.ok.active_known _ _ active))
     (rw (← c.self.view_is)
-    (steps_to refl c.run_short.ensures.seen (ran_steps there _ _ _ c.run_short.ensures.did w (rw (← c.self.view_is) at ready.poisoned))))
+    (steps_to refl c.run_short.ensures.seen (ran_steps there {input = c.args.input.now} _ _ _ c.run_short.ensures.did w (rw (← c.self.view_is) at ready.poisoned))))
 
 pub returns-clause-output : goal.returns-clause-output
 returns-clause-output g c w =
     let active = short_active (slot_at c.args.self.now.instances c.args.i) c.args.loan c.requires.short in
     let there = opened c.self.view_is c.requires.ok active c.index_mut.ensures.value c.in-Some.is c.in-Running.is c.index_mut-group.ensures.value in
-    rw (← c.self.view_is) (ran_gives there _ _ _ c.run_short.ensures.did w)
+    rw (← c.self.view_is) (ran_gives there {input = c.args.input.now} _ _ _ c.run_short.ensures.did w)
 
 pub index_mut-requires : goal.index_mut-requires
 index_mut-requires g c =

@@ -1,9 +1,12 @@
 -- The block goes to the start of the free range before it, and the words that it leaves are free.
-use Rattle.std.proofs.Common.{◌≡◌, ◌^◌, min, ℕ, ◌<◌, ◌-◌, ◌+◌, ◌%◌, ◌≤◌, ◌++◌, ◌∷◌, List, length, Option, sym, subst, ap, arith, ◌∙◌}
+use Rattle.std.proofs.Common.{◌≡◌, ◌^◌, min, ℕ, ◌<◌, ◌-◌, ◌+◌, ◌%◌, ◌≤◌, ◌++◌, ◌∷◌, List, length, Bool, false, Option, sym, subst, refl, ap, arith, ◌∙◌}
 use Rattle.space_raw.specs.Span.{Scattered, Span}
 use Rattle.std.specs.Prelude.{ℤ, if◌then◌else◌, ◌==◌}
 use Rattle.std.proofs.lemmas.Grind.{common_steps}
-use Rattle.relocate.specs.Places.{Range, end_of}
+use Rattle.std.proofs.lemmas.Bool.{cases_lt}
+use Rattle.relocate.specs.Places.{Range, covers, end_of}
+use Rattle.relocate.proofs.RangeTests.{either, both_false, in_range}
+use Rattle.mem_rec.specs.declared.TheConstants.{LEAST_ALIGNMENT}
 use Rattle.space_heap.specs.Maps.{HeapState, Holds, IsBlock, range_of}
 use Rattle.space_heap.specs.declared.find.Fit.{Fit}
 use Rattle.space_heap.specs.declared.holes.Front.{Front}
@@ -50,6 +53,35 @@ put_behind-requires-clause-front g c =
     left_front c.self.inside.rest.slots c.carve-gap.new.rest.slots c.self.inside.first c.carve-gap.new.first r fit (c.place.result - fit.place)
     block c.gap_before.ensures.taken told.0 told.1 told.2 long (omega arith) c.carve-gap.ensures.holes
     c.slide-block.result.1.place c.place-end.result c.behind-front.result (omega arith) c.place-end.ensures.value c.behind-front.ensures
+
+-- the words between the hole's place and the block are some, and a multiple of 4
+gap_words : {words place from at : ℕ} → place < from → words ≡ at - place → at ≡ from → from % LEAST_ALIGNMENT ≡ 0 → place % LEAST_ALIGNMENT ≡ 0 → (0 < words) × (words % LEAST_ALIGNMENT ≡ 0)
+gap_words low is same at from = (omega arith, omega arith)
+
+pub carve-gap-requires-clause-words : goal.carve-gap-requires-clause-words
+carve-gap-requires-clause-words g c =
+    let found = c.in-Some.ensures.found in let same = ap (λ (s : Span). s.place) c.gap_before.ensures.same.1 in
+    gap_words found.0 refl (c.place.ensures.value ∙ same) c.requires.block.place found.2.unit
+
+pub put_behind-requires-clause-region : goal.put_behind-requires-clause-region
+put_behind-requires-clause-region g c = c.slide-block.ensures.hole.0 ∙ c.carve-gap.ensures.block.0 ∙ sym c.carve-gap.ensures.rest.0
+
+-- no word of what the block leaves is free: it lay in the gap or in the block
+taken_behind : (old rest : ℕ → Bool) (gap r : Range) → AreParts old gap rest → ((k : ℕ) → r.place ≤ k → k < end_of r → old k ≡ false) → end_of gap ≡ r.place
+    → (k : ℕ) → gap.place ≤ k → k < end_of r → rest k ≡ false
+taken_behind old rest gap r parts taken meet k low high =
+    either (cases_lt k r.place)
+    (λ below. parts.apart k (in_range gap k low (omega arith)))
+    (λ above. (both_false (covers gap k) (rest k) (sym (parts.all k) ∙ taken k above high)).1)
+
+pub put_behind-requires-clause-taken : goal.put_behind-requires-clause-taken
+put_behind-requires-clause-taken g c =
+    let r = range_of c.args.piece in let same = c.gap_before.ensures.same in let gap = c.carve-gap.ensures.block in let moved = c.slide-block.ensures in
+    let old = c.gap_before.new.rest.slots in let rest = c.carve-gap.new.rest.slots in
+    let at = ap (λ (s : Span). s.place) same.1 in let asked = c.place.ensures.value in let less = c.in-Some.ensures.found.0 in
+    let long = ap (λ (s : Span). length s.words) same.1 in let words = ap length moved.block.2 in let start = moved.hole.1 in let left = moved.hole.2 in let from = gap.1 in let size = gap.2 in
+    let taken : (k : ℕ) → r.place ≤ k → k < end_of r → in_rest old k ≡ false = λ k low high. ap (λ (t : Scattered). in_rest t.slots k) same.0 ∙ c.gap_before.ensures.taken k low high in
+    λ k low high. taken_behind (in_rest old) (in_rest rest) (range_of c.carve-gap.result) r c.carve-gap.ensures.parts taken (omega arith) k (omega arith) (omega arith)
 
 -- the gap that is taken out, the block in its place, and what is behind it
 module _ (g : Over) (c : After-put_behind g) where
