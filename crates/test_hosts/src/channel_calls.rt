@@ -1,9 +1,7 @@
 //! A test of channels as a list: each call, and what it is to answer.
 
 use crate::host_calls::{Outcome, parameters, told};
-use host_map::Placed;
-use ialg::{BLOCK_SAMPLES, Block, Ctl, Refusal, Status};
-use mem_rec::Space;
+use ialg::{BLOCK_SAMPLES, Block, Refusal};
 use std::process::Abort;
 use test_doubles::Trial;
 use voice_channel::{Channels, MEMBERS};
@@ -13,73 +11,32 @@ use voice_channel::{Channels, MEMBERS};
 pub(crate) enum Call<'a> {
     /// A new instance of this number and kind, in this group and with these parameters.
     Create(u8, Trial, u8, &'a [i16], Outcome),
-    Delete(u8, Outcome),
     /// These instances become the members of a channel.
     Chain(u8, &'a [u8], Outcome),
-    Unchain(u8, Outcome),
-    Ready(u8, Outcome),
     /// A block of samples for a channel, and what it gives for them.
     Feed(u8, &'a [i16], &'a [i16]),
     /// A sample for a channel, and what it tells for it; where it tells nothing, what it gives.
     FeedSample(u8, i16, Option<i16>, &'a [i16]),
-    /// An instance is asked for its words.
-    Get(u8, &'a [i16]),
-    /// An instance is given words, which are refused.
-    SetRefused(u8, &'a [i16], Refusal),
     Release(u8, Result<bool, Refusal>),
     /// The active member of a group, and how many activations there were.
     Stat(u8, Result<(Option<u8>, u32), Refusal>),
-    Step(Space, bool),
-    Compact(Space, u32),
-    Copied(u64),
-    Map(Space, &'a [Placed]),
 }
 
 impl Call<'_> {
     /// Makes the call, and says whether it is answered so.
     fn holds(&self, channels: &mut Channels<Trial>) -> bool {
         match self {
-            Call::Chain(c, members, answer) => {
-                (1..=MEMBERS).contains(&members.len()) && channels.chain(*c, members) == *answer
-            }
-            Call::Unchain(c, answer) => channels.unchain(*c) == *answer,
-            Call::Ready(c, answer) => channels.ready(*c) == *answer,
-            Call::Feed(c, input, output) => gives(channels, *c, input, output),
-            Call::FeedSample(c, x, told, output) => gives_sample(channels, *c, *x, *told, output),
-            _ => self.holds_of_instances(channels),
-        }
-    }
-
-    // The same of a call that is about instances.
-    fn holds_of_instances(&self, channels: &mut Channels<Trial>) -> bool {
-        match self {
             Call::Create(i, kind, group, p, answer) => match parameters(p) {
                 Some(p) => channels.create(*i, *kind, *group, &p) == *answer,
                 None => false,
             },
-            Call::Delete(i, answer) => channels.delete(*i) == *answer,
-            Call::Get(i, words) => match channels.control(*i, &Ctl::Get) {
-                Ok(Status::Words(answer)) => answer.as_slice() == *words,
-                _ => false,
-            },
-            Call::SetRefused(i, words, why) => match parameters(words) {
-                Some(words) => channels.control(*i, &Ctl::Set(words)) == Err(*why),
-                None => false,
-            },
-            _ => self.holds_of_memory(channels),
-        }
-    }
-
-    // The same of a call that is about groups or spaces.
-    fn holds_of_memory(&self, channels: &mut Channels<Trial>) -> bool {
-        match self {
+            Call::Chain(c, members, answer) => {
+                (1..=MEMBERS).contains(&members.len()) && channels.chain(*c, members) == *answer
+            }
+            Call::Feed(c, input, output) => gives(channels, *c, input, output),
+            Call::FeedSample(c, x, told, output) => gives_sample(channels, *c, *x, *told, output),
             Call::Release(group, answer) => channels.release(*group) == *answer,
             Call::Stat(group, answer) => channels.stat(*group) == told(*answer),
-            Call::Step(space, answer) => channels.step(*space) == *answer,
-            Call::Compact(space, moves) => channels.compact(*space) == *moves,
-            Call::Copied(words) => channels.copied() == *words,
-            Call::Map(space, blocks) => channels.map(*space).as_slice() == *blocks,
-            _ => false,
         }
     }
 }

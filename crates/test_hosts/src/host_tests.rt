@@ -114,32 +114,6 @@ fn a_scribbler_spoils_no_neighbour(rt: HostRuntime) {
     }
 }
 
-// A filter is refused for want of room, and nothing is there then.
-#[test]
-fn spaces_of_no_words_have_room_for_nothing(rt: HostRuntime) {
-    for (daram, saram, external, full) in [
-        (0, 64, 64, Space::Daram),
-        (1_024, 0, 64, Space::Saram),
-        (1_024, 64, 0, Space::External),
-        (0, 0, 0, Space::External),
-    ] {
-        let sizes = Sizes {
-            daram,
-            saram,
-            external,
-        };
-        let calls = [
-            Create(0, FIR, 0, &[1], Err(Refusal::Room(full))),
-            Map(Space::Daram, &[]),
-            Map(Space::Saram, &[]),
-            Map(Space::External, &[]),
-            Living(0, false),
-            Step(full, false),
-        ];
-        make(&rt, rt.alloc(), sizes, None, &calls);
-    }
-}
-
 #[test]
 fn refusals_come_in_their_order(rt: HostRuntime) {
     let sizes = Sizes {
@@ -162,6 +136,8 @@ fn refusals_come_in_their_order(rt: HostRuntime) {
         Create(0, SCRIBBLER, 0, &[0, 1_032, 3], Err(Refusal::Params)),
         Delete(64, Err(Refusal::Range)),
         Delete(0, Err(Refusal::Missing)),
+        Living(63, true),
+        Living(0, false),
         Release(8, Err(Refusal::Range)),
         Stat(8, Err(Refusal::Range)),
         Stat(0, Ok((None, 0))),

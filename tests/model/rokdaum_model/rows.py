@@ -4,7 +4,7 @@
 Of a row, `script` has its lines, or `raw_script` its bytes. An input or output is `samples` (words, the low byte first, with
 `times` so many times over) or `bytes`. What a row doesn't say, the hand didn't compute: `replies` may be absent or have nulls,
 `last_reply` says the last alone, an output may be null. `copied` is how many words the moves carried, `lacking` the space in
-which there was no room.
+which there was no room. Under each of the poison words in `poisons` it gives the same as under none.
 """
 
 from __future__ import annotations
@@ -16,7 +16,8 @@ from pathlib import Path
 from typing import Optional
 
 from .cases import Case, expected_case
-from .console import Config, Console, Served, serve
+from .compare import Result, differences
+from .console import Config, Console
 from .refusals import Refused
 from .sets import HOSTED, MIXED
 
@@ -54,21 +55,30 @@ def config_of(row: dict, form: str = "history") -> Config:
     return Config(kinds=row.get("kinds", HOSTED), form=form, **row.get("options", {}))
 
 
-def wrong(row: dict, served: Served) -> list[str]:
-    """What of a result isn't as the row says."""
-    found = []
-    replies, wanted = served.replies.decode().splitlines(), row.get("replies")
-    if wanted is not None and (len(replies) != len(wanted)
-                               or any(w not in (None, got) for w, got in zip(wanted, replies))):
-        found.append(f"replies {replies}, wanted {wanted}")
-    if "last_reply" in row and replies[-1:] != [row["last_reply"]]:
-        found.append(f"last reply {replies[-1:]}, wanted {row['last_reply']}")
-    for c, spec in enumerate(row.get("outputs", ())):
-        if spec is not None and served.outputs[c] != data_of(spec):
-            found.append(f"output {c} {served.outputs[c].hex()}, wanted {data_of(spec).hex()}")
-    if "status" in row and served.status != row["status"]:
-        found.append(f"status {served.status}, wanted {row['status']}")
-    return found
+def configs_of(row: dict, form: str = "history") -> list[Config]:
+    """The configuration, and with each poison word under which the row gives the same."""
+    config = config_of(row, form)
+    return [config] + [replace(config, poison=poison) for poison in row.get("poisons", ())]
+
+
+def replies_of(row: dict, modelled: list[str]) -> list[str]:
+    """The replies: the model's where the row says nothing."""
+    found = modelled
+    if "replies" in row:
+        found = [wanted if wanted is not None else "".join(modelled[k:k + 1]) for k, wanted in enumerate(row["replies"])]
+    return found[:-1] + [row["last_reply"]] if "last_reply" in row else found
+
+
+def said_outputs(row: dict) -> dict[int, bytes]:
+    """The outputs that the row says, by their channels."""
+    return {c: data_of(spec) for c, spec in enumerate(row.get("outputs", ())) if spec is not None}
+
+
+def result_of(row: dict, case: Case) -> Result:
+    """What the row says of a run, and the model where it says nothing."""
+    replies = "".join(reply + "\n" for reply in replies_of(row, case.replies.decode().splitlines())).encode()
+    outputs = [said_outputs(row).get(c, modelled) for c, modelled in enumerate(case.outputs)]
+    return Result(row.get("status", case.status), replies, case.stderr, outputs)
 
 
 def wrong_inside(row: dict) -> list[str]:
@@ -82,7 +92,7 @@ def wrong_inside(row: dict) -> list[str]:
             else:
                 console.reply(command)
         except Refused as refused:
-            lacking = refused.space
+            lacking = refused.space if refused.space is not None else lacking
     found = []
     if "copied" in row and console.host.copied() != row["copied"]:
         found.append(f"{console.host.copied()} words were moved, wanted {row['copied']}")
@@ -95,25 +105,32 @@ def check_row(row: dict) -> list[str]:
     """What of the model's result isn't as the row says, by histories and with delay lines."""
     found = []
     for form in ("history", "running"):
-        found += wrong(row, serve(config_of(row, form), script_of(row), inputs_of(row)))
+        for config in configs_of(row, form):
+            case = expected_case(config, script_of(row), inputs_of(row))
+            found += differences(case, result_of(row, case))
     if "copied" in row or "lacking" in row:
         found += wrong_inside(row)
     return found
 
 
 def row_case(row: dict, poison: Optional[int] = None) -> Case:
-    """The case of a row; what the row doesn't say is filled in from the model."""
+    """The case of a row. What it doesn't say is filled in from the model, of which the outputs of some rogues aren't determined."""
     config = config_of(row)
     note = row["name"]
     if poison is not None:
-        config, note = replace(config, poison=poison), note + ", with a poison word"
-    return expected_case(config, script_of(row), inputs_of(row), note)
+        config, note = replace(config, poison=poison), f"{note}, with the poison word {poison}"
+    case = expected_case(config, script_of(row), inputs_of(row), note)
+    said = result_of(row, case)
+    lines = said.replies.split(b"\n")
+    return replace(case, status=said.status, replies=said.replies, outputs=said.outputs,
+                   any_replies=[n for n in case.any_replies if b"*" in lines[n].split()],
+                   any_outputs={c: ranges for c, ranges in case.any_outputs.items() if int(c) not in said_outputs(row)})
 
 
 def row_cases(kinds: str) -> list[Case]:
-    """The rows of a set of kinds as cases: those of lawful kinds again with a poison word, which must not show."""
+    """The rows of a set of kinds as cases, under each of their poison words: those of lawful kinds again with one more, which must not show."""
     rows = [row for row in read_rows() if row.get("kinds", HOSTED) == kinds]
-    found = [row_case(row) for row in rows]
+    found = [row_case(row, poison) for row in rows for poison in (None, *row.get("poisons", ()))]
     if kinds != MIXED:
         found += [row_case(row, POISON) for row in rows if "poison" not in row.get("options", {})]
     return found
