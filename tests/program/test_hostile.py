@@ -172,9 +172,9 @@ class Scripts(ConsoleCase):
 
     def test_each_byte_as_a_line(self) -> None:
         """A blank, a tab, a line feed and a carriage return ask for nothing."""
-        bytes_ = [bytes([b]) for b in range(256)]
-        refused = [line for line in bytes_ if line not in (b" ", b"\t", b"\n", b"\r")]
-        ended = self.run_script(b"".join(line + b"\n" for line in bytes_), "in", "out")
+        lines = [bytes([byte]) for byte in range(256)]
+        refused = [line for line in lines if line not in (b" ", b"\t", b"\n", b"\r")]
+        ended = self.run_script(b"".join(line + b"\n" for line in lines), "in", "out")
         self.assertEqual(ended, (1, b"no 2 syntax\n" * len(refused), b""))
         for line in (b"\0", b" ", b"\r", b"\xff"):
             self.assertEqual(self.run_script(line, "in", "out").replies, b"no 2 syntax\n" if line in refused else b"")
