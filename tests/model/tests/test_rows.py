@@ -9,7 +9,7 @@ from dataclasses import replace
 from rokdaum_model.console import Config, Fault, run, serve
 from rokdaum_model.order import REPLIES, is_one_prefix, order_of, tells_truth
 from rokdaum_model.ports import TapeIn, TapeOut
-from rokdaum_model.rows import POISON, check_row, config_of, inputs_of, read_rows, script_of
+from rokdaum_model.rows import POISON, check_row, config_of, inputs_of, read_rows, row_case, script_of
 
 FIRST = b"create 0 fir 0 16384\nchain 0 0\nfeed 0 2\n"
 
@@ -32,6 +32,12 @@ class Rows(unittest.TestCase):
             if "kinds" not in row:
                 plain = serve(config_of(row), script_of(row), inputs_of(row))
                 self.assertEqual(serve(replace(config_of(row), poison=POISON), script_of(row), inputs_of(row)), plain)
+
+    def test_what_the_hand_says_is_compared(self) -> None:
+        """Also where the model leaves open what a rogue gives: of a case none of it is free."""
+        case = row_case(named("a filter beside forger"))
+        self.assertEqual((case.any_replies, case.any_outputs), ([], {}))
+        self.assertEqual(case.outputs[1], b"\x05\x00\x0f\x00")
 
     def test_names_are_told_apart(self) -> None:
         names = [row["name"] for row in read_rows()]
