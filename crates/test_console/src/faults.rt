@@ -1,311 +1,253 @@
-//! Runs that end in a fault, over tapes and over devices that fail.
-ghost use Rattle.std.specs.Prelude.{◌<◌};
-
-use crate::engine::{
-    FULL, Fuses, NEVER, PLAIN, Row, Setting, UNBROKEN, WIDE, Wanted, compare, rows,
-};
-use arrayvec::ArrayVec;
-use dsp_console::{Config, Fault, Summary, outcome, run};
-use octet_ports::{PortIn, PortOut, Reading, Writing};
-use std::alloc::{AllocError, Global};
+//! Each call of each device fails in turn: the ports together hold the first octets of what the script writes. The script comes in pieces:
+//! they hold all of it.
+use crate::runs::run_script;
+use crate::scripts::{A_SLIDE, BY_TURNS, ONE_FEED, PORTS, Port, REFUSED_LINES, Row};
+use dsp_console::{Config, Fault, Summary};
+use octet_ports::{TapeIn, TapeOut};
 use std::process::Abort;
 use std::test::Fail;
-use test_doubles::{HELD_OCTETS, Shaky};
-use voice_set::Voice;
 
-/// A run with refused lines before and behind its feed.
-const REFUSING: Row = Row {
-    script: b"create 0 fir 0 16384\nflute\nchain 0 0\nfeed 0 2\nfeed 0 9\n",
-    input: b"\x01\x00\xff\xff",
-    output: b"\x01\x00\x00\x00",
-    replies: b"ok\nno 2 syntax\nok\nok 2\nno 10 short\n",
-    refused: 2,
+/// A tape of this fuse doesn't fail.
+const NEVER: u64 = u64::MAX;
+
+/// More octets than a tape is asked for at a time.
+const WIDE: u32 = 4096;
+
+/// More calls than any port is used by.
+const MOST_CALLS: u64 = 400;
+
+/// The call of a port that fails, counted from 0.
+#[derive(Clone, Copy)]
+struct Broken {
+    port: Port,
+    call: u64,
+}
+
+impl Broken {
+    /// How many calls of this port go well.
+    fn fuse(self, port: Port) -> u64 {
+        if self.port == port { self.call } else { NEVER }
+    }
+}
+
+/// No port breaks.
+const UNBROKEN: Broken = Broken {
+    port: Port::Script,
+    call: NEVER,
 };
 
-/// What a run of that script is to answer and to write: so many octets of the output and of the replies.
-fn wanted_first<R: Abort>(
-    rt: &R,
-    answer: Result<Summary, Fault>,
-    outputs: usize,
-    replies: usize,
-) -> Wanted<'static> {
-    assert!(rt; outputs <= REFUSING.output.len() && replies <= REFUSING.replies.len());
-    Wanted {
-        answer,
-        output: &REFUSING.output[..outputs],
-        replies: &REFUSING.replies[..replies],
-    }
+/// What the ports that are written hold and hasn't been found in the order yet.
+#[derive(Clone, Copy)]
+struct Held<'a> {
+    first: &'a [u8],
+    second: &'a [u8],
+    replies: &'a [u8],
 }
 
-/// Runs that script with a fault, before which so many octets of the output and of the replies are written.
-fn compare_fault<R: Abort + AllocGlobal>(
-    rt: &R,
-    step: u32,
-    fuses: Fuses,
-    fault: Fault,
-    outputs: usize,
-    replies: usize,
-) -> Result<(), Fail>
-    requires { 0 < step }
-{
-    let wanted = wanted_first(rt, Err(fault), outputs, replies);
-    let setting = Setting {
-        step,
-        fuses,
-        ..PLAIN
-    };
-    compare(rt, setting, REFUSING.script, REFUSING.input, &wanted)
-}
-
-/// The script's lines end behind so many octets of it, of the output and of the replies.
-const LINES: [(u64, usize, usize); 6] = [
-    (0, 0, 0),
-    (21, 0, 3),
-    (27, 0, 15),
-    (37, 0, 18),
-    (46, 4, 23),
-    (55, 4, 35),
-];
-
-#[test]
-fn stops_where_the_script_fails(rt: HostRuntime) -> Result<(), Fail> {
-    for script in 0..56 {
-        let (mut outputs, mut replies) = (0, 0);
-        for (end, written, told) in LINES {
-            if script >= end {
-                (outputs, replies) = (written, told);
-            }
-        }
-        let fuses = Fuses { script, ..UNBROKEN };
-        compare_fault(&rt, 1, fuses, Fault::Read, outputs, replies)?;
-    }
-    // The second call is made once all lines that the first gave are served.
-    for (script, outputs, replies) in [(0, 0, 0), (1, 4, 35)] {
-        let fuses = Fuses { script, ..UNBROKEN };
-        compare_fault(&rt, WIDE, fuses, Fault::Read, outputs, replies)?;
-    }
-    Ok(())
-}
-
-// One call gives all of it, and a second one tells that it has ended.
-#[test]
-fn a_short_script_takes_two_calls(rt: HostRuntime) -> Result<(), Fail> {
-    let row = &rows()[0];
-    let wanted = Wanted {
-        answer: Ok(Summary { refused: 0 }),
-        output: row.output,
-        replies: row.replies,
-    };
-    let fuses = Fuses {
-        script: 2,
-        ..UNBROKEN
-    };
-    let setting = Setting { fuses, ..PLAIN };
-    compare(&rt, setting, row.script, row.input, &wanted)
-}
-
-#[test]
-fn the_pieces_of_a_script_change_no_reply(rt: HostRuntime) -> Result<(), Fail> {
-    let row = &rows()[7];
-    let wanted = Wanted {
-        answer: Ok(Summary {
-            refused: row.refused,
-        }),
-        output: row.output,
-        replies: row.replies,
-    };
-    for step in 1..=40 {
-        let setting = Setting { step, ..PLAIN };
-        compare(&rt, setting, row.script, row.input, &wanted)?;
-    }
-    Ok(())
-}
-
-#[test]
-fn stops_where_the_input_fails(rt: HostRuntime) -> Result<(), Fail> {
-    // In the first feed, and then in the one that the input's end would have cut short.
-    for (step, first, all) in [(1, 4, 5), (3, 2, 3), (WIDE, 1, 2)] {
-        for input in 0..all {
-            let (outputs, replies) = if input < first { (0, 18) } else { (4, 23) };
-            let fuses = Fuses { input, ..UNBROKEN };
-            compare_fault(&rt, step, fuses, Fault::Read, outputs, replies)?;
+impl<'a> Held<'a> {
+    /// Without the first octet of this port, if it is that one.
+    fn without(self, port: Port, octet: u8) -> Option<Held<'a>> {
+        match port {
+            Port::FirstOutput => Some(Held {
+                first: self.first.strip_prefix(&[octet])?,
+                ..self
+            }),
+            Port::SecondOutput => Some(Held {
+                second: self.second.strip_prefix(&[octet])?,
+                ..self
+            }),
+            _ => Some(Held {
+                replies: self.replies.strip_prefix(&[octet])?,
+                ..self
+            }),
         }
     }
-    Ok(())
-}
 
-#[test]
-fn stops_where_the_output_fails(rt: HostRuntime) -> Result<(), Fail> {
-    // A put of each octet, and the flush behind the last reply.
-    for (output, outputs, replies) in [(0, 0, 18), (1, 1, 18), (2, 2, 18), (3, 3, 18), (4, 4, 35)] {
-        let fuses = Fuses { output, ..UNBROKEN };
-        compare_fault(&rt, 1, fuses, Fault::Write, outputs, replies)?;
-    }
-    for (output, outputs, replies) in [(0, 0, 18), (1, 4, 35)] {
-        let fuses = Fuses { output, ..UNBROKEN };
-        compare_fault(&rt, WIDE, fuses, Fault::Write, outputs, replies)?;
-    }
-    Ok(())
-}
-
-#[test]
-fn stops_where_the_replies_fail(rt: HostRuntime) -> Result<(), Fail> {
-    // A put of each octet, and the flush.
-    for replies in 0..36 {
-        let outputs = if replies < 18 { 0 } else { 4 };
-        let fuses = Fuses {
-            replies,
-            ..UNBROKEN
-        };
-        let held = (replies as usize).min(35);
-        compare_fault(&rt, 1, fuses, Fault::Write, outputs, held)?;
-    }
-    for (replies, outputs, held) in [
-        (0, 0, 0),
-        (1, 0, 3),
-        (2, 0, 15),
-        (3, 4, 18),
-        (4, 4, 23),
-        (5, 4, 35),
-    ] {
-        let fuses = Fuses {
-            replies,
-            ..UNBROKEN
-        };
-        compare_fault(&rt, WIDE, fuses, Fault::Write, outputs, held)?;
-    }
-    Ok(())
-}
-
-#[test]
-fn ends_runs(rt: HostRuntime) {
-    let cases = [
-        (Ok(Summary { refused: 0 }), 0, ""),
-        (Ok(Summary { refused: 1 }), 1, ""),
-        (Ok(Summary { refused: u64::MAX }), 1, ""),
-        (
-            Err(Fault::Size),
-            2,
-            "dsp_console: a space is 0 to 65536 words, a multiple of 4",
-        ),
-        (Err(Fault::Read), 3, "dsp_console: read failed"),
-        (Err(Fault::Write), 4, "dsp_console: write failed"),
-        (Err(Fault::Memory), 5, "dsp_console: out of memory"),
-    ];
-    for (answer, status, line) in cases {
-        let (given_status, given_line) = outcome(&answer);
-        assert!(rt; given_status == status);
-        assert!(rt; given_line == line);
+    fn is_empty(self) -> bool {
+        self.first.is_empty() && self.second.is_empty() && self.replies.is_empty()
     }
 }
 
-/// What is seen of a run over shaky devices: the script's, the input's, the output's and the replies'.
+/// What is held without the octets that a port is written at one place of the order, and whether all of these are held.
+fn without_all<'a>(held: Held<'a>, port: Port, octets: &[u8]) -> (Held<'a>, bool) {
+    let mut held = held;
+    for octet in octets {
+        match held.without(port, *octet) {
+            Some(less) => held = less,
+            None => return (held, false),
+        }
+    }
+    (held, true)
+}
+
+/// Whether the ports together hold the first octets of these, and nothing else.
+fn are_first(written: &[(Port, &[u8])], held: Held<'_>) -> bool {
+    let mut held = held;
+    for (port, octets) in written {
+        let (less, all) = without_all(held, *port, octets);
+        held = less;
+        if !all {
+            return held.is_empty();
+        }
+    }
+    held.is_empty()
+}
+
+/// Whether the ports together hold all of these octets, and nothing else.
+fn are_all(written: &[(Port, &[u8])], held: Held<'_>) -> bool {
+    let mut held = held;
+    for (port, octets) in written {
+        let (less, all) = without_all(held, *port, octets);
+        held = less;
+        if !all {
+            return false;
+        }
+    }
+    held.is_empty()
+}
+
+/// How a run ended, and what it has written.
 #[derive(Drop)]
-struct Seen {
-    answer: Result<Summary, Fault>,
-    failed: (bool, bool, bool, bool),
-    written: ArrayVec<u8, HELD_OCTETS>,
-    told: ArrayVec<u8, HELD_OCTETS>,
-    /// How often the output and the replies were flushed, and how much they held at the last time.
-    flushes: (u32, u32),
-    flushed: (u64, u64),
+struct Ran {
+    ended: Result<Summary, Fault>,
+    first: TapeOut,
+    second: TapeOut,
+    replies: TapeOut,
 }
 
-/// Runs that script over shaky devices, each with its fuse.
-fn run_shaky(alloc: Global, fuses: Fuses) -> Result<Option<Seen>, AllocError> {
-    let mut script = Reading::new(Shaky::new(REFUSING.script, 1, fuses.script));
-    let mut inputs = vec![in alloc; Reading::new(Shaky::new(REFUSING.input, 1, fuses.input))]?;
-    let mut outputs = vec![in alloc; Writing::new(Shaky::new(b"", 1, fuses.output))]?;
-    let mut replies = Writing::new(Shaky::new(b"", 1, fuses.replies));
+impl Ran {
+    fn held(&self) -> Held<'_> {
+        Held {
+            first: self.first.held(),
+            second: self.second.held(),
+            replies: self.replies.held(),
+        }
+    }
+}
+
+/// Runs the script over tapes of which one breaks. So many octets are given a call of the script, and at most so many are given or taken a
+/// call of the other ports.
+fn run_over<R: Abort + AllocGlobal>(
+    rt: &R,
+    row: &Row,
+    script_step: u32,
+    step: u32,
+    broken: Broken,
+) -> Result<Ran, Fail> {
+    assert!(rt; 0 < step && 0 < script_step);
+    let mut script = TapeIn::new(row.script, script_step, broken.fuse(Port::Script));
+    let [first, second] = row.inputs;
+    let mut inputs = vec![in rt.alloc();
+        TapeIn::new(first, step, broken.fuse(Port::FirstInput)),
+        TapeIn::new(second, step, broken.fuse(Port::SecondInput)),
+    ]?;
+    let mut outputs = vec![in rt.alloc();
+        TapeOut::new(step, broken.fuse(Port::FirstOutput)),
+        TapeOut::new(step, broken.fuse(Port::SecondOutput)),
+    ]?;
+    let mut replies = TapeOut::new(step, broken.fuse(Port::Replies));
     let config = Config {
-        sizes: FULL,
-        poison: None,
+        sizes: row.sizes,
+        poison: Some(-1),
         in8: 0,
         out8: 0,
     };
-    let answer = run::<Voice, _, _, _, _>(
-        alloc,
+    let ended = run_script(
+        rt.alloc(),
         config,
         &mut script,
         &mut inputs,
         &mut outputs,
         &mut replies,
     );
-    let (Some(input), Some(output)) = (inputs.pop(), outputs.pop()) else {
-        return Ok(None);
+    let (Some(second), Some(first)) = (outputs.pop(), outputs.pop()) else {
+        return Err("a run has lost an output".into());
     };
-    let failed = (
-        script.failed(),
-        input.failed(),
-        output.failed(),
-        replies.failed(),
-    );
-    let (output, replies) = (output.into_inner(), replies.into_inner());
-    Ok(Some(Seen {
-        answer,
-        failed,
-        written: output.held,
-        told: replies.held,
-        flushes: (output.flushes, replies.flushes),
-        flushed: (output.flushed, replies.flushed),
-    }))
+    Ok(Ran {
+        ended,
+        first,
+        second,
+        replies,
+    })
 }
 
-/// Compares such a run. The device whose fuse broke stays failed, and no other.
-fn compare_shaky<R: Abort + AllocGlobal>(
+/// Breaks each call of the port in turn: the run ends with the fault, until it has no such call.
+fn each_call_breaks<R: Abort + AllocGlobal>(
     rt: &R,
-    fuses: Fuses,
-    wanted: &Wanted<'_>,
+    row: &Row,
+    step: u32,
+    port: Port,
 ) -> Result<(), Fail> {
-    let seen = run_shaky(rt.alloc(), fuses)?;
-    assert!(rt; seen.is_some());
-    let Some(seen) = seen else {
-        return Ok(());
-    };
-    let broken = (
-        fuses.script < NEVER,
-        fuses.input < NEVER,
-        fuses.output < NEVER,
-        fuses.replies < NEVER,
-    );
-    assert!(rt; seen.answer == wanted.answer);
-    assert!(rt; seen.failed == broken);
-    assert!(rt; seen.written.as_slice() == wanted.output);
-    assert!(rt; seen.told.as_slice() == wanted.replies);
-    if seen.answer.is_ok() {
-        assert!(rt; seen.flushes == (1, 1));
-        let all = (wanted.output.len() as u64, wanted.replies.len() as u64);
-        assert!(rt; seen.flushed == all);
-    } else {
-        assert!(rt; seen.flushes.1 == 0);
+    for call in 0..MOST_CALLS {
+        let ran = run_over(rt, row, step, step, Broken { port, call })?;
+        if ran.ended == Ok(row.summary) {
+            assert!(rt; call > 0 && are_all(row.written, ran.held()));
+            return Ok(());
+        }
+        // After a fault no reply is passed on.
+        let faulted = ran.ended == Err(port.fault()) && ran.replies.passed() == 0;
+        assert!(rt; faulted && are_first(row.written, ran.held()));
+    }
+    Err("a port is used without end".into())
+}
+
+/// Breaks each call of each port, by calls of one octet and by wide calls.
+fn every_call_breaks<R: Abort + AllocGlobal>(rt: &R, row: &Row) -> Result<(), Fail> {
+    for step in [1, WIDE] {
+        for port in PORTS {
+            each_call_breaks(rt, row, step, port)?;
+        }
     }
     Ok(())
 }
 
 #[test]
-fn a_device_that_fails_stays_failed(rt: HostRuntime) -> Result<(), Fail> {
-    let all = Ok(Summary { refused: 2 });
-    compare_shaky(&rt, UNBROKEN, &wanted_first(&rt, all, 4, 35))?;
-    let (read, write) = (Err(Fault::Read), Err(Fault::Write));
-    for (script, outputs, replies) in [(0, 0, 0), (30, 0, 15), (54, 4, 23)] {
-        let fuses = Fuses { script, ..UNBROKEN };
-        compare_shaky(&rt, fuses, &wanted_first(&rt, read, outputs, replies))?;
-    }
-    for (input, outputs, replies) in [(0, 0, 18), (3, 0, 18), (4, 4, 23)] {
-        let fuses = Fuses { input, ..UNBROKEN };
-        compare_shaky(&rt, fuses, &wanted_first(&rt, read, outputs, replies))?;
-    }
-    for (output, outputs, replies) in [(0, 0, 18), (3, 3, 18), (4, 4, 35)] {
-        let fuses = Fuses { output, ..UNBROKEN };
-        compare_shaky(&rt, fuses, &wanted_first(&rt, write, outputs, replies))?;
-    }
-    for (replies, outputs) in [(0, 0), (17, 0), (20, 4), (35, 4)] {
-        let fuses = Fuses {
-            replies,
-            ..UNBROKEN
-        };
-        let wanted = wanted_first(&rt, write, outputs, replies as usize);
-        compare_shaky(&rt, fuses, &wanted)?;
-    }
+fn members_by_turns_over_ports_that_break(rt: HostRuntime) -> Result<(), Fail> {
+    every_call_breaks(&rt, &BY_TURNS)
+}
+
+#[test]
+fn refused_lines_over_ports_that_break(rt: HostRuntime) -> Result<(), Fail> {
+    every_call_breaks(&rt, &REFUSED_LINES)
+}
+
+#[test]
+fn a_slide_over_ports_that_break(rt: HostRuntime) -> Result<(), Fail> {
+    every_call_breaks(&rt, &A_SLIDE)
+}
+
+// One call gives all of it, a second one tells that it has ended, and there is no third.
+#[test]
+fn a_short_script_takes_two_calls(rt: HostRuntime) -> Result<(), Fail> {
+    let third = Broken {
+        port: Port::Script,
+        call: 2,
+    };
+    let ran = run_over(&rt, &ONE_FEED, WIDE, WIDE, third)?;
+    assert!(rt; ran.ended == Ok(ONE_FEED.summary) && are_all(ONE_FEED.written, ran.held()));
     Ok(())
+}
+
+/// Runs the script, of which so many octets are given a call: all is written. The other ports give and take whatever they are asked for,
+/// and none breaks.
+fn writes_all<R: Abort + AllocGlobal>(rt: &R, row: &Row, script_step: u32) -> Result<(), Fail> {
+    let ran = run_over(rt, row, script_step, WIDE, UNBROKEN)?;
+    let ended_well = ran.ended == Ok(row.summary);
+    assert!(rt; ended_well && are_all(row.written, ran.held()));
+    Ok(())
+}
+
+/// Runs the script at once and in pieces: each run writes the same.
+fn pieces_change_nothing<R: Abort + AllocGlobal>(rt: &R, row: &Row) -> Result<(), Fail> {
+    for step in 1..=40 {
+        writes_all(rt, row, step)?;
+    }
+    writes_all(rt, row, WIDE)
+}
+
+#[test]
+fn the_pieces_of_a_script_change_no_octet(rt: HostRuntime) -> Result<(), Fail> {
+    pieces_change_nothing(&rt, &BY_TURNS)?;
+    pieces_change_nothing(&rt, &A_SLIDE)?;
+    pieces_change_nothing(&rt, &REFUSED_LINES)
 }

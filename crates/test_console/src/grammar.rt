@@ -4,8 +4,7 @@ ghost use Rattle.voice_script.specs.Rows.{low_or_high};
 
 use ialg::{Named, Params, Refusal};
 use std::process::Abort;
-use std::test::Fail;
-use voice_script::{Command, FEED_SAMPLES, LINE_OCTETS, Reply, parse, reply_text};
+use voice_script::{Command, FEED_SAMPLES, Reply, parse, reply_text};
 
 /// A kind: `low` or `high`.
 #[derive(Clone, Copy)]
@@ -23,11 +22,6 @@ impl Named for Pitch {
             None
         }
     }
-}
-
-/// Whether a line is a command: a blank one isn't.
-fn is_command(line: &[u8]) -> Result<bool, Refusal> {
-    Ok(parse::<Pitch>(line, &mut Params::new())?.is_some())
 }
 
 #[test]
@@ -81,49 +75,6 @@ fn parses_a_feed(rt: HostRuntime) {
         _ => false,
     };
     assert!(rt; is_feed);
-}
-
-#[test]
-fn takes_every_octet_as_a_line(rt: HostRuntime) {
-    for octet in 0..=255 {
-        let wanted = match octet {
-            b'\t' | b' ' | b'\r' => Ok(false),
-            _ => Err(Refusal::Syntax),
-        };
-        assert!(rt; is_command(&[octet]) == wanted);
-    }
-}
-
-/// The longest line of a creation: one-letter words behind each other, with this octet at its end.
-fn longest_line<R: Abort + AllocGlobal>(
-    rt: &R,
-    start: &[u8],
-    word: &[u8],
-    last: u8,
-) -> Result<Vec<u8>, Fail> {
-    let mut line = start.to_vec(rt.alloc())?;
-    for _ in start.len() / 2..LINE_OCTETS / 2 - 1 {
-        line.extend_from_slice(word)?;
-    }
-    line.push(b' ')?;
-    line.push(last)?;
-    assert!(rt; line.len() == LINE_OCTETS);
-    Ok(line)
-}
-
-#[test]
-fn judges_the_longest_lines(rt: HostRuntime) -> Result<(), Fail> {
-    for (start, word, last, refusal) in [
-        (b"a ".as_slice(), b"b ", b'c', Refusal::Syntax),
-        (b"create 0 low 0", b" 1", b'1', Refusal::Range),
-        (b"create 0 low 0", b" 1", b'x', Refusal::Syntax),
-        (b"create 0 low 0", b" x", b'1', Refusal::Syntax),
-        (b"feed 0 1", b"11", b'1', Refusal::Syntax),
-    ] {
-        let line = longest_line(&rt, start, word, last)?;
-        assert!(rt; is_command(line.as_slice()) == Err(refusal));
-    }
-    Ok(())
 }
 
 #[test]

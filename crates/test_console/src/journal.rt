@@ -1,8 +1,6 @@
 //! What reaches devices that fail, and in which order.
-use crate::ports::numbered;
 use octet_ports::{
-    JOURNAL_OCTETS, Journal, JournalOutput, JournalReplies, MARKS, Marks, Passing, PortOut,
-    pass_on_all, write_octets,
+    Journal, JournalOutput, JournalReplies, Marks, Passing, PortOut, pass_on_all, write_octets,
 };
 use std::cell::RefCell;
 use std::io;
@@ -46,14 +44,14 @@ impl Write for Scribe<'_> {
 type Scribes<'a> = RefCell<Journal<Scribe<'a>, Scribe<'a>>>;
 
 /// A journal of two outputs, the first of so much room.
-fn two_outputs<'a>(
-    rt: &HostRuntime,
-    page: &'a Page,
-    room: usize,
-    passing: Passing,
-) -> Result<Scribes<'a>, Fail> {
+fn two_outputs<'a>(rt: &HostRuntime, page: &'a Page, room: usize) -> Result<Scribes<'a>, Fail> {
     let marks = Marks::new(rt.alloc())?;
-    let mut journal = Journal::new(rt.alloc(), marks, Scribe { page, room: WIDE }, passing);
+    let mut journal = Journal::new(
+        rt.alloc(),
+        marks,
+        Scribe { page, room: WIDE },
+        Passing::WhereFull,
+    );
     journal.push_output(Scribe { page, room })?;
     journal.push_output(Scribe { page, room: WIDE })?;
     Ok(RefCell::new(journal))
@@ -90,7 +88,7 @@ fn compare(rt: &impl Abort, page: &Page, wanted: &[u8]) {
 #[test]
 fn outputs_come_before_replies(rt: HostRuntime) -> Result<(), Fail> {
     let page = RefCell::new(Vec::new(rt.alloc()));
-    let journal = two_outputs(&rt, &page, WIDE, Passing::WhereFull)?;
+    let journal = two_outputs(&rt, &page, WIDE)?;
     let mut first = JournalOutput::new(&journal, 0);
     let mut second = JournalOutput::new(&journal, 1);
     let mut replies = JournalReplies::new(&journal);
@@ -108,7 +106,7 @@ fn outputs_come_before_replies(rt: HostRuntime) -> Result<(), Fail> {
 #[test]
 fn a_full_output_leaves_no_reply_of_lost_samples(rt: HostRuntime) -> Result<(), Fail> {
     let page = RefCell::new(Vec::new(rt.alloc()));
-    let journal = two_outputs(&rt, &page, 5, Passing::WhereFull)?;
+    let journal = two_outputs(&rt, &page, 5)?;
     let mut first = JournalOutput::new(&journal, 0);
     let mut second = JournalOutput::new(&journal, 1);
     let mut replies = JournalReplies::new(&journal);
@@ -127,58 +125,6 @@ fn a_full_output_leaves_no_reply_of_lost_samples(rt: HostRuntime) -> Result<(), 
     put_fails(&rt, &mut replies);
     assert!(rt; pass_on_all(&journal).is_err());
     compare(&rt, &page, b"");
-    Ok(())
-}
-
-#[test]
-fn each_line_is_passed_on(rt: HostRuntime) -> Result<(), Fail> {
-    let page = RefCell::new(Vec::new(rt.alloc()));
-    let journal = two_outputs(&rt, &page, WIDE, Passing::EachLine)?;
-    let mut first = JournalOutput::new(&journal, 0);
-    let mut replies = JournalReplies::new(&journal);
-    put(&rt, &mut first, b"aa");
-    put(&rt, &mut replies, b"ok ");
-    compare(&rt, &page, b"");
-    put(&rt, &mut replies, b"1\n");
-    compare(&rt, &page, b"aaok 1\n");
-    put(&rt, &mut replies, b"ok\n");
-    compare(&rt, &page, b"ok\n");
-    Ok(())
-}
-
-#[test]
-fn full_buffers_lose_nothing(rt: HostRuntime) -> Result<(), Fail> {
-    const MANY: usize = 3 * JOURNAL_OCTETS + 5;
-    let page = RefCell::new(Vec::new(rt.alloc()));
-    let journal = two_outputs(&rt, &page, WIDE, Passing::WhereFull)?;
-    let mut first = JournalOutput::new(&journal, 0);
-    let mut replies = JournalReplies::new(&journal);
-    let octets = numbered(rt.alloc(), MANY)?;
-    put(&rt, &mut first, octets.as_slice());
-    assert!(rt; pass_on_all(&journal).is_ok());
-    compare(&rt, &page, octets.as_slice());
-    put(&rt, &mut replies, octets.as_slice());
-    assert!(rt; pass_on_all(&journal).is_ok());
-    compare(&rt, &page, octets.as_slice());
-    Ok(())
-}
-
-#[test]
-fn full_marks_lose_nothing(rt: HostRuntime) -> Result<(), Fail> {
-    let page = RefCell::new(Vec::new(rt.alloc()));
-    let journal = two_outputs(&rt, &page, WIDE, Passing::WhereFull)?;
-    let mut first = JournalOutput::new(&journal, 0);
-    let mut replies = JournalReplies::new(&journal);
-    for _ in 0..=MARKS {
-        put(&rt, &mut first, b"a");
-        put(&rt, &mut replies, b"x");
-    }
-    let mut wanted = Vec::new(rt.alloc());
-    wanted.resize(MARKS, b'a')?;
-    wanted.resize(2 * MARKS, b'x')?;
-    compare(&rt, &page, wanted.as_slice());
-    assert!(rt; pass_on_all(&journal).is_ok());
-    compare(&rt, &page, b"ax");
     Ok(())
 }
 
@@ -207,7 +153,7 @@ fn a_failed_flush_leaves_no_reply(rt: HostRuntime) -> Result<(), Fail> {
 #[test]
 fn an_output_that_is_not_there_fails(rt: HostRuntime) -> Result<(), Fail> {
     let page = RefCell::new(Vec::new(rt.alloc()));
-    let journal = two_outputs(&rt, &page, WIDE, Passing::WhereFull)?;
+    let journal = two_outputs(&rt, &page, WIDE)?;
     let mut third = JournalOutput::new(&journal, 2);
     put_fails(&rt, &mut third);
     Ok(())

@@ -3,6 +3,12 @@
 #![tactic(auto)]
 
 #[cfg(test)]
+mod agreement;
+#[cfg(test)]
+mod beside;
+#[cfg(test)]
+mod devices;
+#[cfg(test)]
 mod engine;
 #[cfg(test)]
 mod faults;
@@ -14,3 +20,7 @@ mod journal;
 mod lines;
 #[cfg(test)]
 mod ports;
+#[cfg(test)]
+mod runs;
+#[cfg(test)]
+mod scripts;

@@ -13,13 +13,13 @@ const NEVER: u64 = u64::MAX;
 const WIDE: usize = 512;
 
 /// As few as a device takes or gives at a time, more than one.
-pub const FEW: usize = 3;
+const FEW: usize = 3;
 
 /// More octets than wait in any run between two flushes.
 const MILLION_AND_MORE: usize = 1_100_000;
 
 /// So many octets, of which none is as the one before.
-pub fn numbered(alloc: Global, count: usize) -> Result<Vec<u8>, AllocError> {
+fn numbered(alloc: Global, count: usize) -> Result<Vec<u8>, AllocError> {
     let mut octets = Vec::new(alloc);
     for place in 0..count {
         octets.push((place % 251) as u8)?;

@@ -3,7 +3,7 @@
 
 use crate::channel_calls::Call::{Chain, Create, Feed};
 use crate::channel_calls::make;
-use crate::feed_both;
+use crate::two_channels::feed_both;
 use host_map::Sizes;
 use std::process::Abort;
 use test_doubles::{Or, SCRIBBLER, Trial};

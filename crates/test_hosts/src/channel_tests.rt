@@ -2,7 +2,7 @@
 
 use crate::channel_calls::Call::{Chain, Create, Feed, FeedSample, Release, Stat};
 use crate::channel_calls::make;
-use crate::feed_in_two;
+use crate::cut_feeds::feed_in_two;
 use host_map::Sizes;
 use ialg::Block;
 use std::alloc::Global;

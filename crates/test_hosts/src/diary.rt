@@ -52,14 +52,9 @@ impl Ialg for Diary {
         let mut records: ArrayVec<MemRec, TABLE_RECORDS> = ArrayVec::new();
         records.push(object_record());
         records.push(record(DIARY_WORDS, Space::Saram, Attr::Persist));
-        let spaces = [Space::Daram, Space::Saram, Space::External];
-        let attrs = [Attr::Scratch, Attr::Scratch, Attr::WriteOnce];
-        for ((words, space), attr) in p.iter().zip(spaces).zip(attrs) {
-            if *words > 0 {
-                let more = record(u32::from(words.unsigned_abs()), space, attr);
-                records.try_push(more).ok()?;
-            }
-        }
+        push_asked(&mut records, p.get(0), Space::Daram, Attr::Scratch)?;
+        push_asked(&mut records, p.get(1), Space::Saram, Attr::Scratch)?;
+        push_asked(&mut records, p.get(2), Space::External, Attr::WriteOnce)?;
         MemTab::make(records.as_slice())
     }
 
@@ -124,6 +119,22 @@ fn record(size: u32, space: Space, attr: Attr) -> MemRec {
         space,
         attr,
         base: 0,
+    }
+}
+
+// Adds a record of that many words, where they are asked for.
+fn push_asked(
+    records: &mut ArrayVec<MemRec, TABLE_RECORDS>,
+    words: Option<&i16>,
+    space: Space,
+    attr: Attr,
+) -> Option<()> {
+    match words {
+        Some(words) if *words > 0 => {
+            let more = record(u32::from(words.unsigned_abs()), space, attr);
+            records.try_push(more).ok()
+        }
+        _ => Some(()),
     }
 }
 

@@ -1,8 +1,8 @@
 //! Who is called, how often and in which order, row by row as the standard lays it down (SPRU360): each diary was written by hand.
 
+use crate::diary::{ACTIVATE, CONTROL, DEACTIVATE, Diary, INIT, MOVED, PROCESS};
 use crate::host_calls::Call::{self, Create, Delete, Get, Process, Release, SetRefused, Step};
 use crate::host_calls::make;
-use crate::{ACTIVATE, CONTROL, DEACTIVATE, Diary, INIT, MOVED, PROCESS};
 use host_map::Sizes;
 use ialg::Refusal;
 use mem_rec::Space;

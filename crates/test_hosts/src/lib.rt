@@ -11,7 +11,9 @@ mod channel_calls;
 mod channel_runs;
 #[cfg(test)]
 mod channel_tests;
+#[cfg(test)]
 mod cut_feeds;
+#[cfg(test)]
 mod diary;
 #[cfg(test)]
 mod diary_tests;
@@ -19,11 +21,9 @@ mod diary_tests;
 mod host_calls;
 #[cfg(test)]
 mod host_tests;
+#[cfg(test)]
 mod two_channels;
 
-pub use cut_feeds::feed_in_two;
-pub use diary::{ACTIVATE, CONTROL, DEACTIVATE, Diary, INIT, MOVED, PROCESS};
-pub use two_channels::{Outputs, feed_both};
 use voice_channel::MEMBERS;
 
 // A chain has as many members at most.

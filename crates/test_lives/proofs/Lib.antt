@@ -1,4 +1,3 @@
 pub mod Housing
-pub mod Standing
 pub mod Lives
 pub mod Rooms

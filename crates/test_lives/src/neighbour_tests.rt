@@ -7,14 +7,14 @@ ghost use Rattle.scratch_group.specs.Blocks.{SameGroup};
 ghost use Rattle.lifecycle.specs.States.{Fits, SameInstance};
 ghost use Rattle.test_lives.specs.Owners.{IsAllOf, IsPieceThere, IsReady, two_taps};
 
-use crate::feed;
+use crate::neighbours::feed;
 use crate::regions::{close_both, nothing, region, take_block};
 use alg_fir::Fir;
 use ialg::{BLOCK_SAMPLES, Block, Ctl, Ialg, PARAMETER_WORDS, Params, Status, Words, copied};
-use lifecycle::{Idle, room};
+use lifecycle::Idle;
 use mem_rec::{MemTab, Space};
 use record_loans::Pieces;
-use scratch_group::{Group, lends_at_the_layout};
+use scratch_group::Group;
 use space_raw::{Piece, Region};
 use std::alloc::Allocator;
 use std::process::Abort;
@@ -35,7 +35,7 @@ fn table(rt: &impl Abort, p: &Params) -> MemTab
 }
 
 /// A filter that gives half of a sample and half of the one before it.
-pub(crate) fn filter(
+fn filter(
     rt: &impl Abort,
     object: Piece,
     kept: Piece,
@@ -85,7 +85,7 @@ fn control<M: Ialg>(
 }
 
 /// What the member gives for these samples. The group's blocks are overwritten afterwards.
-pub(crate) fn give<M: Ialg>(
+fn give<M: Ialg>(
     member: Idle<M>,
     none: &mut Pieces,
     group: &mut Group,
@@ -105,7 +105,7 @@ pub(crate) fn give<M: Ialg>(
 }
 
 /// Ends pieces that are none.
-pub(crate) fn end(rt: &impl Abort, pieces: Pieces)
+fn end(rt: &impl Abort, pieces: Pieces)
     ensures { pieces ≡ no_pieces }
 {
     let Pieces { p0, p1, p2, p3 } = pieces;
@@ -116,7 +116,7 @@ pub(crate) fn end(rt: &impl Abort, pieces: Pieces)
 }
 
 /// The object and the kept words of an ended instance, which has no other pieces.
-pub(crate) fn both(rt: &impl Abort, pieces: Pieces) -> (Piece, Piece)
+fn both(rt: &impl Abort, pieces: Pieces) -> (Piece, Piece)
     ensures object { pieces.p0 ≡ Some result.0 }
     ensures kept { pieces.p1 ≡ Some result.1 }
 {
@@ -163,18 +163,18 @@ fn members_take_turns(rt: HostRuntime) {
     let second = filter(&rt, other_object, other_kept, &mut other_none, &group);
 
     let (first_once, out) = give(first, &mut none, &mut group, &[2, 4]);
-    assert_eq!(rt; out.as_slice(), [1i16, 3].as_slice());
+    assert!(rt; out.as_slice() == [1i16, 3].as_slice());
     let (second_once, out) = give(second, &mut other_none, &mut group, &[10]);
-    assert_eq!(rt; out.as_slice(), [5i16].as_slice());
+    assert!(rt; out.as_slice() == [5i16].as_slice());
     let (first_asked, status) = control(first_once, &mut none, &mut group, &Ctl::Get);
-    assert_eq!(rt; status, Status::Words(words(&rt, &[16384, 16384])));
+    assert!(rt; status == Status::Words(words(&rt, &[16384, 16384])));
     let (first_twice, out) = give(first_asked, &mut none, &mut group, &[6]);
-    assert_eq!(rt; out.as_slice(), [5i16].as_slice());
+    assert!(rt; out.as_slice() == [5i16].as_slice());
     assert!(rt; first_twice.accepts(&Ctl::Get));
     let told = end_filter(&rt, first_twice, none, &group, external, saram);
-    assert_eq!(rt; told, 3);
+    assert!(rt; told == 3);
     let (second_twice, out) = give(second_once, &mut other_none, &mut group, &[20]);
-    assert_eq!(rt; out.as_slice(), [15i16].as_slice());
+    assert!(rt; out.as_slice() == [15i16].as_slice());
     let other_told = end_filter(
         &rt,
         second_twice,
@@ -183,15 +183,9 @@ fn members_take_turns(rt: HostRuntime) {
         other_external,
         other_saram,
     );
-    assert_eq!(rt; other_told, 3);
+    assert!(rt; other_told == 3);
 
     let block = take_block(&rt, &mut group, Space::Daram);
     group.end();
     daram.close(block);
-}
-
-#[test]
-fn laws_are_stated(_rt: HostRuntime) {
-    lends_at_the_layout();
-    room();
 }

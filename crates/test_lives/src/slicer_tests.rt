@@ -4,8 +4,8 @@ ghost use Rattle.ialg.specs.Records.{unplaced};
 ghost use Rattle.test_doubles.specs.declared.TheConstants.{LEVELS};
 ghost use Rattle.test_doubles.specs.Slicer.{slicer_records};
 
-use crate::live;
 use crate::regions::{close_both, nothing, region, take_block};
+use crate::slicer::live;
 use ialg::{Block, Ialg, PARAMETER_WORDS, Params, Status, Words, copied};
 use mem_rec::{LEAST_ALIGNMENT, MemTab, Space};
 use record_loans::Pieces;
@@ -74,15 +74,15 @@ fn a_slicer_lives(rt: HostRuntime) {
         &[-1, 0, 3],
         &mut out,
     );
-    assert_eq!(rt; out.as_slice(), [-5i16, 7, 7].as_slice());
-    assert_eq!(rt; status, Status::Words(words(&rt, &[-5, 7])));
+    assert!(rt; out.as_slice() == [-5i16, 7, 7].as_slice());
+    assert!(rt; status == Status::Words(words(&rt, &[-5, 7])));
 
     let (object, none) = two(&rt, member.finish());
     nothing(&rt, none);
     let (none, levels) = two(&rt, shared);
     nothing(&rt, none);
     let levels = levels.expect(&rt, "the levels");
-    assert_eq!(rt; levels.words(), [-5i16, 7].as_slice());
+    assert!(rt; levels.words() == [-5i16, 7].as_slice());
     let low = take_block(&rt, &mut group, Space::Daram);
     let high = take_block(&rt, &mut group, Space::Saram);
     group.end();

@@ -43,40 +43,10 @@ fn memory_is_asked_for_once_and_given_back_once(rt: HostRuntime) {
 }
 
 #[test]
-fn a_new_heap_is_free(rt: HostRuntime) {
-    for words in [0u32, 4, 12, 65_532, 65_536] {
-        match Heap::new(rt.alloc(), words) {
-            Ok(heap) => {
-                assert!(rt; (heap.size(), heap.free(), heap.slid()) == (words, words, 0));
-                heap.close();
-            }
-            Err(_refusal) => assert!(rt; false),
-        }
-    }
-}
-
-#[test]
 fn a_bad_size_asks_for_no_memory(rt: HostRuntime) {
     for words in [1u32, 2, 6, 65_537, 65_540, u32::MAX] {
         let asked = ask(rt.alloc(), words, 0);
         assert!(rt; matches!(asked.answer, Err(HeapError::BadSize)));
         assert!(rt; (asked.requests, asked.returned) == (0, 0));
-    }
-}
-
-#[test]
-fn a_space_without_words_has_no_place(rt: HostRuntime) {
-    match Heap::new(rt.alloc(), 0) {
-        Ok(mut heap) => {
-            match heap.take(1, 4) {
-                Some(piece) => {
-                    heap.give(piece);
-                    assert!(rt; false);
-                }
-                None => {}
-            }
-            heap.close();
-        }
-        Err(_refusal) => assert!(rt; false),
     }
 }

@@ -1,10 +1,9 @@
-//! What no clause says: that the calls succeed, and the words and numbers of replies.
+//! What no clause says: that the calls succeed.
 ghost use Rattle.std.specs.Prelude.{⊤};
 ghost use Rattle.ialg.specs.Loans.{SameLoans};
 
 use ialg::{
-    BLOCK_SAMPLES, Block, Lending, Lent, OBJECT_WORDS, PARAMETER_WORDS, Record, Refusal, Step,
-    Words, lend,
+    BLOCK_SAMPLES, Block, Lending, Lent, OBJECT_WORDS, PARAMETER_WORDS, Record, Step, Words, lend,
 };
 use mem_rec::{Attr, MemRec, MemTab, Space};
 
@@ -130,31 +129,4 @@ fn words_and_blocks_have_their_room(rt: HostRuntime) {
     assert!(rt; Words::new().remaining_capacity() == 72);
     let mut block = Block::new();
     assert!(rt; block.room_mut().len() == 1_024);
-}
-
-#[test]
-fn refusals_have_their_numbers_and_names(rt: HostRuntime) {
-    let all = [
-        (Refusal::Long, 1, "long"),
-        (Refusal::Syntax, 2, "syntax"),
-        (Refusal::Range, 3, "range"),
-        (Refusal::Taken, 4, "taken"),
-        (Refusal::Missing, 5, "missing"),
-        (Refusal::Params, 6, "params"),
-        (Refusal::Room(Space::Daram), 7, "room"),
-        (Refusal::Busy, 8, "busy"),
-        (Refusal::Command, 9, "command"),
-        (Refusal::Short, 10, "short"),
-    ];
-    for (refusal, number, name) in all {
-        assert!(rt; refusal.number() == number);
-        assert!(rt; refusal.name() == name);
-    }
-    let tests = [
-        (false, Refusal::Range),
-        (true, Refusal::Taken),
-        (true, Refusal::Params),
-    ];
-    assert!(rt; Refusal::first(&tests) == Some(Refusal::Taken));
-    assert!(rt; Refusal::first(&tests[..1]) == None);
 }

@@ -1,9 +1,7 @@
 // SPDX-License-Identifier: Apache-2.0
-//! For tests: records and loans, raw words, heaps, memory maps and scratch groups, and the doubles that these and other tests use.
+//! For tests: records and loans, raw words, heaps and scratch groups, and a kind that is lawful under one poison word alone.
 #![tactic(auto)]
 
-#[cfg(test)]
-mod doubles;
 #[cfg(test)]
 mod groups;
 #[cfg(test)]
@@ -11,14 +9,8 @@ mod heaps;
 #[cfg(test)]
 mod lending;
 #[cfg(test)]
-mod maps;
-#[cfg(test)]
-mod packing;
-#[cfg(test)]
 mod primed;
 #[cfg(test)]
 mod regions;
-#[cfg(test)]
-mod spaces;
 #[cfg(test)]
 mod tables;

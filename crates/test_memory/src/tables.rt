@@ -1,4 +1,4 @@
-//! The tables of the hosted kinds, layouts worked by hand, and each way to be no table.
+//! Layouts worked by hand, and each way to be no table.
 use mem_rec::{Attr, MemRec, MemTab, Space, scratch_layout};
 use std::process::Abort;
 use std::test::Fail;
@@ -39,38 +39,6 @@ fn scratch(space: Space, size: u32, align: u32) -> MemRec {
         attr: Attr::Scratch,
         base: 0,
     }
-}
-
-/// Asserts that the records form a table, which holds them.
-fn assert_table(rt: &impl Abort, records: &[MemRec]) -> Result<(), Fail> {
-    let table = MemTab::make(records).ok_or("a table")?;
-    assert!(rt; table.len() == records.len());
-    assert!(rt; table.records() == records);
-    Ok(())
-}
-
-#[test]
-fn tables_of_the_kinds(rt: HostRuntime) -> Result<(), Fail> {
-    let daram = Space::Daram;
-    // A FIR of 64 coefficients and one of 1: coefficients and past samples; past samples and a block.
-    assert_table(&rt, &[OBJECT, persistent(127), scratch(daram, 1_087, 16)])?;
-    assert_table(&rt, &[OBJECT, persistent(1), scratch(daram, 1_024, 16)])?;
-    // A decimator of 64 coefficients.
-    assert_table(
-        &rt,
-        &[
-            OBJECT,
-            persistent(64),
-            write_once(65),
-            scratch(daram, 1_087, 16),
-        ],
-    )?;
-    // A biquad, a tone, an encoder and a decoder.
-    assert_table(&rt, &[OBJECT, persistent(9), scratch(daram, 4, 4)])?;
-    assert_table(&rt, &[OBJECT, persistent(6), scratch(daram, 3, 4)])?;
-    assert_table(&rt, &[OBJECT])?;
-    assert_table(&rt, &[OBJECT, write_once(256)])?;
-    Ok(())
 }
 
 #[test]

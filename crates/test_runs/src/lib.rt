@@ -1,22 +1,14 @@
 // SPDX-License-Identifier: Apache-2.0
-//! For tests: whole runs in which each call of each device fails in turn; callers of the headline of one run and of two; runs of calls through
-//! the library for C; and worked rows: of the headline's definitions, of what a host answers to lists of calls, of what an instance was given,
-//! gave and answered in such a list, and of what a console serves.
+//! For tests: callers of the headline of one run and of two, and of runs of calls through the library for C; and worked rows: of the
+//! headline's definitions, of what a host answers to lists of calls, of what an instance was given, gave and answered in such a list, and of
+//! what a console serves.
 #![tactic(auto)]
 
-#[cfg(test)]
-mod agreement;
 mod beside;
-#[cfg(test)]
-mod beside_tests;
 mod console_rows;
-#[cfg(test)]
-mod faults;
 mod host_rows;
 mod rooms;
 mod row;
-#[cfg(test)]
-mod scripts;
 mod served;
 mod sounds;
 mod two_runs;

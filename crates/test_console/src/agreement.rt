@@ -1,10 +1,10 @@
 //! Two runs in which a filter is given the same: from hosts of other sizes and poison words, under another number, in another group and
 //! channel, beside a filter of another kind in its group, with a move, and with its samples cut otherwise.
-use crate::{Ports, run_both};
 use dsp_console::{Config, Sizes};
 use octet_ports::{TapeIn, TapeOut};
 use std::process::Abort;
 use std::test::Fail;
+use test_runs::{Ports, run_both};
 use voice_set::Voice;
 
 const NEVER: u64 = u64::MAX;

@@ -1,5 +1,5 @@
 //! Scripts over two pairs of ports, with all that they write in its order.
-use dsp_console::{Fault, Sizes};
+use dsp_console::{Fault, Sizes, Summary};
 
 /// What a run uses.
 #[derive(Clone, Copy, PartialEq)]
@@ -31,14 +31,32 @@ pub(crate) const PORTS: [Port; 6] = [
     Port::Replies,
 ];
 
-/// A script, the octets of its inputs, and what it writes: all octets of all ports, in their one order.
+/// A script, the octets of its inputs, what it writes, which is all octets of all ports in their one order, and how it ends.
 #[derive(Drop)]
 pub(crate) struct Row {
     pub(crate) sizes: Sizes,
     pub(crate) script: &'static [u8],
     pub(crate) inputs: [&'static [u8]; 2],
     pub(crate) written: &'static [(Port, &'static [u8])],
+    pub(crate) summary: Summary,
 }
+
+/// One filter, fed once.
+pub(crate) const ONE_FEED: Row = Row {
+    sizes: Sizes {
+        daram: 65_536,
+        saram: 65_536,
+        external: 65_536,
+    },
+    script: b"create 0 fir 0 16384\nchain 0 0\nfeed 0 2\n",
+    inputs: [b"\x01\x00\xff\xff", b""],
+    written: &[
+        (Port::Replies, b"ok\nok\n"),
+        (Port::FirstOutput, b"\x01\x00\x00\x00"),
+        (Port::Replies, b"ok 2\n"),
+    ],
+    summary: Summary { refused: 0 },
+};
 
 /// Two filters of one group by turns, each fed by its own channel, in a space that has room for one scratch block.
 pub(crate) const BY_TURNS: Row = Row {
@@ -63,6 +81,7 @@ pub(crate) const BY_TURNS: Row = Row {
             b"ok 1\nok 1 4\nok g0@0+1028\nok 1\nok 0\nok - 4\n",
         ),
     ],
+    summary: Summary { refused: 0 },
 };
 
 /// A scratch block is replaced by a greater one, and then slides down with what it holds: the member that is active stays so.
@@ -85,4 +104,22 @@ pub(crate) const A_SLIDE: Row = Row {
         (Port::SecondOutput, b"\xff\xff"),
         (Port::Replies, b"ok 1\n"),
     ],
+    summary: Summary { refused: 0 },
+};
+
+/// Refused lines before and behind a feed, the last one for want of samples.
+pub(crate) const REFUSED_LINES: Row = Row {
+    sizes: Sizes {
+        daram: 65_536,
+        saram: 65_536,
+        external: 65_536,
+    },
+    script: b"create 0 fir 0 16384\nflute\nchain 0 0\nfeed 0 2\nunchain 0\nchain 1 0\nfeed 1 9\n",
+    inputs: [b"\x01\x00\xff\xff", b"\x0a\x00\x14"],
+    written: &[
+        (Port::Replies, b"ok\nno 2 syntax\nok\n"),
+        (Port::FirstOutput, b"\x01\x00\x00\x00"),
+        (Port::Replies, b"ok 2\nok\nok\nno 10 short\n"),
+    ],
+    summary: Summary { refused: 2 },
 };
