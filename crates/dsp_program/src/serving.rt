@@ -1,6 +1,6 @@
 //! A run over files.
 ghost use Rattle.std.specs.Prelude.{◌≡◌, ◌+◌, ◌≤◌, [], false, length, map, All, IfOk, IsOk};
-ghost use Rattle.script_server.specs.Runs.{IsReadyIn, IsReadyOut, Ready};
+ghost use Rattle.script_server.specs.Runs.{IsReadyIn, IsReadyOut};
 
 use crate::explaining::explain_fault;
 use dsp_arguments::Arguments;
@@ -87,31 +87,6 @@ fn output_ports<'j, W: Write, P: Write>(
     Ok(ports)
 }
 
-/// Serves the script over ports. Nothing is promised of the answer: the contract of [`run`] has all that is, and is read here for ports of
-/// any type, where it is short.
-fn run_over<M: Ialg + Named, S: PortIn, I: PortIn, O: PortOut, P: PortOut>(
-    arguments: &Arguments<'_>,
-    script: &mut S,
-    inputs: &mut Vec<I>,
-    outputs: &mut Vec<O>,
-    replies: &mut P,
-    alloc: Global,
-) -> Result<Summary, Fault>
-    requires script { (S.source script.old).failed ≡ false }
-    requires some { 1 ≤ length inputs.old.items }
-    requires few { length inputs.old.items ≤ CHANNELS }
-    requires pairs { length outputs.old.items ≡ length inputs.old.items }
-    requires ready { Ready I.source O.sink P.sink inputs.old outputs.old replies.old }
-{
-    let config = Config {
-        sizes: arguments.sizes,
-        poison: arguments.poison,
-        in8: arguments.in8,
-        out8: arguments.out8,
-    };
-    run::<M, S, I, O, P>(alloc, config, script, inputs, outputs, replies)
-}
-
 /// Serves the script over the inputs and the journal.
 fn serve_ports<M: Ialg + Named, R: Eprint + AllocGlobal, S: PortIn, I: PortIn, W: Write, P: Write>(
     arguments: &Arguments<'_>,
@@ -128,7 +103,13 @@ fn serve_ports<M: Ialg + Named, R: Eprint + AllocGlobal, S: PortIn, I: PortIn, W
 {
     let mut outputs = output_ports(alloc, journal, arguments.ports.len())?;
     let mut replies = ReplyPort::new(JournalReplies::new(journal), listener);
-    run_over::<M, _, _, _, _>(arguments, script, inputs, &mut outputs, &mut replies, alloc)
+    let config = Config {
+        sizes: arguments.sizes,
+        poison: arguments.poison,
+        in8: arguments.in8,
+        out8: arguments.out8,
+    };
+    run::<M, _, _, _, _>(alloc, config, script, inputs, &mut outputs, &mut replies)
 }
 
 /// Serves the script over the pairs of files, which are opened. The INs are read through buffers; the OUTs and the replies are written

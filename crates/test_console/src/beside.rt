@@ -1,9 +1,9 @@
 //! Whatever the second input gives, the first channel's filter gives the same.
-use crate::runs::run_script;
-use dsp_console::{Config, Sizes};
+use dsp_console::{Config, Sizes, run};
 use octet_ports::{TapeIn, TapeOut};
 use std::process::Abort;
 use std::test::Fail;
+use voice_set::Voice;
 
 const NEVER: u64 = u64::MAX;
 
@@ -36,7 +36,7 @@ fn gives_the_same<R: Abort + AllocGlobal>(
     ]?;
     let mut outputs = vec![in rt.alloc(); TapeOut::new(WIDE, NEVER), TapeOut::new(WIDE, NEVER)]?;
     let mut told = TapeOut::new(WIDE, NEVER);
-    let ended = run_script(
+    let ended = run::<Voice, _, _, _, _>(
         rt.alloc(),
         CONFIG,
         &mut script,

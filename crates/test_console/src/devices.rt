@@ -1,13 +1,13 @@
 //! Runs over devices that fail, and how runs end.
 use crate::engine::FULL;
-use crate::runs::run_script;
 use arrayvec::ArrayVec;
-use dsp_console::{Config, Fault, Summary, outcome};
+use dsp_console::{Config, Fault, Summary, outcome, run};
 use octet_ports::{PortIn, PortOut, Reading, Writing};
 use std::alloc::{AllocError, Global};
 use std::process::Abort;
 use std::test::Fail;
 use test_doubles::{HELD_OCTETS, Shaky};
+use voice_set::Voice;
 
 /// A device of this fuse doesn't fail.
 const NEVER: u64 = u64::MAX;
@@ -106,7 +106,7 @@ fn run_shaky(alloc: Global, fuses: Fuses) -> Result<Option<Seen>, AllocError> {
         in8: 0,
         out8: 0,
     };
-    let answer = run_script(
+    let answer = run::<Voice, _, _, _, _>(
         alloc,
         config,
         &mut script,

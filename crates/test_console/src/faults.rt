@@ -1,11 +1,11 @@
 //! Each call of each device fails in turn: the ports together hold the first octets of what the script writes. The script comes in pieces:
 //! they hold all of it.
-use crate::runs::run_script;
 use crate::scripts::{A_SLIDE, BY_TURNS, ONE_FEED, PORTS, Port, REFUSED_LINES, Row};
-use dsp_console::{Config, Fault, Summary};
+use dsp_console::{Config, Fault, Summary, run};
 use octet_ports::{TapeIn, TapeOut};
 use std::process::Abort;
 use std::test::Fail;
+use voice_set::Voice;
 
 /// A tape of this fuse doesn't fail.
 const NEVER: u64 = u64::MAX;
@@ -152,7 +152,7 @@ fn run_over<R: Abort + AllocGlobal>(
         in8: 0,
         out8: 0,
     };
-    let ended = run_script(
+    let ended = run::<Voice, _, _, _, _>(
         rt.alloc(),
         config,
         &mut script,

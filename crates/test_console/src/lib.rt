@@ -21,6 +21,4 @@ mod lines;
 #[cfg(test)]
 mod ports;
 #[cfg(test)]
-mod runs;
-#[cfg(test)]
 mod scripts;

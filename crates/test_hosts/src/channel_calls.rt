@@ -1,16 +1,15 @@
 //! A test of channels as a list: each call, and what it is to answer.
 
 use crate::host_calls::{Outcome, parameters, told};
-use ialg::{BLOCK_SAMPLES, Block, Refusal};
+use ialg::{BLOCK_SAMPLES, Block, Ialg, Refusal};
 use std::process::Abort;
-use test_doubles::Trial;
 use voice_channel::{Channels, MEMBERS};
 
 /// A call of channels, and last what it is to answer.
-#[derive(Clone, Copy)]
-pub(crate) enum Call<'a> {
+#[derive(Drop)]
+pub(crate) enum Call<'a, M> {
     /// A new instance of this number and kind, in this group and with these parameters.
-    Create(u8, Trial, u8, &'a [i16], Outcome),
+    Create(u8, M, u8, &'a [i16], Outcome),
     /// These instances become the members of a channel.
     Chain(u8, &'a [u8], Outcome),
     /// A block of samples for a channel, and what it gives for them.
@@ -22,9 +21,9 @@ pub(crate) enum Call<'a> {
     Stat(u8, Result<(Option<u8>, u32), Refusal>),
 }
 
-impl Call<'_> {
+impl<M: Ialg> Call<'_, M> {
     /// Makes the call, and says whether it is answered so.
-    fn holds(&self, channels: &mut Channels<Trial>) -> bool {
+    fn holds(&self, channels: &mut Channels<M>) -> bool {
         match self {
             Call::Create(i, kind, group, p, answer) => match parameters(p) {
                 Some(p) => channels.create(*i, *kind, *group, &p) == *answer,
@@ -42,7 +41,7 @@ impl Call<'_> {
 }
 
 // Whether a channel can be fed, and gives this for a block of samples.
-fn gives(channels: &mut Channels<Trial>, c: u8, input: &[i16], output: &[i16]) -> bool {
+fn gives<M: Ialg>(channels: &mut Channels<M>, c: u8, input: &[i16], output: &[i16]) -> bool {
     if channels.ready(c).is_err() || input.is_empty() || input.len() > BLOCK_SAMPLES {
         return false;
     }
@@ -52,8 +51,8 @@ fn gives(channels: &mut Channels<Trial>, c: u8, input: &[i16], output: &[i16]) -
 }
 
 // Whether a channel can be fed, and tells this for a sample, or gives this.
-fn gives_sample(
-    channels: &mut Channels<Trial>,
+fn gives_sample<M: Ialg>(
+    channels: &mut Channels<M>,
     c: u8,
     x: i16,
     told: Option<i16>,
@@ -68,7 +67,7 @@ fn gives_sample(
 }
 
 /// Makes the calls one after the other: each is to be answered as it says.
-pub(crate) fn make(rt: &impl Abort, channels: &mut Channels<Trial>, calls: &[Call<'_>]) {
+pub(crate) fn make<M: Ialg>(rt: &impl Abort, channels: &mut Channels<M>, calls: &[Call<'_, M>]) {
     for (number, call) in calls.iter().enumerate() {
         assert!(rt; call.holds(channels), "call {number}");
     }

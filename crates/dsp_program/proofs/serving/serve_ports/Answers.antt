@@ -2,8 +2,8 @@ use Rattle.std.proofs.Common.{ap, ◌∙◌}
 use Rattle.octet_ports.specs.Ports.{Sink}
 use Rattle.dsp_program.proofs.serving.serve_ports.Goals as goal
 
-pub run_over-requires-clause-ready : goal.run_over-requires-clause-ready
-run_over-requires-clause-ready g c =
+pub run-requires-clause-ready : goal.run-requires-clause-ready
+run-requires-clause-ready g c =
     record {
       inputs = c.requires.ready;
       outs = c.in_ok-outputs.ensures.to_write;
