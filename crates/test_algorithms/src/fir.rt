@@ -1,10 +1,8 @@
 //! The worked rows of the FIR, and the words of its ring.
-use crate::instance::Row::{
-    Ask, Feed, Free, Get, Grant, Move, Record, Refuse, RefuseSet, Reset, Set, Start,
-};
+use crate::instance::Row::{Ask, Feed, Free, Get, Move, Record, RefuseSet, Reset, Set, Start};
 use crate::instance::{POISON, assert_rows, record};
 use alg_fir::Fir;
-use ialg::{BLOCK_SAMPLES, Block, Filter, Ialg};
+use ialg::{BLOCK_SAMPLES, Block, Filter};
 use mem_rec::{Attr, Space, TABLE_RECORDS};
 
 /// The bases of the object, the kept words and the ring.
@@ -105,17 +103,6 @@ fn one_more_sample_changes_two_words_of_the_ring(rt: HostRuntime) {
 #[test]
 fn a_block_around_the_rings_end_shifts_no_past_sample(rt: HostRuntime) {
     assert!(rt; [600, 601].contains(&changes_by(&[-7; 600])));
-}
-
-#[test]
-fn parameters_are_one_to_sixty_four(rt: HostRuntime) {
-    assert_rows(
-        &rt,
-        Fir,
-        BASES,
-        &[Refuse(&[]), Grant(&[1; 64]), Refuse(&[1; 65])],
-    );
-    assert!(rt; Fir.alg_num_alloc() == 3);
 }
 
 #[test]

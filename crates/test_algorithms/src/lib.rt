@@ -1,5 +1,5 @@
 // SPDX-License-Identifier: Apache-2.0
-//! For tests: the operators, the eight kinds and their sets by numbers.
+//! For tests: the operators and the eight kinds by numbers.
 #![tactic(auto)]
 
 #[cfg(test)]
@@ -15,8 +15,6 @@ mod fir;
 #[cfg(test)]
 mod gains;
 #[cfg(test)]
-mod gateway;
-#[cfg(test)]
 mod instance;
 #[cfg(test)]
 mod levels;
@@ -26,5 +24,3 @@ mod operators;
 mod pairs;
 #[cfg(test)]
 mod tone;
-#[cfg(test)]
-mod voices;

@@ -1,8 +1,7 @@
 //! The worked rows of the tone detector.
-use crate::instance::Row::{Ask, Feed, Get, Grant, Refuse, RefuseSet, Reset, Set, Start};
+use crate::instance::Row::{Ask, Feed, Get, Reset, Set, Start};
 use crate::instance::{assert_rows, record};
-use alg_tone::{PARAMETERS, Tone, tone_rows};
-use ialg::{Filter, Ialg};
+use alg_tone::{PARAMETERS, Tone};
 use mem_rec::{Attr, Space, TABLE_RECORDS};
 
 /// The bases of the object, the kept words and the running words.
@@ -130,45 +129,6 @@ fn get_counts_the_samples_of_the_frame(rt: HostRuntime) {
 }
 
 #[test]
-fn controls_that_are_taken(rt: HostRuntime) {
-    assert_rows(
-        &rt,
-        Tone,
-        BASES,
-        &[
-            Start(&FOURS),
-            RefuseSet(&[]),
-            RefuseSet(&[1, 2]),
-            Set(&[16384]),
-            Reset,
-            Get(&[0]),
-        ],
-    );
-}
-
-#[test]
-fn parameters_are_three_in_their_ranges(rt: HostRuntime) {
-    tone_rows();
-    assert_rows(
-        &rt,
-        Tone,
-        BASES,
-        &[
-            Refuse(&[0, 0, 0]),
-            Refuse(&[0, 1025, 0]),
-            Refuse(&[0, -1, 0]),
-            Refuse(&[0, 1, -1]),
-            Refuse(&[0, 1, 16]),
-            Grant(&[32767, 1, 0]),
-            Grant(&[-32768, 1024, 0]),
-            Grant(&[0, 1, 15]),
-            Refuse(&[0, 1]),
-            Refuse(&[0, 1, 0, 0]),
-        ],
-    );
-}
-
-#[test]
 fn the_table_by_its_numbers(rt: HostRuntime) {
     let records = [
         record(4, 4, Space::External, Attr::Persist),
@@ -176,5 +136,4 @@ fn the_table_by_its_numbers(rt: HostRuntime) {
         record(3, 4, Space::Daram, Attr::Scratch),
     ];
     assert_rows(&rt, Tone, BASES, &[Ask(&FOURS, &records)]);
-    assert!(rt; Tone.alg_num_alloc() == 3 && Tone::KIND == 4);
 }
