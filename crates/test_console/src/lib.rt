@@ -3,10 +3,6 @@
 #![tactic(auto)]
 
 #[cfg(test)]
-mod agreement;
-#[cfg(test)]
-mod beside;
-#[cfg(test)]
 mod devices;
 #[cfg(test)]
 mod engine;
