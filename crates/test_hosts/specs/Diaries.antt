@@ -1,9 +1,8 @@
 -- An algorithm that keeps no law: what it means is never asked.
 use Rattle.std.specs.Prelude.{true, false, [], None}
 use Rattle.ialg.specs.Meaning.{Meaning}
-use Rattle.test_hosts.specs.declared.diary.Diary.{Diary}
 
-abbrev pub diary_meaning : Meaning Diary
+abbrev pub diary_meaning : {Diary : Type 0} → Meaning Diary
 diary_meaning = record {
   same = λ a b. true;
   table = λ _ p. None;
