@@ -1,5 +1,5 @@
 // SPDX-License-Identifier: Apache-2.0
-//! For tests: records and loans, raw words, heaps and scratch groups, and a kind that is lawful under one poison word alone.
+//! For tests: records and loans, raw words, heaps, spaces and scratch groups, and a kind that is lawful under one poison word alone.
 #![tactic(auto)]
 
 #[cfg(test)]
@@ -12,5 +12,7 @@ mod lending;
 mod primed;
 #[cfg(test)]
 mod regions;
+#[cfg(test)]
+mod spaces;
 #[cfg(test)]
 mod tables;
