@@ -1,16 +1,14 @@
 //! Runs over devices that fail, and how runs end.
 use crate::engine::FULL;
+use crate::ports::NEVER;
+use crate::shaky::{HELD_OCTETS, Shaky};
 use arrayvec::ArrayVec;
 use dsp_console::{Config, Fault, Summary, outcome, run};
 use octet_ports::{PortIn, PortOut, Reading, Writing};
 use std::alloc::{AllocError, Global};
 use std::process::Abort;
 use std::test::Fail;
-use test_doubles::{HELD_OCTETS, Shaky};
 use voice_set::Voice;
-
-/// A device of this fuse doesn't fail.
-const NEVER: u64 = u64::MAX;
 
 /// The calls of the four devices that fail, each counted from 0.
 #[derive(Clone, Copy)]

@@ -1,14 +1,12 @@
 //! Each call of each device fails in turn: the ports together hold the first octets of what the script writes. The script comes in pieces:
 //! they hold all of it.
+use crate::ports::NEVER;
 use crate::scripts::{A_SLIDE, BY_TURNS, ONE_FEED, PORTS, Port, REFUSED_LINES, Row};
 use dsp_console::{Config, Fault, Summary, run};
 use octet_ports::{TapeIn, TapeOut};
 use std::process::Abort;
 use std::test::Fail;
 use voice_set::Voice;
-
-/// A tape of this fuse doesn't fail.
-const NEVER: u64 = u64::MAX;
 
 /// More octets than a tape is asked for at a time.
 const WIDE: u32 = 4096;
@@ -214,6 +212,27 @@ fn refused_lines_over_ports_that_break(rt: HostRuntime) -> Result<(), Fail> {
 #[test]
 fn a_slide_over_ports_that_break(rt: HostRuntime) -> Result<(), Fail> {
     every_call_breaks(&rt, &A_SLIDE)
+}
+
+fn lines(octets: &[u8]) -> usize {
+    octets.iter().filter(|octet| **octet == b'\n').count()
+}
+
+// Each call gives one octet: a line is answered where its end came before the call that fails, and only there.
+#[test]
+fn what_came_before_a_failed_read_is_answered(rt: HostRuntime) -> Result<(), Fail> {
+    let script = BY_TURNS.script;
+    for call in 0..script.len() {
+        let broken = Broken {
+            port: Port::Script,
+            call: call as u64,
+        };
+        let ran = run_over(&rt, &BY_TURNS, 1, 1, broken)?;
+        let held = ran.held();
+        assert!(rt; ran.ended == Err(Fault::Read) && are_first(BY_TURNS.written, held));
+        assert!(rt; lines(held.replies) == lines(&script[..call]));
+    }
+    Ok(())
 }
 
 // One call gives all of it, a second one tells that it has ended, and there is no third.

@@ -1,4 +1,5 @@
 //! What reaches devices that fail, and in which order.
+use crate::shaky::Shaky;
 use octet_ports::{
     Journal, JournalOutput, JournalReplies, Marks, Passing, PortOut, pass_on_all, write_octets,
 };
@@ -7,7 +8,6 @@ use std::io;
 use std::io::{ErrorKind, Write};
 use std::process::Abort;
 use std::test::Fail;
-use test_doubles::Shaky;
 
 /// More than a test writes.
 const WIDE: usize = 1_000_000;

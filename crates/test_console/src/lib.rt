@@ -18,3 +18,5 @@ mod lines;
 mod ports;
 #[cfg(test)]
 mod scripts;
+#[cfg(test)]
+mod shaky;

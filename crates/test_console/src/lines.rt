@@ -1,9 +1,8 @@
 //! Lines that come in whatever pieces, up to the limit, over two buffers and past one.
+use crate::ports::NEVER;
 use octet_buffer::Buffer;
 use octet_ports::{BUFFER_OCTETS, LINE_FEED, LineFault, LineReader, PortIn, ReadLine, TapeIn};
 use std::process::Abort;
-
-const NEVER: u64 = u64::MAX;
 
 /// A script: how many of its octets a call gives at most, the call that fails, and how many octets of it may come.
 #[derive(Clone, Copy)]

@@ -1,13 +1,14 @@
 //! A tape that is full, and devices that fail or don't: std has no word for when a device fails.
+use crate::shaky::{HELD_OCTETS, Shaky};
 use octet_ports::{
     PortFault, PortIn, PortOut, Reading, TAPE_OCTETS, TapeIn, TapeOut, Writing, read_octets,
     write_octets,
 };
 use std::alloc::{AllocError, Global};
 use std::test::Fail;
-use test_doubles::{HELD_OCTETS, Shaky};
 
-const NEVER: u64 = u64::MAX;
+/// A tape or a device of this fuse doesn't fail.
+pub(crate) const NEVER: u64 = u64::MAX;
 
 /// As many octets as a device takes or gives at a time.
 const WIDE: usize = 512;

@@ -9,7 +9,7 @@ use Rattle.ialg.specs.History.{History, Ctl, Set, Reset, Get, IsWordHistory}
 use Rattle.ialg.specs.Meaning.{Meaning}
 use Rattle.ialg.specs.Records.{words_of, HoldFill}
 use Rattle.ialg.specs.Objects.{Names, object_memory}
-use Rattle.test_doubles.specs.declared.TheConstants.{ONCE, PRIMED, SCRATCH, PRIMED_KIND, PRIMED_PARAMETERS}
+use Rattle.test_doubles.specs.declared.TheConstants.{ONCE, PRIMED, PRIMED_SCRATCH, PRIMED_KIND, PRIMED_PARAMETERS}
 use Rattle.test_doubles.specs.declared.primed.Primed.{Primed}
 
 -- the object, a word that is written once, a word that is never written, and a scratch word
@@ -57,4 +57,4 @@ pub record KeepsWords (p : List ℤ) (rs : List MemRec) (wss : List (List ℤ)) 
 -- the scratch word of an active instance is the poison word too
 pub record KeepsActive (p : List ℤ) (rs : List MemRec) (wss : List (List ℤ)) (h : History) : Type 0 where
   pub idle : KeepsWords p rs wss h
-  pub scratch : words_of wss SCRATCH ≡ take 1 p
+  pub scratch : words_of wss PRIMED_SCRATCH ≡ take 1 p

@@ -9,7 +9,7 @@ use Rattle.ialg.specs.Objects.{object_memory}
 use Rattle.voice_set.specs.declared.voice.Voice.{Voice}
 use Rattle.kind_parts.specs.declared.either.Or.{Or}
 use Rattle.kind_parts.specs.Either.{told}
-use Rattle.test_doubles.specs.declared.rogues.TheConstants.{KEPT_WORDS, SCRATCH_WORDS, SCRATCH_ALIGNMENT}
+use Rattle.test_doubles.specs.declared.rogue_records.TheConstants.{KEPT_WORDS, SCRATCH_WORDS, SCRATCH_ALIGNMENT}
 use Rattle.test_doubles.specs.declared.rogue.Rogue.{Rogue}
 use Rattle.test_doubles.specs.declared.rogue.Rogue.TheVariants.{Scribble, Clinger, Forger, Babbler}
 use Rattle.test_doubles.specs.declared.scribbler.Scribbler.{Scribbler}

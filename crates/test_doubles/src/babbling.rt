@@ -6,7 +6,7 @@ ghost use Rattle.ialg.specs.History.{word_at};
 ghost use Rattle.ialg.specs.Loans.{SameLoans};
 ghost use Rattle.test_doubles.specs.Writing.{BeginsToCount, CountsABlock, CountsOnFirst, GivesByCount, TellsCount};
 
-use crate::rogues::{KEPT, echo, fill_record, record_of};
+use crate::rogue_records::{KEPT, echo, fill_record, record_of};
 use ialg::{Block, Lent, Record};
 
 /// How many samples are given at the block of this count, which has so many. Over successive counts each number from 0 to all of them

@@ -4,7 +4,7 @@ ghost use Rattle.ialg.specs.declared.TheConstants.{BLOCK_SAMPLES};
 ghost use Rattle.ialg.specs.History.{word_at};
 ghost use Rattle.ialg.specs.Loans.{SameLoans};
 
-use crate::rogues::{SCRATCH, record_of};
+use crate::rogue_records::{SCRATCH, record_of};
 use ialg::{Block, Lent, Record};
 
 /// Gives for each sample what stands in `place`, and then puts the sample there.

@@ -1,7 +1,7 @@
 //! The rogue that puts forged bases into its object, and reads and writes by them.
 ghost use Rattle.ialg.specs.Loans.{SameLoans};
 
-use crate::rogues::{OBJECT, fill_record, record_of};
+use crate::rogue_records::{OBJECT, fill_record, record_of};
 use ialg::Lent;
 use mem_rec::{LEAST_ALIGNMENT, MemTab, Space};
 use relocate::SPACE_WORDS;

@@ -1,6 +1,5 @@
 // SPDX-License-Identifier: Apache-2.0
-//! Doubles for tests: an allocator that counts and refuses, a device that fails, and kinds that meet the premises of laws which no hosted
-//! kind needs.
+//! Doubles for tests: an allocator that counts and refuses, and kinds that meet the premises of laws which no hosted kind needs.
 //!
 //! [`Primed`] is lawful in a host of one poison word alone. [`start_in_poison`] and [`start_with_fill`] start it, and
 //! [`activate_in_poison`] activates it, by the laws of IALG, so that what these laws ask of new records and of scratch words is
@@ -14,19 +13,17 @@
 
 mod babbling;
 mod clinging;
-mod device;
 mod forging;
 mod metered;
 mod primed;
 mod rogue;
-pub mod rogues;
+pub mod rogue_records;
 mod scribbler;
 mod scribbling;
 mod slicer;
 mod starts;
 mod trial;
 
-pub use device::{HELD_OCTETS, Shaky};
 use ialg::OBJECT_WORDS;
 pub use kind_parts::Or;
 pub use metered::Metered;
@@ -53,7 +50,7 @@ pub const ONCE: usize = 1;
 pub const PRIMED: usize = 2;
 
 /// The number of the scratch record.
-pub const SCRATCH: usize = 3;
+pub const PRIMED_SCRATCH: usize = 3;
 
 /// Where the write-once record is placed: right behind the object.
 pub const ONCE_BASE: u16 = OBJECT_WORDS as u16;

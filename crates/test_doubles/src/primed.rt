@@ -9,7 +9,7 @@ ghost use Rattle.ialg.specs.Loans.{lent_words};
 ghost use Rattle.test_doubles.specs.declared.TheConstants.{PRIMED_RECORDS};
 ghost use Rattle.test_doubles.specs.Primed.{KeepsWords, KeepsActive, primed_fill, primed_meaning, primed_records};
 
-use crate::{ONCE, PRIMED, PRIMED_KIND, PRIMED_PARAMETERS, PRIMED_RECORDS, SCRATCH};
+use crate::{ONCE, PRIMED, PRIMED_KIND, PRIMED_PARAMETERS, PRIMED_RECORDS, PRIMED_SCRATCH};
 use ialg::{
     BLOCK_SAMPLES, Block, Ctl, Ialg, Lent, Params, Record, Status, Words, object_record, overwrite,
     place,
@@ -139,7 +139,7 @@ fn kept_words(mem: &Lent<'_>) -> Words
     let Some(primed) = primed else {
         return Words::new();
     };
-    let scratch = mem.read_named(Space::Daram, SCRATCH);
+    let scratch = mem.read_named(Space::Daram, PRIMED_SCRATCH);
     let Some(scratch) = scratch else {
         return Words::new();
     };

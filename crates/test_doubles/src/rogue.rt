@@ -10,7 +10,7 @@ ghost use Rattle.test_doubles.specs.Lawless.{lawless, is_word_history, holds_fil
 use crate::babbling::{babble, begin_to_babble};
 use crate::clinging::cling;
 use crate::forging::{forge, forged_table};
-use crate::rogues::{ROGUE_RECORDS, asked_records, echo};
+use crate::rogue_records::{ROGUE_RECORDS, asked_records, echo};
 use crate::scribbling::scribble;
 use ialg::{Block, Ctl, Ialg, Lent, Named, Params, Status};
 use kind_parts::Or;

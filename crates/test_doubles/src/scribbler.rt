@@ -4,7 +4,7 @@ ghost use Rattle.test_doubles.specs.Rogues.{scribbler_meaning};
 ghost use Rattle.std.proofs.Common.{rules};
 ghost use Rattle.std.specs.Cmp.Rules.{comparing};
 
-use crate::rogues::echo;
+use crate::rogue_records::echo;
 use crate::scribbling::scribble;
 use arrayvec::ArrayVec;
 use ialg::{Block, Ctl, Ialg, Lent, Params, Status, object_record};

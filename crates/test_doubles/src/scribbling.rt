@@ -2,7 +2,7 @@
 ghost use Rattle.ialg.specs.Loans.{SameLoans};
 ghost use Rattle.test_doubles.specs.Writing.{FillsAll};
 
-use crate::rogues::fill_record;
+use crate::rogue_records::fill_record;
 use ialg::Lent;
 
 /// What is written into each word.

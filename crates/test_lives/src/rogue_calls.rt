@@ -4,7 +4,7 @@ ghost use Rattle.std.specs.Prelude.{◌≡◌, [], ⊤};
 use ialg::{Block, Ctl, Ialg, Lending, Lent, Named, Params, Step, lend};
 use mem_rec::{Attr, LEAST_ALIGNMENT, MemRec, MemTab, Space};
 use std::process::Abort;
-use test_doubles::rogues::{
+use test_doubles::rogue_records::{
     KEPT, KEPT_WORDS, OBJECT, SCRATCH, SCRATCH_ALIGNMENT, SCRATCH_WORDS, record_of,
 };
 use test_doubles::{Mixed, Or, Rogue};

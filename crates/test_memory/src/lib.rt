@@ -13,6 +13,8 @@ mod primed;
 #[cfg(test)]
 mod regions;
 #[cfg(test)]
+mod short_loans;
+#[cfg(test)]
 mod spaces;
 #[cfg(test)]
 mod tables;

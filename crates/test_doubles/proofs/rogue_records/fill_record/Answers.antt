@@ -7,7 +7,7 @@ use Rattle.ialg.specs.Loans.{lent_words}
 use Rattle.ialg.specs.Records.{words_of}
 use Rattle.ialg.proofs.Finding.{same_record}
 use Rattle.test_doubles.proofs.Writing.{loan_words, still_filled}
-use Rattle.test_doubles.proofs.rogues.fill_record.Goals as goal
+use Rattle.test_doubles.proofs.rogue_records.fill_record.Goals as goal
 
 pub returns-clause-filled : goal.returns-clause-filled
 returns-clause-filled c k may apart =

@@ -1,4 +1,4 @@
-//! A device for tests, which fails at a call of a given number. No clause of a reader or a writer says when it fails: that is
+//! A device that fails at a call of a given number. No clause of a reader or a writer says when it fails: that is
 //! shown by the tests that use it.
 
 ghost use Rattle.std.specs.Prelude.{◌≡◌, ◌==◌, []};
@@ -9,11 +9,11 @@ use std::io;
 use std::io::{ErrorKind, Read, Write};
 
 /// How many of the octets that were written a device holds: the first ones.
-pub const HELD_OCTETS: usize = 2_048;
+pub(crate) const HELD_OCTETS: usize = 2_048;
 
 /// A reader and a writer of so many octets a call. The call of the number `fuse`, from 0, is interrupted, and the next would go on.
 #[derive(Drop)]
-pub struct Shaky<'a> {
+pub(crate) struct Shaky<'a> {
     /// What there is to read yet.
     pub rest: &'a [u8],
     /// The most octets of a call.
