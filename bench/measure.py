@@ -117,16 +117,37 @@ def least_by_turns(calls: Sequence[Call], runs: int) -> list[float]:
     return least
 
 
-def instructions(words: Sequence[str | Path], folder: Path) -> int:
-    """The instructions of a run by callgrind, which work beside it doesn't touch. The end with what the program said, if it failed."""
-    call = ["valgrind", "--tool=callgrind", "--callgrind-out-file=/dev/null", *(str(word) for word in words)]
+def under_valgrind(tool: Sequence[str], words: Sequence[str | Path], folder: Path) -> str:
+    """What valgrind says of a run by this tool of it. The end with what the program said, if it failed."""
+    call = ["valgrind", *tool, *(str(word) for word in words)]
     ran = subprocess.run(call, cwd=folder, stdin=subprocess.DEVNULL, capture_output=True, text=True, errors="replace")
-    told = re.search(r"Collected : (\d+)", ran.stderr)
-    if not told:
-        sys.exit(f"{words[0]}: valgrind counted nothing: {ran.stderr[-500:]}")
     if ran.returncode > 1:
         sys.exit(f"{words[0]}: status {ran.returncode}: {ran.stderr[-500:]}")
-    return int(told[1])
+    return ran.stderr
+
+
+def number_behind(label: str, told: str) -> int:
+    """The number that stands behind a label in what valgrind says."""
+    found = re.search(label + r":? +([\d,]+)", told)
+    if not found:
+        sys.exit(f"valgrind counted nothing: {told[-500:]}")
+    return int(found[1].replace(",", ""))
+
+
+def instructions(words: Sequence[str | Path], folder: Path) -> int:
+    """The instructions of a run by callgrind, which work beside it doesn't touch."""
+    return number_behind("Collected :", under_valgrind(("--tool=callgrind", "--callgrind-out-file=/dev/null"), words, folder))
+
+
+# First caches of 32 KB each, in eight ways of lines of 64 octets, as most processors have them.
+CACHES = ("--I1=32768,8,64", "--D1=32768,8,64")
+MISSED = ("I1 +misses", "D1 +misses", "Mispredicts")
+
+
+def misses(words: Sequence[str | Path], folder: Path) -> tuple[int, ...]:
+    """What a run misses by cachegrind, which work beside it doesn't touch: in the first caches of instructions and of data, and of branches."""
+    told = under_valgrind(("--tool=cachegrind", "--cachegrind-out-file=/dev/null", "--cache-sim=yes", "--branch-sim=yes", *CACHES), words, folder)
+    return tuple(number_behind(label, told) for label in MISSED)
 
 
 # ---- tables

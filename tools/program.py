@@ -47,8 +47,8 @@ YIELDS = "10"
 # How long the lines of a run that was ended are waited for.
 READER_SECONDS = 5
 # Seconds of one processor: for each crate, and for each line of it. They only make the first estimate of the minutes.
-CRATE_SECONDS = 11.0
-LINE_SECONDS = 0.034
+CRATE_SECONDS = 8.0
+LINE_SECONDS = 0.025
 
 
 class CantBuild(Exception):

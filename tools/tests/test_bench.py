@@ -75,6 +75,12 @@ class Tables(unittest.TestCase):
     def test_a_table(self) -> None:
         self.assertEqual(measure.table(["a", "b"], [["1", "2"]]), "| a | b |\n|---|---|\n| 1 | 2 |\n")
 
+    def test_what_valgrind_says_is_read(self) -> None:
+        told = "==7== I1  misses:      1,146,433\n==7== D1  misses:  563,867  (  397,109 rd   +  166,758 wr)\n==7== Mispredicts:  2,793 (9 cond)\n"
+        self.assertEqual([measure.number_behind(label, told) for label in measure.MISSED], [1146433, 563867, 2793])
+        self.assertEqual(measure.number_behind("Collected :", "==7== Collected : 880788\n"), 880788)
+        self.assertRaises(SystemExit, measure.number_behind, "Collected :", told)
+
     def test_a_ratio_is_what_the_other_takes(self) -> None:
         self.assertEqual((measure.ratio(5, 2), measure.ratio(1, 3), measure.ratio(1, 0)), ("2.5", "0.333", "-"))
 
@@ -97,7 +103,7 @@ class Tables(unittest.TestCase):
 
     def test_the_page_has_marks_for_each_table(self) -> None:
         page = measure.PAGE.read_text(encoding="utf-8")
-        for name in ("loads, seconds", "loads, instructions", "peers", "peers, samples that differ", "by block", "by width", "by width, in time", "growth"):
+        for name in ("loads, seconds", "loads, instructions", "loads, misses", "peers", "peers, samples that differ", "by block", "by width", "by width, in time", "growth"):
             self.assertEqual(page.count(f"<!-- table: {name} -->\n"), 1, name)
 
     def test_the_commands_say_how_they_are_used(self) -> None:
