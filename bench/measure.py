@@ -118,7 +118,7 @@ def least_by_turns(calls: Sequence[Call], runs: int) -> list[float]:
 
 
 def under_valgrind(tool: Sequence[str], words: Sequence[str | Path], folder: Path) -> str:
-    """What valgrind says of a run by this tool of it. The end with what the program said, if it failed."""
+    """What this tool of valgrind says of a run. Where the program failed, the end with what it said."""
     call = ["valgrind", *tool, *(str(word) for word in words)]
     ran = subprocess.run(call, cwd=folder, stdin=subprocess.DEVNULL, capture_output=True, text=True, errors="replace")
     if ran.returncode > 1:

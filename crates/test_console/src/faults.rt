@@ -214,15 +214,16 @@ fn a_slide_over_ports_that_break(rt: HostRuntime) -> Result<(), Fail> {
     every_call_breaks(&rt, &A_SLIDE)
 }
 
-fn lines(octets: &[u8]) -> usize {
+fn line_feeds(octets: &[u8]) -> usize {
     octets.iter().filter(|octet| **octet == b'\n').count()
 }
 
-// Each call gives one octet: a line is answered where its end came before the call that fails, and only there.
+// Each call gives one octet, and the one behind them tells the end: a line is answered where its end came before the call that fails, and
+// only there.
 #[test]
 fn what_came_before_a_failed_read_is_answered(rt: HostRuntime) -> Result<(), Fail> {
     let script = BY_TURNS.script;
-    for call in 0..script.len() {
+    for call in 0..=script.len() {
         let broken = Broken {
             port: Port::Script,
             call: call as u64,
@@ -230,7 +231,7 @@ fn what_came_before_a_failed_read_is_answered(rt: HostRuntime) -> Result<(), Fai
         let ran = run_over(&rt, &BY_TURNS, 1, 1, broken)?;
         let held = ran.held();
         assert!(rt; ran.ended == Err(Fault::Read) && are_first(BY_TURNS.written, held));
-        assert!(rt; lines(held.replies) == lines(&script[..call]));
+        assert!(rt; line_feeds(held.replies) == line_feeds(&script[..call]));
     }
     Ok(())
 }
