@@ -1,6 +1,6 @@
 -- A block goes on with the decimator's equation.
 use Rattle.std.proofs.Common.{◌≡◌, ℕ, zero, suc, ℤ, pos, negsuc, ◌+◌, ◌-◌, ◌*◌, ◌/◌, ◌%◌, ◌<◌, ◌≤◌, ◌==◌, ◌&&◌, nat_le, int_le, inl, inr, Bool, true, false, IsTrue, List, [], ◌∷◌, ◌++◌, length, take, unsigned_abs, refl, sym, ap, ◌∙◌, arith, append_assoc, append-nil}
-use Rattle.std.proofs.lemmas.Bool.{cases_eq}
+use Rattle.std.proofs.lemmas.Bool.{cases_eq, and_parts}
 use Rattle.std.proofs.lemmas.Bool.Decides.{nat_tests}
 use Rattle.std.proofs.lemmas.Nat.{mod_below, le-div}
 use Rattle.std.proofs.Math.Nat.{suc-mod, mod-eq_of_lt, div-eq_of_lt, div-eq_of_eq-mul_left, div-add-mod, div-mul-le_self, add-mul-div_left}
@@ -28,10 +28,6 @@ pub record IsTaken (p : List ℤ) : Type 0 where
   pub most : factor p ≤ 16
   pub word : word_at p 0 ≡ pos (factor p)
 
-both : (a b : Bool) → (a && b) ≡ true → (a ≡ true) × (b ≡ true)
-both true b e = (refl, e)
-both false b e = cc
-
 pub record IsFactor (z : ℤ) : Type 0 where
   pub least : 1 ≤ unsigned_abs z
   pub most : unsigned_abs z ≤ 16
@@ -48,7 +44,7 @@ sizes_are n e = grind (arith, nat_tests)
 
 pub is_taken : (p : List ℤ) → IsTrue (decim_takes p) → IsTaken p
 is_taken p t =
-    let g = both (nat_le 2 (length p) && nat_le (taps_of p) MOST_COEFFICIENTS) (int_le (pos 1) (word_at p 0) && int_le (word_at p 0) MOST_FACTOR) t in
+    let g = and_parts (nat_le 2 (length p) && nat_le (taps_of p) MOST_COEFFICIENTS) (int_le (pos 1) (word_at p 0) && int_le (word_at p 0) MOST_FACTOR) t in
     let s = sizes_are (length p) g.0 in
     let long = s.0 in
     let f = factor_is (word_at p 0) g.1 in

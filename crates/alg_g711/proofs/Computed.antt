@@ -1,5 +1,6 @@
 -- What was computed for all codes.
 use Rattle.std.proofs.Common.{◌≡◌, ◌≢◌, ℕ, ◌+◌, ◌-◌, ◌*◌, ◌/◌, ◌%◌, ◌^◌, ◌<◌, ◌≤◌, Bool, true, false, ◌==◌, ◌&&◌, ◌||◌, nat_le, ℤ, ◌<ℤ◌, pos, int_lt, refl, arith}
+use Rattle.std.proofs.lemmas.Bool.{and_parts}
 use Rattle.std.specs.List.{list_all, range_with_len}
 use Rattle.std.proofs.lemmas.Int.{ints}
 use Rattle.std.proofs.lemmas.Bool.Decides.{nat_tests}
@@ -10,7 +11,7 @@ use Rattle.alg_g711.specs.Companding.{turned, encoded, decoded, interval_of, sam
 use Rattle.alg_g711.specs.Steps.{width_of}
 use Rattle.alg_g711.specs.declared.tables.TheConstants.{A_SAMPLES, MU_SAMPLES}
 use Rattle.alg_g711.specs.Intervals.{IsMonotone, CodesComeBack}
-use Rattle.alg_g711.proofs.Dividing.{both, all_in}
+use Rattle.alg_g711.proofs.Dividing.{all_in}
 
 same : (a b : ℕ) → (a == b) ≡ true → a ≡ b
 same a b e = grind (arith, nat_tests)
@@ -92,7 +93,7 @@ monotone law low high less b =
     let higher = decoded law (128 + turned law high) in
     let down = decoded law (turned law low) in
     let lower = decoded law (turned law high) in
-    let parts = both (int_lt up higher) (int_lt lower down) (one_rises law low high less b) in
+    let parts = and_parts (int_lt up higher) (int_lt lower down) (one_rises law low high less b) in
     record { positive = below up higher parts.0; negative = below lower down parts.1 }
 
 -- ---- middles
@@ -136,7 +137,7 @@ pub middle : (law : Law) (number : ℕ) → number < INTERVALS → HasMiddle law
 unfolding has_middle
 middle law number b =
     let e = all_in (has_middle law) 0 INTERVALS (all_have_middles law) number (omega arith) (omega arith) in
-    let parts = both (nat_le (sample_of law (middle_of law number)) 32767) (nat_le 33 (lower_end Mu number + width_of Mu number / 2)) e in
+    let parts = and_parts (nat_le (sample_of law (middle_of law number)) 32767) (nat_le 33 (lower_end Mu number + width_of Mu number / 2)) e in
     record { fits = at_most (sample_of law (middle_of law number)) 32767 parts.0; biased = at_most 33 (lower_end Mu number + width_of Mu number / 2) parts.1 }
 
 -- ---- the tables

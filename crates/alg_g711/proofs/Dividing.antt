@@ -2,7 +2,7 @@
 use Rattle.std.proofs.Common.{◌≡◌, ℕ, zero, suc, ◌+◌, ◌-◌, ◌*◌, ◌/◌, ◌%◌, ◌<◌, ◌≤◌, Bool, true, false, ◌&&◌, ◌==◌, nat_le, nat_lt, Some, find, unwrap_or, inl, inr, refl, ap, sym, ◌∙◌, subst, arith}
 use Rattle.std.specs.List.{list_all, range_with_len}
 use Rattle.std.proofs.lemmas.Nat.{div-mul-add, mod-mul-add}
-use Rattle.std.proofs.lemmas.Bool.{cases_eq, cases_lt}
+use Rattle.std.proofs.lemmas.Bool.{cases_eq, cases_lt, and_parts}
 use Rattle.std.proofs.lemmas.Bool.Decides.{nat_tests}
 use Rattle.alg_g711.specs.declared.TheConstants.{INTERVALS}
 use Rattle.alg_g711.specs.declared.companding.Law.{Law}
@@ -10,16 +10,12 @@ use Rattle.alg_g711.specs.declared.companding.Law.TheVariants.{A, Mu}
 use Rattle.alg_g711.specs.Companding.{step_start, lower_end, holds, interval_of, middle_of}
 use Rattle.alg_g711.specs.Steps.{step_width, width_of}
 
-pub both : (a b : Bool) → (a && b) ≡ true → (a ≡ true) × (b ≡ true)
-both true b e = (refl, e)
-both false b e = cc
-
 -- what was computed for each number of a range
 pub all_in : (p : ℕ → Bool) (first count : ℕ) → list_all p (range_with_len first count) ≡ true
     → (k : ℕ) → first ≤ k → k < first + count → p k ≡ true
 all_in p first zero e k low high = absurd (omega arith)
 all_in p first (suc count) e k low high =
-    let parts = both (p first) (list_all p (range_with_len (first + 1) count)) e in
+    let parts = and_parts (p first) (list_all p (range_with_len (first + 1) count)) e in
     elim (cases_eq first k) [
       | inl same ↦ subst (λ n. p n ≡ true) same parts.0
       | inr other ↦ all_in p (first + 1) count parts.1 k (omega arith) (omega arith)
@@ -67,7 +63,7 @@ in_order law j (suc n) b =
 
 pub bounds : (law : Law) (y k : ℕ) → holds law y k ≡ true → (lower_end law k ≤ y) × (y < lower_end law (k + 1))
 bounds law y k e =
-    let parts = both (nat_le (lower_end law k) y) (nat_lt y (lower_end law (k + 1))) e in
+    let parts = and_parts (nat_le (lower_end law k) y) (nat_lt y (lower_end law (k + 1))) e in
     (grind (arith, nat_tests, parts.0), grind (arith, nat_tests, parts.1))
 
 pub holds_between : (law : Law) (y k : ℕ) → lower_end law k ≤ y → y < lower_end law (k + 1) → holds law y k ≡ true

@@ -2,11 +2,12 @@
 //! Gains for 16-bit samples, as algorithms.
 #![tactic(auto)]
 
-ghost use Rattle.std.specs.Prelude.{codes};
+ghost use Rattle.std.specs.Prelude.{◌≡◌, codes};
+ghost use Rattle.basic_op.specs.Operators.{l_shl_of};
 ghost use Rattle.alg_gain.specs.declared.TheConstants.{GAIN_KIND};
-ghost use Rattle.alg_gain.specs.Equation.{is_factor, amplified};
+ghost use Rattle.alg_gain.specs.Equation.{is_factor, amplified, factor_shift};
 
-use basic_op::{l_mult, l_shl, round};
+use basic_op::{l_mult, round};
 use kind_parts::{Mapped, Mapping};
 
 /// The parameters of a gain: its factor.
@@ -14,6 +15,15 @@ pub const PARAMETERS: usize = 1;
 
 /// The bits by which the product of a factor in Q12 and a sample in Q15, which is in Q28 when it is doubled, goes to Q31.
 pub const FACTOR_SHIFT: i16 = 3;
+
+/// 2 to the [`FACTOR_SHIFT`].
+const POWER: i32 = 8;
+
+/// The greatest number that isn't limited when it is shifted so.
+const MOST: i32 = i32::MAX / POWER;
+
+/// The least number that isn't limited.
+const LEAST: i32 = i32::MIN / POWER;
 
 /// The kind word of a gain's instance object.
 pub const GAIN_KIND: i16 = 11;
@@ -46,6 +56,21 @@ impl Mapping for Amplifier {
     }
 
     fn value(words: &[i16], x: i16) -> i16 {
-        round(l_shl(l_mult(words[0], x), FACTOR_SHIFT))
+        round(shifted(l_mult(words[0], x)))
+    }
+}
+
+/// `v` shifted to the left by [`FACTOR_SHIFT`] bits, saturated, as `l_shl` does it. By two comparisons in 32 bits, so that the compiler makes
+/// several samples at once, for which `l_shl` of any count has no short way.
+#[inline(always)]
+fn shifted(v: i32) -> i32
+    ensures { result ≡ l_shl_of v factor_shift }
+{
+    if v > MOST {
+        i32::MAX
+    } else if v < LEAST {
+        i32::MIN
+    } else {
+        v * POWER
     }
 }

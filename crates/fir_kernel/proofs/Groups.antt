@@ -22,8 +22,8 @@ use Rattle.fir_kernel.specs.Watched.{AreBelow, AreWrapped, HaveEvery, IsRoom, St
 use Rattle.fir_kernel.proofs.Sums.{abs_add, product_within, product_sum_within, product_sum-same}
 use Rattle.fir_kernel.proofs.HalfSums.{one_more}
 use Rattle.fir_kernel.proofs.Parts.{part_at}
-use Rattle.fir_kernel.proofs.Lanes.{four, eight, lane, lane_of, onto, four_fit, fits_as, word_bits, take_fits, drop_fits}
-use Rattle.fir_kernel.proofs.HalfLanes.{AreOnto, ontos, ontos_are, one_more_each, halved_as, halved_kept, halves_fit, kept_lanes, compared, compared_is, chosen, masks}
+use Rattle.fir_kernel.proofs.Lanes.{four, eight, lane, lane_of, onto, four_fit, fits_as, word_bits, take_fits, drop_fits, kept_lanes}
+use Rattle.fir_kernel.proofs.HalfLanes.{AreOnto, ontos, ontos_are, one_more_each, halved_as, halved_kept, halves_fit, compared, compared_is, chosen, masks}
 
 -- ---- products that can't take a half sum beyond the limits
 

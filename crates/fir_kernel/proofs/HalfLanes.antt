@@ -21,7 +21,7 @@ use Rattle.fir_kernel.specs.Halves.{AreHalfSums, AreHalves, HasHalves}
 use Rattle.fir_kernel.specs.HalfLanes.{taps_sum, AreWritten, BeginWithSums, HasHalfSums, HaveTaps, IsHalved}
 use Rattle.std.proofs.lemmas.List.{get_or_past}
 use Rattle.fir_kernel.proofs.Parts.{part_at}
-use Rattle.fir_kernel.proofs.Lanes.{take_fits, drop_fits, four, widened, product, added_bits, bits_below, word_bits, four_fit}
+use Rattle.fir_kernel.proofs.Lanes.{take_fits, drop_fits, four, widened, product, added_bits, bits_below, word_bits, four_fit, kept_lanes}
 
 abbrev pub compared : ℕ → ℕ → ℕ
 compared a b = act2 (mask (lt signed)) (s_int w32) (s_int w32) (s_int w32) a b
@@ -61,12 +61,12 @@ between_is : (z : ℤ) → between z ≡ saturate_to_bits 30 z
 between_is (pos n) = grind (arith, ints)
 between_is (negsuc n) = grind (arith, ints)
 
-abbrev limit : ℕ → ℕ
+abbrev pub limit : ℕ → ℕ
 limit n =
     let low = cond (top 31 (compared n 3221225472)) 3221225472 n in
     cond (top 31 (compared low 1073741823)) low 1073741823
 
-limit_is : (z : ℤ) → FitsSigned w32 z → to_z w32 (limit (of_z w32 z)) ≡ saturate_to_bits 30 z
+pub limit_is : (z : ℤ) → FitsSigned w32 z → to_z w32 (limit (of_z w32 z)) ≡ saturate_to_bits 30 z
 limit_is z f = below _ _ (above (of_z w32 z) z (to_z-of_z w32 z f)) ∙ between_is z
 
 -- four lanes, limited
@@ -102,7 +102,7 @@ limits_are xs e =
 
 -- ---- a product goes onto each lane
 
-abbrev onto : ℤ → ℤ → ℤ → ℤ
+abbrev pub onto : ℤ → ℤ → ℤ → ℤ
 onto h c x = to_z w32 ((of_z w32 h + of_z w32 c * of_z w32 (to_z w16 (of_z w16 x)) % 4294967296) % 4294967296)
 
 module _ (h c x : ℤ) (fc : FitsSigned w16 c) (fx : FitsSigned w16 x) (factors : (unsigned_abs c ≤ 32767) ⊎ (unsigned_abs x ≤ 32767)) (small : unsigned_abs h ≤ 2 ^ 30) where
@@ -112,7 +112,7 @@ module _ (h c x : ℤ) (fc : FitsSigned w16 c) (fx : FitsSigned w16 x) (factors 
   fits : FitsSigned w32 (h +ℤ (c *ℤ x))
   fits = fits_signed_from_abs w32 (h +ℤ (c *ℤ x)) (omega (arith, ints, within))
 
-  onto_is : onto h c x ≡ h +ℤ (c *ℤ x)
+  pub onto_is : onto h c x ≡ h +ℤ (c *ℤ x)
   onto_is =
       let fh : FitsSigned w32 h = fits_signed_from_abs w32 h (omega arith) in
       let fp : FitsSigned w32 (c *ℤ x) = fits_signed_from_abs w32 (c *ℤ x) (omega (arith, within)) in
@@ -122,7 +122,7 @@ module _ (h c x : ℤ) (fc : FitsSigned w16 c) (fx : FitsSigned w16 x) (factors 
       (added_bits (of_z w32 h) (of_z w32 c * of_z w32 x % 4294967296) (word_bits h fh) (bits_below _)
       ∙ rw (to_z-of_z w32 h fh, p) (int_wrap_fits w32 (h +ℤ (c *ℤ x)) fits))
 
-  onto_fits : FitsSigned w32 (onto h c x)
+  pub onto_fits : FitsSigned w32 (onto h c x)
   onto_fits = subst (FitsSigned w32) (sym onto_is) fits
 
 -- four lanes
@@ -158,14 +158,9 @@ ontos_are hs c xs lh lx fc fx factors small =
     four_are hs c xs r s t u one two three last (suc (suc (suc zero))) b = last
     four_are hs c xs r s t u one two three last (suc (suc (suc (suc k)))) b = absurd (omega arith)
 
-limit_small : (z : ℤ) → unsigned_abs (saturate_to_bits 30 z) ≤ 2 ^ 30
+pub limit_small : (z : ℤ) → unsigned_abs (saturate_to_bits 30 z) ≤ 2 ^ 30
 limit_small (pos n) = grind (arith, ints)
 limit_small (negsuc n) = grind (arith, ints)
-
--- lanes that were kept as bits
-pub kept_lanes : (xs : List ℤ) → ((k : ℕ) → FitsSigned w32 (word_at xs k)) → map (to_z w32) (map (of_z w32) xs) ≡ xs
-kept_lanes [] f = refl
-kept_lanes (x ∷ xs) f = rw (to_z-of_z w32 x (f 0), kept_lanes xs (λ k. f (suc k))) refl
 
 pub halves_fit : (xs : List ℤ) → AreHalves xs → (k : ℕ) → FitsSigned w32 (word_at xs k)
 halves_fit xs s k = let few = s k in fits_signed_from_abs w32 (word_at xs k) (omega (arith, few))

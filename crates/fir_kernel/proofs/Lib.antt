@@ -1,5 +1,6 @@
 pub mod Bounding
 pub mod Groups
+pub mod HalfEights
 pub mod HalfLanes
 pub mod HalfSums
 pub mod Lanes

@@ -1,4 +1,5 @@
 pub mod Bounded
+pub mod HalfEights
 pub mod HalfLanes
 pub mod Halves
 pub mod Rings

@@ -1,4 +1,4 @@
--- Sums of windows in vectors of four lanes, and rounded: private clauses alone need this.
+-- Sums of windows in vectors of eight lanes and of four, and rounded: private clauses alone need this.
 use Rattle.std.specs.Prelude.{ℕ, ℤ, List, ◌≡◌, ◌<◌, ◌≤◌, ◌+◌, ◌*◌, ◌/◌, ◌^◌, ◌+ℤ◌, length, unsigned_abs, FitsSigned}
 use Rattle.std.specs.Int.{int_wrap, w32}
 use Rattle.basic_op.specs.Halves.{half_of}
@@ -11,6 +11,14 @@ pub record IsSplit (lanes : List ℤ) (sum : ℤ) : Type 0 where
   pub four : length lanes ≡ 4
   pub fit : (k : ℕ) → FitsSigned w32 (word_at lanes k)
   pub total : int_wrap w32 (word_at lanes 0 +ℤ word_at lanes 1 +ℤ word_at lanes 2 +ℤ word_at lanes 3) ≡ int_wrap w32 sum
+
+-- eight lanes, which come to the sum, to 32 bits
+pub record IsSpread (lanes : List ℤ) (sum : ℤ) : Type 0 where
+  pub eight : length lanes ≡ 8
+  pub fit : (k : ℕ) → FitsSigned w32 (word_at lanes k)
+  pub total : int_wrap w32
+      ((word_at lanes 0 +ℤ word_at lanes 1 +ℤ word_at lanes 2 +ℤ word_at lanes 3) +ℤ (word_at lanes 4 +ℤ word_at lanes 5 +ℤ word_at lanes 6 +ℤ word_at lanes 7))
+      ≡ int_wrap w32 sum
 
 -- the sum of the products of n taps with the window that begins at word `from` of the line
 abbrev pub window_sum : List ℤ → List ℤ → ℕ → ℕ → ℤ

@@ -1,4 +1,4 @@
-//! Sums by halves in vector registers: 32 neighbouring outputs side by side, whose sums stay in registers from the first tap to the last.
+//! Sums by halves in vector registers of four lanes, whose sums stay in registers from the first tap to the last.
 ghost use Rattle.std.specs.Prelude.{◌≡◌, ◌<◌, ◌≤◌, ◌+◌, ◌-◌, ◌*◌, ◌%◌, ℕ, ℤ, length, FitsSigned};
 ghost use Rattle.std.specs.Int.{saturate_to_bits, w16, w32};
 ghost use Rattle.basic_op.specs.Operators.{l_mac_of};
@@ -9,9 +9,6 @@ ghost use Rattle.fir_kernel.specs.HalfLanes.{AreWritten, HasHalfSums, HaveTaps, 
 use crate::halves::Half;
 use std::simd::prelude::*;
 
-/// How many sums are made at once, in eight registers.
-pub(crate) const BESIDE: usize = 32;
-
 /// How many sums a vector register has.
 pub(crate) const LANES: usize = 4;
 
@@ -20,52 +17,6 @@ const LEAST_HALF: Half = -(1 << 30);
 
 /// The greatest half of a sum.
 const MOST_HALF: Half = (1 << 30) - 1;
-
-/// Writes the sums of 32 neighbouring outputs by halves, that at sample `first` first, from sum `at` on.
-///
-/// Both taps of a pair are added to a register before the next one: so none is copied.
-#[inline(never)]
-pub(crate) fn sum_beside(
-    coefficients: &[i16],
-    line: &[i16],
-    first: usize,
-    sums: &mut [Half],
-    at: usize,
-)
-    requires samples { (k : ℕ) → FitsSigned w16 (word_at line.now k) }
-    requires products { HaveHalves coefficients.now line.now }
-    requires reach { first + BESIDE + length coefficients.now ≤ length line.now + 1 }
-    requires room { at + BESIDE ≤ length sums.old }
-    requires halves { AreHalves sums.old }
-    ensures { HasHalfSums coefficients.now line.now first at BESIDE sums.old sums.new }
-{
-    let mut a = begin(coefficients, line, first);
-    let mut b = begin(coefficients, line, first + LANES);
-    let mut c = begin(coefficients, line, first + LANES * 2);
-    let mut d = begin(coefficients, line, first + LANES * 3);
-    let mut e = begin(coefficients, line, first + LANES * 4);
-    let mut f = begin(coefficients, line, first + LANES * 5);
-    let mut g = begin(coefficients, line, first + LANES * 6);
-    let mut h = begin(coefficients, line, first + LANES * 7);
-    for pair in 0..coefficients.len() / 2 {
-        a = add_pair(a, coefficients, pair, line, first);
-        b = add_pair(b, coefficients, pair, line, first + LANES);
-        c = add_pair(c, coefficients, pair, line, first + LANES * 2);
-        d = add_pair(d, coefficients, pair, line, first + LANES * 3);
-        e = add_pair(e, coefficients, pair, line, first + LANES * 4);
-        f = add_pair(f, coefficients, pair, line, first + LANES * 5);
-        g = add_pair(g, coefficients, pair, line, first + LANES * 6);
-        h = add_pair(h, coefficients, pair, line, first + LANES * 7);
-    }
-    let second = write(a, sums, at);
-    let third = write(b, sums, second);
-    let fourth = write(c, sums, third);
-    let fifth = write(d, sums, fourth);
-    let sixth = write(e, sums, fifth);
-    let seventh = write(f, sums, sixth);
-    let eighth = write(g, sums, seventh);
-    let _end = write(h, sums, eighth);
-}
 
 /// Writes the sums of four neighbouring outputs by halves, that at sample `first` first, from sum `at` on.
 #[inline(never)]

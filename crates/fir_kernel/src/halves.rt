@@ -12,7 +12,8 @@ ghost use Rattle.fir_kernel.specs.Sums.{AreOutputs, Reaches};
 ghost use Rattle.fir_kernel.specs.Watched.{AreRooms};
 
 use crate::MOST_COEFFICIENTS;
-use crate::half_lanes::{BESIDE, LANES, sum_beside, sum_four};
+use crate::half_eights::{BESIDE, sum_beside};
+use crate::half_lanes::{LANES, sum_four};
 use crate::watched::{GROUP, MOST_GROUPS, SIXTEEN, find_rooms, sum_sixteen};
 use crate::windows::read_words;
 use basic_op::{half_mac, half_round};

@@ -5,6 +5,7 @@
 #![tactic(auto)]
 
 mod bounded;
+mod half_eights;
 mod half_lanes;
 mod halves;
 mod in_order;

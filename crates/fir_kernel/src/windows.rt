@@ -6,21 +6,21 @@ ghost use Rattle.basic_op.specs.Operators.{round_of};
 ghost use Rattle.ialg.specs.History.{word_at};
 ghost use Rattle.fir_kernel.specs.Sums.{Reaches};
 ghost use Rattle.fir_kernel.specs.Halves.{AreHalves};
-ghost use Rattle.fir_kernel.specs.Windows.{window_sum, in_groups, HaveHalfSums, AreRounded, AreRoundedFrom, IsSplit};
+ghost use Rattle.fir_kernel.specs.Windows.{window_sum, in_groups, HaveHalfSums, AreRounded, AreRoundedFrom, IsSplit, IsSpread};
 
 use std::simd::prelude::*;
 
 /// How many outputs are made at once.
 pub(crate) const WINDOWS: usize = 8;
 
-/// How many taps or samples a vector register has.
-const REGISTER: usize = 8;
+/// How many taps or samples a vector has: where the processor's registers have half as many, two of them stand for it.
+const REGISTER: usize = 16;
 
 /// How many registers have the taps of a short filter.
-const FEW_REGISTERS: usize = 4;
+const FEW_REGISTERS: usize = 2;
 
 /// How many registers have the taps of a long one.
-const MOST_REGISTERS: usize = 8;
+const MOST_REGISTERS: usize = 4;
 
 /// The bits by which half of a sum in Q31 is longer than a word in Q15.
 const LONGER_BITS: i32 = 15;
@@ -148,12 +148,21 @@ fn sum_window<const REGISTERS: usize>(taps: &[i16], line: &[i16], from: usize) -
     requires reach { from + length taps.now ≤ length line.now }
     ensures { IsSplit result (window_sum taps.now line.now from (length taps.now)) }
 {
-    let mut sums = i32x4::splat(0);
+    let mut sums = i32x8::splat(0);
     for register in 0..REGISTERS {
         let on = REGISTER * register;
         sums = add_products(sums, &taps[on..on + REGISTER], line, from + on);
     }
-    sums
+    fold(sums)
+}
+
+/// The sums of eight lanes in four.
+#[inline(always)]
+fn fold(sums: i32x8) -> i32x4
+    ensures { (sum : ℤ) → IsSpread sums sum → IsSplit result sum }
+{
+    let low: i32x4 = sums.swizzle([0, 1, 2, 3]);
+    low + sums.swizzle([4, 5, 6, 7])
 }
 
 /// Eight halves of sums in Q31, each rounded to Q15: the compiler makes one instruction of the limits and the cut.
@@ -184,20 +193,20 @@ pub(crate) fn read_words(words: &[i16])
     }
 }
 
-/// Adds the products of eight taps with the samples from word `at` of the line on, two to each lane: the compiler makes one instruction of it.
+/// Adds the products of 16 taps with the samples from word `at` of the line on, two to each lane: the compiler makes one instruction of it, or two.
 #[inline(always)]
-fn add_products(sums: i32x4, taps: &[i16], line: &[i16], at: usize) -> i32x4
+fn add_products(sums: i32x8, taps: &[i16], line: &[i16], at: usize) -> i32x8
     requires words { (k : ℕ) → FitsSigned w16 (word_at taps.now k) }
     requires samples { (k : ℕ) → FitsSigned w16 (word_at line.now k) }
     requires taps { length taps.now ≡ REGISTER }
     requires line { at + REGISTER ≤ length line.now }
-    ensures { (sum : ℤ) → IsSplit sums sum → IsSplit result (sum +ℤ window_sum taps.now line.now at REGISTER) }
+    ensures { (sum : ℤ) → IsSpread sums sum → IsSpread result (sum +ℤ window_sum taps.now line.now at REGISTER) }
 {
-    let taps = i16x8::from_slice(taps).cast::<i32>();
-    let samples = i16x8::from_slice(&line[at..at + REGISTER]).cast::<i32>();
-    let products: i32x8 = taps * samples;
-    let even: i32x4 = products.swizzle([0, 2, 4, 6]);
-    let odd: i32x4 = products.swizzle([1, 3, 5, 7]);
+    let taps = i16x16::from_slice(taps).cast::<i32>();
+    let samples = i16x16::from_slice(&line[at..at + REGISTER]).cast::<i32>();
+    let products: i32x16 = taps * samples;
+    let even: i32x8 = products.swizzle([0, 2, 4, 6, 8, 10, 12, 14]);
+    let odd: i32x8 = products.swizzle([1, 3, 5, 7, 9, 11, 13, 15]);
     sums + (even + odd)
 }
 

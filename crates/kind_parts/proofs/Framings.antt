@@ -1,5 +1,6 @@
 -- A run over a block goes on with the frame.
 use Rattle.std.proofs.Common.{◌≡◌, ℕ, ℤ, suc, pos, ◌+◌, ◌-◌, ◌<◌, ◌&&◌, nat_le, Bool, IsTrue, List, [], ◌∷◌, ◌++◌, length, take, unsigned_abs, Some, replicate, FitsSigned, refl, sym, ap, ◌∙◌, arith, add-one}
+use Rattle.std.proofs.lemmas.Bool.{and_parts}
 use Rattle.std.specs.Int.{w16}
 use Rattle.mem_rec.specs.declared.TheConstants.{LEAST_ALIGNMENT}
 use Rattle.ialg.specs.declared.TheConstants.{PARAMETER_WORDS}
@@ -13,7 +14,7 @@ use Rattle.kind_parts.specs.Frames.{frame_so_far}
 use Rattle.kind_parts.specs.Framings.{frame_length, gives_in_frames, are_parameters, framing_memory, counted, state_after, KeepsParameters, FramesOn}
 use Rattle.kind_parts.proofs.Blocks.{GoesOn, one_goes_on, all_goes_on}
 use Rattle.kind_parts.proofs.Frames.{IsFinished, unfinished_frame, no_samples, frame_goes_on}
-use Rattle.kind_parts.proofs.Parameters.{IsCount, both_hold, count_is}
+use Rattle.kind_parts.proofs.Parameters.{IsCount, count_is}
 
 -- which parameters are taken, and what is asked for then
 pub record IsAsked (words : ℕ) (taken : List ℤ → Bool) (p : List ℤ) (m : FilterMemory) : Type 0 where
@@ -30,7 +31,7 @@ pub length_is : (taken : List ℤ → Bool) (p : List ℤ) → IsTrue (are_param
 length_is taken p e =
     let few = nat_le 1 (length p) && nat_le (length p) PARAMETER_WORDS in
     let b = is_between (pos 1) MOST_FRAME (word_at p 0) in
-    count_is 32767 (word_at p 0) (both_hold few b (both_hold (few && b) (taken p) e).0).1
+    count_is 32767 (word_at p 0) (and_parts few b (and_parts (few && b) (taken p) e).0).1
 
 module _ (state_of : List ℤ → List ℤ → List ℤ) (words : ℕ) (begins : (p : List ℤ) → state_of p [] ≡ replicate words (pos 0)) where
   -- words of 0 are a frame without samples

@@ -4,10 +4,6 @@ use Rattle.std.proofs.lemmas.Bool.Decides.{nat_tests}
 use Rattle.ialg.specs.History.{word_at}
 use Rattle.ialg.specs.Meaning.{is_between}
 
-pub both_hold : (a b : Bool) → (a && b) ≡ true → (a ≡ true) × (b ≡ true)
-both_hold true b e = (refl, e)
-both_hold false b e = cc
-
 -- a word that is a count of at least one and at most m
 pub record IsCount (m : ℕ) (z : ℤ) : Type 0 where
   pub some : 1 ≤ unsigned_abs z
@@ -19,7 +15,3 @@ count_is m (pos n) e =
     let b : (1 ≤ n) × (n ≤ m) = grind (arith, nat_tests, e) in
     record { some = b.0; few = b.1; natural = refl }
 count_is m (negsuc n) e = cc
-
--- a word of a list that another one begins with
-pub word_of_first : (n k : ℕ) (ws p : List ℤ) → k < n → take n ws ≡ p → word_at ws k ≡ word_at p k
-word_of_first n k ws p b e = sym (get_or-take n ws k (pos 0) b) ∙ ap (λ t. word_at t k) e

@@ -18,12 +18,9 @@ pub const MOST_FRAME: i16 = 32_767;
 /// The words that count the samples of a frame.
 const COUNT: usize = 1;
 
-/// The most words of the state of a frame.
-pub const MOST_STATE_WORDS: usize = 1_024;
-
 /// What makes a kind of [`Framed`]: frames of samples, of which the first parameter is the length, and one word that is told of each.
 pub trait Framing: Copy + Eq {
-    ghost use Rattle.kind_parts.specs.declared.framing.TheConstants.{MOST_STATE_WORDS};
+    ghost use Rattle.kind_parts.specs.declared.words.TheConstants.{MOST_STATE_WORDS};
 
     /// The kind word of an instance's object.
     const KIND: i16;

@@ -1,6 +1,8 @@
 //! Kinds that give one word for each sample, by the words in force alone.
-ghost use Rattle.std.specs.Prelude.{◌≡◌, ◌≤◌, ℕ, ℤ, Bool, List, [], length, IsTrue};
-ghost use Rattle.ialg.specs.History.{History};
+ghost use Rattle.std.specs.Prelude.{◌≡◌, ◌≤◌, ◌<◌, ℕ, ℤ, Bool, List, [], length, FitsSigned, IsTrue};
+ghost use Rattle.std.specs.List.{All};
+ghost use Rattle.std.specs.Int.{w16};
+ghost use Rattle.ialg.specs.History.{History, word_at};
 ghost use Rattle.kind_parts.specs.Mappings.{mapping_filter, mapping_named, Maps, MapsOn};
 
 use ialg::{
@@ -134,6 +136,18 @@ impl<K: Mapping> Named for Mapped<K> {
     }
 }
 
+/// Writes what each sample gives.
+fn map_each<K: Mapping>(words: &[i16], input: &[i16], outputs: &mut [i16])
+    requires takes { IsTrue (K.taken words.now) }
+    requires room { length outputs.old ≡ length input.now }
+    ensures values { (k : ℕ) → k < length input.now → word_at outputs.new k ≡ K.value words.now (word_at input.now k) }
+    ensures read { All (FitsSigned w16) input.now }
+{
+    for k in 0..input.len() {
+        outputs[k] = K::value(words, input[k]);
+    }
+}
+
 /// Gives what each sample of a block gives.
 fn map<K: Mapping>(words: &[i16], input: &[i16], out: &mut Block)
     requires takes { IsTrue (K.taken words.now) }
@@ -142,7 +156,7 @@ fn map<K: Mapping>(words: &[i16], input: &[i16], out: &mut Block)
     ensures bounded { length out.new.items ≡ length input.now }
     ensures law { (p : List ℤ) (h : History) → Maps K.taken p h words.now → MapsOn K.taken K.value p h words.now input.now out.new.items }
 {
-    for x in input {
-        out.push(K::value(words, *x));
-    }
+    out.set_len(input.len());
+    let (outputs, _room) = out.room_mut().split_at_mut(input.len());
+    map_each::<K>(words, input, outputs);
 }

@@ -8,6 +8,9 @@ use basic_op::{extract_h, extract_l, l_deposit_h};
 /// The words that keep a sum of 32 bits.
 pub const SUM_WORDS: usize = 2;
 
+/// The most words of a state.
+pub const MOST_STATE_WORDS: usize = 8_192;
+
 /// 2 ^ 16: what the upper of two words counts.
 const UPPER: i32 = 0x1_0000;
 

@@ -43,9 +43,6 @@ held_by-other port other e (x ∷ xs) = rw e (held_by-other port other e xs)
 pub same_number : (c : ℕ) → option_eq nat_eq (Some c) (Some c) ≡ true
 same_number c = grind (arith, nat_tests)
 
-pub other_number : (c d : ℕ) → c ≢ d → option_eq nat_eq (Some c) (Some d) ≡ false
-other_number c d n = grind (arith, nat_tests)
-
 pub writes_none : (outputs : List Sink) (replies : Sink) → Writes [] outputs outputs replies replies
 unfolding held_by
 writes_none outputs replies = record { count = refl; output = λ c h. holds_none _; reply = holds_none _ }
@@ -150,12 +147,6 @@ pub order_waits : {a b : List Sink} {x y : Sink} → AllWait a b x y → InAscen
 order_waits w lower higher less there = inl (w.output higher there)
 
 -- ---- the first of an order
-
-pub first_of_all : {order : List Octet} {a b : List Sink} {x y : Sink} → Writes order a b x y → WritesFirst order a b x y
-first_of_all {order} w = record { first = order; later = []; is_first = grind (arith, common_steps); writes = w }
-
-pub first_none : (order : List Octet) (outputs : List Sink) (replies : Sink) → WritesFirst order outputs outputs replies replies
-first_none order outputs replies = record { first = []; later = order; is_first = refl; writes = writes_none outputs replies }
 
 pub first_more : {order after : List Octet} {a b c : List Sink} {x y z : Sink} → Writes order a b x y → WritesFirst after b c y z → WritesFirst (order ++ after) a c x z
 first_more {order} {after} v w = record {

@@ -24,7 +24,7 @@ use Rattle.channel_spec.specs.Parts.{all_live, lives, on_host, with_members}
 use Rattle.channel_spec.specs.Calls.{Call, Does}
 use Rattle.channel_spec.specs.Calls.Call.{Remove}
 use Rattle.voice_channel.specs.Channels.{ChannelsState, ChannelsCallRefines}
-use Rattle.voice_channel.proofs.Served.{HoldsOn}
+use Rattle.channel_spec.proofs.HoldingLemmas.{call_held}
 
 -- ---- lists
 
@@ -64,7 +64,7 @@ module _ {M : Type 0} (laws : Laws M) where
 
 -- ---- members
 
-module _ {M : Type 0} (laws : Laws M) (law : HoldsOn laws.meaning) where
+module _ {M : Type 0} (laws : Laws M) where
   -- a channel was given members, and the host is as it was
   pub given : (call : Call M) (c : ℕ) (is : List ℕ) (old new : ChannelsState M) → new.host ≡ old.host → new.chained ≡ set old.chained c is
       → ((before : Channels M) → before.chained ≡ old.chained → hosts.HostRefines laws old.host before.host
@@ -77,7 +77,7 @@ module _ {M : Type 0} (laws : Laws M) (law : HoldsOn laws.meaning) where
         record {
           host = subst (λ h. hosts.HostRefines laws h before.host) (sym host) keeps.host;
           chained = ap (λ x. set x c is) keeps.chained ∙ sym chained;
-          held = law before (with_members before c is) call did keeps.held;
+          held = call_held before keeps.held (with_members before c is) laws.meaning call did;
         },
       )
 
@@ -117,7 +117,7 @@ module _ {M : Type 0} (before : Channels M) where
       ∙ ap (λ m. of_tests true m (is_in_channel before.chained i)) (none_of (before.host.living i) living)
       ∙ ap (of_tests true false) busy)
 
-module _ {M : Type 0} (laws : Laws M) (law : HoldsOn laws.meaning) where
+module _ {M : Type 0} (laws : Laws M) where
   pub removed : (i : ℕ) (answer : Result (Unit {0}) Refusal) (old new : HostState M) (chained : List (List ℕ)) (seen : ChannelsState M)
       → record { host = old; chained = chained } ≡ seen → is_in_channel seen.chained i ≡ false
       → hosts.HostCallRefines laws (Delete i answer) old new
@@ -129,4 +129,4 @@ module _ {M : Type 0} (laws : Laws M) (law : HoldsOn laws.meaning) where
       let after : Channels M = record before { host = did.0 } in
       let none : is_in_channel before.chained i ≡ false = ap (λ x. is_in_channel x i) keeps.chained ∙ ap (λ s. is_in_channel s.chained i) e ∙ free in
       let does : Does laws.meaning before (Remove i answer) after = ap (λ o. (o.0, on_host before o.1)) did.1 ∙ sym (free_delete before laws.meaning i none) in
-      (after, does, record { host = did.2; chained = keeps.chained; held = law before after (Remove i answer) does keeps.held }))
+      (after, does, record { host = did.2; chained = keeps.chained; held = call_held before keeps.held after laws.meaning (Remove i answer) does }))

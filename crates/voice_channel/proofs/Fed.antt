@@ -21,7 +21,7 @@ use Rattle.channel_spec.specs.Cuts.{Feeds}
 use Rattle.channel_spec.specs.Calls.Call.{Feed}
 use Rattle.channel_spec.proofs.LivingLemmas.{passes_live}
 use Rattle.voice_channel.specs.Channels.{ChannelsState, PassesThrough, ChannelsCallRefines}
-use Rattle.voice_channel.proofs.Served.{HoldsOn}
+use Rattle.channel_spec.proofs.HoldingLemmas.{call_held}
 use Rattle.std.proofs.lemmas.Bool.Decides.{eqb_tells}
 
 -- ---- lists
@@ -149,30 +149,29 @@ module _ {M : Type 0} (laws : Laws M) where
 
   -- ---- a channel
 
-  module _ (law : HoldsOn laws.meaning) where
-    pub fed : (c : ℕ) (block out : List ℤ) (old new : ChannelsState M) → is_chained (members_at old.chained c) ≡ true → new.chained ≡ old.chained
-        → PassesThrough laws (members_at old.chained c) block out old.host new.host
-        → ChannelsCallRefines laws (Feed c block out) old new
-    fed c block out old new some same through = λ before keeps.
-        let its : members_at before.chained c ≡ members_at old.chained c = ap (λ x. members_at x c) keeps.chained in
-        let live = subst (λ is. all_live before.host is ≡ true) its
-        (all_named (lives before.host) (members_at before.chained c) (keeps.held.live c)) in
-        let end = through before.host keeps.host live in
-        let after : Channels M = on_host before end.0 in
-        let asked = asked_of laws.meaning (members_at before.chained c) before.host end.0 block out
-        (subst (λ is. Passes laws.meaning before.host is block out end.0) (sym its) end.1) in
-        let does : Feeds laws.meaning before c block out after = (ready_of before c (ap is_chained its ∙ some), asked.0, asked.1, asked.2, refl) in
-        (after, does, record { host = end.2; chained = keeps.chained ∙ sym same; held = law before after (Feed c block out) does keeps.held })
+  pub fed : (c : ℕ) (block out : List ℤ) (old new : ChannelsState M) → is_chained (members_at old.chained c) ≡ true → new.chained ≡ old.chained
+      → PassesThrough laws (members_at old.chained c) block out old.host new.host
+      → ChannelsCallRefines laws (Feed c block out) old new
+  fed c block out old new some same through = λ before keeps.
+      let its : members_at before.chained c ≡ members_at old.chained c = ap (λ x. members_at x c) keeps.chained in
+      let live = subst (λ is. all_live before.host is ≡ true) its
+      (all_named (lives before.host) (members_at before.chained c) (keeps.held.live c)) in
+      let end = through before.host keeps.host live in
+      let after : Channels M = on_host before end.0 in
+      let asked = asked_of laws.meaning (members_at before.chained c) before.host end.0 block out
+      (subst (λ is. Passes laws.meaning before.host is block out end.0) (sym its) end.1) in
+      let does : Feeds laws.meaning before c block out after = (ready_of before c (ap is_chained its ∙ some), asked.0, asked.1, asked.2, refl) in
+      (after, does, record { host = end.2; chained = keeps.chained ∙ sym same; held = call_held before keeps.held after laws.meaning (Feed c block out) does })
 
-    -- of a sample: where it was told, and where it was not
-    pub fed_told : (c : ℕ) (x : ℤ) (told : Option ℤ) (old new : ChannelsState M) → is_chained (members_at old.chained c) ≡ true → new.chained ≡ old.chained
-        → IfSome told (λ y. PassesThrough laws (members_at old.chained c) (x ∷ []) (y ∷ []) old.host new.host)
-        → IfSome told (λ y. ChannelsCallRefines laws (Feed c (x ∷ []) (y ∷ [])) old new)
-    fed_told c x None old new some same through = tt
-    fed_told c x (Some y) old new some same through = fed c (x ∷ []) (y ∷ []) old new some same through
+  -- of a sample: where it was told, and where it was not
+  pub fed_told : (c : ℕ) (x : ℤ) (told : Option ℤ) (old new : ChannelsState M) → is_chained (members_at old.chained c) ≡ true → new.chained ≡ old.chained
+      → IfSome told (λ y. PassesThrough laws (members_at old.chained c) (x ∷ []) (y ∷ []) old.host new.host)
+      → IfSome told (λ y. ChannelsCallRefines laws (Feed c (x ∷ []) (y ∷ [])) old new)
+  fed_told c x None old new some same through = tt
+  fed_told c x (Some y) old new some same through = fed c (x ∷ []) (y ∷ []) old new some same through
 
-    pub fed_untold : (c : ℕ) (x : ℤ) (out : List ℤ) (told : Option ℤ) (old new : ChannelsState M) → is_chained (members_at old.chained c) ≡ true → new.chained ≡ old.chained
-        → IfNone told (PassesThrough laws (members_at old.chained c) (x ∷ []) out old.host new.host)
-        → IfNone told (ChannelsCallRefines laws (Feed c (x ∷ []) out) old new)
-    fed_untold c x out None old new some same through = fed c (x ∷ []) out old new some same through
-    fed_untold c x out (Some y) old new some same through = tt
+  pub fed_untold : (c : ℕ) (x : ℤ) (out : List ℤ) (told : Option ℤ) (old new : ChannelsState M) → is_chained (members_at old.chained c) ≡ true → new.chained ≡ old.chained
+      → IfNone told (PassesThrough laws (members_at old.chained c) (x ∷ []) out old.host new.host)
+      → IfNone told (ChannelsCallRefines laws (Feed c (x ∷ []) out) old new)
+  fed_untold c x out None old new some same through = fed c (x ∷ []) out old new some same through
+  fed_untold c x out (Some y) old new some same through = tt

@@ -1,21 +1,19 @@
 -- Calls of the host, as calls of its channels.
-use Rattle.std.proofs.Common.{◌≡◌, ℕ, zero, suc, List, [], replicate, refl, subst}
+use Rattle.std.proofs.Common.{◌≡◌, ℕ, zero, suc, List, [], replicate, refl, ap, sym, ◌∙◌, subst}
+use Rattle.std.proofs.lemmas.Bool.{false≢true}
 use Rattle.ialg.specs.Meaning.{Meaning}
 use Rattle.ialg.specs.Laws.{Laws}
 use Rattle.host_spec.specs.Calls as host_calls
 use Rattle.alg_host.specs.Hosts.{HostState}
 use Rattle.alg_host.specs.Hosts as hosts
-use Rattle.channel_spec.specs.Channels.{Channels, members_at}
+use Rattle.channel_spec.specs.Channels.{Channels, members_at, has_number, has_repeat}
+use Rattle.channel_spec.specs.Laws.{AreHeld}
 use Rattle.channel_spec.specs.Calls.{Call, Does, IsPassedOn}
 use Rattle.channel_spec.specs.Calls.Call.{OfHost}
-use Rattle.channel_spec.specs.Laws.{AreHeld}
+use Rattle.channel_spec.proofs.HoldingLemmas.{call_held}
 use Rattle.voice_channel.specs.Channels.{ChannelsState, ChannelsCallRefines}
 
--- each call leaves channels whose members live
-abbrev pub HoldsOn : {M : Type 0} → Meaning M → Type 0
-HoldsOn {M} meaning = (before after : Channels M) (call : Call M) → Does meaning before call after → AreHeld before → AreHeld after
-
-module _ {M : Type 0} (laws : Laws M) (law : HoldsOn laws.meaning) where
+module _ {M : Type 0} (laws : Laws M) where
   pub passed_on : (call : host_calls.Call M) → IsPassedOn call → (old new : HostState M) (chained : List (List ℕ))
       → hosts.HostCallRefines laws call old new
       → ChannelsCallRefines laws (OfHost call) (record { host = old; chained = chained }) (record { host = new; chained = chained })
@@ -23,7 +21,7 @@ module _ {M : Type 0} (laws : Laws M) (law : HoldsOn laws.meaning) where
       let did = serves before.host keeps.host in
       let after : Channels M = record before { host = did.0 } in
       let does : Does laws.meaning before (OfHost call) after = (on, did.1, refl) in
-      (after, does, record { host = did.2; chained = keeps.chained; held = law before after (OfHost call) does keeps.held })
+      (after, does, record { host = did.2; chained = keeps.chained; held = call_held before keeps.held after laws.meaning (OfHost call) does })
 
   -- the same of channels that are seen so
   pub served : (call : host_calls.Call M) → IsPassedOn call → (old new : HostState M) (chained : List (List ℕ)) (seen : ChannelsState M)
@@ -43,3 +41,11 @@ pub unchained_at : (count c : ℕ) → members_at (replicate count []) c ≡ []
 unchained_at zero c = refl
 unchained_at (suc count) zero = refl
 unchained_at (suc count) (suc c) = unchained_at count c
+
+-- and whatever channels have no members hold them
+pub held_of_none : {M : Type 0} (channels : Channels M) → ((c : ℕ) → members_at channels.chained c ≡ []) → AreHeld channels
+held_of_none channels none = record {
+  live = λ c i has. absurd (false≢true (sym (ap (λ is. has_number is i) (none c)) ∙ has));
+  once = λ c. ap has_repeat (none c);
+  alone = λ c d i one other. absurd (false≢true (sym (ap (λ is. has_number is i) (none c)) ∙ one));
+}

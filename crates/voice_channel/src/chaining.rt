@@ -9,7 +9,6 @@ ghost use Rattle.voice_channel.specs.Channels.{ChannelsCallRefines};
 
 use crate::lists::{are_numbers, is_in_one, kept, names_twice};
 use crate::{Channels, MEMBERS, Members};
-use channel_spec::members_live_in_one_channel;
 use ialg::{Ialg, Refusal};
 use mem_rec::INSTANCES;
 
@@ -81,7 +80,6 @@ impl<M: Ialg> Channels<M> {
         ensures count { length self.new.chained ≡ length self.old.chained }
         ensures machine { ChannelsCallRefines M.law (Chain c members.now result) self.old self.new }
     {
-        members_live_in_one_channel::<M>();
         if let Some(refusal) = self.chaining_refusal(c, members) {
             return Err(refusal);
         }
@@ -100,7 +98,6 @@ impl<M: Ialg> Channels<M> {
         ensures count { length self.new.chained ≡ length self.old.chained }
         ensures machine { ChannelsCallRefines M.law (Unchain c result) self.old self.new }
     {
-        members_live_in_one_channel::<M>();
         if let Some(refusal) = self.refusal(c) {
             return Err(refusal);
         }
@@ -118,7 +115,6 @@ impl<M: Ialg> Channels<M> {
         ensures chained { self.new.chained ≡ self.old.chained }
         ensures machine { ChannelsCallRefines M.law (Remove i result) self.old self.new }
     {
-        members_live_in_one_channel::<M>();
         if i as usize >= INSTANCES {
             return Err(Refusal::Range);
         }

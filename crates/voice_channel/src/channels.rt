@@ -10,7 +10,6 @@ use crate::feeding::Between;
 use crate::{CHANNELS, Members};
 use alg_host::Host;
 use arrayvec::ArrayVec;
-use channel_spec::members_live_in_one_channel;
 use ialg::{Ialg, Refusal};
 use std::marker::Model;
 
@@ -52,7 +51,6 @@ impl<M: Ialg> Channels<M> {
         ensures unchained { result.chained ≡ replicate count [] }
         ensures refines { (state : State M) → hosts.HostRefines M.law host state → ChannelsRefine M.law result (unchained state count) }
     {
-        members_live_in_one_channel::<M>();
         Channels {
             host,
             channels: unchained(count),

@@ -6,7 +6,6 @@ ghost use Rattle.voice_channel.specs.Channels.{PassesThrough, ChannelsCallRefine
 
 use crate::{Channels, Members};
 use alg_host::Host;
-use channel_spec::members_live_in_one_channel;
 use ialg::{BLOCK_SAMPLES, Block, Ialg};
 
 /// What members give one another stands in two blocks by turns. They are made once, since the words of a new block are cleared.
@@ -165,7 +164,6 @@ impl<M: Ialg> Channels<M> {
         ensures told { IfSome result (λ y. ChannelsCallRefines M.law (Feed c (x ∷ []) (y ∷ [])) self.old self.new) }
         ensures machine { IfNone result (ChannelsCallRefines M.law (Feed c (x ∷ []) out.new.items) self.old self.new) }
     {
-        members_live_in_one_channel::<M>();
         match members_of(&self.channels, c) {
             [member] => run_sample(&mut self.host, *member, x, out),
             members => {
@@ -186,7 +184,6 @@ impl<M: Ialg> Channels<M> {
         ensures bounded { length out.new.items ≤ length input.now }
         ensures machine { ChannelsCallRefines M.law (Feed c input.now out.new.items) self.old self.new }
     {
-        members_live_in_one_channel::<M>();
         pass(
             &mut self.host,
             members_of(&self.channels, c),

@@ -10,7 +10,6 @@ ghost use Rattle.voice_channel.specs.Channels.{ChannelsCallRefines};
 
 use crate::Channels;
 use alg_host::Stat;
-use channel_spec::members_live_in_one_channel;
 use host_map::{Map, Placed};
 use ialg::{Ctl, Ialg, Params, Refusal, Status};
 use mem_rec::Space;
@@ -26,7 +25,6 @@ impl<M: Ialg> Channels<M> {
         ensures chained { self.new.chained ≡ self.old.chained }
         ensures machine { ChannelsCallRefines M.law (OfHost (Create i kind group p.now.items result)) self.old self.new }
     {
-        members_live_in_one_channel::<M>();
         self.host.create(i, kind, group, p)
     }
 
@@ -40,7 +38,6 @@ impl<M: Ialg> Channels<M> {
         ensures chained { self.new.chained ≡ self.old.chained }
         ensures machine { ChannelsCallRefines M.law (OfHost (Control i (control_of c.now) (told result))) self.old self.new }
     {
-        members_live_in_one_channel::<M>();
         self.host.control(i, c)
     }
 
@@ -54,7 +51,6 @@ impl<M: Ialg> Channels<M> {
         ensures chained { self.new.chained ≡ self.old.chained }
         ensures machine { ChannelsCallRefines M.law (OfHost (Release group result)) self.old self.new }
     {
-        members_live_in_one_channel::<M>();
         self.host.release(group)
     }
 
@@ -63,7 +59,6 @@ impl<M: Ialg> Channels<M> {
         ensures chained { self.new.chained ≡ self.old.chained }
         ensures machine { ChannelsCallRefines M.law (OfHost (Step space result)) self.old self.new }
     {
-        members_live_in_one_channel::<M>();
         self.host.step(space)
     }
 
@@ -72,7 +67,6 @@ impl<M: Ialg> Channels<M> {
         ensures chained { self.new.chained ≡ self.old.chained }
         ensures machine { ChannelsCallRefines M.law (OfHost (Compact space result)) self.old self.new }
     {
-        members_live_in_one_channel::<M>();
         self.host.compact(space)
     }
 
@@ -84,7 +78,6 @@ impl<M: Ialg> Channels<M> {
     pub fn stat(&self, group: u8) -> Result<Stat, Refusal>
         ensures machine { ChannelsCallRefines M.law (OfHost (StatCall group (stat_told result))) self.now self.now }
     {
-        members_live_in_one_channel::<M>();
         self.host.stat(group)
     }
 
@@ -92,7 +85,6 @@ impl<M: Ialg> Channels<M> {
     pub fn map(&self, space: Space) -> Map
         ensures machine { ChannelsCallRefines M.law (OfHost (MapCall space result.items)) self.now self.now }
     {
-        members_live_in_one_channel::<M>();
         self.host.map(space)
     }
 
@@ -101,7 +93,6 @@ impl<M: Ialg> Channels<M> {
         ensures machine { ChannelsCallRefines M.law (OfHost (MapCall space result.now)) self.now self.now }
         ensures few { length result.now ≤ MAP_BLOCKS }
     {
-        members_live_in_one_channel::<M>();
         self.host.blocks_in(space)
     }
 
@@ -109,7 +100,6 @@ impl<M: Ialg> Channels<M> {
     pub fn copied(&self) -> u64
         ensures machine { ChannelsCallRefines M.law (OfHost (Copied result)) self.now self.now }
     {
-        members_live_in_one_channel::<M>();
         self.host.copied()
     }
 }

@@ -1,4 +1,5 @@
-use Rattle.fir_kernel.proofs.HalfLanes.{halves_fit, kept_lanes, put_lanes}
+use Rattle.fir_kernel.proofs.Lanes.{kept_lanes}
+use Rattle.fir_kernel.proofs.HalfLanes.{halves_fit, put_lanes}
 use Rattle.fir_kernel.proofs.half_lanes.write.Goals as goal
 
 pub returns-clause-written : goal.returns-clause-written

@@ -3,12 +3,12 @@ use Rattle.fir_kernel.proofs.Lanes.{all_widened, take_fits, drop_fits, added_win
 use Rattle.fir_kernel.proofs.windows.add_products.Goals as goal
 
 pub overflow_cast-taps : goal.overflow_cast-taps
-overflow_cast-taps c = all_widened _ (take_fits 8 c.args.taps.now c.requires.words)
+overflow_cast-taps c = all_widened _ (take_fits 16 c.args.taps.now c.requires.words)
 
 pub overflow_cast-samples : goal.overflow_cast-samples
 overflow_cast-samples c =
     let at = c.args.at in
-    all_widened _ (take_fits 8 (take (at + 8 - at) (drop at c.args.line.now)) (take_fits (at + 8 - at) (drop at c.args.line.now) (drop_fits at c.args.line.now c.requires.samples)))
+    all_widened _ (take_fits 16 (take (at + 16 - at) (drop at c.args.line.now)) (take_fits (at + 16 - at) (drop at c.args.line.now) (drop_fits at c.args.line.now c.requires.samples)))
 
 pub returns : goal.returns
 returns c sum is =

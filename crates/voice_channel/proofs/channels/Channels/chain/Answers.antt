@@ -7,7 +7,7 @@ use Rattle.voice_channel.proofs.channels.Channels.chain.Goals as goal
 
 pub returns-clause-machine : goal.returns-clause-machine
 returns-clause-machine g c =
-    given g.M.Ialg.law (c.members_live_in_one_channel.ensures.kept g.M.Ialg.law.meaning)
+    given g.M.Ialg.law
     (Chain c.args.c c.args.members.now (Ok tt)) c.args.c c.args.members.now c.args.self.now c.set_members.new.self c.set_members.ensures.host
     (c.set_members.ensures.chained ∙ ap (set c.args.self.now.chained c.args.c) c.kept.ensures)
     (λ before same host. ap (λ r. unless r before (Ok tt, with_members before c.args.c c.args.members.now))

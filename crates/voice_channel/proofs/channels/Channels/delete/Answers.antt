@@ -19,6 +19,6 @@ returns-then-is_member-clause-machine g c before keeps =
 
 pub returns-clause-machine : goal.returns-clause-machine
 returns-clause-machine g c =
-    removed g.M.Ialg.law (c.members_live_in_one_channel.ensures.kept g.M.Ialg.law.meaning)
+    removed g.M.Ialg.law
     c.args.i c.delete.result c.self.inside.host c.delete.new.self (map (λ m. m.items) c.self.inside.channels.items) c.args.self.now c.self.view_is
     (sym c.if-is_member.ensures) c.delete.ensures.machine

@@ -9,7 +9,7 @@ returns-clause-machine g c =
     let its : c.members_of.result.now ≡ members_at c.args.self.now.chained c.args.c =
     c.members_of.ensures ∙ ap (λ xs. members_at (map (λ m. m.items) xs) c.args.c) c.deref.ensures.0
     ∙ ap (λ s. members_at s.chained c.args.c) c.self.view_is in
-    fed g.M.Ialg.law (c.members_live_in_one_channel.ensures.kept g.M.Ialg.law.meaning) c.args.c c.args.input.now
+    fed g.M.Ialg.law c.args.c c.args.input.now
     c.pass.new.out.items c.args.self.now (record { host = c.pass.new.host; chained = map (λ m. m.items) c.self.inside.channels.items }) c.requires.ready
     (ap (λ s. s.chained) c.self.view_is)
     (subst

@@ -15,7 +15,7 @@ returns-in-len1-clause-told g c =
     c.members_of.ensures ∙ ap (λ xs. members_at (map (λ m. m.items) xs) c.args.c) c.deref.ensures.0
     ∙ ap (λ s. members_at s.chained c.args.c) c.self.view_is in
     let one = sym (one_alone members c.in-len1.len_at_least c.in-len1.len_below) ∙ its in
-    fed_told g.M.Ialg.law (c.members_live_in_one_channel.ensures.kept g.M.Ialg.law.meaning) c.args.c c.args.x told c.args.self.now
+    fed_told g.M.Ialg.law c.args.c c.args.x told c.args.self.now
     (record { host = after; chained = map (λ m. m.items) c.self.inside.channels.items }) c.requires.ready (ap (λ s. s.chained) c.self.view_is)
     (subst
     (λ h. IfSome told (λ y. PassesThrough g.M.Ialg.law (members_at c.args.self.now.chained c.args.c) (c.args.x ∷ []) (y ∷ []) h after))
@@ -33,7 +33,7 @@ returns-in-len1-clause-machine g c =
     c.members_of.ensures ∙ ap (λ xs. members_at (map (λ m. m.items) xs) c.args.c) c.deref.ensures.0
     ∙ ap (λ s. members_at s.chained c.args.c) c.self.view_is in
     let one = sym (one_alone members c.in-len1.len_at_least c.in-len1.len_below) ∙ its in
-    fed_untold g.M.Ialg.law (c.members_live_in_one_channel.ensures.kept g.M.Ialg.law.meaning) c.args.c c.args.x out told c.args.self.now
+    fed_untold g.M.Ialg.law c.args.c c.args.x out told c.args.self.now
     (record { host = after; chained = map (λ m. m.items) c.self.inside.channels.items }) c.requires.ready (ap (λ s. s.chained) c.self.view_is)
     (subst
     (λ h. IfNone told (PassesThrough g.M.Ialg.law (members_at c.args.self.now.chained c.args.c) (c.args.x ∷ []) out h after))
@@ -46,7 +46,7 @@ returns-in_default-clause-machine g c =
     let its : c.members_of.result.now ≡ members_at c.args.self.now.chained c.args.c =
     c.members_of.ensures ∙ ap (λ xs. members_at (map (λ m. m.items) xs) c.args.c) c.deref.ensures.0
     ∙ ap (λ s. members_at s.chained c.args.c) c.self.view_is in
-    fed g.M.Ialg.law (c.members_live_in_one_channel.ensures.kept g.M.Ialg.law.meaning) c.args.c (c.args.x ∷ [])
+    fed g.M.Ialg.law c.args.c (c.args.x ∷ [])
     c.pass.new.out.items c.args.self.now (record { host = c.pass.new.host; chained = map (λ m. m.items) c.self.inside.channels.items }) c.requires.ready
     (ap (λ s. s.chained) c.self.view_is)
     (subst

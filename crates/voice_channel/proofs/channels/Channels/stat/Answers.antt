@@ -6,5 +6,5 @@ use Rattle.voice_channel.proofs.channels.Channels.stat.Goals as goal
 
 pub returns : goal.returns
 returns g c = record {
-  machine = read g.M.Ialg.law (c.members_live_in_one_channel.ensures.kept g.M.Ialg.law.meaning) (Stat c.args.group (stat_told c.stat.result)) tt c.self.inside.host (map (λ m. m.items) c.self.inside.channels.items) c.args.self.now c.self.view_is c.stat.ensures.machine;
+  machine = read g.M.Ialg.law (Stat c.args.group (stat_told c.stat.result)) tt c.self.inside.host (map (λ m. m.items) c.self.inside.channels.items) c.args.self.now c.self.view_is c.stat.ensures.machine;
 }
